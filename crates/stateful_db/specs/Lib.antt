@@ -1,0 +1,9 @@
+pub mod Chain
+pub mod Disk
+pub mod Member
+pub mod Databases
+pub mod Meaning
+pub mod Targeted
+pub mod Reopening
+pub mod Handles
+pub mod Barrier

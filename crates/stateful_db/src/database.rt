@@ -1,0 +1,235 @@
+//! A database, by value.
+
+ghost use Rattle.std.specs.Prelude.{◌≡◌, ℕ, ◌+◌, ◌-◌, ◌^◌, ◌≤◌, ◌<◌, List, ◌∷◌, ◌++◌, [], IfOk, IfErr, OnErr, IsErrOf, Some, None, ◌↔◌, IsTrue, ◌⊎◌};
+ghost use Rattle.stateful_types.specs.Causes.{Rose};
+ghost use Rattle.stateful_db.specs.Chain.{has_id, IsPoint};
+ghost use Rattle.stateful_db.specs.Disk.{Disk, Standing, IsCrash, IsOpened, IsEither, all, place, applied, flushed, point};
+
+use crate::batch::{BatchContext, Merkleized, Unmerkleized};
+use stateful_types::{CompactTarget, Faulty, Location, OutOfMemory, Target};
+
+/// A kind of call on a database, as failing lists name it.
+#[derive(Clone, Copy, Debug, PartialEq, Eq)]
+pub enum DbCall {
+    Init,
+    Apply,
+    Finalize,
+    Flush,
+    Prune,
+    Sync,
+}
+
+/// Why a change failed.
+#[derive(Clone, Copy, Debug, PartialEq, Eq)]
+pub enum Why {
+    Failed,
+    OutOfMemory,
+}
+
+/// A failed change, with the medium.
+#[derive(Drop)]
+pub struct Broken<M> {
+    pub medium: M,
+    pub why: Why,
+}
+
+/// Why a database did not open.
+#[derive(Clone, Copy, Debug, PartialEq, Eq)]
+pub enum InitError {
+    /// It failed, or no kept checkpoint has the expected end.
+    Database,
+    /// The checkpoint of the expected end has another target.
+    TargetMismatch {
+        expected: Target,
+        recovered: Target,
+    },
+    OutOfMemory,
+}
+
+/// The checkpoints up to this place are being persisted.
+#[derive(Clone, Copy, Debug, PartialEq, Eq)]
+pub struct FlushToken {
+    pub place: u64,
+}
+
+/// No number is left.
+#[derive(Clone, Copy, Debug, PartialEq, Eq)]
+pub struct Exhausted;
+
+/// What can be told as a root with a range.
+pub trait Targeted {
+    ghost use Rattle.stateful_types.specs.declared.target.Target.{Target};
+
+    ghost targeted: { Self → Target };
+
+    /// The root with its range.
+    fn target(&self) -> Target
+        ensures { result ≡ targeted self.now };
+}
+
+impl Targeted for Target {
+    ghost targeted = { λ target. target };
+
+    fn target(&self) -> Target {
+        *self
+    }
+}
+
+impl Targeted for CompactTarget {
+    ghost use Rattle.stateful_db.specs.Targeted.{compact_target};
+
+    ghost targeted = { compact_target };
+
+    fn target(&self) -> Target {
+        Target {
+            root: self.root,
+            start: Location(self.size.0.saturating_sub(1)),
+            end: self.size,
+        }
+    }
+}
+
+/// A database. Its medium is a list of checkpoints, of which those up to a place are durable.
+/// A failed change hands back the medium.
+pub trait ManagedDb: Faulty + Sized + Drop {
+    ghost use Rattle.std.specs.Prelude.{◌≡◌, ◌≢◌, ℕ, ◌+◌, ◌-◌, ◌^◌, ◌≤◌, ◌<◌, List, ◌∷◌, ◌++◌, [], IfOk, IfErr, OnErr, IsErrOf, Some, None, ◌↔◌, IsTrue, ◌⊎◌, All, slice_get};
+    ghost use Rattle.stateful_types.specs.Causes.{Rose};
+    ghost use Rattle.stateful_db.specs.Chain.{has_id, IsPoint};
+    ghost use Rattle.stateful_db.specs.Disk.{Disk, Standing, IsCrash, IsOpened, IsEither, all, place, applied, flushed, point};
+    ghost use Rattle.stateful_db.specs.Reopening.{Reopens, FailsToReopen};
+
+    /// What a checkpoint is to contracts.
+    type State;
+
+    type Unmerkleized: Unmerkleized<Db = Self, State = Self::State, Merkleized = Self::Merkleized>
+        + Drop;
+
+    type Merkleized: Merkleized<State = Self::State, Unmerkleized = Self::Unmerkleized> + Drop;
+
+    type Config;
+
+    /// What a block commits to of this database.
+    type SyncTarget: Copy + Eq + Targeted;
+
+    type Medium: Faulty + Drop;
+
+    /// The database: the id of the last applied batch, its disk, and the token that is out.
+    ghost standing: { Self → Standing Self.State };
+
+    /// The state that the seal of a batch without changes gives.
+    ghost begun: { Self.State → Self.State };
+
+    /// What a block commits to that leads to this state.
+    ghost target_of: { Self.State → Self.SyncTarget };
+
+    /// The state of an empty medium.
+    ghost initial: { Self.State };
+
+    /// The next batch id.
+    ghost next: { Self → ℕ };
+
+    ghost disk: { Self.Medium → Disk Self.State };
+
+    ghost next_of: { Self.Medium → ℕ };
+
+    /// Opens at the checkpoint of `expected`, or at the latest, and durably drops what lies beyond.
+    fn init(
+        medium: Self::Medium,
+        config: &Self::Config,
+        expected: Option<Self::SyncTarget>,
+    ) -> Result<Self, (Self::Medium, InitError)>
+        ensures ok { IfOk result (λ db. Reopens target_of Self.SyncTarget.targeted expected (disk medium) (standing db)) }
+        ensures ok_next { IfOk result (λ db. next db ≡ next_of medium) }
+        ensures ok_count { IfOk result (λ db. Self.Medium.count medium ≤ Self.count db) }
+        ensures err { IfErr result (λ e. disk e.0 ≡ disk medium) }
+        ensures err_next { IfErr result (λ e. next_of e.0 ≡ next_of medium) }
+        ensures err_count { IfErr result (λ e. Self.Medium.count medium ≤ Self.Medium.count e.0) }
+        ensures cause { IfErr result (λ e. FailsToReopen target_of Self.SyncTarget.targeted expected (disk medium) (Rose (Self.Medium.count medium) (Self.Medium.count e.0)) e.1) };
+
+    /// The target of an empty medium.
+    fn initial_sync_target() -> Self::SyncTarget
+        ensures { result ≡ target_of initial };
+
+    /// Draws a batch id.
+    fn draw(&mut self) -> Result<u64, Exhausted>
+        ensures id { IfOk result (λ n. (n ≡ next self.old) × (next self.new ≡ next self.old + 1)) }
+        ensures exhausted { IfErr result (λ _. (2 ^ 64 - 1 ≤ next self.old) × (next self.new ≡ next self.old)) }
+        ensures standing { standing self.new ≡ standing self.old }
+        ensures count { Self.count self.new ≡ Self.count self.old };
+
+    /// A batch over the applied state.
+    fn new_batch(database: BatchContext<'_, Self>) -> Result<Self::Unmerkleized, OutOfMemory>
+        ensures { IfOk result (λ u. (standing database.entry.database.now).id < database.entry.id → Self.Unmerkleized.shows u ((database.entry.id, begun (standing database.entry.database.now).disk.newest) ∷ point (standing database.entry.database.now) ∷ [])) };
+
+    /// A batch over a sealed one. Its chain is that one's, down to where the database is.
+    fn fork(
+        database: BatchContext<'_, Self>,
+        parent: &Self::Merkleized,
+    ) -> Result<Self::Unmerkleized, OutOfMemory>
+        ensures { IfOk result (λ u. (q : ℕ × Self.State) (above older : List (ℕ × Self.State)) → Self.Merkleized.shows parent.now (q ∷ above ++ point (standing database.entry.database.now) ∷ older) → q.0 < database.entry.id → Self.Unmerkleized.shows u ((database.entry.id, begun q.1) ∷ q ∷ above ++ point (standing database.entry.database.now) ∷ [])) };
+
+    /// Whether applying the batch gives this target.
+    fn matches_sync_target(batch: &Self::Merkleized, target: &Self::SyncTarget) -> bool
+        ensures { (p : ℕ × Self.State) (c : List (ℕ × Self.State)) → Self.Merkleized.shows batch.now (p ∷ c) → (IsTrue result ↔ (target_of p.1 ≡ target.now)) };
+
+    /// Adds the state of a batch whose parent is the database's state. Its range ends later than the one before.
+    fn apply(self, batch: Self::Merkleized) -> Result<Self, Broken<Self::Medium>>
+        ensures ok { IfOk result (λ db. (p : ℕ × Self.State) (c : List (ℕ × Self.State)) → Self.Merkleized.shows batch (p ∷ point (standing self) ∷ c) → standing db ≡ record (standing self) { id = p.0; disk = applied (standing self).disk p.1 }) }
+        ensures ok_next { IfOk result (λ db. next db ≡ next self) }
+        ensures ok_count { IfOk result (λ db. Self.count self ≤ Self.count db) }
+        ensures grows { IfOk result (λ db. (p : ℕ × Self.State) (c : List (ℕ × Self.State)) → Self.Merkleized.shows batch (p ∷ point (standing self) ∷ c) → (Self.SyncTarget.targeted (target_of (standing self).disk.newest)).end.0 < (Self.SyncTarget.targeted (target_of p.1)).end.0) }
+        ensures err { IfErr result (λ b. (p : ℕ × Self.State) (c : List (ℕ × Self.State)) → Self.Merkleized.shows batch (p ∷ point (standing self) ∷ c) → IsEither (standing self).disk (applied (standing self).disk p.1) (disk b.medium)) }
+        ensures err_next { IfErr result (λ b. next_of b.medium ≡ next self) }
+        ensures err_count { IfErr result (λ b. Self.count self ≤ Self.Medium.count b.medium) }
+        ensures failed { IfErr result (λ b. b.why ≡ Why.Failed → Rose (Self.count self) (Self.Medium.count b.medium)) };
+
+    /// Starts persisting all checkpoints applied so far. No token may be out.
+    fn finalize(self) -> Result<(Self, FlushToken), Broken<Self::Medium>>
+        requires { (standing self).out ≡ None }
+        ensures ok { IfOk result (λ r. (r.1.place ≡ place (standing self).disk) × (standing r.0 ≡ record (standing self) { out = Some r.1.place })) }
+        ensures ok_next { IfOk result (λ r. next r.0 ≡ next self) }
+        ensures ok_count { IfOk result (λ r. Self.count self ≤ Self.count r.0) }
+        ensures err { IfErr result (λ b. disk b.medium ≡ (standing self).disk) }
+        ensures err_next { IfErr result (λ b. next_of b.medium ≡ next self) }
+        ensures err_count { IfErr result (λ b. Self.count self ≤ Self.Medium.count b.medium) }
+        ensures failed { IfErr result (λ b. b.why ≡ Why.Failed → Rose (Self.count self) (Self.Medium.count b.medium)) };
+
+    /// The checkpoints that the token covers are durable. This token has to be out.
+    fn flush(self, token: FlushToken) -> Result<Self, Broken<Self::Medium>>
+        requires { (standing self).out ≡ Some token.place }
+        ensures ok { IfOk result (λ db. standing db ≡ record (standing self) { disk = flushed (standing self).disk token.place; out = None }) }
+        ensures ok_next { IfOk result (λ db. next db ≡ next self) }
+        ensures ok_count { IfOk result (λ db. Self.count self ≤ Self.count db) }
+        ensures err { IfErr result (λ b. IsEither (standing self).disk (flushed (standing self).disk token.place) (disk b.medium)) }
+        ensures err_next { IfErr result (λ b. next_of b.medium ≡ next self) }
+        ensures err_count { IfErr result (λ b. Self.count self ≤ Self.Medium.count b.medium) }
+        ensures failed { IfErr result (λ b. b.why ≡ Why.Failed → Rose (Self.count self) (Self.Medium.count b.medium)) };
+
+    /// The target of the latest checkpoint.
+    fn sync_target(&self) -> Self::SyncTarget
+        ensures { result ≡ target_of (standing self.now).disk.newest };
+
+    /// The medium as it is.
+    fn close(self) -> Self::Medium
+        ensures disk { disk result ≡ (standing self).disk }
+        ensures next { next_of result ≡ next self }
+        ensures count { Self.Medium.count result ≡ Self.count self };
+
+    /// What a crash leaves: the durable checkpoints, and of the others as many as `keep` allows.
+    fn crash(medium: Self::Medium, keep: usize) -> Self::Medium
+        ensures disk { IsCrash keep (disk medium) (disk result) }
+        ensures next { next_of result ≡ next_of medium }
+        ensures count { Self.Medium.count result ≡ Self.Medium.count medium };
+
+    ghost same_point: { (d : Self) → Self.Unmerkleized.at d ≡ point (standing d) };
+
+    ghost same_begun: { (s : Self.State) → Self.Merkleized.begun s ≡ begun s };
+
+    ghost same_end: { (s : Self.State) → Self.Unmerkleized.end_of s ≡ (Self.SyncTarget.targeted (target_of s)).end.0 };
+
+    ghost same_root: { (s : Self.State) → Self.Merkleized.root_of s ≡ (Self.SyncTarget.targeted (target_of s)).root };
+
+    ghost same_sealed: { (m : Self.Merkleized) (c : List (ℕ × Self.State)) → Self.Unmerkleized.sealed m c → Self.Merkleized.shows m c };
+
+    ghost same_opened: { (u : Self.Unmerkleized) (c : List (ℕ × Self.State)) → Self.Merkleized.opened u c → Self.Unmerkleized.shows u c };
+}

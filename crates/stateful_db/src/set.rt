@@ -1,0 +1,204 @@
+//! Sets of databases, which a block changes together.
+
+ghost use Rattle.std.specs.Prelude.{◌≡◌, ℕ, ◌+◌, List, ◌∷◌, [], IfOk, IfErr, OnOk, OnErr, IsErrOf, Some, None, ◌↔◌, is_some, ◌<◌, ◌-◌, ◌^◌, map, ◌++◌};
+ghost use Rattle.stateful_db.specs.Chain.{IsPoint};
+
+use crate::barrier::Barrier;
+use crate::batch::BatchError;
+use crate::database::{DbCall, FlushToken, InitError};
+use stateful_types::{Items, OutOfMemory, Target};
+use std::alloc::{AllocError, AllocFailed, Global};
+use thiserror::Error;
+
+/// Why a call of a set failed.
+#[derive(Clone, Copy, Debug, PartialEq, Eq, Error)]
+pub enum SetError {
+    /// A database isn't here.
+    #[error("a database isn't here")]
+    Lost,
+    /// A database has no batch id left.
+    #[error("no number is left")]
+    Exhausted,
+    /// The database of this number failed at this call.
+    #[error("database {index} failed at {call:?}")]
+    DatabaseFault { index: usize, call: DbCall },
+    #[error("out of memory")]
+    OutOfMemory,
+}
+
+/// Why the database of this number did not open.
+#[derive(Clone, Copy, Debug, PartialEq, Eq)]
+pub struct SetInit {
+    pub index: usize,
+    pub why: InitError,
+}
+
+/// A database isn't here.
+#[derive(Clone, Copy, Debug, PartialEq, Eq)]
+pub struct SetLost;
+
+/// Databases that a block changes together, numbered from 0, left to right.
+pub trait DatabaseSet: Sized {
+    ghost use Rattle.std.specs.Prelude.{◌≡◌, ℕ, ◌+◌, List, ◌∷◌, [], IfOk, IfErr, IfSome, OnOk, OnErr, IsErrOf, IsNone, Option, Some, None, ◌↔◌, is_some, ◌<◌, ◌≤◌, ◌-◌, ◌^◌, map, ◌++◌, ◌⊎◌, IsTrue, EachIndex, slice_get, length};
+    ghost use Rattle.stateful_types.specs.Causes.{Rose};
+    ghost use Rattle.stateful_db.specs.Chain.{IsPoint};
+    ghost use Rattle.stateful_db.specs.Databases.{Databases, Laws, IsOpening};
+    ghost use Rattle.stateful_db.specs.Handles.{places_from};
+    ghost use Rattle.stateful_db.specs.declared.database.DbCall.{DbCall};
+
+    /// The states of the databases, left to right.
+    type States;
+
+    /// Batch ids, one for each database.
+    type Ids;
+
+    type Unmerkleized: Drop;
+
+    type Merkleized: Drop;
+
+    type Config;
+
+    /// What a block commits to.
+    type SyncTargets: Copy + Eq;
+
+    /// What the set means.
+    ghost kind: { Databases Self.Ids Self.States Self.SyncTargets };
+
+    /// All that is known of the databases, but for the next ids.
+    ghost members: { Self → kind.Members };
+
+    /// The ids that are drawn next.
+    ghost next: { Self → Self.Ids };
+
+    /// How often the database of this number has failed.
+    ghost counted: { Self → ℕ → ℕ };
+
+    /// The chain on which batches stand. Their own point is first.
+    ghost opened: { Self.Unmerkleized → List (Self.Ids × Self.States) → Type 0 };
+
+    /// The same of sealed batches.
+    ghost shows: { Self.Merkleized → List (Self.Ids × Self.States) → Type 0 };
+
+    /// How many databases there are.
+    fn count() -> usize
+        ensures { result ≡ kind.count };
+
+    /// How often the database of this number has failed.
+    fn faults(&self, index: usize) -> u64
+        requires within { index < kind.count }
+        requires held { kind.Held (members self.now) }
+        ensures { result ≡ counted self.now index };
+
+    /// Whether every database is here.
+    fn is_here(&self) -> bool
+        ensures { result ≡ is_some (kind.point (members self.now)) };
+
+    /// Opens every closed or lost database, in order, at the expected targets or at the latest ones. Where one
+    /// doesn't open, those that were opened are closed again.
+    fn init(
+        &mut self,
+        config: &Self::Config,
+        expected: Option<Self::SyncTargets>,
+    ) -> Result<(), SetInit>
+        ensures ok { OnOk result (kind.Shut (members self.old) → kind.Reopened (members self.old) expected (members self.new)) }
+        ensures opening { OnOk result (kind.Shut (members self.old) → (t : Self.SyncTargets) → expected ≡ Some t → IsOpening kind (next self.new) (members self.new) t) }
+        ensures closed { OnErr result (kind.Shut (members self.old) → kind.Shut (members self.new)) }
+        ensures index { IfErr result (λ e. e.index < kind.count) }
+        ensures later { (n : ℕ) → counted self.old n ≤ counted self.new n };
+
+    /// The targets of empty media.
+    fn initial_sync_targets() -> Self::SyncTargets;
+
+    /// Batches over the states as they are. Without an `Ok` ids may have been drawn.
+    fn new_batches(&mut self) -> Result<Self::Unmerkleized, SetError>
+        ensures ok { IfOk result (λ u. (p : Self.Ids × Self.States) → kind.point (members self.old) ≡ Some p → kind.issued (next self.old) (p ∷ []) → opened u ((next self.old, kind.begun p.1) ∷ p ∷ []) × kind.issued (next self.new) ((next self.old, kind.begun p.1) ∷ p ∷ [])) }
+        ensures members { members self.new ≡ members self.old }
+        ensures keeps { (c : List (Self.Ids × Self.States)) → kind.issued (next self.old) c → kind.issued (next self.new) c }
+        ensures lost { IsErrOf result SetError.Lost ↔ (kind.point (members self.old) ≡ None) }
+        ensures fault { (n : ℕ) (k : DbCall) → IsErrOf result (SetError.DatabaseFault n k) → ⊥ }
+        ensures counts { (n : ℕ) → counted self.new n ≡ counted self.old n };
+
+    /// Children of sealed batches, whose reads see these first. Their chain is cut behind where the databases are.
+    fn fork_batches(&mut self, parent: &Self::Merkleized) -> Result<Self::Unmerkleized, SetError>
+        ensures ok { IfOk result (λ u. (p q : Self.Ids × Self.States) (above older : List (Self.Ids × Self.States)) → kind.point (members self.old) ≡ Some p → shows parent.now (q ∷ above ++ p ∷ older) → kind.issued (next self.old) (q ∷ above ++ p ∷ older) → opened u ((next self.old, kind.begun q.1) ∷ q ∷ above ++ p ∷ []) × kind.issued (next self.new) ((next self.old, kind.begun q.1) ∷ q ∷ above ++ p ∷ [])) }
+        ensures members { members self.new ≡ members self.old }
+        ensures keeps { (c : List (Self.Ids × Self.States)) → kind.issued (next self.old) c → kind.issued (next self.new) c }
+        ensures lost { IsErrOf result SetError.Lost ↔ (kind.point (members self.old) ≡ None) }
+        ensures fault { (n : ℕ) (k : DbCall) → IsErrOf result (SetError.DatabaseFault n k) → ⊥ }
+        ensures counts { (n : ℕ) → counted self.new n ≡ counted self.old n };
+
+    /// Seals each member against its own database. `StaleRead` also where a database isn't here.
+    fn seal(&self, batches: Self::Unmerkleized) -> Result<Self::Merkleized, BatchError>
+        ensures ok { IfOk result (λ m. (p : Self.Ids × Self.States) (c : List (Self.Ids × Self.States)) → kind.point (members self.now) ≡ Some p → opened batches c → IsPoint p c → shows m c) }
+        ensures stale { IsErrOf result BatchError.StaleRead → (p : Self.Ids × Self.States) (c : List (Self.Ids × Self.States)) → kind.point (members self.now) ≡ Some p → opened batches c → IsPoint p c → ⊥ };
+
+    /// Whether all members match.
+    fn matches_sync_targets(batches: &Self::Merkleized, targets: &Self::SyncTargets) -> bool
+        ensures { (p : Self.Ids × Self.States) (c : List (Self.Ids × Self.States)) → shows batches.now (p ∷ c) → (IsTrue result ↔ (kind.target_of p.1 ≡ targets.now)) };
+
+    /// The first member that doesn't match, with its number and the expected and the given target.
+    fn mismatch(
+        batches: &Self::Merkleized,
+        targets: &Self::SyncTargets,
+    ) -> Option<(usize, Target, Target)>
+        ensures none { (p : Self.Ids × Self.States) (c : List (Self.Ids × Self.States)) → shows batches.now (p ∷ c) → (IsNone result ↔ (kind.target_of p.1 ≡ targets.now)) }
+        ensures index { IfSome result (λ m. m.0 < kind.count) };
+
+    /// Applies batches whose parents are the databases' states, in order.
+    fn apply(&mut self, batches: Self::Merkleized) -> Result<(), SetError>
+        ensures ok { OnOk result ((p q : Self.Ids × Self.States) (c : List (Self.Ids × Self.States)) → kind.point (members self.old) ≡ Some p → shows batches (q ∷ p ∷ c) → members self.new ≡ kind.applied (members self.old) q) }
+        ensures lost { IsErrOf result SetError.Lost ↔ (kind.point (members self.old) ≡ None) }
+        ensures unchanged { IsErrOf result SetError.Lost → members self.new ≡ members self.old }
+        ensures exhausted { IsErrOf result SetError.Exhausted → ⊥ }
+        ensures next { next self.new ≡ next self.old }
+        ensures fault { (n : ℕ) (k : DbCall) → IsErrOf result (SetError.DatabaseFault n k) → (k ≡ DbCall.Apply) × (n < kind.count) × Rose (counted self.old n) (counted self.new n) × ((p q : Self.Ids × Self.States) (c : List (Self.Ids × Self.States)) → kind.point (members self.old) ≡ Some p → shows batches (q ∷ p ∷ c) → kind.LostApplying (members self.old) q n (members self.new)) }
+        ensures err { OnErr result ((p q : Self.Ids × Self.States) (c : List (Self.Ids × Self.States)) → kind.point (members self.old) ≡ Some p → shows batches (q ∷ p ∷ c) → (i : ℕ) → kind.HasState (members self.new) i p.1 ⊎ kind.HasState (members self.new) i q.1) }
+        ensures later { (n : ℕ) → counted self.old n ≤ counted self.new n };
+
+    /// Starts persisting all checkpoints, in order. One token for each database is added.
+    fn persist(&mut self, tokens: &mut Items<FlushToken>) -> Result<(), SetError>
+        requires { kind.Idle (members self.old) }
+        ensures ok { OnOk result (members self.new ≡ kind.finalized (members self.old)) }
+        ensures tokens { OnOk result (map (λ t. t.place) tokens.new ≡ map (λ t. t.place) tokens.old ++ places_from kind.place (members self.old) 0 kind.count) }
+        ensures lost { IsErrOf result SetError.Lost → ⊥ }
+        ensures exhausted { IsErrOf result SetError.Exhausted → ⊥ }
+        ensures next { next self.new ≡ next self.old }
+        ensures fault { (n : ℕ) (k : DbCall) → IsErrOf result (SetError.DatabaseFault n k) → (k ≡ DbCall.Finalize) × (n < kind.count) × Rose (counted self.old n) (counted self.new n) × kind.LostFinalizing (members self.old) n (members self.new) }
+        ensures err { OnErr result ((i : ℕ) (s : Self.States) → kind.HasState (members self.old) i s → kind.HasState (members self.new) i s) }
+        ensures later { (n : ℕ) → counted self.old n ≤ counted self.new n };
+
+    /// The checkpoints that the token covers are durable at the database of this number, at which it has to be out.
+    fn flush(&mut self, index: usize, token: FlushToken) -> Result<(), SetError>
+        requires within { index < kind.count }
+        requires out { kind.token (members self.old) index ≡ Some token.place }
+        ensures ok { OnOk result (members self.new ≡ kind.flushed (members self.old) index token.place) }
+        ensures lost { IsErrOf result SetError.Lost → ⊥ }
+        ensures exhausted { IsErrOf result SetError.Exhausted → ⊥ }
+        ensures next { next self.new ≡ next self.old }
+        ensures fault { (n : ℕ) (k : DbCall) → IsErrOf result (SetError.DatabaseFault n k) → (k ≡ DbCall.Flush) × (n ≡ index) × Rose (counted self.old n) (counted self.new n) × kind.LostFlushing (members self.old) n token.place (members self.new) }
+        ensures err { OnErr result ((i : ℕ) (s : Self.States) → kind.HasState (members self.old) i s → kind.HasState (members self.new) i s) }
+        ensures later { (n : ℕ) → counted self.old n ≤ counted self.new n };
+
+    /// The targets of the latest checkpoints.
+    fn committed_targets(&self) -> Result<Self::SyncTargets, SetLost>
+        ensures ok { IfOk result (λ t. (p : Self.Ids × Self.States) → kind.point (members self.now) ≡ Some p → t ≡ kind.target_of p.1) }
+        ensures lost { OnErr result (kind.point (members self.now) ≡ None) }
+        ensures here { OnOk result (IsNone (kind.point (members self.now)) → ⊥) };
+
+    /// What a crash leaves: all closed. `keep` has a number for each database, and where it has none that database
+    /// keeps all its checkpoints. No database may be away.
+    fn crash(self, keep: &[usize]) -> Self
+        requires { kind.Held (members self) }
+        ensures shut { kind.Shut (members result) }
+        ensures crashed { kind.Crashed (members self) keep.now (members result) }
+        ensures next { next result ≡ next self }
+        ensures counts { (n : ℕ) → counted result n ≡ counted self n };
+
+    /// The set. Each member is left away.
+    fn take(&mut self) -> Self
+        ensures taken { members result ≡ members self.old }
+        ensures next { next result ≡ next self.old }
+        ensures counts { (n : ℕ) → counted result n ≡ counted self.old n };
+
+    ghost laws: { Laws kind };
+}

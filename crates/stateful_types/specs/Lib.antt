@@ -1,0 +1,5 @@
+pub mod Round
+pub mod Names
+pub mod Causes
+pub mod Handoff
+pub mod Anchor

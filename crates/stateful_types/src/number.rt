@@ -1,0 +1,42 @@
+//! Numbers with names.
+
+ghost use Rattle.std.specs.Prelude.{◌+◌, ◌-◌, ◌^◌, ◌<◌};
+ghost use Rattle.std.specs.Option.{SomeIff};
+
+/// A block's place in the chain, from 0 for genesis on.
+#[derive(Clone, Copy, Debug, PartialEq, Eq, PartialOrd, Ord)]
+pub struct Height(pub u64);
+
+/// A period with one committee.
+#[derive(Clone, Copy, Debug, PartialEq, Eq, PartialOrd, Ord)]
+pub struct Epoch(pub u64);
+
+/// A turn of a leader within an epoch.
+#[derive(Clone, Copy, Debug, PartialEq, Eq, PartialOrd, Ord)]
+pub struct View(pub u64);
+
+/// A place in a log of operations, from 0 on.
+#[derive(Clone, Copy, Debug, PartialEq, Eq, PartialOrd, Ord)]
+pub struct Location(pub u64);
+
+impl Height {
+    /// One more. None exactly at the last value.
+    pub fn next(self) -> Option<Height>
+        ensures { SomeIff result (self.0 + 1 < 2 ^ 64) (record { 0 = self.0 + 1 }) }
+    {
+        match self.0.checked_add(1) {
+            Some(next) => Some(Height(next)),
+            None => None,
+        }
+    }
+
+    /// One less. None exactly at 0.
+    pub fn previous(self) -> Option<Height>
+        ensures { SomeIff result (0 < self.0) (record { 0 = self.0 - 1 }) }
+    {
+        match self.0.checked_sub(1) {
+            Some(previous) => Some(Height(previous)),
+            None => None,
+        }
+    }
+}

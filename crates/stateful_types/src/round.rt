@@ -1,0 +1,46 @@
+//! Rounds of consensus, ordered by epoch and then view.
+
+ghost use Rattle.std.specs.Prelude.{◌≡◌, ◌↔◌, IsTrue};
+ghost use Rattle.stateful_types.specs.Round.{IsLater};
+
+use crate::number::{Epoch, View};
+
+/// A view of an epoch.
+#[derive(Clone, Copy, Debug, PartialEq, Eq, PartialOrd, Ord)]
+pub struct Round {
+    pub epoch: Epoch,
+    pub view: View,
+}
+
+impl Round {
+    /// Whether this round comes after the other.
+    pub fn is_later_than(self, other: Round) -> bool
+        ensures { IsTrue result ↔ IsLater other self }
+    {
+        if self.epoch.0 == other.epoch.0 {
+            self.view.0 > other.view.0
+        } else {
+            self.epoch.0 > other.epoch.0
+        }
+    }
+}
+
+/// What belongs to a round, as the context of a block does.
+pub trait Rounded {
+    ghost use Rattle.stateful_types.specs.declared.round.Round.{Round};
+
+    /// The round that it belongs to.
+    ghost round_of: { Self → Round };
+
+    /// The round that it belongs to.
+    fn round(&self) -> Round
+        ensures { result ≡ round_of self.now };
+}
+
+impl Rounded for Round {
+    ghost round_of = { λ round. round };
+
+    fn round(&self) -> Round {
+        *self
+    }
+}
