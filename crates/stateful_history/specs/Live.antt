@@ -2,14 +2,11 @@
 use Rattle.std.specs.Prelude.{◌≡◌, ℕ, ◌+◌, Bool, true, false, not, nat_lt, ◌==◌, ◌&&◌, ◌||◌, max, if◌then◌else◌, Option, Some, None, List, [], ◌∷◌}
 use Rattle.stateful_history.specs.Past.{Past, Item, Came, Made}
 use Rattle.stateful_history.specs.Opening.{is_down}
+use Rattle.stateful_history.specs.declared.ticket.Ticket.{Ticket}
+use Rattle.stateful_history.specs.declared.ticket.Ticket.TheVariants.{Request, Receipt}
 use Rattle.stateful_history.specs.declared.event.Event.{Event}
 use Rattle.stateful_history.specs.declared.event.Event.TheVariants.{Verify, Prepare, Propose, Finalized, Subscribe, Cancel, Fetched, Turn, Flushed, Progress, Stop, Restart}
 use Rattle.stateful_history.specs.declared.mark.Mark.TheVariants.{Asked, Withdrawn, Started, Ended, Built, Verdict, Answered, Declined, Databases, BarrierBegun, BarrierDone, Acknowledged, Dropped, Stopped}
-
--- what a live ticket stands for: a request, or the receipt of a finalization
-pub data Ticket : Type 0 where
-  Request : Ticket
-  Receipt : Ticket
 
 -- a request that may be cancelled
 abbrev pub is_request : Option Ticket → Bool

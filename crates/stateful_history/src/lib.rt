@@ -5,7 +5,9 @@
 mod entry;
 mod event;
 mod mark;
+mod ticket;
 
 pub use entry::Entry;
 pub use event::Event;
 pub use mark::{Decision, How, JobKind, Mark};
+pub use ticket::Ticket;
