@@ -1,5 +1,6 @@
 -- Marks and entries one after another, and what a longer past keeps of a shorter one.
-use Rattle.std.proofs.Common.{◌≡◌, ◌++◌, List, [], ◌∷◌, refl, inr}
+use Rattle.std.proofs.Common.{◌≡◌, ℕ, ◌+◌, ◌<◌, ◌++◌, List, [], ◌∷◌, length, get_or, take, refl, inr, arith}
+use Rattle.std.proofs.lemmas.Grind.{common_steps}
 use Rattle.stateful_types.specs.Names.{Named}
 use Rattle.stateful_history.specs.Setting.{Setting}
 use Rattle.stateful_history.specs.Past.{Past, Item, Came, Made, after, after_entry, after_all, EachMark, EachEntry}
@@ -15,6 +16,12 @@ module _ {B C I : Type 0} where
 
   pub after-push : (p : Past B C I) (marks : List (Mark B)) (mark : Mark B) → after p (marks ++ mark ∷ []) ≡ Made mark ∷ after p marks
   after-push p marks mark = after-append p marks (mark ∷ [])
+
+  -- the first marks and the next one
+  pub after-take : (p : Past B C I) (marks : List (Mark B)) (i : ℕ) (mark : Mark B) → i < length marks → mark ≡ get_or marks i mark → after p (take (i + 1) marks) ≡ Made mark ∷ after p (take i marks)
+  after-take p marks i mark low is =
+      let longer : take (i + 1) marks ≡ take i marks ++ mark ∷ [] = grind (arith, common_steps) in
+      rw longer (after-push p (take i marks) mark)
 
   pub after_all-append : (p : Past B C I) (entries more : List (Entry B C I)) → after_all p (entries ++ more) ≡ after_all (after_all p entries) more
   after_all-append p [] more = refl
