@@ -1,0 +1,31 @@
+//! The machine between consensus and a set of databases: it takes events and makes marks.
+//!
+//! One event is one call of `Stateful::step`. A verification is answered at once or starts a run of its block; a
+//! finalization applies its block, and its receipt is acknowledged once a barrier over its height is durable.
+#![tactic(auto)]
+
+mod barrier;
+mod cache;
+mod core;
+mod driving;
+mod error;
+mod finalize;
+mod restart;
+mod serve;
+mod stateful;
+mod step;
+mod turn;
+mod verify;
+
+pub use crate::core::{Active, Core, Front, Live};
+pub use cache::{Cache, Cached};
+pub use driving::{Driven, Halt, Halted, drive};
+pub use error::StepError;
+pub use stateful::{Config, Stateful};
+pub use stateful_history::{Decision, Entry, Event, How, JobKind, Mark};
+
+#[cfg(test)]
+mod tests {
+    #[test]
+    fn nothing() {}
+}
