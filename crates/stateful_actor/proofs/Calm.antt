@@ -80,7 +80,7 @@ module _ {B D R U : Type 0} (w : Workings B D R U) where
   Stacked-more (here e) more led = here e
   Stacked-more (further s k ne i l) more led = further (Stacked-more s more led) (more _ k) ne i (led _ _ _ l)
 
-module _ {B C I D R H U : Type 0} (w : Workings B D R U) (p : Past B C I) (x : Item B C I) (calm : IsCalm w.setting p x) where
+module _ {B C I D R U : Type 0} (w : Workings B D R U) (p : Past B C I) (x : Item B C I) (calm : IsCalm w.setting p x) where
   pub Leads-calm : (t : w.States) (b : Named B) (u : w.States) → Leads w p t b u → Leads w (x ∷ p) t b u
   Leads-calm t b u l = record {
     met = inr l.met;
