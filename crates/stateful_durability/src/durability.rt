@@ -120,7 +120,7 @@ impl Durability {
     /// The answer says how many receipts in front are to be released for it.
     pub fn complete(&mut self, completion: Option<Height>) -> usize
         requires active { IsSome self.old.barrier }
-        requires same { ForSome completion (λ height. self.old.barrier ≡ Some height.0) }
+        requires its_height { ForSome completion (λ height. self.old.barrier ≡ Some height.0) }
         ensures after { self.new ≡ after_completion self.old completion }
         ensures later { IfSome completion (λ height. self.old.durable < height.0) }
         ensures in_order { IsInOrder self.new }
