@@ -4,9 +4,11 @@ use Rattle.stateful_types.specs.declared.number.Height.{Height}
 use Rattle.stateful_durability.specs.declared.durability.Receipt.{Receipt}
 use Rattle.stateful_durability.specs.Durability.{Coverage}
 
+-- its height and its ticket
 abbrev pub pair_of : Receipt → ℕ × ℕ
 pair_of receipt = (receipt.height.0, receipt.ticket)
 
+-- from the durable height, the applied one, the barrier's and the receipts
 abbrev pub coverage : Height → Height → Option Height → List Receipt → Coverage
 coverage durable applied barrier held = record {
   durable = durable.0;

@@ -1,9 +1,9 @@
 //! The durable height, the active barrier and the receipts that wait.
 
-ghost use Rattle.std.specs.Prelude.{◌≡◌, ◌≢◌, ◌<◌, ◌≤◌, ◌↔◌, ◌⊎◌, [], ◌∷◌, ◌++◌, length, take, IsTrue, IsNone, IsSome, IfSome, IfNone, OnOk, OnErr, MatchOption, All, Any, option_map};
+ghost use Rattle.std.specs.Prelude.{◌≡◌, ◌≢◌, ◌<◌, ◌≤◌, ◌↔◌, ◌⊎◌, [], ◌∷◌, ◌++◌, length, take, IsTrue, IsNone, IsSome, IfSome, IfNone, IfOk, OnOk, OnErr, MatchOption, All, Any, option_map};
 ghost use Rattle.std.specs.Option.{ForSome};
 ghost use Rattle.std.specs.List.Sorted.{IsPermutation};
-ghost use Rattle.stateful_durability.specs.Durability.{up_to, above, put_in, covered, completed, IsInOrder, Releases};
+ghost use Rattle.stateful_durability.specs.Durability.{receipts_up_to, receipts_above, with_duplicate, covered_receipts, after_completion, IsInOrder, Releases};
 ghost use Rattle.stateful_durability.specs.Calls.{ReleasesExactly, KeepsReceipts};
 
 use stateful_types::{Height, OutOfMemory};
@@ -44,6 +44,8 @@ impl Durability {
     pub fn new(alloc: Global, height: Height) -> Durability
         ensures start { result ≡ record { durable = height.0; applied = height.0; barrier = None; held = [] } }
         ensures in_order { IsInOrder result }
+
+        // Whatever calls follow, a receipt is held until it is released.
         ensures kept { KeepsReceipts result }
     {
         Durability {
@@ -86,7 +88,7 @@ impl Durability {
         height <= self.durable
     }
 
-    /// Whether an applied height isn't durable and no barrier is active.
+    /// Whether a barrier has to begin: none is active, and the last applied height isn't durable.
     pub fn needs_barrier(&self) -> bool
         ensures needed { IsTrue result ↔ (IsNone self.now.barrier × (self.now.durable < self.now.applied)) }
         ensures in_order { IsInOrder self.now }
@@ -94,7 +96,7 @@ impl Durability {
         self.barrier.is_none() && self.durable < self.applied
     }
 
-    /// A block of this height, which is above all applied ones, was applied.
+    /// A block of this height was applied, which is above all that were applied before.
     pub fn applied(&mut self, height: Height)
         requires { self.old.applied < height.0 }
         ensures applied { self.new ≡ record self.old { applied = height.0 } }
@@ -103,31 +105,33 @@ impl Durability {
         self.applied = height;
     }
 
-    /// A barrier over the heights up to this one, which was applied and isn't durable, is active from now on.
+    /// A barrier began over the heights up to this one.
     pub fn set_barrier(&mut self, height: Height)
-        requires none { IsNone self.old.barrier }
-        requires above { self.old.durable < height.0 }
-        requires applied { height.0 ≤ self.old.applied }
+        requires none_active { IsNone self.old.barrier }
+        requires not_durable { self.old.durable < height.0 }
+        requires was_applied { height.0 ≤ self.old.applied }
         ensures set { self.new ≡ record self.old { barrier = Some height.0 } }
         ensures in_order { IsInOrder self.new }
     {
         self.barrier = Some(height);
     }
 
-    /// The active barrier is over. Where its height is given it was good, and that height is durable from now on.
-    /// Answers how many receipts in front are to be released for it.
+    /// The active barrier is over. It was good where its height is given, and that height is durable then.
+    /// The answer says how many receipts in front are to be released for it.
     pub fn complete(&mut self, completion: Option<Height>) -> usize
         requires active { IsSome self.old.barrier }
-        requires same { ForSome completion (λ height. self.old.barrier ≡ Some height.0) }
-
-        ensures completed { self.new ≡ completed self.old completion }
-        ensures in_order { IsInOrder self.new }
+        requires its_height { ForSome completion (λ height. self.old.barrier ≡ Some height.0) }
+        ensures after { self.new ≡ after_completion self.old completion }
         ensures later { IfSome completion (λ height. self.old.durable < height.0) }
+        ensures in_order { IsInOrder self.new }
 
-        // Exactly the receipts of heights that the barrier covered are released.
-        ensures count { MatchOption completion (result ≡ 0) (λ height. result ≡ length (up_to height.0 self.old.held)) }
-        ensures front { IfSome completion (λ height. take result self.old.held ≡ up_to height.0 self.old.held) }
-        ensures released { IfSome completion (λ height. ReleasesExactly self.new (up_to height.0 self.old.held)) }
+        // The receipts of the heights that it covered stand in front, and exactly these are released then.
+        ensures count { MatchOption completion (result ≡ 0)
+            (λ height. result ≡ length (receipts_up_to height.0 self.old.held)) }
+        ensures front { IfSome completion
+            (λ height. take result self.old.held ≡ receipts_up_to height.0 self.old.held) }
+        ensures released { IfSome completion
+            (λ height. ReleasesExactly self.new (receipts_up_to height.0 self.old.held)) }
     {
         self.barrier = None;
         match completion {
@@ -141,7 +145,7 @@ impl Durability {
 
     /// Holds the receipt of the block that was applied last, behind all others.
     pub fn record(&mut self, height: Height, ticket: u64) -> Result<(), OutOfMemory>
-        requires applied { height.0 ≡ self.old.applied }
+        requires last { height.0 ≡ self.old.applied }
         requires first { All (λ receipt. receipt.0 ≢ height.0) self.old.held }
         ensures held { OnOk result
             (self.new ≡ record self.old { held = self.old.held ++ (height.0, ticket) ∷ [] }) }
@@ -157,7 +161,7 @@ impl Durability {
     pub fn record_duplicate(&mut self, height: Height, ticket: u64) -> Result<(), OutOfMemory>
         requires { (height.0 ≤ self.old.durable) ⊎ Any (λ receipt. receipt.0 ≡ height.0) self.old.held }
         ensures held { OnOk result
-            (self.new ≡ record self.old { held = put_in self.old.held height.0 ticket }) }
+            (self.new ≡ record self.old { held = with_duplicate self.old.held height.0 ticket }) }
         ensures added { OnOk result (IsPermutation ((height.0, ticket) ∷ self.old.held) self.new.held) }
         ensures refused { OnErr result (self.new ≡ self.old) }
         ensures in_order { IsInOrder self.new }
@@ -167,13 +171,14 @@ impl Durability {
         Ok(())
     }
 
-    /// Takes the front receipt as its ticket and height, where that height is durable.
+    /// Takes the front receipt, as its ticket and height, where that height is durable.
     /// None exactly where no receipt of a durable height is held.
     pub fn released(&mut self) -> Option<(u64, Height)>
         ensures front { IfSome result (λ receipt. Releases self.old self.new (receipt.1.0, receipt.0)) }
-        ensures covered { MatchOption result (covered self.old ≡ [])
-            (λ receipt. covered self.old ≡ (receipt.1.0, receipt.0) ∷ covered self.new) }
+        ensures none { IfNone result (All (λ receipt. self.old.durable < receipt.0) self.old.held) }
         ensures unchanged { IfNone result (self.new ≡ self.old) }
+        ensures covered { MatchOption result (covered_receipts self.old ≡ [])
+            (λ receipt. covered_receipts self.old ≡ (receipt.1.0, receipt.0) ∷ covered_receipts self.new) }
         ensures in_order { IsInOrder self.new }
     {
         let front = self.held.front()?;
@@ -186,11 +191,82 @@ impl Durability {
 
     // How many receipts are of heights up to this one. They stand in front.
     fn count_up_to(&self, height: Height) -> usize
-        ensures count { result ≡ length (up_to height.0 self.now.held) }
-        ensures front { up_to height.0 self.now.held ++ above height.0 self.now.held ≡ self.now.held }
-        ensures in_order { IsInOrder self.now }
+        ensures count { result ≡ length (receipts_up_to height.0 self.now.held) }
+        ensures front { self.now.held
+            ≡ receipts_up_to height.0 self.now.held ++ receipts_above height.0 self.now.held }
     {
         self.held
             .partition_point(|receipt| receipt.height <= height)
+    }
+}
+
+#[cfg(test)]
+mod tests {
+    use super::*;
+    use std::test::Fail;
+
+    // The receipts that are to be released now, each as its height and ticket.
+    fn release_all(
+        alloc: Global,
+        durability: &mut Durability,
+    ) -> Result<Vec<(u64, u64)>, OutOfMemory>
+        ensures { IfOk result (λ receipts. receipts.items ≡ covered_receipts durability.old) }
+    {
+        let mut receipts = Vec::new(alloc);
+        while let Some((ticket, height)) = durability.released() {
+            receipts.push((height.0, ticket))?;
+        }
+        Ok(receipts)
+    }
+
+    // Blocks at heights 1 and 2, of which the first is delivered twice while its barrier is active.
+    #[test]
+    fn acknowledges_behind_barriers(rt: HostRuntime) -> Result<(), Fail> {
+        let mut durability = Durability::new(rt.alloc(), Height(0));
+        assert!(rt; !durability.needs_barrier());
+        durability.applied(Height(1));
+        assert!(rt; durability.needs_barrier());
+        durability.set_barrier(Height(1));
+        durability.record(Height(1), 0)?;
+        durability.applied(Height(2));
+        durability.record(Height(2), 1)?;
+        durability.record_duplicate(Height(1), 2)?;
+        assert!(rt; !durability.needs_barrier());
+
+        assert_eq!(rt; durability.complete(Some(Height(1))), 2);
+        assert_eq!(rt;
+            release_all(rt.alloc(), &mut durability)?.as_slice(),
+            [(1, 0), (1, 2)].as_slice()
+        );
+        assert!(rt; durability.covers(Height(1)) && !durability.covers(Height(2)));
+        assert!(rt; durability.needs_barrier());
+
+        durability.set_barrier(Height(2));
+        assert_eq!(rt; durability.complete(Some(Height(2))), 1);
+        assert_eq!(rt;
+            release_all(rt.alloc(), &mut durability)?.as_slice(),
+            [(2, 1)].as_slice()
+        );
+        Ok(())
+    }
+
+    #[test]
+    fn interrupted_barrier_covers_nothing(rt: HostRuntime) -> Result<(), Fail> {
+        let mut durability = Durability::new(rt.alloc(), Height(4));
+        durability.applied(Height(5));
+        durability.record(Height(5), 0)?;
+        durability.record_duplicate(Height(4), 1)?;
+        durability.set_barrier(Height(5));
+        assert_eq!(rt; durability.barrier_height(), Some(Height(5)));
+
+        assert_eq!(rt; durability.complete(None), 0);
+        assert_eq!(rt; durability.barrier_height(), None);
+        assert_eq!(rt; durability.durable_height(), Height(4));
+        assert_eq!(rt; durability.applied_height(), Height(5));
+        assert_eq!(rt;
+            release_all(rt.alloc(), &mut durability)?.as_slice(),
+            [(4, 1)].as_slice()
+        );
+        Ok(())
     }
 }

@@ -1,8 +1,13 @@
 //! How far applied blocks are durable, and the receipts of finalizations that wait for it.
 //!
-//! A finalized block is applied at once and is durable once a barrier over its height is done. At most one barrier is
-//! active, and blocks that are applied meanwhile wait for the next one. The receipt of a finalization is held until its
-//! height is durable, and then released for acknowledgement. So no height is acknowledged that a crash could lose.
+//! A finalized block is applied to the databases first, and is durable once a barrier over its height is done. Until
+//! then a crash may lose it. At most one barrier is active. It covers the heights that were applied before it began,
+//! and later ones wait for the next barrier. The receipt of a finalization is held until its height is durable, and is
+//! then released for acknowledgement, so that no acknowledged height can be lost.
+//!
+//! A caller says `applied` for each block that was applied, `record` for its receipt and `record_duplicate` for the
+//! receipt of a repeat. It says `set_barrier` when a barrier begins and `complete` when it is over. Then it takes what is
+//! `released` until there is nothing.
 #![tactic(auto)]
 
 mod durability;

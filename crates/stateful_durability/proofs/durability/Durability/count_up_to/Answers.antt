@@ -1,6 +1,5 @@
-use Rattle.std.proofs.Common.{rules, ◌≡◌, ◌<◌, ◌≤◌, [], ◌∷◌, ◌++◌, length, ℕ, ◌+◌, Bool, true, false, List, sym, ap, ◌∙◌, arith, leb}
+use Rattle.std.proofs.Common.{rules, sym, leb}
 use Rattle.std.proofs.lemmas.List.Sorted.{IsPartitionedBy-leb, IsPartitionPoint-from_clause}
-use Rattle.stateful_durability.specs.Durability.{up_to, above, IsInOrder}
 use Rattle.stateful_durability.specs.declared.durability.Receipt.{Receipt}
 use Rattle.stateful_durability.proofs.Receipts.{in_front, ascending_fields, place_counts}
 use Rattle.stateful_durability.proofs.durability.Durability.count_up_to.Goals as goal
@@ -14,4 +13,4 @@ returns-clause-count c =
     rw (← c.self.view_is) (sym (place_counts height items c.partition_point.result (search rules) point.0 point.1))
 
 pub returns-clause-front : goal.returns-clause-front
-returns-clause-front c = rw (← c.self.view_is) (in_front c.args.height.0 _ c.self.invariant.ascending)
+returns-clause-front c = rw (← c.self.view_is) (sym (in_front c.args.height.0 _ c.self.invariant.ascending))

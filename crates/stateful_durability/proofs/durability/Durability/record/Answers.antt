@@ -1,5 +1,5 @@
 use Rattle.std.proofs.Common.{◌≡◌, ℕ, List, [], ◌∷◌, ◌++◌, ap, map}
-use Rattle.stateful_durability.specs.Durability.{Coverage, IsInOrder}
+use Rattle.stateful_durability.specs.Durability.{Coverage}
 use Rattle.stateful_durability.specs.Shown.{coverage, pair_of}
 use Rattle.stateful_durability.proofs.Receipts.{push_fields, push_adds}
 use Rattle.stateful_durability.proofs.Order.{push_keeps_order}
@@ -12,7 +12,7 @@ returns-clause-held c =
 
 pub returns-clause-in_order : goal.returns-clause-in_order
 returns-clause-in_order c =
-    rw (returns-clause-held c) (push_keeps_order c.args.self.now c.args.height.0 c.args.ticket (rw c.self.view_is at c.self.invariant) c.requires.applied)
+    rw (returns-clause-held c) (push_keeps_order c.args.self.now c.args.height.0 c.args.ticket (rw c.self.view_is at c.self.invariant) c.requires.last)
 
 pub invariant_of-self-2 : goal.invariant_of-self-2
 invariant_of-self-2 c = returns-clause-in_order c

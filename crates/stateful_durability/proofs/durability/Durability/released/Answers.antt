@@ -1,14 +1,16 @@
-use Rattle.std.proofs.Common.{rules, ◌≡◌, ◌<◌, ℕ, List, length, ap, sym, ◌∙◌, map, arith}
-use Rattle.stateful_durability.specs.Durability.{Coverage, IsInOrder}
+use Rattle.std.proofs.Common.{rules, ◌<◌, ap, map}
 use Rattle.stateful_durability.specs.Shown.{coverage, pair_of}
-use Rattle.stateful_durability.proofs.Receipts.{none_in_front}
+use Rattle.stateful_durability.proofs.Receipts.{all_behind_later, receipts_up_to_none}
 use Rattle.stateful_durability.proofs.Order.{rest_keeps_order}
 use Rattle.stateful_durability.proofs.durability.Durability.released.Goals as goal
 
-pub returns-then-gt-clause-covered : goal.returns-then-gt-clause-covered
-returns-then-gt-clause-covered c =
+pub returns-then-gt-clause-none : goal.returns-then-gt-clause-none
+returns-then-gt-clause-none c =
     let later : c.self.inside.durable.0 < c.in_ok-front.front.now.height.0 = search rules in
-    rw (← c.self.view_is) (none_in_front c.self.inside.durable.0 c.self.inside.held.items c.in_ok-front.front.now c.self.invariant.ascending (search rules) c.in_ok-front.ensures.lookup later)
+    rw (← c.self.view_is) (all_behind_later c.self.inside.durable.0 c.self.inside.held.items c.in_ok-front.front.now c.self.invariant.ascending (search rules) c.in_ok-front.ensures.lookup later)
+
+pub returns-then-gt-clause-covered : goal.returns-then-gt-clause-covered
+returns-then-gt-clause-covered c = receipts_up_to_none c.args.self.now.durable c.args.self.now.held (returns-then-gt-clause-none c)
 
 pub invariant_of-self-2 : goal.invariant_of-self-2
 invariant_of-self-2 c =
