@@ -1,9 +1,9 @@
 -- A past with one item more, and a register with its change.
-use Rattle.std.proofs.Common.{◌≡◌, ℕ, ◌+◌, Bool, true, false, not, eqb, ltb, cond, ◌&&◌, ◌||◌, List, [], ◌∷◌, refl, sym, ap, ◌∙◌, take, inl, inr, arith}
-use Rattle.std.proofs.lemmas.Bool.{and_right, or_from, or_left}
+use Rattle.std.proofs.Common.{◌≡◌, ℕ, Bool, true, false, not, eqb, ltb, cond, ◌&&◌, ◌||◌, [], ◌∷◌, refl, sym, ap, ◌∙◌}
+use Rattle.std.proofs.lemmas.Bool.{and_right, or_from}
 use Rattle.stateful_types.specs.declared.floor.Floor.{Floor}
 use Rattle.stateful_types.specs.declared.items.Items.{Items}
-use Rattle.stateful_history.specs.Past.{Past, Item, Came, Made}
+use Rattle.stateful_history.specs.Past.{Past, Came, Made}
 use Rattle.stateful_history.specs.Opening.{is_down}
 use Rattle.stateful_history.specs.Live.{live_ticket, live_job, live_fetch, live_flush, bound_of, names_live, may_come}
 use Rattle.stateful_history.specs.declared.event.Event.{Event}
@@ -11,7 +11,7 @@ use Rattle.stateful_history.specs.declared.event.Event.TheVariants.{Verify, Flus
 use Rattle.stateful_history.specs.declared.mark.Mark.{Mark}
 use Rattle.stateful_history.specs.declared.mark.Mark.TheVariants.{BarrierBegun, BarrierDone, Stopped}
 use Rattle.stateful_register.specs.Change.{change_by_event, change_by_mark, ticket_after, job_after, fetch_after, flush_after, bound_after, down_after}
-use Rattle.stateful_register.specs.Register.{RegisterStands, Applies, IsUnchanged, IsBlank}
+use Rattle.stateful_register.specs.Register.{RegisterStands, Applies, IsBlank}
 use Rattle.stateful_register.specs.declared.register.Register.{Register}
 
 -- a barrier that begins waits for each database that there is
@@ -106,17 +106,6 @@ module _ {B C I : Type 0} where
       down = applies.down ∙ ap (down_after (change_by_mark mark)) stands.down ∙ is_down-made p mark;
     }
 
-    -- a register that answers as before stands for the same past
-    pub RegisterStands-unchanged : IsUnchanged old new → RegisterStands count p new
-    RegisterStands-unchanged same = record {
-      tickets = λ t. same.tickets t ∙ stands.tickets t;
-      jobs = λ j. same.jobs j ∙ stands.jobs j;
-      fetches = λ f. same.fetches f ∙ stands.fetches f;
-      flushes = λ k i. same.flushes k i ∙ stands.flushes k i;
-      bound = same.bound ∙ stands.bound;
-      down = same.down ∙ stands.down;
-    }
-
   -- a new register stands for the empty past
   pub RegisterStands-none : (count : ℕ) (r : Register) → IsBlank r → RegisterStands {B = B} {C = C} {I = I} count [] r
   RegisterStands-none count r blank = record {
@@ -129,6 +118,6 @@ module _ {B C I : Type 0} where
   }
 
   -- another event than a restart may come where the machine isn't down and the event names live work
-  pub may_come-other : (count : ℕ) (p : Past B C I) (event : Event B C I) → ((floor : Floor) (keep : Items ℕ) → event ≡ Restart floor keep → ⊥) → may_come count p event ≡ not (is_down p) && names_live count p event
-  may_come-other count p (Restart floor keep) other = absurd (other floor keep refl)
-  may_come-other count p event other = refl
+  pub other_may_come : (count : ℕ) (p : Past B C I) (event : Event B C I) → ((floor : Floor) (keep : Items ℕ) → event ≡ Restart floor keep → ⊥) → may_come count p event ≡ not (is_down p) && names_live count p event
+  other_may_come count p (Restart floor keep) other = absurd (other floor keep refl)
+  other_may_come count p event other = refl

@@ -1,6 +1,5 @@
 -- What events and marks do to the live work.
 use Rattle.std.specs.Prelude.{ℕ, ◌+◌, max, Bool, true, false, not, ◌==◌, ◌&&◌, ◌||◌, nat_lt, if◌then◌else◌, Option, Some, None}
-use Rattle.stateful_history.specs.Past.{Item, Came, Made}
 use Rattle.stateful_history.specs.declared.ticket.Ticket.{Ticket}
 use Rattle.stateful_history.specs.declared.ticket.Ticket.TheVariants.{Request, Receipt}
 use Rattle.stateful_history.specs.declared.event.Event.{Event}

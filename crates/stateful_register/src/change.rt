@@ -54,7 +54,9 @@ impl Change {
             Event::Cancel { ticket } => Change::Closes { ticket: *ticket },
             Event::Fetched { fetch, .. } => Change::EndsFetch { fetch: *fetch },
             Event::Flushed {
-                barrier, database, ..
+                barrier,
+                database,
+                ..
             } => Change::Flushes {
                 barrier: *barrier,
                 database: *database,

@@ -43,6 +43,7 @@ impl Register {
 
     /// Whether the event may come: a restart always, and another one where the machine isn't down and the event names
     /// live work and a new ticket alone.
+    #[tactic(auto, using(crate::proofs::Changes::other_may_come))]
     pub fn allows<B, C, I>(&self, event: &Event<B, C, I>) -> bool
         ensures { (count : ℕ) (p : Past B C I) → RegisterStands count p self.now → result ≡ may_come count p event.now }
     {
@@ -66,7 +67,9 @@ impl Register {
             Event::Fetched { fetch, .. } => self.fetches.contains(fetch),
             Event::Turn { job } => self.jobs.contains(job),
             Event::Flushed {
-                barrier, database, ..
+                barrier,
+                database,
+                ..
             } => self.flushes.is_waiting(*barrier, *database),
             Event::Progress { .. } => false,
             Event::Stop | Event::Restart { .. } => true,
@@ -149,6 +152,118 @@ impl Register {
         for mark in marks {
             self.apply(count, Change::by_mark(mark))?;
         }
+        Ok(())
+    }
+}
+
+#[cfg(test)]
+mod tests {
+    use super::*;
+    use stateful_db::Flushed;
+    use stateful_history::{How, JobKind};
+    use stateful_types::{Digest, Floor, Height, Items};
+    use std::test::Fail;
+
+    const FLOOR: Floor = Floor {
+        processed: None,
+        cutoff: None,
+        max_pending_acks: 1,
+    };
+
+    const DIGEST: Digest = Digest([7; 32]);
+
+    fn restart(alloc: Global) -> Event<u8, u8, u8> {
+        Event::Restart {
+            floor: FLOOR,
+            keep: Items::new(alloc),
+        }
+    }
+
+    fn flushed(barrier: u64, database: usize) -> Event<u8, u8, u8> {
+        Event::Flushed {
+            barrier,
+            database,
+            answer: Flushed::Good,
+        }
+    }
+
+    fn fetched(fetch: u64) -> Event<u8, u8, u8> {
+        Event::Fetched {
+            fetch,
+            answer: None,
+        }
+    }
+
+    #[test]
+    fn takes_live_work_alone(rt: HostRuntime) -> Result<(), Fail> {
+        let mut register = Register::new(rt.alloc());
+        let first: Event<u8, u8, u8> = Event::Subscribe { ticket: 5 };
+        assert!(rt; !register.allows(&first));
+        register.record(2, &restart(rt.alloc()), &[])?;
+        assert!(rt; register.allows(&first));
+        let marks = [
+            Mark::Started {
+                job: 0,
+                kind: JobKind::Candidate,
+                digest: DIGEST,
+            },
+            Mark::Asked {
+                fetch: 3,
+                ticket: None,
+                digest: DIGEST,
+            },
+            Mark::BarrierBegun {
+                barrier: 4,
+                height: Height(1),
+            },
+        ];
+        register.record(2, &first, &marks)?;
+        assert!(rt; !register.allows(&first));
+        assert!(rt; register.allows(&Event::<u8, u8, u8>::Subscribe { ticket: 6 }));
+        assert!(rt; register.allows(&Event::<u8, u8, u8>::Cancel { ticket: 5 }));
+        assert!(rt; !register.allows(&Event::<u8, u8, u8>::Cancel { ticket: 6 }));
+        assert!(rt; register.allows(&Event::<u8, u8, u8>::Turn { job: 0 }));
+        assert!(rt; register.allows(&fetched(3)));
+        assert!(rt; register.allows(&flushed(4, 1)));
+        assert!(rt; !register.allows(&flushed(4, 2)));
+        Ok(())
+    }
+
+    #[test]
+    fn forgets_ended_work(rt: HostRuntime) -> Result<(), Fail> {
+        let mut register = Register::new(rt.alloc());
+        register.down = false;
+        register.apply(2, Change::StartsJob { job: 0 })?;
+        register.apply(2, Change::BeginsBarrier { barrier: 4 })?;
+        register.record(2, &flushed(4, 1), &[])?;
+        assert!(rt; !register.allows(&flushed(4, 1)));
+        assert!(rt; register.allows(&flushed(4, 0)));
+        let ended = [Mark::Ended {
+            job: 0,
+            how: How::Kept,
+        }];
+        let turn: Event<u8, u8, u8> = Event::Turn { job: 0 };
+        register.record(2, &turn, &ended)?;
+        assert!(rt; !register.allows(&turn));
+        register.record(2, &Event::<u8, u8, u8>::Stop, &[Mark::Stopped])?;
+        assert!(rt; !register.allows(&flushed(4, 0)));
+        assert!(rt; register.allows(&restart(rt.alloc())));
+        Ok(())
+    }
+
+    #[test]
+    fn keeps_receipts_and_the_last_ticket(rt: HostRuntime) -> Result<(), Fail> {
+        let mut register = Register::new(rt.alloc());
+        register.down = false;
+        register.apply(
+            1,
+            Change::Opens {
+                ticket: u64::MAX,
+                stands_for: Ticket::Receipt,
+            },
+        )?;
+        assert!(rt; !register.allows(&Event::<u8, u8, u8>::Cancel { ticket: u64::MAX }));
+        assert!(rt; !register.allows(&Event::<u8, u8, u8>::Subscribe { ticket: u64::MAX }));
         Ok(())
     }
 }
