@@ -1,5 +1,7 @@
 -- What a set of databases means to the layer above: each function and relation over its members, in one record.
 use Rattle.std.specs.Prelude.{◌≡◌, ℕ, ◌+◌, ◌<◌, ◌≤◌, List, [], ◌∷◌, ◌++◌, Option, Some, None}
+use Rattle.stateful_types.specs.declared.target.Target.{Target}
+use Rattle.stateful_db.specs.declared.database.InitError.{InitError}
 
 pub record Databases (Ids States Targets : Type 0) : Type 1 where
   -- all that is known of the databases, but for the next batch ids
@@ -10,6 +12,16 @@ pub record Databases (Ids States Targets : Type 0) : Type 1 where
   pub point : Members → Option (Ids × States)
   -- what a block commits to that leads to these states
   pub target_of : States → Targets
+  -- the part of the database of this number, as a root with a range
+  pub target_at : Targets → ℕ → Target
+  -- the parts of the database of this number are the same
+  pub Agrees : Targets → Targets → ℕ → Type 0
+  -- the states of empty media
+  pub initial : States
+  -- the range of a state ends at the last number or behind it
+  pub Full : States → Type 0
+  -- a database has no batch id left
+  pub Spent : Ids → Type 0
   -- the states that the seal of batches without changes gives
   pub begun : States → States
   -- the ids of the chain were drawn before these
@@ -44,6 +56,10 @@ pub record Databases (Ids States Targets : Type 0) : Type 1 where
   pub LostFlushing : Members → ℕ → ℕ → Members → Type 0
   -- each database was closed or lost, and is open at its checkpoint of these targets, or at its latest
   pub Reopened : Members → Option Targets → Members → Type 0
+  -- the database of this number doesn't open at its checkpoint of these targets, or at its latest, for this reason, which
+  -- may be that its count rose; it is lost where it failed or wanted memory, and else closed as before. Those before are
+  -- closed, each at the checkpoint at which it was opened, and those behind are as before
+  pub NotOpened : Members → Option Targets → ℕ → Type 0 → InitError → Members → Type 0
   -- each database is closed, with its durable checkpoints and as many others as these numbers keep; without a number it keeps all
   pub Crashed : Members → List ℕ → Members → Type 0
 

@@ -1,8 +1,10 @@
 -- A database of a set, wherever it is.
-use Rattle.std.specs.Prelude.{◌≡◌, ℕ, ◌-◌, List, drop, Option, Some, None}
+use Rattle.std.specs.Prelude.{◌≡◌, ℕ, ◌-◌, ◌⊎◌, List, drop, Option, Some, None}
 use Rattle.stateful_types.specs.declared.target.Target.{Target}
 use Rattle.stateful_db.specs.Disk.{Disk, Standing, IsEither, IsCrash, all, applied, point, place, flushed}
-use Rattle.stateful_db.specs.Reopening.{Reopens}
+use Rattle.stateful_db.specs.Reopening.{Reopens, HasNone, Differs}
+use Rattle.stateful_db.specs.declared.database.InitError.{InitError}
+use Rattle.stateful_db.specs.declared.database.InitError.TheVariants as error
 
 -- here, closed, lost with its medium, or away
 pub data Member (S : Type 0) : Type 0 where
@@ -107,3 +109,15 @@ module _ {S T : Type 0} (target_of : S → T) (targeted : T → Target) where
   MemberReopened (shut d) expected (at_home s) = Reopens target_of targeted expected d s
   MemberReopened (broken d) expected (at_home s) = Reopens target_of targeted expected d s
   MemberReopened _ expected m = ⊥
+
+  -- it was closed or lost, and doesn't open at its checkpoint of the expected target, or at the latest, for this reason:
+  -- it is lost where it failed or wanted memory, and else closed as before
+  abbrev pub IsNotOpened : Option T → Disk S → Type 0 → InitError → Member S → Type 0
+  IsNotOpened expected d rose error.Database m = (rose × (m ≡ broken d)) ⊎ (HasNone target_of targeted expected d × (m ≡ shut d))
+  IsNotOpened expected d rose (error.TargetMismatch given recovered) m = Differs target_of targeted expected d given recovered × (m ≡ shut d)
+  IsNotOpened expected d rose error.OutOfMemory m = m ≡ broken d
+
+  abbrev pub MemberNotOpened : Member S → Option T → Type 0 → InitError → Member S → Type 0
+  MemberNotOpened (shut d) expected rose why m = IsNotOpened expected d rose why m
+  MemberNotOpened (broken d) expected rose why m = IsNotOpened expected d rose why m
+  MemberNotOpened _ expected rose why m = ⊥

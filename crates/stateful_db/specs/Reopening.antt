@@ -40,3 +40,9 @@ module _ {S T : Type 0} (target_of : S → T) (targeted : T → Target) where
   FailsToReopen expected d rose error.Database = rose ⊎ HasNone expected d
   FailsToReopen expected d rose (error.TargetMismatch given recovered) = Differs expected d given recovered
   FailsToReopen expected d rose error.OutOfMemory = Unit {0}
+
+-- a database that doesn't open for this reason, which may be that its count rose, is lost: it failed, or wanted memory
+abbrev pub Loses : InitError → Type 0 → Type 0
+Loses error.Database rose = rose
+Loses (error.TargetMismatch given recovered) rose = ⊥
+Loses error.OutOfMemory rose = Unit {0}

@@ -172,8 +172,8 @@ module _ {S : Type 0} where
   token-idle-at m zero idle = token-idle m idle
   token-idle-at m (suc i) idle = rw (eqb-suc-zero i) refl
 
-module _ {S T : Type 0} (target_of : S → T) (targeted : T → Target) (begun : S → S) where
-  pub single_laws : Laws (single target_of targeted begun)
+module _ {S T : Type 0} (target_of : S → T) (targeted : T → Target) (begun : S → S) (initial : S) where
+  pub single_laws : Laws (single target_of targeted begun initial)
   single_laws = record {
     issued_first = λ n p c h. (h.0, tt);
     issued_other = λ n i s t c h. h;

@@ -1,12 +1,14 @@
 //! One database, wherever it is.
 
-ghost use Rattle.std.specs.Prelude.{◌≡◌, ℕ, List, ◌∷◌, [], IfOk, IfErr, OnOk, OnErr, IsErrOf, Some, ◌<◌, ◌≤◌, ◌+◌, ◌-◌, ◌^◌, ◌++◌};
+ghost use Rattle.std.specs.Prelude.{◌≡◌, ℕ, List, ◌∷◌, [], IfOk, IfErr, OnOk, OnErr, IsErrOf, IsTrue, ◌↔◌, Some, ◌<◌, ◌≤◌, ◌+◌, ◌-◌, ◌^◌, ◌++◌};
 ghost use Rattle.stateful_db.specs.Chain.{AllBelow, ids};
 ghost use Rattle.stateful_db.specs.Disk.{point};
+ghost use Rattle.stateful_db.specs.Reopening.{Loses};
+ghost use Rattle.stateful_types.specs.Causes.{Rose};
 ghost use Rattle.stateful_db.specs.declared.database.DbCall.{DbCall};
 
 use crate::batch::{BatchContext, BatchError, Unmerkleized};
-use crate::database::{DbCall, FlushToken, InitError, ManagedDb, Targeted, Why};
+use crate::database::{Broken, DbCall, FlushToken, InitError, ManagedDb, Targeted, Why};
 use crate::set::{DatabaseSet, SetError, SetInit, SetLost};
 use stateful_types::{Faulty, Items, Target};
 use std::mem;
@@ -20,22 +22,10 @@ pub enum Held<D: ManagedDb> {
     Away,
 }
 
-/// What a set answers where its one database broke at this call.
-fn refusal(why: Why, call: DbCall) -> SetError
-    ensures fault { (n : ℕ) (k : DbCall) → result ≡ SetError.DatabaseFault n k → (n ≡ 0) × (k ≡ call) × (why ≡ Why.Failed) }
-    ensures failed { why ≡ Why.Failed → result ≡ SetError.DatabaseFault 0 call }
-    ensures memory { why ≡ Why.OutOfMemory → result ≡ SetError.OutOfMemory }
-{
-    match why {
-        Why::Failed => SetError::DatabaseFault { index: 0, call },
-        Why::OutOfMemory => SetError::OutOfMemory,
-    }
-}
-
 impl<D: ManagedDb> DatabaseSet for Held<D> {
     ghost use Rattle.stateful_db.specs.declared.held.Held.TheVariants.{Here, Closed, Lost, Away};
     ghost use Rattle.stateful_db.specs.Databases.{IsOpening};
-    ghost use Rattle.stateful_db.specs.Member.{at_home, shut, broken, gone, IsShut, MemberReopened};
+    ghost use Rattle.stateful_db.specs.Member.{at_home, shut, broken, gone, IsShut};
     ghost use Rattle.stateful_db.specs.Single.{single};
     ghost use Rattle.stateful_db.specs.SingleLaws.{single_laws};
 
@@ -51,7 +41,7 @@ impl<D: ManagedDb> DatabaseSet for Held<D> {
 
     type SyncTargets = D::SyncTarget;
 
-    ghost kind = { single D.target_of D.SyncTarget.targeted D.begun };
+    ghost kind = { single D.target_of D.SyncTarget.targeted D.begun D.initial };
 
     ghost members = { elim [ Here d ↦ at_home (D.standing d) | Closed m ↦ shut (D.disk m) | Lost m ↦ broken (D.disk m) | Away ↦ gone ] };
 
@@ -63,7 +53,7 @@ impl<D: ManagedDb> DatabaseSet for Held<D> {
 
     ghost shows = { D.Merkleized.shows };
 
-    ghost laws = { single_laws D.target_of D.SyncTarget.targeted D.begun };
+    ghost laws = { single_laws D.target_of D.SyncTarget.targeted D.begun D.initial };
 
     fn count() -> usize {
         1
@@ -81,12 +71,14 @@ impl<D: ManagedDb> DatabaseSet for Held<D> {
         matches!(self, Held::Here(_))
     }
 
+    // The clauses of the trait, which the check can't give this call by itself.
     fn init(&mut self, config: &D::Config, expected: Option<D::SyncTarget>) -> Result<(), SetInit>
-        ensures ok { OnOk result (IsShut (⟦<Held<D> as DatabaseSet>⟧.members self.old) → MemberReopened D.target_of D.SyncTarget.targeted (⟦<Held<D> as DatabaseSet>⟧.members self.old) expected (⟦<Held<D> as DatabaseSet>⟧.members self.new)) }
-        ensures opening { OnOk result (IsShut (⟦<Held<D> as DatabaseSet>⟧.members self.old) → (t : D.SyncTarget) → expected ≡ Some t → IsOpening ⟦<Held<D> as DatabaseSet>⟧.kind (⟦<Held<D> as DatabaseSet>⟧.next self.new) (⟦<Held<D> as DatabaseSet>⟧.members self.new) t) }
-        ensures closed { OnErr result (IsShut (⟦<Held<D> as DatabaseSet>⟧.members self.old) → IsShut (⟦<Held<D> as DatabaseSet>⟧.members self.new)) }
+        ensures ok { let set = ⟦<Held<D> as DatabaseSet>⟧ in OnOk result (IsShut (set.members self.old) → set.kind.Reopened (set.members self.old) expected (set.members self.new)) }
+        ensures opening { let set = ⟦<Held<D> as DatabaseSet>⟧ in OnOk result (IsShut (set.members self.old) → (t : D.SyncTarget) → expected ≡ Some t → IsOpening set.kind (set.next self.new) (set.members self.new) t) }
+        ensures cause { let set = ⟦<Held<D> as DatabaseSet>⟧ in IfErr result (λ e. IsShut (set.members self.old) → set.kind.NotOpened (set.members self.old) expected e.index (Rose (set.counted self.old e.index) (set.counted self.new e.index)) e.why (set.members self.new)) }
+        ensures closed { let set = ⟦<Held<D> as DatabaseSet>⟧ in OnErr result (IsShut (set.members self.old) → IsShut (set.members self.new)) }
         ensures index { IfErr result (λ e. e.index < 1) }
-        ensures later { (n : ℕ) → ⟦<Held<D> as DatabaseSet>⟧.counted self.old n ≤ ⟦<Held<D> as DatabaseSet>⟧.counted self.new n }
+        ensures later { let set = ⟦<Held<D> as DatabaseSet>⟧ in (n : ℕ) → set.counted self.old n ≤ set.counted self.new n }
     {
         let medium = match mem::replace(self, Held::Away) {
             Held::Closed(medium) | Held::Lost(medium) => medium,
@@ -161,10 +153,7 @@ impl<D: ManagedDb> DatabaseSet for Held<D> {
                     *self = Held::Here(database);
                     Ok(())
                 }
-                Err(broken) => {
-                    *self = Held::Lost(broken.medium);
-                    Err(refusal(broken.why, DbCall::Apply))
-                }
+                Err(broken) => Err(lose(self, broken, DbCall::Apply)),
             },
             other => {
                 *self = other;
@@ -176,17 +165,17 @@ impl<D: ManagedDb> DatabaseSet for Held<D> {
     fn persist(&mut self, tokens: &mut Items<FlushToken>) -> Result<(), SetError> {
         match mem::replace(self, Held::Away) {
             Held::Here(database) => match database.finalize() {
-                Ok((database, token)) => {
-                    *self = Held::Here(database);
-                    match tokens.push(token) {
-                        Ok(()) => Ok(()),
-                        Err(_) => Err(SetError::OutOfMemory),
+                Ok((database, token)) => match tokens.push(token) {
+                    Ok(()) => {
+                        *self = Held::Here(database);
+                        Ok(())
                     }
-                }
-                Err(broken) => {
-                    *self = Held::Lost(broken.medium);
-                    Err(refusal(broken.why, DbCall::Finalize))
-                }
+                    Err(_) => {
+                        *self = Held::Lost(database.close());
+                        Err(SetError::OutOfMemory)
+                    }
+                },
+                Err(broken) => Err(lose(self, broken, DbCall::Finalize)),
             },
             other => {
                 *self = other;
@@ -202,10 +191,7 @@ impl<D: ManagedDb> DatabaseSet for Held<D> {
                     *self = Held::Here(database);
                     Ok(())
                 }
-                Err(broken) => {
-                    *self = Held::Lost(broken.medium);
-                    Err(refusal(broken.why, DbCall::Flush))
-                }
+                Err(broken) => Err(lose(self, broken, DbCall::Flush)),
             },
             other => {
                 *self = other;
@@ -282,8 +268,25 @@ fn fork<D: ManagedDb>(database: &mut D, parent: &D::Merkleized) -> Result<D::Unm
     }
 }
 
+/// The database is lost with its medium. What the set answers that failed so at this call.
+fn lose<D: ManagedDb>(held: &mut Held<D>, broken: Broken<D::Medium>, call: DbCall) -> SetError
+    ensures lost { held.new ≡ Held.Lost broken.medium }
+    ensures fault { (n : ℕ) (k : DbCall) → result ≡ SetError.DatabaseFault n k → (n ≡ 0) × (k ≡ call) × (broken.why ≡ Why.Failed) }
+    ensures failed { broken.why ≡ Why.Failed → result ≡ SetError.DatabaseFault 0 call }
+    ensures memory { broken.why ≡ Why.OutOfMemory → result ≡ SetError.OutOfMemory }
+{
+    let Broken { medium, why } = broken;
+    *held = Held::Lost(medium);
+    match why {
+        Why::Failed => SetError::DatabaseFault { index: 0, call },
+        Why::OutOfMemory => SetError::OutOfMemory,
+    }
+}
+
 /// Whether a database that didn't open is lost: it failed, or wanted memory.
-fn is_broken(why: InitError, before: u64, now: u64) -> bool {
+fn is_broken(why: InitError, before: u64, now: u64) -> bool
+    ensures { IsTrue result ↔ Loses why (Rose before now) }
+{
     match why {
         InitError::Database => before.saturating_add(1) <= now,
         InitError::TargetMismatch { .. } => false,
