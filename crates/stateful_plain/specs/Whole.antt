@@ -22,10 +22,13 @@ abbrev pub put : List (ℕ × ℕ) → ℕ → Option ℕ → List (ℕ × ℕ)
 put entries key None = remove_entry (is_at (nat_cmp key)) entries
 put entries key (Some value) = insert_entry nat_cmp entries key value
 
+abbrev pub pair_bytes : ℕ → ℕ → List ℕ
+pair_bytes key value = to_be_bytes w64 key ++ to_be_bytes w64 value
+
 -- key and value of each entry, eight bytes each
 abbrev pub entry_bytes : List (ℕ × ℕ) → List ℕ
 entry_bytes [] = []
-entry_bytes (e ∷ es) = to_be_bytes w64 e.0 ++ to_be_bytes w64 e.1 ++ entry_bytes es
+entry_bytes (e ∷ es) = pair_bytes e.0 e.1 ++ entry_bytes es
 
 -- the end of the range, and then the entries
 abbrev pub whole_bytes : Whole → List ℕ

@@ -1,11 +1,11 @@
 //! Batches that hold a whole copy of their state.
 
-ghost use Rattle.std.specs.Prelude.{◌≡◌, ℕ, List, ◌∷◌, ◌==◌, IfOk, IfErr, IsErrOf, ◌↔◌, false};
+ghost use Rattle.std.specs.Prelude.{◌≡◌, ℕ, List, ◌∷◌, ◌==◌, IfOk, IfErr, IsErrOf, ◌↔◌, false, position};
 ghost use Rattle.std.specs.List.{list_any};
 ghost use Rattle.stateful_db.specs.Chain.{has_id};
 ghost use Rattle.stateful_plain.specs.Whole.{Whole, value_at, put};
 ghost use Rattle.stateful_plain.specs.Stored.{standing_of};
-ghost use Rattle.stateful_plain.specs.Shown.{DraftShows, SealShows};
+ghost use Rattle.stateful_plain.specs.Shown.{DraftShows, SealShows, down_to};
 
 use crate::database::Plain;
 use crate::state::PlainState;
@@ -68,6 +68,17 @@ impl PlainUnmerkleized {
             size,
             entries,
         })
+    }
+}
+
+impl PlainUnmerkleized {
+    /// Cuts the chain below the point of this id.
+    pub(crate) fn cut(&mut self, id: u64)
+        ensures { (p : ℕ × Whole) (c : List (ℕ × Whole)) → DraftShows self.old (p ∷ c) → DraftShows self.new (p ∷ down_to id c) }
+    {
+        if let Some(place) = place_of(self.below.as_slice(), id) {
+            self.below.truncate(place + 1);
+        }
     }
 }
 
@@ -157,4 +168,11 @@ fn stands_on(id: u64, below: &[u64], at: u64) -> bool
     ensures { result ≡ list_any (λ i. i == at) (id ∷ below.now) }
 {
     id == at || below.contains(&at)
+}
+
+/// The place of an id.
+fn place_of(ids: &[u64], id: u64) -> Option<usize>
+    ensures { result ≡ position (λ i. i == id) ids.now }
+{
+    ids.iter().position(|at| *at == id)
 }

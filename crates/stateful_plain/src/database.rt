@@ -166,9 +166,7 @@ impl ManagedDb for Plain {
     {
         let (db, id) = database.into_parts();
         let mut batch = parent.new_batch(id)?;
-        if let Some(place) = batch.below.iter().position(|at| *at == db.id) {
-            batch.below.truncate(place + 1);
-        }
+        batch.cut(db.id);
         Ok(batch)
     }
 

@@ -1,6 +1,6 @@
 //! What a database leaves: its checkpoints, the next batch id, and its calls.
 
-ghost use Rattle.std.specs.Prelude.{◌<◌};
+ghost use Rattle.std.specs.Prelude.{◌<◌, ◌≡◌, ◌==◌, position};
 
 use crate::calls::Calls;
 use crate::state::PlainState;
@@ -69,7 +69,7 @@ impl PlainMedium {
     fn place_with_end(&self, end: Location) -> Option<usize>
         ensures { result ≡ position (λ w. w.size == end.0) (all (disk_of self.now)) }
     {
-        match self.older.iter().position(|state| state.size() == end.0) {
+        match place_in(self.older.as_slice(), end) {
             Some(place) => Some(place),
             None if self.newest.size() == end.0 => Some(self.older.len()),
             None => None,
@@ -162,4 +162,11 @@ impl PlainMedium {
             }
         }
     }
+}
+
+/// The number of the first state whose range has this end.
+fn place_in(states: &[PlainState], end: Location) -> Option<usize>
+    ensures { result ≡ position (λ w. w.size == end.0) states.now }
+{
+    states.iter().position(|state| state.size() == end.0)
 }

@@ -1,7 +1,8 @@
 //! A whole state.
 
 ghost use Rattle.std.specs.Prelude.{◌≡◌, ◌++◌, ℕ, List, IfOk};
-ghost use Rattle.stateful_plain.specs.Whole.{Whole, entry_bytes, root_of, target_of, initial};
+ghost use Rattle.stateful_plain.specs.Whole.{Whole, pair_bytes, entry_bytes, root_of, target_of, initial};
+ghost use Rattle.sha2.specs.Hashers.{Holds256};
 
 use sha2::{Digest as Hasher, Sha256};
 use stateful_types::{Digest, Location, OutOfMemory, Target};
@@ -82,10 +83,16 @@ impl PlainState {
 
 /// Adds key and value of each entry to the message.
 fn add_entries(entries: &BTreeMap<u64, u64>, hasher: &mut Sha256)
-    ensures { (m : List ℕ) → ⟦<Sha256 as Hasher>⟧.holds hasher.old m → ⟦<Sha256 as Hasher>⟧.holds hasher.new (m ++ entry_bytes entries.now.entries) }
+    ensures { (m : List ℕ) → Holds256 hasher.old m → Holds256 hasher.new (m ++ entry_bytes entries.now.entries) }
 {
     for (key, value) in entries {
-        hasher.update(&key.to_be_bytes());
-        hasher.update(&value.to_be_bytes());
+        add_entry(*key, *value, hasher);
     }
+}
+
+fn add_entry(key: u64, value: u64, hasher: &mut Sha256)
+    ensures { (m : List ℕ) → Holds256 hasher.old m → Holds256 hasher.new (m ++ pair_bytes key value) }
+{
+    hasher.update(&key.to_be_bytes());
+    hasher.update(&value.to_be_bytes());
 }
