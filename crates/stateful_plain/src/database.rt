@@ -105,12 +105,9 @@ impl ManagedDb for Plain {
         if medium.fails(DbCall::Init) {
             return Err((medium, InitError::Database));
         }
-        let place = match expected {
-            Some(expected) => match medium.place_of(expected) {
-                Ok(place) => place,
-                Err(why) => return Err((medium, why)),
-            },
-            None => medium.older.len(),
+        let place = match medium.place_to_open(expected) {
+            Ok(place) => place,
+            Err(why) => return Err((medium, why)),
         };
         medium.open_at(place);
         Ok(Plain {

@@ -30,12 +30,12 @@ impl Faulty for PlainMedium {
 }
 
 impl PlainMedium {
-    ghost use Rattle.std.specs.Prelude.{◌≡◌, ◌↔◌, ◌+◌, ◌==◌, ◌<◌, IsTrue, OnOk, OnErr, IfOk, IfErr, IsErrOf, [], ℕ, position, slice_get, length, Some};
+    ghost use Rattle.std.specs.Prelude.{◌≡◌, ◌↔◌, ◌+◌, ◌==◌, ◌<◌, IsTrue, OnOk, OnErr, IfOk, IfErr, ◌≢◌, [], ℕ, position, slice_get, length, Some};
     ghost use Rattle.stateful_db.specs.Disk.{applied, all, IsCrash, IsOpened};
     ghost use Rattle.stateful_db.specs.declared.database.DbCall.{DbCall};
     ghost use Rattle.stateful_plain.specs.Called.{number_of, IsListed, Called};
-    ghost use Rattle.stateful_db.specs.Reopening.{with_end, FailsToReopen};
-    ghost use Rattle.stateful_plain.specs.Stored.{disk_of, IsCutTo};
+    ghost use Rattle.stateful_db.specs.Reopening.{FailsToReopen};
+    ghost use Rattle.stateful_plain.specs.Stored.{disk_of, IsCutTo, IsPlaceOf};
     ghost use Rattle.stateful_plain.specs.Whole.{Whole, initial, target_of};
 
     /// A medium with the empty state alone. The calls that are listed, by kind and by number from 0 on, fail.
@@ -88,10 +88,10 @@ impl PlainMedium {
     }
 
     /// The number of the kept checkpoint of this target.
-    pub(crate) fn place_of(&self, expected: Target) -> Result<usize, InitError>
-        ensures ok { IfOk result (λ n. (with_end target_of (λ t. t) expected (disk_of self.now) ≡ Some n) × ((w : Whole) × (slice_get (all (disk_of self.now)) n ≡ Some w) × (target_of w ≡ expected))) }
+    fn place_of(&self, expected: Target) -> Result<usize, InitError>
+        ensures ok { IfOk result (λ n. IsPlaceOf (Some expected) (disk_of self.now) n) }
         ensures err { IfErr result (λ e. FailsToReopen target_of (λ t. t) (Some expected) (disk_of self.now) ⊥ e) }
-        ensures memory { IsErrOf result InitError.OutOfMemory → ⊥ }
+        ensures memory { IfErr result (λ e. e ≢ InitError.OutOfMemory) }
     {
         let place = match self.place_with_end(expected.end) {
             Some(place) => place,
@@ -105,6 +105,19 @@ impl PlainMedium {
                 expected,
                 recovered,
             })
+        }
+    }
+
+    /// The number of the kept checkpoint of this target, or of the latest.
+    pub(crate) fn place_to_open(&self, expected: Option<Target>) -> Result<usize, InitError>
+        ensures ok { IfOk result (λ n. IsPlaceOf expected (disk_of self.now) n) }
+        ensures within { IfOk result (λ n. n < length (all (disk_of self.now))) }
+        ensures err { IfErr result (λ e. FailsToReopen target_of (λ t. t) expected (disk_of self.now) ⊥ e) }
+        ensures memory { IfErr result (λ e. e ≢ InitError.OutOfMemory) }
+    {
+        match expected {
+            Some(expected) => self.place_of(expected),
+            None => Ok(self.older.len()),
         }
     }
 
