@@ -1,5 +1,5 @@
 -- chains that are cut below the point of an id
-use Rattle.std.proofs.Common.{◌≡◌, ℕ, ◌+◌, ◌<◌, ◌≤◌, ◌==◌, nat_lt, suc, not, Bool, true, false, cond, Option, Some, None, unwrap_or, position, List, [], ◌∷◌, ◌++◌, refl, ap, sym, ◌∙◌, arith, take, add-one}
+use Rattle.std.proofs.Common.{◌≡◌, ℕ, ◌+◌, ◌<◌, ◌≤◌, ◌==◌, nat_lt, suc, not, Bool, true, false, cond, Some, None, unwrap_or, position, List, [], ◌∷◌, ◌++◌, refl, ap, sym, ◌∙◌, arith, take}
 use Rattle.std.specs.Bool.{if◌then◌else◌}
 use Rattle.std.specs.List.{position_or_len}
 use Rattle.std.proofs.lemmas.Bool.Decides.{nat_tests}

@@ -1,8 +1,8 @@
 -- the state at which a database opens
-use Rattle.std.proofs.Common.{◌≡◌, ℕ, ◌+◌, zero, suc, List, [], ◌∷◌, ◌++◌, length, take, Option, Some, None, refl, sym, ap, ◌∙◌, subst, slice_get, arith, unwrap_or, add-one}
+use Rattle.std.proofs.Common.{◌≡◌, ℕ, zero, suc, List, [], ◌∷◌, ◌++◌, take, Option, Some, None, ap, ◌∙◌, subst, slice_get, add-one}
 use Rattle.stateful_types.specs.declared.target.Target.{Target}
 use Rattle.stateful_db.specs.Disk.{Disk, Standing, IsOpened, all}
-use Rattle.stateful_db.specs.Reopening.{OpensAt, Reopens, with_end}
+use Rattle.stateful_db.specs.Reopening.{OpensAt, Reopens}
 use Rattle.stateful_plain.specs.Whole.{Whole, target_of}
 use Rattle.stateful_plain.specs.Stored.{IsPlaceOf}
 

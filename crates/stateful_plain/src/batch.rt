@@ -1,8 +1,9 @@
 //! Batches that hold a whole copy of their state.
 
-ghost use Rattle.std.specs.Prelude.{◌≡◌, ℕ, List, ◌∷◌, ◌==◌, IfOk, IfErr, IsErrOf, ◌↔◌, false, position};
+ghost use Rattle.std.specs.Prelude.{◌≡◌, ◌≢◌, ℕ, ◌-◌, ◌^◌, ◌<◌, ◌≤◌, ◌==◌, List, ◌∷◌, IfOk, IfErr, IsErrOf, ◌↔◌, false, position};
 ghost use Rattle.std.specs.List.{list_any};
-ghost use Rattle.stateful_db.specs.Chain.{has_id};
+ghost use Rattle.stateful_db.specs.Chain.{has_id, IsPoint};
+ghost use Rattle.stateful_db.specs.Disk.{point};
 ghost use Rattle.stateful_plain.specs.Whole.{Whole, value_at, put};
 ghost use Rattle.stateful_plain.specs.Stored.{standing_of};
 ghost use Rattle.stateful_plain.specs.Shown.{DraftShows, SealShows, down_to};
@@ -69,9 +70,7 @@ impl PlainUnmerkleized {
             entries,
         })
     }
-}
 
-impl PlainUnmerkleized {
     /// Cuts the chain below the point of this id.
     pub(crate) fn cut(&mut self, id: u64)
         ensures { (p : ℕ × Whole) (c : List (ℕ × Whole)) → DraftShows self.old (p ∷ c) → DraftShows self.new (p ∷ down_to id c) }
@@ -101,7 +100,15 @@ impl Unmerkleized for PlainUnmerkleized {
 
     ghost end_of = { λ w. w.size };
 
-    fn merkleize(self, db: &Plain) -> Result<PlainMerkleized, BatchError> {
+    /// Takes no memory.
+    fn merkleize(self, db: &Plain) -> Result<PlainMerkleized, BatchError>
+        ensures ok { IfOk result (λ m. (c : List (ℕ × Whole)) → DraftShows self c → IsPoint (point (standing_of db.now)) c → SealShows m c) }
+        ensures stale { (c : List (ℕ × Whole)) → DraftShows self c → (IsErrOf result BatchError.StaleRead ↔ (has_id c (standing_of db.now).id ≡ false)) }
+        ensures exhausted { (p : ℕ × Whole) (c : List (ℕ × Whole)) → DraftShows self (p ∷ c) → IsErrOf result BatchError.Exhausted → 2 ^ 64 - 1 ≤ p.1.size }
+        ensures within { IfOk result (λ m. (p : ℕ × Whole) (c : List (ℕ × Whole)) → DraftShows self (p ∷ c) → p.1.size < 2 ^ 64 - 1) }
+        ensures whole { IfOk result (λ m. (c : List (ℕ × Whole)) → DraftShows self c → SealShows m c) }
+        ensures memory { IfErr result (λ e. e ≢ BatchError.OutOfMemory) }
+    {
         if !stands_on(self.id, self.below.as_slice(), db.id) {
             return Err(BatchError::StaleRead);
         }

@@ -17,6 +17,7 @@ use stateful_db::{
 };
 use stateful_types::{Digest, Faulty, Location, OutOfMemory, Target};
 use std::collections::BTreeMap;
+use std::ops::Range;
 
 /// The id of the last applied batch, the place of the token that is out, and the medium that it was opened on.
 #[derive(Drop)]
@@ -32,6 +33,14 @@ impl Plain {
         ensures { result ≡ (standing_of self.now).disk.newest.size }
     {
         self.medium.newest.size()
+    }
+
+    /// The range of the newest state: its last location alone.
+    pub fn range(&self) -> Range<u64>
+        ensures { let size = (standing_of self.now).disk.newest.size in result ≡ record { start = size - 1; end = size } }
+    {
+        let size = self.size();
+        size.saturating_sub(1)..size
     }
 
     /// The entries of the newest state.

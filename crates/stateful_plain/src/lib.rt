@@ -11,3 +11,6 @@ pub use batch::{PlainMerkleized, PlainUnmerkleized};
 pub use database::Plain;
 pub use medium::PlainMedium;
 pub use state::PlainState;
+
+#[cfg(test)]
+mod tests;

@@ -2,7 +2,7 @@ use Rattle.std.proofs.Common.{ℕ, ◌<◌, List, ◌∷◌, ◌++◌, sym, subs
 use Rattle.stateful_db.specs.Disk.{point}
 use Rattle.stateful_plain.specs.Whole.{Whole, begun}
 use Rattle.stateful_plain.specs.Stored.{standing_of}
-use Rattle.stateful_plain.specs.Shown.{DraftShows, SealShows, down_to}
+use Rattle.stateful_plain.specs.Shown.{DraftShows, down_to}
 use Rattle.stateful_plain.specs.declared.database.Plain.{Plain}
 use Rattle.stateful_plain.proofs.Cuts.{down_to_point}
 use Rattle.stateful_plain.proofs.database.PlainManagedDb.fork.Goals as goal
