@@ -176,8 +176,12 @@ impl ManagedDb for Plain {
         Ok(batch)
     }
 
+    fn batch_target(batch: &PlainMerkleized) -> Target {
+        batch.state.target()
+    }
+
     fn matches_sync_target(batch: &PlainMerkleized, target: &Target) -> bool {
-        batch.state.target() == *target
+        Plain::batch_target(batch) == *target
     }
 
     /// `Failed` exactly where the call is listed as a failing one. A failed apply leaves the checkpoints.
@@ -311,6 +315,8 @@ impl ManagedDb for Plain {
         medium.cut(keep);
         medium
     }
+
+    ghost numbered = { λ m. m.numbered };
 
     ghost same_point = { λ d. refl };
 
