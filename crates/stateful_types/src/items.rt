@@ -2,6 +2,7 @@
 
 ghost use Rattle.std.specs.Prelude.{◌≡◌, ◌++◌, ◌∷◌, [], ◌==◌, IfErr, if◌then◌else◌, is_ok, length};
 
+use crate::share::{OutOfMemory, Share};
 use std::alloc::{AllocFailed, Global};
 use std::marker::Model;
 
@@ -71,5 +72,12 @@ impl<T> Items<T> {
         ensures given_back { IfErr result (λ refused. refused.value ≡ item) }
     {
         self.items.push(item)
+    }
+}
+
+impl<T: Copy> Share for Items<T> {
+    fn share(&self) -> Result<Items<T>, OutOfMemory> {
+        let items = Vec::from_slice(*self.items.allocator(), self.items.as_slice())?;
+        Ok(Items { items })
     }
 }
