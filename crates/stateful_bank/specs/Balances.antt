@@ -1,5 +1,6 @@
 -- Balances of accounts, as entries by ascending account. An account without an entry has 0.
-use Rattle.std.specs.Prelude.{ℕ, ◌+◌, ◌-◌, ◌^◌, ◌==◌, nat_le, nat_lt, if◌then◌else◌, List, [], ◌∷◌, Option, Some, None, unwrap_or, option_and_then}
+use Rattle.std.specs.Prelude.{ℕ, ◌+◌, ◌-◌, ◌^◌, ◌==◌, nat_le, nat_lt, if◌then◌else◌, List, [], ◌∷◌, Option, Some, None, unwrap_or, option_and_then, max}
+use Rattle.std.specs.Option.{option_map_or}
 use Rattle.std.specs.Ordering.{nat_cmp}
 use Rattle.std.specs.BTreeMap.{insert_entry, is_at}
 use Rattle.std.specs.Map.{lookup, remove_entry}
@@ -34,3 +35,12 @@ do_op entries (Move from to amount) = option_and_then (λ left. deposited left t
 abbrev pub do_ops : List (ℕ × ℕ) → List Op → Option (List (ℕ × ℕ))
 do_ops entries [] = Some entries
 do_ops entries (op ∷ ops) = option_and_then (λ after. do_ops after ops) (do_op entries op)
+
+-- how many of these operations are begun: all up to the first that isn't allowed, and that one
+abbrev pub begun_ops : List (ℕ × ℕ) → List Op → ℕ
+begun_ops entries [] = 0
+begun_ops entries (op ∷ ops) = 1 + option_map_or (λ after. begun_ops after ops) (do_op entries op) 0
+
+-- the turns of a run of these operations: one for each that is begun, and at least one
+abbrev pub run_turns : List (ℕ × ℕ) → List Op → ℕ
+run_turns entries ops = max 1 (begun_ops entries ops)

@@ -1,0 +1,3 @@
+pub mod Stepped
+pub mod Drafts
+pub mod Runs

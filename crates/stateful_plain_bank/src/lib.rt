@@ -1,0 +1,7 @@
+//! The bank over one database that is kept whole.
+#![tactic(auto)]
+
+mod draft;
+mod run;
+
+pub use run::BankRun;
