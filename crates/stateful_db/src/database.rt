@@ -103,7 +103,7 @@ pub trait ManagedDb: Faulty + Sized + Drop {
 
     type Merkleized: Merkleized<State = Self::State, Unmerkleized = Self::Unmerkleized> + Drop;
 
-    type Config;
+    type Config: Drop;
 
     /// What a block commits to of this database.
     type SyncTarget: Copy + Eq + Targeted;

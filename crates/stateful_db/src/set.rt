@@ -57,7 +57,7 @@ pub trait DatabaseSet: Sized {
 
     type Merkleized: Drop;
 
-    type Config;
+    type Config: Drop;
 
     /// What a block commits to.
     type SyncTargets: Copy + Eq;

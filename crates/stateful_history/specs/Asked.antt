@@ -1,0 +1,34 @@
+-- What tickets and jobs are about.
+use Rattle.std.specs.Prelude.{ℕ, ◌==◌, if◌then◌else◌, Option, Some, None, [], ◌∷◌}
+use Rattle.stateful_types.specs.Names.{Named}
+use Rattle.stateful_types.specs.declared.digest.Digest.{Digest}
+use Rattle.stateful_history.specs.Past.{Past, Item, Came, Made}
+use Rattle.stateful_history.specs.declared.event.Event.TheVariants.{Verify, Finalized}
+use Rattle.stateful_history.specs.declared.mark.JobKind.{JobKind}
+use Rattle.stateful_history.specs.declared.mark.How.TheVariants.{Kept}
+use Rattle.stateful_history.specs.declared.mark.Mark.TheVariants.{Started, Ended, Built}
+
+module _ {B C I : Type 0} where
+  -- the block that the request of this ticket asks to judge
+  abbrev pub verified : ℕ → Past B C I → Option (Named B)
+  verified t [] = None
+  verified t (Came (Verify u ancestry) ∷ p) = if t == u then Some ancestry.first else verified t p
+  verified t (item ∷ p) = verified t p
+
+  -- the block of the finalization of this ticket
+  abbrev pub finalized : ℕ → Past B C I → Option (Named B)
+  finalized t [] = None
+  finalized t (Came (Finalized u b) ∷ p) = if t == u then Some b else finalized t p
+  finalized t (item ∷ p) = finalized t p
+
+  -- the digest that the start of this job names
+  abbrev pub started : ℕ → Past B C I → Option Digest
+  started j [] = None
+  started j (Made (Started k kind digest) ∷ p) = if j == k then Some digest else started j p
+  started j (item ∷ p) = started j p
+
+  -- the digest of the block that this item keeps: a run of it ended so, or it was built
+  abbrev pub kept_by : Past B C I → Item B C I → Option Digest
+  kept_by p (Made (Ended j Kept)) = started j p
+  kept_by p (Made (Built j t b)) = Some b.digest
+  kept_by p item = None

@@ -1,0 +1,25 @@
+-- What consensus and the block store are trusted with.
+use Rattle.std.specs.Prelude.{◌≡◌, ◌⊎◌, Option, Some, None, List, [], ◌∷◌}
+use Rattle.stateful_types.specs.Names.{Named}
+use Rattle.stateful_types.specs.declared.digest.Digest.{Digest}
+use Rattle.stateful_types.specs.declared.block.Ancestry.{Ancestry}
+use Rattle.stateful_history.specs.Setting.{Setting, parent_of}
+use Rattle.stateful_history.specs.Past.{Past, Item, Came, Made}
+use Rattle.stateful_history.specs.declared.event.Event.TheVariants.{Verify, Prepare, Propose}
+
+module _ {B S T : Type 0} (s : Setting B S T) where
+  -- each block of the list is the parent of the one before it
+  abbrev pub Descends : Named B → List (Named B) → Type 0
+  Descends b [] = Unit {0}
+  Descends b (x ∷ xs) = (x.digest ≡ parent_of s b) × Descends x xs
+
+  abbrev pub IsLinked : Ancestry B → Type 0
+  IsLinked ancestry = Descends ancestry.first ancestry.rest
+
+  -- in every ancestry each block is the parent of the one before it
+  abbrev pub IsHonest : {C I : Type 0} → Past B C I → Type 0
+  IsHonest [] = Unit {0}
+  IsHonest (Came (Verify t ancestry) ∷ p) = IsLinked ancestry × IsHonest p
+  IsHonest (Came (Prepare t context ancestry input) ∷ p) = IsLinked ancestry × IsHonest p
+  IsHonest (Came (Propose t context ancestry input) ∷ p) = IsLinked ancestry × IsHonest p
+  IsHonest (item ∷ p) = IsHonest p

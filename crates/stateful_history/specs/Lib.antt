@@ -1,0 +1,15 @@
+pub mod Setting
+pub mod Past
+pub mod Opening
+pub mod Anchors
+pub mod Asked
+pub mod Met
+pub mod Known
+pub mod States
+pub mod Canonical
+pub mod Joined
+pub mod Reasons
+pub mod Live
+pub mod Durable
+pub mod Holding
+pub mod Honest

@@ -1,0 +1,40 @@
+-- The past at a place: the events and the marks before it, the newest first.
+use Rattle.std.specs.Prelude.{List, [], ◌∷◌}
+use Rattle.stateful_history.specs.declared.event.Event.{Event}
+use Rattle.stateful_history.specs.declared.mark.Mark.{Mark}
+use Rattle.stateful_history.specs.declared.entry.Entry.{Entry}
+
+-- an event came, or a mark was made
+pub data Item (B C I : Type 0) : Type 0 where
+  Came : Event B C I → Item B C I
+  Made : Mark B → Item B C I
+
+abbrev pub Past : Type 0 → Type 0 → Type 0 → Type 0
+Past B C I = List (Item B C I)
+
+module _ {B C I : Type 0} where
+  -- the past after these marks
+  abbrev pub after : Past B C I → List (Mark B) → Past B C I
+  after p [] = p
+  after p (mark ∷ marks) = after (Made mark ∷ p) marks
+
+  -- the past after an event and its marks
+  abbrev pub after_entry : Past B C I → Event B C I → List (Mark B) → Past B C I
+  after_entry p event marks = after (Came event ∷ p) marks
+
+  -- the past after these entries
+  abbrev pub after_all : Past B C I → List (Entry B C I) → Past B C I
+  after_all p [] = p
+  after_all p (entry ∷ entries) = after_all (after_entry p entry.event entry.marks) entries
+
+  -- the rule holds of each of these marks, at its place
+  abbrev pub EachMark : (Past B C I → Mark B → Type 0) → Past B C I → List (Mark B) → Type 0
+  EachMark Rule p [] = Unit {0}
+  EachMark Rule p (mark ∷ marks) = Rule p mark × EachMark Rule (Made mark ∷ p) marks
+
+  -- the rule holds of each mark of these entries, at its place
+  abbrev pub EachEntry : (Past B C I → Mark B → Type 0) → Past B C I → List (Entry B C I) → Type 0
+  EachEntry Rule p [] = Unit {0}
+  EachEntry Rule p (entry ∷ entries) =
+      EachMark Rule (Came entry.event ∷ p) entry.marks
+      × EachEntry Rule (after_entry p entry.event entry.marks) entries

@@ -1,0 +1,12 @@
+//! Entries of a history.
+
+use crate::event::Event;
+use crate::mark::Mark;
+use stateful_types::Items;
+
+/// An event, and the marks that were made of it, in their order.
+#[derive(Drop)]
+pub struct Entry<B, C, I> {
+    pub event: Event<B, C, I>,
+    pub marks: Items<Mark<B>>,
+}

@@ -1,0 +1,4 @@
+pub mod Positions
+pub mod Cuts
+pub mod Opening
+pub mod Listing

@@ -1,0 +1,4 @@
+pub mod Whole
+pub mod Called
+pub mod Stored
+pub mod Shown

@@ -1,0 +1,332 @@
+//! The database.
+
+ghost use Rattle.std.specs.Prelude.{◌≡◌, ◌≢◌, ℕ, ◌+◌, ◌-◌, ◌^◌, ◌≤◌, ◌<◌, List, ◌∷◌, ◌++◌, [], IfOk, IfErr, IsErrAnd, Some, None, ◌↔◌, ◌⊎◌};
+ghost use Rattle.stateful_types.specs.Causes.{Rose};
+ghost use Rattle.stateful_db.specs.Disk.{IsEither, IsCrash, place, applied, flushed, point};
+ghost use Rattle.stateful_db.specs.Reopening.{Reopens, FailsToReopen, HasNone};
+ghost use Rattle.stateful_plain.specs.Whole.{Whole, begun, initial, target_of};
+ghost use Rattle.stateful_plain.specs.Called.{IsListed, Called};
+ghost use Rattle.stateful_plain.specs.Stored.{disk_of, standing_of};
+ghost use Rattle.stateful_plain.specs.Shown.{DraftShows, SealShows, down_to};
+
+use crate::batch::{PlainMerkleized, PlainUnmerkleized};
+use crate::medium::PlainMedium;
+use crate::state::PlainState;
+use stateful_db::{
+    BatchContext, Broken, DbCall, Exhausted, FlushToken, InitError, ManagedDb, Merkleized, Why,
+};
+use stateful_types::{Digest, Faulty, Location, OutOfMemory, Target};
+use std::collections::BTreeMap;
+use std::ops::Range;
+
+/// The id of the last applied batch, the place of the token that is out, and the medium that it was opened on.
+#[derive(Drop)]
+pub struct Plain {
+    pub(crate) id: u64,
+    pub(crate) out: Option<u64>,
+    pub(crate) medium: PlainMedium,
+}
+
+impl Plain {
+    /// The end of the range of the newest state.
+    pub fn size(&self) -> u64
+        ensures { result ≡ (standing_of self.now).disk.newest.size }
+    {
+        self.medium.newest.size()
+    }
+
+    /// The range of the newest state: its last location alone.
+    pub fn range(&self) -> Range<u64>
+        ensures { let size = (standing_of self.now).disk.newest.size in result ≡ record { start = size - 1; end = size } }
+    {
+        let size = self.size();
+        size.saturating_sub(1)..size
+    }
+
+    /// The entries of the newest state.
+    pub fn entries(&self) -> &BTreeMap<u64, u64>
+        ensures { result.now.entries ≡ (standing_of self.now).disk.newest.entries }
+    {
+        self.medium.newest.entries()
+    }
+}
+
+impl Faulty for Plain {
+    ghost count = { λ d. d.medium.calls.faults };
+
+    fn faults(&self) -> u64 {
+        self.medium.faults()
+    }
+}
+
+impl ManagedDb for Plain {
+    ghost use Rattle.std.specs.Prelude.{◌≡◌, ℕ, ◌<◌, List, ◌∷◌, IfOk, Option, refl};
+    ghost use Rattle.stateful_plain.specs.Whole.{Whole, begun, initial, target_of};
+    ghost use Rattle.stateful_plain.specs.Stored.{disk_of, standing_of};
+
+    type State = PlainState;
+
+    type Unmerkleized = PlainUnmerkleized;
+
+    type Merkleized = PlainMerkleized;
+
+    type Config = ();
+
+    type SyncTarget = Target;
+
+    type Medium = PlainMedium;
+
+    ghost standing = { standing_of };
+
+    ghost begun = { begun };
+
+    ghost target_of = { target_of };
+
+    ghost initial = { initial };
+
+    ghost next = { λ d. d.medium.next };
+
+    ghost disk = { disk_of };
+
+    ghost next_of = { λ m. m.next };
+
+    /// Takes no memory. `Database` exactly where the call is listed as a failing one or no kept checkpoint has the
+    /// expected end.
+    fn init(
+        medium: PlainMedium,
+        _config: &(),
+        expected: Option<Target>,
+    ) -> Result<Plain, (PlainMedium, InitError)>
+        ensures ok { IfOk result (λ db. Reopens target_of (λ t. t) expected (disk_of medium) (standing_of db)) }
+        ensures ok_next { IfOk result (λ db. db.medium.next ≡ medium.next) }
+        ensures ok_count { IfOk result (λ db. medium.calls.faults ≤ db.medium.calls.faults) }
+        ensures ok_called { IfOk result (λ db. Called DbCall.Init medium.calls db.medium.calls) }
+        ensures err { IfErr result (λ e. disk_of e.0 ≡ disk_of medium) }
+        ensures err_next { IfErr result (λ e. e.0.next ≡ medium.next) }
+        ensures err_count { IfErr result (λ e. medium.calls.faults ≤ e.0.calls.faults) }
+        ensures err_called { IfErr result (λ e. Called DbCall.Init medium.calls e.0.calls) }
+        ensures cause { IfErr result (λ e. FailsToReopen target_of (λ t. t) expected (disk_of medium) (Rose medium.calls.faults e.0.calls.faults) e.1) }
+        ensures listed { IsListed medium.calls DbCall.Init → IsErrAnd result (λ e. e.1 ≡ InitError.Database) }
+        ensures unlisted { IfErr result (λ e. e.1 ≡ InitError.Database → IsListed medium.calls DbCall.Init ⊎ HasNone target_of (λ t. t) expected (disk_of medium)) }
+        ensures memory { IfErr result (λ e. e.1 ≢ InitError.OutOfMemory) }
+    {
+        let mut medium = medium;
+        if medium.fails(DbCall::Init) {
+            return Err((medium, InitError::Database));
+        }
+        let place = match medium.place_to_open(expected) {
+            Ok(place) => place,
+            Err(why) => return Err((medium, why)),
+        };
+        medium.open_at(place);
+        Ok(Plain {
+            id: 0,
+            out: None,
+            medium,
+        })
+    }
+
+    fn initial_sync_target() -> Target {
+        Target {
+            root: Digest::of(&1u64.to_be_bytes()),
+            start: Location(0),
+            end: Location(1),
+        }
+    }
+
+    fn draw(&mut self) -> Result<u64, Exhausted>
+        ensures id { IfOk result (λ n. (n ≡ self.old.medium.next) × (self.new.medium.next ≡ self.old.medium.next + 1)) }
+        ensures exhausted { IfErr result (λ _. (2 ^ 64 - 1 ≤ self.old.medium.next) × (self.new.medium.next ≡ self.old.medium.next)) }
+        ensures standing { standing_of self.new ≡ standing_of self.old }
+        ensures count { self.new.medium.calls.faults ≡ self.old.medium.calls.faults }
+        ensures calls { self.new.medium.calls ≡ self.old.medium.calls }
+    {
+        let id = self.medium.next;
+        if id == u64::MAX {
+            return Err(Exhausted);
+        }
+        self.medium.next = id + 1;
+        Ok(id)
+    }
+
+    fn new_batch(database: BatchContext<'_, Plain>) -> Result<PlainUnmerkleized, OutOfMemory>
+        ensures { IfOk result (λ u. (standing_of database.entry.database.now).id < database.entry.id → DraftShows u ((database.entry.id, begun (standing_of database.entry.database.now).disk.newest) ∷ point (standing_of database.entry.database.now) ∷ [])) }
+    {
+        let (db, id) = database.into_parts();
+        let mut below = Vec::new(*db.medium.older.allocator());
+        below.push(db.id)?;
+        Ok(PlainUnmerkleized {
+            id,
+            below,
+            size: db.size(),
+            entries: db.entries().clone()?,
+        })
+    }
+
+    fn fork(
+        database: BatchContext<'_, Plain>,
+        parent: &PlainMerkleized,
+    ) -> Result<PlainUnmerkleized, OutOfMemory>
+        ensures chain { IfOk result (λ u. (q : ℕ × Whole) (above older : List (ℕ × Whole)) → SealShows parent.now (q ∷ above ++ point (standing_of database.entry.database.now) ∷ older) → q.0 < database.entry.id → DraftShows u ((database.entry.id, begun q.1) ∷ q ∷ above ++ point (standing_of database.entry.database.now) ∷ [])) }
+        ensures cut { IfOk result (λ u. (q : ℕ × Whole) (c : List (ℕ × Whole)) → SealShows parent.now (q ∷ c) → q.0 < database.entry.id → DraftShows u ((database.entry.id, begun q.1) ∷ down_to (standing_of database.entry.database.now).id (q ∷ c))) }
+    {
+        let (db, id) = database.into_parts();
+        let mut batch = parent.new_batch(id)?;
+        batch.cut(db.id);
+        Ok(batch)
+    }
+
+    fn batch_target(batch: &PlainMerkleized) -> Target {
+        batch.state.target()
+    }
+
+    fn matches_sync_target(batch: &PlainMerkleized, target: &Target) -> bool {
+        Plain::batch_target(batch) == *target
+    }
+
+    /// `Failed` exactly where the call is listed as a failing one. A failed apply leaves the checkpoints.
+    fn apply(self, batch: PlainMerkleized) -> Result<Plain, Broken<PlainMedium>>
+        ensures ok { IfOk result (λ db. (p : ℕ × Whole) (c : List (ℕ × Whole)) → SealShows batch (p ∷ point (standing_of self) ∷ c) → standing_of db ≡ record (standing_of self) { id = p.0; disk = applied (standing_of self).disk p.1 }) }
+        ensures ok_next { IfOk result (λ db. db.medium.next ≡ self.medium.next) }
+        ensures ok_count { IfOk result (λ db. self.medium.calls.faults ≤ db.medium.calls.faults) }
+        ensures ok_called { IfOk result (λ db. Called DbCall.Apply self.medium.calls db.medium.calls) }
+        ensures grows { IfOk result (λ db. (p : ℕ × Whole) (c : List (ℕ × Whole)) → SealShows batch (p ∷ point (standing_of self) ∷ c) → (target_of (standing_of self).disk.newest).end.0 < (target_of p.1).end.0) }
+        ensures err { IfErr result (λ b. (p : ℕ × Whole) (c : List (ℕ × Whole)) → SealShows batch (p ∷ point (standing_of self) ∷ c) → IsEither (standing_of self).disk (applied (standing_of self).disk p.1) (disk_of b.medium)) }
+        ensures err_next { IfErr result (λ b. b.medium.next ≡ self.medium.next) }
+        ensures err_count { IfErr result (λ b. self.medium.calls.faults ≤ b.medium.calls.faults) }
+        ensures err_called { IfErr result (λ b. Called DbCall.Apply self.medium.calls b.medium.calls) }
+        ensures failed { IfErr result (λ b. b.why ≡ Why.Failed → Rose self.medium.calls.faults b.medium.calls.faults) }
+        ensures listed { IsErrAnd result (λ b. b.why ≡ Why.Failed) ↔ IsListed self.medium.calls DbCall.Apply }
+        ensures kept { IfErr result (λ b. disk_of b.medium ≡ (standing_of self).disk) }
+    {
+        let Plain {
+            id: _,
+            out,
+            mut medium,
+        } = self;
+        if medium.fails(DbCall::Apply) {
+            return Err(Broken {
+                medium,
+                why: Why::Failed,
+            });
+        }
+        let PlainMerkleized { id, state, .. } = batch;
+        match medium.push(state) {
+            Ok(()) => Ok(Plain { id, out, medium }),
+            Err(_) => Err(Broken {
+                medium,
+                why: Why::OutOfMemory,
+            }),
+        }
+    }
+
+    /// Takes no memory. It fails exactly where the call is listed as a failing one.
+    fn finalize(self) -> Result<(Plain, FlushToken), Broken<PlainMedium>>
+        requires { (standing_of self).out ≡ None }
+        ensures ok { IfOk result (λ r. (r.1.place ≡ place (standing_of self).disk) × (standing_of r.0 ≡ record (standing_of self) { out = Some r.1.place })) }
+        ensures ok_next { IfOk result (λ r. r.0.medium.next ≡ self.medium.next) }
+        ensures ok_count { IfOk result (λ r. self.medium.calls.faults ≤ r.0.medium.calls.faults) }
+        ensures ok_called { IfOk result (λ r. Called DbCall.Finalize self.medium.calls r.0.medium.calls) }
+        ensures err { IfErr result (λ b. disk_of b.medium ≡ (standing_of self).disk) }
+        ensures err_next { IfErr result (λ b. b.medium.next ≡ self.medium.next) }
+        ensures err_count { IfErr result (λ b. self.medium.calls.faults ≤ b.medium.calls.faults) }
+        ensures err_called { IfErr result (λ b. Called DbCall.Finalize self.medium.calls b.medium.calls) }
+        ensures failed { IfErr result (λ b. b.why ≡ Why.Failed → Rose self.medium.calls.faults b.medium.calls.faults) }
+        ensures listed { IsErrAnd result (λ b. b.why ≡ Why.Failed) ↔ IsListed self.medium.calls DbCall.Finalize }
+        ensures memory { IfErr result (λ b. b.why ≢ Why.OutOfMemory) }
+    {
+        let Plain {
+            id,
+            out: _,
+            mut medium,
+        } = self;
+        if medium.fails(DbCall::Finalize) {
+            return Err(Broken {
+                medium,
+                why: Why::Failed,
+            });
+        }
+        let place = medium.older.len() as u64;
+        Ok((
+            Plain {
+                id,
+                out: Some(place),
+                medium,
+            },
+            FlushToken { place },
+        ))
+    }
+
+    /// Takes no memory. It fails exactly where the call is listed as a failing one, and leaves the durable place.
+    fn flush(self, token: FlushToken) -> Result<Plain, Broken<PlainMedium>>
+        requires { (standing_of self).out ≡ Some token.place }
+        ensures ok { IfOk result (λ db. standing_of db ≡ record (standing_of self) { disk = flushed (standing_of self).disk token.place; out = None }) }
+        ensures ok_next { IfOk result (λ db. db.medium.next ≡ self.medium.next) }
+        ensures ok_count { IfOk result (λ db. self.medium.calls.faults ≤ db.medium.calls.faults) }
+        ensures ok_called { IfOk result (λ db. Called DbCall.Flush self.medium.calls db.medium.calls) }
+        ensures err { IfErr result (λ b. IsEither (standing_of self).disk (flushed (standing_of self).disk token.place) (disk_of b.medium)) }
+        ensures err_next { IfErr result (λ b. b.medium.next ≡ self.medium.next) }
+        ensures err_count { IfErr result (λ b. self.medium.calls.faults ≤ b.medium.calls.faults) }
+        ensures err_called { IfErr result (λ b. Called DbCall.Flush self.medium.calls b.medium.calls) }
+        ensures failed { IfErr result (λ b. b.why ≡ Why.Failed → Rose self.medium.calls.faults b.medium.calls.faults) }
+        ensures listed { IsErrAnd result (λ b. b.why ≡ Why.Failed) ↔ IsListed self.medium.calls DbCall.Flush }
+        ensures kept { IfErr result (λ b. disk_of b.medium ≡ (standing_of self).disk) }
+        ensures memory { IfErr result (λ b. b.why ≢ Why.OutOfMemory) }
+    {
+        let Plain {
+            id,
+            out: _,
+            mut medium,
+        } = self;
+        if medium.fails(DbCall::Flush) {
+            return Err(Broken {
+                medium,
+                why: Why::Failed,
+            });
+        }
+        medium.durable = token.place;
+        Ok(Plain {
+            id,
+            out: None,
+            medium,
+        })
+    }
+
+    fn sync_target(&self) -> Target {
+        self.medium.newest.target()
+    }
+
+    fn close(self) -> PlainMedium
+        ensures disk { disk_of result ≡ (standing_of self).disk }
+        ensures next { result.next ≡ self.medium.next }
+        ensures count { result.calls.faults ≡ self.medium.calls.faults }
+        ensures calls { result.calls ≡ self.medium.calls }
+    {
+        self.medium
+    }
+
+    fn crash(medium: PlainMedium, keep: usize) -> PlainMedium
+        ensures disk { IsCrash keep (disk_of medium) (disk_of result) }
+        ensures next { result.next ≡ medium.next }
+        ensures count { result.calls.faults ≡ medium.calls.faults }
+        ensures calls { result.calls ≡ medium.calls }
+    {
+        let mut medium = medium;
+        medium.cut(keep);
+        medium
+    }
+
+    ghost numbered = { λ m. m.numbered };
+
+    ghost same_point = { λ d. refl };
+
+    ghost same_begun = { λ w. refl };
+
+    ghost same_end = { λ w. refl };
+
+    ghost same_root = { λ w. refl };
+
+    ghost same_sealed = { λ m c shown. shown };
+
+    ghost same_opened = { λ u c shown. shown };
+}

@@ -1,0 +1,16 @@
+//! The plainest database: a map from numbers to numbers that is kept whole at each checkpoint.
+#![tactic(auto)]
+
+mod batch;
+mod calls;
+mod database;
+mod medium;
+mod state;
+
+pub use batch::{PlainMerkleized, PlainUnmerkleized};
+pub use database::Plain;
+pub use medium::PlainMedium;
+pub use state::PlainState;
+
+#[cfg(test)]
+mod tests;

@@ -1,0 +1,98 @@
+//! A whole state.
+
+ghost use Rattle.std.specs.Prelude.{◌≡◌, ◌++◌, ℕ, List, IfOk};
+ghost use Rattle.stateful_plain.specs.Whole.{Whole, pair_bytes, entry_bytes, root_of, target_of, initial};
+ghost use Rattle.sha2.specs.Hashers.{Holds256};
+
+use sha2::{Digest as Hasher, Sha256};
+use stateful_types::{Digest, Location, OutOfMemory, Target};
+use std::alloc::Global;
+use std::collections::BTreeMap;
+use std::marker::Model;
+
+/// The end of the range, and the entries.
+#[derive(Drop)]
+pub struct PlainState {
+    size: u64,
+    entries: BTreeMap<u64, u64>,
+}
+
+impl Model for PlainState {
+    ghost use Rattle.stateful_plain.specs.Whole.{Whole};
+
+    ghost Value = { Whole };
+
+    ghost view = { λ a. record { size = a.size; entries = a.entries.entries } };
+}
+
+impl PlainState {
+    pub(crate) fn new(size: u64, entries: BTreeMap<u64, u64>) -> PlainState
+        ensures { result ≡ record { size = size; entries = entries.entries } }
+    {
+        PlainState { size, entries }
+    }
+
+    /// The state without entries.
+    pub(crate) fn empty(alloc: Global) -> PlainState
+        ensures { result ≡ initial }
+    {
+        PlainState::new(1, BTreeMap::new(alloc))
+    }
+
+    /// The end of the range.
+    pub fn size(&self) -> u64
+        ensures { result ≡ self.now.size }
+    {
+        self.size
+    }
+
+    pub fn entries(&self) -> &BTreeMap<u64, u64>
+        ensures { result.now.entries ≡ self.now.entries }
+    {
+        &self.entries
+    }
+
+    /// The SHA-256 of the end, and of key and value of each entry.
+    pub fn root(&self) -> Digest
+        ensures { result ≡ root_of self.now }
+    {
+        let mut hasher = Sha256::new();
+        hasher.update(&self.size.to_be_bytes());
+        add_entries(&self.entries, &mut hasher);
+        Digest(hasher.finalize())
+    }
+
+    /// The root, and the range of the last location alone.
+    pub fn target(&self) -> Target
+        ensures { result ≡ target_of self.now }
+    {
+        Target {
+            root: self.root(),
+            start: Location(self.size.saturating_sub(1)),
+            end: Location(self.size),
+        }
+    }
+
+    /// An equal state.
+    pub(crate) fn share(&self) -> Result<PlainState, OutOfMemory>
+        ensures { IfOk result (λ state. state ≡ self.now) }
+    {
+        Ok(PlainState::new(self.size, self.entries.clone()?))
+    }
+}
+
+/// Adds key and value of each entry to the message.
+fn add_entries(entries: &BTreeMap<u64, u64>, hasher: &mut Sha256)
+    ensures { (m : List ℕ) → Holds256 hasher.old m → Holds256 hasher.new (m ++ entry_bytes entries.now.entries) }
+{
+    for (key, value) in entries {
+        add_entry(*key, *value, hasher);
+    }
+}
+
+fn add_entry(key: u64, value: u64, hasher: &mut Sha256)
+    ensures { (m : List ℕ) → Holds256 hasher.old m → Holds256 hasher.new (m ++ pair_bytes key value) }
+{
+    hasher.update(&key.to_be_bytes());
+    hasher.update(&value.to_be_bytes());
+}

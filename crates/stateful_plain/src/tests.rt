@@ -1,0 +1,118 @@
+//! What no clause says: roots against another program's SHA-256, and calls that succeed.
+
+ghost use Rattle.std.specs.Prelude.{◌≡◌, None};
+
+use crate::{Plain, PlainMedium, PlainUnmerkleized};
+use stateful_db::{BatchError, DbCall, InitError, ManagedDb, Merkleized, Unmerkleized};
+use stateful_types::{Digest, Faulty, Location, Target};
+use std::alloc::{AllocError, Global};
+use std::collections::BTreeMap;
+use std::process::Abort;
+use std::test::Fail;
+
+/// SHA-256 of the number 1, by Python's hashlib.
+const EMPTY: Target = Target {
+    root: Digest([
+        0xcd, 0x26, 0x62, 0x15, 0x4e, 0x6d, 0x76, 0xb2, 0xb2, 0xb9, 0x2e, 0x70, 0xc0, 0xca, 0xc3,
+        0xcc, 0xf5, 0x34, 0xf9, 0xb7, 0x4e, 0xb5, 0xb8, 0x98, 0x19, 0xec, 0x50, 0x90, 0x83, 0xd0,
+        0x0a, 0x50,
+    ]),
+    start: Location(0),
+    end: Location(1),
+};
+
+/// SHA-256 of the numbers 2, 3 and 7, by Python's hashlib.
+const WITH_3: Target = Target {
+    root: Digest([
+        0x09, 0x36, 0xb0, 0xae, 0x31, 0x41, 0x66, 0xd5, 0x48, 0xd7, 0x66, 0x7b, 0xac, 0x6d, 0xd5,
+        0xbe, 0x63, 0xd0, 0x25, 0xc1, 0xa8, 0xe0, 0x9f, 0x09, 0xde, 0x8d, 0xba, 0x6f, 0x10, 0x7f,
+        0x08, 0x8f,
+    ]),
+    start: Location(1),
+    end: Location(2),
+};
+
+/// A database over the empty state, of whose calls these fail.
+fn empty(rt: &impl Abort, alloc: Global, failing: &[(DbCall, u64)]) -> Result<Plain, AllocError> {
+    let medium = PlainMedium::empty(alloc, Vec::from_slice(alloc, failing)?);
+    Ok(open(rt, medium, None))
+}
+
+fn open(rt: &impl Abort, medium: PlainMedium, expected: Option<Target>) -> Plain
+    ensures { result.out ≡ None }
+{
+    Plain::init(medium, &(), expected)
+        .ok()
+        .expect(rt, "it opens")
+}
+
+/// A batch over the empty state.
+fn first_batch(alloc: Global) -> Result<PlainUnmerkleized, AllocError> {
+    Ok(PlainUnmerkleized {
+        id: 1,
+        below: vec![in alloc; 0]?,
+        size: 1,
+        entries: BTreeMap::new(alloc),
+    })
+}
+
+/// A database with 7 at 3 in a second checkpoint.
+fn with_3(rt: &impl Abort, alloc: Global) -> Result<Plain, BatchError> {
+    let db = empty(rt, alloc, &[])?;
+    let batch = first_batch(alloc)?.write(3, Some(7))?.merkleize(&db)?;
+    Ok(db.apply(batch).ok().expect(rt, "it applies"))
+}
+
+#[test]
+fn roots(rt: HostRuntime) -> Result<(), Fail> {
+    assert_eq!(rt; Plain::initial_sync_target(), EMPTY);
+    let db = with_3(&rt, rt.alloc())?;
+    assert_eq!(rt; db.sync_target(), WITH_3);
+    assert_eq!(rt; db.range(), 1..2);
+    assert_eq!(rt; db.entries().get(&3).copied(), Some(7));
+    Ok(())
+}
+
+#[test]
+fn a_child_reads_below(rt: HostRuntime) -> Result<(), Fail> {
+    let db = empty(&rt, rt.alloc(), &[])?;
+    let parent = first_batch(rt.alloc())?.write(3, Some(7))?.merkleize(&db)?;
+    assert!(rt; Plain::matches_sync_target(&parent, &WITH_3));
+    let child = parent.new_batch(2)?;
+    assert_eq!(rt; child.get(&db, 3)?, Some(7));
+    assert_eq!(rt; child.write(3, None)?.get(&db, 3)?, None);
+    Ok(())
+}
+
+#[test]
+fn opens_at_an_expected_target(rt: HostRuntime) -> Result<(), Fail> {
+    let medium = with_3(&rt, rt.alloc())?.close();
+    let db = open(&rt, medium, Some(EMPTY));
+    assert_eq!(rt; db.sync_target(), EMPTY);
+    let (_, why) = Plain::init(db.close(), &(), Some(WITH_3))
+        .err()
+        .expect(&rt, "it was dropped");
+    assert_eq!(rt; why, InitError::Database);
+    Ok(())
+}
+
+#[test]
+fn a_crash_keeps_what_is_durable(rt: HostRuntime) -> Result<(), Fail> {
+    let db = open(&rt, with_3(&rt, rt.alloc())?.close(), None);
+    let (db, token) = db.finalize().ok().expect(&rt, "it starts");
+    let db = db.flush(token).ok().expect(&rt, "it ends");
+    let db = open(&rt, Plain::crash(db.close(), 0), None);
+    assert_eq!(rt; db.sync_target(), WITH_3);
+    Ok(())
+}
+
+#[test]
+fn listed_calls_fail(rt: HostRuntime) -> Result<(), Fail> {
+    let db = empty(&rt, rt.alloc(), &[(DbCall::Init, 1)])?;
+    let (medium, _) = Plain::init(db.close(), &(), None)
+        .err()
+        .expect(&rt, "the second fails");
+    assert_eq!(rt; medium.faults(), 1);
+    assert_eq!(rt; open(&rt, medium, None).faults(), 1);
+    Ok(())
+}

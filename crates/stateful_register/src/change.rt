@@ -1,0 +1,95 @@
+//! What events and marks do to the live work.
+
+ghost use Rattle.std.specs.Prelude.{◌≡◌};
+ghost use Rattle.stateful_register.specs.Change.{change_by_event, change_by_mark};
+
+use stateful_history::{Event, Mark, Ticket};
+
+/// One change of the live work.
+#[derive(Clone, Copy, Debug, PartialEq, Eq)]
+pub(crate) enum Change {
+    /// A new ticket stands for this from now on.
+    Opens { ticket: u64, stands_for: Ticket },
+    /// A ticket is answered, dropped or cancelled.
+    Closes { ticket: u64 },
+    /// A block is fetched.
+    Asks { fetch: u64 },
+    /// A fetch is answered or withdrawn.
+    EndsFetch { fetch: u64 },
+    /// A job is started.
+    StartsJob { job: u64 },
+    /// A job has ended or built.
+    EndsJob { job: u64 },
+    /// A barrier waits for the flush of each database.
+    BeginsBarrier { barrier: u64 },
+    /// A database of a barrier is flushed.
+    Flushes { barrier: u64, database: usize },
+    /// A barrier waits for nothing more.
+    EndsBarrier { barrier: u64 },
+    /// The machine is started, without barriers.
+    Starts,
+    /// The machine is stopped, without barriers.
+    Stops,
+    /// The live work stays as it is.
+    Keeps,
+}
+
+impl Change {
+    /// What the event changes.
+    pub(crate) fn by_event<B, C, I>(event: &Event<B, C, I>) -> Change
+        ensures { result ≡ change_by_event event.now }
+    {
+        match event {
+            Event::Verify { ticket, .. }
+            | Event::Prepare { ticket, .. }
+            | Event::Propose { ticket, .. }
+            | Event::Subscribe { ticket } => Change::Opens {
+                ticket: *ticket,
+                stands_for: Ticket::Request,
+            },
+            Event::Finalized { ticket, .. } => Change::Opens {
+                ticket: *ticket,
+                stands_for: Ticket::Receipt,
+            },
+            Event::Cancel { ticket } => Change::Closes { ticket: *ticket },
+            Event::Fetched { fetch, .. } => Change::EndsFetch { fetch: *fetch },
+            Event::Flushed {
+                barrier, database, ..
+            } => Change::Flushes {
+                barrier: *barrier,
+                database: *database,
+            },
+            Event::Restart { .. } => Change::Starts,
+            Event::Turn { .. } | Event::Progress { .. } | Event::Stop => Change::Keeps,
+        }
+    }
+
+    /// What the mark changes.
+    pub(crate) fn by_mark<B>(mark: &Mark<B>) -> Change
+        ensures { result ≡ change_by_mark mark.now }
+    {
+        match mark {
+            Mark::Asked { fetch, .. } => Change::Asks { fetch: *fetch },
+            Mark::Withdrawn { fetch } => Change::EndsFetch { fetch: *fetch },
+            Mark::Started { job, .. } => Change::StartsJob { job: *job },
+            Mark::Ended { job, .. } | Mark::Built { job, .. } => Change::EndsJob { job: *job },
+            Mark::Verdict { ticket, .. }
+            | Mark::Answered { ticket, .. }
+            | Mark::Declined { ticket }
+            | Mark::Databases { ticket }
+            | Mark::Acknowledged { ticket, .. }
+            | Mark::Dropped { ticket } => Change::Closes { ticket: *ticket },
+            Mark::BarrierBegun { barrier, .. } => Change::BeginsBarrier { barrier: *barrier },
+            Mark::BarrierDone { barrier, .. } => Change::EndsBarrier { barrier: *barrier },
+            Mark::Stopped => Change::Stops,
+            Mark::Opened { .. }
+            | Mark::Converged { .. }
+            | Mark::Began { .. }
+            | Mark::Applied { .. }
+            | Mark::Recorded { .. }
+            | Mark::Dispatched { .. }
+            | Mark::Pruned { .. }
+            | Mark::Completed { .. } => Change::Keeps,
+        }
+    }
+}

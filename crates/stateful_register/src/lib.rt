@@ -1,0 +1,8 @@
+//! The register of live work, by which an event is refused that names work which isn't live.
+#![tactic(auto)]
+
+mod change;
+mod flushes;
+mod register;
+
+pub use register::Register;
