@@ -54,8 +54,8 @@ module _ (entries after : List (ℕ × ℕ)) (ops : List Op) (k : ℕ) (done : d
   pub do_ops-next : do_ops entries (take (k + 1) ops) ≡ do_ops after (take 1 (drop k ops))
   do_ops-next =
       ap (do_ops entries) (take-add k 1 ops)
-        ∙ do_ops-append entries (take k ops) (take 1 (drop k ops))
-        ∙ ap (option_and_then (λ left. do_ops left (take 1 (drop k ops)))) done
+      ∙ do_ops-append entries (take k ops) (take 1 (drop k ops))
+      ∙ ap (option_and_then (λ left. do_ops left (take 1 (drop k ops)))) done
 
   -- the last operation
   pub do_ops-last : length ops ≤ k + 1 → do_ops entries ops ≡ do_ops after (take 1 (drop k ops))
@@ -65,8 +65,8 @@ module _ (entries after : List (ℕ × ℕ)) (ops : List Op) (k : ℕ) (done : d
   pub do_ops-refused : do_ops after (take 1 (drop k ops)) ≡ None → do_ops entries ops ≡ None
   do_ops-refused none =
       ap (do_ops entries) (sym (take-append-drop (k + 1) ops))
-        ∙ do_ops-append entries (take (k + 1) ops) (drop (k + 1) ops)
-        ∙ ap (option_and_then (λ left. do_ops left (drop (k + 1) ops))) (do_ops-next ∙ none)
+      ∙ do_ops-append entries (take (k + 1) ops) (drop (k + 1) ops)
+      ∙ ap (option_and_then (λ left. do_ops left (drop (k + 1) ops))) (do_ops-next ∙ none)
 
   -- the turn of a refused operation is the last one
   pub turns_refused : k ≤ length ops → do_ops after (take 1 (drop k ops)) ≡ None → run_turns entries ops ≤ k + 1

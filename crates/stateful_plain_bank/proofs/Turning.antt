@@ -104,3 +104,9 @@ module _ (run : BankRun) (finality : Finality) (b : BankBlock) (id : ℕ) (p : �
   last_size after next all ended =
       let whole = last after next all in
       ended (id, record { size = p.1.size + 1; entries = whole.entries }) (p ∷ c) whole.shown
+
+  -- where it is sealed, the block's state is below that end
+  pub last_within : (after : PlainUnmerkleized) → IsNext (Some after) batch q.0 ops run.done → length ops ≤ run.done + 1 → ((r : ℕ × Whole) (d : List (ℕ × Whole)) → DraftShows after (r ∷ d) → IsPoint q (r ∷ d) → r.1.size < 2 ^ 64 - 1) → p.1.size + 1 < 2 ^ 64 - 1
+  last_within after next all below =
+      let whole = last after next all in
+      below (id, record { size = p.1.size + 1; entries = whole.entries }) (p ∷ c) whole.shown (inr at)

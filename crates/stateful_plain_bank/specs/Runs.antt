@@ -1,5 +1,5 @@
 -- Runs of blocks: what they stand on, how many turns they take, and what they count.
-use Rattle.std.specs.Prelude.{◌≡◌, ℕ, ◌+◌, ◌-◌, ◌^◌, ◌<◌, ◌≤◌, List, [], ◌∷◌, length, take, min, false, Option, Some, Result, Ok, Err}
+use Rattle.std.specs.Prelude.{◌≡◌, ℕ, ◌+◌, ◌-◌, ◌^◌, ◌<◌, ◌≤◌, List, [], ◌∷◌, length, take, min, false, Option, None, Some, Result, Ok, Err}
 use Rattle.stateful_types.specs.declared.outcome.Finality.{Finality}
 use Rattle.stateful_types.specs.declared.outcome.Finality.TheVariants.{Candidate, Finalized}
 use Rattle.stateful_types.specs.declared.outcome.Moved.{Moved}
@@ -35,6 +35,12 @@ RunsOn run finality block id (p ∷ c) = IsRun run finality block id p c
 abbrev pub IsRejected : Finality → List Op → Type 0
 IsRejected Candidate ops = accept ops ≡ false
 IsRejected Finalized ops = ⊥
+
+-- a turn that ends with a batch
+abbrev pub IsSealed : {T : Type 0} → Moved (Option T) → Type 0
+IsSealed Pending = ⊥
+IsSealed (Done None) = ⊥
+IsSealed (Done (Some batch)) = Unit {0}
 
 -- of so many turns, some are left behind this one, or none is
 abbrev pub Turned : {T : Type 0} → Moved T → ℕ → ℕ → ℕ → Type 0

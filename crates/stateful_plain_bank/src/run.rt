@@ -12,7 +12,7 @@ ghost use Rattle.stateful_plain.specs.Stored.{standing_of};
 ghost use Rattle.stateful_plain.specs.Shown.{DraftShows, SealShows};
 ghost use Rattle.stateful_plain_bank.specs.Stepped.{bank_meaning};
 ghost use Rattle.stateful_plain_bank.specs.Drafts.{Becomes};
-ghost use Rattle.stateful_plain_bank.specs.Runs.{RunsOn, IsRejected, Turned, counted};
+ghost use Rattle.stateful_plain_bank.specs.Runs.{RunsOn, IsRejected, IsSealed, Turned, counted};
 
 use crate::draft::do_op;
 use stateful_bank::{BankBlock, Op, is_acceptable};
@@ -79,6 +79,7 @@ fn seal(
     ensures within { IfOk result (λ sealed. (p : ℕ × Whole) (c : List (ℕ × Whole)) → DraftShows batch (p ∷ c) → IsPoint (point (standing_of database.now)) (p ∷ c) → p.1.size < 2 ^ 64 - 1) }
     ensures exhausted { (p : ℕ × Whole) (c : List (ℕ × Whole)) → DraftShows batch (p ∷ c) → IsErrOf result AppFault.Failed → 2 ^ 64 - 1 ≤ p.1.size }
     ensures faults { faults.new ≡ counted result faults.old }
+    ensures later { faults.old ≤ faults.new }
 {
     match batch.merkleize(database) {
         Ok(sealed) => Ok(Some(sealed)),
@@ -119,7 +120,9 @@ impl BankRun {
         ensures ok { IfOk result (λ moved. (f : Finality) (b : BankBlock) (i : ℕ) (p : ℕ × Whole) (c : List (ℕ × Whole)) → RunsOn self.old f b i (p ∷ c) → IsPoint (point (standing_of database.now)) (p ∷ c) → Ends moved (outcome bank_meaning f p.1 b) (λ m s. SealShows m ((i, s) ∷ p ∷ c)) (RunsOn self.new f b i (p ∷ c))) }
         ensures turns { IfOk result (λ moved. (f : Finality) (b : BankBlock) (i : ℕ) (p : ℕ × Whole) (c : List (ℕ × Whole)) → RunsOn self.old f b i (p ∷ c) → IsPoint (point (standing_of database.now)) (p ∷ c) → Turned moved (run_turns p.1.entries b.ops) self.old.done self.new.done) }
         ensures exhausted { (f : Finality) (b : BankBlock) (i : ℕ) (p : ℕ × Whole) (c : List (ℕ × Whole)) → RunsOn self.old f b i (p ∷ c) → IsPoint (point (standing_of database.now)) (p ∷ c) → IsErrOf result AppFault.Failed → 2 ^ 64 - 1 ≤ p.1.size + 1 }
+        ensures within { IfOk result (λ moved. (f : Finality) (b : BankBlock) (i : ℕ) (p : ℕ × Whole) (c : List (ℕ × Whole)) → RunsOn self.old f b i (p ∷ c) → IsPoint (point (standing_of database.now)) (p ∷ c) → IsSealed moved → p.1.size + 1 < 2 ^ 64 - 1) }
         ensures faults { self.new.faults ≡ counted result self.old.faults }
+        ensures later { self.old.faults ≤ self.new.faults }
     {
         let Some(batch) = self.batch.take() else {
             return Ok(Moved::Done(None));
