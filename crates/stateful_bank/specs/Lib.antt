@@ -1,0 +1,4 @@
+pub mod Bytes
+pub mod Op
+pub mod Balances
+pub mod BankBlock

@@ -1,6 +1,16 @@
-//! The bank: blocks that mint and move amounts between accounts, over databases of balances.
+//! The bank: blocks that mint and move amounts between accounts, and what they do to balances.
 #![tactic(auto)]
 
+mod ask;
+mod balances;
+mod block;
+mod bytes;
 mod op;
 
-pub use op::Op;
+pub use ask::Ask;
+pub use balances::apply_ops;
+pub use block::{BankBlock, MAX_OPS};
+pub use op::{Op, is_acceptable};
+
+#[cfg(test)]
+mod tests;

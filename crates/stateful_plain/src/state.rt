@@ -26,14 +26,15 @@ impl Model for PlainState {
 }
 
 impl PlainState {
-    pub(crate) fn new(size: u64, entries: BTreeMap<u64, u64>) -> PlainState
+    /// The state of these entries, whose range has this end.
+    pub fn new(size: u64, entries: BTreeMap<u64, u64>) -> PlainState
         ensures { result ≡ record { size = size; entries = entries.entries } }
     {
         PlainState { size, entries }
     }
 
     /// The state without entries.
-    pub(crate) fn empty(alloc: Global) -> PlainState
+    pub fn empty(alloc: Global) -> PlainState
         ensures { result ≡ initial }
     {
         PlainState::new(1, BTreeMap::new(alloc))

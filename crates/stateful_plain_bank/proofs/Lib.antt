@@ -1,0 +1,4 @@
+pub mod Points
+pub mod Doing
+pub mod Outcomes
+pub mod Turning

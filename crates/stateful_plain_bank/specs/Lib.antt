@@ -1,0 +1,4 @@
+pub mod Stepped
+pub mod Drafts
+pub mod Runs
+pub mod Hooks

@@ -1,0 +1,45 @@
+//! Hooks behind finalized blocks.
+
+ghost use Rattle.std.specs.Prelude.{◌≡◌, ◌-◌};
+ghost use Rattle.stateful_plain_bank.specs.Hooks.{IsHook, GoesOn};
+
+use stateful_db::Hooked;
+use stateful_types::{Faulty, Moved};
+
+/// A hook, by the turns that are left of it. It never fails.
+#[derive(Clone, Copy, Debug, PartialEq, Eq)]
+pub struct BankHook {
+    left: u8,
+}
+
+impl Faulty for BankHook {
+    ghost count = { λ _. 0 };
+
+    fn faults(&self) -> u64 {
+        0
+    }
+}
+
+/// A hook of so many turns.
+pub(crate) fn hook_of(turns: u8) -> Hooked<BankHook>
+    ensures { IsHook result turns }
+{
+    if turns == 0 {
+        Hooked::Done
+    } else {
+        Hooked::Pending(BankHook { left: turns })
+    }
+}
+
+/// One turn of a hook.
+pub(crate) fn turn_hook(hook: &mut BankHook) -> Moved<()>
+    ensures left { hook.new.left ≡ hook.old.left - 1 }
+    ensures goes_on { GoesOn result hook.new.left }
+{
+    hook.left = hook.left.saturating_sub(1);
+    if hook.left == 0 {
+        Moved::Done(())
+    } else {
+        Moved::Pending
+    }
+}

@@ -1,0 +1,13 @@
+//! The bank over one database that is kept whole.
+#![tactic(auto)]
+
+mod bank;
+mod draft;
+mod hook;
+mod run;
+mod state;
+
+pub use bank::Bank;
+pub use hook::BankHook;
+pub use run::BankRun;
+pub use state::step;
