@@ -1,0 +1,4 @@
+pub mod NameText
+pub mod Cuts
+pub mod Numbers
+pub mod ItemsLeft
