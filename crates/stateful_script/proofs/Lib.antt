@@ -1,4 +1,9 @@
 pub mod NameText
 pub mod Cuts
 pub mod Numbers
+pub mod Decimal
 pub mod ItemsLeft
+pub mod LinesLeft
+pub mod FromLines
+pub mod ToLines
+pub mod WholeText
