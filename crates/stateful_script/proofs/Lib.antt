@@ -7,3 +7,5 @@ pub mod LinesLeft
 pub mod FromLines
 pub mod ToLines
 pub mod WholeText
+pub mod Forms
+pub mod Plans
