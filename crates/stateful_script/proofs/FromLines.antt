@@ -64,4 +64,3 @@ is_first bytes number first =
     ∙ (past_lines at_start first.before 1 first.lines (first.text ++ first.rest) first.apart first.read
     ∙ (ap (λ n. read_from first.before n (parts_of (first.text ++ first.rest))) counted
     ∙ unread_answer first.before number first.text first.rest first.is_line first.unread))
-

@@ -51,8 +51,15 @@ unfolding with_world
 world_is_plan s q world plan h =
     let parts = cond_some (is_none s.world && length s.events == 0) (record s { world = Some world }) q h in
     subst IsPlan parts.1 (record {
-      genesis = plan.genesis; one_each = plan.one_each; names = plan.names; once = plan.once; parents = plan.parents;
-      ops = plan.ops; events = plan.events; few_blocks = plan.few_blocks; few_events = plan.few_events;
+      genesis = plan.genesis;
+      one_each = plan.one_each;
+      names = plan.names;
+      once = plan.once;
+      parents = plan.parents;
+      ops = plan.ops;
+      events = plan.events;
+      few_blocks = plan.few_blocks;
+      few_events = plan.few_events;
     })
 
 event_is_plan : (s q : Script) (e : PlannedEvent) → IsPlan s → IsNamedBelow (length s.names) e → with_event s e ≡ Some q → IsPlan q
@@ -60,8 +67,13 @@ unfolding with_event
 event_is_plan s q e plan below h =
     let parts = cond_some (nat_lt (length s.events) 65536) (record s { events = s.events ++ e ∷ [] }) q h in
     subst IsPlan parts.1 (record {
-      genesis = plan.genesis; one_each = plan.one_each; names = plan.names; once = plan.once; parents = plan.parents;
-      ops = plan.ops; few_blocks = plan.few_blocks;
+      genesis = plan.genesis;
+      one_each = plan.one_each;
+      names = plan.names;
+      once = plan.once;
+      parents = plan.parents;
+      ops = plan.ops;
+      few_blocks = plan.few_blocks;
       events = All-push (IsNamedBelow (length s.names)) s.events e plan.events below;
       few_events = grind (arith, common_steps, parts.0);
     })
@@ -88,10 +100,10 @@ wider names more le (event.Flushed barrier database) below = tt
 parents_stay : (blocks : List PlannedBlock) (block : PlannedBlock) → block.parent ≤ length blocks → ((i : ℕ) → i < length blocks → (d : PlannedBlock) → (slice_index_or blocks i d).parent ≤ i) → (i : ℕ) → i < length (blocks ++ block ∷ []) → (d : PlannedBlock) → (slice_index_or (blocks ++ block ∷ []) i d).parent ≤ i
 parents_stay blocks block le parents i within d =
     elim (cases_lt i (length blocks)) [
-      inl before ↦ rw (get_or-append blocks (block ∷ []) d i before) (parents i before d)
-    | inr behind ↦
-      let last : i ≡ length blocks = omega (arith, within, simp length-append at within) in
-      rw (last, get_or-append_seam blocks block [] d) le
+      | inl before ↦ rw (get_or-append blocks (block ∷ []) d i before) (parents i before d)
+      | inr behind ↦
+          let last : i ≡ length blocks = omega (arith, within, simp length-append at within) in
+          rw (last, get_or-append_seam blocks block [] d) le
     ]
 
 block_is_plan : (s q : Script) (name : List ℕ) (block : PlannedBlock) → IsPlan s → is_name name ≡ true → length block.ops ≤ 16 → block.parent < length s.names → with_block s name block ≡ Some q → IsPlan q

@@ -111,8 +111,14 @@ line_unread s number line text next more None is h later =
 line_unread s number line text next more (Some p) is h later =
     let those = later p h in
     record {
-      lines = text ∷ those.lines; before = those.before; text = those.text; rest = those.rest;
-      split = ap (λ l. text ∷ l) those.split; counted = omega (arith, those.counted); read = rw is those.read; unread = those.unread;
+      lines = text ∷ those.lines;
+      before = those.before;
+      text = those.text;
+      rest = those.rest;
+      split = ap (λ l. text ∷ l) those.split;
+      counted = omega (arith, those.counted);
+      read = rw is those.read;
+      unread = those.unread;
     }
 
 first_unread : (s : Script) (number line : ℕ) (parts : List (List ℕ)) → HasFirst parts → read_from s number parts ≡ Err line → FirstUnreadPart s number parts line
@@ -147,7 +153,10 @@ named_at bytes line those =
     let behind = left those.lines those.before those.text those.rest those.unread in
     let apart = All-same IsLine _ _ (sym those.split) (parts_apart bytes) in
     record {
-      lines = those.lines; before = those.before; text = those.text; rest = behind.bytes;
+      lines = those.lines;
+      before = those.before;
+      text = those.text;
+      rest = behind.bytes;
       apart = All-front those.lines (those.text ∷ those.rest) apart;
       is_line = All-seam those.lines those.text those.rest apart;
       spelled = joined bytes those.lines those.text those.rest those.split ∙ behind.spelled;

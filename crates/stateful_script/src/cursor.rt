@@ -24,7 +24,7 @@ pub fn cut(text: &[u8], byte: u8) -> Option<(&[u8], &[u8])>
 }
 
 /// The fields of a line that are left: what stands between single spaces.
-#[derive(Clone, Copy)]
+#[derive(Debug, Drop)]
 pub struct Cursor<'a> {
     rest: Option<&'a [u8]>,
 }

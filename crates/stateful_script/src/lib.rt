@@ -22,8 +22,10 @@ mod line;
 mod name;
 mod read;
 mod script;
+#[cfg(test)]
+mod tests;
 
-pub use field::{account, number};
+pub use field::number;
 pub use law::{first_is_named, last_is_ended, number_is_decimal, plans_are_kept, whole_is_read};
 pub use name::Name;
 pub use read::read_script;

@@ -4,6 +4,7 @@ ghost use Rattle.std.specs.Prelude.{◌≡◌, ◌==◌, ℕ, List, Some, None, 
 ghost use Rattle.std.specs.Str.{bytes_eq};
 ghost use Rattle.stateful_script.specs.Lines.{seen, Refuses};
 ghost use Rattle.stateful_script.specs.Script.{at_start, place, is_free, with_world, with_block, with_event, enter, read_line, script_or_line, Reads};
+ghost use Rattle.stateful_script.specs.Laws.{IsPlan};
 
 use crate::cursor::cut;
 use crate::line::{Line, LineError, line_of};
@@ -158,11 +159,9 @@ impl Script {
 #[tactic(auto, unfolding(crate::specs::Script::script_or_line))]
 pub fn read_script(alloc: Global, bytes: &[u8]) -> Result<Script, ScriptError>
     ensures exact { Reads result (script_or_line bytes.now) }
+    ensures plan { IfOk result (λ script. IsPlan script) }
 {
-    let mut script = match Script::start(alloc) {
-        Ok(script) => script,
-        Err(_) => return Err(ScriptError::OutOfMemory),
-    };
+    let mut script = Script::start(alloc)?;
     let mut rest = bytes;
     let mut number = 1u64;
     'lines: while let Some((text, after)) = cut(rest, b'\n') {

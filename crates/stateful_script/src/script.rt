@@ -1,8 +1,12 @@
 //! What a script says.
 
+ghost use Rattle.std.specs.Prelude.{◌≡◌};
+ghost use Rattle.stateful_script.specs.declared.script.ScriptError.TheVariants.{OutOfMemory};
+
 use crate::name::Name;
 use stateful_bank::Op;
 use stateful_types::{Items, View};
+use std::alloc::AllocError;
 use thiserror::Error;
 
 /// Which databases a script plays with.
@@ -55,4 +59,12 @@ pub enum ScriptError {
     Line(u64),
     #[error("out of memory")]
     OutOfMemory,
+}
+
+impl From<AllocError> for ScriptError {
+    ghost from_gives = { λ _ e. e ≡ OutOfMemory };
+
+    fn from(_refused: AllocError) -> Self {
+        ScriptError::OutOfMemory
+    }
 }
