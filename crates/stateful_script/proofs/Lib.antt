@@ -1,0 +1,11 @@
+pub mod NameText
+pub mod Cuts
+pub mod Numbers
+pub mod Decimal
+pub mod ItemsLeft
+pub mod LinesLeft
+pub mod FromLines
+pub mod ToLines
+pub mod WholeText
+pub mod Forms
+pub mod Plans

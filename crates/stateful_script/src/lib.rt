@@ -1,0 +1,32 @@
+//! Scripts of the program `play`, read line by line.
+//!
+//! A script is ASCII: every byte is below 128, and every line ends with LF. The fields of a line are separated by one
+//! space. Numbers are decimal without leading zeros, up to 18446744073709551615, and accounts are numbers up to 65535. A
+//! name is a letter a to z and up to 15 letters a to z or digits. `genesis` is named from the start. A line is
+//!
+//! - empty, or a comment, which begins with `#`;
+//! - `world plain`, at most once and before the first event line;
+//! - `block NAME on PARENT view V ITEMS`, which names a block. ITEMS are `mint ACCOUNT AMOUNT` and `move FROM TO AMOUNT`,
+//!   in any order, at most 16 of them, or none. NAME isn't named yet, and is neither `none` nor `alone`. There are at
+//!   most 1,024 such lines;
+//! - an event line: `verify NAME`, `finalize NAME`, `turn JOB` or `flushed BARRIER DATABASE`. There are at most 65,536.
+//!
+//! A name is given by a line before it is used. A line that no rule reads is refused by its number, from 1.
+#![tactic(auto)]
+
+mod cursor;
+mod field;
+mod item;
+mod law;
+mod line;
+mod name;
+mod read;
+mod script;
+#[cfg(test)]
+mod tests;
+
+pub use field::number;
+pub use law::{first_is_named, last_is_ended, number_is_decimal, plans_are_kept, whole_is_read};
+pub use name::Name;
+pub use read::read_script;
+pub use script::{PlannedBlock, PlannedEvent, Script, ScriptError, World};
