@@ -1,0 +1,11 @@
+use Rattle.std.proofs.Common.{◌≡◌, ◌++◌, [], take}
+use Rattle.std.specs.List.{flat_map}
+use Rattle.std.specs.Fmt.{decimal}
+use Rattle.std.specs.Prelude.{codes}
+use Rattle.stateful_text.specs.Line.{line}
+use Rattle.stateful_text.specs.Mark.{mark_line}
+use Rattle.stateful_text.proofs.whole.push_entry.Given as goal
+
+abbrev pub invariant-loop-mark : goal.invariant-loop-mark
+invariant-loop-mark g l =
+    l.text.items ≡ l.fn.text.items ++ line (codes "#" ++ decimal l.number) [] ++ flat_map (mark_line g.B.Block.header.height l.pen.labels.now) (take l.mark-index l.mark-items)

@@ -1,0 +1,53 @@
+-- The whole text of a history, and the lines that stand in its place.
+use Rattle.std.specs.Prelude.{ℕ, List, [], ◌∷◌, ◌++◌, map, codes}
+use Rattle.std.specs.List.{flat_map, enumerate_from}
+use Rattle.std.specs.Fmt.{decimal}
+use Rattle.stateful_history.specs.declared.entry.Entry.{Entry}
+use Rattle.stateful_text.specs.declared.shown.Label.{Label}
+use Rattle.stateful_text.specs.declared.shown.Shown.{Shown}
+use Rattle.stateful_text.specs.declared.shown.Shown.TheVariants.{Balances, Closed, Lost, Away}
+use Rattle.stateful_text.specs.declared.shown.End.{End}
+use Rattle.stateful_text.specs.declared.shown.End.TheVariants.{Done, Halted}
+use Rattle.stateful_text.specs.Line.{line}
+use Rattle.stateful_text.specs.Mark.{mark_line}
+
+-- a number sign and the entry's number, and a line for each mark
+abbrev pub entry_lines : {B C I : Type 0} → (B → ℕ) → List Label → ℕ × Entry B C I → List ℕ
+entry_lines height labels (number, entry) = line (codes "#" ++ decimal number) [] ++ flat_map (mark_line height labels) entry.marks
+
+abbrev pub balance_text : ℕ × ℕ → List ℕ
+balance_text (account, balance) = decimal account ++ codes "=" ++ decimal balance
+
+-- the line of a database, by its number
+abbrev pub database_line : ℕ × Shown → List ℕ
+database_line (number, Balances start end balances) = line (codes "database") (decimal number ∷ (decimal start ++ codes ".." ++ decimal end) ∷ map balance_text balances)
+database_line (number, Closed) = line (codes "database") (decimal number ∷ codes "closed" ∷ [])
+database_line (number, Lost) = line (codes "database") (decimal number ∷ codes "lost" ∷ [])
+database_line (number, Away) = line (codes "database") (decimal number ∷ codes "away" ∷ [])
+
+-- how a history ended: with its last event, or at the event of a number, with the error of a name
+pub data Ending : Type 0 where
+  WithLast : Ending
+  HaltedAt : ℕ → List ℕ → Ending
+
+abbrev pub ending_of : End → Ending
+ending_of Done = WithLast
+ending_of (Halted at name) = HaltedAt at name.now
+
+abbrev pub end_line : Ending → List ℕ
+end_line WithLast = line (codes "done") []
+end_line (HaltedAt at name) = line (codes "halted") (decimal at ∷ name ∷ [])
+
+-- The entries by their numbers from 0 on, the databases likewise, and how it ended. Lines name blocks by these labels,
+-- and take a block's height from it.
+abbrev pub transcript : {B C I : Type 0} → (B → ℕ) → List Label → List (Entry B C I) → List Shown → Ending → List ℕ
+transcript height labels entries databases ending =
+    flat_map (entry_lines height labels) (enumerate_from 0 entries) ++ flat_map database_line (enumerate_from 0 databases) ++ end_line ending
+
+-- what is written where the words ask for nothing that the program does
+abbrev pub usage_line : List ℕ
+usage_line = line (codes "usage: stateful_prog play | make N") []
+
+-- what is written where a script is refused at this line
+abbrev pub script_line : ℕ → List ℕ
+script_line number = line (codes "script") (decimal number ∷ [])

@@ -1,0 +1,165 @@
+//! Lines, piece by piece. What a text held before stays in front of what is pushed on it.
+
+ghost use Rattle.std.specs.Prelude.{◌≡◌, ◌<◌, ◌++◌, ◌∷◌, [], map, find, OnOk};
+ghost use Rattle.std.specs.Str.{bytes_eq};
+ghost use Rattle.std.specs.Option.{option_copied};
+ghost use Rattle.std.specs.Fmt.{decimal};
+ghost use Rattle.std.specs.Char.{digit_char};
+ghost use Rattle.stateful_text.specs.Line.{hex_of, name_of, field_text, line};
+
+use crate::shown::Label;
+use stateful_types::{Digest, OutOfMemory};
+use std::alloc::Global;
+
+pub fn push(text: &mut Vec<u8>, piece: &[u8]) -> Result<(), OutOfMemory>
+    ensures { OnOk result (text.new.items ≡ text.old.items ++ piece.now) }
+{
+    text.extend_from_slice(piece)?;
+    Ok(())
+}
+
+pub fn push_number(alloc: Global, text: &mut Vec<u8>, number: u64) -> Result<(), OutOfMemory>
+    ensures { OnOk result (text.new.items ≡ text.old.items ++ decimal number) }
+{
+    let digits = number.to_string(alloc)?;
+    push(text, digits.as_bytes())
+}
+
+fn hex_digit(value: u8) -> u8
+    requires { value < 16 }
+    ensures { result ≡ digit_char value }
+{
+    if value < 10 {
+        b'0' + value
+    } else {
+        b'a' + (value - 10)
+    }
+}
+
+fn push_hex(text: &mut Vec<u8>, bytes: &[u8]) -> Result<(), OutOfMemory>
+    ensures { OnOk result (text.new.items ≡ text.old.items ++ hex_of bytes.now) }
+{
+    for byte in bytes {
+        text.push(hex_digit(*byte / 16))?;
+        text.push(hex_digit(*byte % 16))?;
+    }
+    Ok(())
+}
+
+fn first_label<'a>(labels: &'a [Label], digest: Digest) -> Option<&'a Label>
+    ensures { option_copied result ≡ find (λ label. bytes_eq label.digest.0 digest.0) labels.now }
+{
+    labels
+        .iter()
+        .find(|label| label.digest.0.as_slice() == digest.0.as_slice())
+}
+
+fn push_name(text: &mut Vec<u8>, labels: &[Label], digest: Digest) -> Result<(), OutOfMemory>
+    ensures { OnOk result (text.new.items ≡ text.old.items ++ name_of labels.now digest) }
+{
+    match first_label(labels, digest) {
+        Some(label) => push(text, label.name.as_slice()),
+        None => {
+            push(text, b"?")?;
+            push_hex(text, &digest.0)
+        }
+    }
+}
+
+/// A field of a line: a word as it is, a number in decimal, or a block by its name.
+#[derive(Clone, Copy)]
+pub enum Field<'a> {
+    Word(&'a str),
+    Number(u64),
+    Block(Digest),
+}
+
+/// What lines are written with: memory, and the names of blocks.
+#[derive(Clone, Copy)]
+pub struct Pen<'a> {
+    pub alloc: Global,
+    pub labels: &'a [Label],
+}
+
+impl Pen<'_> {
+    fn push_field(self, text: &mut Vec<u8>, field: Field<'_>) -> Result<(), OutOfMemory>
+        ensures { OnOk result (text.new.items ≡ text.old.items ++ field_text self.entry.labels.now field.entry) }
+    {
+        match field {
+            Field::Word(word) => push(text, word.as_bytes()),
+            Field::Number(number) => push_number(self.alloc, text, number),
+            Field::Block(digest) => push_name(text, self.labels, digest),
+        }
+    }
+
+    /// Appends a line of this word and these fields.
+    pub fn line(
+        self,
+        text: &mut Vec<u8>,
+        word: &str,
+        fields: &[Field<'_>],
+    ) -> Result<(), OutOfMemory>
+        ensures { OnOk result
+            (text.new.items ≡ text.old.items
+            ++ line word.now (map (field_text self.entry.labels.now) fields.now)) }
+    {
+        push(text, word.as_bytes())?;
+        for field in fields {
+            push(text, b" ")?;
+            self.push_field(text, *field)?;
+        }
+        push(text, b"\n")
+    }
+
+    /// Appends a line of this word and a number.
+    pub fn number(self, text: &mut Vec<u8>, word: &str, number: u64) -> Result<(), OutOfMemory>
+        ensures { OnOk result
+            (text.new.items ≡ text.old.items ++ line word.now (decimal number ∷ [])) }
+    {
+        self.line(text, word, &[Field::Number(number)])
+    }
+
+    /// Appends a line of this word and two numbers.
+    pub fn pair(
+        self,
+        text: &mut Vec<u8>,
+        word: &str,
+        first: u64,
+        second: u64,
+    ) -> Result<(), OutOfMemory>
+        ensures { OnOk result
+            (text.new.items ≡ text.old.items
+            ++ line word.now (decimal first ∷ decimal second ∷ [])) }
+    {
+        self.line(text, word, &[Field::Number(first), Field::Number(second)])
+    }
+
+    /// Appends a line of this word, a number and another word.
+    pub fn word(
+        self,
+        text: &mut Vec<u8>,
+        word: &str,
+        number: u64,
+        last: &str,
+    ) -> Result<(), OutOfMemory>
+        ensures { OnOk result
+            (text.new.items ≡ text.old.items ++ line word.now (decimal number ∷ last.now ∷ [])) }
+    {
+        self.line(text, word, &[Field::Number(number), Field::Word(last)])
+    }
+
+    /// Appends a line of this word, a number and a block.
+    pub fn block(
+        self,
+        text: &mut Vec<u8>,
+        word: &str,
+        number: u64,
+        digest: Digest,
+    ) -> Result<(), OutOfMemory>
+        ensures { OnOk result
+            (text.new.items ≡ text.old.items
+            ++ line word.now (decimal number ∷ name_of self.entry.labels.now digest ∷ [])) }
+    {
+        self.line(text, word, &[Field::Number(number), Field::Block(digest)])
+    }
+}

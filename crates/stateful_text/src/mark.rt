@@ -1,0 +1,125 @@
+//! The line of a mark.
+
+ghost use Rattle.std.specs.Prelude.{◌≡◌, ◌++◌, OnOk};
+ghost use Rattle.stateful_text.specs.Mark.{kind_word, how_word, decision_word, truth_word, done_word, mark_line};
+
+use crate::line::{Field, Pen};
+use stateful_history::{Decision, How, JobKind, Mark};
+use stateful_types::{Block, OutOfMemory};
+
+fn kind_word(kind: JobKind) -> &'static str
+    ensures { result.now ≡ kind_word kind }
+{
+    match kind {
+        JobKind::Candidate => "candidate",
+        JobKind::Finalized => "finalized",
+        JobKind::Build => "build",
+        JobKind::Hook => "hook",
+    }
+}
+
+fn how_word(how: How) -> &'static str
+    ensures { result.now ≡ how_word how }
+{
+    match how {
+        How::Kept => "kept",
+        How::Rejected => "rejected",
+        How::Mismatched => "mismatched",
+        How::Missed => "missed",
+        How::Cancelled => "cancelled",
+        How::Nothing => "nothing",
+        How::Hooked => "hooked",
+    }
+}
+
+fn decision_word(decision: Decision) -> &'static str
+    ensures { result.now ≡ decision_word decision }
+{
+    match decision {
+        Decision::Block => "block",
+        Decision::Vote => "vote",
+        Decision::Stage => "stage",
+    }
+}
+
+fn truth_word(truth: bool) -> &'static str
+    ensures { result.now ≡ truth_word truth }
+{
+    if truth { "true" } else { "false" }
+}
+
+fn done_word(good: bool) -> &'static str
+    ensures { result.now ≡ done_word good }
+{
+    if good { "durable" } else { "broken" }
+}
+
+/// Appends the line of a mark.
+pub fn push_mark<B: Block>(
+    pen: Pen<'_>,
+    text: &mut Vec<u8>,
+    mark: &Mark<B>,
+) -> Result<(), OutOfMemory>
+    ensures { OnOk result
+        (text.new.items ≡ text.old.items
+        ++ mark_line B.header.height pen.entry.labels.now mark.now) }
+{
+    use Field::{Block, Number, Word};
+    match mark {
+        Mark::Opened { anchor } => pen.block(text, "opened", anchor.height.0, anchor.digest),
+        Mark::Converged { anchor } => pen.block(text, "converged", anchor.height.0, anchor.digest),
+        Mark::Asked {
+            fetch,
+            ticket,
+            digest,
+        } => {
+            let asker = match ticket {
+                Some(ticket) => Number(*ticket),
+                None => Word("floor"),
+            };
+            pen.line(text, "asked", &[Number(*fetch), asker, Block(*digest)])
+        }
+        Mark::Withdrawn { fetch } => pen.number(text, "withdrawn", *fetch),
+        Mark::Started { job, kind, digest } => {
+            let kind = Word(kind_word(*kind));
+            pen.line(text, "started", &[Number(*job), kind, Block(*digest)])
+        }
+        Mark::Ended { job, how } => pen.word(text, "ended", *job, how_word(*how)),
+        Mark::Built { job, ticket, block } => {
+            let block = Block(block.digest());
+            pen.line(text, "built", &[Number(*job), Number(*ticket), block])
+        }
+        Mark::Verdict { ticket, valid } => pen.word(text, "verdict", *ticket, truth_word(*valid)),
+        Mark::Answered {
+            ticket,
+            decision,
+            block,
+        } => {
+            let decision = Word(decision_word(*decision));
+            let block = Block(block.digest());
+            pen.line(text, "answered", &[Number(*ticket), decision, block])
+        }
+        Mark::Declined { ticket } => pen.number(text, "declined", *ticket),
+        Mark::Databases { ticket } => pen.number(text, "databases", *ticket),
+        Mark::Began { ticket, block } => pen.block(text, "began", *ticket, block.digest()),
+        Mark::Applied { block } => pen.block(text, "applied", block.height().0, block.digest()),
+        Mark::BarrierBegun { barrier, height } => pen.pair(text, "barrier", *barrier, height.0),
+        Mark::BarrierDone {
+            barrier,
+            height,
+            good,
+        } => pen.pair(text, done_word(*good), *barrier, height.0),
+        Mark::Acknowledged { ticket, height } => pen.pair(text, "acknowledged", *ticket, height.0),
+        Mark::Dropped { ticket } => pen.number(text, "dropped", *ticket),
+        Mark::Recorded { anchor } => pen.block(text, "recorded", anchor.height.0, anchor.digest),
+        Mark::Dispatched { generation, height } => pen.pair(
+            text,
+            "dispatched",
+            *generation,
+            height.0,
+        ),
+        Mark::Pruned { marshal, target } => pen.pair(text, "pruned", marshal.0, target.0),
+        Mark::Completed { height } => pen.number(text, "completed", height.0),
+        Mark::Stopped => pen.line(text, "stopped", &[]),
+    }
+}
