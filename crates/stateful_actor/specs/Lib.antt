@@ -18,3 +18,4 @@ pub mod Entering
 pub mod Restarting
 pub mod Admitting
 pub mod Stepping
+pub mod Driving

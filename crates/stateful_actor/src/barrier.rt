@@ -109,7 +109,6 @@ pub(crate) fn settle<A: Application>(
     marks: &mut Vec<Mark<A::Block>>,
 ) -> Result<(), StepError>
     requires { Sound A.Databases.kind (A.Databases.members databases.old) A.Block.header core.old }
-    ensures ok { OnOk result ((store : ℕ → Option (Named A.Block)) → GoesOn {C = A.Context} {I = A.Input} (workings A.Block.header A.meaning A.Databases.kind A.Databases.members A.Databases.next A.runs A.Databases.shows) (Always) store core.old core.new databases.old databases.new marks.old.items marks.new.items) }
     ensures sound { OnOk result (Sound A.Databases.kind (A.Databases.members databases.new) A.Block.header core.new) }
 {
     if core.anchor.is_none() || core.front.is_some() {
@@ -133,7 +132,6 @@ pub(crate) fn flush<A: Application>(
     index: usize,
 ) -> Result<(), StepError>
     requires { Sound A.Databases.kind (A.Databases.members databases.old) A.Block.header core.old }
-    ensures ok { OnOk result ((store : ℕ → Option (Named A.Block)) (marks : List (Mark A.Block)) → GoesOn {C = A.Context} {I = A.Input} (workings A.Block.header A.meaning A.Databases.kind A.Databases.members A.Databases.next A.runs A.Databases.shows) (HasFlushed A.Databases.kind.count number index) store core.old core.new databases.old databases.new marks marks) }
     ensures sound { OnOk result (Sound A.Databases.kind (A.Databases.members databases.new) A.Block.header core.new) }
 {
     if core.anchor.is_none() {

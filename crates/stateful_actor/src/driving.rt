@@ -1,5 +1,11 @@
 //! A whole list of events.
 
+ghost use Rattle.std.specs.Prelude.{◌≡◌, ◌<◌, ◌++◌, ◌∷◌, [], ℕ, List, false, None, IfOk, IfErr, OnOk, OnErr, length, map, take};
+ghost use Rattle.stateful_history.specs.Past.{after_all};
+ghost use Rattle.stateful_register.specs.Register.{RegisterStands};
+ghost use Rattle.stateful_actor.specs.Stepping.{IsSafe};
+ghost use Rattle.stateful_actor.specs.Driving.{AddsEntry};
+
 use crate::error::StepError;
 use crate::stateful::Stateful;
 use stateful_db::Application;
@@ -34,7 +40,14 @@ fn enter<A: Application + Drop, S: BlockStore<A::Block>>(
     driven: &mut Driven<A>,
     store: &mut S,
     event: Event<A::Block, A::Context, A::Input>,
-) -> Result<(), StepError> {
+) -> Result<(), StepError>
+    requires { IsSafe A.Databases.kind (A.Databases.members driven.old.databases) A.Block.header driven.old.stateful.failed driven.old.stateful.core }
+    ensures ok { OnOk result (AddsEntry event driven.old.history.items driven.new.history.items) }
+    ensures err { OnErr result (driven.new.history.items ≡ driven.old.history.items) }
+    ensures register { OnOk result (RegisterStands A.Databases.kind.count (after_all [] driven.old.history.items) driven.old.stateful.register → RegisterStands A.Databases.kind.count (after_all [] driven.new.history.items) driven.new.stateful.register) }
+    ensures safe { IsSafe A.Databases.kind (A.Databases.members driven.new.databases) A.Block.header driven.new.stateful.failed driven.new.stateful.core }
+    ensures store { store.new ≡ store.old }
+{
     let kept = event.share()?;
     let marks = driven.stateful.step(&mut driven.databases, store, event)?;
     driven.history.push(Entry {
@@ -51,7 +64,14 @@ pub fn drive<A: Application + Drop, S: BlockStore<A::Block>>(
     databases: A::Databases,
     store: &mut S,
     events: Vec<Event<A::Block, A::Context, A::Input>>,
-) -> Result<Driven<A>, Halt<A>> {
+) -> Result<Driven<A>, Halt<A>>
+    requires { IsSafe A.Databases.kind (A.Databases.members databases) A.Block.header stateful.failed stateful.core }
+    ensures all { IfOk result (λ driven. map (λ entry. entry.event) driven.history.items ≡ events.items) }
+    ensures part { IfErr result (λ halt. map (λ entry. entry.event) halt.driven.history.items ≡ take halt.halted.at events.items) }
+    ensures at { IfErr result (λ halt. (halt.halted.at ≡ length halt.driven.history.items) × (halt.halted.at < length events.items)) }
+    ensures register { IfOk result (λ driven. RegisterStands {B = A.Block} {C = A.Context} {I = A.Input} A.Databases.kind.count [] stateful.register → RegisterStands A.Databases.kind.count (after_all [] driven.history.items) driven.stateful.register) }
+    ensures store { store.new ≡ store.old }
+{
     let mut driven = Driven {
         stateful,
         databases,

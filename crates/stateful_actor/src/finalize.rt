@@ -145,7 +145,6 @@ fn finalize_next<A: Application>(
     requires sound { Sound A.Databases.kind (A.Databases.members databases.old) A.Block.header core.old }
     requires next { (anchor : Anchor) × (core.old.anchor ≡ Some anchor) × IsNext A.Block.header anchor block.now }
     requires idle { core.old.front ≡ None }
-    ensures ok { OnOk result ((store : ℕ → Option (Named A.Block)) → GoesOn {C = A.Context} {I = A.Input} (workings A.Block.header A.meaning A.Databases.kind A.Databases.members A.Databases.next A.runs A.Databases.shows) (HasMet (workings A.Block.header A.meaning A.Databases.kind A.Databases.members A.Databases.next A.runs A.Databases.shows) block.now) store core.old core.new databases.old databases.new marks.old.items marks.new.items) }
     ensures sound { OnOk result (Sound A.Databases.kind (A.Databases.members databases.new) A.Block.header core.new) }
 {
     marks.push(Mark::Began {
@@ -177,7 +176,6 @@ pub(crate) fn finalize<A: Application>(
     marks: &mut Vec<Mark<A::Block>>,
 ) -> Result<(), StepError>
     requires { Sound A.Databases.kind (A.Databases.members databases.old) A.Block.header core.old }
-    ensures ok { OnOk result ((store : ℕ → Option (Named A.Block)) → GoesOn {C = A.Context} {I = A.Input} (workings A.Block.header A.meaning A.Databases.kind A.Databases.members A.Databases.next A.runs A.Databases.shows) (HasMet (workings A.Block.header A.meaning A.Databases.kind A.Databases.members A.Databases.next A.runs A.Databases.shows) block.now) store core.old core.new databases.old databases.new marks.old.items marks.new.items) }
     ensures sound { OnOk result (Sound A.Databases.kind (A.Databases.members databases.new) A.Block.header core.new) }
 {
     if core.front.is_some() {

