@@ -100,6 +100,7 @@ impl Durability {
     pub fn applied(&mut self, height: Height)
         requires { self.old.applied < height.0 }
         ensures applied { self.new ≡ record self.old { applied = height.0 } }
+        ensures no_receipt_yet { All (λ receipt. receipt.0 < height.0) self.new.held }
         ensures in_order { IsInOrder self.new }
     {
         self.applied = height;
