@@ -1,5 +1,5 @@
 -- What a set of databases means to the layer above: each function and relation over its members, in one record.
-use Rattle.std.specs.Prelude.{◌≡◌, ℕ, ◌+◌, ◌<◌, ◌≤◌, ◌⊎◌, List, [], ◌∷◌, ◌++◌, Option, Some, None}
+use Rattle.std.specs.Prelude.{◌≡◌, ℕ, ◌+◌, ◌<◌, ◌≤◌, List, [], ◌∷◌, ◌++◌, Option, Some, None}
 
 pub record Databases (Ids States Targets : Type 0) : Type 1 where
   -- all that is known of the databases, but for the next batch ids
@@ -62,6 +62,7 @@ pub record Laws {Ids States Targets : Type 0} (d : Databases Ids States Targets)
   pub durable_finalized : (m : d.Members) (i : ℕ) → d.durable (d.finalized m) i ≡ d.durable m i
   pub token_finalized : (m : d.Members) (p : Ids × States) (i : ℕ) → i < d.count → d.point m ≡ Some p → d.token (d.finalized m) i ≡ Some (d.place m i)
   pub point_finalized : (m : d.Members) → d.point (d.finalized m) ≡ d.point m
+  pub state_finalized : (m : d.Members) (i : ℕ) (s : States) → d.HasState m i s → d.HasState (d.finalized m) i s
   pub keeps_flushed : (m : d.Members) (n at i origin : ℕ) (states : List States) → d.Keeps m i origin states → d.Keeps (d.flushed m n at) i origin states
   pub place_flushed : (m : d.Members) (n at i : ℕ) → d.place (d.flushed m n at) i ≡ d.place m i
   pub durable_flushed : (m : d.Members) (p : Ids × States) (n at : ℕ) → n < d.count → d.point m ≡ Some p → d.durable (d.flushed m n at) n ≡ at

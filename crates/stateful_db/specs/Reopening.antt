@@ -1,5 +1,5 @@
 -- How a database opens on its medium, and why it doesn't.
-use Rattle.std.specs.Prelude.{◌≡◌, ◌≢◌, ℕ, ◌+◌, ◌==◌, ◌⊎◌, List, length, take, Option, Some, None, position, slice_get}
+use Rattle.std.specs.Prelude.{◌≡◌, ◌≢◌, ℕ, ◌==◌, ◌⊎◌, length, Option, Some, None, position, slice_get}
 use Rattle.stateful_types.specs.declared.target.Target.{Target}
 use Rattle.stateful_db.specs.Disk.{Disk, Standing, IsOpened, all}
 use Rattle.stateful_db.specs.declared.database.InitError.{InitError}

@@ -44,6 +44,7 @@ pub trait DatabaseSet: Sized {
     ghost use Rattle.stateful_db.specs.Chain.{IsPoint};
     ghost use Rattle.stateful_db.specs.Databases.{Databases, Laws, IsOpening};
     ghost use Rattle.stateful_db.specs.Handles.{places_from};
+    ghost use Rattle.stateful_db.specs.Barrier.{unanswered, open_at};
     ghost use Rattle.stateful_db.specs.declared.database.DbCall.{DbCall};
 
     /// The states of the databases, left to right.
@@ -56,7 +57,7 @@ pub trait DatabaseSet: Sized {
 
     type Merkleized: Drop;
 
-    type Config;
+    type Config: Drop;
 
     /// What a block commits to.
     type SyncTargets: Copy + Eq;
@@ -166,6 +167,29 @@ pub trait DatabaseSet: Sized {
         ensures fault { (n : ℕ) (k : DbCall) → IsErrOf result (SetError.DatabaseFault n k) → (k ≡ DbCall.Finalize) × (n < kind.count) × Rose (counted self.old n) (counted self.new n) × kind.LostFinalizing (members self.old) n (members self.new) }
         ensures err { OnErr result ((i : ℕ) (s : Self.States) → kind.HasState (members self.old) i s → kind.HasState (members self.new) i s) }
         ensures later { (n : ℕ) → counted self.old n ≤ counted self.new n };
+
+    /// Starts persisting all checkpoints, and makes a barrier of the tokens, which are all open. After want of memory
+    /// a token may be out at each database.
+    final fn finalize(&mut self, alloc: Global) -> Result<Barrier, SetError>
+        requires { kind.Idle (members self.old) }
+        ensures ok { OnOk result (members self.new ≡ kind.finalized (members self.old)) }
+        ensures tokens { IfOk result (λ barrier. barrier ≡ map (λ place. unanswered (record { place = place })) (places_from kind.place (members self.old) 0 kind.count)) }
+        ensures count { IfOk result (λ barrier. length barrier ≡ kind.count) }
+        ensures handles { IfOk result (λ barrier. (i : ℕ) → i < kind.count → open_at barrier i ≡ Some (record { place = kind.place (members self.old) i })) }
+        ensures lost { IsErrOf result SetError.Lost → ⊥ }
+        ensures exhausted { IsErrOf result SetError.Exhausted → ⊥ }
+        ensures next { next self.new ≡ next self.old }
+        ensures fault { (n : ℕ) (k : DbCall) → IsErrOf result (SetError.DatabaseFault n k) → (k ≡ DbCall.Finalize) × (n < kind.count) × Rose (counted self.old n) (counted self.new n) × kind.LostFinalizing (members self.old) n (members self.new) }
+        ensures err { OnErr result ((i : ℕ) (s : Self.States) → kind.HasState (members self.old) i s → kind.HasState (members self.new) i s) }
+        ensures later { (n : ℕ) → counted self.old n ≤ counted self.new n }
+    {
+        let mut tokens = Items::new(alloc);
+        self.persist(&mut tokens)?;
+        match Barrier::from_handles(tokens.into_vec()) {
+            Ok(barrier) => Ok(barrier),
+            Err(OutOfMemory) => Err(SetError::OutOfMemory),
+        }
+    }
 
     /// The checkpoints that the token covers are durable at the database of this number, at which it has to be out.
     fn flush(&mut self, index: usize, token: FlushToken) -> Result<(), SetError>

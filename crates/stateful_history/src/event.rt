@@ -3,14 +3,17 @@
 ghost use Rattle.std.specs.Prelude.{◌≡◌, IfOk};
 
 use stateful_db::Flushed;
-use stateful_types::{Ancestry, Digested, Floor, Items};
+use stateful_types::{Ancestry, Digested, Floor, Items, OutOfMemory, Share};
 
 /// One event, over blocks `B`, contexts `C` and inputs `I`. A ticket names a request or a receipt, and is greater than
 /// every earlier one.
 #[derive(Drop)]
 pub enum Event<B, C, I> {
     /// A request to judge the first block of an ancestry.
-    Verify { ticket: u64, ancestry: Ancestry<B> },
+    Verify {
+        ticket: u64,
+        ancestry: Ancestry<B>,
+    },
     /// A request to build a block ahead of its proposal, on the first block of an ancestry.
     Prepare {
         ticket: u64,
@@ -26,18 +29,27 @@ pub enum Event<B, C, I> {
         input: I,
     },
     /// A block is final. Its receipt is acknowledged once that is durable.
-    Finalized { ticket: u64, block: Digested<B> },
+    Finalized {
+        ticket: u64,
+        block: Digested<B>,
+    },
     /// A request to be told when the databases are there.
-    Subscribe { ticket: u64 },
+    Subscribe {
+        ticket: u64,
+    },
     /// A request is given up.
-    Cancel { ticket: u64 },
+    Cancel {
+        ticket: u64,
+    },
     /// A fetch is answered, with the asked block or with none.
     Fetched {
         fetch: u64,
         answer: Option<Digested<B>>,
     },
     /// A run, a build or a hook is turned.
-    Turn { job: u64 },
+    Turn {
+        job: u64,
+    },
     /// A database of a barrier is flushed.
     Flushed {
         barrier: u64,
@@ -45,9 +57,85 @@ pub enum Event<B, C, I> {
         answer: Flushed,
     },
     /// A database that syncs makes its next request.
-    Progress { database: usize },
+    Progress {
+        database: usize,
+    },
     /// The machine is to stop.
     Stop,
     /// The machine is to start, by what a block store reports. Of each database a crash has left so many checkpoints.
-    Restart { floor: Floor, keep: Items<usize> },
+    Restart {
+        floor: Floor,
+        keep: Items<usize>,
+    },
+}
+
+impl<B: Drop, C: Copy, I: Share + Drop> Share for Event<B, C, I> {
+    fn share(&self) -> Result<Event<B, C, I>, OutOfMemory> {
+        match self {
+            Event::Verify { ticket, ancestry } => Ok(Event::Verify {
+                ticket: *ticket,
+                ancestry: ancestry.share()?,
+            }),
+            Event::Prepare {
+                ticket,
+                context,
+                ancestry,
+                input,
+            } => Ok(Event::Prepare {
+                ticket: *ticket,
+                context: *context,
+                ancestry: ancestry.share()?,
+                input: input.share()?,
+            }),
+            Event::Propose {
+                ticket,
+                context,
+                ancestry,
+                input,
+            } => Ok(Event::Propose {
+                ticket: *ticket,
+                context: *context,
+                ancestry: ancestry.share()?,
+                input: input.share()?,
+            }),
+            Event::Finalized { ticket, block } => Ok(Event::Finalized {
+                ticket: *ticket,
+                block: block.share()?,
+            }),
+            Event::Subscribe { ticket } => Ok(Event::Subscribe { ticket: *ticket }),
+            Event::Cancel { ticket } => Ok(Event::Cancel { ticket: *ticket }),
+            Event::Fetched { fetch, answer } => Ok(Event::Fetched {
+                fetch: *fetch,
+                answer: share_answer(answer)?,
+            }),
+            Event::Turn { job } => Ok(Event::Turn { job: *job }),
+            Event::Flushed {
+                barrier,
+                database,
+                answer,
+            } => Ok(Event::Flushed {
+                barrier: *barrier,
+                database: *database,
+                answer: *answer,
+            }),
+            Event::Progress { database } => Ok(Event::Progress {
+                database: *database,
+            }),
+            Event::Stop => Ok(Event::Stop),
+            Event::Restart { floor, keep } => Ok(Event::Restart {
+                floor: *floor,
+                keep: keep.share()?,
+            }),
+        }
+    }
+}
+
+/// The same answer of a fetch.
+fn share_answer<B>(answer: &Option<Digested<B>>) -> Result<Option<Digested<B>>, OutOfMemory>
+    ensures { IfOk result (λ copy. copy ≡ answer.now) }
+{
+    match answer {
+        Some(block) => Ok(Some(block.share()?)),
+        None => Ok(None),
+    }
 }

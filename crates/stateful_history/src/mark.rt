@@ -46,9 +46,13 @@ pub enum Decision {
 #[derive(Drop)]
 pub enum Mark<B> {
     /// The databases were opened at this block.
-    Opened { anchor: Anchor },
+    Opened {
+        anchor: Anchor,
+    },
     /// The databases were synced to this block.
-    Converged { anchor: Anchor },
+    Converged {
+        anchor: Anchor,
+    },
     /// A block is fetched, for a ticket or for the floor of a sync.
     Asked {
         fetch: u64,
@@ -56,7 +60,9 @@ pub enum Mark<B> {
         digest: Digest,
     },
     /// A fetch is given up.
-    Withdrawn { fetch: u64 },
+    Withdrawn {
+        fetch: u64,
+    },
     /// A job was started. A build carries its parent's digest, another job its block's.
     Started {
         job: u64,
@@ -64,7 +70,10 @@ pub enum Mark<B> {
         digest: Digest,
     },
     /// A job ended.
-    Ended { job: u64, how: How },
+    Ended {
+        job: u64,
+        how: How,
+    },
     /// A build ended with this block.
     Built {
         job: u64,
@@ -72,7 +81,10 @@ pub enum Mark<B> {
         block: Digested<B>,
     },
     /// A verification is answered.
-    Verdict { ticket: u64, valid: bool },
+    Verdict {
+        ticket: u64,
+        valid: bool,
+    },
     /// A proposal is answered with a block.
     Answered {
         ticket: u64,
@@ -80,15 +92,27 @@ pub enum Mark<B> {
         block: Digested<B>,
     },
     /// A proposal is answered without a block.
-    Declined { ticket: u64 },
+    Declined {
+        ticket: u64,
+    },
     /// A subscription is answered.
-    Databases { ticket: u64 },
+    Databases {
+        ticket: u64,
+    },
     /// The finalization of a block has begun.
-    Began { ticket: u64, block: Digested<B> },
+    Began {
+        ticket: u64,
+        block: Digested<B>,
+    },
     /// The databases hold the state after this block.
-    Applied { block: Digested<B> },
+    Applied {
+        block: Digested<B>,
+    },
     /// A barrier over all that is applied up to a height has begun.
-    BarrierBegun { barrier: u64, height: Height },
+    BarrierBegun {
+        barrier: u64,
+        height: Height,
+    },
     /// A barrier is done: its height is durable, or it broke.
     BarrierDone {
         barrier: u64,
@@ -96,17 +120,32 @@ pub enum Mark<B> {
         good: bool,
     },
     /// A receipt is acknowledged.
-    Acknowledged { ticket: u64, height: Height },
+    Acknowledged {
+        ticket: u64,
+        height: Height,
+    },
     /// A request or receipt is dropped without an answer.
-    Dropped { ticket: u64 },
+    Dropped {
+        ticket: u64,
+    },
     /// A finalized block is recorded as a tip to sync to.
-    Recorded { anchor: Anchor },
+    Recorded {
+        anchor: Anchor,
+    },
     /// Databases were sent on to a tip.
-    Dispatched { generation: u64, height: Height },
+    Dispatched {
+        generation: u64,
+        height: Height,
+    },
     /// What lies below a height was dropped from the block store, and from the databases what is older than a target.
-    Pruned { marshal: Height, target: Height },
+    Pruned {
+        marshal: Height,
+        target: Height,
+    },
     /// A sync is recorded as complete.
-    Completed { height: Height },
+    Completed {
+        height: Height,
+    },
     /// The machine has stopped.
     Stopped,
 }

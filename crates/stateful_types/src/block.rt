@@ -125,3 +125,12 @@ pub struct Ancestry<B> {
     pub first: Digested<B>,
     pub rest: Items<Digested<B>>,
 }
+
+impl<B: Drop> Share for Ancestry<B> {
+    fn share(&self) -> Result<Ancestry<B>, OutOfMemory> {
+        Ok(Ancestry {
+            first: self.first.share()?,
+            rest: self.rest.share_each()?,
+        })
+    }
+}

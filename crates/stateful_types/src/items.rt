@@ -1,7 +1,8 @@
 //! Lists, as contracts see them.
 
-ghost use Rattle.std.specs.Prelude.{◌≡◌, ◌++◌, ◌∷◌, [], ◌==◌, IfErr, if◌then◌else◌, is_ok, length};
+ghost use Rattle.std.specs.Prelude.{◌≡◌, ◌++◌, ◌∷◌, [], ◌==◌, IfOk, IfErr, if◌then◌else◌, is_ok, length};
 
+use crate::share::{OutOfMemory, Share};
 use std::alloc::{AllocFailed, Global};
 use std::marker::Model;
 
@@ -71,5 +72,25 @@ impl<T> Items<T> {
         ensures given_back { IfErr result (λ refused. refused.value ≡ item) }
     {
         self.items.push(item)
+    }
+}
+
+impl<T: Copy> Share for Items<T> {
+    fn share(&self) -> Result<Items<T>, OutOfMemory> {
+        let items = Vec::from_slice(*self.items.allocator(), self.items.as_slice())?;
+        Ok(Items { items })
+    }
+}
+
+impl<T: Share + Drop> Items<T> {
+    /// Equal items, each shared.
+    pub fn share_each(&self) -> Result<Items<T>, OutOfMemory>
+        ensures { IfOk result (λ copy. copy ≡ self.now) }
+    {
+        let mut items = Vec::new(*self.items.allocator());
+        for item in &self.items {
+            items.push(item.share()?)?;
+        }
+        Ok(Items { items })
     }
 }

@@ -1,0 +1,3 @@
+pub mod Durability
+pub mod Calls
+pub mod Shown
