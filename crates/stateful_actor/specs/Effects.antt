@@ -6,7 +6,7 @@ use Rattle.stateful_types.specs.declared.anchor.Anchor.{Anchor}
 use Rattle.stateful_types.specs.declared.number.Height.{Height}
 use Rattle.stateful_db.specs.Databases.{Databases}
 use Rattle.stateful_db.specs.Barrier.{open_at, IsGood}
-use Rattle.stateful_durability.specs.Durability.{Coverage, completed, put_in}
+use Rattle.stateful_durability.specs.Durability.{Coverage, after_completion}
 use Rattle.stateful_history.specs.declared.mark.Mark.{Mark}
 use Rattle.stateful_history.specs.declared.mark.Mark.TheVariants.{BarrierBegun, BarrierDone, Acknowledged}
 use Rattle.stateful_actor.specs.declared.core.Active.{Active}
@@ -29,7 +29,7 @@ pub record BeginsBarrier {Ids S T B R H U : Type 0} (d : Databases Ids S T) (m n
 
 -- the active barrier is done, and its height is durable
 pub record CompletesBarrier {B R H U : Type 0} (number : ℕ) (height : Height) (old new : Core B R H U) (before now : List (Mark B)) : Type 0 where
-  pub core : new ≡ record old { durability = completed old.durability (Some height); barrier = None }
+  pub core : new ≡ record old { durability = after_completion old.durability (Some height); barrier = None }
   pub marks : now ≡ before ++ BarrierDone number height true ∷ []
 
 -- the mark of an acknowledged receipt
