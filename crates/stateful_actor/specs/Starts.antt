@@ -31,4 +31,4 @@ pub record StartsRun {B C I D R H U : Type 0} (w : Workings B D R U) (p : Past B
   pub core : new ≡ record old { runs = new.runs; next_job = old.next_job + 1 }
   pub runs : new.runs.items ≡ old.runs.items ++ record { job = old.next_job; ticket = ticket; block = b; run = run } ∷ []
   pub marks : now ≡ before ++ Started old.next_job Candidate b.digest ∷ []
-  pub runs_on : (ids : Digest → w.Ids) → parent.digest ≡ parent_of w.setting b → IsAt w held at → w.kind.issued at.next (at.point ∷ []) → Caches w p at ids anchor.digest old.cache → RunsOn w p (moved at (w.next holding)) ids anchor.digest run b
+  pub runs_on : (ids : Digest → w.Ids) → parent.digest ≡ parent_of w.setting b → IsAt w held at → w.kind.issued at.next (at.point ∷ []) → Known w.setting p anchor.digest → Caches w p at ids anchor.digest old.cache → RunsOn w p (moved at (w.next holding)) ids anchor.digest run b

@@ -5,6 +5,7 @@ ghost use Rattle.stateful_types.specs.Names.{Named};
 ghost use Rattle.stateful_types.specs.declared.digest.Digest.{Digest};
 ghost use Rattle.stateful_types.specs.declared.anchor.Anchor.{Anchor};
 ghost use Rattle.stateful_history.specs.Past.{Past};
+ghost use Rattle.stateful_history.specs.Known.{Known};
 ghost use Rattle.stateful_history.specs.declared.mark.Mark.TheVariants.{Verdict, Asked, Started};
 ghost use Rattle.stateful_history.specs.declared.mark.JobKind.TheVariants.{Candidate};
 ghost use Rattle.stateful_actor.specs.Workings.{workings};
@@ -101,7 +102,7 @@ fn begin<A: Application>(
     databases: &mut A::Databases,
     parent: Digest,
 ) -> Result<OpenBatch<A>, StepError>
-    ensures ok { IfOk result (λ batches. (stored : ℕ → Option (Named A.Block)) (p : Past A.Block A.Context A.Input) (at : Place ((workings A.Block.header A.meaning A.Databases.kind A.Databases.members A.Databases.next A.runs A.Databases.shows) stored)) (ids : Digest → A.Databases.Ids) → IsAt ((workings A.Block.header A.meaning A.Databases.kind A.Databases.members A.Databases.next A.runs A.Databases.shows) stored) databases.old at → A.Databases.kind.issued at.next (at.point ∷ []) → Caches ((workings A.Block.header A.meaning A.Databases.kind A.Databases.members A.Databases.next A.runs A.Databases.shows) stored) p at ids anchor.digest cache.now → BegunOn ((workings A.Block.header A.meaning A.Databases.kind A.Databases.members A.Databases.next A.runs A.Databases.shows) stored) p (moved at (A.Databases.next databases.new)) ids anchor.digest A.Databases.opened batches parent) }
+    ensures ok { IfOk result (λ batches. (stored : ℕ → Option (Named A.Block)) (p : Past A.Block A.Context A.Input) (at : Place ((workings A.Block.header A.meaning A.Databases.kind A.Databases.members A.Databases.next A.runs A.Databases.shows) stored)) (ids : Digest → A.Databases.Ids) → IsAt ((workings A.Block.header A.meaning A.Databases.kind A.Databases.members A.Databases.next A.runs A.Databases.shows) stored) databases.old at → A.Databases.kind.issued at.next (at.point ∷ []) → Known ((workings A.Block.header A.meaning A.Databases.kind A.Databases.members A.Databases.next A.runs A.Databases.shows) stored).setting p anchor.digest → Caches ((workings A.Block.header A.meaning A.Databases.kind A.Databases.members A.Databases.next A.runs A.Databases.shows) stored) p at ids anchor.digest cache.now → BegunOn ((workings A.Block.header A.meaning A.Databases.kind A.Databases.members A.Databases.next A.runs A.Databases.shows) stored) p (moved at (A.Databases.next databases.new)) ids anchor.digest A.Databases.opened batches parent) }
     ensures members { A.Databases.members databases.new ≡ A.Databases.members databases.old }
     ensures keeps { (c : List (A.Databases.Ids × A.Databases.States)) → A.Databases.kind.issued (A.Databases.next databases.old) c → A.Databases.kind.issued (A.Databases.next databases.new) c }
 {
@@ -141,7 +142,7 @@ fn start<A: Application>(
     block: &Digested<A::Block>,
     parent: &Digested<A::Block>,
 ) -> Result<A::Run, StepError>
-    ensures ok { IfOk result (λ run. (stored : ℕ → Option (Named A.Block)) (p : Past A.Block A.Context A.Input) (at : Place ((workings A.Block.header A.meaning A.Databases.kind A.Databases.members A.Databases.next A.runs A.Databases.shows) stored)) (ids : Digest → A.Databases.Ids) → parent.now.digest ≡ A.Block.header.parent block.now.block → IsAt ((workings A.Block.header A.meaning A.Databases.kind A.Databases.members A.Databases.next A.runs A.Databases.shows) stored) databases.old at → A.Databases.kind.issued at.next (at.point ∷ []) → Caches ((workings A.Block.header A.meaning A.Databases.kind A.Databases.members A.Databases.next A.runs A.Databases.shows) stored) p at ids anchor.digest core.now.cache → RunsOn ((workings A.Block.header A.meaning A.Databases.kind A.Databases.members A.Databases.next A.runs A.Databases.shows) stored) p (moved at (A.Databases.next databases.new)) ids anchor.digest run block.now) }
+    ensures ok { IfOk result (λ run. (stored : ℕ → Option (Named A.Block)) (p : Past A.Block A.Context A.Input) (at : Place ((workings A.Block.header A.meaning A.Databases.kind A.Databases.members A.Databases.next A.runs A.Databases.shows) stored)) (ids : Digest → A.Databases.Ids) → parent.now.digest ≡ A.Block.header.parent block.now.block → IsAt ((workings A.Block.header A.meaning A.Databases.kind A.Databases.members A.Databases.next A.runs A.Databases.shows) stored) databases.old at → A.Databases.kind.issued at.next (at.point ∷ []) → Known ((workings A.Block.header A.meaning A.Databases.kind A.Databases.members A.Databases.next A.runs A.Databases.shows) stored).setting p anchor.digest → Caches ((workings A.Block.header A.meaning A.Databases.kind A.Databases.members A.Databases.next A.runs A.Databases.shows) stored) p at ids anchor.digest core.now.cache → RunsOn ((workings A.Block.header A.meaning A.Databases.kind A.Databases.members A.Databases.next A.runs A.Databases.shows) stored) p (moved at (A.Databases.next databases.new)) ids anchor.digest run block.now) }
     ensures members { A.Databases.members databases.new ≡ A.Databases.members databases.old }
     ensures keeps { (c : List (A.Databases.Ids × A.Databases.States)) → A.Databases.kind.issued (A.Databases.next databases.old) c → A.Databases.kind.issued (A.Databases.next databases.new) c }
 {
@@ -163,6 +164,7 @@ fn run<A: Application>(
     marks: &mut Vec<Mark<A::Block>>,
 ) -> Result<(), StepError>
     ensures ok { OnOk result ((stored : ℕ → Option (Named A.Block)) (p : Past A.Block A.Context A.Input) (at : Place ((workings A.Block.header A.meaning A.Databases.kind A.Databases.members A.Databases.next A.runs A.Databases.shows) stored)) → StartsRun {C = A.Context} {I = A.Input} ((workings A.Block.header A.meaning A.Databases.kind A.Databases.members A.Databases.next A.runs A.Databases.shows) stored) p at anchor ticket block.now parent.now core.old core.new databases.old databases.new marks.old.items marks.new.items) }
+    ensures rest { OnOk result (core.new ≡ record core.old { runs = core.new.runs; next_job = core.new.next_job }) }
     ensures members { A.Databases.members databases.new ≡ A.Databases.members databases.old }
     ensures keeps { (c : List (A.Databases.Ids × A.Databases.States)) → A.Databases.kind.issued (A.Databases.next databases.old) c → A.Databases.kind.issued (A.Databases.next databases.new) c }
 {
