@@ -1,4 +1,4 @@
--- What an answer leaves out.
+-- What a test that decides a fact shows.
 use Rattle.std.proofs.Common.{◌≡◌, ◌↔◌, Bool, true, false, sym, subst, IsTrue}
 
 -- a test that is false refutes what it decides

@@ -1,12 +1,12 @@
 -- How a block is judged, how a run of it starts, and what leaves the agreement with the databases as it is.
-use Rattle.std.proofs.Common.{◌≡◌, ◌≢◌, ◌↔◌, ◌<◌, ◌⊎◌, inl, inr, ◌++◌, ℕ, List, [], ◌∷◌, All, Any, Option, None, Some, Bool, true, false, refl, sym, ◌∙◌, ap, subst, IsTrue, OnOk, Result, Ok, Err}
+use Rattle.std.proofs.Common.{◌≡◌, ◌≢◌, ◌↔◌, ◌<◌, inl, inr, ◌++◌, ℕ, List, [], ◌∷◌, Option, Some, Bool, false, refl, sym, ◌∙◌, ap, subst, IsTrue, OnOk, Result, Ok, Err}
 use Rattle.std.specs.List.{Contains}
 use Rattle.stateful_types.specs.Names.{Header, Named}
 use Rattle.stateful_types.specs.declared.digest.Digest.{Digest}
 use Rattle.stateful_types.specs.declared.anchor.Anchor.{Anchor}
 use Rattle.stateful_types.specs.declared.outcome.Finality.TheVariants.{Candidate}
 use Rattle.stateful_db.specs.Databases.{Databases}
-use Rattle.stateful_history.specs.Setting.{Setting, parent_of}
+use Rattle.stateful_history.specs.Setting.{parent_of}
 use Rattle.stateful_history.specs.Past.{Past}
 use Rattle.stateful_history.specs.Known.{Known}
 use Rattle.stateful_actor.specs.Workings.{Workings}
@@ -22,7 +22,7 @@ use Rattle.stateful_actor.specs.declared.verify.Judgement.{Judgement}
 use Rattle.stateful_actor.specs.declared.verify.Judgement.TheVariants.{Valid, Invalid, Waits, Open}
 
 module _ {B U : Type 0} (header : Header B) (anchor : Anchor) (cache : List (Cached U)) (stored : ℕ → Option (Named B)) (b : Named B) where
-  -- a cached block is valid
+  -- whether a block is cached, by its digest
   pub IsIn-same : (d : Digest) → d ≡ b.digest → IsIn cache d → IsIn cache b.digest
   IsIn-same d e i = subst (λ (x : Digest). IsIn cache x) e i
 
@@ -48,14 +48,17 @@ module _ {Ids S T B R H U : Type 0} (d : Databases Ids S T) (header : Header B) 
   pub Sound-same : (m n : d.Members) (old new : Core B R H U) → n ≡ m → new.anchor ≡ old.anchor → new.durability ≡ old.durability → new.barrier ≡ old.barrier → new.front ≡ old.front → Sound d m header old → Sound d n header new
   Sound-same m n old new em ea ed eb ef s anchor is = rw (em, ed, eb, ef) (s anchor (sym ea ∙ is))
 
+  -- after a run was started
   pub Sound-runs : {T' E : Type 0} (r : Result T' E) (m n : d.Members) (old new : Core B R H U) → n ≡ m → OnOk r (new ≡ record old { runs = new.runs; next_job = new.next_job }) → Sound d m header old → OnOk r (Sound d n header new)
   Sound-runs (Ok x) m n old new em e s = Sound-same m n old new em (ap (λ (c : Core B R H U). c.anchor) e) (ap (λ (c : Core B R H U). c.durability) e) (ap (λ (c : Core B R H U). c.barrier) e) (ap (λ (c : Core B R H U). c.front) e) s
   Sound-runs (Err x) m n old new em e s = tt
 
+  -- after a fetch was asked for
   pub Sound-fetch : {T' E : Type 0} (r : Result T' E) (m : d.Members) (old new : Core B R H U) (k : ℕ) → OnOk r (new ≡ record old { next_fetch = k }) → Sound d m header old → OnOk r (Sound d m header new)
   Sound-fetch (Ok x) m old new k e s = Sound-same m m old new refl (ap (λ (c : Core B R H U). c.anchor) e) (ap (λ (c : Core B R H U). c.durability) e) (ap (λ (c : Core B R H U). c.barrier) e) (ap (λ (c : Core B R H U). c.front) e) s
   Sound-fetch (Err x) m old new k e s = tt
 
+  -- with another cache
   pub Sound-cache : {T' E : Type 0} (r : Result T' E) (m : d.Members) (old new : Core B R H U) → OnOk r (new ≡ record old { cache = new.cache }) → Sound d m header old → OnOk r (Sound d m header new)
   Sound-cache (Ok x) m old new e s = Sound-same m m old new refl (ap (λ (c : Core B R H U). c.anchor) e) (ap (λ (c : Core B R H U). c.durability) e) (ap (λ (c : Core B R H U). c.barrier) e) (ap (λ (c : Core B R H U). c.front) e) s
   Sound-cache (Err x) m old new e s = tt
@@ -65,10 +68,12 @@ module _ {B D R U : Type 0} (w : Workings B D R U) (point : w.Ids × w.States) (
   abbrev Cut : Digest → List (w.Ids × w.States) → Type 0
   Cut d c = (above : List (w.Ids × w.States)) × (older : List (w.Ids × w.States)) × (c ≡ above ++ point ∷ older) × Stacked w point ids P L first d (above ++ point ∷ [])
 
+  -- one block further
   longer : (b : Named B) (i : w.Ids) (t : w.States) (q : w.Ids × w.States) (c above older : List (w.Ids × w.States)) → q ∷ c ≡ above ++ point ∷ older → Stacked w point ids P L first (parent_of w.setting b) (above ++ point ∷ []) → P (parent_of w.setting b) → b.digest ≢ first → i ≡ ids b.digest → L q.1 b t → Stacked w point ids P L first b.digest ((i, t) ∷ above ++ point ∷ [])
   longer b i t q c [] older e s k ne ie l = let same : q ≡ point = cc in further s k ne ie (subst (λ (x : w.Ids × w.States). L x.1 b t) same l)
   longer b i t q c (y ∷ ys) older e s k ne ie l = let same : q ≡ y = cc in further s k ne ie (subst (λ (x : w.Ids × w.States). L x.1 b t) same l)
 
+  -- a chain can be cut at the point
   Stacked-cut : {d : Digest} {c : List (w.Ids × w.States)} → Stacked w point ids P L first d c → Cut d c
   Stacked-cut (here {at = at} {older = older} e) = ([], older, ap (λ (x : w.Ids × w.States). x ∷ older) e, here refl)
   Stacked-cut (further {b = b} {i = i} {t = t} {q = q} {c = c} s k ne ie l) =

@@ -1,5 +1,5 @@
 use Rattle.stateful_actor.proofs.Verifying.{RunsOn-begun}
-use Rattle.std.proofs.Common.{sym, ◌∙◌}
+use Rattle.std.proofs.Common.{◌∙◌}
 use Rattle.stateful_actor.proofs.verify.start.Goals as goal
 
 pub returns-clause-ok : goal.returns-clause-ok
