@@ -43,16 +43,18 @@ fn target_in(targets: &[Target]) -> Target
 }
 
 impl Application for Bank {
-    ghost use Rattle.std.specs.Prelude.{◌≡◌, ◌≤◌, ◌∷◌, ℕ, List, Some, IsOk, IfOk, IsErrOf};
+    ghost use Rattle.std.specs.Prelude.{◌≡◌, ◌≤◌, ◌-◌, [], ◌∷◌, ℕ, List, Some, IsOk, IfOk, IsErrOf};
     ghost use Rattle.stateful_types.specs.Causes.{Rose};
     ghost use Rattle.stateful_types.specs.declared.outcome.Finality.{Finality};
     ghost use Rattle.stateful_db.specs.Chain.{IsPoint};
     ghost use Rattle.stateful_db.specs.Meaning.{outcome, Ends};
     ghost use Rattle.stateful_bank.specs.declared.block.BankBlock.{BankBlock};
     ghost use Rattle.stateful_bank.specs.Balances.{run_turns};
-    ghost use Rattle.stateful_plain.specs.Whole.{Whole, begun};
+    ghost use Rattle.stateful_bank.specs.BankBlock.{genesis_block};
+    ghost use Rattle.stateful_plain.specs.Whole.{Whole, begun, initial, target_of};
     ghost use Rattle.stateful_plain.specs.Shown.{DraftShows, SealShows};
     ghost use Rattle.stateful_plain_bank.specs.Stepped.{bank_meaning};
+    ghost use Rattle.stateful_plain_bank.specs.Hooks.{IsHook, GoesOn};
     ghost use Rattle.stateful_plain_bank.specs.Runs.{RunsOn, Turned, counted};
 
     type Context = Round;
@@ -80,7 +82,11 @@ impl Application for Bank {
         target_in(block.targets.as_slice())
     }
 
-    fn genesis(&mut self) -> Result<BankBlock, AppFault> {
+    fn genesis(&mut self) -> Result<BankBlock, AppFault>
+        ensures block { IfOk result (λ b. b ≡ genesis_block (target_of initial ∷ [])) }
+        ensures height { IfOk result (λ b. b.height.0 ≡ 0) }
+        ensures failed { IsErrOf result AppFault.Failed → ⊥ }
+    {
         let mut targets = Items::new(self.alloc);
         match targets.push(Plain::initial_sync_target()) {
             Ok(()) => Ok(BankBlock::genesis(self.alloc, targets)),
@@ -128,7 +134,9 @@ impl Application for Bank {
         _block: &BankBlock,
         _batches: &PlainMerkleized,
         _databases: &Held<Plain>,
-    ) -> Result<(), AppFault> {
+    ) -> Result<(), AppFault>
+        ensures { IsOk result }
+    {
         Ok(())
     }
 
@@ -138,11 +146,18 @@ impl Application for Bank {
         block: &BankBlock,
         _captured: (),
         _databases: &Held<Plain>,
-    ) -> Result<Hooked<BankHook>, AppFault> {
+    ) -> Result<Hooked<BankHook>, AppFault>
+        ensures ok { IsOk result }
+        ensures hook { IfOk result (λ hooked. IsHook hooked block.now.slow) }
+    {
         Ok(hook_of(block.slow))
     }
 
-    fn turn_hook(hook: &mut BankHook, _databases: &Held<Plain>) -> Result<Moved<()>, AppFault> {
+    fn turn_hook(hook: &mut BankHook, _databases: &Held<Plain>) -> Result<Moved<()>, AppFault>
+        ensures ok { IsOk result }
+        ensures left { hook.new.left ≡ hook.old.left - 1 }
+        ensures goes_on { IfOk result (λ moved. GoesOn moved hook.new.left) }
+    {
         Ok(turn_hook(hook))
     }
 }
