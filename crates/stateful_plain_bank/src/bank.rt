@@ -18,8 +18,10 @@ pub struct Bank {
 }
 
 impl Bank {
-    /// A bank.
-    pub fn new(alloc: Global) -> Bank {
+    /// A bank without faults.
+    pub fn new(alloc: Global) -> Bank
+        ensures { ⟦<Bank as Faulty>⟧.count result ≡ 0 }
+    {
         Bank { alloc }
     }
 }
