@@ -14,9 +14,6 @@ module _ {X : Type 0} (P : X → Type 0) where
   pub Any-at : (xs : List X) (i : ℕ) (d : X) → i < length xs → P (get_or xs i d) → Any P xs
   Any-at xs i d h p = (i, get_or xs i d, h, get_or_default xs i (get_or xs i d) d h, p)
 
-  pub Any-from_take : (xs : List X) (n : ℕ) → Any P (take n xs) → Any P xs
-  Any-from_take xs n (k, x, h, e, p) = (k, x, omega (arith, length-take n xs), sym (get_or-take n xs k x (omega (arith, length-take n xs))) ∙ e, p)
-
   pub Any-more : (xs : List X) (n : ℕ) → Any P (take n xs) → Any P (take (n + 1) xs)
   Any-more xs n (k, x, h, e, p) =
       let below : k < n = omega (arith, length-take n xs) in

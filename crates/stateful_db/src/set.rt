@@ -237,3 +237,17 @@ pub trait DatabaseSet: Sized {
 
     ghost laws: { Laws kind };
 }
+
+#[cfg(test)]
+mod tests {
+    use super::*;
+    use std::test::Fail;
+
+    #[test]
+    fn a_fault_is_told_with_its_database_and_its_call(rt: HostRuntime) -> Result<(), Fail> {
+        let call = DbCall::Apply;
+        let text = SetError::DatabaseFault { index: 3, call }.to_string(rt.alloc())?;
+        assert_eq!(rt; text.as_str(), "database 3 failed at Apply");
+        Ok(())
+    }
+}
