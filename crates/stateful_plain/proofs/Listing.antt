@@ -1,5 +1,5 @@
 -- listed calls
-use Rattle.std.proofs.Common.{◌≡◌, ℕ, List, [], ◌+◌, subst, arith, Contains}
+use Rattle.std.proofs.Common.{◌≡◌, ℕ, List, [], subst, arith, Contains}
 use Rattle.stateful_db.specs.declared.database.DbCall.{DbCall}
 use Rattle.stateful_plain.specs.Called.{IsListed, number_of}
 use Rattle.stateful_plain.specs.declared.calls.Calls.{Calls}

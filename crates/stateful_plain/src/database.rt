@@ -19,7 +19,8 @@ use stateful_types::{Digest, Faulty, Location, OutOfMemory, Target};
 use std::collections::BTreeMap;
 use std::ops::Range;
 
-/// The id of the last applied batch, the place of the token that is out, and the medium that it was opened on.
+/// A database from numbers to numbers, each of 64 bits: the id of the last applied batch, the place of the token that
+/// is out, and the medium that it was opened on.
 #[derive(Drop)]
 pub struct Plain {
     pub(crate) id: u64,
@@ -43,7 +44,7 @@ impl Plain {
         size.saturating_sub(1)..size
     }
 
-    /// The entries of the newest state.
+    /// The entries of the newest state, by ascending key.
     pub fn entries(&self) -> &BTreeMap<u64, u64>
         ensures { result.now.entries ≡ (standing_of self.now).disk.newest.entries }
     {

@@ -10,7 +10,7 @@ use std::alloc::Global;
 use std::collections::BTreeMap;
 use std::marker::Model;
 
-/// The end of the range, and the entries.
+/// A checkpoint: the end of its range, and its entries.
 #[derive(Drop)]
 pub struct PlainState {
     size: u64,
@@ -47,6 +47,7 @@ impl PlainState {
         self.size
     }
 
+    /// The entries, by ascending key.
     pub fn entries(&self) -> &BTreeMap<u64, u64>
         ensures { result.now.entries ≡ self.now.entries }
     {

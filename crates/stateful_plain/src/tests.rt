@@ -3,7 +3,9 @@
 ghost use Rattle.std.specs.Prelude.{◌≡◌, None};
 
 use crate::{Plain, PlainMedium, PlainUnmerkleized};
-use stateful_db::{BatchError, DbCall, InitError, ManagedDb, Merkleized, Unmerkleized};
+use stateful_db::{
+    BatchError, DatabaseSet, DbCall, Held, InitError, ManagedDb, Merkleized, Unmerkleized,
+};
 use stateful_types::{Digest, Faulty, Location, Target};
 use std::alloc::{AllocError, Global};
 use std::collections::BTreeMap;
@@ -31,6 +33,12 @@ const WITH_3: Target = Target {
     start: Location(1),
     end: Location(2),
 };
+
+/// SHA-256 of the numbers 3, 3 and 7, by Python's hashlib.
+const AGAIN_WITH_3: Digest = Digest([
+    0xbd, 0x16, 0xee, 0x26, 0x88, 0x50, 0xce, 0x7e, 0x99, 0x2b, 0x80, 0xad, 0xc0, 0xc7, 0x2b, 0x0d,
+    0x79, 0x82, 0x4d, 0x10, 0x8d, 0x13, 0x88, 0x28, 0x9f, 0xfc, 0xa1, 0xa2, 0xfe, 0x62, 0x07, 0x78,
+]);
 
 /// A database over the empty state, of whose calls these fail.
 fn empty(rt: &impl Abort, alloc: Global, failing: &[(DbCall, u64)]) -> Result<Plain, AllocError> {
@@ -81,6 +89,19 @@ fn a_child_reads_below(rt: HostRuntime) -> Result<(), Fail> {
     let child = parent.new_batch(2)?;
     assert_eq!(rt; child.get(&db, 3)?, Some(7));
     assert_eq!(rt; child.write(3, None)?.get(&db, 3)?, None);
+    Ok(())
+}
+
+#[test]
+fn a_fork_outlives_its_parent(rt: HostRuntime) -> Result<(), Fail> {
+    let medium = PlainMedium::empty(rt.alloc(), Vec::new(rt.alloc()));
+    let mut database: Held<Plain> = Held::Closed(medium);
+    database.init(&(), None)?;
+    let parent = database.new_batches()?.write(3, Some(7))?;
+    let parent = database.seal(parent)?;
+    let child = database.fork_batches(&parent)?;
+    database.apply(parent)?;
+    assert_eq!(rt; database.seal(child)?.root(), AGAIN_WITH_3);
     Ok(())
 }
 
