@@ -37,6 +37,10 @@ abbrev pub EachRun : BankRun → ℕ × Whole → (Finality → BankBlock → �
 EachRun run at Holds =
     (finality : Finality) (block : BankBlock) (id : ℕ) (p : ℕ × Whole) (c : List (ℕ × Whole)) → IsRun run finality block id p c → IsPoint at (p ∷ c) → Holds finality block id p c
 
+-- the same where the database may be away
+abbrev pub EachRunAt : BankRun → Option (ℕ × Whole) → (Finality → BankBlock → ℕ → ℕ × Whole → List (ℕ × Whole) → Type 0) → Type 0
+EachRunAt run place Holds = (at : ℕ × Whole) → place ≡ Some at → EachRun run at Holds
+
 -- a candidate that isn't acceptable
 abbrev pub IsRejected : Finality → List Op → Type 0
 IsRejected Candidate ops = accept ops ≡ false

@@ -57,7 +57,7 @@ impl Application for Bank {
     ghost use Rattle.stateful_plain.specs.Shown.{DraftShows, SealShows};
     ghost use Rattle.stateful_plain_bank.specs.Stepped.{bank_meaning};
     ghost use Rattle.stateful_plain_bank.specs.Hooks.{IsHook, GoesOn};
-    ghost use Rattle.stateful_plain_bank.specs.Runs.{RunsOn, EachRun, IsSealed, Turned, counted};
+    ghost use Rattle.stateful_plain_bank.specs.Runs.{RunsOn, EachRunAt, IsSealed, Turned, counted};
 
     type Context = Round;
 
@@ -116,15 +116,17 @@ impl Application for Bank {
         databases: &Held<Plain>,
     ) -> Result<Moved<Option<PlainMerkleized>>, AppFault>
         ensures ok { IfOk result (λ moved. (f : Finality) (b : BankBlock) (i : ℕ) (p q : ℕ × Whole) (c : List (ℕ × Whole)) → RunsOn run.old f b i (p ∷ c) → ⟦<Held<Plain> as DatabaseSet>⟧.kind.point (⟦<Held<Plain> as DatabaseSet>⟧.members databases.now) ≡ Some q → IsPoint q (p ∷ c) → Ends moved (outcome bank_meaning f p.1 b) (λ m s. SealShows m ((i, s) ∷ p ∷ c)) (RunsOn run.new f b i (p ∷ c))) }
-        ensures turns { IfOk result (λ moved. (q : ℕ × Whole) → ⟦<Held<Plain> as DatabaseSet>⟧.kind.point (⟦<Held<Plain> as DatabaseSet>⟧.members databases.now) ≡ Some q →
-            EachRun run.old q (λ f b i p c.
-            Turned moved (run_turns p.1.entries b.ops) run.old.done run.new.done)) }
+        ensures turns { IfOk result (λ moved.
+            EachRunAt run.old (⟦<Held<Plain> as DatabaseSet>⟧.kind.point (⟦<Held<Plain> as DatabaseSet>⟧.members databases.now))
+            (λ f b i p c. Turned moved (run_turns p.1.entries b.ops) run.old.done run.new.done)) }
 
         // It fails exactly where the state would end at the last number, but for want of memory.
-        ensures exhausted { IsErrOf result AppFault.Failed → (q : ℕ × Whole) → ⟦<Held<Plain> as DatabaseSet>⟧.kind.point (⟦<Held<Plain> as DatabaseSet>⟧.members databases.now) ≡ Some q →
-            EachRun run.old q (λ f b i p c. 2 ^ 64 - 1 ≤ p.1.size + 1) }
-        ensures within { IfOk result (λ moved. IsSealed moved → (q : ℕ × Whole) → ⟦<Held<Plain> as DatabaseSet>⟧.kind.point (⟦<Held<Plain> as DatabaseSet>⟧.members databases.now) ≡ Some q →
-            EachRun run.old q (λ f b i p c. p.1.size + 1 < 2 ^ 64 - 1)) }
+        ensures exhausted { IsErrOf result AppFault.Failed →
+            EachRunAt run.old (⟦<Held<Plain> as DatabaseSet>⟧.kind.point (⟦<Held<Plain> as DatabaseSet>⟧.members databases.now))
+            (λ f b i p c. 2 ^ 64 - 1 ≤ p.1.size + 1) }
+        ensures within { IfOk result (λ moved. IsSealed moved →
+            EachRunAt run.old (⟦<Held<Plain> as DatabaseSet>⟧.kind.point (⟦<Held<Plain> as DatabaseSet>⟧.members databases.now))
+            (λ f b i p c. p.1.size + 1 < 2 ^ 64 - 1)) }
         ensures faults { run.new.faults ≡ counted result run.old.faults }
         ensures failed { IsErrOf result AppFault.Failed → Rose run.old.faults run.new.faults }
         ensures later { run.old.faults ≤ run.new.faults }

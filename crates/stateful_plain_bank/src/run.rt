@@ -116,11 +116,11 @@ impl BankRun {
         database: &Plain,
     ) -> Result<Moved<Option<PlainMerkleized>>, AppFault>
         ensures ok { IfOk result (λ moved.
-            EachRun self.old (point (standing_of database.now)) (λ f b i p c.
-            Ends moved (outcome bank_meaning f p.1 b) (λ m s. SealShows m ((i, s) ∷ p ∷ c)) (IsRun self.new f b i p c))) }
+            EachRun self.old (point (standing_of database.now))
+            (λ f b i p c. Ends moved (outcome bank_meaning f p.1 b) (λ m s. SealShows m ((i, s) ∷ p ∷ c)) (IsRun self.new f b i p c))) }
         ensures turns { IfOk result (λ moved.
-            EachRun self.old (point (standing_of database.now)) (λ f b i p c.
-            Turned moved (run_turns p.1.entries b.ops) self.old.done self.new.done)) }
+            EachRun self.old (point (standing_of database.now))
+            (λ f b i p c. Turned moved (run_turns p.1.entries b.ops) self.old.done self.new.done)) }
 
         // It fails exactly where the state would end at the last number, but for want of memory.
         ensures exhausted { IsErrOf result AppFault.Failed →

@@ -107,7 +107,6 @@ fn runs_blocks(rt: HostRuntime) -> Result<(), Fail> {
         assert_eq!(rt; turns, (ops.len() as u64).max(1));
         let sealed = sealed.expect(&rt, "a batch");
         assert_eq!(rt; sealed.root(), Digest(**root));
-        assert!(rt; state.size() < 10);
         state = step(&state, ops)
             .ok()
             .expect(&rt, "memory")
