@@ -12,7 +12,7 @@ use crate::op::Op;
 use stateful_types::{Block, Digest, Epoch, Height, Items, OutOfMemory, Round, Target, View};
 use std::alloc::{AllocError, Global};
 
-/// The most operations in a block.
+/// The most operations of a block that a script names or a build makes.
 pub const MAX_OPS: usize = 16;
 
 /// A block: operations at a height over a parent, and what they lead to. Its hook takes `slow` turns. There is one

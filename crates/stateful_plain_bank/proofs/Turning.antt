@@ -1,5 +1,5 @@
 -- One turn of a run.
-use Rattle.std.proofs.Common.{◌≡◌, ℕ, ◌+◌, ◌-◌, ◌^◌, ◌<◌, ◌≤◌, true, List, [], ◌∷◌, Option, Some, None, IsSomeAnd, take, drop, length, inr, refl, ap, sym, ◌∙◌, subst, arith}
+use Rattle.std.proofs.Common.{◌≡◌, ℕ, ◌+◌, ◌-◌, ◌^◌, ◌<◌, ◌≤◌, true, List, ◌∷◌, Option, Some, None, IsSomeAnd, take, drop, length, inr, refl, ap, sym, ◌∙◌, subst, arith}
 use Rattle.stateful_types.specs.declared.outcome.Finality.{Finality}
 use Rattle.stateful_types.specs.declared.outcome.Moved.TheVariants.{Done}
 use Rattle.stateful_db.specs.Chain.{IsPoint, has_id}
@@ -13,11 +13,16 @@ use Rattle.stateful_plain.specs.declared.batch.PlainUnmerkleized.{PlainUnmerklei
 use Rattle.stateful_plain.specs.declared.batch.PlainMerkleized.{PlainMerkleized}
 use Rattle.stateful_plain_bank.specs.Stepped.{bank_meaning}
 use Rattle.stateful_plain_bank.specs.Drafts.{Becomes}
-use Rattle.stateful_plain_bank.specs.Runs.{IsRun, IsRejected}
+use Rattle.stateful_plain_bank.specs.Runs.{IsRun, EachRun, IsRejected}
 use Rattle.stateful_plain_bank.specs.declared.run.BankRun.{BankRun}
 use Rattle.stateful_plain_bank.proofs.Points.{has_point}
 use Rattle.stateful_plain_bank.proofs.Doing.{do_ops-next, do_ops-last, do_ops-refused, turns_refused, turns_last, turns_more}
 use Rattle.stateful_plain_bank.proofs.Outcomes.{outcome_refused, outcome_allowed}
+
+-- the same over an equal point
+pub at_point : (run : BankRun) (at q : ℕ × Whole) (Holds : Finality → BankBlock → ℕ → ℕ × Whole → List (ℕ × Whole) → Type 0) → at ≡ q → EachRun run at Holds → EachRun run q Holds
+at_point run at q Holds same each =
+    λ finality b id p c is here. each finality b id p c is (subst (λ z. IsPoint z (p ∷ c)) (sym same) here)
 
 -- the batch after the operation of this number, over a database whose last batch has this id
 abbrev pub IsNext : Option PlainUnmerkleized → PlainUnmerkleized → ℕ → List Op → ℕ → Type 0

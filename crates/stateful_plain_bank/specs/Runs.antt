@@ -4,6 +4,7 @@ use Rattle.stateful_types.specs.declared.outcome.Finality.{Finality}
 use Rattle.stateful_types.specs.declared.outcome.Finality.TheVariants.{Candidate, Finalized}
 use Rattle.stateful_types.specs.declared.outcome.Moved.{Moved}
 use Rattle.stateful_types.specs.declared.outcome.Moved.TheVariants.{Pending, Done}
+use Rattle.stateful_db.specs.Chain.{IsPoint}
 use Rattle.stateful_db.specs.declared.application.AppFault.{AppFault}
 use Rattle.stateful_db.specs.declared.application.AppFault.TheVariants.{Failed, OutOfMemory}
 use Rattle.stateful_bank.specs.declared.op.Op.{Op}
@@ -30,6 +31,15 @@ pub record IsRun (run : BankRun) (finality : Finality) (block : BankBlock) (id :
 abbrev pub RunsOn : BankRun → Finality → BankBlock → ℕ → List (ℕ × Whole) → Type 0
 RunsOn run finality block id [] = ⊥
 RunsOn run finality block id (p ∷ c) = IsRun run finality block id p c
+
+-- what holds of each run that it may be, where the database is at this point of its chain
+abbrev pub EachRun : BankRun → ℕ × Whole → (Finality → BankBlock → ℕ → ℕ × Whole → List (ℕ × Whole) → Type 0) → Type 0
+EachRun run at Holds =
+    (finality : Finality) (block : BankBlock) (id : ℕ) (p : ℕ × Whole) (c : List (ℕ × Whole)) → IsRun run finality block id p c → IsPoint at (p ∷ c) → Holds finality block id p c
+
+-- the same where the database may be away
+abbrev pub EachRunAt : BankRun → Option (ℕ × Whole) → (Finality → BankBlock → ℕ → ℕ × Whole → List (ℕ × Whole) → Type 0) → Type 0
+EachRunAt run place Holds = (at : ℕ × Whole) → place ≡ Some at → EachRun run at Holds
 
 -- a candidate that isn't acceptable
 abbrev pub IsRejected : Finality → List Op → Type 0

@@ -18,8 +18,10 @@ pub struct Bank {
 }
 
 impl Bank {
-    /// A bank.
-    pub fn new(alloc: Global) -> Bank {
+    /// A bank without faults.
+    pub fn new(alloc: Global) -> Bank
+        ensures { ⟦<Bank as Faulty>⟧.count result ≡ 0 }
+    {
         Bank { alloc }
     }
 }
@@ -43,17 +45,19 @@ fn target_in(targets: &[Target]) -> Target
 }
 
 impl Application for Bank {
-    ghost use Rattle.std.specs.Prelude.{◌≡◌, ◌≤◌, ◌∷◌, ℕ, List, Some, IsOk, IfOk, IsErrOf};
+    ghost use Rattle.std.specs.Prelude.{◌≡◌, ◌≤◌, ◌<◌, ◌+◌, ◌-◌, ◌^◌, [], ◌∷◌, ℕ, List, Some, IsOk, IfOk, IsErrOf};
     ghost use Rattle.stateful_types.specs.Causes.{Rose};
     ghost use Rattle.stateful_types.specs.declared.outcome.Finality.{Finality};
     ghost use Rattle.stateful_db.specs.Chain.{IsPoint};
     ghost use Rattle.stateful_db.specs.Meaning.{outcome, Ends};
     ghost use Rattle.stateful_bank.specs.declared.block.BankBlock.{BankBlock};
     ghost use Rattle.stateful_bank.specs.Balances.{run_turns};
-    ghost use Rattle.stateful_plain.specs.Whole.{Whole, begun};
+    ghost use Rattle.stateful_bank.specs.BankBlock.{genesis_block};
+    ghost use Rattle.stateful_plain.specs.Whole.{Whole, begun, initial, target_of};
     ghost use Rattle.stateful_plain.specs.Shown.{DraftShows, SealShows};
     ghost use Rattle.stateful_plain_bank.specs.Stepped.{bank_meaning};
-    ghost use Rattle.stateful_plain_bank.specs.Runs.{RunsOn, Turned, counted};
+    ghost use Rattle.stateful_plain_bank.specs.Hooks.{IsHook, GoesOn};
+    ghost use Rattle.stateful_plain_bank.specs.Runs.{RunsOn, EachRunAt, IsSealed, Turned, counted};
 
     type Context = Round;
 
@@ -80,7 +84,11 @@ impl Application for Bank {
         target_in(block.targets.as_slice())
     }
 
-    fn genesis(&mut self) -> Result<BankBlock, AppFault> {
+    fn genesis(&mut self) -> Result<BankBlock, AppFault>
+        ensures block { IfOk result (λ b. b ≡ genesis_block (target_of initial ∷ [])) }
+        ensures height { IfOk result (λ b. b.height.0 ≡ 0) }
+        ensures failed { IsErrOf result AppFault.Failed → ⊥ }
+    {
         let mut targets = Items::new(self.alloc);
         match targets.push(Plain::initial_sync_target()) {
             Ok(()) => Ok(BankBlock::genesis(self.alloc, targets)),
@@ -108,7 +116,17 @@ impl Application for Bank {
         databases: &Held<Plain>,
     ) -> Result<Moved<Option<PlainMerkleized>>, AppFault>
         ensures ok { IfOk result (λ moved. (f : Finality) (b : BankBlock) (i : ℕ) (p q : ℕ × Whole) (c : List (ℕ × Whole)) → RunsOn run.old f b i (p ∷ c) → ⟦<Held<Plain> as DatabaseSet>⟧.kind.point (⟦<Held<Plain> as DatabaseSet>⟧.members databases.now) ≡ Some q → IsPoint q (p ∷ c) → Ends moved (outcome bank_meaning f p.1 b) (λ m s. SealShows m ((i, s) ∷ p ∷ c)) (RunsOn run.new f b i (p ∷ c))) }
-        ensures turns { IfOk result (λ moved. (f : Finality) (b : BankBlock) (i : ℕ) (p q : ℕ × Whole) (c : List (ℕ × Whole)) → RunsOn run.old f b i (p ∷ c) → ⟦<Held<Plain> as DatabaseSet>⟧.kind.point (⟦<Held<Plain> as DatabaseSet>⟧.members databases.now) ≡ Some q → IsPoint q (p ∷ c) → Turned moved (run_turns p.1.entries b.ops) run.old.done run.new.done) }
+        ensures turns { IfOk result (λ moved.
+            EachRunAt run.old (⟦<Held<Plain> as DatabaseSet>⟧.kind.point (⟦<Held<Plain> as DatabaseSet>⟧.members databases.now))
+            (λ f b i p c. Turned moved (run_turns p.1.entries b.ops) run.old.done run.new.done)) }
+
+        // It fails exactly where the state would end at the last number, but for want of memory.
+        ensures exhausted { IsErrOf result AppFault.Failed →
+            EachRunAt run.old (⟦<Held<Plain> as DatabaseSet>⟧.kind.point (⟦<Held<Plain> as DatabaseSet>⟧.members databases.now))
+            (λ f b i p c. 2 ^ 64 - 1 ≤ p.1.size + 1) }
+        ensures within { IfOk result (λ moved. IsSealed moved →
+            EachRunAt run.old (⟦<Held<Plain> as DatabaseSet>⟧.kind.point (⟦<Held<Plain> as DatabaseSet>⟧.members databases.now))
+            (λ f b i p c. p.1.size + 1 < 2 ^ 64 - 1)) }
         ensures faults { run.new.faults ≡ counted result run.old.faults }
         ensures failed { IsErrOf result AppFault.Failed → Rose run.old.faults run.new.faults }
         ensures later { run.old.faults ≤ run.new.faults }
@@ -128,7 +146,9 @@ impl Application for Bank {
         _block: &BankBlock,
         _batches: &PlainMerkleized,
         _databases: &Held<Plain>,
-    ) -> Result<(), AppFault> {
+    ) -> Result<(), AppFault>
+        ensures { IsOk result }
+    {
         Ok(())
     }
 
@@ -138,11 +158,18 @@ impl Application for Bank {
         block: &BankBlock,
         _captured: (),
         _databases: &Held<Plain>,
-    ) -> Result<Hooked<BankHook>, AppFault> {
+    ) -> Result<Hooked<BankHook>, AppFault>
+        ensures ok { IsOk result }
+        ensures hook { IfOk result (λ hooked. IsHook hooked block.now.slow) }
+    {
         Ok(hook_of(block.slow))
     }
 
-    fn turn_hook(hook: &mut BankHook, _databases: &Held<Plain>) -> Result<Moved<()>, AppFault> {
+    fn turn_hook(hook: &mut BankHook, _databases: &Held<Plain>) -> Result<Moved<()>, AppFault>
+        ensures ok { IsOk result }
+        ensures left { hook.new.left ≡ hook.old.left - 1 }
+        ensures goes_on { IfOk result (λ moved. GoesOn moved hook.new.left) }
+    {
         Ok(turn_hook(hook))
     }
 }

@@ -11,3 +11,6 @@ pub use bank::Bank;
 pub use hook::BankHook;
 pub use run::BankRun;
 pub use state::step;
+
+#[cfg(test)]
+mod tests;

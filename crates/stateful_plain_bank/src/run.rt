@@ -4,15 +4,13 @@ ghost use Rattle.std.specs.Prelude.{◌≡◌, ℕ, ◌+◌, ◌-◌, ◌^◌, �
 ghost use Rattle.stateful_db.specs.Chain.{has_id, IsPoint};
 ghost use Rattle.stateful_db.specs.Disk.{point};
 ghost use Rattle.stateful_db.specs.Meaning.{outcome, Ends};
-ghost use Rattle.stateful_types.specs.declared.outcome.Finality.{Finality};
-ghost use Rattle.stateful_bank.specs.declared.block.BankBlock.{BankBlock};
 ghost use Rattle.stateful_bank.specs.Balances.{do_ops, run_turns};
 ghost use Rattle.stateful_plain.specs.Whole.{Whole, begun};
 ghost use Rattle.stateful_plain.specs.Stored.{standing_of};
 ghost use Rattle.stateful_plain.specs.Shown.{DraftShows, SealShows};
 ghost use Rattle.stateful_plain_bank.specs.Stepped.{bank_meaning};
 ghost use Rattle.stateful_plain_bank.specs.Drafts.{Becomes};
-ghost use Rattle.stateful_plain_bank.specs.Runs.{RunsOn, IsRejected, IsSealed, Turned, counted};
+ghost use Rattle.stateful_plain_bank.specs.Runs.{IsRun, RunsOn, EachRun, IsRejected, IsSealed, Turned, counted};
 
 use crate::draft::do_op;
 use stateful_bank::{BankBlock, Op, is_acceptable};
@@ -117,10 +115,18 @@ impl BankRun {
         &mut self,
         database: &Plain,
     ) -> Result<Moved<Option<PlainMerkleized>>, AppFault>
-        ensures ok { IfOk result (λ moved. (f : Finality) (b : BankBlock) (i : ℕ) (p : ℕ × Whole) (c : List (ℕ × Whole)) → RunsOn self.old f b i (p ∷ c) → IsPoint (point (standing_of database.now)) (p ∷ c) → Ends moved (outcome bank_meaning f p.1 b) (λ m s. SealShows m ((i, s) ∷ p ∷ c)) (RunsOn self.new f b i (p ∷ c))) }
-        ensures turns { IfOk result (λ moved. (f : Finality) (b : BankBlock) (i : ℕ) (p : ℕ × Whole) (c : List (ℕ × Whole)) → RunsOn self.old f b i (p ∷ c) → IsPoint (point (standing_of database.now)) (p ∷ c) → Turned moved (run_turns p.1.entries b.ops) self.old.done self.new.done) }
-        ensures exhausted { (f : Finality) (b : BankBlock) (i : ℕ) (p : ℕ × Whole) (c : List (ℕ × Whole)) → RunsOn self.old f b i (p ∷ c) → IsPoint (point (standing_of database.now)) (p ∷ c) → IsErrOf result AppFault.Failed → 2 ^ 64 - 1 ≤ p.1.size + 1 }
-        ensures within { IfOk result (λ moved. (f : Finality) (b : BankBlock) (i : ℕ) (p : ℕ × Whole) (c : List (ℕ × Whole)) → RunsOn self.old f b i (p ∷ c) → IsPoint (point (standing_of database.now)) (p ∷ c) → IsSealed moved → p.1.size + 1 < 2 ^ 64 - 1) }
+        ensures ok { IfOk result (λ moved.
+            EachRun self.old (point (standing_of database.now))
+            (λ f b i p c. Ends moved (outcome bank_meaning f p.1 b) (λ m s. SealShows m ((i, s) ∷ p ∷ c)) (IsRun self.new f b i p c))) }
+        ensures turns { IfOk result (λ moved.
+            EachRun self.old (point (standing_of database.now))
+            (λ f b i p c. Turned moved (run_turns p.1.entries b.ops) self.old.done self.new.done)) }
+
+        // It fails exactly where the state would end at the last number, but for want of memory.
+        ensures exhausted { IsErrOf result AppFault.Failed →
+            EachRun self.old (point (standing_of database.now)) (λ f b i p c. 2 ^ 64 - 1 ≤ p.1.size + 1) }
+        ensures within { IfOk result (λ moved. IsSealed moved →
+            EachRun self.old (point (standing_of database.now)) (λ f b i p c. p.1.size + 1 < 2 ^ 64 - 1)) }
         ensures faults { self.new.faults ≡ counted result self.old.faults }
         ensures later { self.old.faults ≤ self.new.faults }
     {

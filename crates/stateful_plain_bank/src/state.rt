@@ -1,19 +1,22 @@
 //! States without a database.
 
-ghost use Rattle.std.specs.Prelude.{◌≡◌, ◌+◌, ◌^◌, ◌<◌, IfOk};
+ghost use Rattle.std.specs.Prelude.{◌≡◌, IfOk};
 ghost use Rattle.stateful_plain_bank.specs.Stepped.{stepped};
 
 use stateful_bank::{Op, apply_ops};
 use stateful_plain::PlainState;
 use stateful_types::OutOfMemory;
 
-/// The state after a block of these operations. None exactly where one of them isn't allowed.
+/// The state after a block of these operations. None exactly where one of them isn't allowed. A state whose range
+/// would end past the last number is refused as want of memory.
 pub fn step(state: &PlainState, ops: &[Op]) -> Result<Option<PlainState>, OutOfMemory>
-    requires { state.now.size + 1 < 2 ^ 64 }
     ensures { IfOk result (λ after. after ≡ stepped state.now ops.now) }
 {
+    let Some(size) = state.size().checked_add(1) else {
+        return Err(OutOfMemory);
+    };
     match apply_ops(state.entries(), ops)? {
-        Some(entries) => Ok(Some(PlainState::new(state.size() + 1, entries))),
+        Some(entries) => Ok(Some(PlainState::new(size, entries))),
         None => Ok(None),
     }
 }

@@ -61,7 +61,7 @@ returns-in-Ok-clause-ok c = λ finality b id p below run at.
     last_outcome run_now finality b id p below run c.in-Some.batch held c.as_slice-ops.result.now ops_are _ at c.in-Ok-Some.batch c.in-Ok.sealed _ next last good c.in-Ok.ensures.ok
 
 pub returns-in-Ok-clause-within : goal.returns-in-Ok-clause-within
-returns-in-Ok-clause-within c = λ finality b id p below run at sealed.
+returns-in-Ok-clause-within c = λ sealed finality b id p below run at.
     let run_now = c.args.self.now in
     let held = sym c.take.ensures.value ∙ c.in-Some.is in
     let ops_are = c.as_slice-ops.ensures ∙ ap (λ block. block.ops) c.inner.ensures in
@@ -70,7 +70,7 @@ returns-in-Ok-clause-within c = λ finality b id p below run at sealed.
     last_within run_now finality b id p below run c.in-Some.batch held c.as_slice-ops.result.now ops_are _ at c.in-Ok-Some.batch next last c.in-Ok.ensures.within
 
 pub returns-in-Err-seal-clause-exhausted : goal.returns-in-Err-seal-clause-exhausted
-returns-in-Err-seal-clause-exhausted c = λ finality b id p below run at failed.
+returns-in-Err-seal-clause-exhausted c = λ failed finality b id p below run at.
     let run_now = c.args.self.now in
     let held = sym c.take.ensures.value ∙ c.in-Some.is in
     let ops_are = c.as_slice-ops.ensures ∙ ap (λ block. block.ops) c.inner.ensures in
