@@ -1,5 +1,5 @@
 -- A field of digits is the decimal form of its number.
-use Rattle.std.proofs.Common.{◌≡◌, ◌↔◌, ℕ, ◌^◌, ◌<◌, ◌≤◌, ◌==◌, ◌&&◌, not, List, length, Bool, true, false, cond, Option, Some, None, nat_le, nat_lt, arith, refl, ap, sym, ◌∙◌, get_or, ◌⊎◌, inl, inr, zero, suc}
+use Rattle.std.proofs.Common.{◌≡◌, ℕ, ◌^◌, ◌<◌, ◌≤◌, ◌&&◌, List, length, true, Some, nat_le, arith, ap, sym, ◌∙◌, get_or, ◌⊎◌, inl, inr, zero, suc}
 use Rattle.std.specs.List.{list_all}
 use Rattle.std.specs.Char.{is_ascii_digit}
 use Rattle.std.specs.Fmt.{decimal}

@@ -1,5 +1,5 @@
 -- What the form of a line keeps: the name that a block line gives is a name, and its operations are few.
-use Rattle.std.proofs.Common.{◌≡◌, ℕ, ◌≤◌, Bool, true, false, ◌||◌, ◌==◌, cond, List, [], ◌∷◌, Option, Some, None, option_and_then, length, nat_le, arith, refl, sym, subst, ◌∙◌, codes, slice_index}
+use Rattle.std.proofs.Common.{◌≡◌, ℕ, ◌≤◌, Bool, true, false, ◌||◌, ◌==◌, cond, List, [], ◌∷◌, Option, Some, None, option_and_then, length, nat_le, arith, subst, codes, slice_index}
 use Rattle.std.specs.List.{list_all}
 use Rattle.std.specs.Char.{is_ascii}
 use Rattle.std.specs.Str.{bytes_eq}

@@ -1,15 +1,13 @@
 -- From lines to the answer: what reading says of bytes that are lines with an LF behind each.
-use Rattle.std.proofs.Common.{◌≡◌, ◌↔◌, ◌≢◌, ℕ, zero, suc, ◌+◌, ◌<◌, ◌==◌, Bool, true, false, cond, List, [], ◌∷◌, ◌++◌, Option, Some, None, option_and_then, Result, Ok, Err, length, refl, ap, sym, ◌∙◌, ◌⊎◌, inl, inr, arith, append-nil, append_assoc, add-zero, All}
-use Rattle.std.specs.List.{slice_split, onto_first, join_with_byte}
+use Rattle.std.proofs.Common.{◌≡◌, ◌≢◌, ℕ, suc, ◌+◌, ◌==◌, false, List, [], ◌∷◌, ◌++◌, Some, Ok, Err, length, refl, ap, sym, ◌∙◌, inl, inr, arith, append-nil, append_assoc, add-zero, All}
 use Rattle.std.proofs.lemmas.Grind.{common_steps}
-use Rattle.std.proofs.lemmas.List.{nil_from_length}
-use Rattle.std.proofs.lemmas.List.Elements.{All-nil, All-cons, All-head, All-tail, All-weaker}
-use Rattle.std.proofs.lemmas.List.Splits.{slice_split_at, slice_split_none, join_with_byte-slice_split}
+use Rattle.std.proofs.lemmas.List.Elements.{All-head, All-tail, All-weaker}
+use Rattle.std.proofs.lemmas.List.Splits.{slice_split_at, slice_split_none}
 use Rattle.std.proofs.lemmas.Option.{option_and_then_some, same_Some}
 use Rattle.stateful_script.specs.Script.{at_start, read_line, read_from, at_line, script_or_line}
-use Rattle.stateful_script.specs.Laws.{IsLine, text_of, after_lines, IsWhole, IsUnread, IsFirstUnread, WholeIsRead, FirstIsNamed, LastIsEnded}
+use Rattle.stateful_script.specs.Laws.{IsLine, text_of, after_lines, IsWhole, IsUnread, IsFirstUnread}
 use Rattle.stateful_script.specs.declared.script.Script.{Script}
-use Rattle.stateful_script.proofs.LinesLeft.{HasFirst, split_has_first, parts_of, lined, last_at}
+use Rattle.stateful_script.proofs.LinesLeft.{parts_of, lined, last_at}
 
 no_lf : (line : List ℕ) → IsLine line → All (λ b. (b == 10) ≡ false) line
 no_lf line h = All-weaker (λ b. b ≢ 10) (λ b. (b == 10) ≡ false) (λ b ne. grind (arith, common_steps)) line h

@@ -1,5 +1,5 @@
 -- Reading the items of a line one by one.
-use Rattle.std.proofs.Common.{◌≡◌, ℕ, zero, suc, ◌+◌, ◌≤◌, List, [], ◌∷◌, ◌++◌, length, Option, Some, None, option_map, option_and_then, arith, refl, ap, sym, ◌∙◌, append-nil, append_assoc}
+use Rattle.std.proofs.Common.{◌≡◌, ℕ, zero, suc, ◌≤◌, List, [], ◌∷◌, ◌++◌, length, Option, Some, None, option_map, arith, refl, ap, sym, ◌∙◌, append-nil, append_assoc}
 use Rattle.stateful_script.specs.Fields.{Fields}
 use Rattle.stateful_script.specs.BlockItems.{item_by, items_within, items_of, with_first}
 use Rattle.stateful_script.specs.declared.item.Item.{Item}

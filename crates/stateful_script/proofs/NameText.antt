@@ -1,6 +1,6 @@
 -- Names are text.
 use Rattle.std.proofs.Common.{◌≡◌, ℕ, ◌<◌, List, true, arith}
-use Rattle.std.specs.List.{list_all, All}
+use Rattle.std.specs.List.{list_all}
 use Rattle.std.specs.Str.{IsUtf8}
 use Rattle.std.proofs.lemmas.Grind.{common_steps}
 use Rattle.std.proofs.lemmas.List.Sums.{AllPass-from_list_all}

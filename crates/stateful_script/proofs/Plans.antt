@@ -1,5 +1,5 @@
 -- Whatever a script names is there: each line keeps it so.
-use Rattle.std.proofs.Common.{◌≡◌, ◌≢◌, ℕ, zero, suc, ◌+◌, ◌<◌, ◌≤◌, ◌==◌, Bool, true, false, ◌&&◌, not, cond, List, [], ◌∷◌, ◌++◌, Option, Some, None, option_and_then, Result, Ok, Err, length, map, position, nat_lt, nat_le, get_or, refl, ap, sym, inl, inr, subst, ◌∙◌, arith, add-one, length-append, All, AllPairs, codes}
+use Rattle.std.proofs.Common.{◌≡◌, ◌≢◌, ℕ, ◌<◌, ◌≤◌, ◌==◌, true, ◌&&◌, List, [], ◌∷◌, ◌++◌, Some, length, nat_lt, get_or, refl, inl, inr, subst, arith, length-append, codes}
 use Rattle.std.specs.List.{slice_get, slice_index_or, position_or_len}
 use Rattle.std.specs.Option.{is_none}
 use Rattle.std.specs.Str.{bytes_eq}

@@ -4,7 +4,7 @@ use Rattle.std.specs.List.{filter_map}
 use Rattle.std.specs.Str.{bytes_eq}
 use Rattle.stateful_bank.specs.declared.op.Op.{Op}
 use Rattle.stateful_bank.specs.declared.op.Op.TheVariants.{Mint, Move}
-use Rattle.stateful_script.specs.Fields.{Fields, field_at, number_at, account_at, ◌>>=◌}
+use Rattle.stateful_script.specs.Fields.{Fields, number_at, account_at, ◌>>=◌}
 use Rattle.stateful_script.specs.declared.item.Item.{Item}
 use Rattle.stateful_script.specs.declared.item.Item.TheVariants as item
 

@@ -3,7 +3,7 @@
 -- Fields are separated by one space. A number is decimal, without a leading zero, up to 18446744073709551615; an account
 -- is a number up to 65535. A name is a letter a to z and up to 15 letters a to z or digits.
 use Rattle.std.specs.Fmt.{decimal}
-use Rattle.std.specs.Prelude.{◌≡◌, ◌↔◌, ◌<◌, ◌≤◌, ℕ, ◌-◌, ◌^◌, ◌==◌, Bool, true, false, ◌&&◌, ◌||◌, not, List, [], ◌∷◌, length, Option, Some, None, option_and_then, nat_le, nat_lt, if◌then◌else◌, slice_index}
+use Rattle.std.specs.Prelude.{◌≡◌, ◌↔◌, ◌<◌, ◌≤◌, ℕ, ◌-◌, ◌^◌, ◌==◌, Bool, ◌&&◌, ◌||◌, not, List, [], ◌∷◌, length, Option, Some, None, option_and_then, nat_le, nat_lt, if◌then◌else◌, slice_index}
 use Rattle.std.specs.List.{list_all, slice_split}
 use Rattle.std.specs.Str.{bytes_eq}
 use Rattle.std.specs.Str.Parse.{digits_value}

@@ -1,5 +1,5 @@
 -- Laws of scripts: which line is named, what a whole script is, and that what it names is there.
-use Rattle.std.specs.Prelude.{ℕ, ◌≡◌, ◌≢◌, ◌↔◌, ◌+◌, ◌<◌, ◌≤◌, ◌⊎◌, true, List, [], ◌∷◌, ◌++◌, Option, Some, None, option_and_then, Result, Ok, Err, length, codes, All, AllPairs, EachIndex, slice_get, slice_index_or}
+use Rattle.std.specs.Prelude.{ℕ, ◌≡◌, ◌≢◌, ◌↔◌, ◌+◌, ◌<◌, ◌≤◌, ◌⊎◌, true, List, [], ◌∷◌, ◌++◌, Option, Some, None, option_and_then, Ok, Err, length, codes, All, AllPairs, EachIndex, slice_get, slice_index_or}
 use Rattle.std.specs.List.{flat_map}
 use Rattle.stateful_script.specs.Fields.{is_name}
 use Rattle.stateful_script.specs.Script.{at_start, read_line, script_or_line}

@@ -25,6 +25,7 @@ fn place_among(names: &[Name], name: &str) -> Option<usize>
     names.iter().position(|n| n.as_str() == name)
 }
 
+// Behind a `LineError` the script is given up: it may be in mid-change.
 impl Script {
     /// What is said before the first line: genesis is named.
     #[tactic(auto, unfolding(crate::specs::Script::at_start))]
@@ -41,7 +42,7 @@ impl Script {
         })
     }
 
-    /// The place of a name, by a look at each name: there are at most 1,025.
+    /// The place of a name, by a look at each: there are at most 1,025.
     #[tactic(auto, unfolding(crate::specs::Script::place))]
     fn place(&self, name: &str) -> Option<usize>
         ensures { result ≡ place self.now name.now }
@@ -154,8 +155,10 @@ impl Script {
     }
 }
 
-/// The script that bytes spell. `Line` names the first line that no rule reads, from 1, and comes exactly where there
-/// is one.
+/// The script that bytes spell, of whatever length.
+///
+/// `Line` names the first line that no rule reads, from 1, and comes exactly where there is one. The time grows with the
+/// bytes, and for each line that names a block with the number of names before it: a name is looked up by a look at each.
 #[tactic(auto, unfolding(crate::specs::Script::script_or_line))]
 pub fn read_script(alloc: Global, bytes: &[u8]) -> Result<Script, ScriptError>
     ensures exact { Reads result (script_or_line bytes.now) }
