@@ -2,16 +2,8 @@
 
 ghost use Rattle.std.specs.Prelude.{◌≡◌, ◌++◌, ◌∷◌, IfOk, OnOk};
 ghost use Rattle.std.specs.List.{flat_map, enumerate_from};
-ghost use Rattle.stateful_text.specs.Transcript.{
-  entry_lines,
-  balance_text,
-  database_line,
-  end_line,
-  ending_of,
-  transcript,
-  usage_line,
-  script_line,
-};
+ghost use Rattle.stateful_text.specs.Transcript.{entry_lines, entries_from, balance_text, database_line};
+ghost use Rattle.stateful_text.specs.Transcript.{end_line, ending_of, transcript, usage_line, script_line};
 ghost use Rattle.stateful_text.specs.declared.shown.Shown.TheVariants.{Balances};
 
 use crate::line::{Pen, push, push_number};
@@ -48,7 +40,7 @@ fn push_entries<B: Block, C, I>(
 ) -> Result<(), OutOfMemory>
     ensures { OnOk result
         (text.new.items ≡ text.old.items
-        ++ flat_map (entry_lines B.header.height pen.entry.labels.now) (enumerate_from 0 entries.now)) }
+        ++ entries_from B.header.height pen.entry.labels.now 0 entries.now) }
 {
     for (number, entry) in entries.iter().enumerate() {
         push_entry(pen, text, number, entry)?;
