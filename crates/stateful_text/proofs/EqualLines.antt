@@ -1,6 +1,6 @@
 -- Equal lines come from equal marks.
-use Rattle.std.proofs.Common.{◌≡◌, ℕ, List, [], ◌++◌, Option, ap, sym, refl, ◌∙◌, append-nil}
-use Rattle.stateful_types.specs.Names.{Header, Named}
+use Rattle.std.proofs.Common.{◌≡◌, ℕ, List, [], ◌++◌, Option, ap, sym, refl, ◌∙◌}
+use Rattle.stateful_types.specs.Names.{Header}
 use Rattle.stateful_types.specs.Anchor.{anchor_by}
 use Rattle.stateful_types.specs.declared.digest.Digest.{Digest}
 use Rattle.stateful_history.specs.declared.mark.Mark.{Mark}

@@ -1,14 +1,14 @@
 -- A block's digest, read back from its name.
-use Rattle.std.proofs.Common.{◌≡◌, ℕ, ◌+◌, ◌<◌, List, [], ◌∷◌, ◌++◌, Bool, true, false, cond, eqb, Option, Some, None, find, length, get_or, drop, ap, sym, refl, arith, ◌∙◌, inl, inr}
+use Rattle.std.proofs.Common.{◌≡◌, ℕ, List, [], ◌∷◌, Bool, true, cond, eqb, Option, Some, None, find, get_or, drop, ap, sym, refl, arith, ◌∙◌, inl, inr}
 use Rattle.std.specs.Prelude.{Contains}
 use Rattle.std.specs.Str.{bytes_eq}
 use Rattle.std.proofs.lemmas.Bool.{cases_Bool, cond-true, cond-false, ne_eqb, both_ways}
-use Rattle.std.proofs.lemmas.List.Elements.{Contains-append_right, Contains-append_cases, Contains-push_cases, Contains-push}
+use Rattle.std.proofs.lemmas.List.Elements.{Contains-append_right, Contains-append_cases, Contains-push_cases}
 use Rattle.std.proofs.lemmas.Slice.Eq.{bytes_eq-Decides}
 use Rattle.stateful_types.specs.declared.digest.Digest.{Digest}
 use Rattle.stateful_text.specs.declared.shown.Label.{Label}
-use Rattle.stateful_text.specs.Line.{hex_of, name_or_hex, name_of}
-use Rattle.stateful_text.specs.Told.{IsPlain, TellsApart}
+use Rattle.stateful_text.specs.Line.{name_or_hex, name_of}
+use Rattle.stateful_text.specs.Told.{TellsApart}
 use Rattle.stateful_text.proofs.Words.{is_plain, is_plain-from_all}
 use Rattle.stateful_text.proofs.Spelled.{bytes_of, bytes_of-hex_of, is_plain-hex_of}
 
@@ -18,13 +18,13 @@ module _ {X : Type 0} (p : X → Bool) where
   found [] x e = absurd (cc)
   found (y ∷ ys) x e =
       elim (cases_Bool (p y)) [
-        inl passed ↦
-          let here : Some y ≡ Some x = sym (cond-true (p y) (Some y) (find p ys) passed) ∙ e in
-          let same : y ≡ x = cc in
-          ((0, omega arith, same), ap p (sym same) ∙ passed)
-      | inr failed ↦
-          let rest = found ys x (sym (cond-false (p y) (Some y) (find p ys) failed) ∙ e) in
-          (Contains-append_right (y ∷ []) ys x rest.0, rest.1)
+        | inl passed ↦
+            let here : Some y ≡ Some x = sym (cond-true (p y) (Some y) (find p ys) passed) ∙ e in
+            let same : y ≡ x = cc in
+            ((0, omega arith, same), ap p (sym same) ∙ passed)
+        | inr failed ↦
+            let rest = found ys x (sym (cond-false (p y) (Some y) (find p ys) failed) ∙ e) in
+            (Contains-append_right (y ∷ []) ys x rest.0, rest.1)
       ]
 
   -- where an element passes, one is found
@@ -32,18 +32,18 @@ module _ {X : Type 0} (p : X → Bool) where
   finds [] x contains passes = absurd (omega (arith, contains.1))
   finds (y ∷ ys) x contains passes =
       elim (cases_Bool (p y)) [
-        inl passed ↦ (y, cond-true (p y) (Some y) (find p ys) passed)
-      | inr failed ↦
-          elim (Contains-append_cases (y ∷ []) ys x contains) [
-            inl here ↦
-              elim (Contains-push_cases [] y x here) [
-                inl nowhere ↦ absurd (omega (arith, nowhere.1))
-              | inr same ↦ absurd (both_ways (p y) failed (ap p same ∙ passes))
-              ]
-          | inr behind ↦
-              let rest = finds ys x behind passes in
-              (rest.0, cond-false (p y) (Some y) (find p ys) failed ∙ rest.1)
-          ]
+        | inl passed ↦ (y, cond-true (p y) (Some y) (find p ys) passed)
+        | inr failed ↦
+            elim (Contains-append_cases (y ∷ []) ys x contains) [
+              | inl here ↦
+                  elim (Contains-push_cases [] y x here) [
+                    | inl nowhere ↦ absurd (omega (arith, nowhere.1))
+                    | inr same ↦ absurd (both_ways (p y) failed (ap p same ∙ passes))
+                  ]
+              | inr behind ↦
+                  let rest = finds ys x behind passes in
+                  (rest.0, cond-false (p y) (Some y) (find p ys) failed ∙ rest.1)
+            ]
       ]
 
 digest_with : List ℕ → Digest

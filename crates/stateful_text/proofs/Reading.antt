@@ -1,5 +1,5 @@
 -- Lines of marks, read back.
-use Rattle.std.proofs.Common.{◌≡◌, ℕ, ◌+◌, ◌^◌, ◌<◌, List, [], ◌∷◌, ◌++◌, Bool, true, false, cond, ltb, Option, Some, None, get_or, ap, sym, refl, ◌∙◌}
+use Rattle.std.proofs.Common.{◌≡◌, ℕ, ◌^◌, ◌<◌, List, [], ◌∷◌, ◌++◌, Bool, true, false, cond, ltb, Option, Some, None, get_or, ap, refl, ◌∙◌}
 use Rattle.std.specs.Prelude.{codes, IfSome}
 use Rattle.std.specs.Fmt.{decimal}
 use Rattle.std.specs.Str.{bytes_eq}
@@ -18,8 +18,8 @@ use Rattle.stateful_history.specs.declared.mark.Mark.{Mark}
 use Rattle.stateful_history.specs.declared.mark.Mark.TheVariants.{Opened, Converged, Asked, Withdrawn, Started, Ended, Built, Verdict, Answered, Declined, Databases, Began, Applied, BarrierBegun, BarrierDone, Acknowledged, Dropped, Recorded, Dispatched, Pruned, Completed, Stopped}
 use Rattle.stateful_text.specs.declared.shown.Label.{Label}
 use Rattle.stateful_text.specs.Line.{line, name_of}
-use Rattle.stateful_text.specs.Mark.{kind_word, how_word, decision_word, truth_word, asker_word, done_word, mark_line}
-use Rattle.stateful_text.specs.Told.{TellsApart, told, Fits, without_round, by_digest}
+use Rattle.stateful_text.specs.Mark.{kind_word, how_word, decision_word, truth_word, asker_word, mark_line}
+use Rattle.stateful_text.specs.Told.{TellsApart, told, Fits}
 use Rattle.stateful_text.proofs.Words.{is_plain, ArePlain, words_of, words_of-line, rest_of, rest_of-line}
 use Rattle.stateful_text.proofs.Spelled.{number_of, number_of-decimal, is_plain-decimal, first_of_decimal}
 use Rattle.stateful_text.proofs.Names.{digest_of, digest_of-name_of, is_plain-name_of}
