@@ -25,7 +25,7 @@ without_round anchor = record anchor { round = record { epoch = record { 0 = 0 }
 abbrev pub by_digest : {B : Type 0} → Named B → Named (Option ℕ)
 by_digest block = record { digest = block.digest; block = None }
 
-module _ {B : Type 0} (height : B → ℕ) where
+module _ {B : Type 0} (height_of : B → ℕ) where
   -- What a line tells of a mark: of anchors no round, of blocks their digests, and the height of one that was applied.
   abbrev pub told : Mark B → Mark (Option ℕ)
   told (Opened anchor) = Opened (without_round anchor)
@@ -40,7 +40,7 @@ module _ {B : Type 0} (height : B → ℕ) where
   told (Declined ticket) = Declined ticket
   told (Databases ticket) = Databases ticket
   told (Began ticket block) = Began ticket (by_digest block)
-  told (Applied block) = Applied (record { digest = block.digest; block = Some (height block.block) })
+  told (Applied block) = Applied (record { digest = block.digest; block = Some (height_of block.block) })
   told (BarrierBegun barrier height) = BarrierBegun barrier height
   told (BarrierDone barrier height good) = BarrierDone barrier height good
   told (Acknowledged ticket height) = Acknowledged ticket height
@@ -65,7 +65,7 @@ module _ {B : Type 0} (height : B → ℕ) where
   Fits (Declined ticket) = ticket < 2 ^ 64
   Fits (Databases ticket) = ticket < 2 ^ 64
   Fits (Began ticket block) = ticket < 2 ^ 64
-  Fits (Applied block) = height block.block < 2 ^ 64
+  Fits (Applied block) = height_of block.block < 2 ^ 64
   Fits (BarrierBegun barrier height) = (barrier < 2 ^ 64) × (height.0 < 2 ^ 64)
   Fits (BarrierDone barrier height good) = (barrier < 2 ^ 64) × (height.0 < 2 ^ 64)
   Fits (Acknowledged ticket height) = (ticket < 2 ^ 64) × (height.0 < 2 ^ 64)
