@@ -1,23 +1,18 @@
 -- Handles of a barrier, one more at a time.
-use Rattle.std.proofs.Common.{◌≡◌, ℕ, zero, suc, ◌+◌, ◌<◌, ◌≤◌, List, [], ◌∷◌, length, get_or, take, set, Option, Some, None, inl, inr, ap, sym, refl, subst, ◌∙◌, arith, get_or-take, ◌⊎◌, false, true}
-use Rattle.std.specs.List.{All, Any, slice_get}
+use Rattle.std.proofs.Common.{◌≡◌, ℕ, zero, suc, ◌+◌, ◌<◌, ◌≤◌, List, [], ◌∷◌, length, get_or, take, set, Some, inl, inr, ap, sym, refl, subst, ◌∙◌, arith, get_or-take, ◌⊎◌}
+use Rattle.std.specs.List.{Any}
 use Rattle.std.proofs.lemmas.List.{length-take, get_or_default, take_all}
 use Rattle.std.proofs.lemmas.List.Elements.{All-more}
 use Rattle.std.proofs.lemmas.Bool.{cases_eq}
-use Rattle.stateful_db.specs.Barrier.{IsGood, IsBroken, IsOpen, Polled, answered, open_at}
-use Rattle.stateful_db.specs.declared.database.FlushToken.{FlushToken}
+use Rattle.stateful_db.specs.Barrier.{IsGood, IsBroken, IsOpen, Polled, answered}
 use Rattle.stateful_db.specs.declared.barrier.Handle.{Handle}
 use Rattle.stateful_db.specs.declared.barrier.Flushed.{Flushed}
-use Rattle.stateful_db.specs.declared.barrier.Flushed.TheVariants.{Good, Interrupted}
 use Rattle.stateful_db.specs.declared.barrier.BarrierPoll.{BarrierPoll}
 use Rattle.stateful_db.specs.declared.barrier.BarrierPoll.TheVariants as poll
 
 module _ {X : Type 0} (P : X → Type 0) where
   pub Any-at : (xs : List X) (i : ℕ) (d : X) → i < length xs → P (get_or xs i d) → Any P xs
   Any-at xs i d h p = (i, get_or xs i d, h, get_or_default xs i (get_or xs i d) d h, p)
-
-  pub Any-from_take : (xs : List X) (n : ℕ) → Any P (take n xs) → Any P xs
-  Any-from_take xs n (k, x, h, e, p) = (k, x, omega (arith, length-take n xs), sym (get_or-take n xs k x (omega (arith, length-take n xs))) ∙ e, p)
 
   pub Any-more : (xs : List X) (n : ℕ) → Any P (take n xs) → Any P (take (n + 1) xs)
   Any-more xs n (k, x, h, e, p) =
@@ -35,8 +30,10 @@ module _ {X : Type 0} (P : X → Type 0) where
     where
       within : k < i + 1
       within = omega (arith, length-take (i + 1) xs)
+
       is_x : get_or xs k x ≡ x
       is_x = sym (get_or-take (i + 1) xs k x within) ∙ e
+
       split : (k ≡ i) ⊎ (k ≡ i → ⊥) → ⊥
       split (inl same) = here (subst P (sym is_x ∙ ap (λ n. get_or xs n x) same ∙ get_or_default xs i x d h) p)
       split (inr other) =

@@ -1,1 +1,4 @@
+pub mod Chains
 pub mod Handles
+pub mod Openings
+pub mod Tokens

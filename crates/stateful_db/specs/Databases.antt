@@ -1,5 +1,7 @@
 -- What a set of databases means to the layer above: each function and relation over its members, in one record.
-use Rattle.std.specs.Prelude.{◌≡◌, ℕ, ◌+◌, ◌<◌, ◌≤◌, ◌⊎◌, List, [], ◌∷◌, ◌++◌, Option, Some, None}
+use Rattle.std.specs.Prelude.{◌≡◌, ℕ, ◌+◌, ◌<◌, ◌≤◌, List, [], ◌∷◌, ◌++◌, Option, Some, None}
+use Rattle.stateful_types.specs.declared.target.Target.{Target}
+use Rattle.stateful_db.specs.declared.database.InitError.{InitError}
 
 pub record Databases (Ids States Targets : Type 0) : Type 1 where
   -- all that is known of the databases, but for the next batch ids
@@ -10,6 +12,16 @@ pub record Databases (Ids States Targets : Type 0) : Type 1 where
   pub point : Members → Option (Ids × States)
   -- what a block commits to that leads to these states
   pub target_of : States → Targets
+  -- the part of the database of this number, as a root with a range
+  pub target_at : Targets → ℕ → Target
+  -- the parts of the database of this number are the same
+  pub Agrees : Targets → Targets → ℕ → Type 0
+  -- the states of empty media
+  pub initial : States
+  -- the range of a state ends at the last number or behind it
+  pub Full : States → Type 0
+  -- a database has no batch id left
+  pub Spent : Ids → Type 0
   -- the states that the seal of batches without changes gives
   pub begun : States → States
   -- the ids of the chain were drawn before these
@@ -44,6 +56,10 @@ pub record Databases (Ids States Targets : Type 0) : Type 1 where
   pub LostFlushing : Members → ℕ → ℕ → Members → Type 0
   -- each database was closed or lost, and is open at its checkpoint of these targets, or at its latest
   pub Reopened : Members → Option Targets → Members → Type 0
+  -- the database of this number doesn't open at its checkpoint of these targets, or at its latest, for this reason, which
+  -- may be that its count rose; it is lost where it failed or wanted memory, and else closed as before. Those before are
+  -- closed, each at the checkpoint at which it was opened, and those behind are as before
+  pub NotOpened : Members → Option Targets → ℕ → Type 0 → InitError → Members → Type 0
   -- each database is closed, with its durable checkpoints and as many others as these numbers keep; without a number it keeps all
   pub Crashed : Members → List ℕ → Members → Type 0
 
@@ -62,6 +78,7 @@ pub record Laws {Ids States Targets : Type 0} (d : Databases Ids States Targets)
   pub durable_finalized : (m : d.Members) (i : ℕ) → d.durable (d.finalized m) i ≡ d.durable m i
   pub token_finalized : (m : d.Members) (p : Ids × States) (i : ℕ) → i < d.count → d.point m ≡ Some p → d.token (d.finalized m) i ≡ Some (d.place m i)
   pub point_finalized : (m : d.Members) → d.point (d.finalized m) ≡ d.point m
+  pub state_finalized : (m : d.Members) (i : ℕ) (s : States) → d.HasState m i s → d.HasState (d.finalized m) i s
   pub keeps_flushed : (m : d.Members) (n at i origin : ℕ) (states : List States) → d.Keeps m i origin states → d.Keeps (d.flushed m n at) i origin states
   pub place_flushed : (m : d.Members) (n at i : ℕ) → d.place (d.flushed m n at) i ≡ d.place m i
   pub durable_flushed : (m : d.Members) (p : Ids × States) (n at : ℕ) → n < d.count → d.point m ≡ Some p → d.durable (d.flushed m n at) n ≡ at

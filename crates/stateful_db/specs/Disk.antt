@@ -1,5 +1,5 @@
 -- What a medium keeps, and what a database adds to it.
-use Rattle.std.specs.Prelude.{◌≡◌, ◌≢◌, ℕ, ◌+◌, ◌-◌, ◌<◌, ◌≤◌, ◌==◌, List, [], ◌∷◌, ◌++◌, ◌⊎◌, length, take, drop, min, max, Option, None, position}
+use Rattle.std.specs.Prelude.{◌≡◌, ℕ, ◌+◌, ◌-◌, ◌≤◌, List, [], ◌∷◌, ◌++◌, ◌⊎◌, length, take, min, max, Option}
 
 -- The kept checkpoints, oldest first, with the place of the last durable one. Places count the pruned ones too.
 pub record Disk (S : Type 0) : Type 0 where

@@ -6,4 +6,6 @@ pub mod Meaning
 pub mod Targeted
 pub mod Reopening
 pub mod Handles
+pub mod Single
+pub mod SingleLaws
 pub mod Barrier

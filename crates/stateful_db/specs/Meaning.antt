@@ -1,5 +1,5 @@
 -- What an application means.
-use Rattle.std.specs.Prelude.{◌≡◌, Bool, true, false, Option, Some, None, List}
+use Rattle.std.specs.Prelude.{◌≡◌, Bool, true, false, Option, Some, None}
 use Rattle.stateful_types.specs.declared.outcome.Finality.{Finality}
 use Rattle.stateful_types.specs.declared.outcome.Finality.TheVariants.{Candidate, Finalized}
 use Rattle.stateful_types.specs.declared.outcome.Moved.{Moved}

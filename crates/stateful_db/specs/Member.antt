@@ -1,6 +1,10 @@
 -- A database of a set, wherever it is.
-use Rattle.std.specs.Prelude.{◌≡◌, ℕ, ◌+◌, ◌-◌, List, drop, Option, Some, None}
-use Rattle.stateful_db.specs.Disk.{Disk, Standing, IsEither, IsOpened, IsCrash, all, applied, point, place, flushed}
+use Rattle.std.specs.Prelude.{◌≡◌, ℕ, ◌-◌, ◌⊎◌, List, drop, Option, Some, None}
+use Rattle.stateful_types.specs.declared.target.Target.{Target}
+use Rattle.stateful_db.specs.Disk.{Disk, Standing, IsEither, IsCrash, all, applied, point, place, flushed}
+use Rattle.stateful_db.specs.Reopening.{Reopens, HasNone, Differs}
+use Rattle.stateful_db.specs.declared.database.InitError.{InitError}
+use Rattle.stateful_db.specs.declared.database.InitError.TheVariants as error
 
 -- here, closed, lost with its medium, or away
 pub data Member (S : Type 0) : Type 0 where
@@ -81,18 +85,39 @@ module _ {S : Type 0} where
   IsLostFlushing (at_home s) n (broken d) = IsEither s.disk (flushed s.disk n) d
   IsLostFlushing _ n m = ⊥
 
-  -- the disk of a database that isn't open
-  abbrev pub member_disk : Member S → Option (Disk S)
-  member_disk (shut d) = Some d
-  member_disk (broken d) = Some d
-  member_disk _ = None
-
-  -- opened at the kept checkpoint of this number
-  abbrev pub IsOpenedAt : ℕ → Disk S → Member S → Type 0
-  IsOpenedAt n d (at_home s) = (s.id ≡ 0) × (s.out ≡ None) × IsOpened n d s.disk
-  IsOpenedAt n d m = ⊥
-
-  -- closed, after a crash that keeps so many checkpoints
-  abbrev pub IsCrashed : ℕ → Disk S → Member S → Type 0
-  IsCrashed keep d (shut e) = IsCrash keep d e
+  -- closed, with what a crash leaves of this disk that keeps so many checkpoints, or all
+  abbrev pub IsCrashed : Option ℕ → Disk S → Member S → Type 0
+  IsCrashed None d (shut e) = e ≡ d
+  IsCrashed (Some keep) d (shut e) = IsCrash keep d e
   IsCrashed keep d m = ⊥
+
+  -- not away before a crash that keeps so many checkpoints, or all; closed behind it
+  abbrev pub MemberCrashed : Member S → Option ℕ → Member S → Type 0
+  MemberCrashed (at_home s) keep m = IsCrashed keep s.disk m
+  MemberCrashed (shut d) keep m = IsCrashed keep d m
+  MemberCrashed (broken d) keep m = IsCrashed keep d m
+  MemberCrashed gone keep m = ⊥
+
+  -- at this state, where it is here
+  abbrev pub MemberHas : Member S → S → Type 0
+  MemberHas (at_home s) t = s.disk.newest ≡ t
+  MemberHas _ t = Unit {0}
+
+module _ {S T : Type 0} (target_of : S → T) (targeted : T → Target) where
+  -- it was closed or lost, and is open at its checkpoint of the expected target, or at the latest
+  abbrev pub MemberReopened : Member S → Option T → Member S → Type 0
+  MemberReopened (shut d) expected (at_home s) = Reopens target_of targeted expected d s
+  MemberReopened (broken d) expected (at_home s) = Reopens target_of targeted expected d s
+  MemberReopened _ expected m = ⊥
+
+  -- it was closed or lost, and doesn't open at its checkpoint of the expected target, or at the latest, for this reason:
+  -- it is lost where it failed or wanted memory, and else closed as before
+  abbrev pub IsNotOpened : Option T → Disk S → Type 0 → InitError → Member S → Type 0
+  IsNotOpened expected d rose error.Database m = (rose × (m ≡ broken d)) ⊎ (HasNone target_of targeted expected d × (m ≡ shut d))
+  IsNotOpened expected d rose (error.TargetMismatch given recovered) m = Differs target_of targeted expected d given recovered × (m ≡ shut d)
+  IsNotOpened expected d rose error.OutOfMemory m = m ≡ broken d
+
+  abbrev pub MemberNotOpened : Member S → Option T → Type 0 → InitError → Member S → Type 0
+  MemberNotOpened (shut d) expected rose why m = IsNotOpened expected d rose why m
+  MemberNotOpened (broken d) expected rose why m = IsNotOpened expected d rose why m
+  MemberNotOpened _ expected rose why m = ⊥

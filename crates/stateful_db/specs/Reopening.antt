@@ -1,5 +1,5 @@
 -- How a database opens on its medium, and why it doesn't.
-use Rattle.std.specs.Prelude.{◌≡◌, ◌≢◌, ℕ, ◌+◌, ◌==◌, ◌⊎◌, List, length, take, Option, Some, None, position, slice_get}
+use Rattle.std.specs.Prelude.{◌≡◌, ◌≢◌, ℕ, ◌==◌, ◌⊎◌, length, Option, Some, None, position, slice_get}
 use Rattle.stateful_types.specs.declared.target.Target.{Target}
 use Rattle.stateful_db.specs.Disk.{Disk, Standing, IsOpened, all}
 use Rattle.stateful_db.specs.declared.database.InitError.{InitError}
@@ -40,3 +40,9 @@ module _ {S T : Type 0} (target_of : S → T) (targeted : T → Target) where
   FailsToReopen expected d rose error.Database = rose ⊎ HasNone expected d
   FailsToReopen expected d rose (error.TargetMismatch given recovered) = Differs expected d given recovered
   FailsToReopen expected d rose error.OutOfMemory = Unit {0}
+
+-- a database that doesn't open for this reason, which may be that its count rose, is lost: it failed, or wanted memory
+abbrev pub Loses : InitError → Type 0 → Type 0
+Loses error.Database rose = rose
+Loses (error.TargetMismatch given recovered) rose = ⊥
+Loses error.OutOfMemory rose = Unit {0}

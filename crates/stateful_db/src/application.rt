@@ -121,10 +121,7 @@ pub trait Application: Faulty + Sized {
         ensures later { Self.count self.old ≤ Self.count self.new };
 
     /// One turn of a hook.
-    fn turn_hook(
-        hook: &mut Self::Hook,
-        databases: &Self::Databases,
-    ) -> Result<Moved<()>, AppFault>
+    fn turn_hook(hook: &mut Self::Hook, databases: &Self::Databases) -> Result<Moved<()>, AppFault>
         ensures failed { IsErrOf result AppFault.Failed → Rose (Self.Hook.count hook.old) (Self.Hook.count hook.new) }
         ensures later { Self.Hook.count hook.old ≤ Self.Hook.count hook.new };
 }

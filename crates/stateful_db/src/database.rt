@@ -39,10 +39,7 @@ pub enum InitError {
     /// It failed, or no kept checkpoint has the expected end.
     Database,
     /// The checkpoint of the expected end has another target.
-    TargetMismatch {
-        expected: Target,
-        recovered: Target,
-    },
+    TargetMismatch { expected: Target, recovered: Target },
     OutOfMemory,
 }
 
@@ -168,6 +165,10 @@ pub trait ManagedDb: Faulty + Sized + Drop {
     ) -> Result<Self::Unmerkleized, OutOfMemory>
         ensures { IfOk result (λ u. (q : ℕ × Self.State) (above older : List (ℕ × Self.State)) → Self.Merkleized.shows parent.now (q ∷ above ++ point (standing database.entry.database.now) ∷ older) → q.0 < database.entry.id → Self.Unmerkleized.shows u ((database.entry.id, begun q.1) ∷ q ∷ above ++ point (standing database.entry.database.now) ∷ [])) };
 
+    /// The target that applying the batch gives.
+    fn batch_target(batch: &Self::Merkleized) -> Self::SyncTarget
+        ensures { (p : ℕ × Self.State) (c : List (ℕ × Self.State)) → Self.Merkleized.shows batch.now (p ∷ c) → result ≡ target_of p.1 };
+
     /// Whether applying the batch gives this target.
     fn matches_sync_target(batch: &Self::Merkleized, target: &Self::SyncTarget) -> bool
         ensures { (p : ℕ × Self.State) (c : List (ℕ × Self.State)) → Self.Merkleized.shows batch.now (p ∷ c) → (IsTrue result ↔ (target_of p.1 ≡ target.now)) };
@@ -220,6 +221,8 @@ pub trait ManagedDb: Faulty + Sized + Drop {
         ensures disk { IsCrash keep (disk medium) (disk result) }
         ensures next { next_of result ≡ next_of medium }
         ensures count { Self.Medium.count result ≡ Self.Medium.count medium };
+
+    ghost numbered: { (m : Self.Medium) → 0 < next_of m };
 
     ghost same_point: { (d : Self) → Self.Unmerkleized.at d ≡ point (standing d) };
 

@@ -1,6 +1,17 @@
 //! One database, wherever it is.
 
-use crate::database::ManagedDb;
+ghost use Rattle.std.specs.Prelude.{◌≡◌, ℕ, List, ◌∷◌, [], IfOk, IfErr, OnOk, OnErr, IsErrOf, IsTrue, ◌↔◌, Some, ◌<◌, ◌≤◌, ◌+◌, ◌-◌, ◌^◌, ◌++◌};
+ghost use Rattle.stateful_db.specs.Chain.{AllBelow, ids};
+ghost use Rattle.stateful_db.specs.Disk.{point};
+ghost use Rattle.stateful_db.specs.Reopening.{Loses};
+ghost use Rattle.stateful_types.specs.Causes.{Rose};
+ghost use Rattle.stateful_db.specs.declared.database.DbCall.{DbCall};
+
+use crate::batch::{BatchContext, BatchError, Unmerkleized};
+use crate::database::{Broken, DbCall, FlushToken, InitError, ManagedDb, Targeted, Why};
+use crate::set::{DatabaseSet, SetError, SetInit, SetLost};
+use stateful_types::{Faulty, Items, Target};
+use std::mem;
 
 /// A database that is here, or its medium. It is away only inside a call.
 #[derive(Drop)]
@@ -9,4 +20,276 @@ pub enum Held<D: ManagedDb> {
     Closed(D::Medium),
     Lost(D::Medium),
     Away,
+}
+
+impl<D: ManagedDb> DatabaseSet for Held<D> {
+    ghost use Rattle.stateful_db.specs.declared.held.Held.TheVariants.{Here, Closed, Lost, Away};
+    ghost use Rattle.stateful_db.specs.Databases.{IsOpening};
+    ghost use Rattle.stateful_db.specs.Member.{at_home, shut, broken, gone, IsShut};
+    ghost use Rattle.stateful_db.specs.Single.{single};
+    ghost use Rattle.stateful_db.specs.SingleLaws.{single_laws};
+
+    type States = D::State;
+
+    type Ids = u64;
+
+    type Unmerkleized = D::Unmerkleized;
+
+    type Merkleized = D::Merkleized;
+
+    type Config = D::Config;
+
+    type SyncTargets = D::SyncTarget;
+
+    ghost kind = { single D.target_of D.SyncTarget.targeted D.begun D.initial };
+
+    ghost members = { elim [ Here d ↦ at_home (D.standing d) | Closed m ↦ shut (D.disk m) | Lost m ↦ broken (D.disk m) | Away ↦ gone ] };
+
+    ghost next = { elim [ Here d ↦ D.next d | Closed m ↦ D.next_of m | Lost m ↦ D.next_of m | Away ↦ 0 ] };
+
+    ghost counted = { λ s n. elim s [ Here d ↦ D.count d | Closed m ↦ D.Medium.count m | Lost m ↦ D.Medium.count m | Away ↦ 0 ] };
+
+    ghost opened = { D.Unmerkleized.shows };
+
+    ghost shows = { D.Merkleized.shows };
+
+    ghost laws = { single_laws D.target_of D.SyncTarget.targeted D.begun D.initial };
+
+    fn count() -> usize {
+        1
+    }
+
+    fn faults(&self, _index: usize) -> u64 {
+        match self {
+            Held::Here(database) => database.faults(),
+            Held::Closed(medium) | Held::Lost(medium) => medium.faults(),
+            Held::Away => 0,
+        }
+    }
+
+    fn is_here(&self) -> bool {
+        matches!(self, Held::Here(_))
+    }
+
+    // The clauses of the trait, which the check can't give this call by itself.
+    fn init(&mut self, config: &D::Config, expected: Option<D::SyncTarget>) -> Result<(), SetInit>
+        ensures ok { let set = ⟦<Held<D> as DatabaseSet>⟧ in OnOk result (IsShut (set.members self.old) → set.kind.Reopened (set.members self.old) expected (set.members self.new)) }
+        ensures opening { let set = ⟦<Held<D> as DatabaseSet>⟧ in OnOk result (IsShut (set.members self.old) → (t : D.SyncTarget) → expected ≡ Some t → IsOpening set.kind (set.next self.new) (set.members self.new) t) }
+        ensures cause { let set = ⟦<Held<D> as DatabaseSet>⟧ in IfErr result (λ e. IsShut (set.members self.old) → set.kind.NotOpened (set.members self.old) expected e.index (Rose (set.counted self.old e.index) (set.counted self.new e.index)) e.why (set.members self.new)) }
+        ensures closed { let set = ⟦<Held<D> as DatabaseSet>⟧ in OnErr result (IsShut (set.members self.old) → IsShut (set.members self.new)) }
+        ensures index { IfErr result (λ e. e.index < 1) }
+        ensures later { let set = ⟦<Held<D> as DatabaseSet>⟧ in (n : ℕ) → set.counted self.old n ≤ set.counted self.new n }
+    {
+        let medium = match mem::replace(self, Held::Away) {
+            Held::Closed(medium) | Held::Lost(medium) => medium,
+            other => {
+                *self = other;
+                return Ok(());
+            }
+        };
+        let faults = medium.faults();
+        match D::init(medium, config, expected) {
+            Ok(database) => {
+                *self = Held::Here(database);
+                Ok(())
+            }
+            Err((medium, why)) => {
+                *self = if is_broken(why, faults, medium.faults()) {
+                    Held::Lost(medium)
+                } else {
+                    Held::Closed(medium)
+                };
+                Err(SetInit { index: 0, why })
+            }
+        }
+    }
+
+    fn initial_sync_targets() -> D::SyncTarget {
+        D::initial_sync_target()
+    }
+
+    #[tactic(auto, using(crate::proofs::Chains::below))]
+    fn new_batches(&mut self) -> Result<D::Unmerkleized, SetError> {
+        match self {
+            Held::Here(database) => begin(database),
+            _ => Err(SetError::Lost),
+        }
+    }
+
+    #[tactic(auto, using(crate::proofs::Chains::below))]
+    fn fork_batches(&mut self, parent: &D::Merkleized) -> Result<D::Unmerkleized, SetError> {
+        match self {
+            Held::Here(database) => fork(database, parent),
+            _ => Err(SetError::Lost),
+        }
+    }
+
+    fn seal(&self, batches: D::Unmerkleized) -> Result<D::Merkleized, BatchError> {
+        match self {
+            Held::Here(database) => batches.merkleize(database),
+            _ => Err(BatchError::StaleRead),
+        }
+    }
+
+    fn matches_sync_targets(batches: &D::Merkleized, targets: &D::SyncTarget) -> bool {
+        D::matches_sync_target(batches, targets)
+    }
+
+    fn mismatch(
+        batches: &D::Merkleized,
+        targets: &D::SyncTarget,
+    ) -> Option<(usize, Target, Target)> {
+        if D::matches_sync_target(batches, targets) {
+            None
+        } else {
+            Some((0, targets.target(), D::batch_target(batches).target()))
+        }
+    }
+
+    fn apply(&mut self, batches: D::Merkleized) -> Result<(), SetError> {
+        match mem::replace(self, Held::Away) {
+            Held::Here(database) => match database.apply(batches) {
+                Ok(database) => {
+                    *self = Held::Here(database);
+                    Ok(())
+                }
+                Err(broken) => Err(lose(self, broken, DbCall::Apply)),
+            },
+            other => {
+                *self = other;
+                Err(SetError::Lost)
+            }
+        }
+    }
+
+    fn persist(&mut self, tokens: &mut Items<FlushToken>) -> Result<(), SetError> {
+        match mem::replace(self, Held::Away) {
+            Held::Here(database) => match database.finalize() {
+                Ok((database, token)) => match tokens.push(token) {
+                    Ok(()) => {
+                        *self = Held::Here(database);
+                        Ok(())
+                    }
+                    Err(_) => {
+                        *self = Held::Lost(database.close());
+                        Err(SetError::OutOfMemory)
+                    }
+                },
+                Err(broken) => Err(lose(self, broken, DbCall::Finalize)),
+            },
+            other => {
+                *self = other;
+                Err(SetError::Lost)
+            }
+        }
+    }
+
+    fn flush(&mut self, _index: usize, token: FlushToken) -> Result<(), SetError> {
+        match mem::replace(self, Held::Away) {
+            Held::Here(database) => match database.flush(token) {
+                Ok(database) => {
+                    *self = Held::Here(database);
+                    Ok(())
+                }
+                Err(broken) => Err(lose(self, broken, DbCall::Flush)),
+            },
+            other => {
+                *self = other;
+                Err(SetError::Lost)
+            }
+        }
+    }
+
+    fn committed_targets(&self) -> Result<D::SyncTarget, SetLost> {
+        match self {
+            Held::Here(database) => Ok(database.sync_target()),
+            _ => Err(SetLost),
+        }
+    }
+
+    fn crash(self, keep: &[usize]) -> Self {
+        let medium = match self {
+            Held::Here(database) => database.close(),
+            Held::Closed(medium) | Held::Lost(medium) => medium,
+            Held::Away => return Held::Away,
+        };
+        match keep.first() {
+            Some(keep) => Held::Closed(D::crash(medium, *keep)),
+            None => Held::Closed(medium),
+        }
+    }
+
+    fn take(&mut self) -> Self {
+        mem::replace(self, Held::Away)
+    }
+}
+
+/// Draws an id and begins a batch over the database's state.
+fn begin<D: ManagedDb>(database: &mut D) -> Result<D::Unmerkleized, SetError>
+    ensures ok { IfOk result (λ u. (D.standing database.old).id < D.next database.old → D.Unmerkleized.shows u ((D.next database.old, D.begun (D.standing database.old).disk.newest) ∷ point (D.standing database.old) ∷ [])) }
+    ensures drawn { IfOk result (λ _. D.next database.new ≡ D.next database.old + 1) }
+    ensures next { D.next database.old ≤ D.next database.new }
+    ensures standing { D.standing database.new ≡ D.standing database.old }
+    ensures count { D.count database.new ≡ D.count database.old }
+    ensures exhausted { IsErrOf result SetError.Exhausted → 2 ^ 64 - 1 ≤ D.next database.old }
+    ensures lost { IsErrOf result SetError.Lost → ⊥ }
+    ensures fault { (n : ℕ) (k : DbCall) → IsErrOf result (SetError.DatabaseFault n k) → ⊥ }
+{
+    let id = match database.draw() {
+        Ok(id) => id,
+        Err(_) => return Err(SetError::Exhausted),
+    };
+    let database: &D = database;
+    match D::new_batch(BatchContext::new(database, id)) {
+        Ok(batch) => Ok(batch),
+        Err(_) => Err(SetError::OutOfMemory),
+    }
+}
+
+/// Draws an id and begins a batch over a sealed one, whose chain is cut behind where the database is.
+#[tactic(auto, using(crate::proofs::Chains::below))]
+fn fork<D: ManagedDb>(database: &mut D, parent: &D::Merkleized) -> Result<D::Unmerkleized, SetError>
+    ensures ok { IfOk result (λ u. (q : ℕ × D.State) (above older : List (ℕ × D.State)) → D.Merkleized.shows parent.now (q ∷ above ++ point (D.standing database.old) ∷ older) → AllBelow (D.next database.old) (ids (q ∷ above ++ point (D.standing database.old) ∷ older)) → D.Unmerkleized.shows u ((D.next database.old, D.begun q.1) ∷ q ∷ above ++ point (D.standing database.old) ∷ []) × AllBelow (D.next database.new) (ids ((D.next database.old, D.begun q.1) ∷ q ∷ above ++ point (D.standing database.old) ∷ []))) }
+    ensures next { D.next database.old ≤ D.next database.new }
+    ensures standing { D.standing database.new ≡ D.standing database.old }
+    ensures count { D.count database.new ≡ D.count database.old }
+    ensures exhausted { IsErrOf result SetError.Exhausted → 2 ^ 64 - 1 ≤ D.next database.old }
+    ensures lost { IsErrOf result SetError.Lost → ⊥ }
+    ensures fault { (n : ℕ) (k : DbCall) → IsErrOf result (SetError.DatabaseFault n k) → ⊥ }
+{
+    let id = match database.draw() {
+        Ok(id) => id,
+        Err(_) => return Err(SetError::Exhausted),
+    };
+    let database: &D = database;
+    match D::fork(BatchContext::new(database, id), parent) {
+        Ok(batch) => Ok(batch),
+        Err(_) => Err(SetError::OutOfMemory),
+    }
+}
+
+/// The database is lost with its medium. What the set answers that failed so at this call.
+fn lose<D: ManagedDb>(held: &mut Held<D>, broken: Broken<D::Medium>, call: DbCall) -> SetError
+    ensures lost { held.new ≡ Held.Lost broken.medium }
+    ensures fault { (n : ℕ) (k : DbCall) → result ≡ SetError.DatabaseFault n k → (n ≡ 0) × (k ≡ call) × (broken.why ≡ Why.Failed) }
+    ensures failed { broken.why ≡ Why.Failed → result ≡ SetError.DatabaseFault 0 call }
+    ensures memory { broken.why ≡ Why.OutOfMemory → result ≡ SetError.OutOfMemory }
+{
+    let Broken { medium, why } = broken;
+    *held = Held::Lost(medium);
+    match why {
+        Why::Failed => SetError::DatabaseFault { index: 0, call },
+        Why::OutOfMemory => SetError::OutOfMemory,
+    }
+}
+
+/// Whether a database that didn't open is lost: it failed, or wanted memory.
+fn is_broken(why: InitError, before: u64, now: u64) -> bool
+    ensures { IsTrue result ↔ Loses why (Rose before now) }
+{
+    match why {
+        InitError::Database => before.saturating_add(1) <= now,
+        InitError::TargetMismatch { .. } => false,
+        InitError::OutOfMemory => true,
+    }
 }

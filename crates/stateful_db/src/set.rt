@@ -44,6 +44,7 @@ pub trait DatabaseSet: Sized {
     ghost use Rattle.stateful_db.specs.Chain.{IsPoint};
     ghost use Rattle.stateful_db.specs.Databases.{Databases, Laws, IsOpening};
     ghost use Rattle.stateful_db.specs.Handles.{places_from};
+    ghost use Rattle.stateful_db.specs.Barrier.{unanswered, open_at};
     ghost use Rattle.stateful_db.specs.declared.database.DbCall.{DbCall};
 
     /// The states of the databases, left to right.
@@ -102,12 +103,14 @@ pub trait DatabaseSet: Sized {
     ) -> Result<(), SetInit>
         ensures ok { OnOk result (kind.Shut (members self.old) → kind.Reopened (members self.old) expected (members self.new)) }
         ensures opening { OnOk result (kind.Shut (members self.old) → (t : Self.SyncTargets) → expected ≡ Some t → IsOpening kind (next self.new) (members self.new) t) }
+        ensures cause { IfErr result (λ e. kind.Shut (members self.old) → kind.NotOpened (members self.old) expected e.index (Rose (counted self.old e.index) (counted self.new e.index)) e.why (members self.new)) }
         ensures closed { OnErr result (kind.Shut (members self.old) → kind.Shut (members self.new)) }
         ensures index { IfErr result (λ e. e.index < kind.count) }
         ensures later { (n : ℕ) → counted self.old n ≤ counted self.new n };
 
     /// The targets of empty media.
-    fn initial_sync_targets() -> Self::SyncTargets;
+    fn initial_sync_targets() -> Self::SyncTargets
+        ensures { result ≡ kind.target_of kind.initial };
 
     /// Batches over the states as they are. Without an `Ok` ids may have been drawn.
     fn new_batches(&mut self) -> Result<Self::Unmerkleized, SetError>
@@ -115,6 +118,7 @@ pub trait DatabaseSet: Sized {
         ensures members { members self.new ≡ members self.old }
         ensures keeps { (c : List (Self.Ids × Self.States)) → kind.issued (next self.old) c → kind.issued (next self.new) c }
         ensures lost { IsErrOf result SetError.Lost ↔ (kind.point (members self.old) ≡ None) }
+        ensures exhausted { IsErrOf result SetError.Exhausted → kind.Spent (next self.old) }
         ensures fault { (n : ℕ) (k : DbCall) → IsErrOf result (SetError.DatabaseFault n k) → ⊥ }
         ensures counts { (n : ℕ) → counted self.new n ≡ counted self.old n };
 
@@ -124,13 +128,16 @@ pub trait DatabaseSet: Sized {
         ensures members { members self.new ≡ members self.old }
         ensures keeps { (c : List (Self.Ids × Self.States)) → kind.issued (next self.old) c → kind.issued (next self.new) c }
         ensures lost { IsErrOf result SetError.Lost ↔ (kind.point (members self.old) ≡ None) }
+        ensures exhausted { IsErrOf result SetError.Exhausted → kind.Spent (next self.old) }
         ensures fault { (n : ℕ) (k : DbCall) → IsErrOf result (SetError.DatabaseFault n k) → ⊥ }
         ensures counts { (n : ℕ) → counted self.new n ≡ counted self.old n };
 
     /// Seals each member against its own database. `StaleRead` also where a database isn't here.
     fn seal(&self, batches: Self::Unmerkleized) -> Result<Self::Merkleized, BatchError>
         ensures ok { IfOk result (λ m. (p : Self.Ids × Self.States) (c : List (Self.Ids × Self.States)) → kind.point (members self.now) ≡ Some p → opened batches c → IsPoint p c → shows m c) }
-        ensures stale { IsErrOf result BatchError.StaleRead → (p : Self.Ids × Self.States) (c : List (Self.Ids × Self.States)) → kind.point (members self.now) ≡ Some p → opened batches c → IsPoint p c → ⊥ };
+        ensures stale { IsErrOf result BatchError.StaleRead → (p : Self.Ids × Self.States) (c : List (Self.Ids × Self.States)) → kind.point (members self.now) ≡ Some p → opened batches c → IsPoint p c → ⊥ }
+        ensures exhausted { (p : Self.Ids × Self.States) (c : List (Self.Ids × Self.States)) → opened batches (p ∷ c) → IsErrOf result BatchError.Exhausted → kind.Full p.1 }
+        ensures within { IfOk result (λ _. (p : Self.Ids × Self.States) (c : List (Self.Ids × Self.States)) → opened batches (p ∷ c) → kind.Full p.1 → ⊥) };
 
     /// Whether all members match.
     fn matches_sync_targets(batches: &Self::Merkleized, targets: &Self::SyncTargets) -> bool
@@ -142,6 +149,8 @@ pub trait DatabaseSet: Sized {
         targets: &Self::SyncTargets,
     ) -> Option<(usize, Target, Target)>
         ensures none { (p : Self.Ids × Self.States) (c : List (Self.Ids × Self.States)) → shows batches.now (p ∷ c) → (IsNone result ↔ (kind.target_of p.1 ≡ targets.now)) }
+        ensures first { IfSome result (λ m. (p : Self.Ids × Self.States) (c : List (Self.Ids × Self.States)) → shows batches.now (p ∷ c) → (kind.Agrees (kind.target_of p.1) targets.now m.0 → ⊥) × ((i : ℕ) → i < m.0 → kind.Agrees (kind.target_of p.1) targets.now i)) }
+        ensures targets { IfSome result (λ m. (p : Self.Ids × Self.States) (c : List (Self.Ids × Self.States)) → shows batches.now (p ∷ c) → (m.1 ≡ kind.target_at targets.now m.0) × (m.2 ≡ kind.target_at (kind.target_of p.1) m.0)) }
         ensures index { IfSome result (λ m. m.0 < kind.count) };
 
     /// Applies batches whose parents are the databases' states, in order.
@@ -152,6 +161,7 @@ pub trait DatabaseSet: Sized {
         ensures exhausted { IsErrOf result SetError.Exhausted → ⊥ }
         ensures next { next self.new ≡ next self.old }
         ensures fault { (n : ℕ) (k : DbCall) → IsErrOf result (SetError.DatabaseFault n k) → (k ≡ DbCall.Apply) × (n < kind.count) × Rose (counted self.old n) (counted self.new n) × ((p q : Self.Ids × Self.States) (c : List (Self.Ids × Self.States)) → kind.point (members self.old) ≡ Some p → shows batches (q ∷ p ∷ c) → kind.LostApplying (members self.old) q n (members self.new)) }
+        ensures memory { IsErrOf result SetError.OutOfMemory → (p q : Self.Ids × Self.States) (c : List (Self.Ids × Self.States)) → kind.point (members self.old) ≡ Some p → shows batches (q ∷ p ∷ c) → (n : ℕ) × (n < kind.count) × kind.LostApplying (members self.old) q n (members self.new) }
         ensures err { OnErr result ((p q : Self.Ids × Self.States) (c : List (Self.Ids × Self.States)) → kind.point (members self.old) ≡ Some p → shows batches (q ∷ p ∷ c) → (i : ℕ) → kind.HasState (members self.new) i p.1 ⊎ kind.HasState (members self.new) i q.1) }
         ensures later { (n : ℕ) → counted self.old n ≤ counted self.new n };
 
@@ -164,8 +174,32 @@ pub trait DatabaseSet: Sized {
         ensures exhausted { IsErrOf result SetError.Exhausted → ⊥ }
         ensures next { next self.new ≡ next self.old }
         ensures fault { (n : ℕ) (k : DbCall) → IsErrOf result (SetError.DatabaseFault n k) → (k ≡ DbCall.Finalize) × (n < kind.count) × Rose (counted self.old n) (counted self.new n) × kind.LostFinalizing (members self.old) n (members self.new) }
+        ensures memory { IsErrOf result SetError.OutOfMemory → (n : ℕ) × (n < kind.count) × kind.LostFinalizing (members self.old) n (members self.new) }
         ensures err { OnErr result ((i : ℕ) (s : Self.States) → kind.HasState (members self.old) i s → kind.HasState (members self.new) i s) }
         ensures later { (n : ℕ) → counted self.old n ≤ counted self.new n };
+
+    /// Starts persisting all checkpoints, and makes a barrier of the tokens, which are all open.
+    final fn finalize(&mut self, alloc: Global) -> Result<Barrier, SetError>
+        requires { kind.Idle (members self.old) }
+        ensures ok { OnOk result (members self.new ≡ kind.finalized (members self.old)) }
+        ensures tokens { IfOk result (λ barrier. barrier ≡ map (λ place. unanswered (record { place = place })) (places_from kind.place (members self.old) 0 kind.count)) }
+        ensures count { IfOk result (λ barrier. length barrier ≡ kind.count) }
+        ensures handles { IfOk result (λ barrier. (i : ℕ) → i < kind.count → open_at barrier i ≡ Some (record { place = kind.place (members self.old) i })) }
+        ensures lost { IsErrOf result SetError.Lost → ⊥ }
+        ensures exhausted { IsErrOf result SetError.Exhausted → ⊥ }
+        ensures next { next self.new ≡ next self.old }
+        ensures fault { (n : ℕ) (k : DbCall) → IsErrOf result (SetError.DatabaseFault n k) → (k ≡ DbCall.Finalize) × (n < kind.count) × Rose (counted self.old n) (counted self.new n) × kind.LostFinalizing (members self.old) n (members self.new) }
+        ensures memory { IsErrOf result SetError.OutOfMemory → (members self.new ≡ kind.finalized (members self.old)) ⊎ ((n : ℕ) × (n < kind.count) × kind.LostFinalizing (members self.old) n (members self.new)) }
+        ensures err { OnErr result ((i : ℕ) (s : Self.States) → kind.HasState (members self.old) i s → kind.HasState (members self.new) i s) }
+        ensures later { (n : ℕ) → counted self.old n ≤ counted self.new n }
+    {
+        let mut tokens = Items::new(alloc);
+        self.persist(&mut tokens)?;
+        match Barrier::from_handles(tokens.into_vec()) {
+            Ok(barrier) => Ok(barrier),
+            Err(OutOfMemory) => Err(SetError::OutOfMemory),
+        }
+    }
 
     /// The checkpoints that the token covers are durable at the database of this number, at which it has to be out.
     fn flush(&mut self, index: usize, token: FlushToken) -> Result<(), SetError>
@@ -176,6 +210,7 @@ pub trait DatabaseSet: Sized {
         ensures exhausted { IsErrOf result SetError.Exhausted → ⊥ }
         ensures next { next self.new ≡ next self.old }
         ensures fault { (n : ℕ) (k : DbCall) → IsErrOf result (SetError.DatabaseFault n k) → (k ≡ DbCall.Flush) × (n ≡ index) × Rose (counted self.old n) (counted self.new n) × kind.LostFlushing (members self.old) n token.place (members self.new) }
+        ensures memory { IsErrOf result SetError.OutOfMemory → kind.LostFlushing (members self.old) index token.place (members self.new) }
         ensures err { OnErr result ((i : ℕ) (s : Self.States) → kind.HasState (members self.old) i s → kind.HasState (members self.new) i s) }
         ensures later { (n : ℕ) → counted self.old n ≤ counted self.new n };
 
@@ -201,4 +236,18 @@ pub trait DatabaseSet: Sized {
         ensures counts { (n : ℕ) → counted result n ≡ counted self.old n };
 
     ghost laws: { Laws kind };
+}
+
+#[cfg(test)]
+mod tests {
+    use super::*;
+    use std::test::Fail;
+
+    #[test]
+    fn a_fault_is_told_with_its_database_and_its_call(rt: HostRuntime) -> Result<(), Fail> {
+        let call = DbCall::Apply;
+        let text = SetError::DatabaseFault { index: 3, call }.to_string(rt.alloc())?;
+        assert_eq!(rt; text.as_str(), "database 3 failed at Apply");
+        Ok(())
+    }
 }
