@@ -1,1 +1,7 @@
 pub mod Numbered
+pub mod Longer
+pub mod Words
+pub mod Spelled
+pub mod Names
+pub mod Reading
+pub mod EqualLines

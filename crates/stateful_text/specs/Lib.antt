@@ -1,3 +1,4 @@
 pub mod Line
 pub mod Mark
 pub mod Transcript
+pub mod Told

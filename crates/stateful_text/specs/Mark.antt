@@ -1,5 +1,5 @@
 -- The line of a mark.
-use Rattle.std.specs.Prelude.{ℕ, List, [], ◌∷◌, ◌++◌, Option, Some, None, Bool, true, false, codes}
+use Rattle.std.specs.Prelude.{ℕ, List, [], ◌∷◌, Option, Some, None, Bool, true, false, codes}
 use Rattle.std.specs.Fmt.{decimal}
 use Rattle.stateful_history.specs.declared.mark.JobKind.{JobKind}
 use Rattle.stateful_history.specs.declared.mark.JobKind.TheVariants.{Candidate, Finalized, Build, Hook}
@@ -47,7 +47,7 @@ done_word true = codes "durable"
 done_word false = codes "broken"
 
 -- The line of a mark, by these heights of blocks and these names.
-module _ {B : Type 0} (height : B → ℕ) (labels : List Label) where
+module _ {B : Type 0} (height_of : B → ℕ) (labels : List Label) where
   abbrev pub mark_line : Mark B → List ℕ
   mark_line (Opened anchor) = line (codes "opened") (decimal anchor.height.0 ∷ name_of labels anchor.digest ∷ [])
   mark_line (Converged anchor) = line (codes "converged") (decimal anchor.height.0 ∷ name_of labels anchor.digest ∷ [])
@@ -61,7 +61,7 @@ module _ {B : Type 0} (height : B → ℕ) (labels : List Label) where
   mark_line (Declined ticket) = line (codes "declined") (decimal ticket ∷ [])
   mark_line (Databases ticket) = line (codes "databases") (decimal ticket ∷ [])
   mark_line (Began ticket block) = line (codes "began") (decimal ticket ∷ name_of labels block.digest ∷ [])
-  mark_line (Applied block) = line (codes "applied") (decimal (height block.block) ∷ name_of labels block.digest ∷ [])
+  mark_line (Applied block) = line (codes "applied") (decimal (height_of block.block) ∷ name_of labels block.digest ∷ [])
   mark_line (BarrierBegun barrier height) = line (codes "barrier") (decimal barrier ∷ decimal height.0 ∷ [])
   mark_line (BarrierDone barrier height good) = line (done_word good) (decimal barrier ∷ decimal height.0 ∷ [])
   mark_line (Acknowledged ticket height) = line (codes "acknowledged") (decimal ticket ∷ decimal height.0 ∷ [])

@@ -11,10 +11,18 @@ use Rattle.stateful_text.specs.declared.shown.End.TheVariants.{Done, Halted}
 use Rattle.stateful_text.specs.Line.{line}
 use Rattle.stateful_text.specs.Mark.{mark_line}
 
--- a number sign and the entry's number, and a line for each mark
-abbrev pub entry_lines : {B C I : Type 0} → (B → ℕ) → List Label → ℕ × Entry B C I → List ℕ
-entry_lines height labels (number, entry) = line (codes "#" ++ decimal number) [] ++ flat_map (mark_line height labels) entry.marks
+-- The entries' lines, by these heights of blocks and these names.
+module _ {B : Type 0} (height_of : B → ℕ) (labels : List Label) where
+  module _ {C I : Type 0} where
+    -- a number sign and the entry's number, and a line for each mark
+    abbrev pub entry_lines : ℕ × Entry B C I → List ℕ
+    entry_lines (number, entry) = line (codes "#" ++ decimal number) [] ++ flat_map (mark_line height_of labels) entry.marks
 
+    -- the lines of entries that are numbered from here on
+    abbrev pub entries_from : ℕ → List (Entry B C I) → List ℕ
+    entries_from number entries = flat_map entry_lines (enumerate_from number entries)
+
+-- an account and its balance
 abbrev pub balance_text : ℕ × ℕ → List ℕ
 balance_text (account, balance) = decimal account ++ codes "=" ++ decimal balance
 
@@ -38,13 +46,13 @@ abbrev pub end_line : Ending → List ℕ
 end_line WithLast = line (codes "done") []
 end_line (HaltedAt at name) = line (codes "halted") (decimal at ∷ name ∷ [])
 
--- The entries by their numbers from 0 on, the databases likewise, and how it ended. Lines name blocks by these labels,
--- and take a block's height from it.
+-- The entries and then the databases by their numbers from 0 on, and how it ended. Lines name blocks by these labels,
+-- and a line that has a block's height takes it from the block.
 abbrev pub transcript : {B C I : Type 0} → (B → ℕ) → List Label → List (Entry B C I) → List Shown → Ending → List ℕ
-transcript height labels entries databases ending =
-    flat_map (entry_lines height labels) (enumerate_from 0 entries) ++ flat_map database_line (enumerate_from 0 databases) ++ end_line ending
+transcript height_of labels entries databases ending =
+    entries_from height_of labels 0 entries ++ flat_map database_line (enumerate_from 0 databases) ++ end_line ending
 
--- what is written where the words ask for nothing that the program does
+-- what is written where the program is called with other words
 abbrev pub usage_line : List ℕ
 usage_line = line (codes "usage: stateful_prog play | make N") []
 

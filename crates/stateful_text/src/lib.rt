@@ -9,3 +9,6 @@ mod whole;
 
 pub use shown::{End, Label, Shown};
 pub use whole::{script_line, transcript, usage_line};
+
+#[cfg(test)]
+mod tests;

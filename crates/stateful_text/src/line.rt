@@ -11,18 +11,18 @@ use crate::shown::Label;
 use stateful_types::{Digest, OutOfMemory};
 use std::alloc::Global;
 
-pub fn push(text: &mut Vec<u8>, piece: &[u8]) -> Result<(), OutOfMemory>
-    ensures { OnOk result (text.new.items ≡ text.old.items ++ piece.now) }
+pub fn push(out: &mut Vec<u8>, piece: &[u8]) -> Result<(), OutOfMemory>
+    ensures { OnOk result (out.new.items ≡ out.old.items ++ piece.now) }
 {
-    text.extend_from_slice(piece)?;
+    out.extend_from_slice(piece)?;
     Ok(())
 }
 
-pub fn push_number(alloc: Global, text: &mut Vec<u8>, number: u64) -> Result<(), OutOfMemory>
-    ensures { OnOk result (text.new.items ≡ text.old.items ++ decimal number) }
+pub fn push_number(alloc: Global, out: &mut Vec<u8>, number: u64) -> Result<(), OutOfMemory>
+    ensures { OnOk result (out.new.items ≡ out.old.items ++ decimal number) }
 {
     let digits = number.to_string(alloc)?;
-    push(text, digits.as_bytes())
+    push(out, digits.as_bytes())
 }
 
 fn hex_digit(value: u8) -> u8
@@ -36,12 +36,12 @@ fn hex_digit(value: u8) -> u8
     }
 }
 
-fn push_hex(text: &mut Vec<u8>, bytes: &[u8]) -> Result<(), OutOfMemory>
-    ensures { OnOk result (text.new.items ≡ text.old.items ++ hex_of bytes.now) }
+fn push_hex(out: &mut Vec<u8>, bytes: &[u8]) -> Result<(), OutOfMemory>
+    ensures { OnOk result (out.new.items ≡ out.old.items ++ hex_of bytes.now) }
 {
     for byte in bytes {
-        text.push(hex_digit(*byte / 16))?;
-        text.push(hex_digit(*byte % 16))?;
+        out.push(hex_digit(*byte / 16))?;
+        out.push(hex_digit(*byte % 16))?;
     }
     Ok(())
 }
@@ -54,14 +54,14 @@ fn first_label<'a>(labels: &'a [Label], digest: Digest) -> Option<&'a Label>
         .find(|label| label.digest.0.as_slice() == digest.0.as_slice())
 }
 
-fn push_name(text: &mut Vec<u8>, labels: &[Label], digest: Digest) -> Result<(), OutOfMemory>
-    ensures { OnOk result (text.new.items ≡ text.old.items ++ name_of labels.now digest) }
+fn push_name(out: &mut Vec<u8>, labels: &[Label], digest: Digest) -> Result<(), OutOfMemory>
+    ensures { OnOk result (out.new.items ≡ out.old.items ++ name_of labels.now digest) }
 {
     match first_label(labels, digest) {
-        Some(label) => push(text, label.name.as_slice()),
+        Some(label) => push(out, label.name.as_slice()),
         None => {
-            push(text, b"?")?;
-            push_hex(text, &digest.0)
+            push(out, b"?")?;
+            push_hex(out, &digest.0)
         }
     }
 }
@@ -76,90 +76,90 @@ pub enum Field<'a> {
 
 /// What lines are written with: memory, and the names of blocks.
 #[derive(Clone, Copy)]
-pub struct Pen<'a> {
+pub struct Lines<'a> {
     pub alloc: Global,
     pub labels: &'a [Label],
 }
 
-impl Pen<'_> {
-    fn push_field(self, text: &mut Vec<u8>, field: Field<'_>) -> Result<(), OutOfMemory>
-        ensures { OnOk result (text.new.items ≡ text.old.items ++ field_text self.entry.labels.now field.entry) }
+impl Lines<'_> {
+    fn push_field(self, out: &mut Vec<u8>, field: Field<'_>) -> Result<(), OutOfMemory>
+        ensures { OnOk result (out.new.items ≡ out.old.items ++ field_text self.entry.labels.now field.entry) }
     {
         match field {
-            Field::Word(word) => push(text, word.as_bytes()),
-            Field::Number(number) => push_number(self.alloc, text, number),
-            Field::Block(digest) => push_name(text, self.labels, digest),
+            Field::Word(word) => push(out, word.as_bytes()),
+            Field::Number(number) => push_number(self.alloc, out, number),
+            Field::Block(digest) => push_name(out, self.labels, digest),
         }
     }
 
     /// Appends a line of this word and these fields.
     pub fn line(
         self,
-        text: &mut Vec<u8>,
+        out: &mut Vec<u8>,
         word: &str,
         fields: &[Field<'_>],
     ) -> Result<(), OutOfMemory>
         ensures { OnOk result
-            (text.new.items ≡ text.old.items
+            (out.new.items ≡ out.old.items
             ++ line word.now (map (field_text self.entry.labels.now) fields.now)) }
     {
-        push(text, word.as_bytes())?;
+        push(out, word.as_bytes())?;
         for field in fields {
-            push(text, b" ")?;
-            self.push_field(text, *field)?;
+            push(out, b" ")?;
+            self.push_field(out, *field)?;
         }
-        push(text, b"\n")
+        push(out, b"\n")
     }
 
     /// Appends a line of this word and a number.
-    pub fn number(self, text: &mut Vec<u8>, word: &str, number: u64) -> Result<(), OutOfMemory>
+    pub fn number(self, out: &mut Vec<u8>, word: &str, number: u64) -> Result<(), OutOfMemory>
         ensures { OnOk result
-            (text.new.items ≡ text.old.items ++ line word.now (decimal number ∷ [])) }
+            (out.new.items ≡ out.old.items ++ line word.now (decimal number ∷ [])) }
     {
-        self.line(text, word, &[Field::Number(number)])
+        self.line(out, word, &[Field::Number(number)])
     }
 
     /// Appends a line of this word and two numbers.
     pub fn pair(
         self,
-        text: &mut Vec<u8>,
+        out: &mut Vec<u8>,
         word: &str,
         first: u64,
         second: u64,
     ) -> Result<(), OutOfMemory>
         ensures { OnOk result
-            (text.new.items ≡ text.old.items
+            (out.new.items ≡ out.old.items
             ++ line word.now (decimal first ∷ decimal second ∷ [])) }
     {
-        self.line(text, word, &[Field::Number(first), Field::Number(second)])
+        self.line(out, word, &[Field::Number(first), Field::Number(second)])
     }
 
     /// Appends a line of this word, a number and another word.
     pub fn word(
         self,
-        text: &mut Vec<u8>,
+        out: &mut Vec<u8>,
         word: &str,
         number: u64,
         last: &str,
     ) -> Result<(), OutOfMemory>
         ensures { OnOk result
-            (text.new.items ≡ text.old.items ++ line word.now (decimal number ∷ last.now ∷ [])) }
+            (out.new.items ≡ out.old.items ++ line word.now (decimal number ∷ last.now ∷ [])) }
     {
-        self.line(text, word, &[Field::Number(number), Field::Word(last)])
+        self.line(out, word, &[Field::Number(number), Field::Word(last)])
     }
 
     /// Appends a line of this word, a number and a block.
     pub fn block(
         self,
-        text: &mut Vec<u8>,
+        out: &mut Vec<u8>,
         word: &str,
         number: u64,
         digest: Digest,
     ) -> Result<(), OutOfMemory>
         ensures { OnOk result
-            (text.new.items ≡ text.old.items
+            (out.new.items ≡ out.old.items
             ++ line word.now (decimal number ∷ name_of self.entry.labels.now digest ∷ [])) }
     {
-        self.line(text, word, &[Field::Number(number), Field::Block(digest)])
+        self.line(out, word, &[Field::Number(number), Field::Block(digest)])
     }
 }

@@ -3,7 +3,7 @@
 ghost use Rattle.std.specs.Prelude.{◌≡◌, ◌++◌, OnOk};
 ghost use Rattle.stateful_text.specs.Mark.{kind_word, how_word, decision_word, truth_word, done_word, mark_line};
 
-use crate::line::{Field, Pen};
+use crate::line::{Field, Lines};
 use stateful_history::{Decision, How, JobKind, Mark};
 use stateful_types::{Block, OutOfMemory};
 
@@ -56,18 +56,18 @@ fn done_word(good: bool) -> &'static str
 
 /// Appends the line of a mark.
 pub fn push_mark<B: Block>(
-    pen: Pen<'_>,
-    text: &mut Vec<u8>,
+    lines: Lines<'_>,
+    out: &mut Vec<u8>,
     mark: &Mark<B>,
 ) -> Result<(), OutOfMemory>
     ensures { OnOk result
-        (text.new.items ≡ text.old.items
-        ++ mark_line B.header.height pen.entry.labels.now mark.now) }
+        (out.new.items ≡ out.old.items
+        ++ mark_line B.header.height lines.entry.labels.now mark.now) }
 {
     use Field::{Block, Number, Word};
     match mark {
-        Mark::Opened { anchor } => pen.block(text, "opened", anchor.height.0, anchor.digest),
-        Mark::Converged { anchor } => pen.block(text, "converged", anchor.height.0, anchor.digest),
+        Mark::Opened { anchor } => lines.block(out, "opened", anchor.height.0, anchor.digest),
+        Mark::Converged { anchor } => lines.block(out, "converged", anchor.height.0, anchor.digest),
         Mark::Asked {
             fetch,
             ticket,
@@ -77,19 +77,19 @@ pub fn push_mark<B: Block>(
                 Some(ticket) => Number(*ticket),
                 None => Word("floor"),
             };
-            pen.line(text, "asked", &[Number(*fetch), asker, Block(*digest)])
+            lines.line(out, "asked", &[Number(*fetch), asker, Block(*digest)])
         }
-        Mark::Withdrawn { fetch } => pen.number(text, "withdrawn", *fetch),
+        Mark::Withdrawn { fetch } => lines.number(out, "withdrawn", *fetch),
         Mark::Started { job, kind, digest } => {
             let kind = Word(kind_word(*kind));
-            pen.line(text, "started", &[Number(*job), kind, Block(*digest)])
+            lines.line(out, "started", &[Number(*job), kind, Block(*digest)])
         }
-        Mark::Ended { job, how } => pen.word(text, "ended", *job, how_word(*how)),
+        Mark::Ended { job, how } => lines.word(out, "ended", *job, how_word(*how)),
         Mark::Built { job, ticket, block } => {
             let block = Block(block.digest());
-            pen.line(text, "built", &[Number(*job), Number(*ticket), block])
+            lines.line(out, "built", &[Number(*job), Number(*ticket), block])
         }
-        Mark::Verdict { ticket, valid } => pen.word(text, "verdict", *ticket, truth_word(*valid)),
+        Mark::Verdict { ticket, valid } => lines.word(out, "verdict", *ticket, truth_word(*valid)),
         Mark::Answered {
             ticket,
             decision,
@@ -97,29 +97,29 @@ pub fn push_mark<B: Block>(
         } => {
             let decision = Word(decision_word(*decision));
             let block = Block(block.digest());
-            pen.line(text, "answered", &[Number(*ticket), decision, block])
+            lines.line(out, "answered", &[Number(*ticket), decision, block])
         }
-        Mark::Declined { ticket } => pen.number(text, "declined", *ticket),
-        Mark::Databases { ticket } => pen.number(text, "databases", *ticket),
-        Mark::Began { ticket, block } => pen.block(text, "began", *ticket, block.digest()),
-        Mark::Applied { block } => pen.block(text, "applied", block.height().0, block.digest()),
-        Mark::BarrierBegun { barrier, height } => pen.pair(text, "barrier", *barrier, height.0),
+        Mark::Declined { ticket } => lines.number(out, "declined", *ticket),
+        Mark::Databases { ticket } => lines.number(out, "databases", *ticket),
+        Mark::Began { ticket, block } => lines.block(out, "began", *ticket, block.digest()),
+        Mark::Applied { block } => lines.block(out, "applied", block.height().0, block.digest()),
+        Mark::BarrierBegun { barrier, height } => lines.pair(out, "barrier", *barrier, height.0),
         Mark::BarrierDone {
             barrier,
             height,
             good,
-        } => pen.pair(text, done_word(*good), *barrier, height.0),
-        Mark::Acknowledged { ticket, height } => pen.pair(text, "acknowledged", *ticket, height.0),
-        Mark::Dropped { ticket } => pen.number(text, "dropped", *ticket),
-        Mark::Recorded { anchor } => pen.block(text, "recorded", anchor.height.0, anchor.digest),
-        Mark::Dispatched { generation, height } => pen.pair(
-            text,
+        } => lines.pair(out, done_word(*good), *barrier, height.0),
+        Mark::Acknowledged { ticket, height } => lines.pair(out, "acknowledged", *ticket, height.0),
+        Mark::Dropped { ticket } => lines.number(out, "dropped", *ticket),
+        Mark::Recorded { anchor } => lines.block(out, "recorded", anchor.height.0, anchor.digest),
+        Mark::Dispatched { generation, height } => lines.pair(
+            out,
             "dispatched",
             *generation,
             height.0,
         ),
-        Mark::Pruned { marshal, target } => pen.pair(text, "pruned", marshal.0, target.0),
-        Mark::Completed { height } => pen.number(text, "completed", height.0),
-        Mark::Stopped => pen.line(text, "stopped", &[]),
+        Mark::Pruned { marshal, target } => lines.pair(out, "pruned", marshal.0, target.0),
+        Mark::Completed { height } => lines.number(out, "completed", height.0),
+        Mark::Stopped => lines.line(out, "stopped", &[]),
     }
 }

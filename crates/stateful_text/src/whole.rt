@@ -2,19 +2,11 @@
 
 ghost use Rattle.std.specs.Prelude.{◌≡◌, ◌++◌, ◌∷◌, IfOk, OnOk};
 ghost use Rattle.std.specs.List.{flat_map, enumerate_from};
-ghost use Rattle.stateful_text.specs.Transcript.{
-  entry_lines,
-  balance_text,
-  database_line,
-  end_line,
-  ending_of,
-  transcript,
-  usage_line,
-  script_line,
-};
+ghost use Rattle.stateful_text.specs.Transcript.{entry_lines, entries_from, balance_text, database_line};
+ghost use Rattle.stateful_text.specs.Transcript.{end_line, ending_of, transcript, usage_line, script_line};
 ghost use Rattle.stateful_text.specs.declared.shown.Shown.TheVariants.{Balances};
 
-use crate::line::{Pen, push, push_number};
+use crate::line::{Lines, push, push_number};
 use crate::mark::push_mark;
 use crate::shown::{End, Label, Shown};
 use stateful_history::Entry;
@@ -22,116 +14,120 @@ use stateful_types::{Block, OutOfMemory};
 use std::alloc::Global;
 
 fn push_entry<B: Block, C, I>(
-    pen: Pen<'_>,
-    text: &mut Vec<u8>,
+    lines: Lines<'_>,
+    out: &mut Vec<u8>,
     number: usize,
     entry: &Entry<B, C, I>,
 ) -> Result<(), OutOfMemory>
     ensures { OnOk result
-        (text.new.items ≡ text.old.items
-        ++ entry_lines B.header.height pen.entry.labels.now (number, entry.now)) }
+        (out.new.items ≡ out.old.items
+        ++ entry_lines B.header.height lines.entry.labels.now (number, entry.now)) }
 {
-    push(text, b"#")?;
-    push_number(pen.alloc, text, number as u64)?;
-    push(text, b"\n")?;
+    push(out, b"#")?;
+    push_number(lines.alloc, out, number as u64)?;
+    push(out, b"\n")?;
     for mark in entry.marks.as_slice() {
-        push_mark(pen, text, mark)?;
+        push_mark(lines, out, mark)?;
     }
     Ok(())
 }
 
 #[tactic(auto, using(crate::proofs::Numbered::numbered_all))]
 fn push_entries<B: Block, C, I>(
-    pen: Pen<'_>,
-    text: &mut Vec<u8>,
+    lines: Lines<'_>,
+    out: &mut Vec<u8>,
     entries: &[Entry<B, C, I>],
 ) -> Result<(), OutOfMemory>
     ensures { OnOk result
-        (text.new.items ≡ text.old.items
-        ++ flat_map (entry_lines B.header.height pen.entry.labels.now) (enumerate_from 0 entries.now)) }
+        (out.new.items ≡ out.old.items
+        ++ entries_from B.header.height lines.entry.labels.now 0 entries.now) }
 {
     for (number, entry) in entries.iter().enumerate() {
-        push_entry(pen, text, number, entry)?;
+        push_entry(lines, out, number, entry)?;
     }
     Ok(())
 }
 
 fn push_balance(
-    pen: Pen<'_>,
-    text: &mut Vec<u8>,
+    lines: Lines<'_>,
+    out: &mut Vec<u8>,
     account: u64,
     balance: u64,
 ) -> Result<(), OutOfMemory>
     ensures { OnOk result
-        (text.new.items ≡ text.old.items ++ 32 ∷ balance_text (account, balance)) }
+        (out.new.items ≡ out.old.items ++ 32 ∷ balance_text (account, balance)) }
 {
-    push(text, b" ")?;
-    push_number(pen.alloc, text, account)?;
-    push(text, b"=")?;
-    push_number(pen.alloc, text, balance)
+    push(out, b" ")?;
+    push_number(lines.alloc, out, account)?;
+    push(out, b"=")?;
+    push_number(lines.alloc, out, balance)
 }
 
 fn push_balances(
-    pen: Pen<'_>,
-    text: &mut Vec<u8>,
+    lines: Lines<'_>,
+    out: &mut Vec<u8>,
     number: usize,
     start: u64,
     end: u64,
     balances: &[(u64, u64)],
 ) -> Result<(), OutOfMemory>
     ensures { OnOk result
-        (text.new.items ≡ text.old.items ++ database_line (number, Balances start end balances.now)) }
+        (out.new.items ≡ out.old.items ++ database_line (number, Balances start end balances.now)) }
 {
-    push(text, b"database ")?;
-    push_number(pen.alloc, text, number as u64)?;
-    push(text, b" ")?;
-    push_number(pen.alloc, text, start)?;
-    push(text, b"..")?;
-    push_number(pen.alloc, text, end)?;
+    push(out, b"database ")?;
+    push_number(lines.alloc, out, number as u64)?;
+    push(out, b" ")?;
+    push_number(lines.alloc, out, start)?;
+    push(out, b"..")?;
+    push_number(lines.alloc, out, end)?;
     for (account, balance) in balances {
-        push_balance(pen, text, *account, *balance)?;
+        push_balance(lines, out, *account, *balance)?;
     }
-    push(text, b"\n")
+    push(out, b"\n")
 }
 
 fn push_database(
-    pen: Pen<'_>,
-    text: &mut Vec<u8>,
+    lines: Lines<'_>,
+    out: &mut Vec<u8>,
     number: usize,
     shown: &Shown,
 ) -> Result<(), OutOfMemory>
     ensures { OnOk result
-        (text.new.items ≡ text.old.items ++ database_line (number, shown.now)) }
+        (out.new.items ≡ out.old.items ++ database_line (number, shown.now)) }
 {
     match shown {
         Shown::Balances {
             start,
             end,
             balances,
-        } => push_balances(pen, text, number, *start, *end, balances.as_slice()),
-        Shown::Closed => pen.word(text, "database", number as u64, "closed"),
-        Shown::Lost => pen.word(text, "database", number as u64, "lost"),
-        Shown::Away => pen.word(text, "database", number as u64, "away"),
+        } => push_balances(lines, out, number, *start, *end, balances.as_slice()),
+        Shown::Closed => lines.word(out, "database", number as u64, "closed"),
+        Shown::Lost => lines.word(out, "database", number as u64, "lost"),
+        Shown::Away => lines.word(out, "database", number as u64, "away"),
     }
 }
 
 #[tactic(auto, using(crate::proofs::Numbered::numbered_all))]
-fn push_databases(pen: Pen<'_>, text: &mut Vec<u8>, databases: &[Shown]) -> Result<(), OutOfMemory>
+fn push_databases(
+    lines: Lines<'_>,
+    out: &mut Vec<u8>,
+    databases: &[Shown],
+) -> Result<(), OutOfMemory>
     ensures { OnOk result
-        (text.new.items ≡ text.old.items ++ flat_map database_line (enumerate_from 0 databases.now)) }
+        (out.new.items ≡ out.old.items ++ flat_map database_line (enumerate_from 0 databases.now)) }
 {
     for (number, shown) in databases.iter().enumerate() {
-        push_database(pen, text, number, shown)?;
+        push_database(lines, out, number, shown)?;
     }
     Ok(())
 }
 
-fn push_end(pen: Pen<'_>, text: &mut Vec<u8>, end: End<'_>) -> Result<(), OutOfMemory>
-    ensures { OnOk result (text.new.items ≡ text.old.items ++ end_line (ending_of end.entry)) }
+fn push_end(lines: Lines<'_>, out: &mut Vec<u8>, end: End<'_>) -> Result<(), OutOfMemory>
+    ensures { OnOk result (out.new.items ≡ out.old.items ++ end_line (ending_of end.entry)) }
 {
     match end {
-        End::Done => pen.line(text, "done", &[]),
-        End::Halted { at, name } => pen.word(text, "halted", at, name),
+        End::Done => lines.line(out, "done", &[]),
+        End::Halted { at, name } => lines.word(out, "halted", at, name),
     }
 }
 
@@ -146,11 +142,11 @@ pub fn transcript<B: Block, C, I>(
     ensures { IfOk result (λ text. text.items
         ≡ transcript B.header.height labels.now entries.now databases.now (ending_of end.entry)) }
 {
-    let pen = Pen { alloc, labels };
+    let lines = Lines { alloc, labels };
     let mut text = Vec::new(alloc);
-    push_entries(pen, &mut text, entries)?;
-    push_databases(pen, &mut text, databases)?;
-    push_end(pen, &mut text, end)?;
+    push_entries(lines, &mut text, entries)?;
+    push_databases(lines, &mut text, databases)?;
+    push_end(lines, &mut text, end)?;
     Ok(text)
 }
 
@@ -168,7 +164,7 @@ pub fn script_line(alloc: Global, number: u64) -> Result<Vec<u8>, OutOfMemory>
     ensures { IfOk result (λ text. text.items ≡ script_line number) }
 {
     let mut text = Vec::new(alloc);
-    let pen = Pen { alloc, labels: &[] };
-    pen.number(&mut text, "script", number)?;
+    let lines = Lines { alloc, labels: &[] };
+    lines.number(&mut text, "script", number)?;
     Ok(text)
 }

@@ -3,4 +3,4 @@ use Rattle.stateful_text.specs.Line.{hex_of}
 use Rattle.stateful_text.proofs.line.push_hex.Given as goal
 
 abbrev pub invariant-loop-byte : goal.invariant-loop-byte
-invariant-loop-byte l = l.text.items ≡ l.fn.text.items ++ hex_of (take l.byte-index l.bytes)
+invariant-loop-byte l = l.out.items ≡ l.fn.out.items ++ hex_of (take l.byte-index l.bytes)

@@ -5,4 +5,4 @@ use Rattle.stateful_text.proofs.whole.push_balances.Given as goal
 
 abbrev pub invariant-loop-account : goal.invariant-loop-account
 invariant-loop-account l =
-    l.text.items ≡ l.initial.text.items ++ flat_map (λ field. 32 ∷ field) (map balance_text (take l.account-index l.balances))
+    l.out.items ≡ l.initial.out.items ++ flat_map (λ field. 32 ∷ field) (map balance_text (take l.account-index l.balances))

@@ -5,4 +5,4 @@ use Rattle.stateful_text.proofs.whole.push_databases.Given as goal
 
 abbrev pub invariant-loop-number : goal.invariant-loop-number
 invariant-loop-number l =
-    l.text.items ≡ l.fn.text.items ++ flat_map database_line (take l.number (enumerate_from 0 l.databases))
+    l.out.items ≡ l.fn.out.items ++ flat_map database_line (take l.number (enumerate_from 0 l.databases))

@@ -5,4 +5,4 @@ use Rattle.stateful_text.proofs.whole.push_entries.Given as goal
 
 abbrev pub invariant-loop-number : goal.invariant-loop-number
 invariant-loop-number g l =
-    l.text.items ≡ l.fn.text.items ++ flat_map (entry_lines g.B.Block.header.height l.pen.labels.now) (take l.number (enumerate_from 0 l.entries))
+    l.out.items ≡ l.fn.out.items ++ flat_map (entry_lines g.B.Block.header.height l.lines.labels.now) (take l.number (enumerate_from 0 l.entries))

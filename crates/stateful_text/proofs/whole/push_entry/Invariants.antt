@@ -8,4 +8,4 @@ use Rattle.stateful_text.proofs.whole.push_entry.Given as goal
 
 abbrev pub invariant-loop-mark : goal.invariant-loop-mark
 invariant-loop-mark g l =
-    l.text.items ≡ l.fn.text.items ++ line (codes "#" ++ decimal l.number) [] ++ flat_map (mark_line g.B.Block.header.height l.pen.labels.now) (take l.mark-index l.mark-items)
+    l.out.items ≡ l.fn.out.items ++ line (codes "#" ++ decimal l.number) [] ++ flat_map (mark_line g.B.Block.header.height l.lines.labels.now) (take l.mark-index l.mark-items)
