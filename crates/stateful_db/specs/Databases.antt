@@ -88,6 +88,8 @@ pub record Laws {Ids States Targets : Type 0} (d : Databases Ids States Targets)
   pub point_flushed : (m : d.Members) (n at : ℕ) → d.point (d.flushed m n at) ≡ d.point m
   pub idle_from : (m : d.Members) (p : Ids × States) → d.point m ≡ Some p → ((i : ℕ) → i < d.count → d.token m i ≡ None) → d.Idle m
   pub token_idle : (m : d.Members) (i : ℕ) → d.Idle m → d.token m i ≡ None
+  pub held_shut : (m : d.Members) → d.Shut m → d.Held m
+  pub held_here : (m : d.Members) (p : Ids × States) → d.point m ≡ Some p → d.Held m
   pub has_state : (m : d.Members) (p : Ids × States) (i : ℕ) → d.point m ≡ Some p → d.HasState m i p.1
 
 -- what the databases are where they were opened at these targets

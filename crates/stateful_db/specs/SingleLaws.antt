@@ -6,7 +6,7 @@ use Rattle.stateful_types.specs.declared.target.Target.{Target}
 use Rattle.stateful_db.specs.Chain.{AllBelow, ids}
 use Rattle.stateful_db.specs.Databases.{Laws}
 use Rattle.stateful_db.specs.Disk.{all}
-use Rattle.stateful_db.specs.Member.{Member, at_home, shut, broken, gone, member_point, MemberKeeps, member_place, member_durable, member_token, IsIdle, member_applied, member_finalized, member_flushed, MemberHas}
+use Rattle.stateful_db.specs.Member.{Member, at_home, shut, broken, gone, member_point, MemberKeeps, member_place, member_durable, member_token, IsIdle, IsShut, IsHeld, member_applied, member_finalized, member_flushed, MemberHas}
 use Rattle.stateful_db.specs.Single.{single}
 
 module _ {S : Type 0} where
@@ -172,6 +172,18 @@ module _ {S : Type 0} where
   token-idle-at m zero idle = token-idle m idle
   token-idle-at m (suc i) idle = rw (eqb-suc-zero i) refl
 
+  held-shut : (m : Member S) → IsShut m → IsHeld m
+  held-shut (at_home s) h = tt
+  held-shut (shut d) h = tt
+  held-shut (broken d) h = tt
+  held-shut gone h = h
+
+  held-here : (m : Member S) (p : ℕ × S) → member_point m ≡ Some p → IsHeld m
+  held-here (at_home s) p here = tt
+  held-here (shut d) p here = tt
+  held-here (broken d) p here = tt
+  held-here gone p here = cc
+
 module _ {S T : Type 0} (target_of : S → T) (targeted : T → Target) (begun : S → S) (initial : S) where
   pub single_laws : Laws (single target_of targeted begun initial)
   single_laws = record {
@@ -198,5 +210,7 @@ module _ {S T : Type 0} (target_of : S → T) (targeted : T → Target) (begun :
     point_flushed = point-flushed-at;
     idle_from = λ m p here out. Idle-from m p here (out 0 (omega arith));
     token_idle = token-idle-at;
+    held_shut = held-shut;
+    held_here = held-here;
     has_state = λ m p i. has-point m p;
   }

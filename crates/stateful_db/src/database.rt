@@ -176,6 +176,7 @@ pub trait ManagedDb: Faulty + Sized + Drop {
     /// Adds the state of a batch whose parent is the database's state. Its range ends later than the one before.
     fn apply(self, batch: Self::Merkleized) -> Result<Self, Broken<Self::Medium>>
         ensures ok { IfOk result (λ db. (p : ℕ × Self.State) (c : List (ℕ × Self.State)) → Self.Merkleized.shows batch (p ∷ point (standing self) ∷ c) → standing db ≡ record (standing self) { id = p.0; disk = applied (standing self).disk p.1 }) }
+        ensures ok_out { IfOk result (λ db. (standing db).out ≡ (standing self).out) }
         ensures ok_next { IfOk result (λ db. next db ≡ next self) }
         ensures ok_count { IfOk result (λ db. Self.count self ≤ Self.count db) }
         ensures grows { IfOk result (λ db. (p : ℕ × Self.State) (c : List (ℕ × Self.State)) → Self.Merkleized.shows batch (p ∷ point (standing self) ∷ c) → (Self.SyncTarget.targeted (target_of (standing self).disk.newest)).end.0 < (Self.SyncTarget.targeted (target_of p.1)).end.0) }

@@ -159,6 +159,8 @@ pub trait DatabaseSet: Sized {
         ensures lost { IsErrOf result SetError.Lost ↔ (kind.point (members self.old) ≡ None) }
         ensures unchanged { IsErrOf result SetError.Lost → members self.new ≡ members self.old }
         ensures exhausted { IsErrOf result SetError.Exhausted → ⊥ }
+        ensures here { OnOk result (kind.point (members self.new) ≡ None → ⊥) }
+        ensures tokens { OnOk result ((i : ℕ) → kind.token (members self.new) i ≡ kind.token (members self.old) i) }
         ensures next { next self.new ≡ next self.old }
         ensures fault { (n : ℕ) (k : DbCall) → IsErrOf result (SetError.DatabaseFault n k) → (k ≡ DbCall.Apply) × (n < kind.count) × Rose (counted self.old n) (counted self.new n) × ((p q : Self.Ids × Self.States) (c : List (Self.Ids × Self.States)) → kind.point (members self.old) ≡ Some p → shows batches (q ∷ p ∷ c) → kind.LostApplying (members self.old) q n (members self.new)) }
         ensures memory { IsErrOf result SetError.OutOfMemory → (p q : Self.Ids × Self.States) (c : List (Self.Ids × Self.States)) → kind.point (members self.old) ≡ Some p → shows batches (q ∷ p ∷ c) → (n : ℕ) × (n < kind.count) × kind.LostApplying (members self.old) q n (members self.new) }

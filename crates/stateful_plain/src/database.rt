@@ -188,6 +188,7 @@ impl ManagedDb for Plain {
     /// `Failed` exactly where the call is listed as a failing one. A failed apply leaves the checkpoints.
     fn apply(self, batch: PlainMerkleized) -> Result<Plain, Broken<PlainMedium>>
         ensures ok { IfOk result (λ db. (p : ℕ × Whole) (c : List (ℕ × Whole)) → SealShows batch (p ∷ point (standing_of self) ∷ c) → standing_of db ≡ record (standing_of self) { id = p.0; disk = applied (standing_of self).disk p.1 }) }
+        ensures ok_out { IfOk result (λ db. (standing_of db).out ≡ (standing_of self).out) }
         ensures ok_next { IfOk result (λ db. db.medium.next ≡ self.medium.next) }
         ensures ok_count { IfOk result (λ db. self.medium.calls.faults ≤ db.medium.calls.faults) }
         ensures ok_called { IfOk result (λ db. Called DbCall.Apply self.medium.calls db.medium.calls) }
