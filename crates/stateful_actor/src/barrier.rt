@@ -1,0 +1,183 @@
+//! Barriers: their begin, the flushes of their databases, and the receipts that they release.
+
+ghost use Rattle.std.specs.Prelude.{◌≡◌, ◌≢◌, ◌<◌, ℕ, Some, None, IsNone, OnOk, IfSome, IfNone, All, ◌⊎◌};
+ghost use Rattle.stateful_db.specs.Barrier.{IsGood, open_at, answered};
+ghost use Rattle.stateful_db.specs.declared.barrier.Flushed.TheVariants.{Good};
+ghost use Rattle.stateful_actor.specs.declared.tables.Active.{Active};
+ghost use Rattle.stateful_actor.specs.Workings.{workings};
+ghost use Rattle.stateful_actor.specs.Moments.{moment};
+ghost use Rattle.stateful_actor.specs.Stands.{Sound};
+ghost use Rattle.stateful_actor.specs.Effects.{BeginsBarrier, CompletesBarrier, Acknowledges, Flushes, SettlesAll, Settles};
+
+use crate::error::StepError;
+use crate::stateful::CoreOf;
+use crate::tables::Active;
+use stateful_db::{Application, BarrierPoll, DatabaseSet, FlushToken, Flushed};
+use stateful_history::Mark;
+use stateful_types::Height;
+
+/// A barrier over all that is applied begins.
+pub(crate) fn begin_barrier<A: Application>(
+    core: &mut CoreOf<A>,
+    databases: &mut A::Databases,
+    marks: &mut Vec<Mark<A::Block>>,
+) -> Result<(), StepError>
+    requires none { core.old.barrier ≡ None }
+    requires free { IsNone core.old.durability.barrier }
+    requires behind { core.old.durability.durable < core.old.durability.applied }
+    requires idle { A.Databases.kind.Idle (A.Databases.members databases.old) }
+    ensures ok { OnOk result (let w = workings A.Block.header A.meaning A.Databases.kind A.runs A.Databases.shows in BeginsBarrier w (moment w core.old (A.Databases.members databases.old) (A.Databases.next databases.old) marks.old.items) (moment w core.new (A.Databases.members databases.new) (A.Databases.next databases.new) marks.new.items)) }
+{
+    let number = core.next_barrier;
+    if number == u64::MAX {
+        return Err(StepError::Exhausted);
+    }
+    let height = core.durability.applied_height();
+    let barrier = databases.finalize(core.alloc)?;
+    core.durability.set_barrier(height);
+    core.barrier = Some(Active {
+        number,
+        height,
+        barrier,
+    });
+    core.next_barrier = number + 1;
+    marks.push(Mark::BarrierBegun {
+        barrier: number,
+        height,
+    })?;
+    Ok(())
+}
+
+/// The active barrier, where each of its databases was flushed.
+fn flushed_barrier(barrier: &Option<Active>) -> Option<(u64, Height)>
+    ensures { IfSome result (λ found. (active : Active) × (barrier.now ≡ Some active) × (found ≡ (active.number, active.height)) × All IsGood active.barrier) }
+{
+    match barrier {
+        Some(active) => match active.barrier.poll() {
+            BarrierPoll::Durable => Some((active.number, active.height)),
+            _ => None,
+        },
+        None => None,
+    }
+}
+
+/// The active barrier is done, where each of its databases was flushed: its height is durable.
+fn complete<A: Application>(
+    core: &mut CoreOf<A>,
+    marks: &mut Vec<Mark<A::Block>>,
+) -> Result<(), StepError>
+    requires { (active : Active) → core.old.barrier ≡ Some active → core.old.durability.barrier ≡ Some active.height.0 }
+    ensures ok { OnOk result (CompletesBarrier core.old core.new marks.old.items marks.new.items ⊎ ((core.new ≡ core.old) × (marks.new.items ≡ marks.old.items))) }
+{
+    let Some((number, height)) = flushed_barrier(&core.barrier) else {
+        return Ok(());
+    };
+    core.durability.complete(Some(height));
+    core.barrier = None;
+    marks.push(Mark::BarrierDone {
+        barrier: number,
+        height,
+        good: true,
+    })?;
+    Ok(())
+}
+
+/// Acknowledges the receipts of durable heights, in their order.
+fn release<A: Application>(
+    core: &mut CoreOf<A>,
+    marks: &mut Vec<Mark<A::Block>>,
+) -> Result<(), StepError>
+    ensures ok { OnOk result (Acknowledges core.old core.new marks.old.items marks.new.items) }
+{
+    while let Some((ticket, height)) = core.durability.released() {
+        marks.push(Mark::Acknowledged { ticket, height })?;
+    }
+    Ok(())
+}
+
+/// A flushed barrier is completed, receipts of durable heights are acknowledged, and a barrier begins where something
+/// applied isn't durable and none is active.
+fn settle_all<A: Application>(
+    core: &mut CoreOf<A>,
+    databases: &mut A::Databases,
+    marks: &mut Vec<Mark<A::Block>>,
+) -> Result<(), StepError>
+    requires up { core.old.anchor ≢ None }
+    requires sound { Sound A.Databases.kind (A.Databases.members databases.old) A.Block.header core.old }
+    ensures ok { OnOk result (let w = workings A.Block.header A.meaning A.Databases.kind A.runs A.Databases.shows in SettlesAll w (moment w core.old (A.Databases.members databases.old) (A.Databases.next databases.old) marks.old.items) (moment w core.new (A.Databases.members databases.new) (A.Databases.next databases.new) marks.new.items)) }
+{
+    complete::<A>(core, marks)?;
+    release::<A>(core, marks)?;
+    if core.durability.needs_barrier() {
+        begin_barrier::<A>(core, databases, marks)
+    } else {
+        Ok(())
+    }
+}
+
+/// Goes on until nothing can go on without another event. While the machine is down or a finalization is in front there is
+/// nothing to do.
+pub(crate) fn settle<A: Application>(
+    core: &mut CoreOf<A>,
+    databases: &mut A::Databases,
+    marks: &mut Vec<Mark<A::Block>>,
+) -> Result<(), StepError>
+    requires { Sound A.Databases.kind (A.Databases.members databases.old) A.Block.header core.old }
+    ensures ok { OnOk result (let w = workings A.Block.header A.meaning A.Databases.kind A.runs A.Databases.shows in Settles w (moment w core.old (A.Databases.members databases.old) (A.Databases.next databases.old) marks.old.items) (moment w core.new (A.Databases.members databases.new) (A.Databases.next databases.new) marks.new.items)) }
+{
+    if core.anchor.is_none() || core.front.is_some() {
+        Ok(())
+    } else {
+        settle_all::<A>(core, databases, marks)
+    }
+}
+
+/// The token of a database of the active barrier, where the barrier has this number and the database isn't flushed yet.
+fn open_token(barrier: &Option<Active>, number: u64, index: usize) -> Option<FlushToken>
+    ensures found { IfSome result (λ token. (active : Active) × (barrier.now ≡ Some active) × (active.number ≡ number) × (open_at active.barrier index ≡ Some token)) }
+    ensures absent { IfNone result ((active : Active) → barrier.now ≡ Some active → active.number ≡ number → open_at active.barrier index ≡ None) }
+{
+    match barrier {
+        Some(active) => {
+            if active.number == number {
+                active.barrier.handle(index)
+            } else {
+                None
+            }
+        }
+        None => None,
+    }
+}
+
+/// The barrier, with a good answer of a database that had none.
+fn with_answer(active: Active, index: usize) -> Active
+    requires { open_at active.barrier index ≢ None }
+    ensures { result ≡ record active { barrier = answered active.barrier index Good } }
+{
+    let mut active = active;
+    active.barrier.durable(index, Flushed::Good);
+    active
+}
+
+/// A database of the active barrier is flushed.
+pub(crate) fn flush<A: Application>(
+    core: &mut CoreOf<A>,
+    databases: &mut A::Databases,
+    number: u64,
+    index: usize,
+    marks: &Vec<Mark<A::Block>>,
+) -> Result<(), StepError>
+    requires up { core.old.anchor ≢ None }
+    requires sound { Sound A.Databases.kind (A.Databases.members databases.old) A.Block.header core.old }
+    ensures ok { OnOk result (let w = workings A.Block.header A.meaning A.Databases.kind A.runs A.Databases.shows in Flushes w (moment w core.old (A.Databases.members databases.old) (A.Databases.next databases.old) marks.now.items) (moment w core.new (A.Databases.members databases.new) (A.Databases.next databases.new) marks.now.items) number index) }
+{
+    let Some(token) = open_token(&core.barrier, number, index) else {
+        return Err(StepError::Failed);
+    };
+    databases.flush(index, token)?;
+    core.barrier = match core.barrier.take() {
+        Some(active) => Some(with_answer(active, index)),
+        None => None,
+    };
+    Ok(())
+}

@@ -1,0 +1,109 @@
+//! The cache: sealed batches of blocks above the anchor that aren't final yet.
+
+ghost use Rattle.std.specs.Prelude.{◌≡◌, ◌≢◌, ◌++◌, ◌∷◌, [], IfOk, IfErr, OnOk, OnErr, IsTrue, ◌↔◌, Any, All, MatchOption, IfSome, IfNone, Contains};
+ghost use Rattle.std.specs.Option.{option_copied};
+ghost use Rattle.stateful_actor.specs.Cut.{IsCutTo, IsRootOf, GoesOn};
+
+use stateful_types::{Anchor, Digest, OutOfMemory, Round};
+use std::alloc::Global;
+use std::marker::Model;
+
+/// A block whose state is at hand, by its names, with the sealed batch that shows it.
+#[derive(Drop)]
+pub struct Cached<U> {
+    pub digest: Digest,
+    pub parent: Digest,
+    pub round: Round,
+    pub batch: U,
+}
+
+/// The cached blocks, each behind its parent.
+#[derive(Drop)]
+pub struct Cache<U> {
+    entries: Vec<Cached<U>>,
+}
+
+impl<U> Model for Cache<U> {
+    ghost use Rattle.std.specs.Prelude.{List};
+    ghost use Rattle.stateful_actor.specs.declared.cache.Cached.{Cached};
+
+    ghost Value = { List (Cached U) };
+
+    ghost view = { λ c. c.entries.items };
+}
+
+impl<U: Drop> Cache<U> {
+    /// No cached blocks.
+    pub fn new(alloc: Global) -> Cache<U>
+        ensures { result ≡ [] }
+    {
+        Cache {
+            entries: Vec::new(alloc),
+        }
+    }
+
+    /// The entry of this digest.
+    pub fn find(&self, digest: Digest) -> Option<&Cached<U>>
+        ensures found { IfSome (option_copied result) (λ e. Contains self.now e × (e.digest ≡ digest)) }
+        ensures absent { IfNone result (All (λ e. e.digest ≢ digest) self.now) }
+    {
+        for entry in &self.entries {
+            if entry.digest.is(digest) {
+                return Some(entry);
+            }
+        }
+        None
+    }
+
+    /// Whether there is an entry of this digest.
+    pub fn has(&self, digest: Digest) -> bool
+        ensures { IsTrue result ↔ Any (λ e. e.digest ≡ digest) self.now }
+    {
+        self.find(digest).is_some()
+    }
+
+    /// One entry more.
+    pub fn insert(&mut self, entry: Cached<U>) -> Result<(), OutOfMemory>
+        ensures ok { OnOk result (self.new ≡ self.old ++ entry ∷ []) }
+        ensures err { OnErr result (self.new ≡ self.old) }
+    {
+        self.entries.push(entry)?;
+        Ok(())
+    }
+}
+
+/// What stays of a cache where a block becomes the anchor, and the block's own batch.
+#[derive(Drop)]
+pub struct Cut<U> {
+    pub root: Option<U>,
+    pub kept: Cache<U>,
+}
+
+/// Whether the entry is a child of the root, or of one of these.
+fn goes_on<U: Drop>(root: Anchor, kept: &Cache<U>, entry: &Cached<U>) -> bool
+    ensures { IsTrue result ↔ GoesOn root kept.now entry.now }
+{
+    entry.parent.is(root.digest) || kept.has(entry.parent)
+}
+
+impl<U: Drop> Cache<U> {
+    /// Keeps the root's descendants of later rounds, and takes the root's batch out.
+    pub fn cut(self, alloc: Global, root: Anchor) -> Result<Cut<U>, OutOfMemory>
+        ensures kept { IfOk result (λ cut. IsCutTo root self cut.kept) }
+        ensures root { IfOk result (λ cut. MatchOption cut.root (All (λ e. e.digest ≢ root.digest) self) (λ batch. IsRootOf root self batch)) }
+    {
+        let Cache { entries } = self;
+        let mut cut = Cut {
+            root: None,
+            kept: Cache::new(alloc),
+        };
+        for entry in entries {
+            if entry.digest.is(root.digest) {
+                cut.root = Some(entry.batch);
+            } else if entry.round.is_later_than(root.round) && goes_on(root, &cut.kept, &entry) {
+                cut.kept.insert(entry)?;
+            }
+        }
+        Ok(cut)
+    }
+}

@@ -1,0 +1,104 @@
+//! A whole list of events.
+
+ghost use Rattle.std.specs.Prelude.{◌≡◌, ◌<◌, ◌++◌, ◌∷◌, [], ℕ, List, Option, false, None, IfOk, IfErr, OnOk, OnErr, length, map, take};
+ghost use Rattle.stateful_types.specs.Names.{Named};
+ghost use Rattle.stateful_history.specs.Past.{Past, after_all};
+ghost use Rattle.stateful_history.specs.Met.{TrueNames};
+ghost use Rattle.stateful_history.specs.Holding.{Holds};
+ghost use Rattle.stateful_register.specs.Register.{RegisterStands};
+ghost use Rattle.stateful_actor.specs.Workings.{workings, setting};
+ghost use Rattle.stateful_actor.specs.Entering.{Plays};
+ghost use Rattle.stateful_actor.specs.Stepping.{IsSafe, IsNew};
+ghost use Rattle.stateful_actor.specs.Driving.{AddsEntry, HasPlayed};
+
+use crate::error::StepError;
+use crate::stateful::Stateful;
+use stateful_db::Application;
+use stateful_history::{Entry, Event};
+use stateful_types::{BlockStore, Items, Share};
+use std::alloc::Global;
+
+/// What came of events that were all taken in: the machine, the databases, and the history.
+#[derive(Drop)]
+pub struct Driven<A: Application + Drop> {
+    pub stateful: Stateful<A>,
+    pub databases: A::Databases,
+    pub history: Vec<Entry<A::Block, A::Context, A::Input>>,
+}
+
+/// Which event was refused, and why.
+#[derive(Clone, Copy, Debug, PartialEq, Eq)]
+pub struct Halted {
+    pub at: usize,
+    pub error: StepError,
+}
+
+/// What came of the events before one that was refused.
+#[derive(Drop)]
+pub struct Halt<A: Application + Drop> {
+    pub driven: Driven<A>,
+    pub halted: Halted,
+}
+
+/// Takes in one event, and adds its entry to the history.
+fn enter<A: Application + Drop, S: BlockStore<A::Block>>(
+    driven: &mut Driven<A>,
+    store: &mut S,
+    event: Event<A::Block, A::Context, A::Input>,
+) -> Result<(), StepError>
+    requires { IsSafe A.Databases.kind (A.Databases.members driven.old.databases) A.Block.header driven.old.stateful.failed driven.old.stateful.core }
+    ensures ok { OnOk result (AddsEntry event driven.old.history.items driven.new.history.items) }
+    ensures err { OnErr result (driven.new.history.items ≡ driven.old.history.items) }
+    ensures played { OnOk result (HasPlayed (workings A.Block.header A.meaning A.Databases.kind A.runs A.Databases.shows) (S.stored store.old) driven.old.history.items driven.old.stateful.failed driven.old.stateful.core driven.old.stateful.register (A.Databases.members driven.old.databases) (A.Databases.next driven.old.databases) → HasPlayed (workings A.Block.header A.meaning A.Databases.kind A.runs A.Databases.shows) (S.stored store.old) driven.new.history.items driven.new.stateful.failed driven.new.stateful.core driven.new.stateful.register (A.Databases.members driven.new.databases) (A.Databases.next driven.new.databases)) }
+    ensures safe { IsSafe A.Databases.kind (A.Databases.members driven.new.databases) A.Block.header driven.new.stateful.failed driven.new.stateful.core }
+    ensures store { store.new ≡ store.old }
+{
+    let kept = event.share()?;
+    let marks = driven.stateful.step(&mut driven.databases, store, event)?;
+    driven.history.push(Entry {
+        event: kept,
+        marks: Items::from_vec(marks),
+    })?;
+    Ok(())
+}
+
+/// Steps through all events, up to the first that is refused. The machine is new, and no database is away.
+pub fn drive<A: Application + Drop, S: BlockStore<A::Block>>(
+    alloc: Global,
+    stateful: Stateful<A>,
+    databases: A::Databases,
+    store: &mut S,
+    events: Vec<Event<A::Block, A::Context, A::Input>>,
+) -> Result<Driven<A>, Halt<A>>
+    requires new { IsNew stateful.failed stateful.core stateful.register }
+    requires held { A.Databases.kind.Held (A.Databases.members databases) }
+
+    // The history has the events that were taken in, in their order.
+    ensures all { IfOk result (λ driven. map (λ entry. entry.event) driven.history.items ≡ events.items) }
+    ensures part { IfErr result (λ halt. map (λ entry. entry.event) halt.driven.history.items ≡ take halt.halted.at events.items) }
+    ensures at { IfErr result (λ halt. (halt.halted.at ≡ length halt.driven.history.items) × (halt.halted.at < length events.items)) }
+
+    // Where names are true each entry keeps the rules, and at the end the databases hold the fold over what was applied.
+    ensures plays { IfOk result (λ driven. let w = workings A.Block.header A.meaning A.Databases.kind A.runs A.Databases.shows in TrueNames (setting w (S.stored store.old)) (after_all [] driven.history.items) → Plays w (S.stored store.old) A.Databases.kind.initial [] driven.history.items (λ base. Holds (setting w (S.stored store.old)) w.kind base (after_all [] driven.history.items) (A.Databases.members driven.databases))) }
+    ensures played { IfErr result (λ halt. let w = workings A.Block.header A.meaning A.Databases.kind A.runs A.Databases.shows in TrueNames (setting w (S.stored store.old)) (after_all [] halt.driven.history.items) → Plays w (S.stored store.old) A.Databases.kind.initial [] halt.driven.history.items (λ base. Unit {0})) }
+    ensures store { store.new ≡ store.old }
+{
+    let mut driven = Driven {
+        stateful,
+        databases,
+        history: Vec::new(alloc),
+    };
+    for event in events {
+        match enter(&mut driven, store, event) {
+            Ok(()) => {}
+            Err(error) => {
+                let at = driven.history.len();
+                return Err(Halt {
+                    driven,
+                    halted: Halted { at, error },
+                });
+            }
+        }
+    }
+    Ok(driven)
+}

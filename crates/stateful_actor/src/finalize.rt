@@ -1,0 +1,216 @@
+//! Finalizations.
+
+ghost use Rattle.std.specs.Prelude.{◌≡◌, ◌≢◌, ◌<◌, ◌≤◌, ◌++◌, ◌∷◌, [], ℕ, List, Option, Some, None, OnOk, IfOk, IfErr, true, false, All, IsTrue, ◌↔◌, ◌⊎◌};
+ghost use Rattle.stateful_types.specs.Anchor.{anchor_by};
+ghost use Rattle.stateful_types.specs.declared.anchor.Anchor.{Anchor};
+ghost use Rattle.stateful_history.specs.declared.mark.Mark.TheVariants.{Began, Applied};
+ghost use Rattle.stateful_actor.specs.Workings.{workings};
+ghost use Rattle.stateful_actor.specs.Moments.{moment};
+ghost use Rattle.stateful_actor.specs.Barriers.{HasReceipt};
+ghost use Rattle.stateful_actor.specs.Caching.{IsIn};
+ghost use Rattle.stateful_actor.specs.Cut.{IsCutTo, IsRootOf};
+ghost use Rattle.stateful_actor.specs.Stands.{Sound};
+ghost use Rattle.stateful_actor.specs.Effects.{HoldsReceipt};
+ghost use Rattle.stateful_actor.specs.Finalizing.{IsNext, IsPast, RefusesBlock, MayBegin, Moves, BeginsIfNone, Observes, Finalizes};
+
+use crate::barrier::begin_barrier;
+use crate::cache::Cache;
+use crate::error::StepError;
+use crate::stateful::CoreOf;
+use crate::tables::Front;
+use stateful_db::{Application, Batch, DatabaseSet, Hooked};
+use stateful_history::{JobKind, Mark};
+use stateful_types::{Anchor, Block, Digested, Height, Share};
+use std::mem;
+
+/// Whether a finalized block is at or below the anchor's height. Refused where another block was finalized at the
+/// anchor's height, where it is above the next height, and where it is at the next height on another parent.
+pub(crate) fn is_redelivered<B: Block>(
+    anchor: Anchor,
+    block: &Digested<B>,
+) -> Result<bool, StepError>
+    ensures past { IfOk result (λ past. past ≡ true → IsPast B.header anchor block.now) }
+    ensures next { IfOk result (λ past. past ≡ false → IsNext B.header anchor block.now) }
+    ensures refused { IfErr result (λ e. RefusesBlock B.header anchor block.now e) }
+{
+    let height = block.height();
+    if height.0 < anchor.height.0 {
+        return Ok(true);
+    }
+    if height.0 == anchor.height.0 {
+        if block.digest().is(anchor.digest) {
+            return Ok(true);
+        }
+        return Err(StepError::ConflictAtAnchor {
+            expected: anchor.digest,
+            given: block.digest(),
+        });
+    }
+    if height.0 - anchor.height.0 > 1 {
+        return Err(StepError::SkippedHeight {
+            expected: Height(anchor.height.0 + 1),
+            given: height,
+        });
+    }
+    if !block.parent().is(anchor.digest) {
+        return Err(StepError::NotExtending {
+            expected: anchor.digest,
+            given: block.parent(),
+        });
+    }
+    Ok(false)
+}
+
+/// The receipt of a redelivered block is held behind the others of its height.
+pub(crate) fn hold<A: Application>(
+    core: &mut CoreOf<A>,
+    ticket: u64,
+    height: Height,
+    marks: &Vec<Mark<A::Block>>,
+) -> Result<(), StepError>
+    requires { (height.0 ≤ core.old.durability.durable) ⊎ HasReceipt core.old.durability height.0 }
+    ensures ok { OnOk result (HoldsReceipt core.old core.new marks.now.items marks.now.items ticket height.0) }
+{
+    core.durability.record_duplicate(height, ticket)?;
+    Ok(())
+}
+
+/// Cuts the cache to the descendants of a cached block, and takes its batch out.
+fn cut<A: Application>(core: &mut CoreOf<A>, root: Anchor) -> Result<Batch<A>, StepError>
+    requires { IsIn core.old.cache root.digest }
+    ensures kept { OnOk result (IsCutTo root core.old.cache core.new.cache) }
+    ensures root { IfOk result (λ batch. IsRootOf root core.old.cache batch) }
+    ensures rest { OnOk result (core.new ≡ record core.old { cache = core.new.cache }) }
+{
+    let cache = mem::replace(&mut core.cache, Cache::new(core.alloc));
+    let cut = cache.cut(core.alloc, root)?;
+    core.cache = cut.kept;
+    match cut.root {
+        Some(batch) => Ok(batch),
+        None => unreachable!(),
+    }
+}
+
+/// The databases hold the states of a block, which is the anchor from now on.
+fn apply<A: Application>(
+    core: &mut CoreOf<A>,
+    databases: &mut A::Databases,
+    root: Anchor,
+    batch: Batch<A>,
+) -> Result<(), StepError>
+    requires { core.old.durability.applied < root.height.0 }
+    ensures members { OnOk result ((p q : A.Databases.Ids × A.Databases.States) (c : List (A.Databases.Ids × A.Databases.States)) → A.Databases.kind.point (A.Databases.members databases.old) ≡ Some p → A.Databases.shows batch (q ∷ p ∷ c) → A.Databases.members databases.new ≡ A.Databases.kind.applied (A.Databases.members databases.old) q) }
+    ensures here { OnOk result (A.Databases.kind.point (A.Databases.members databases.new) ≡ None → ⊥) }
+    ensures tokens { OnOk result ((i : ℕ) → A.Databases.kind.token (A.Databases.members databases.new) i ≡ A.Databases.kind.token (A.Databases.members databases.old) i) }
+    ensures next { A.Databases.next databases.new ≡ A.Databases.next databases.old }
+    ensures core { OnOk result (core.new ≡ record core.old { anchor = Some root; durability = record core.old.durability { applied = root.height.0 } }) }
+{
+    databases.apply(batch)?;
+    core.durability.applied(root.height);
+    core.anchor = Some(root);
+    Ok(())
+}
+
+/// The finalization of a cached block begins, and the databases apply its batch. What the application read of the states
+/// before it is answered.
+fn advance<A: Application>(
+    application: &mut A,
+    core: &mut CoreOf<A>,
+    databases: &mut A::Databases,
+    ticket: u64,
+    block: &Digested<A::Block>,
+    marks: &mut Vec<Mark<A::Block>>,
+) -> Result<A::Captured, StepError>
+    requires cached { IsIn core.old.cache block.now.digest }
+    requires above { core.old.durability.applied < A.Block.header.height block.now.block }
+    ensures ok { OnOk result (let w = workings A.Block.header A.meaning A.Databases.kind A.runs A.Databases.shows in Moves w ticket block.now (moment w core.old (A.Databases.members databases.old) (A.Databases.next databases.old) marks.old.items) (moment w core.new (A.Databases.members databases.new) (A.Databases.next databases.new) marks.new.items)) }
+{
+    marks.push(Mark::Began {
+        ticket,
+        block: block.share()?,
+    })?;
+    let root = Anchor::from_block(block);
+    let batch = cut::<A>(core, root)?;
+    let captured = application.capture(block.inner().context(), block.inner(), &batch, databases)?;
+    apply::<A>(core, databases, root, batch)?;
+    marks.push(Mark::Applied {
+        block: block.share()?,
+    })?;
+    Ok(captured)
+}
+
+/// A barrier begins where none is active.
+fn begin_if_none<A: Application>(
+    core: &mut CoreOf<A>,
+    databases: &mut A::Databases,
+    marks: &mut Vec<Mark<A::Block>>,
+) -> Result<(), StepError>
+    requires { MayBegin A.Databases.kind (A.Databases.members databases.old) core.old.durability core.old.barrier }
+    ensures ok { OnOk result (let w = workings A.Block.header A.meaning A.Databases.kind A.runs A.Databases.shows in BeginsIfNone w (moment w core.old (A.Databases.members databases.old) (A.Databases.next databases.old) marks.old.items) (moment w core.new (A.Databases.members databases.new) (A.Databases.next databases.new) marks.new.items)) }
+{
+    if core.barrier.is_none() {
+        begin_barrier::<A>(core, databases, marks)
+    } else {
+        Ok(())
+    }
+}
+
+/// What the application has left to do is in front, or the receipt is held.
+fn observe<A: Application>(
+    core: &mut CoreOf<A>,
+    ticket: u64,
+    block: &Digested<A::Block>,
+    hooked: Hooked<A::Hook>,
+    marks: &mut Vec<Mark<A::Block>>,
+) -> Result<(), StepError>
+    requires height { A.Block.header.height block.now.block ≡ core.old.durability.applied }
+    requires first { All (λ receipt. receipt.0 ≢ core.old.durability.applied) core.old.durability.held }
+    ensures ok { OnOk result (Observes (workings A.Block.header A.meaning A.Databases.kind A.runs A.Databases.shows) ticket block.now hooked core.old core.new marks.old.items marks.new.items) }
+{
+    match hooked {
+        Hooked::Done => {
+            core.durability.record(block.height(), ticket)?;
+            Ok(())
+        }
+        Hooked::Pending(hook) => {
+            let job = core.next_job;
+            if job == u64::MAX {
+                return Err(StepError::Exhausted);
+            }
+            marks.push(Mark::Started {
+                job,
+                kind: JobKind::Hook,
+                digest: block.digest(),
+            })?;
+            core.front = Some(Front {
+                job,
+                ticket,
+                block: block.share()?,
+                hook,
+            });
+            core.next_job = job + 1;
+            Ok(())
+        }
+    }
+}
+
+/// The next block is final: it is applied, a barrier begins where none is active, and the application observes it.
+pub(crate) fn finalize<A: Application>(
+    application: &mut A,
+    core: &mut CoreOf<A>,
+    databases: &mut A::Databases,
+    ticket: u64,
+    block: &Digested<A::Block>,
+    marks: &mut Vec<Mark<A::Block>>,
+) -> Result<(), StepError>
+    requires sound { Sound A.Databases.kind (A.Databases.members databases.old) A.Block.header core.old }
+    requires next { (anchor : Anchor) × (core.old.anchor ≡ Some anchor) × IsNext A.Block.header anchor block.now }
+    requires idle { core.old.front ≡ None }
+    requires cached { IsIn core.old.cache block.now.digest }
+    ensures ok { OnOk result (let w = workings A.Block.header A.meaning A.Databases.kind A.runs A.Databases.shows in Finalizes w ticket block.now (moment w core.old (A.Databases.members databases.old) (A.Databases.next databases.old) marks.old.items) (moment w core.new (A.Databases.members databases.new) (A.Databases.next databases.new) marks.new.items)) }
+{
+    let captured = advance(application, core, databases, ticket, block, marks)?;
+    begin_if_none::<A>(core, databases, marks)?;
+    let hooked = application.finalized(block.inner().context(), block.inner(), captured, databases)?;
+    observe::<A>(core, ticket, block, hooked, marks)
+}

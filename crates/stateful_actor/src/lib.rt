@@ -1,0 +1,33 @@
+//! The machine between consensus and a set of databases: it takes events and makes marks.
+//!
+//! One event is one call of `Stateful::step`. A verification is answered at once or starts a run of its block; a
+//! finalization applies its block, and its receipt is acknowledged once a barrier over its height is durable.
+#![tactic(auto)]
+
+mod barrier;
+mod cache;
+mod tables;
+mod driving;
+mod error;
+mod finalize;
+mod restart;
+mod judge;
+mod serve;
+mod stateful;
+mod step;
+mod task;
+mod turn;
+mod verify;
+
+pub use crate::tables::{Active, Core, Front, Live};
+pub use cache::{Cache, Cached};
+pub use driving::{Driven, Halt, Halted, drive};
+pub use error::StepError;
+pub use stateful::{Config, Stateful};
+pub use stateful_history::{Decision, Entry, Event, How, JobKind, Mark};
+
+#[cfg(test)]
+mod tests {
+    #[test]
+    fn nothing() {}
+}

@@ -1,0 +1,76 @@
+//! What is done for each task.
+
+ghost use Rattle.std.specs.Prelude.{◌≡◌, None, OnOk, OnErr};
+ghost use Rattle.stateful_actor.specs.Workings.{workings};
+ghost use Rattle.stateful_actor.specs.Moments.{moment};
+ghost use Rattle.stateful_actor.specs.Stands.{Sound};
+ghost use Rattle.stateful_actor.specs.Doing.{IsDoable, Does};
+
+use crate::barrier::flush;
+use crate::error::StepError;
+use crate::finalize::{finalize, hold};
+use crate::restart::restart;
+use crate::stateful::{Config, CoreOf};
+use crate::task::Task;
+use crate::turn::turn;
+use crate::verify::{answer, ask, run};
+use stateful_db::Application;
+use stateful_history::Mark;
+use stateful_types::BlockStore;
+
+/// Does a task. An error leaves the tables of a machine that is down as they were.
+pub(crate) fn serve<A: Application + Drop, S: BlockStore<A::Block>>(
+    config: &mut Config<A>,
+    core: &mut CoreOf<A>,
+    databases: &mut A::Databases,
+    store: &S,
+    task: Task<A::Block>,
+    marks: &mut Vec<Mark<A::Block>>,
+) -> Result<(), StepError>
+    requires doable { IsDoable A.Block.header core.old task }
+    requires sound { Sound A.Databases.kind (A.Databases.members databases.old) A.Block.header core.old }
+    requires held { core.old.anchor ≡ None → A.Databases.kind.Held (A.Databases.members databases.old) }
+    ensures ok { OnOk result (let w = workings A.Block.header A.meaning A.Databases.kind A.runs A.Databases.shows in Does w (S.stored store.now) task (moment w core.old (A.Databases.members databases.old) (A.Databases.next databases.old) marks.old.items) (moment w core.new (A.Databases.members databases.new) (A.Databases.next databases.new) marks.new.items)) }
+    ensures err { OnErr result (core.old.anchor ≡ None → (core.new ≡ core.old) × A.Databases.kind.Held (A.Databases.members databases.new)) }
+{
+    match task {
+        Task::Answer { ticket, valid } => answer(ticket, valid, marks),
+        Task::Wait => Ok(()),
+        Task::Ask { ticket, digest } => ask::<A>(core, ticket, digest, marks),
+        Task::Run {
+            anchor,
+            ticket,
+            block,
+            parent,
+        } => run(
+            &mut config.application,
+            core,
+            databases,
+            anchor,
+            ticket,
+            block,
+            parent,
+            marks,
+        ),
+        Task::Hold { ticket, height } => hold::<A>(core, ticket, height, marks),
+        Task::Finalize { ticket, block } => finalize(
+            &mut config.application,
+            core,
+            databases,
+            ticket,
+            &block,
+            marks,
+        ),
+        Task::Turn { anchor, job } => turn::<A>(core, databases, anchor, job, marks),
+        Task::Flush { barrier, database } => flush::<A>(core, databases, barrier, database, marks),
+        Task::Start { floor, keep } => restart::<A, S>(
+            &config.db_config,
+            core,
+            databases,
+            store,
+            &floor,
+            keep.as_slice(),
+            marks,
+        ),
+    }
+}

@@ -1,0 +1,126 @@
+//! One event.
+
+ghost use Rattle.std.specs.Prelude.{◌≡◌, ℕ, Bool, true, false, Option, Some, None, IfOk, IfErr, OnOk, OnErr, IsErrOf, [], ◌↔◌, ◌⊎◌, ◌∷◌, IsTrue};
+ghost use Rattle.stateful_types.specs.Names.{Named};
+ghost use Rattle.stateful_history.specs.Past.{Past, after_entry};
+ghost use Rattle.stateful_history.specs.Opening.{base_after};
+ghost use Rattle.stateful_history.specs.Met.{TrueNames};
+ghost use Rattle.stateful_history.specs.Live.{may_come};
+ghost use Rattle.stateful_register.specs.Register.{RegisterStands};
+ghost use Rattle.stateful_actor.specs.Workings.{workings, setting};
+ghost use Rattle.stateful_actor.specs.Stands.{Sound, Stands};
+ghost use Rattle.stateful_actor.specs.Entering.{TakesIn};
+ghost use Rattle.stateful_actor.specs.Stepping.{IsSafe, is_restart, changes_nothing};
+
+use crate::barrier::settle;
+use crate::error::StepError;
+use crate::serve::serve;
+use crate::stateful::Stateful;
+use crate::task::admit;
+use stateful_db::{Application, DatabaseSet};
+use stateful_history::{Event, Mark};
+use stateful_types::BlockStore;
+
+/// Whether nothing has changed where an event is refused so.
+fn changes_nothing(error: StepError) -> bool
+    ensures { result ≡ changes_nothing error }
+{
+    match error {
+        StepError::BadEvent | StepError::NotYet => true,
+        _ => false,
+    }
+}
+
+/// Whether an event is a restart.
+fn is_restart<B, C, I>(event: &Event<B, C, I>) -> bool
+    ensures { result ≡ is_restart event.now }
+{
+    match event {
+        Event::Restart { floor: _, keep: _ } => true,
+        _ => false,
+    }
+}
+
+impl<A: Application + Drop> Stateful<A> {
+    /// The marks of an event that names live work.
+    fn take<S: BlockStore<A::Block>>(
+        &mut self,
+        databases: &mut A::Databases,
+        store: &S,
+        event: &Event<A::Block, A::Context, A::Input>,
+    ) -> Result<Vec<Mark<A::Block>>, StepError>
+        requires sound { Sound A.Databases.kind (A.Databases.members databases.old) A.Block.header self.old.core }
+        requires held { self.old.core.anchor ≡ None → A.Databases.kind.Held (A.Databases.members databases.old) }
+        ensures takes { IfOk result (λ marks. (stored : ℕ → Option (Named A.Block)) (base : A.Databases.States) (p : Past A.Block A.Context A.Input) → let w = workings A.Block.header A.meaning A.Databases.kind A.runs A.Databases.shows in TrueNames (setting w stored) (after_entry p event.now marks.items) → may_come A.Databases.kind.count p event.now ≡ true → Stands w stored base p false self.old.core self.old.register (A.Databases.members databases.old) (A.Databases.next databases.old) (S.stored store.now) → TakesIn w stored (base_after base marks.items (A.Databases.kind.point (A.Databases.members databases.new))) p event.now marks.items false self.new.core self.new.register (A.Databases.members databases.new) (A.Databases.next databases.new) (S.stored store.now)) }
+        ensures register { IfOk result (λ marks. (p : Past A.Block A.Context A.Input) → RegisterStands A.Databases.kind.count p self.old.register → RegisterStands A.Databases.kind.count (after_entry p event.now marks.items) self.new.register) }
+        ensures sound { OnOk result (Sound A.Databases.kind (A.Databases.members databases.new) A.Block.header self.new.core) }
+        ensures unchanged { IfErr result (λ e. changes_nothing e ≡ true → (self.new ≡ self.old) × (databases.new ≡ databases.old)) }
+        ensures bad { IsErrOf result StepError.BadEvent → ⊥ }
+        ensures err { OnErr result (self.old.core.anchor ≡ None → self.new.core.anchor ≡ None → (self.new.core ≡ self.old.core) × (self.new.register ≡ self.old.register) × A.Databases.kind.Held (A.Databases.members databases.new)) }
+        ensures failed { self.new.failed ≡ self.old.failed }
+    {
+        let task = admit::<A, S>(&self.core, store, event)?;
+        let mut marks = Vec::new(self.core.alloc);
+        serve(
+            &mut self.config,
+            &mut self.core,
+            databases,
+            store,
+            task,
+            &mut marks,
+        )?;
+        settle::<A>(&mut self.core, databases, &mut marks)?;
+        match self
+            .register
+            .record(A::Databases::count(), event, marks.as_slice())
+        {
+            Ok(()) => Ok(marks),
+            Err(_) => Err(StepError::OutOfMemory),
+        }
+    }
+
+    /// Takes one event in, and answers the marks that it made. The order of refusals is `Failed`, `BadEvent`, then the
+    /// cause that arises first.
+    pub fn step<S: BlockStore<A::Block>>(
+        &mut self,
+        databases: &mut A::Databases,
+        store: &mut S,
+        event: Event<A::Block, A::Context, A::Input>,
+    ) -> Result<Vec<Mark<A::Block>>, StepError>
+        requires { IsSafe A.Databases.kind (A.Databases.members databases.old) A.Block.header self.old.failed self.old.core }
+
+        // Whatever machine, databases and store stood for: they stand for it with the entry added, its marks keep the rules,
+        // and the databases hold the fold over what was applied.
+        ensures takes { IfOk result (λ marks. (stored : ℕ → Option (Named A.Block)) (base : A.Databases.States) (p : Past A.Block A.Context A.Input) → let w = workings A.Block.header A.meaning A.Databases.kind A.runs A.Databases.shows in TrueNames (setting w stored) (after_entry p event marks.items) → Stands w stored base p self.old.failed self.old.core self.old.register (A.Databases.members databases.old) (A.Databases.next databases.old) (S.stored store.old) → TakesIn w stored (base_after base marks.items (A.Databases.kind.point (A.Databases.members databases.new))) p event marks.items self.new.failed self.new.core self.new.register (A.Databases.members databases.new) (A.Databases.next databases.new) (S.stored store.old)) }
+        ensures refused { IfErr result (λ e. (stored : ℕ → Option (Named A.Block)) (base : A.Databases.States) (p : Past A.Block A.Context A.Input) → let w = workings A.Block.header A.meaning A.Databases.kind A.runs A.Databases.shows in Stands w stored base p self.old.failed self.old.core self.old.register (A.Databases.members databases.old) (A.Databases.next databases.old) (S.stored store.old) → Stands w stored base p self.new.failed self.new.core self.new.register (A.Databases.members databases.new) (A.Databases.next databases.new) (S.stored store.old)) }
+        ensures register { IfOk result (λ marks. (p : Past A.Block A.Context A.Input) → RegisterStands A.Databases.kind.count p self.old.register → RegisterStands A.Databases.kind.count (after_entry p event marks.items) self.new.register) }
+        ensures safe { IsSafe A.Databases.kind (A.Databases.members databases.new) A.Block.header self.new.failed self.new.core }
+        ensures store { store.new ≡ store.old }
+
+        // An event that names work that isn't live is refused as such, and no other; then nothing has changed.
+        ensures bad { (p : Past A.Block A.Context A.Input) → RegisterStands A.Databases.kind.count p self.old.register → (IsErrOf result StepError.BadEvent ↔ ((may_come A.Databases.kind.count p event ≡ false) × ((self.old.failed ≡ false) ⊎ (is_restart event ≡ true)))) }
+        ensures unchanged { IfErr result (λ e. changes_nothing e ≡ true → (self.new ≡ self.old) × (databases.new ≡ databases.old)) }
+
+        // After any other error each event but a restart is refused as failed.
+        ensures failed { self.old.failed ≡ true → is_restart event ≡ false → IsErrOf result StepError.Failed }
+        ensures fails { IfErr result (λ e. changes_nothing e ≡ false → self.new.failed ≡ true) }
+        ensures works { OnOk result (self.new.failed ≡ false) }
+    {
+        if self.failed && !is_restart(&event) {
+            return Err(StepError::Failed);
+        }
+        if !self.register.allows(&event) {
+            return Err(StepError::BadEvent);
+        }
+        match self.take(databases, store, &event) {
+            Ok(marks) => {
+                self.failed = false;
+                Ok(marks)
+            }
+            Err(error) => {
+                self.failed = self.failed || !changes_nothing(error);
+                Err(error)
+            }
+        }
+    }
+}

@@ -1,0 +1,86 @@
+//! The text of a play.
+
+use crate::play::{Databases, History, Played, Told};
+use stateful_actor::{Halted, StepError};
+use stateful_db::Held;
+use stateful_plain::Plain;
+use stateful_text::{End, Shown, transcript};
+use stateful_types::{Items, OutOfMemory};
+use std::alloc::Global;
+use std::collections::BTreeMap;
+
+/// The name of an error, as it is written.
+fn name_of(error: StepError) -> &'static str {
+    match error {
+        StepError::Database { .. } => "Database",
+        StepError::TargetMismatch { .. } => "TargetMismatch",
+        StepError::SkippedHeight { .. } => "SkippedHeight",
+        StepError::NotExtending { .. } => "NotExtending",
+        StepError::ConflictAtAnchor { .. } => "ConflictAtAnchor",
+        StepError::Application => "Application",
+        StepError::MissingBlock { .. } => "MissingBlock",
+        StepError::BadEvent => "BadEvent",
+        StepError::Failed => "Failed",
+        StepError::Exhausted => "Exhausted",
+        StepError::DatabaseFault { .. } => "DatabaseFault",
+        StepError::NotYet => "NotYet",
+        StepError::OutOfMemory => "OutOfMemory",
+    }
+}
+
+/// How a play ended, as it is written.
+fn end_of(end: &Option<Halted>) -> End<'static> {
+    match end {
+        Some(halted) => End::Halted {
+            at: halted.at as u64,
+            name: name_of(halted.error),
+        },
+        None => End::Done,
+    }
+}
+
+/// Each key with its value, ascending.
+fn balances(
+    alloc: Global,
+    entries: &BTreeMap<u64, u64>,
+) -> Result<Items<(u64, u64)>, OutOfMemory> {
+    let mut balances = Items::new(alloc);
+    for (account, balance) in entries.iter() {
+        balances.push((*account, *balance))?;
+    }
+    Ok(balances)
+}
+
+/// What is written of a database of balances.
+fn shown(alloc: Global, database: &Held<Plain>) -> Result<Shown, OutOfMemory> {
+    match database {
+        Held::Here(database) => {
+            let range = database.range();
+            Ok(Shown::Balances {
+                start: range.start,
+                end: range.end,
+                balances: balances(alloc, database.entries())?,
+            })
+        }
+        Held::Closed(_) => Ok(Shown::Closed),
+        Held::Lost(_) => Ok(Shown::Lost),
+        Held::Away => Ok(Shown::Away),
+    }
+}
+
+/// The transcript of a play.
+pub fn text_of(alloc: Global, told: &Told) -> Result<Vec<u8>, OutOfMemory> {
+    let Played {
+        history: History::Plain(history),
+        databases: Databases::Plain(databases),
+        end,
+        ..
+    } = &told.played;
+    transcript(
+        alloc,
+        told.labels.as_slice(),
+        history.as_slice(),
+        &[shown(alloc, databases)?],
+        end_of(end),
+    )
+}

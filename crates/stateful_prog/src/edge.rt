@@ -1,0 +1,82 @@
+//! The source and the sink of the system. They tell nothing of content.
+
+use std::io::{Read, Write};
+use stateful_types::{Failed, Faulty, Sink, SinkFault, Source};
+
+/// A source over a reader of the system.
+#[derive(Drop)]
+pub struct StdSource<R: Read + Drop> {
+    inner: R,
+    faults: u64,
+}
+
+impl<R: Read + Drop> StdSource<R> {
+    pub fn new(inner: R) -> Self {
+        StdSource { inner, faults: 0 }
+    }
+}
+
+impl<R: Read + Drop> Faulty for StdSource<R> {
+    ghost count = { λ s. s.faults };
+
+    fn faults(&self) -> u64 {
+        self.faults
+    }
+}
+
+impl<R: Read + Drop> Source for StdSource<R> {
+    ghost use Rattle.std.specs.Prelude.{None};
+
+    ghost left = { λ _. None };
+
+    fn read(&mut self, buf: &mut [u8]) -> Result<usize, Failed> {
+        match self.inner.read(buf) {
+            Ok(count) => Ok(count),
+            Err(_) => {
+                self.faults = self.faults.saturating_add(1);
+                Err(Failed)
+            }
+        }
+    }
+}
+
+/// A sink over a writer of the system.
+#[derive(Drop)]
+pub struct StdSink<W: Write + Drop> {
+    inner: W,
+    faults: u64,
+}
+
+impl<W: Write + Drop> StdSink<W> {
+    pub fn new(inner: W) -> Self {
+        StdSink { inner, faults: 0 }
+    }
+}
+
+impl<W: Write + Drop> Faulty for StdSink<W> {
+    ghost count = { λ s. s.faults };
+
+    fn faults(&self) -> u64 {
+        self.faults
+    }
+}
+
+impl<W: Write + Drop> Sink for StdSink<W> {
+    ghost use Rattle.std.specs.Prelude.{None};
+
+    ghost held = { λ _. None };
+
+    fn write(&mut self, piece: &[u8]) -> Result<usize, SinkFault> {
+        match self.inner.write(piece) {
+            Ok(0) if !piece.is_empty() => {
+                self.faults = self.faults.saturating_add(1);
+                Err(SinkFault::Failed)
+            }
+            Ok(count) => Ok(count),
+            Err(_) => {
+                self.faults = self.faults.saturating_add(1);
+                Err(SinkFault::Failed)
+            }
+        }
+    }
+}
