@@ -1,0 +1,5 @@
+pub mod Calm
+pub mod Pushing
+pub mod Verifying
+pub mod Turning
+pub mod Finalizing

@@ -1,4 +1,5 @@
 pub mod Workings
+pub mod Moments
 pub mod Chains
 pub mod Numbers
 pub mod Caching
@@ -9,7 +10,6 @@ pub mod Barriers
 pub mod Rules
 pub mod Stands
 pub mod Entering
-pub mod Moments
 pub mod Judging
 pub mod Effects
 pub mod Starting

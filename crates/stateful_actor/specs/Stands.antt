@@ -1,15 +1,14 @@
 -- What the machine, the databases and the store stand for.
-use Rattle.std.specs.Prelude.{◌≡◌, ◌<◌, ◌⊎◌, ℕ, Bool, true, false, nat_lt, if◌then◌else◌, is_none, Option, None, Some, List, [], ◌∷◌, All}
+use Rattle.std.specs.Prelude.{◌≡◌, ◌≢◌, ◌⊎◌, ℕ, Bool, true, false, nat_lt, if◌then◌else◌, is_none, Option, None, Some, List, [], ◌∷◌, All, AllPairs}
 use Rattle.stateful_types.specs.Names.{Header, Named}
 use Rattle.stateful_types.specs.declared.digest.Digest.{Digest}
 use Rattle.stateful_types.specs.declared.anchor.Anchor.{Anchor}
 use Rattle.stateful_db.specs.Databases.{Databases}
 use Rattle.stateful_history.specs.Past.{Past, after}
-use Rattle.stateful_history.specs.Opening.{is_down, opens}
+use Rattle.stateful_history.specs.Opening.{is_down}
 use Rattle.stateful_history.specs.Anchors.{anchor_of}
 use Rattle.stateful_history.specs.Canonical.{pruned_below}
 use Rattle.stateful_history.specs.Live.{live_job}
-use Rattle.stateful_history.specs.declared.mark.Mark.{Mark}
 use Rattle.stateful_register.specs.Register.{RegisterStands}
 use Rattle.stateful_register.specs.declared.register.Register.{Register}
 use Rattle.stateful_actor.specs.Workings.{Workings, setting, Point}
@@ -18,6 +17,7 @@ use Rattle.stateful_actor.specs.Caching.{Caches}
 use Rattle.stateful_actor.specs.Running.{IsRun, IsLive, IsInTable}
 use Rattle.stateful_actor.specs.Checkpoints.{Keeping, Anchored}
 use Rattle.stateful_actor.specs.Barriers.{BarrierStands, Agrees}
+use Rattle.stateful_actor.specs.Moments.{Moment}
 use Rattle.stateful_actor.specs.Rules.{Keeps}
 use Rattle.stateful_actor.specs.declared.cache.Cached.{Cached}
 use Rattle.stateful_actor.specs.declared.tables.Core.{Core}
@@ -28,12 +28,13 @@ abbrev pub Sound : {Ids S T B R H U : Type 0} (d : Databases Ids S T) → d.Memb
 Sound d m header core = (anchor : Anchor) → core.anchor ≡ Some anchor → Agrees d m header anchor core.durability core.barrier core.front
 
 module _ {B C I R U : Type 0} (w : Workings B R U) (stored : ℕ → Option (Named B)) where
-  -- the cache and the live runs stand, over the points of the known blocks
+  -- the cache and the live runs stand, over the points of the known blocks, and no block has two runs
   pub record Executes (p : Past B C I) (point : Point w) (next : w.Ids) (anchor : Digest) (cache : List (Cached U)) (runs : List (Live B R)) : Type 0 where
     pub points : Digest → Point w
     pub at_anchor : points anchor ≡ point
     pub caches : Caches w stored p points next anchor cache
     pub running : All (IsLive w stored p points next anchor) runs
+    pub apart : AllPairs (λ r q. r.block.digest ≢ q.block.digest) runs
 
   module _ {H : Type 0} (base : w.States) (p : Past B C I) where
     -- the machine is up at this anchor
@@ -65,8 +66,7 @@ module _ {B C I R U : Type 0} (w : Workings B R U) (stored : ℕ → Option (Nam
     Stands failed core register m next store =
         ((failed ≡ false) ⊎ (core.anchor ≡ None)) → RegisterStands w.kind.count p register × Works core m next store
 
-  -- further marks were made: the machine works on from them too, and the rules that held of the marks before hold of all
-  pub record Advances {H : Type 0} (base : w.States) (p : Past B C I) (before now : List (Mark B)) (core : Core B R H U) (m : w.kind.Members) (next : w.Ids) (store : ℕ → Option (Named B)) : Type 0 where
-    pub works : Works base (after p now) core m next store
-    pub rules : Keeps w stored base p before → Keeps w stored base p now
-    pub opens_none : opens now ≡ opens before
+-- the marks that were made of an event keep the rules, and the machine works on behind them
+pub record HasServed {B C I R U H : Type 0} (w : Workings B R U) (stored : ℕ → Option (Named B)) (base : w.States) (q : Past B C I) (now : Moment w H) (store : ℕ → Option (Named B)) : Type 0 where
+  pub works : Works w stored base (after q now.marks) now.core now.members now.next store
+  pub keeps : Keeps w stored base q now.marks
