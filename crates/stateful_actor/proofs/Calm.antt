@@ -29,13 +29,12 @@ use Rattle.stateful_actor.specs.declared.tables.Active.{Active}
 use Rattle.stateful_actor.specs.declared.tables.Core.{Core}
 use Rattle.stateful_actor.specs.declared.tables.Live.{Live}
 
--- an item that opens, applies, finalizes and flushes nothing
+-- an item that opens, applies and finalizes nothing
 pub record IsCalm {B C I S T : Type 0} (s : Setting B S T) (p : Past B C I) (x : Item B C I) : Type 0 where
   pub opening : opening (x ∷ p) ≡ opening p
   pub anchor : anchor_of s.header (x ∷ p) ≡ anchor_of s.header p
   pub tip : tip_of s.header (x ∷ p) ≡ tip_of s.header p
   pub applied : applied (x ∷ p) ≡ applied p
-  pub durable : durable (x ∷ p) ≡ durable p
   pub down : is_down (x ∷ p) ≡ is_down p
   pub pruned : pruned_below (x ∷ p) ≡ pruned_below p
   pub starts_none : StartsNone x
@@ -43,8 +42,9 @@ pub record IsCalm {B C I S T : Type 0} (s : Setting B S T) (p : Past B C I) (x :
   pub began : (k n : ℕ) → BeganOver s.header k n p → BeganOver s.header k n (x ∷ p)
   pub flushed : (k i : ℕ) → WasFlushed k i p → WasFlushed k i (x ∷ p)
 
--- an item that keeps, asks for, starts and ends nothing
+-- an item that keeps, asks for, starts, ends and flushes nothing
 pub record IsQuiet {B C I : Type 0} (p : Past B C I) (x : Item B C I) : Type 0 where
+  pub durable : durable (x ∷ p) ≡ durable p
   pub kept : kept_by p x ≡ None
   pub verified : (t : ℕ) (b : Named B) → verified t p ≡ Some b → verified t (x ∷ p) ≡ Some b
   pub started : (j : ℕ) (d : Digest) → started j p ≡ Some d → started j (x ∷ p) ≡ Some d
@@ -149,11 +149,11 @@ module _ {B C I R U : Type 0} (w : Workings B R U) (stored : ℕ → Option (Nam
     named = h.named;
   }
 
-  pub Keeping-calm : (base : w.States) (m : w.kind.Members) (first : Anchor) (origin : ℕ → ℕ) → Keeping (setting w stored) w.kind base p m first origin → Keeping (setting w stored) w.kind base (x ∷ p) m first origin
-  Keeping-calm base m first origin h = record {
+  pub Keeping-calm : (base : w.States) (m : w.kind.Members) (first : Anchor) (origin : ℕ → ℕ) → durable (x ∷ p) ≡ durable p → Keeping (setting w stored) w.kind base p m first origin → Keeping (setting w stored) w.kind base (x ∷ p) m first origin
+  Keeping-calm base m first origin same h = record {
     keeps = λ i l. rw calm.applied (h.keeps i l);
     newest = λ i l. rw calm.applied (h.newest i l);
-    durable = λ i l. rw calm.durable (h.durable i l);
+    durable = λ i l. rw same (h.durable i l);
   }
 
   pub ActiveStands-calm : (m : w.kind.Members) (first : Anchor) (origin : ℕ → ℕ) (active : Option Active) → ActiveStands w.kind w.header p m first origin active → ActiveStands w.kind w.header (x ∷ p) m first origin active
@@ -173,10 +173,10 @@ module _ {B C I R U : Type 0} (w : Workings B R U) (stored : ℕ → Option (Nam
       here = u.here;
       anchored = Anchored-calm base anchor u.first _ u.anchored;
       drawn = u.drawn;
-      keeping = Keeping-calm base m u.first u.origin u.keeping;
+      keeping = Keeping-calm base m u.first u.origin quiet.durable u.keeping;
       barriers = record {
-        durable_is = u.barriers.durable_is ∙ sym calm.durable;
-        above = rw calm.durable u.barriers.above;
+        durable_is = u.barriers.durable_is ∙ sym quiet.durable;
+        above = rw quiet.durable u.barriers.above;
         begun = ActiveStands-calm m u.first u.origin core.barrier u.barriers.begun;
         waiting = λ k i live. u.barriers.waiting k i (quiet.flushes _ k i live);
       };

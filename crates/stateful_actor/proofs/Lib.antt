@@ -1,5 +1,9 @@
+pub mod Lists
 pub mod Calm
 pub mod Pushing
+pub mod Sounding
+pub mod Doable
+pub mod Settling
 pub mod Verifying
 pub mod Turning
 pub mod Finalizing

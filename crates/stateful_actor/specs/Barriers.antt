@@ -1,17 +1,23 @@
 -- The active barrier stands for a past and agrees with the databases.
-use Rattle.std.specs.Prelude.{◌≡◌, ◌≤◌, ◌<◌, ◌+◌, ◌-◌, ◌⊎◌, ℕ, true, Option, Some, None, List, All, Any, length, slice_get, option_map}
+use Rattle.std.specs.Prelude.{◌≡◌, ◌≤◌, ◌<◌, ◌+◌, ◌-◌, ◌⊎◌, ℕ, true, Option, Some, None, List, All, Any, length, slice_get, option_map, IfSome}
 use Rattle.stateful_types.specs.Names.{Header}
 use Rattle.stateful_types.specs.declared.anchor.Anchor.{Anchor}
 use Rattle.stateful_db.specs.Databases.{Databases}
 use Rattle.stateful_db.specs.Barrier.{open_at}
 use Rattle.stateful_db.specs.declared.barrier.Handle.{Handle}
 use Rattle.stateful_db.specs.declared.barrier.Flushed.TheVariants.{Good}
-use Rattle.stateful_durability.specs.Durability.{Coverage, IsInOrder}
+use Rattle.stateful_durability.specs.Durability.{Coverage}
 use Rattle.stateful_history.specs.Past.{Past}
 use Rattle.stateful_history.specs.Live.{live_flush}
 use Rattle.stateful_history.specs.Durable.{durable, BeganOver, WasFlushed}
 use Rattle.stateful_actor.specs.declared.tables.Active.{Active}
 use Rattle.stateful_actor.specs.declared.tables.Front.{Front}
+
+-- what is durable was applied; a barrier is at an applied height that isn't durable; receipts are of applied heights
+pub record IsBounded (c : Coverage) : Type 0 where
+  pub durable : c.durable ≤ c.applied
+  pub barrier : IfSome c.barrier (λ height. (c.durable < height) × (height ≤ c.applied))
+  pub applied : All (λ receipt. receipt.0 ≤ c.applied) c.held
 
 -- a height has a receipt
 abbrev pub HasReceipt : Coverage → ℕ → Type 0
@@ -39,7 +45,7 @@ pub record Agrees {Ids S T B H : Type 0} (d : Databases Ids S T) (m : d.Members)
   pub point : Ids × S
   pub here : d.point m ≡ Some point
   pub applied : c.applied ≡ anchor.height.0
-  pub in_order : IsInOrder c
+  pub in_order : IsBounded c
   pub tokens : Tokens d m c.barrier active
   pub recorded : Recorded header c front
 

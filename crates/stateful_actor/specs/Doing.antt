@@ -18,7 +18,7 @@ use Rattle.stateful_actor.specs.declared.task.Task.TheVariants.{Answer, Wait, As
 -- what a task asks of the tables
 abbrev pub IsDoable : {B R H U : Type 0} → Header B → Core B R H U → Task B → Type 0
 IsDoable header core (Run anchor ticket b parent) = (core.anchor ≡ Some anchor) × IsAtHand anchor core.cache parent.digest
-IsDoable header core (Hold ticket height) = (core.anchor ≢ None) × ((height.0 ≤ core.durability.durable) ⊎ HasReceipt core.durability height.0)
+IsDoable header core (Hold ticket height) = (core.anchor ≢ None) × ((height.0 ≤ core.durability.durable) ⊎ HasReceipt core.durability height.0) × (core.front ≡ None)
 IsDoable header core (Finalize ticket b) = ((anchor : Anchor) × (core.anchor ≡ Some anchor) × IsNext header anchor b) × (core.front ≡ None) × IsIn core.cache b.digest
 IsDoable header core (Turn anchor job) = core.anchor ≡ Some anchor
 IsDoable header core (Start floor keep) = core.anchor ≡ None

@@ -18,6 +18,10 @@ use Rattle.stateful_actor.specs.declared.tables.Core.{Core}
 abbrev pub with_receipt : Coverage → ℕ → ℕ → Coverage
 with_receipt c height ticket = record c { held = c.held ++ (height, ticket) ∷ [] }
 
+-- the mark of an acknowledged receipt
+abbrev pub acknowledged : {B : Type 0} → ℕ × ℕ → Mark B
+acknowledged receipt = Acknowledged receipt.1 (record { 0 = receipt.0 })
+
 module _ {B R H U : Type 0} (old new : Core B R H U) (before now : List (Mark B)) where
   -- a request is answered
   abbrev pub Tells : ℕ → Bool → Type 0
@@ -38,10 +42,6 @@ module _ {B R H U : Type 0} (old new : Core B R H U) (before now : List (Mark B)
     pub good : All IsGood active.barrier
     pub core : new ≡ record old { durability = after_completion old.durability (Some active.height); barrier = None }
     pub marks : now ≡ before ++ BarrierDone active.number active.height true ∷ []
-
-  -- the mark of an acknowledged receipt
-  abbrev acknowledged : ℕ × ℕ → Mark B
-  acknowledged receipt = Acknowledged receipt.1 (record { 0 = receipt.0 })
 
   -- some receipts of durable heights were acknowledged
   pub record Acknowledges : Type 0 where
@@ -90,4 +90,4 @@ module _ {B R U H : Type 0} (w : Workings B R U) where
 
   -- while the machine is down or a finalization is in front, nothing of this is done
   abbrev pub Settles : (old new : Moment w H) → Type 0
-  Settles old new = (((old.core.anchor ≡ None) ⊎ (old.core.front ≢ None)) × (new ≡ old)) ⊎ SettlesAll old new
+  Settles old new = (((old.core.anchor ≡ None) ⊎ (old.core.front ≢ None)) × (new ≡ old)) ⊎ ((old.core.anchor ≢ None) × (old.core.front ≡ None) × SettlesAll old new)

@@ -9,13 +9,13 @@ pub mod Checkpoints
 pub mod Barriers
 pub mod Rules
 pub mod Stands
+pub mod Restarting
 pub mod Entering
 pub mod Judging
 pub mod Effects
 pub mod Starting
 pub mod Ending
 pub mod Finalizing
-pub mod Restarting
 pub mod Tasks
 pub mod Doing
 pub mod Errors

@@ -6,6 +6,8 @@ use Rattle.stateful_types.specs.declared.anchor.Anchor.{Anchor}
 use Rattle.stateful_types.specs.declared.number.Height.{Height}
 use Rattle.stateful_types.specs.declared.floor.Floor.{Floor}
 use Rattle.stateful_db.specs.Databases.{IsOpening}
+use Rattle.stateful_history.specs.declared.event.Event.{Event}
+use Rattle.stateful_history.specs.declared.event.Event.TheVariants.{Restart}
 use Rattle.stateful_history.specs.declared.mark.Mark.TheVariants.{Opened}
 use Rattle.stateful_actor.specs.Workings.{Workings}
 use Rattle.stateful_actor.specs.Moments.{Moment}
@@ -19,6 +21,11 @@ height_or_first (Some height) = height.0
 -- the height that was processed last, or 0
 abbrev pub start_height : Floor → ℕ
 start_height floor = height_or_first floor.processed
+
+-- the height at which an event opens the databases, where it does
+abbrev pub opened_height : {B C I : Type 0} → Event B C I → ℕ
+opened_height (Restart floor keep) = start_height floor
+opened_height event = 0
 
 -- the machine at an anchor, with an empty cache and no runs, where all is durable; its numbers go on
 pub record StartsAt {B R H U : Type 0} (anchor : Anchor) (old new : Core B R H U) : Type 0 where
