@@ -2,4 +2,5 @@ pub mod Calm
 pub mod Pushing
 pub mod Verifying
 pub mod Turning
+pub mod Cutting
 pub mod Finalizing
