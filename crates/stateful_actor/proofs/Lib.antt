@@ -3,4 +3,7 @@ pub mod Pushing
 pub mod Verifying
 pub mod Turning
 pub mod Cutting
+pub mod Advancing
+pub mod Beginning
+pub mod Fronting
 pub mod Finalizing
