@@ -1,25 +1,21 @@
 -- What the machine stands for once a block is applied.
-use Rattle.std.proofs.Common.{◌≡◌, ◌≢◌, ◌<◌, ◌≤◌, ◌+◌, ◌++◌, ◌⊎◌, inl, inr, ℕ, List, [], ◌∷◌, length, All, Any, Option, None, Some, Bool, true, false, is_none, sym, ◌∙◌, ap, subst, arith, refl}
+use Rattle.std.proofs.Common.{◌≡◌, ◌+◌, ◌++◌, inl, ℕ, List, [], ◌∷◌, length, Option, None, Some, is_none, sym, ◌∙◌, ap, subst, arith, refl}
 use Rattle.std.proofs.lemmas.List.Elements.{All-nil, All-same}
-use Rattle.stateful_types.specs.Names.{Header, Named}
+use Rattle.stateful_types.specs.Names.{Named}
 use Rattle.stateful_types.specs.Anchor.{anchor_by}
-use Rattle.stateful_types.specs.declared.digest.Digest.{Digest}
 use Rattle.stateful_types.specs.declared.anchor.Anchor.{Anchor}
-use Rattle.stateful_db.specs.Databases.{Databases, Laws}
-use Rattle.stateful_durability.specs.Durability.{Coverage}
-use Rattle.stateful_history.specs.Setting.{Setting, parent_of, step_of}
-use Rattle.stateful_history.specs.Past.{Past, Item, Came, Made}
+use Rattle.stateful_db.specs.Databases.{Laws}
+use Rattle.stateful_history.specs.Setting.{Setting, step_of}
+use Rattle.stateful_history.specs.Past.{Past, Made}
 use Rattle.stateful_history.specs.Anchors.{applied}
 use Rattle.stateful_history.specs.Met.{Met, TrueNames}
 use Rattle.stateful_history.specs.States.{fold, prefixes}
-use Rattle.stateful_history.specs.Live.{live_job}
 use Rattle.stateful_history.specs.declared.mark.Mark.TheVariants.{Began, Applied}
 use Rattle.stateful_actor.specs.Workings.{Workings, setting, Point}
-use Rattle.stateful_actor.specs.Numbers.{NumbersStand}
-use Rattle.stateful_actor.specs.Running.{IsRun, IsLive, IsInTable}
+use Rattle.stateful_actor.specs.Running.{IsRun, IsLive}
 use Rattle.stateful_actor.specs.Checkpoints.{Keeping, Anchored}
-use Rattle.stateful_actor.specs.Barriers.{BarrierStands, ActiveStands, HandleStands}
-use Rattle.stateful_actor.specs.Stands.{Works, IsUp, Executes}
+use Rattle.stateful_actor.specs.Barriers.{ActiveStands}
+use Rattle.stateful_actor.specs.Stands.{Works, IsUp}
 use Rattle.stateful_actor.specs.Moments.{Moment}
 use Rattle.stateful_actor.specs.Cut.{IsCutTo}
 use Rattle.stateful_actor.specs.Tasks.{IsIdle}
@@ -27,8 +23,6 @@ use Rattle.stateful_actor.specs.Finalizing.{IsNext, Moves}
 use Rattle.stateful_actor.specs.declared.cache.Cached.{Cached}
 use Rattle.stateful_actor.specs.declared.tables.Active.{Active}
 use Rattle.stateful_actor.specs.declared.tables.Core.{Core}
-use Rattle.stateful_actor.specs.declared.tables.Live.{Live}
-use Rattle.stateful_actor.specs.declared.tables.Front.{Front}
 use Rattle.stateful_actor.proofs.Cutting.{Caches-cut, IsShown, root-shown}
 
 module _ {B S T : Type 0} (s : Setting B S T) where

@@ -1,29 +1,27 @@
 -- What the machine stands for once a barrier has begun.
-use Rattle.std.proofs.Common.{◌≡◌, ◌≢◌, ◌<◌, ◌≤◌, ◌+◌, ◌-◌, ◌++◌, ◌⊎◌, ◌==◌, ◌&&◌, ◌||◌, nat_lt, inl, inr, ℕ, List, [], ◌∷◌, length, All, Any, Option, None, Some, Bool, true, false, sym, ◌∙◌, ap, subst, arith, refl, slice_get, option_map, option_and_then}
+use Rattle.std.proofs.Common.{◌≡◌, ◌<◌, ◌+◌, ◌⊎◌, ◌==◌, ◌&&◌, ◌||◌, nat_lt, inl, inr, ℕ, ◌∷◌, Option, None, Some, Bool, true, false, sym, ◌∙◌, ap, subst, arith, refl, slice_get, option_and_then}
 use Rattle.std.proofs.lemmas.Grind.{common_steps}
 use Rattle.std.proofs.lemmas.Bool.{eqb-true}
-use Rattle.stateful_types.specs.Names.{Header, Named}
-use Rattle.stateful_types.specs.declared.digest.Digest.{Digest}
+use Rattle.stateful_types.specs.Names.{Named}
 use Rattle.stateful_types.specs.declared.number.Height.{Height}
 use Rattle.stateful_types.specs.declared.anchor.Anchor.{Anchor}
-use Rattle.stateful_db.specs.Databases.{Databases, Laws}
-use Rattle.stateful_db.specs.Barrier.{open_at, still_open}
+use Rattle.stateful_db.specs.Databases.{Laws}
+use Rattle.stateful_db.specs.Barrier.{still_open}
 use Rattle.stateful_db.specs.declared.barrier.Handle.{Handle}
 use Rattle.stateful_db.specs.declared.barrier.Flushed.{Flushed}
 use Rattle.stateful_db.specs.declared.barrier.Flushed.TheVariants.{Good}
 use Rattle.stateful_db.specs.declared.database.FlushToken.{FlushToken}
 use Rattle.stateful_history.specs.Setting.{Setting}
-use Rattle.stateful_history.specs.Past.{Past, Item, Came, Made}
+use Rattle.stateful_history.specs.Past.{Past, Made}
 use Rattle.stateful_history.specs.Anchors.{applied}
-use Rattle.stateful_history.specs.Live.{live_job, live_flush}
-use Rattle.stateful_history.specs.Durable.{durable, WasApplied, BeganOver, WasFlushed}
-use Rattle.stateful_history.specs.declared.mark.Mark.{Mark}
+use Rattle.stateful_history.specs.Live.{live_flush}
+use Rattle.stateful_history.specs.Durable.{durable, WasApplied}
 use Rattle.stateful_history.specs.declared.mark.Mark.TheVariants.{BarrierBegun}
-use Rattle.stateful_actor.specs.Workings.{Workings, setting, Point}
+use Rattle.stateful_actor.specs.Workings.{Workings, setting}
 use Rattle.stateful_actor.specs.Numbers.{NumbersStand}
 use Rattle.stateful_actor.specs.Checkpoints.{Keeping, Anchored}
-use Rattle.stateful_actor.specs.Barriers.{BarrierStands, ActiveStands, HandleStands, IsWaiting}
-use Rattle.stateful_actor.specs.Stands.{Works, IsUp, Executes}
+use Rattle.stateful_actor.specs.Barriers.{BarrierStands, IsWaiting}
+use Rattle.stateful_actor.specs.Stands.{Works, IsUp}
 use Rattle.stateful_actor.specs.Moments.{Moment}
 use Rattle.stateful_actor.specs.Effects.{BeginsBarrier}
 use Rattle.stateful_actor.specs.declared.tables.Active.{Active}
@@ -33,7 +31,14 @@ use Rattle.stateful_actor.proofs.Advancing.{Works-same, some_same}
 
 pub begun-IsCalm : {B C I S T : Type 0} (s : Setting B S T) (p : Past B C I) (k : ℕ) (height : Height) → IsCalm s p (Made (BarrierBegun k height))
 begun-IsCalm s p k height = record {
-  opening = refl; anchor = refl; tip = refl; applied = refl; durable = refl; down = refl; pruned = refl; starts_none = tt;
+  opening = refl;
+  anchor = refl;
+  tip = refl;
+  applied = refl;
+  durable = refl;
+  down = refl;
+  pruned = refl;
+  starts_none = tt;
   built = λ d h. h;
   began = λ k n h. inr h;
   flushed = λ k i h. h;
@@ -50,7 +55,7 @@ open-token (Some h) handle token e is =
     let same : h ≡ handle = cc in
     open-answer handle.token handle.answer token (subst (λ (x : Handle). still_open x ≡ Some token) same e)
 
-or-true : (a b : Bool) → (a || b) ≡ true → (a ≡ true) ⊎ (b ≡ true)
+pub or-true : (a b : Bool) → (a || b) ≡ true → (a ≡ true) ⊎ (b ≡ true)
 or-true true b e = inl refl
 or-true false b e = inr e
 
@@ -93,12 +98,12 @@ module _ {B C I R U : Type 0} (w : Workings B R U) (laws : Laws w.kind) (stored 
       begun = (
         inl (k_is, ap (λ (h : Height). h.0) (sym height_is), subst (λ (n : ℕ). WasApplied w.header n p) (sym begins.height) was),
         λ i handle l is.
-          let token = open-token (slice_get begins.active.barrier i) handle (record { place = w.kind.place old.members i }) (begins.handles i l) is in
-          let place_is : handle.token.place ≡ w.kind.place old.members i = ap (λ (t : FlushToken). t.place) token.0 in
-          record {
-            place = omega (arith, place_is, keeping.newest i l, begins.height, applied_is, anchored.height);
-            flushed = λ good. absurd (token.1 good);
-          },
+            let token = open-token (slice_get begins.active.barrier i) handle (record { place = w.kind.place old.members i }) (begins.handles i l) is in
+            let place_is : handle.token.place ≡ w.kind.place old.members i = ap (λ (t : FlushToken). t.place) token.0 in
+            record {
+              place = omega (arith, place_is, keeping.newest i l, begins.height, applied_is, anchored.height);
+              flushed = λ good. absurd (token.1 good);
+            },
       );
       waiting = λ j i live. elim (live-begun j i k w.kind.count (live_flush w.kind.count j i p) live) [
         | inl same ↦ (k_is ∙ sym same.0, λ none. let out = begins.handles i same.1 in cc)

@@ -1,14 +1,14 @@
 -- What a cut of the cache keeps, and why that is what is known once a block is applied.
-use Rattle.std.proofs.Common.{◌≡◌, ◌≢◌, ◌<◌, ◌≤◌, ◌+◌, ◌++◌, ◌⊎◌, inl, inr, ℕ, List, [], ◌∷◌, length, All, Any, Contains, Option, None, Some, sym, ◌∙◌, ap, subst, arith, refl, MatchOption}
+use Rattle.std.proofs.Common.{◌≡◌, ◌≢◌, ◌++◌, ◌⊎◌, inl, inr, ℕ, List, [], ◌∷◌, All, Any, Contains, Option, None, Some, sym, ◌∙◌, ap, subst, arith, refl, MatchOption}
 use Rattle.std.proofs.lemmas.List.Elements.{All-weaker, All-nil, All-cons, All-head, All-tail, All-push, All-contains}
-use Rattle.stateful_types.specs.Names.{Header, Named}
+use Rattle.stateful_types.specs.Names.{Named}
 use Rattle.stateful_types.specs.Anchor.{anchor_by}
 use Rattle.stateful_types.specs.Round.{IsLater}
 use Rattle.stateful_types.specs.declared.digest.Digest.{Digest}
 use Rattle.stateful_types.specs.declared.anchor.Anchor.{Anchor}
 use Rattle.stateful_types.specs.declared.round.Round.{Round}
-use Rattle.stateful_history.specs.Setting.{Setting, parent_of, round_of, step_of}
-use Rattle.stateful_history.specs.Past.{Past, Item, Came, Made}
+use Rattle.stateful_history.specs.Setting.{Setting, step_of}
+use Rattle.stateful_history.specs.Past.{Past, Item, Made}
 use Rattle.stateful_history.specs.Anchors.{tip_of}
 use Rattle.stateful_history.specs.Asked.{kept_by}
 use Rattle.stateful_history.specs.Met.{Met, TrueNames}
@@ -81,9 +81,9 @@ module _ {B R U : Type 0} (w : Workings B R U) (points : Digest → Point w) (K 
     Stacked-child (further {at = z} {q = q} {c = c} {b = y} e is s k ne l) not new x x_is same known on more =
         let y_is : y ≡ x = same q.1 z.1 y l e in
         further x_is is
-            (on (q ∷ c) (subst (λ (v : Named B). Stacked w points K L first (w.header.parent v.block) (q ∷ c)) y_is s))
-            known new
-            (more q.1 x z.1 (subst (λ (v : Named B). L q.1 v z.1) y_is l))
+        (on (q ∷ c) (subst (λ (v : Named B). Stacked w points K L first (w.header.parent v.block) (q ∷ c)) y_is s))
+        known new
+        (more q.1 x z.1 (subst (λ (v : Named B). L q.1 v z.1) y_is l))
 
 -- a block is applied, which is a child of the anchor
 module _ {B C I R U : Type 0} (w : Workings B R U) (stored : ℕ → Option (Named B)) (q : Past B C I) (points : Digest → Point w) (next : w.Ids) (anchor : Anchor) (cache : List (Cached U)) (old : Caches w stored q points next anchor.digest cache)

@@ -1,31 +1,36 @@
 -- What the machine stands for once other receipts are held, or a hook is in front.
-use Rattle.std.proofs.Common.{◌≡◌, ◌≢◌, ◌<◌, ◌≤◌, ◌+◌, ◌⊎◌, ◌==◌, ◌||◌, if◌then◌else◌, inl, inr, ℕ, List, [], ◌∷◌, Any, Option, None, Some, Bool, true, false, sym, ◌∙◌, ap, subst, arith, refl}
+use Rattle.std.proofs.Common.{◌≡◌, ◌<◌, ◌+◌, ◌==◌, if◌then◌else◌, inl, inr, ℕ, List, ◌∷◌, Option, None, Some, sym, ◌∙◌, arith, refl}
 use Rattle.std.proofs.lemmas.Grind.{common_steps}
 use Rattle.std.proofs.lemmas.Bool.{eqb-true}
-use Rattle.stateful_types.specs.Names.{Header, Named}
+use Rattle.stateful_types.specs.Names.{Named}
 use Rattle.stateful_types.specs.declared.digest.Digest.{Digest}
 use Rattle.stateful_types.specs.declared.anchor.Anchor.{Anchor}
 use Rattle.stateful_durability.specs.Durability.{Coverage}
 use Rattle.stateful_history.specs.Setting.{Setting}
-use Rattle.stateful_history.specs.Past.{Past, Item, Came, Made}
+use Rattle.stateful_history.specs.Past.{Past, Made}
 use Rattle.stateful_history.specs.Asked.{started}
 use Rattle.stateful_history.specs.Live.{live_job}
 use Rattle.stateful_history.specs.declared.mark.JobKind.{JobKind}
 use Rattle.stateful_history.specs.declared.mark.Mark.TheVariants.{Started}
-use Rattle.stateful_actor.specs.Workings.{Workings, setting, Point}
-use Rattle.stateful_actor.specs.Numbers.{NumbersStand}
+use Rattle.stateful_actor.specs.Workings.{Workings, setting}
 use Rattle.stateful_actor.specs.Running.{IsInTable}
-use Rattle.stateful_actor.specs.Barriers.{BarrierStands}
-use Rattle.stateful_actor.specs.Stands.{Works, IsUp, Executes}
+use Rattle.stateful_actor.specs.Stands.{Works, IsUp}
 use Rattle.stateful_actor.specs.declared.tables.Core.{Core}
 use Rattle.stateful_actor.specs.declared.tables.Live.{Live}
 use Rattle.stateful_actor.specs.declared.tables.Front.{Front}
 use Rattle.stateful_actor.proofs.Calm.{IsCalm, Caches-calm, IsLive-calm, IsRun-calm, Anchored-calm, Keeping-calm, ActiveStands-calm}
-use Rattle.stateful_actor.proofs.Advancing.{some_same}
+use Rattle.stateful_actor.proofs.Beginning.{or-true}
 
 pub started-IsCalm : {B C I S T : Type 0} (s : Setting B S T) (p : Past B C I) (j : ℕ) (kind : JobKind) (digest : Digest) → IsCalm s p (Made (Started j kind digest))
 started-IsCalm s p j kind digest = record {
-  opening = refl; anchor = refl; tip = refl; applied = refl; durable = refl; down = refl; pruned = refl; starts_none = tt;
+  opening = refl;
+  anchor = refl;
+  tip = refl;
+  applied = refl;
+  durable = refl;
+  down = refl;
+  pruned = refl;
+  starts_none = tt;
   built = λ d h. h;
   began = λ k n h. h;
   flushed = λ k i h. h;
@@ -36,10 +41,6 @@ if_other t u a b l = grind (arith, common_steps)
 
 if_below : {X : Type 0} (t u : ℕ) (b c : X) (o : Option X) → (o ≡ Some c → u < t) → (if u == t then Some b else o) ≡ Some c → u < t + 1
 if_below t u b c o h e = grind (arith, common_steps)
-
-or-true : (a b : Bool) → (a || b) ≡ true → (a ≡ true) ⊎ (b ≡ true)
-or-true true b e = inl refl
-or-true false b e = inr e
 
 in_front : {B R H : Type 0} (runs : List (Live B R)) (o : Option (Front B H)) (front : Front B H) (j : ℕ) → o ≡ None → IsInTable runs o j → IsInTable runs (Some front) j
 in_front runs None front j none h = inr h
