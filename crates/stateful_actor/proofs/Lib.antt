@@ -6,4 +6,8 @@ pub mod Doable
 pub mod Settling
 pub mod Verifying
 pub mod Turning
+pub mod Cutting
+pub mod Advancing
+pub mod Beginning
+pub mod Fronting
 pub mod Finalizing
