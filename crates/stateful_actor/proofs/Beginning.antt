@@ -35,7 +35,6 @@ begun-IsCalm s p k height = record {
   anchor = refl;
   tip = refl;
   applied = refl;
-  durable = refl;
   down = refl;
   pruned = refl;
   starts_none = tt;

@@ -40,7 +40,6 @@ finalized-IsCalm s p t b = record {
   anchor = refl;
   tip = refl;
   applied = refl;
-  durable = refl;
   down = refl;
   pruned = refl;
   starts_none = tt;
@@ -51,6 +50,7 @@ finalized-IsCalm s p t b = record {
 
 finalized-IsQuiet : {B C I : Type 0} (p : Past B C I) (t : ℕ) (b : Named B) → IsQuiet p (Came (Finalized t b))
 finalized-IsQuiet p t b = record {
+  durable = refl;
   kept = refl;
   verified = λ u c e. e;
   started = λ j d e. e;

@@ -27,7 +27,6 @@ started-IsCalm s p j kind digest = record {
   anchor = refl;
   tip = refl;
   applied = refl;
-  durable = refl;
   down = refl;
   pruned = refl;
   starts_none = tt;
@@ -91,7 +90,7 @@ module _ {B C I R U H : Type 0} (w : Workings B R U) (stored : ℕ → Option (N
           here = u.here;
           anchored = Anchored-calm w stored p (Made (Started core.next_job kind digest)) calm base anchor u.first u.point.1 u.anchored;
           drawn = u.drawn;
-          keeping = Keeping-calm w stored p (Made (Started core.next_job kind digest)) calm base m u.first u.origin u.keeping;
+          keeping = Keeping-calm w stored p (Made (Started core.next_job kind digest)) calm base m u.first u.origin refl u.keeping;
           barriers = record {
             durable_is = u.barriers.durable_is;
             above = u.barriers.above;

@@ -3,7 +3,6 @@ pub mod Calm
 pub mod Pushing
 pub mod Sounding
 pub mod Doable
-pub mod Settling
 pub mod Verifying
 pub mod Turning
 pub mod Cutting
@@ -11,3 +10,4 @@ pub mod Advancing
 pub mod Beginning
 pub mod Fronting
 pub mod Finalizing
+pub mod Settling

@@ -1,6 +1,8 @@
 -- What the machine works on from behind the barriers that are done, the receipts that are acknowledged, and the barriers
 -- that begin.
 use Rattle.std.proofs.Common.{◌≡◌, ◌≢◌, ◌⊎◌, inl, inr, ℕ, zero, suc, ◌<◌, ◌≤◌, ◌+◌, ◌-◌, ◌*◌, max, ◌++◌, List, [], ◌∷◌, length, map, All, Any, Bool, true, false, Option, None, Some, IfSome, IsNone, refl, sym, ◌∙◌, ap, subst, arith, MatchOption, option_map, slice_get, ◌==◌, ◌&&◌, ◌||◌, not}
+use Rattle.std.proofs.Common.{append_assoc, is_none}
+use Rattle.std.proofs.lemmas.List.{append-nil}
 use Rattle.std.proofs.lemmas.List.Elements.{All-head, All-tail}
 use Rattle.std.proofs.lemmas.Bool.{cases_lt, cases_eq}
 use Rattle.std.proofs.lemmas.Bool.Decides.{nat_tests}
@@ -9,8 +11,7 @@ use Rattle.stateful_types.specs.Anchor.{anchor_by}
 use Rattle.stateful_types.specs.declared.anchor.Anchor.{Anchor}
 use Rattle.stateful_types.specs.declared.number.Height.{Height}
 use Rattle.stateful_db.specs.Databases.{Laws}
-use Rattle.std.specs.Prelude.{option_and_then, nat_lt}
-use Rattle.stateful_db.specs.Barrier.{open_at, still_open, answered, IsGood}
+use Rattle.stateful_db.specs.Barrier.{open_at, answered, IsGood}
 use Rattle.stateful_db.specs.declared.barrier.Handle.{Handle}
 use Rattle.stateful_db.specs.declared.barrier.Flushed.{Flushed as FlushedIs}
 use Rattle.stateful_db.specs.declared.barrier.Flushed.TheVariants.{Good, Interrupted}
@@ -20,7 +21,7 @@ use Rattle.stateful_history.specs.Past.{Past, Item, Came, Made, after}
 use Rattle.stateful_history.specs.Opening.{opening, opens}
 use Rattle.stateful_history.specs.Anchors.{applied, anchor_of}
 use Rattle.stateful_history.specs.Live.{live_flush, live_job}
-use Rattle.stateful_history.specs.Durable.{durable, BeganOver, WasFlushed, WasApplied, GoodIsFlushed, AcknowledgedIsDurable}
+use Rattle.stateful_history.specs.Durable.{durable, WasRecorded, BeganOver, WasFlushed, WasApplied, GoodIsFlushed, AcknowledgedIsDurable}
 use Rattle.stateful_history.specs.declared.event.Event.TheVariants.{Verify, Prepare, Propose, Finalized, Subscribe, Cancel, Fetched, Turn, Flushed, Progress, Stop, Restart}
 use Rattle.stateful_history.specs.declared.mark.Mark.{Mark}
 use Rattle.stateful_history.specs.declared.mark.Mark.TheVariants.{Opened, Converged, Asked, Withdrawn, Started, Ended, Built, Verdict, Answered, Declined, Databases, Began, Applied, BarrierBegun, BarrierDone, Acknowledged, Dropped, Recorded, Dispatched, Pruned, Completed, Stopped}
@@ -31,13 +32,16 @@ use Rattle.stateful_actor.specs.Numbers.{NumbersStand}
 use Rattle.stateful_actor.specs.Checkpoints.{Keeping, Anchored}
 use Rattle.stateful_actor.specs.Barriers.{IsBounded, Tokens, Agrees, BarrierStands, ActiveStands, HandleStands, IsWaiting}
 use Rattle.stateful_actor.specs.Rules.{Keeps}
-use Rattle.stateful_actor.specs.Stands.{Sound, Works, IsUp, HasServed}
+use Rattle.stateful_actor.specs.Stands.{Sound, Works, IsUp, Executes, HasServed}
+use Rattle.stateful_actor.specs.Running.{IsRun, IsInTable}
 use Rattle.stateful_actor.specs.Effects.{BeginsBarrier, CompletesBarrier, Acknowledges, acknowledged, Flushes, SettlesAll, Settles}
 use Rattle.stateful_actor.specs.declared.tables.Active.{Active}
 use Rattle.stateful_actor.specs.declared.tables.Core.{Core}
 use Rattle.stateful_actor.proofs.Calm.{IsCalm, IsQuiet, Works-quiet, IsUp-quiet, Anchored-calm, Keeping-calm, Caches-calm, IsLive-calm, IsRun-calm, ActiveStands-calm}
 use Rattle.stateful_actor.proofs.Pushing.{Keeps-push}
-use Rattle.stateful_actor.proofs.Sounding.{Sound-same}
+use Rattle.stateful_actor.proofs.Advancing.{Works-same, some_same}
+use Rattle.stateful_actor.proofs.Beginning.{Works-begun}
+use Rattle.stateful_actor.proofs.Fronting.{Works-covered}
 
 module _ {B C I : Type 0} (header : Header B) where
   -- where blocks were applied, the last of them has the anchor's height
@@ -83,3 +87,107 @@ module _ {B C I R U : Type 0} (w : Workings B R U) (stored : ℕ → Option (Nam
 live-other : (n k : ℕ) (b : Bool) → not (n == k) && b ≡ true → (b ≡ true) × (n ≡ k → ⊥)
 live-other n k true e = (refl, λ same. grind (arith, nat_tests))
 live-other n k false e = absurd (grind (arith, nat_tests))
+
+-- the active barrier is done
+module _ {B C I R U H : Type 0} (w : Workings B R U) (stored store : ℕ → Option (Named B)) (base : w.States) (q : Past B C I) (old new : Core B R H U) (m : w.kind.Members) (next : w.Ids) (before now : List (Mark B)) (done : CompletesBarrier old new before now) where
+  abbrev Done : Past B C I
+  Done = Made (BarrierDone done.active.number done.active.height true) ∷ q
+
+  -- the handle of each database is there, with a good answer
+  good-at : (hs : List Handle) (i : ℕ) → i < length hs → All IsGood hs → (h : Handle) × (slice_get hs i ≡ Some h) × IsGood h
+  good-at [] i l all = absurd (omega arith)
+  good-at (h ∷ hs) zero l all = (h, refl, All-head IsGood h hs all)
+  good-at (h ∷ hs) (suc i) l all = good-at hs i (omega arith) (All-tail IsGood h hs all)
+
+  module _ (anchor : Anchor) (count : length done.active.barrier ≡ w.kind.count) (later : old.durability.durable < done.active.height.0) (u : IsUp w stored base q anchor old m next) where
+    begun : ActiveStands w.kind w.header q m u.first u.origin (Some done.active)
+    begun = subst (λ (o : Option Active). ActiveStands w.kind w.header q m u.first u.origin o) done.is u.barriers.begun
+
+    flushed-at : (i : ℕ) → i < w.kind.count → WasFlushed done.active.number i q × (u.origin i + (done.active.height.0 - u.first.height.0) ≤ w.kind.durable m i)
+    flushed-at i l =
+        let h = good-at done.active.barrier i (omega (arith, count)) done.good in
+        (begun.1 i h.0 l h.1).flushed h.2
+
+    -- a good barrier began over its height, and each database was flushed for it
+    pub GoodIsFlushed-done : GoodIsFlushed w.header w.kind.count q (BarrierDone done.active.number done.active.height true)
+    GoodIsFlushed-done = (begun.0, λ i l. (flushed-at i l).0)
+
+    done-durable : max done.active.height.0 (durable q) ≡ done.active.height.0
+    done-durable = omega (arith, u.barriers.durable_is)
+
+    done-keeping : Keeping (setting w stored) w.kind base Done m u.first u.origin
+    done-keeping = record {
+      keeps = u.keeping.keeps;
+      newest = u.keeping.newest;
+      durable = λ i l. rw done-durable (flushed-at i l).1;
+    }
+
+    done-waiting : (k i : ℕ) → (live_flush w.kind.count k i q ≡ true) × (k ≡ done.active.number → ⊥) → IsWaiting None k i
+    done-waiting k i live = live.1 (sym (subst (λ (o : Option Active). IsWaiting o k i) done.is (u.barriers.waiting k i live.0)).0)
+
+    done-barriers : BarrierStands w.kind w.header Done m u.first u.origin new.durability new.barrier
+    done-barriers = subst (λ (x : Core B R H U). BarrierStands w.kind w.header Done m u.first u.origin x.durability x.barrier) (sym done.core) (record {
+      durable_is = sym done-durable;
+      above = rw done-durable (omega (arith, u.barriers.above, u.barriers.durable_is));
+      begun = tt;
+      waiting = λ k i live. done-waiting k i (live-other k done.active.number (live_flush w.kind.count k i q) live);
+    })
+
+    IsUp-done : IsUp w stored base Done anchor new m next
+    IsUp-done =
+        let calm : IsCalm (setting w stored) q (Made (BarrierDone done.active.number done.active.height true)) = done-IsCalm w stored q done.active.number done.active.height in
+        record {
+          first = u.first;
+          origin = u.origin;
+          point = u.point;
+          here = u.here;
+          anchored = Anchored-calm w stored q _ calm base anchor u.first u.point.1 u.anchored;
+          drawn = u.drawn;
+          keeping = done-keeping;
+          barriers = done-barriers;
+          runs = subst (λ (x : Core B R H U). All (IsRun w stored Done anchor) x.runs.items) (sym done.core) (IsRun-calm w stored q _ calm anchor old.runs.items (λ t b e. e) (λ j d e. e) u.runs);
+          in_table = λ j live. subst (λ (x : Core B R H U). IsInTable x.runs.items x.front j) (sym done.core) (u.in_table j live);
+          executes = subst (λ (x : Core B R H U). Executes w stored Done u.point next anchor.digest x.cache x.runs.items) (sym done.core) (record {
+            points = u.executes.points;
+            at_anchor = u.executes.at_anchor;
+            caches = Caches-calm w stored q _ calm u.executes.points next anchor.digest old.cache refl u.executes.caches;
+            running = IsLive-calm w stored q _ calm u.executes.points next anchor.digest old.runs.items refl u.executes.running;
+            apart = u.executes.apart;
+          });
+        }
+
+    done-numbers : NumbersStand q old.next_job old.next_barrier → NumbersStand Done new.next_job new.next_barrier
+    done-numbers n = subst (λ (x : Core B R H U). NumbersStand Done x.next_job x.next_barrier) (sym done.core) (record {
+      jobs = n.jobs;
+      tickets = n.tickets;
+      barriers = λ c k i live. n.barriers c k i (live-other k done.active.number (live_flush c k i q) live).0;
+    })
+
+  -- the machine works on behind a barrier that is done
+  pub Works-done : (anchor : Anchor) → old.anchor ≡ Some anchor → length done.active.barrier ≡ w.kind.count → old.durability.durable < done.active.height.0 → Works w stored base q old m next store → Works w stored base Done new m next store
+  Works-done anchor is count later works = record {
+    anchor_is = ap (λ (x : Core B R H U). x.anchor) done.core ∙ works.anchor_is;
+    down_is = works.down_is ∙ sym (ap (λ (x : Core B R H U). is_none x.anchor) done.core);
+    numbers = done-numbers anchor count later (works.up anchor is) works.numbers;
+    stored_is = works.stored_is;
+    idle = λ none. works.idle (sym (ap (λ (x : Core B R H U). x.anchor) done.core) ∙ none);
+    up = λ a a_is. subst (λ (x : Anchor). IsUp w stored base Done x new m next) (some_same anchor a (sym is ∙ sym (ap (λ (x : Core B R H U). x.anchor) done.core) ∙ a_is)) (IsUp-done anchor count later (works.up anchor is));
+  }
+
+-- receipts are acknowledged one after another
+module _ {B C I R U H : Type 0} (w : Workings B R U) (stored store : ℕ → Option (Named B)) (base : w.States) (p : Past B C I) (core : Core B R H U) (m : w.kind.Members) (next : w.Ids) where
+  acknowledged-rule : (q : Past B C I) (n t : ℕ) → n ≤ durable q → (first : Anchor) → opening q ≡ Some first → AcknowledgedIsDurable q (Acknowledged t (record { 0 = n }))
+  acknowledged-rule q n t low first opened = subst (λ (o : Option Anchor). MatchOption o (WasRecorded n q) (λ anchor. n ≤ durable q)) (sym opened) low
+
+  pub Served-acknowledged : (anchor : Anchor) → core.anchor ≡ Some anchor → (receipts : List (ℕ × ℕ)) (marks : List (Mark B)) → All (λ receipt. receipt.0 ≤ core.durability.durable) receipts → HasServed w stored base p (moment w core m next marks) store → HasServed w stored base p (moment w core m next (marks ++ map acknowledged receipts)) store
+  Served-acknowledged anchor is [] marks covered h = rw append-nil h
+  Served-acknowledged anchor is (receipt ∷ receipts) marks covered h =
+      let q : Past B C I = after p marks in
+      let u : IsUp w stored base (after p marks) anchor core m next = h.works.up anchor is in
+      let low : receipt.0 ≤ core.durability.durable = All-head (λ (x : ℕ × ℕ). x.0 ≤ core.durability.durable) receipt receipts covered in
+      let one : HasServed w stored base p (moment w core m next (marks ++ acknowledged receipt ∷ [])) store = record {
+        works = subst (λ (r : Past B C I). Works w stored base r core m next store) (sym (after-push p marks (acknowledged receipt))) (Works-quiet w stored (after p marks) (Made (acknowledged receipt)) (acknowledged-IsCalm w stored (after p marks) receipt.1 (record { 0 = receipt.0 })) base core m next store (acknowledged-IsQuiet w stored (after p marks) receipt.1 (record { 0 = receipt.0 })) h.works);
+        keeps = Keeps-push w stored base p marks (acknowledged receipt) h.keeps tt (λ honest. tt) tt (acknowledged-rule (after p marks) receipt.0 receipt.1 (subst (λ (n : ℕ). receipt.0 ≤ n) u.barriers.durable_is low) u.first u.anchored.opened);
+      } in
+      subst (λ (ms : List (Mark B)). HasServed w stored base p (moment w core m next ms) store) (append_assoc marks (acknowledged receipt ∷ []) (map acknowledged receipts))
+      (Served-acknowledged anchor is receipts (marks ++ acknowledged receipt ∷ []) (All-tail (λ (x : ℕ × ℕ). x.0 ≤ core.durability.durable) receipt receipts covered) one)
