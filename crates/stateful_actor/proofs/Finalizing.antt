@@ -29,7 +29,7 @@ use Rattle.stateful_actor.specs.declared.tables.Core.{Core}
 use Rattle.stateful_actor.specs.declared.task.Task.{Task}
 use Rattle.stateful_actor.specs.declared.task.Task.TheVariants as task
 use Rattle.stateful_actor.proofs.Calm.{IsCalm, IsQuiet, Works-quiet}
-use Rattle.stateful_actor.proofs.Pushing.{Keeps-none, Keeps-push}
+use Rattle.stateful_actor.proofs.Pushing.{Keeps-none, Keeps-push, Served-same, Served-push}
 use Rattle.stateful_actor.proofs.Advancing.{Works-same, Works-moved}
 use Rattle.stateful_actor.proofs.Beginning.{Works-begun}
 use Rattle.stateful_actor.proofs.Fronting.{Works-covered, Works-fronted}
@@ -64,16 +64,6 @@ finalized-IsQuiet p t b = record {
 }
 
 module _ {B C I R U H : Type 0} (w : Workings B R U) (laws : Laws w.kind) (stored store : ℕ → Option (Named B)) (base : w.States) (q : Past B C I) where
-  Served-same : (old new : Moment w H) → new ≡ old → HasServed w stored base q old store → HasServed w stored base q new store
-  Served-same old new e h = subst (λ (m : Moment w H). HasServed w stored base q m store) (sym e) h
-
-  -- the marks, one more
-  Served-push : (old new : Moment w H) (mark : Mark B) → HasServed w stored base q old store → new.marks ≡ old.marks ++ mark ∷ [] → Keeps w stored base q (old.marks ++ mark ∷ []) → Works w stored base (Made mark ∷ after q old.marks) new.core new.members new.next store → HasServed w stored base q new store
-  Served-push old new mark served marks keeps works = record {
-    works = subst (λ (ms : List (Mark B)). Works w stored base (after q ms) new.core new.members new.next store) (sym marks) (subst (λ (r : Past B C I). Works w stored base r new.core new.members new.next store) (sym (after-push q old.marks mark)) works);
-    keeps = subst (λ (ms : List (Mark B)). Keeps w stored base q ms) (sym marks) keeps;
-  }
-
   -- the finalization has begun, and the block is applied
   Served-moved : (t : ℕ) (b : Named B) (anchor : Anchor) (old new : Moment w H) → TrueNames (setting w stored) q → Met (setting w stored) q b → old.marks ≡ [] → Works w stored base q old.core old.members old.next store → old.core.anchor ≡ Some anchor → IsIdle old.core → IsNext w.header anchor b → Moves w t b old new → HasServed w stored base q new store
   Served-moved t b anchor old new names met none works is idle is_next moves =
@@ -85,10 +75,10 @@ module _ {B C I R U H : Type 0} (w : Workings B R U) (laws : Laws w.kind) (store
 
   -- a barrier begins over the anchor, where none is active
   pub Served-begun : (anchor : Anchor) (old new : Moment w H) → HasServed w stored base q old store → old.core.anchor ≡ Some anchor → old.core.durability.applied ≡ anchor.height.0 → WasApplied w.header old.core.durability.applied (after q old.marks) → BeginsIfNone w old new → HasServed w stored base q new store
-  Served-begun anchor old new served is applied was (inr same) = Served-same old new same.1 served
+  Served-begun anchor old new served is applied was (inr same) = Served-same w stored base q store old new same.1 served
   Served-begun anchor old new served is applied was (inl free) =
       let begins : BeginsBarrier w old new = free.1 in
-      Served-push old new (BarrierBegun begins.active.number begins.active.height) served begins.marks
+      Served-push w stored base q store old new (BarrierBegun begins.active.number begins.active.height) served begins.marks
       (Keeps-push w stored base q old.marks (BarrierBegun begins.active.number begins.active.height) served.keeps tt (λ honest. tt) tt tt)
       (Works-begun w laws stored base (after q old.marks) begins.active.number begins.active.height store old new anchor free.0 begins refl refl applied was served.works is)
 
@@ -105,7 +95,7 @@ module _ {B C I R U H : Type 0} (w : Workings B R U) (laws : Laws w.kind) (store
     keeps = subst (λ (ms : List (Mark B)). Keeps w stored base q ms) (sym observes.1) served.keeps;
   }
   Served-observed t b anchor (Pending hook) old new served is free observes members next =
-      Served-push old new (Started old.core.next_job Hook b.digest) served observes.1
+      Served-push w stored base q store old new (Started old.core.next_job Hook b.digest) served observes.1
       (Keeps-push w stored base q old.marks (Started old.core.next_job Hook b.digest) served.keeps tt (λ honest. tt) tt tt)
       (Works-same w stored base (Made (Started old.core.next_job Hook b.digest) ∷ after q old.marks) store (sym observes.0) (sym members) (sym next)
       (Works-fronted w stored base (after q old.marks) old.core old.members old.next store served.works Hook b.digest (record { job = old.core.next_job; ticket = t; block = b; hook = hook }) refl free anchor is))

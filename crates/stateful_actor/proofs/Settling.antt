@@ -1,7 +1,7 @@
 -- What the machine works on from behind the barriers that are done, the receipts that are acknowledged, and the barriers
 -- that begin.
 use Rattle.std.proofs.Common.{◌≡◌, ◌≢◌, ◌⊎◌, inl, inr, ℕ, zero, suc, ◌<◌, ◌≤◌, ◌+◌, ◌-◌, ◌*◌, max, ◌++◌, List, [], ◌∷◌, length, map, All, Any, Bool, true, false, Option, None, Some, IfSome, IsNone, refl, sym, ◌∙◌, ap, subst, arith, MatchOption, option_map, slice_get, ◌==◌, ◌&&◌, ◌||◌, not}
-use Rattle.std.proofs.Common.{append_assoc, is_none}
+use Rattle.std.proofs.Common.{append_assoc, is_none, rules}
 use Rattle.std.proofs.lemmas.List.{append-nil}
 use Rattle.std.proofs.lemmas.List.Elements.{All-head, All-tail}
 use Rattle.std.proofs.lemmas.Bool.{cases_lt, cases_eq}
@@ -38,7 +38,8 @@ use Rattle.stateful_actor.specs.Effects.{BeginsBarrier, CompletesBarrier, Acknow
 use Rattle.stateful_actor.specs.declared.tables.Active.{Active}
 use Rattle.stateful_actor.specs.declared.tables.Core.{Core}
 use Rattle.stateful_actor.proofs.Calm.{IsCalm, IsQuiet, Works-quiet, IsUp-quiet, Anchored-calm, Keeping-calm, Caches-calm, IsLive-calm, IsRun-calm, ActiveStands-calm}
-use Rattle.stateful_actor.proofs.Pushing.{Keeps-push}
+use Rattle.stateful_actor.proofs.Pushing.{Keeps-push, Served-same, Served-push}
+use Rattle.stateful_actor.proofs.Sounding.{Sound-told, Sound-completes, completes-front}
 use Rattle.stateful_actor.proofs.Advancing.{Works-same, some_same}
 use Rattle.stateful_actor.proofs.Beginning.{Works-begun}
 use Rattle.stateful_actor.proofs.Fronting.{Works-covered}
@@ -191,3 +192,101 @@ module _ {B C I R U H : Type 0} (w : Workings B R U) (stored store : ℕ → Opt
       } in
       subst (λ (ms : List (Mark B)). HasServed w stored base p (moment w core m next ms) store) (append_assoc marks (acknowledged receipt ∷ []) (map acknowledged receipts))
       (Served-acknowledged anchor is receipts (marks ++ acknowledged receipt ∷ []) (All-tail (λ (x : ℕ × ℕ). x.0 ≤ core.durability.durable) receipt receipts covered) one)
+
+-- marks that open nothing
+pub opens-push : {B : Type 0} (marks : List (Mark B)) (mark : Mark B) → opens (mark ∷ []) ≡ false → opens (marks ++ mark ∷ []) ≡ opens marks
+opens-push [] mark e = e
+opens-push (Opened anchor ∷ marks) mark e = refl
+opens-push (Converged anchor ∷ marks) mark e = refl
+opens-push (x ∷ marks) mark e = opens-push marks mark e
+
+opens-acknowledged : {B : Type 0} (marks : List (Mark B)) (receipts : List (ℕ × ℕ)) → opens (marks ++ map acknowledged receipts) ≡ opens marks
+opens-acknowledged marks [] = rw append-nil refl
+opens-acknowledged marks (receipt ∷ receipts) = rw (← append_assoc marks (acknowledged receipt ∷ []) (map acknowledged receipts)) (opens-acknowledged (marks ++ acknowledged receipt ∷ []) receipts ∙ opens-push marks (acknowledged receipt) refl)
+
+some-of : {X : Type 0} (o : Option X) → o ≢ None → (x : X) × (o ≡ Some x)
+some-of None ne = absurd (ne refl)
+some-of (Some x) ne = (x, refl)
+
+-- the machine settles
+module _ {B C I R U H : Type 0} (w : Workings B R U) (laws : Laws w.kind) (stored store : ℕ → Option (Named B)) (base : w.States) (p : Past B C I) (old new : Moment w H) where
+  abbrev Completes : Core B R H U → List (Mark B) → Type 0
+  Completes completed done = CompletesBarrier old.core completed old.marks done ⊎ ((completed ≡ old.core) × (done ≡ old.marks))
+
+  Served-done : (anchor : Anchor) → old.core.anchor ≡ Some anchor → Sound w.kind old.members w.header old.core → (completed : Core B R H U) (done : List (Mark B)) → Completes completed done → HasServed w stored base p old store → HasServed w stored base p (moment w completed old.members old.next done) store
+  Served-done anchor is sound completed done (inl c) h =
+      let a : Agrees w.kind old.members w.header anchor old.core.durability old.core.barrier old.core.front = sound anchor is in
+      let tokens : Tokens w.kind old.members old.core.durability.barrier (Some c.active) = subst (λ (o : Option Active). Tokens w.kind old.members old.core.durability.barrier o) c.is a.tokens in
+      let at : (old.core.durability.durable < c.active.height.0) × (c.active.height.0 ≤ old.core.durability.applied) = subst (λ (o : Option ℕ). IfSome o (λ k. (old.core.durability.durable < k) × (k ≤ old.core.durability.applied))) tokens.0 a.in_order.barrier in
+      subst (λ (ms : List (Mark B)). HasServed w stored base p (moment w completed old.members old.next ms) store) (sym c.marks) (record {
+        works = subst (λ (r : Past B C I). Works w stored base r completed old.members old.next store) (sym (after-push p old.marks (BarrierDone c.active.number c.active.height true))) (Works-done w stored store base (after p old.marks) old.core completed old.members old.next old.marks done c anchor is tokens.1 at.0 h.works);
+        keeps = Keeps-push w stored base p old.marks (BarrierDone c.active.number c.active.height true) h.keeps tt (λ honest. tt) (GoodIsFlushed-done w stored store base (after p old.marks) old.core completed old.members old.next old.marks done c anchor tokens.1 at.0 (h.works.up anchor is)) tt;
+      })
+  Served-done anchor is sound completed done (inr same) h = rw (same.0, same.1) h
+
+  done-anchor : (completed : Core B R H U) (done : List (Mark B)) → Completes completed done → completed.anchor ≡ old.core.anchor
+  done-anchor completed done (inl c) = ap (λ (x : Core B R H U). x.anchor) c.core
+  done-anchor completed done (inr same) = ap (λ (x : Core B R H U). x.anchor) same.0
+
+  Served-told : (anchor : Anchor) (completed told : Core B R H U) (done released : List (Mark B)) → completed.anchor ≡ Some anchor → Acknowledges completed told done released → HasServed w stored base p (moment w completed old.members old.next done) store → HasServed w stored base p (moment w told old.members old.next released) store
+  Served-told anchor completed told done released is a h =
+      let k : HasServed w stored base p (moment w completed old.members old.next (done ++ map acknowledged a.receipts)) store = Served-acknowledged w stored store base p completed old.members old.next anchor is a.receipts done a.covered h in
+      subst (λ (ms : List (Mark B)). HasServed w stored base p (moment w told old.members old.next ms) store) (sym a.marks) (record {
+        works = subst (λ (x : Core B R H U). Works w stored base (after p (done ++ map acknowledged a.receipts)) x old.members old.next store) (sym a.core)
+        (Works-covered w stored base (after p (done ++ map acknowledged a.receipts)) completed old.members old.next store k.works (record completed.durability { held = told.durability.held }) refl);
+        keeps = k.keeps;
+      })
+
+  some-none : (n : ℕ) → IsNone (Some n) → ⊥
+  some-none n none = search rules
+
+  -- no barrier is active where none is counted
+  free : (m : w.kind.Members) (c : Coverage) (active : Option Active) → Tokens w.kind m c.barrier active → IsNone c.barrier → active ≡ None
+  free m c None tokens none = refl
+  free m c (Some x) tokens none = absurd (some-none x.height.0 (subst (λ (o : Option ℕ). IsNone o) tokens.0 none))
+
+  Served-begun : (anchor : Anchor) (told : Core B R H U) (released : List (Mark B)) → told.anchor ≡ Some anchor → Sound w.kind old.members w.header told → told.durability.durable < told.durability.applied → IsNone told.durability.barrier → BeginsBarrier w (moment w told old.members old.next released) new → HasServed w stored base p (moment w told old.members old.next released) store → HasServed w stored base p new store
+  Served-begun anchor told released is sound l none b h =
+      let a : Agrees w.kind old.members w.header anchor told.durability told.barrier told.front = sound anchor is in
+      let u : IsUp w stored base (after p released) anchor told old.members old.next = h.works.up anchor is in
+      let some : 0 < length (applied (after p released)) = omega (arith, u.anchored.height, u.barriers.above, u.barriers.durable_is, a.applied) in
+      let was : WasApplied w.header told.durability.applied (after p released) = subst (λ (n : ℕ). WasApplied w.header n (after p released)) (sym a.applied) (WasApplied-anchor w.header (after p released) anchor u.anchored.anchor_is some) in
+      Served-push w stored base p store (moment w told old.members old.next released) new (BarrierBegun b.active.number b.active.height) h b.marks
+      (Keeps-push w stored base p released (BarrierBegun b.active.number b.active.height) h.keeps tt (λ honest. tt) tt tt)
+      (Works-begun w laws stored base (after p released) b.active.number b.active.height store (moment w told old.members old.next released) new anchor (free old.members told.durability told.barrier a.tokens none) b refl refl a.applied was h.works is)
+
+  Served-begins : (anchor : Anchor) (told : Core B R H U) (released : List (Mark B)) → told.anchor ≡ Some anchor → Sound w.kind old.members w.header told → ((told.durability.durable < told.durability.applied) × IsNone told.durability.barrier × BeginsBarrier w (moment w told old.members old.next released) new) ⊎ (new ≡ moment w told old.members old.next released) → HasServed w stored base p (moment w told old.members old.next released) store → HasServed w stored base p new store
+  Served-begins anchor told released is sound (inl b) h = Served-begun anchor told released is sound b.0 b.1 b.2 h
+  Served-begins anchor told released is sound (inr same) h = Served-same w stored base p store (moment w told old.members old.next released) new same h
+
+  -- the machine has settled
+  pub Served-settles : Settles w old new → Sound w.kind old.members w.header old.core → HasServed w stored base p old store → HasServed w stored base p new store
+  Served-settles (inl same) sound h = Served-same w stored base p store old new same.1 h
+  Served-settles (inr up) sound h =
+      let all = up.2 in
+      let anchor = some-of old.core.anchor up.0 in
+      let is : all.completed.anchor ≡ Some anchor.0 = done-anchor all.completed all.done all.completes ∙ anchor.1 in
+      let completed : Sound w.kind old.members w.header all.completed = Sound-completes w laws old new up.1 all.completed all.done all.completes sound in
+      let none : all.completed.front ≡ None = completes-front w laws old new all.completed all.done all.completes ∙ up.1 in
+      Served-begins anchor.0 all.told all.released (ap (λ (x : Core B R H U). x.anchor) all.acknowledges.core ∙ is)
+      (Sound-told w laws old.members all.completed all.told all.done all.released all.acknowledges none completed)
+      all.begins
+      (Served-told anchor.0 all.completed all.told all.done all.released is all.acknowledges (Served-done anchor.0 anchor.1 sound all.completed all.done all.completes h))
+
+  opens-completes : (completed : Core B R H U) (done : List (Mark B)) → Completes completed done → opens done ≡ opens old.marks
+  opens-completes completed done (inl c) = ap (λ (ms : List (Mark B)). opens ms) c.marks ∙ opens-push old.marks (BarrierDone c.active.number c.active.height true) refl
+  opens-completes completed done (inr same) = ap (λ (ms : List (Mark B)). opens ms) same.1
+
+  opens-begins : (told : Core B R H U) (released : List (Mark B)) → ((told.durability.durable < told.durability.applied) × IsNone told.durability.barrier × BeginsBarrier w (moment w told old.members old.next released) new) ⊎ (new ≡ moment w told old.members old.next released) → opens new.marks ≡ opens released
+  opens-begins told released (inl b) = ap (λ (ms : List (Mark B)). opens ms) b.2.marks ∙ opens-push released (BarrierBegun b.2.active.number b.2.active.height) refl
+  opens-begins told released (inr same) = ap (λ (x : Moment w H). opens x.marks) same
+
+  -- nothing is opened meanwhile
+  pub opens-settles : Settles w old new → opens new.marks ≡ opens old.marks
+  opens-settles (inl same) = ap (λ (x : Moment w H). opens x.marks) same.1
+  opens-settles (inr up) =
+      let all = up.2 in
+      opens-begins all.told all.released all.begins
+      ∙ ap (λ (ms : List (Mark B)). opens ms) all.acknowledges.marks
+      ∙ opens-acknowledged all.done all.acknowledges.receipts
+      ∙ opens-completes all.completed all.done all.completes

@@ -255,11 +255,11 @@ module _ {B R U H : Type 0} (w : Workings B R U) (laws : Laws w.kind) (m : w.kin
         }))
 
 module _ {B R U H : Type 0} (w : Workings B R U) (laws : Laws w.kind) (old new : Moment w H) where
-  Sound-completes : old.core.front ≡ None → (completed : Core B R H U) (done : List (Mark B)) → CompletesBarrier old.core completed old.marks done ⊎ ((completed ≡ old.core) × (done ≡ old.marks)) → Sound w.kind old.members w.header old.core → Sound w.kind old.members w.header completed
+  pub Sound-completes : old.core.front ≡ None → (completed : Core B R H U) (done : List (Mark B)) → CompletesBarrier old.core completed old.marks done ⊎ ((completed ≡ old.core) × (done ≡ old.marks)) → Sound w.kind old.members w.header old.core → Sound w.kind old.members w.header completed
   Sound-completes none completed done (inl c) s = Sound-completed w laws old.members old.core completed old.marks done c none s
   Sound-completes none completed done (inr same) s = subst (λ (c : Core B R H U). Sound w.kind old.members w.header c) (sym same.0) s
 
-  completes-front : (completed : Core B R H U) (done : List (Mark B)) → CompletesBarrier old.core completed old.marks done ⊎ ((completed ≡ old.core) × (done ≡ old.marks)) → completed.front ≡ old.core.front
+  pub completes-front : (completed : Core B R H U) (done : List (Mark B)) → CompletesBarrier old.core completed old.marks done ⊎ ((completed ≡ old.core) × (done ≡ old.marks)) → completed.front ≡ old.core.front
   completes-front completed done (inl c) = done-front w laws old.members old.core completed old.marks done c
   completes-front completed done (inr same) = ap (λ (c : Core B R H U). c.front) same.0
 
