@@ -11,3 +11,6 @@ pub mod Beginning
 pub mod Fronting
 pub mod Finalizing
 pub mod Settling
+pub mod Flushing
+pub mod Opening
+pub mod Entered
