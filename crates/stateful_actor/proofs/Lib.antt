@@ -2,6 +2,10 @@ pub mod Calm
 pub mod Pushing
 pub mod Points
 pub mod Items
+pub mod Placed
+pub mod Pushed
+pub mod Judged
+pub mod Starting
 pub mod Verifying
 pub mod Turning
 pub mod Finalizing
