@@ -2,6 +2,7 @@ pub mod Calm
 pub mod Pushing
 pub mod Points
 pub mod Items
+pub mod Places
 pub mod Placed
 pub mod Pushed
 pub mod Judged
