@@ -8,5 +8,7 @@ pub mod Pushed
 pub mod Judged
 pub mod Starting
 pub mod Verifying
+pub mod Ended
+pub mod Kept
 pub mod Turning
 pub mod Finalizing
