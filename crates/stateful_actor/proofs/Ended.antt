@@ -1,26 +1,22 @@
 -- What a turn says of a live run, and why a run that isn't kept is told false.
-use Rattle.std.proofs.Common.{◌≡◌, ◌≢◌, ◌<◌, ◌≤◌, ◌+◌, ◌⊎◌, ◌==◌, ◌&&◌, not, inl, inr, ℕ, List, [], ◌∷◌, Option, None, Some, Bool, true, false, sym, ◌∙◌, ap, subst, arith, refl, All, Any, remove, slice_get}
+use Rattle.std.proofs.Common.{◌≡◌, ◌≢◌, ◌⊎◌, ◌==◌, ◌&&◌, not, inl, inr, ℕ, List, ◌∷◌, Option, None, Some, Bool, true, false, sym, ◌∙◌, ap, arith, refl, remove, slice_get}
 use Rattle.std.proofs.lemmas.Grind.{common_steps}
 use Rattle.stateful_types.specs.Names.{Named}
-use Rattle.stateful_types.specs.Round.{IsLater}
-use Rattle.stateful_types.specs.declared.digest.Digest.{Digest}
 use Rattle.stateful_types.specs.declared.anchor.Anchor.{Anchor}
 use Rattle.stateful_types.specs.declared.outcome.Finality.TheVariants.{Candidate}
 use Rattle.stateful_types.specs.declared.outcome.Moved.{Moved}
-use Rattle.stateful_types.specs.declared.outcome.Moved.TheVariants.{Pending, Done}
+use Rattle.stateful_types.specs.declared.outcome.Moved.TheVariants.{Done}
 use Rattle.stateful_db.specs.Meaning.{Meaning, outcome, Ends}
-use Rattle.stateful_history.specs.Setting.{parent_of, height_of, round_of}
-use Rattle.stateful_history.specs.Past.{Past, Item, Came, Made}
-use Rattle.stateful_history.specs.Known.{Known, IsUnknown, IsPastTip}
+use Rattle.stateful_history.specs.Setting.{parent_of}
+use Rattle.stateful_history.specs.Past.{Past, Made}
 use Rattle.stateful_history.specs.Live.{live_job}
-use Rattle.stateful_history.specs.Reasons.{HasReason, FailsOnKnown, Missing, itself, IsBad}
+use Rattle.stateful_history.specs.Reasons.{HasReason, itself, IsBad}
 use Rattle.stateful_history.specs.declared.mark.How.{How}
 use Rattle.stateful_history.specs.declared.mark.How.TheVariants.{Kept, Rejected, Mismatched, Missed}
 use Rattle.stateful_history.specs.declared.mark.Mark.TheVariants.{Ended}
 use Rattle.stateful_actor.specs.Workings.{Workings, setting, Point}
-use Rattle.stateful_actor.specs.Caching.{IsAtHand}
-use Rattle.stateful_actor.specs.Running.{RunsOn, IsRun, IsLive, IsInTable}
-use Rattle.stateful_actor.specs.Ending.{Agrees, Differs, IsTold, Turns}
+use Rattle.stateful_actor.specs.Running.{IsRun, IsLive, IsInTable}
+use Rattle.stateful_actor.specs.Ending.{IsTold, Turns}
 use Rattle.stateful_actor.specs.Stands.{IsUp}
 use Rattle.stateful_actor.specs.declared.cache.Cached.{Cached}
 use Rattle.stateful_actor.specs.declared.tables.Core.{Core}
@@ -108,7 +104,7 @@ module _ {B C I R U H : Type 0} (w : Workings B R U) (stored : ℕ → Option (N
     }));
   }
 
-  -- whoever isn't kept is bad
+  -- a run that ended and isn't kept has a reason to be told false
   pub reason-of_told : (turned : R) (ended : Option U) (how : How) (cache : List (Cached U)) → how ≢ Kept → Turns w m live.run turned (Done ended) → IsTold w anchor live.block ended core.cache how cache → HasReason (setting w stored) base p live.block
   reason-of_told turned None Rejected cache ne turns told = reason-of_bad (elim (outcome-none w.meaning parent_point.1 live.block.block (turned-at turned (Done None) turns)) [ inl e ↦ inl e | inr e ↦ inr (inl e) ])
   reason-of_told turned (Some batch) Mismatched cache ne turns told =

@@ -1,13 +1,13 @@
 -- Which of the items of a request to judge and of a turn are calm, and which are quiet.
-use Rattle.std.proofs.Common.{◌≡◌, ◌≢◌, ◌<◌, ◌≤◌, ◌+◌, ℕ, List, [], ◌∷◌, Option, None, Some, Bool, true, false, not, nat_lt, ◌==◌, ◌&&◌, ◌||◌, max, if◌then◌else◌, arith, refl}
+use Rattle.std.proofs.Common.{◌≡◌, ◌≢◌, ◌<◌, ◌≤◌, ◌+◌, ℕ, ◌∷◌, Option, None, Some, Bool, true, false, not, nat_lt, ◌==◌, ◌&&◌, max, if◌then◌else◌, arith, refl}
 use Rattle.std.proofs.lemmas.Grind.{common_steps}
 use Rattle.stateful_types.specs.Names.{Named}
 use Rattle.stateful_types.specs.declared.digest.Digest.{Digest}
 use Rattle.stateful_types.specs.declared.block.Ancestry.{Ancestry}
 use Rattle.stateful_history.specs.Setting.{Setting}
-use Rattle.stateful_history.specs.Past.{Past, Item, Came, Made}
+use Rattle.stateful_history.specs.Past.{Past, Came, Made}
 use Rattle.stateful_history.specs.Asked.{verified, started, kept_by}
-use Rattle.stateful_history.specs.Live.{bound_of, live_job, live_flush, is_new}
+use Rattle.stateful_history.specs.Live.{bound_of, live_job, is_new}
 use Rattle.stateful_history.specs.declared.event.Event.TheVariants as event
 use Rattle.stateful_history.specs.declared.mark.Mark.TheVariants.{Asked, Started, Ended, Verdict}
 use Rattle.stateful_history.specs.declared.mark.JobKind.{JobKind}

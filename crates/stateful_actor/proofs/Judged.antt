@@ -1,7 +1,6 @@
 -- Why requests are answered at once as they are.
-use Rattle.std.proofs.Common.{◌≡◌, ◌≢◌, ◌<◌, ◌≤◌, ◌⊎◌, inl, inr, ℕ, List, [], ◌∷◌, Option, None, Some, Bool, true, false, nat_lt, if◌then◌else◌, sym, ◌∙◌, ap, subst, arith, refl, length, All}
+use Rattle.std.proofs.Common.{◌≡◌, ◌≢◌, ◌≤◌, ◌⊎◌, inl, inr, ℕ, Option, Some, sym, ◌∙◌, ap, subst, arith}
 use Rattle.std.proofs.lemmas.List.Elements.{All-contains}
-use Rattle.std.proofs.lemmas.List.Quantifiers.{Any-push}
 use Rattle.stateful_types.specs.Names.{Named}
 use Rattle.stateful_types.specs.declared.digest.Digest.{Digest}
 use Rattle.stateful_types.specs.declared.anchor.Anchor.{Anchor}
@@ -11,13 +10,12 @@ use Rattle.stateful_history.specs.Met.{Met, TrueNames}
 use Rattle.stateful_history.specs.Known.{IsUnknown}
 use Rattle.stateful_history.specs.Joined.{Joined}
 use Rattle.stateful_history.specs.Canonical.{canonical, IsCanonical}
-use Rattle.stateful_history.specs.Reasons.{HasReason, IsReplaced, IsCovered}
-use Rattle.stateful_actor.specs.Workings.{Workings, setting, Point}
-use Rattle.stateful_actor.specs.Caching.{IsCached, Caches, IsIn}
+use Rattle.stateful_history.specs.Reasons.{HasReason}
+use Rattle.stateful_actor.specs.Workings.{Workings, setting}
+use Rattle.stateful_actor.specs.Caching.{IsCached, IsIn}
 use Rattle.stateful_actor.specs.Judging.{IsDecided, IsJudged}
 use Rattle.stateful_actor.specs.Stands.{Works, IsUp}
-use Rattle.stateful_actor.specs.declared.judge.Judgement.TheVariants.{Valid, Invalid, Waits, Open}
-use Rattle.stateful_actor.specs.declared.cache.Cached.{Cached}
+use Rattle.stateful_actor.specs.declared.judge.Judgement.TheVariants.{Valid, Invalid, Open}
 use Rattle.stateful_actor.specs.declared.tables.Core.{Core}
 use Rattle.stateful_actor.proofs.Placed.{canonical-at, canonical-below, not_anchor, IsCovered-below, Joined-from_chain, unknown-from}
 

@@ -1,5 +1,5 @@
 -- A run whose block is kept.
-use Rattle.std.proofs.Common.{◌≡◌, ◌≢◌, ◌++◌, ◌⊎◌, inl, inr, ℕ, List, [], ◌∷◌, Option, None, Some, Bool, true, sym, ◌∙◌, ap, subst, refl, All, AllPairs, Any, remove, slice_get, get_or}
+use Rattle.std.proofs.Common.{◌≡◌, ◌≢◌, ◌++◌, inl, inr, ℕ, List, [], ◌∷◌, Option, Some, true, sym, ◌∙◌, subst, refl, All, Any, remove, slice_get, get_or}
 use Rattle.std.proofs.lemmas.List.Elements.{All-weaker, All-push, Contains-append_left}
 use Rattle.std.proofs.lemmas.List.Quantifiers.{Any-push}
 use Rattle.stateful_types.specs.Names.{Named}
@@ -7,18 +7,18 @@ use Rattle.stateful_types.specs.Round.{IsLater}
 use Rattle.stateful_types.specs.declared.digest.Digest.{Digest}
 use Rattle.stateful_types.specs.declared.anchor.Anchor.{Anchor}
 use Rattle.stateful_types.specs.declared.outcome.Finality.TheVariants.{Candidate}
-use Rattle.stateful_history.specs.Setting.{parent_of, round_of}
-use Rattle.stateful_history.specs.Past.{Past, Item, Came, Made}
+use Rattle.stateful_history.specs.Setting.{parent_of}
+use Rattle.stateful_history.specs.Past.{Past, Item, Made}
 use Rattle.stateful_history.specs.Known.{Known, kept, IsUnknown, IsPastTip}
 use Rattle.stateful_history.specs.Joined.{Joined}
 use Rattle.stateful_history.specs.declared.mark.How.TheVariants.{Kept}
 use Rattle.stateful_history.specs.declared.mark.Mark.TheVariants.{Ended}
 use Rattle.stateful_actor.specs.Workings.{Workings, setting, Point}
-use Rattle.stateful_actor.specs.Chains.{Stacked, further, Chain, Leads}
-use Rattle.stateful_actor.specs.Caching.{IsCached, Caches, IsIn, IsAtHand}
-use Rattle.stateful_actor.specs.Running.{RunsOn, IsRun, IsLive, IsInTable}
+use Rattle.stateful_actor.specs.Chains.{further, Chain, Leads}
+use Rattle.stateful_actor.specs.Caching.{IsCached, Caches, IsAtHand}
+use Rattle.stateful_actor.specs.Running.{RunsOn, IsRun, IsLive}
 use Rattle.stateful_actor.specs.Checkpoints.{Anchored}
-use Rattle.stateful_actor.specs.Stands.{IsUp, Executes}
+use Rattle.stateful_actor.specs.Stands.{IsUp}
 use Rattle.stateful_actor.specs.declared.cache.Cached.{Cached}
 use Rattle.stateful_actor.specs.declared.tables.Core.{Core}
 use Rattle.stateful_actor.specs.declared.tables.Live.{Live}

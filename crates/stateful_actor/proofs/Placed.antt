@@ -1,14 +1,12 @@
 -- What the anchor of a machine that is up says of known and final blocks.
-use Rattle.std.proofs.Common.{◌≡◌, ◌≢◌, ◌<◌, ◌≤◌, ◌+◌, ◌⊎◌, inl, inr, ℕ, List, [], ◌∷◌, Option, None, Some, Bool, true, false, nat_lt, ◌==◌, if◌then◌else◌, sym, ◌∙◌, ap, subst, arith, refl, MatchOption, option_map}
+use Rattle.std.proofs.Common.{◌≡◌, ◌≢◌, ◌<◌, ◌≤◌, inl, inr, ℕ, List, ◌∷◌, Option, None, Some, Bool, true, false, nat_lt, ◌==◌, if◌then◌else◌, sym, ◌∙◌, ap, subst, arith, refl, MatchOption, option_map}
 use Rattle.std.proofs.lemmas.Grind.{common_steps}
-use Rattle.stateful_types.specs.Names.{Header, Named}
-use Rattle.stateful_types.specs.Anchor.{anchor_by}
+use Rattle.stateful_types.specs.Names.{Named}
 use Rattle.stateful_types.specs.Round.{IsLater}
 use Rattle.stateful_types.specs.declared.digest.Digest.{Digest}
 use Rattle.stateful_types.specs.declared.anchor.Anchor.{Anchor}
-use Rattle.stateful_history.specs.Setting.{Setting, parent_of, height_of, round_of}
+use Rattle.stateful_history.specs.Setting.{Setting, height_of, round_of}
 use Rattle.stateful_history.specs.Past.{Past}
-use Rattle.stateful_history.specs.Anchors.{anchor_of, tip_of}
 use Rattle.stateful_history.specs.Met.{Met, TrueNames}
 use Rattle.stateful_history.specs.Known.{Known, is_tip, IsUnknown, IsPastTip}
 use Rattle.stateful_history.specs.Joined.{Joined}

@@ -1,8 +1,8 @@
 -- Lists of which one element is changed or removed, by what is read of the elements.
-use Rattle.std.proofs.Common.{◌≡◌, ◌≢◌, ◌<◌, ◌≤◌, ◌+◌, ◌++◌, ◌⊎◌, inl, inr, ℕ, zero, suc, List, [], ◌∷◌, Option, Some, sym, ◌∙◌, ap, subst, arith, refl, All, Any, AllPairs, Contains, length, get_or, set, take, drop, remove, slice_get, get_or-set_same, get_or-set_other, append_assoc}
-use Rattle.std.proofs.lemmas.Grind.{in_remove, common_steps}
+use Rattle.std.proofs.Common.{◌≡◌, ◌≢◌, ◌<◌, ◌≤◌, ◌+◌, ◌++◌, ◌⊎◌, inl, inr, ℕ, zero, suc, List, [], ◌∷◌, Some, sym, ◌∙◌, ap, subst, arith, All, Any, AllPairs, Contains, length, get_or, set, take, drop, remove, slice_get, get_or-set_same, get_or-set_other}
+use Rattle.std.proofs.lemmas.Grind.{in_remove}
 use Rattle.std.proofs.lemmas.Option.{slice_get_within, get_or_from_slice_get}
-use Rattle.std.proofs.lemmas.List.{get_or_default, length-set, append-nil}
+use Rattle.std.proofs.lemmas.List.{get_or_default, length-set}
 use Rattle.std.proofs.lemmas.List.Edits.{length-remove, get_or-remove_below, get_or-remove_above}
 use Rattle.std.proofs.lemmas.List.Elements.{All-get_or, All-from_get_or, All-append, All-take, All-drop, Contains-append_left, Contains-push}
 use Rattle.std.proofs.lemmas.List.Quantifiers.{all_pairs_remove}

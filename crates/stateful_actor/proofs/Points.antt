@@ -1,5 +1,5 @@
 -- Chains of points: where they lead, where they are cut, and the points that they are of.
-use Rattle.std.proofs.Common.{◌≡◌, ◌≢◌, ◌++◌, inl, inr, ℕ, List, [], ◌∷◌, Option, Some, Bool, true, false, if◌then◌else◌, sym, ◌∙◌, ap, subst, refl}
+use Rattle.std.proofs.Common.{◌≡◌, ◌≢◌, ◌++◌, inl, inr, ℕ, List, [], ◌∷◌, Option, Bool, true, false, if◌then◌else◌, sym, ◌∙◌, ap, subst, refl}
 use Rattle.std.specs.Prelude.{bytes_eq}
 use Rattle.std.proofs.lemmas.Slice.Eq.{bytes_eq-Decides}
 use Rattle.stateful_types.specs.Names.{Named}
@@ -7,11 +7,10 @@ use Rattle.stateful_types.specs.declared.digest.Digest.{Digest}
 use Rattle.stateful_db.specs.Chain.{IsPoint}
 use Rattle.stateful_history.specs.Past.{Past}
 use Rattle.stateful_history.specs.Met.{Met}
-use Rattle.stateful_history.specs.Known.{Known}
 use Rattle.stateful_history.specs.Joined.{Earns, at_anchor, further as and_on}
 use Rattle.stateful_history.specs.States.{Reaches, here as at_first, further as and_further}
 use Rattle.stateful_actor.specs.Workings.{Workings, setting, Point}
-use Rattle.stateful_actor.specs.Chains.{Stacked, here, further, Chain, Leads}
+use Rattle.stateful_actor.specs.Chains.{Stacked, here, further, Chain}
 
 -- the points with another one at a digest
 abbrev same_digest : Digest → Digest → Bool

@@ -1,12 +1,12 @@
 -- What is served, from the marks that were made.
-use Rattle.std.proofs.Common.{◌≡◌, ℕ, Option, Some, List, [], ◌∷◌, ◌⊎◌, Bool, true, false, sym, subst, ◌∙◌, MatchOption}
+use Rattle.std.proofs.Common.{◌≡◌, ℕ, Option, Some, List, [], ◌∷◌, ◌⊎◌, true, false, sym, subst, MatchOption}
 use Rattle.stateful_types.specs.Names.{Named}
-use Rattle.stateful_history.specs.Past.{Past, Item, Made, EachMark, after}
+use Rattle.stateful_history.specs.Past.{Past, Made, after}
 use Rattle.stateful_history.specs.Asked.{verified}
 use Rattle.stateful_history.specs.Honest.{IsHonest}
-use Rattle.stateful_history.specs.Joined.{Joined, TrueIsEarned}
+use Rattle.stateful_history.specs.Joined.{Joined}
 use Rattle.stateful_history.specs.Canonical.{IsCanonical}
-use Rattle.stateful_history.specs.Reasons.{HasReason, FalseHasReason}
+use Rattle.stateful_history.specs.Reasons.{HasReason}
 use Rattle.stateful_history.specs.declared.mark.Mark.{Mark}
 use Rattle.stateful_history.specs.declared.mark.Mark.TheVariants.{Asked, Started, Ended, Verdict}
 use Rattle.stateful_history.specs.declared.mark.JobKind.{JobKind}

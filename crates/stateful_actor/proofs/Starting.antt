@@ -1,5 +1,5 @@
 -- What the start of a run leaves.
-use Rattle.std.proofs.Common.{◌≡◌, ◌≢◌, ◌<◌, ◌≤◌, ◌+◌, ◌++◌, ◌⊎◌, ◌==◌, ◌||◌, inl, inr, ℕ, zero, suc, List, [], ◌∷◌, Option, None, Some, Bool, true, false, sym, ◌∙◌, ap, subst, arith, refl, All, Any, AllPairs, length, Contains}
+use Rattle.std.proofs.Common.{◌≡◌, ◌≢◌, ◌<◌, ◌+◌, ◌++◌, ◌⊎◌, ◌==◌, ◌||◌, inl, inr, ℕ, List, [], ◌∷◌, Option, None, Some, Bool, true, false, sym, ◌∙◌, ap, subst, arith, refl, All, AllPairs}
 use Rattle.std.proofs.lemmas.Grind.{common_steps}
 use Rattle.std.proofs.lemmas.List.Elements.{All-contains, All-weaker, All-push, All-nil}
 use Rattle.stateful_types.specs.Names.{Named}
@@ -8,7 +8,7 @@ use Rattle.stateful_types.specs.declared.anchor.Anchor.{Anchor}
 use Rattle.stateful_types.specs.declared.outcome.Finality.TheVariants.{Candidate}
 use Rattle.stateful_db.specs.Databases.{Laws}
 use Rattle.stateful_history.specs.Setting.{parent_of, height_of}
-use Rattle.stateful_history.specs.Past.{Past, Item, Came, Made}
+use Rattle.stateful_history.specs.Past.{Past, Item, Made}
 use Rattle.stateful_history.specs.Asked.{verified, started}
 use Rattle.stateful_history.specs.Met.{Met}
 use Rattle.stateful_history.specs.Known.{Known, IsUnknown}
@@ -16,12 +16,12 @@ use Rattle.stateful_history.specs.Live.{live_job}
 use Rattle.stateful_history.specs.declared.mark.Mark.TheVariants.{Started}
 use Rattle.stateful_history.specs.declared.mark.JobKind.TheVariants as job
 use Rattle.stateful_actor.specs.Workings.{Workings, setting, Point}
-use Rattle.stateful_actor.specs.Chains.{Stacked, here, Chain, Leads}
+use Rattle.stateful_actor.specs.Chains.{here, Chain, Leads}
 use Rattle.stateful_actor.specs.Caching.{IsCached, Caches}
 use Rattle.stateful_actor.specs.Running.{RunsOn, IsRun, IsLive, IsInTable}
 use Rattle.stateful_actor.specs.Starting.{IsOver, databases, batch, StartsRun}
 use Rattle.stateful_actor.specs.Moments.{Moment}
-use Rattle.stateful_actor.specs.Stands.{Works, IsUp, Executes}
+use Rattle.stateful_actor.specs.Stands.{Works, IsUp}
 use Rattle.stateful_actor.specs.Tasks.{IsIdle}
 use Rattle.stateful_actor.specs.declared.cache.Cached.{Cached}
 use Rattle.stateful_actor.specs.declared.tables.Core.{Core}

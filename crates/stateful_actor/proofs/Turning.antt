@@ -1,36 +1,35 @@
 -- What a turn of a job leaves.
-use Rattle.std.proofs.Common.{◌≡◌, ◌≢◌, ◌++◌, inl, inr, ℕ, Option, None, Some, List, [], ◌∷◌, Bool, true, false, sym, ◌∙◌, ap, subst, refl, All, AllPairs, Any, remove, set, slice_get}
+use Rattle.std.proofs.Common.{◌≡◌, ◌≢◌, ◌++◌, inl, inr, ℕ, Option, None, Some, List, [], ◌∷◌, Bool, true, false, sym, ◌∙◌, ap, subst, refl, Any, remove, set, slice_get}
 use Rattle.std.proofs.lemmas.List.Elements.{All-set}
 use Rattle.stateful_types.specs.Names.{Named}
 use Rattle.stateful_types.specs.declared.anchor.Anchor.{Anchor}
 use Rattle.stateful_types.specs.declared.outcome.Moved.{Moved}
 use Rattle.stateful_types.specs.declared.outcome.Moved.TheVariants.{Pending, Done}
 use Rattle.stateful_db.specs.Databases.{Laws}
-use Rattle.stateful_history.specs.Past.{Past, Item, Came, Made, after}
+use Rattle.stateful_history.specs.Past.{Past, Came, Made, after}
 use Rattle.stateful_history.specs.Asked.{verified, kept_by}
 use Rattle.stateful_history.specs.Met.{TrueNames}
 use Rattle.stateful_history.specs.Live.{live_job}
 use Rattle.stateful_history.specs.declared.event.Event.TheVariants as event
 use Rattle.stateful_history.specs.declared.mark.How.{How}
-use Rattle.stateful_history.specs.declared.mark.How.TheVariants.{Kept, Rejected, Mismatched, Missed, Cancelled, Nothing, Hooked}
+use Rattle.stateful_history.specs.declared.mark.How.TheVariants.{Kept, Rejected, Mismatched, Missed, Hooked}
 use Rattle.stateful_history.specs.declared.mark.Mark.{Mark}
 use Rattle.stateful_history.specs.declared.mark.Mark.TheVariants.{Ended, Verdict}
 use Rattle.stateful_actor.specs.Workings.{Workings, setting}
 use Rattle.stateful_actor.specs.Moments.{Moment}
 use Rattle.stateful_actor.specs.Running.{RunsOn, IsRun, IsLive, IsInTable}
 use Rattle.stateful_actor.specs.Effects.{with_receipt}
-use Rattle.stateful_actor.specs.Ending.{IsTold, Finishes, Turns, LeavesRun, TurnsRun, TurnsHook, TurnsJob}
+use Rattle.stateful_actor.specs.Ending.{IsTold, Turns, LeavesRun, TurnsRun, TurnsHook}
 use Rattle.stateful_actor.specs.Rules.{Keeps}
 use Rattle.stateful_actor.specs.Stands.{Works, IsUp, HasServed}
 use Rattle.stateful_actor.specs.Doing.{Does}
-use Rattle.stateful_actor.specs.declared.cache.Cached.{Cached}
 use Rattle.stateful_actor.specs.declared.task.Task.TheVariants.{Turn}
 use Rattle.stateful_actor.specs.declared.tables.Core.{Core}
 use Rattle.stateful_actor.specs.declared.tables.Front.{Front}
 use Rattle.stateful_actor.specs.declared.tables.Live.{Live}
 use Rattle.stateful_actor.proofs.Calm.{Works-quiet, IsUp-quiet}
 use Rattle.stateful_actor.proofs.Items.{turn-IsCalm, turn-IsQuiet, ended-IsCalm, ended-IsQuiet, verdict-IsCalm, verdict-IsQuiet, NumbersStand-ended}
-use Rattle.stateful_actor.proofs.Places.{All-at, All-remove, AllPairs-remove_by, AllPairs-set_by, Any-set_by}
+use Rattle.stateful_actor.proofs.Places.{All-remove, AllPairs-remove_by, AllPairs-set_by, Any-set_by}
 use Rattle.stateful_actor.proofs.Pushing.{Keeps-none}
 use Rattle.stateful_actor.proofs.Pushed.{Keeps-true, Keeps-false, Keeps-ended, Works-same, HasServed-from}
 use Rattle.stateful_actor.proofs.Ended.{outcome-some, ends-some, live_behind, in_table-ended, IsRun-at, IsLive-at, turned-at, reason-of_told}

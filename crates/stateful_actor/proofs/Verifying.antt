@@ -1,12 +1,12 @@
 -- What a request to judge a block leaves.
-use Rattle.std.proofs.Common.{◌≡◌, ◌≢◌, inl, inr, ℕ, ◌+◌, Option, Some, List, [], ◌∷◌, ◌++◌, Bool, true, false, sym, ◌∙◌, ap, subst, refl}
+use Rattle.std.proofs.Common.{◌≡◌, inl, ℕ, ◌+◌, Option, Some, List, [], ◌∷◌, ◌++◌, Bool, true, false, ◌∙◌, ap, subst, refl}
 use Rattle.stateful_types.specs.Names.{Named}
 use Rattle.stateful_types.specs.declared.digest.Digest.{Digest}
 use Rattle.stateful_types.specs.declared.anchor.Anchor.{Anchor}
 use Rattle.stateful_types.specs.declared.block.Ancestry.{Ancestry}
 use Rattle.stateful_db.specs.Databases.{Laws}
 use Rattle.stateful_history.specs.Setting.{parent_of}
-use Rattle.stateful_history.specs.Past.{Past, Item, Came, Made, after}
+use Rattle.stateful_history.specs.Past.{Past, Came, Made, after}
 use Rattle.stateful_history.specs.Asked.{verified}
 use Rattle.stateful_history.specs.Honest.{IsHonest, Descends}
 use Rattle.stateful_history.specs.Met.{Met, TrueNames}
@@ -22,7 +22,7 @@ use Rattle.stateful_actor.specs.Moments.{Moment}
 use Rattle.stateful_actor.specs.Judging.{IsJudged}
 use Rattle.stateful_actor.specs.Stands.{Works, IsUp, HasServed}
 use Rattle.stateful_actor.specs.Starting.{StartsRun}
-use Rattle.stateful_actor.specs.Tasks.{IsIdle, IsVerification, IsDoneFor, IsFollowedBy, IsFollowedByAnother}
+use Rattle.stateful_actor.specs.Tasks.{IsIdle, IsVerification, IsDoneFor, IsFollowedByAnother}
 use Rattle.stateful_actor.specs.Doing.{Does}
 use Rattle.stateful_actor.specs.declared.judge.Judgement.{Judgement}
 use Rattle.stateful_actor.specs.declared.judge.Judgement.TheVariants.{Valid, Invalid, Waits, Open}
