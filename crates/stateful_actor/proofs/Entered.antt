@@ -36,7 +36,7 @@ use Rattle.stateful_actor.specs.Doing.{Does, IsDoable}
 use Rattle.stateful_actor.specs.Effects.{Settles, SettlesAll, CompletesBarrier, Acknowledges, acknowledged, BeginsBarrier, Flushes}
 use Rattle.stateful_actor.specs.Ending.{TurnsRun, TurnsHook, LeavesRun}
 use Rattle.stateful_actor.specs.Finalizing.{Finalizes, BeginsIfNone, Observes}
-use Rattle.stateful_actor.specs.Restarting.{Reopens}
+use Rattle.stateful_actor.specs.Restarting.{Reopens, start_height}
 use Rattle.stateful_actor.specs.declared.judge.Judgement.{Judgement}
 use Rattle.stateful_actor.specs.declared.judge.Judgement.TheVariants.{Valid, Invalid, Waits, Open}
 use Rattle.stateful_actor.specs.declared.tables.Core.{Core}
@@ -46,8 +46,8 @@ use Rattle.stateful_actor.proofs.Verifying.{Served-verify}
 use Rattle.stateful_actor.proofs.Turning.{Served-turn}
 use Rattle.stateful_actor.proofs.Finalizing.{Served-finalized}
 use Rattle.stateful_actor.proofs.Flushing.{Served-flush}
-use Rattle.stateful_actor.proofs.Opening.{Served-start, Opened-at}
-use Rattle.stateful_actor.proofs.Settling.{Served-settles, opens-settles, opens-push}
+use Rattle.stateful_actor.proofs.Opening.{Served-start, opened-stored}
+use Rattle.stateful_actor.proofs.Settling.{Served-settles, opens-settles, opens-push, opens-acknowledged}
 use Rattle.stateful_actor.proofs.Sounding.{Sound-does}
 
 -- without an anchor there is no opening
@@ -78,27 +78,40 @@ opens-none (Converged a ∷ marks) anchor e found = cc
 opens-none (x ∷ marks) anchor e (zero, l, is) = cc
 opens-none (x ∷ marks) anchor e (suc k, l, is) = opens-none marks anchor e (k, omega (arith, l), is)
 
+-- an opening that stands in front is the only one
+only-first : {B : Type 0} (more : List (Mark B)) (root a : Anchor) → opens more ≡ false → Contains {X = Mark B} (Opened root ∷ more) (Opened a) → a ≡ root
+only-first more root a none (zero, l, is) = cc
+only-first more root a none (suc k, l, is) = absurd (opens-none more a none (k, omega (arith, l), is))
+
+-- lists that open nothing
+opens-both : {B : Type 0} (xs ys : List (Mark B)) → opens xs ≡ false → opens ys ≡ false → opens (xs ++ ys) ≡ false
+opens-both [] ys x y = y
+opens-both (Opened a ∷ xs) ys x y = x
+opens-both (Converged a ∷ xs) ys x y = x
+opens-both (m ∷ xs) ys x y = opens-both xs ys x y
+
 module _ {B R U H : Type 0} (w : Workings B R U) (laws : Laws w.kind) (old new : Moment w H) where
-  -- the marks of a moment behind another are those of that one, and more
+  -- the marks of a moment behind another are those of that one, and more that open nothing
   abbrev pub More : Type 0
-  More = (more : List (Mark B)) × (new.marks ≡ old.marks ++ more)
+  More = (more : List (Mark B)) × (new.marks ≡ old.marks ++ more) × (opens more ≡ false)
 
   settles-more : Settles w old new → More
-  settles-more (inl same) = ([], ap (λ (x : Moment w H). x.marks) same.1 ∙ sym (append-nil old.marks))
+  settles-more (inl same) = ([], ap (λ (x : Moment w H). x.marks) same.1 ∙ sym (append-nil old.marks), refl)
   settles-more (inr up) =
       let all = up.2 in
       let one = done-more all.completed all.done all.completes in
       let three = begun-more all.told all.released all.begins in
       (one.0 ++ (map acknowledged all.acknowledges.receipts ++ three.0),
-      three.1 ∙ ap (λ (ms : List (Mark B)). ms ++ three.0) (all.acknowledges.marks ∙ ap (λ (ms : List (Mark B)). ms ++ map acknowledged all.acknowledges.receipts) one.1) ∙ simp append_assoc)
+      three.1 ∙ ap (λ (ms : List (Mark B)). ms ++ three.0) (all.acknowledges.marks ∙ ap (λ (ms : List (Mark B)). ms ++ map acknowledged all.acknowledges.receipts) one.1) ∙ simp append_assoc,
+      opens-both one.0 (map acknowledged all.acknowledges.receipts ++ three.0) one.2 (opens-both (map acknowledged all.acknowledges.receipts) three.0 (opens-acknowledged [] all.acknowledges.receipts) three.2))
     where
-      done-more : (completed : Core B R H U) (done : List (Mark B)) → CompletesBarrier old.core completed old.marks done ⊎ ((completed ≡ old.core) × (done ≡ old.marks)) → (more : List (Mark B)) × (done ≡ old.marks ++ more)
-      done-more completed done (inl c) = (BarrierDone c.active.number c.active.height true ∷ [], c.marks)
-      done-more completed done (inr same) = ([], same.1 ∙ sym (append-nil old.marks))
+      done-more : (completed : Core B R H U) (done : List (Mark B)) → CompletesBarrier old.core completed old.marks done ⊎ ((completed ≡ old.core) × (done ≡ old.marks)) → (more : List (Mark B)) × (done ≡ old.marks ++ more) × (opens more ≡ false)
+      done-more completed done (inl c) = (BarrierDone c.active.number c.active.height true ∷ [], c.marks, refl)
+      done-more completed done (inr same) = ([], same.1 ∙ sym (append-nil old.marks), refl)
 
-      begun-more : (told : Core B R H U) (released : List (Mark B)) → ((told.durability.durable < told.durability.applied) × IsNone told.durability.barrier × BeginsBarrier w (moment w told old.members old.next released) new) ⊎ (new ≡ moment w told old.members old.next released) → (more : List (Mark B)) × (new.marks ≡ released ++ more)
-      begun-more told released (inl b) = (BarrierBegun b.2.active.number b.2.active.height ∷ [], b.2.marks)
-      begun-more told released (inr same) = ([], ap (λ (x : Moment w H). x.marks) same ∙ sym (append-nil released))
+      begun-more : (told : Core B R H U) (released : List (Mark B)) → ((told.durability.durable < told.durability.applied) × IsNone told.durability.barrier × BeginsBarrier w (moment w told old.members old.next released) new) ⊎ (new ≡ moment w told old.members old.next released) → (more : List (Mark B)) × (new.marks ≡ released ++ more) × (opens more ≡ false)
+      begun-more told released (inl b) = (BarrierBegun b.2.active.number b.2.active.height ∷ [], b.2.marks, refl)
+      begun-more told released (inr same) = ([], ap (λ (x : Moment w H). x.marks) same ∙ sym (append-nil released), refl)
 
   -- a machine that settles leaves the databases at their point
   settles-point : Settles w old new → w.kind.point new.members ≡ w.kind.point old.members
@@ -217,5 +230,19 @@ module _ {B C I R U H : Type 0} (w : Workings B R U) (laws : Laws w.kind) (store
         let served : HasServed w stored state (Came (Restart floor keep) ∷ p) mid store = Served-start w laws stored store base p old mid floor keep is reopens works none in
         record {
           served = subst (λ (s : w.States). HasServed w stored s (Came (Restart floor keep) ∷ p) new store) (sym same) (Served-settles w laws stored store state (Came (Restart floor keep) ∷ p) mid new settles sound_mid served);
-          opened = ?;
+          opened = λ a found. subst (λ (x : w.States). (b : Named B) × (stored (start_height floor) ≡ Some b) × (a ≡ anchor_by w.header b) × (w.kind.target_of x ≡ w.meaning.targets b.block)) (sym same) (opened-after a found);
         }
+      where
+        opened-after : (a : Anchor) → Contains new.marks (Opened a) → (b : Named B) × (stored (start_height floor) ≡ Some b) × (a ≡ anchor_by w.header b) × (w.kind.target_of reopens.opening.at.1 ≡ w.meaning.targets b.block)
+        opened-after a found =
+            let more = settles-more w laws mid new settles in
+            let root : Anchor = anchor_by w.header reopens.block in
+            let first : mid.marks ≡ Opened root ∷ [] = reopens.marks ∙ ap (λ (ms : List (Mark B)). ms ++ Opened root ∷ []) none in
+            let all : new.marks ≡ Opened root ∷ more.0 = more.1 ∙ ap (λ (ms : List (Mark B)). ms ++ more.0) first in
+            (reopens.block, opened-stored w laws stored store base p old mid floor keep is reopens works, only-first more.0 root a more.2 (subst (λ (ms : List (Mark B)). Contains ms (Opened a)) all found), reopens.opening.targets_are)
+
+    -- an event was taken in
+    pub Entered : (anchor : Option Anchor) → old.core.anchor ≡ anchor → (event : Event B C I) (done : Task B) → may_come w.kind.count p event ≡ true → TrueNames (setting w stored) (after_entry p event new.marks) → IsTaskAt w.header old.core store anchor event done → Does w store done old mid → Sound w.kind mid.members w.header mid.core → HasEntered event
+    Entered (Some anchor) is event done may names asked does sound_mid = entered-up event done anchor is may names asked does sound_mid
+    Entered None is (Restart floor keep) (task.Start f k) may names asked does sound_mid = entered-start floor keep is (subst (λ (x : Floor). Reopens w x store old mid) asked.0 does) sound_mid
+    Entered None is event other may names asked does sound_mid = absurd asked

@@ -3,7 +3,16 @@ pub mod Calm
 pub mod Pushing
 pub mod Sounding
 pub mod Doable
+pub mod Points
+pub mod Items
+pub mod Places
+pub mod Placed
+pub mod Pushed
+pub mod Judged
+pub mod Starting
 pub mod Verifying
+pub mod Ended
+pub mod Kept
 pub mod Turning
 pub mod Cutting
 pub mod Advancing

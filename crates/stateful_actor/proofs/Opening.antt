@@ -60,8 +60,9 @@ module _ {B C I R U H : Type 0} (w : Workings B R U) (laws : Laws w.kind) (store
   abbrev q : Past B C I
   q = Made (Opened root) ∷ came
 
-  stored_is : stored (start_height floor) ≡ Some opens.block
-  stored_is = stored-at (nat_lt (start_height floor) (pruned_below p)) (stored (start_height floor)) opens.block (store (start_height floor)) (works.stored_is (start_height floor)) opens.stored
+  -- the store was handed the block that was opened
+  pub opened-stored : stored (start_height floor) ≡ Some opens.block
+  opened-stored = stored-at (nat_lt (start_height floor) (pruned_below p)) (stored (start_height floor)) opens.block (store (start_height floor)) (works.stored_is (start_height floor)) opens.stored
 
   abbrev state : w.States
   state = opens.opening.at.1
@@ -72,7 +73,7 @@ module _ {B C I R U H : Type 0} (w : Workings B R U) (laws : Laws w.kind) (store
     origin = λ i. w.kind.place new.members i;
     point = opens.opening.at;
     here = opens.opening.here;
-    anchored = record { opened = refl; anchor_is = refl; tip_is = refl; height = omega arith; folded = refl; block = opens.block; met = inr (inr (Met-stored (setting w stored) p opens.block (start_height floor, stored_is))); named = refl };
+    anchored = record { opened = refl; anchor_is = refl; tip_is = refl; height = omega arith; folded = refl; block = opens.block; met = inr (inr (Met-stored (setting w stored) p opens.block (start_height floor, opened-stored))); named = refl };
     drawn = opens.opening.drawn;
     keeping = record {
       keeps = λ i l. opens.opening.keeps i l;
@@ -114,11 +115,3 @@ module _ {B C I R U H : Type 0} (w : Workings B R U) (laws : Laws w.kind) (store
         });
         keeps = subst (λ (ms : List (Mark B)). Keeps w stored state came ms) (sym marks) (Keeps-push w stored state came [] (Opened root) (Keeps-none w stored state came) tt (λ honest. tt) tt tt);
       }
-
-  -- the opening is at the store's block
-  pub Opened-at : old.marks ≡ [] → OpensAtStored {C = C} {I = I} w stored state (Restart floor keep) new.marks
-  Opened-at none anchor found = (opens.block, stored_is, only-one anchor (subst (λ (ms : List (Mark B)). Contains ms (Opened anchor)) (opens.marks ∙ ap (λ (ms : List (Mark B)). ms ++ Opened root ∷ []) none) found), opens.opening.targets_are)
-    where
-      only-one : (a : Anchor) → Contains {X = Mark B} (Opened root ∷ []) (Opened a) → a ≡ root
-      only-one a (zero, l, e) = cc
-      only-one a (suc k, l, e) = absurd (omega (arith, l))

@@ -200,7 +200,7 @@ opens-push (Opened anchor ∷ marks) mark e = refl
 opens-push (Converged anchor ∷ marks) mark e = refl
 opens-push (x ∷ marks) mark e = opens-push marks mark e
 
-opens-acknowledged : {B : Type 0} (marks : List (Mark B)) (receipts : List (ℕ × ℕ)) → opens (marks ++ map acknowledged receipts) ≡ opens marks
+pub opens-acknowledged : {B : Type 0} (marks : List (Mark B)) (receipts : List (ℕ × ℕ)) → opens (marks ++ map acknowledged receipts) ≡ opens marks
 opens-acknowledged marks [] = rw append-nil refl
 opens-acknowledged marks (receipt ∷ receipts) = rw (← append_assoc marks (acknowledged receipt ∷ []) (map acknowledged receipts)) (opens-acknowledged (marks ++ acknowledged receipt ∷ []) receipts ∙ opens-push marks (acknowledged receipt) refl)
 
