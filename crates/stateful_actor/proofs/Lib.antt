@@ -1,0 +1,4 @@
+pub mod CodeTests
+pub mod CodeFinding
+pub mod CodeJudging
+pub mod CodeCut
