@@ -17,7 +17,7 @@ use Rattle.stateful_history.specs.declared.mark.Mark.TheVariants.{Began, Applied
 use Rattle.stateful_actor.specs.Workings.{Workings, setting, Point}
 use Rattle.stateful_actor.specs.Chains.{Stacked, here, further, Chain, Leads}
 use Rattle.stateful_actor.specs.Caching.{IsIn, InOrder, IsCached, Caches}
-use Rattle.stateful_actor.specs.Cut.{GoesOn, IsCutTo, IsRootOf}
+use Rattle.stateful_actor.specs.Cut.{GoesOn, AreNamed, IsCutTo, IsRootOf}
 use Rattle.stateful_actor.specs.declared.cache.Cached.{Cached}
 
 -- no round is later than itself
@@ -167,18 +167,30 @@ module _ {B C I R U : Type 0} (w : Workings B R U) (stored : ℕ → Option (Nam
     carried : All Carried kept_entries
     carried = walk [] kept_entries (All-nil (λ d. New d × Restacks d)) (All-weaker (Contains cache) Entry (λ e among. All-contains Entry cache e old.cached among) kept_entries cut.among) cut.later cut.in_order
 
+    -- entries of one digest are of one block
+    named_apart : AreNamed anchor.digest cache
+    named_apart = record {
+      in_order = old.in_order;
+      other = All-weaker Entry (λ e. e.digest ≢ anchor.digest) (λ e h. h.other) cache old.cached;
+      same = λ e f among_e among_f is.
+          let h : Entry e = All-contains Entry cache e old.cached among_e in
+          let k : Entry f = All-contains Entry cache f old.cached among_f in
+          let one : h.block ≡ k.block = names h.block k.block h.met k.met (h.digest_is ∙ is ∙ sym k.digest_is) in
+          (sym h.parent_is ∙ ap (λ (y : Named B). w.header.parent y.block) one ∙ k.parent_is, sym h.round_is ∙ ap (λ (y : Named B). w.header.round y.block) one ∙ k.round_is);
+    }
+
     -- a known block of a later round, whose parent is at hand, is kept
     found : (x : Named B) → Met (setting w stored) q x → Known (setting w stored) q x.digest → IsPastTip (setting w stored) q x → Later x → (w.header.parent x.block ≡ b.digest) ⊎ IsIn kept_entries (w.header.parent x.block) → IsIn kept_entries x.digest
     found x met k late later parent = elim (old.complete x.digest k) [
       | inl is ↦ absurd (not_anchor x met late is)
       | inr any ↦
-          let e = Any-found (λ c. Entry c × (IsLater (w.header.round b.block) c.round → GoesOn (anchor_by w.header b) kept_entries c → Contains kept_entries c)) (λ c. c.digest ≡ x.digest) cache (λ i d l. (old.cached i d l, cut.whole anchor.digest old.in_order i d l)) any in
+          let e = Any-found (λ c. Entry c × (c.digest ≢ b.digest → IsLater (w.header.round b.block) c.round → GoesOn (anchor_by w.header b) kept_entries c → Contains kept_entries c)) (λ c. c.digest ≡ x.digest) cache (λ i d l. (old.cached i d l, cut.whole anchor.digest named_apart i d l)) any in
           let h : Entry e.0 = e.1.0 in
           let same : h.block ≡ x = names h.block x h.met met (h.digest_is ∙ e.2) in
           let parent_is : e.0.parent ≡ w.header.parent x.block = sym h.parent_is ∙ ap (λ (y : Named B). w.header.parent y.block) same in
           let round_is : w.header.round x.block ≡ e.0.round = ap (λ (y : Named B). w.header.round y.block) (sym same) ∙ h.round_is in
           let goes : GoesOn (anchor_by w.header b) kept_entries e.0 = subst (λ (d : Digest). (d ≡ b.digest) ⊎ IsIn kept_entries d) (sym parent_is) parent in
-          Any-contains (λ c. c.digest ≡ x.digest) kept_entries e.0 (e.1.1 (subst (λ (r : Round). IsLater (w.header.round b.block) r) round_is later) goes) e.2
+          Any-contains (λ c. c.digest ≡ x.digest) kept_entries e.0 (e.1.1 (λ root. not_root x met later (sym e.2 ∙ root)) (subst (λ (r : Round). IsLater (w.header.round b.block) r) round_is later) goes) e.2
     ]
 
     -- what is known once the finalization has begun is the root, or kept

@@ -23,3 +23,7 @@ pub mod Settling
 pub mod Flushing
 pub mod Opening
 pub mod Entered
+pub mod CodeTests
+pub mod CodeFinding
+pub mod CodeJudging
+pub mod CodeCut
