@@ -27,3 +27,4 @@ pub mod CodeTests
 pub mod CodeFinding
 pub mod CodeJudging
 pub mod CodeCut
+pub mod Releasing

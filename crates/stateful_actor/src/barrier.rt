@@ -103,6 +103,7 @@ fn settle_all<A: Application>(
     marks: &mut Vec<Mark<A::Block>>,
 ) -> Result<(), StepError>
     requires up { core.old.anchor ≢ None }
+    requires idle { core.old.front ≡ None }
     requires sound { Sound A.Databases.kind (A.Databases.members databases.old) A.Block.header core.old }
     ensures ok { OnOk result (let w = workings A.Block.header A.meaning A.Databases.kind A.runs A.Databases.shows in SettlesAll w (moment w core.old (A.Databases.members databases.old) (A.Databases.next databases.old) marks.old.items) (moment w core.new (A.Databases.members databases.new) (A.Databases.next databases.new) marks.new.items)) }
 {
