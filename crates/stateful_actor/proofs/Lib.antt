@@ -24,7 +24,11 @@ pub mod Flushing
 pub mod Opening
 pub mod Entered
 pub mod CodeTests
+pub mod CodeResults
 pub mod CodeFinding
 pub mod CodeJudging
 pub mod CodeCut
 pub mod Releasing
+pub mod CodeSound
+pub mod CodeTurning
+pub mod CodeStarting

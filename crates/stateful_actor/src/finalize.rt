@@ -14,7 +14,7 @@ ghost use Rattle.stateful_actor.specs.Effects.{HoldsReceipt};
 ghost use Rattle.stateful_actor.specs.Finalizing.{IsNext, IsPast, RefusesBlock, MayBegin, Moves, BeginsIfNone, Observes, Finalizes};
 
 use crate::barrier::begin_barrier;
-use crate::cache::Cache;
+use crate::cache::{Cache, Cut};
 use crate::error::StepError;
 use crate::stateful::CoreOf;
 use crate::tables::Front;
@@ -83,9 +83,9 @@ fn cut<A: Application>(core: &mut CoreOf<A>, root: Anchor) -> Result<Batch<A>, S
     ensures rest { OnOk result (core.new ≡ record core.old { cache = core.new.cache }) }
 {
     let cache = mem::replace(&mut core.cache, Cache::new(core.alloc));
-    let cut = cache.cut(core.alloc, root)?;
-    core.cache = cut.kept;
-    match cut.root {
+    let Cut { root, kept } = cache.cut(core.alloc, root)?;
+    core.cache = kept;
+    match root {
         Some(batch) => Ok(batch),
         None => unreachable!(),
     }

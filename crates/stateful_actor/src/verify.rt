@@ -59,13 +59,14 @@ fn begin<A: Application>(
     anchor: Anchor,
     cache: &Cache<Batch<A>>,
     databases: &mut A::Databases,
-    parent: Digest,
+    parent: &Digested<A::Block>,
 ) -> Result<OpenBatch<A>, StepError>
-    requires { IsAtHand anchor cache.now parent }
-    ensures ok { IfOk result (λ batches. IsOver (workings A.Block.header A.meaning A.Databases.kind A.runs A.Databases.shows) anchor.digest cache.now (A.Databases.members databases.old) (A.Databases.next databases.old) (A.Databases.next databases.new) (λ q c. A.Databases.opened batches ((A.Databases.next databases.old, A.Databases.kind.begun q.1) ∷ q ∷ c)) parent) }
+    requires { IsAtHand anchor cache.now parent.now.digest }
+    ensures ok { IfOk result (λ batches. IsOver (workings A.Block.header A.meaning A.Databases.kind A.runs A.Databases.shows) anchor.digest cache.now (A.Databases.members databases.old) (A.Databases.next databases.old) (A.Databases.next databases.new) (λ q c. A.Databases.opened batches ((A.Databases.next databases.old, A.Databases.kind.begun q.1) ∷ q ∷ c)) parent.now.digest) }
     ensures members { A.Databases.members databases.new ≡ A.Databases.members databases.old }
     ensures keeps { (c : List (A.Databases.Ids × A.Databases.States)) → A.Databases.kind.issued (A.Databases.next databases.old) c → A.Databases.kind.issued (A.Databases.next databases.new) c }
 {
+    let parent = parent.digest();
     if parent.is(anchor.digest) {
         return Ok(databases.new_batches()?);
     }
@@ -105,7 +106,7 @@ fn start<A: Application>(
     ensures members { A.Databases.members databases.new ≡ A.Databases.members databases.old }
     ensures keeps { (c : List (A.Databases.Ids × A.Databases.States)) → A.Databases.kind.issued (A.Databases.next databases.old) c → A.Databases.kind.issued (A.Databases.next databases.new) c }
 {
-    let batches = begin::<A>(anchor, &core.cache, databases, parent.digest())?;
+    let batches = begin::<A>(anchor, &core.cache, databases, &parent)?;
     let ancestry = pair(core.alloc, block, parent)?;
     let context = block.inner().context();
     Ok(application.process(context, ancestry, batches, Finality::Candidate)?)
