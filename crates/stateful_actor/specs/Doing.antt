@@ -6,7 +6,7 @@ use Rattle.stateful_actor.specs.Workings.{Workings}
 use Rattle.stateful_actor.specs.Moments.{Moment, moment}
 use Rattle.stateful_actor.specs.Caching.{IsIn, IsAtHand}
 use Rattle.stateful_actor.specs.Barriers.{HasReceipt}
-use Rattle.stateful_actor.specs.Effects.{Tells, Asks, HoldsReceipt, Flushes}
+use Rattle.stateful_actor.specs.Effects.{Tells, Asks, HoldsReceipt, Flushes, Settles}
 use Rattle.stateful_actor.specs.Starting.{StartsRun}
 use Rattle.stateful_actor.specs.Ending.{TurnsJob}
 use Rattle.stateful_actor.specs.Finalizing.{IsNext, Finalizes}
@@ -40,3 +40,9 @@ module _ {B R U H : Type 0} (w : Workings B R U) (store : ℕ → Option (Named 
   Does (Turn anchor job) old new = TurnsJob w old.core new.core old.marks new.marks anchor old.members job × KeepsDatabases old new
   Does (Flush number index) old new = Flushes w old new number index
   Does (Start floor keep) old new = Reopens w floor store old new
+
+  -- a task is done, and then the machine settles
+  pub record Serves (done : Task B) (old new : Moment w H) : Type 0 where
+    pub mid : Moment w H
+    pub does : Does done old mid
+    pub settles : Settles w mid new

@@ -27,6 +27,7 @@ pub(crate) fn begin_barrier<A: Application>(
     requires behind { core.old.durability.durable < core.old.durability.applied }
     requires idle { A.Databases.kind.Idle (A.Databases.members databases.old) }
     ensures ok { OnOk result (let w = workings A.Block.header A.meaning A.Databases.kind A.runs A.Databases.shows in BeginsBarrier w (moment w core.old (A.Databases.members databases.old) (A.Databases.next databases.old) marks.old.items) (moment w core.new (A.Databases.members databases.new) (A.Databases.next databases.new) marks.new.items)) }
+    ensures anchor { core.new.anchor ≡ core.old.anchor }
 {
     let number = core.next_barrier;
     if number == u64::MAX {
@@ -68,6 +69,7 @@ fn complete<A: Application>(
 ) -> Result<(), StepError>
     requires { (active : Active) → core.old.barrier ≡ Some active → core.old.durability.barrier ≡ Some active.height.0 }
     ensures ok { OnOk result (CompletesBarrier core.old core.new marks.old.items marks.new.items ⊎ ((core.new ≡ core.old) × (marks.new.items ≡ marks.old.items))) }
+    ensures anchor { core.new.anchor ≡ core.old.anchor }
 {
     let Some((number, height)) = flushed_barrier(&core.barrier) else {
         return Ok(());
@@ -88,6 +90,7 @@ fn release<A: Application>(
     marks: &mut Vec<Mark<A::Block>>,
 ) -> Result<(), StepError>
     ensures ok { OnOk result (Acknowledges core.old core.new marks.old.items marks.new.items) }
+    ensures anchor { core.new.anchor ≡ core.old.anchor }
 {
     while let Some((ticket, height)) = core.durability.released() {
         marks.push(Mark::Acknowledged { ticket, height })?;
@@ -106,6 +109,7 @@ fn settle_all<A: Application>(
     requires idle { core.old.front ≡ None }
     requires sound { Sound A.Databases.kind (A.Databases.members databases.old) A.Block.header core.old }
     ensures ok { OnOk result (let w = workings A.Block.header A.meaning A.Databases.kind A.runs A.Databases.shows in SettlesAll w (moment w core.old (A.Databases.members databases.old) (A.Databases.next databases.old) marks.old.items) (moment w core.new (A.Databases.members databases.new) (A.Databases.next databases.new) marks.new.items)) }
+    ensures anchor { core.new.anchor ≡ core.old.anchor }
 {
     complete::<A>(core, marks)?;
     release::<A>(core, marks)?;
@@ -125,6 +129,7 @@ pub(crate) fn settle<A: Application>(
 ) -> Result<(), StepError>
     requires { Sound A.Databases.kind (A.Databases.members databases.old) A.Block.header core.old }
     ensures ok { OnOk result (let w = workings A.Block.header A.meaning A.Databases.kind A.runs A.Databases.shows in Settles w (moment w core.old (A.Databases.members databases.old) (A.Databases.next databases.old) marks.old.items) (moment w core.new (A.Databases.members databases.new) (A.Databases.next databases.new) marks.new.items)) }
+    ensures anchor { core.new.anchor ≡ core.old.anchor }
 {
     if core.anchor.is_none() || core.front.is_some() {
         Ok(())

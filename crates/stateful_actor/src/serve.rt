@@ -4,9 +4,9 @@ ghost use Rattle.std.specs.Prelude.{◌≡◌, None, OnOk, OnErr};
 ghost use Rattle.stateful_actor.specs.Workings.{workings};
 ghost use Rattle.stateful_actor.specs.Moments.{moment};
 ghost use Rattle.stateful_actor.specs.Stands.{Sound};
-ghost use Rattle.stateful_actor.specs.Doing.{IsDoable, Does};
+ghost use Rattle.stateful_actor.specs.Doing.{IsDoable, Does, Serves};
 
-use crate::barrier::flush;
+use crate::barrier::{flush, settle};
 use crate::error::StepError;
 use crate::finalize::{finalize, hold};
 use crate::restart::restart;
@@ -19,7 +19,7 @@ use stateful_history::Mark;
 use stateful_types::BlockStore;
 
 /// Does a task. An error leaves the tables of a machine that is down as they were.
-pub(crate) fn serve<A: Application + Drop, S: BlockStore<A::Block>>(
+fn perform<A: Application + Drop, S: BlockStore<A::Block>>(
     config: &mut Config<A>,
     core: &mut CoreOf<A>,
     databases: &mut A::Databases,
@@ -73,4 +73,25 @@ pub(crate) fn serve<A: Application + Drop, S: BlockStore<A::Block>>(
             marks,
         ),
     }
+}
+
+/// Does a task, and what goes on then without another event. An error leaves the tables of a machine that stays down as
+/// they were.
+pub(crate) fn serve<A: Application + Drop, S: BlockStore<A::Block>>(
+    config: &mut Config<A>,
+    core: &mut CoreOf<A>,
+    databases: &mut A::Databases,
+    store: &S,
+    task: Task<A::Block>,
+    marks: &mut Vec<Mark<A::Block>>,
+) -> Result<(), StepError>
+    requires doable { IsDoable A.Block.header core.old task }
+    requires sound { Sound A.Databases.kind (A.Databases.members databases.old) A.Block.header core.old }
+    requires held { core.old.anchor ≡ None → A.Databases.kind.Held (A.Databases.members databases.old) }
+    ensures ok { OnOk result (let w = workings A.Block.header A.meaning A.Databases.kind A.runs A.Databases.shows in Serves w (S.stored store.now) task (moment w core.old (A.Databases.members databases.old) (A.Databases.next databases.old) marks.old.items) (moment w core.new (A.Databases.members databases.new) (A.Databases.next databases.new) marks.new.items)) }
+    ensures err { OnErr result (core.old.anchor ≡ None → core.new.anchor ≡ None → (core.new ≡ core.old) × A.Databases.kind.Held (A.Databases.members databases.new)) }
+{
+    perform(config, core, databases, store, task, marks)?;
+    settle::<A>(core, databases, marks)?;
+    Ok(())
 }

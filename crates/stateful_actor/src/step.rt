@@ -12,14 +12,13 @@ ghost use Rattle.stateful_actor.specs.Stands.{Sound, Stands};
 ghost use Rattle.stateful_actor.specs.Entering.{TakesIn};
 ghost use Rattle.stateful_actor.specs.Stepping.{IsSafe, is_restart, changes_nothing};
 
-use crate::barrier::settle;
 use crate::error::StepError;
 use crate::serve::serve;
 use crate::stateful::Stateful;
 use crate::task::admit;
 use stateful_db::{Application, DatabaseSet};
 use stateful_history::{Event, Mark};
-use stateful_types::BlockStore;
+use stateful_types::{Anchor, BlockStore};
 
 /// Whether nothing has changed where an event is refused so.
 fn changes_nothing(error: StepError) -> bool
@@ -39,6 +38,13 @@ fn is_restart<B, C, I>(event: &Event<B, C, I>) -> bool
         Event::Restart { floor: _, keep: _ } => true,
         _ => false,
     }
+}
+
+/// Whether a machine goes on, or is down.
+fn is_working(failed: bool, anchor: &Option<Anchor>) -> bool
+    ensures { IsTrue result ↔ ((failed ≡ false) ⊎ (anchor.now ≡ None)) }
+{
+    !failed || anchor.is_none()
 }
 
 impl<A: Application + Drop> Stateful<A> {
@@ -69,7 +75,6 @@ impl<A: Application + Drop> Stateful<A> {
             task,
             &mut marks,
         )?;
-        settle::<A>(&mut self.core, databases, &mut marks)?;
         match self
             .register
             .record(A::Databases::count(), event, marks.as_slice())
@@ -111,6 +116,10 @@ impl<A: Application + Drop> Stateful<A> {
         }
         if !self.register.allows(&event) {
             return Err(StepError::BadEvent);
+        }
+        // A restart of a machine that has failed while it was up isn't done yet.
+        if !is_working(self.failed, &self.core.anchor) {
+            return Err(StepError::NotYet);
         }
         match self.take(databases, store, &event) {
             Ok(marks) => {

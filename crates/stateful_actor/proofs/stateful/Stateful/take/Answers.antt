@@ -1,0 +1,31 @@
+use Rattle.std.proofs.Common.{rules, refl, inl, ◌∙◌, sym}
+use Rattle.stateful_actor.proofs.Doable.{IsDoable-admitted}
+use Rattle.stateful_actor.proofs.Sounding.{Sound-does, Sound-settles}
+use Rattle.stateful_actor.proofs.Entered.{Entered, Holds-works}
+use Rattle.stateful_actor.proofs.stateful.Stateful.take.Goals as goal
+
+pub serve-requires-clause-doable : goal.serve-requires-clause-doable
+serve-requires-clause-doable g c = IsDoable-admitted _ _ _ c.args.self.now.core _ c.requires.sound c.args.self.now.core.anchor refl c.args.event.now c.in_ok-task.task c.in_ok-task.ensures.ok
+
+pub returns-in-Ok-clause-takes : goal.returns-in-Ok-clause-takes
+returns-in-Ok-clause-takes g c = λ stored base p names may stands.
+    let laws = g.met.A.Databases.DatabaseSet.laws in
+    let s = stands (inl refl) in
+    let asked = c.in_ok-task.ensures.ok in
+    let serves = c.in_ok-serve.ensures.ok in
+    let doable = IsDoable-admitted _ _ _ c.args.self.now.core _ c.requires.sound c.args.self.now.core.anchor refl c.args.event.now c.in_ok-task.task asked in
+    let sound = Sound-does _ laws _ serves.mid _ c.in_ok-task.task doable serves.does c.requires.sound in
+    let entered = Entered _ laws stored _ base p _ serves.mid _ c.new-marks.ensures.items s.1 c.requires.sound serves.settles c.args.self.now.core.anchor refl c.args.event.now c.in_ok-task.task may names asked serves.does sound in
+    record {
+      opened = entered.opened;
+      stands = λ working. ((rw c.count.ensures at (c.in-Ok.ensures.ok p)) s.0, entered.served.works);
+      keeps = entered.served.keeps;
+      holds = Holds-works _ stored _ _ _ _ _ _ entered.served.works;
+    }
+
+pub returns-in-Ok-clause-sound : goal.returns-in-Ok-clause-sound
+returns-in-Ok-clause-sound g c =
+    let laws = g.met.A.Databases.DatabaseSet.laws in
+    let serves = c.in_ok-serve.ensures.ok in
+    let doable = IsDoable-admitted _ _ _ c.args.self.now.core _ c.requires.sound c.args.self.now.core.anchor refl c.args.event.now c.in_ok-task.task c.in_ok-task.ensures.ok in
+    Sound-settles _ laws serves.mid _ serves.settles (Sound-does _ laws _ serves.mid _ c.in_ok-task.task doable serves.does c.requires.sound)
