@@ -6,3 +6,5 @@ pub mod CodeCut
 pub mod CodeSound
 pub mod CodeTurning
 pub mod CodeStarting
+pub mod CodeReleasing
+pub mod CodeSettling

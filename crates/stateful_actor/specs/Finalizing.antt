@@ -36,12 +36,6 @@ module _ {B : Type 0} (header : Header B) (anchor : Anchor) (b : Named B) where
   RefusesBlock (ConflictAtAnchor expected given) = (header.height b.block ≡ anchor.height.0) × (expected ≡ anchor.digest) × (given ≡ b.digest) × (given ≢ expected)
   RefusesBlock e = ⊥
 
--- where no barrier is active, one may begin
-pub record MayBegin {Ids S T : Type 0} (d : Databases Ids S T) (m : d.Members) (c : Coverage) (active : Option Active) : Type 0 where
-  pub free : active ≡ None → IsNone c.barrier
-  pub behind : active ≡ None → c.durable < c.applied
-  pub idle : active ≡ None → d.Idle m
-
 module _ {B R U H : Type 0} (w : Workings B R U) where
   -- a barrier has begun where none was active
   abbrev pub BeginsIfNone : (old new : Moment w H) → Type 0

@@ -1,25 +1,15 @@
-use Rattle.std.proofs.Common.{rules, ◌≡◌, ◌≢◌, ◌<◌, ℕ, Some, None, IsNone, OnOk, IfSome, IfNone, All, ◌⊎◌, ◌+◌, ◌-◌, ◌*◌, ◌≤◌, length, ◌/◌, ◌%◌, Bool, true, false, nat_eq, nat_lt, List, [], ◌∷◌, ◌++◌, slice_index_or, slice_set, bit_and, bit_or, Fits, w8, w32, w64, Bor, MutBor}
-use Rattle.stateful_db.specs.Barrier.{IsGood, open_at, answered}
-use Rattle.stateful_db.specs.declared.barrier.Flushed.TheVariants.{Good}
-use Rattle.stateful_actor.specs.declared.tables.Active.{Active}
-use Rattle.stateful_actor.specs.Workings.{workings}
-use Rattle.stateful_actor.specs.Moments.{moment}
-use Rattle.stateful_actor.specs.Stands.{Sound}
-use Rattle.stateful_actor.specs.Effects.{BeginsBarrier, CompletesBarrier, Acknowledges, Flushes, SettlesAll, Settles}
+use Rattle.std.proofs.Common.{◌≡◌, ◌<◌}
+use Rattle.stateful_actor.proofs.CodeReleasing.{fewer, Acknowledges-none, Acknowledges-more, Acknowledges-same}
 use Rattle.stateful_actor.proofs.barrier.release.Goals as goal
 
--- src/barrier.rt:92:5
 pub loop-ticket-init : goal.loop-ticket-init
-loop-ticket-init g c = ?
+loop-ticket-init g c = Acknowledges-none c.args.core.now c.args.marks.now.items
 
--- src/barrier.rt:92:5
 pub loop-ticket-smaller : goal.loop-ticket-smaller
-loop-ticket-smaller g c = ?
+loop-ticket-smaller g c = fewer _ _ _ c.in-Some.ensures.front
 
--- src/barrier.rt:92:5
 pub loop-ticket-preserved : goal.loop-ticket-preserved
-loop-ticket-preserved g c = ?
+loop-ticket-preserved g c = Acknowledges-more c.args.core.now c.args.marks.now.items c.loop-ticket.core c.loop-ticket.marks.items _ c.released.new.self (c.in-Some.height.0, c.in-Some.ticket) c.loop-ticket.invariant c.in-Some.ensures.front c.in_ok-push.ensures.items
 
--- src/barrier.rt:86:1
 pub returns : goal.returns
-returns g c = ?
+returns g c = record { ok = Acknowledges-same c.args.core.now c.args.marks.now.items c.loop-ticket.core c.loop-ticket.marks.items c.released.new.self c.loop-ticket.invariant c.in_default.ensures.unchanged }
