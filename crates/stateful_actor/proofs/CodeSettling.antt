@@ -46,6 +46,9 @@ module _ {Ids S T B R H U : Type 0} (d : Databases Ids S T) (laws : Laws d) (m :
   pub held_none : old.barrier ≡ None → IsNone old.durability.barrier
   held_none is = (tokens_none d m old.durability.barrier old.barrier is agrees.1.tokens).0
 
+  pub held_idle : old.barrier ≡ None → d.Idle m
+  held_idle is = (tokens_none d m old.durability.barrier old.barrier is agrees.1.tokens).1
+
   pub held_some : IfSome old.barrier (λ active. old.durability.barrier ≡ Some active.height.0)
   held_some = tokens_some d m old.durability.barrier old.barrier agrees.1.tokens
 

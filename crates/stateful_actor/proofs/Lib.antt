@@ -8,3 +8,4 @@ pub mod CodeTurning
 pub mod CodeStarting
 pub mod CodeReleasing
 pub mod CodeSettling
+pub mod CodeFinalizing
