@@ -8,7 +8,6 @@ use Rattle.stateful_db.specs.Barrier.{open_at, IsGood}
 use Rattle.stateful_db.specs.declared.barrier.Handle.{Handle}
 use Rattle.stateful_db.specs.declared.barrier.Flushed.{Flushed}
 use Rattle.stateful_db.specs.declared.database.FlushToken.{FlushToken}
-use Rattle.stateful_durability.specs.Durability.{Coverage}
 use Rattle.stateful_history.specs.declared.mark.Mark.{Mark}
 use Rattle.stateful_actor.specs.Barriers.{Agrees, Tokens}
 use Rattle.stateful_actor.specs.Stands.{Sound}

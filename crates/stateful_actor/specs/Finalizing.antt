@@ -1,13 +1,10 @@
 -- Which finalized blocks are taken, why others aren't, and what a finalization leaves.
-use Rattle.std.specs.Prelude.{◌≡◌, ◌≢◌, ◌<◌, ◌+◌, ◌++◌, ◌∷◌, [], ◌⊎◌, ℕ, Option, Some, None, List, IsNone}
+use Rattle.std.specs.Prelude.{◌≡◌, ◌≢◌, ◌<◌, ◌+◌, ◌++◌, ◌∷◌, [], ◌⊎◌, ℕ, Some, None, List}
 use Rattle.stateful_types.specs.Names.{Header, Named}
 use Rattle.stateful_types.specs.Anchor.{anchor_by}
-use Rattle.stateful_types.specs.declared.digest.Digest.{Digest}
 use Rattle.stateful_types.specs.declared.anchor.Anchor.{Anchor}
-use Rattle.stateful_db.specs.Databases.{Databases}
 use Rattle.stateful_db.specs.declared.application.Hooked.{Hooked}
 use Rattle.stateful_db.specs.declared.application.Hooked.TheVariants.{Done, Pending}
-use Rattle.stateful_durability.specs.Durability.{Coverage}
 use Rattle.stateful_history.specs.declared.mark.Mark.{Mark}
 use Rattle.stateful_history.specs.declared.mark.Mark.TheVariants.{Began, Applied, Started}
 use Rattle.stateful_history.specs.declared.mark.JobKind.TheVariants.{Hook}
@@ -15,7 +12,6 @@ use Rattle.stateful_actor.specs.Workings.{Workings, Point}
 use Rattle.stateful_actor.specs.Moments.{Moment}
 use Rattle.stateful_actor.specs.Cut.{IsCutTo, IsRootOf}
 use Rattle.stateful_actor.specs.Effects.{BeginsBarrier, with_receipt}
-use Rattle.stateful_actor.specs.declared.tables.Active.{Active}
 use Rattle.stateful_actor.specs.declared.tables.Core.{Core}
 use Rattle.stateful_actor.specs.declared.error.StepError.{StepError}
 use Rattle.stateful_actor.specs.declared.error.StepError.TheVariants.{SkippedHeight, NotExtending, ConflictAtAnchor}

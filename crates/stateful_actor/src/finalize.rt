@@ -217,6 +217,11 @@ pub(crate) fn finalize<A: Application>(
 {
     let captured = advance(application, core, databases, ticket, block, marks)?;
     begin_if_none::<A>(core, databases, marks)?;
-    let hooked = application.finalized(block.inner().context(), block.inner(), captured, databases)?;
+    let hooked = application.finalized(
+        block.inner().context(),
+        block.inner(),
+        captured,
+        databases,
+    )?;
     observe::<A>(core, ticket, block, hooked, marks)
 }

@@ -20,23 +20,27 @@ begin_barrier-requires-clause-idle g c = none_out g.A.Databases.DatabaseSet.kind
 pub returns-then-needs_barrier : goal.returns-then-needs_barrier
 returns-then-needs_barrier g c =
     let needed = c.needs_barrier.ensures.needed.0 c.if-needs_barrier.true in
-    record { ok = on_ok c.begin_barrier.result (λ begins. record {
-      completed = c.complete.new.core;
-      done = c.complete.new.marks.items;
-      told = c.release.new.core;
-      released = c.release.new.marks.items;
-      completes = c.in_ok-complete.ensures.ok;
-      acknowledges = c.in_ok-release.ensures.ok;
-      begins = inl (needed.1, needed.0, begins);
-    }) c.begin_barrier.ensures.ok }
+    record {
+      ok = on_ok c.begin_barrier.result (λ begins. record {
+        completed = c.complete.new.core;
+        done = c.complete.new.marks.items;
+        told = c.release.new.core;
+        released = c.release.new.marks.items;
+        completes = c.in_ok-complete.ensures.ok;
+        acknowledges = c.in_ok-release.ensures.ok;
+        begins = inl (needed.1, needed.0, begins);
+      }) c.begin_barrier.ensures.ok;
+    }
 
 pub returns-else-needs_barrier : goal.returns-else-needs_barrier
-returns-else-needs_barrier g c = record { ok = record {
-      completed = c.complete.new.core;
-      done = c.complete.new.marks.items;
-      told = c.release.new.core;
-      released = c.release.new.marks.items;
-      completes = c.in_ok-complete.ensures.ok;
-      acknowledges = c.in_ok-release.ensures.ok;
-      begins = inr refl;
-    } }
+returns-else-needs_barrier g c = record {
+  ok = record {
+    completed = c.complete.new.core;
+    done = c.complete.new.marks.items;
+    told = c.release.new.core;
+    released = c.release.new.marks.items;
+    completes = c.in_ok-complete.ensures.ok;
+    acknowledges = c.in_ok-release.ensures.ok;
+    begins = inr refl;
+  };
+}
