@@ -1,5 +1,5 @@
 -- How a cache is cut, entry by entry.
-use Rattle.std.proofs.Common.{◌≡◌, ◌≢◌, ◌⊎◌, ◌<◌, inl, inr, Option, Some, None, MatchOption, ℕ, zero, suc, List, [], ◌∷◌, ◌++◌, length, refl, sym, ◌∙◌, ap, subst, All, Any, get_or, arith}
+use Rattle.std.proofs.Common.{◌≡◌, ◌≢◌, ◌⊎◌, ◌<◌, inl, inr, Option, Some, None, MatchOption, ℕ, zero, suc, List, [], ◌∷◌, ◌++◌, length, refl, sym, ◌∙◌, subst, All, Any, get_or, arith}
 use Rattle.std.specs.List.{Contains}
 use Rattle.std.proofs.lemmas.List.{append_assoc, append-nil, nil_from_length}
 use Rattle.std.proofs.lemmas.List.Elements.{All-nil, All-push, All-weaker, All-contains, All-contains_itself, Contains-append_left, Contains-push, Contains-push_cases}
@@ -92,8 +92,8 @@ module _ {U : Type 0} (root : Anchor) where
   kept none = All-nil (IsKept [] [])
   kept (keeps es ks e cuts now left other later goes) =
       rw (now, left) (All-push (IsKept (es ++ e ∷ []) (ks ++ e ∷ [])) ks e
-        (All-weaker (IsKept es ks) (IsKept (es ++ e ∷ []) (ks ++ e ∷ [])) (IsKept-longer es ks e) ks (kept cuts))
-        (record { among = Contains-push es e; other = other; later = later; goes = GoesOn-longer ks e e goes }))
+      (All-weaker (IsKept es ks) (IsKept (es ++ e ∷ []) (ks ++ e ∷ [])) (IsKept-longer es ks e) ks (kept cuts))
+      (record { among = Contains-push es e; other = other; later = later; goes = GoesOn-longer ks e e goes }))
   kept (drops {ks = ks} es e cuts now not) =
       rw now (All-weaker (IsKept es ks) (IsKept (es ++ e ∷ []) ks) (IsKept-dropped es ks e) ks (kept cuts))
 
@@ -162,7 +162,7 @@ module _ {U : Type 0} (root : Anchor) where
     later = All-weaker (IsKept entries ks) (λ (k : Cached U). IsLater root.round k.round) (λ k h. h.later) ks (kept cuts);
     in_order = in_order cuts;
     whole = λ anchor named. All-weaker (Contains entries) (λ (e : Cached U). e.digest ≢ root.digest → IsLater root.round e.round → GoesOn root ks e → Contains ks e)
-      (λ e c other later goes. complete entries ks anchor named (kept cuts) cuts (λ x h. h) named.in_order e c other later goes) entries (All-contains_itself entries);
+        (λ e c other later goes. complete entries ks anchor named (kept cuts) cuts (λ x h. h) named.in_order e c other later goes) entries (All-contains_itself entries);
   }
 
   -- the root among the entries so far, with one more

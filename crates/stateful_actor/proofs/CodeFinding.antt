@@ -1,5 +1,5 @@
 -- What a search in the cache finds.
-use Rattle.std.proofs.Common.{◌≡◌, ◌≢◌, ◌↔◌, ℕ, List, All, Any, Option, None, Some, Bool, true, false, refl, sym, subst, is_some, IsTrue, IfSome, IfNone, Bor, option_copied}
+use Rattle.std.proofs.Common.{◌≡◌, ◌≢◌, ◌↔◌, List, All, Any, Option, None, Some, Bool, true, false, refl, sym, subst, is_some, IsTrue, IfSome, IfNone, Bor, option_copied}
 use Rattle.std.specs.List.{Contains}
 use Rattle.stateful_types.specs.declared.digest.Digest.{Digest}
 use Rattle.stateful_actor.specs.declared.cache.Cached.{Cached}

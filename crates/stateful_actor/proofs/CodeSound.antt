@@ -1,12 +1,12 @@
 -- What the agreement of the machine and the databases says of the tables.
-use Rattle.std.proofs.Common.{◌≡◌, ◌≢◌, ◌<◌, ◌≤◌, ℕ, zero, suc, Option, Some, None, List, [], ◌∷◌, All, MatchOption, length, option_map, sym, ◌∙◌, ap, subst, refl, arith}
+use Rattle.std.proofs.Common.{◌≡◌, ◌≢◌, ◌<◌, ℕ, zero, suc, Option, Some, None, List, [], ◌∷◌, All, MatchOption, length, option_map, sym, ◌∙◌, ap, subst, refl, arith}
 use Rattle.stateful_types.specs.Names.{Header}
 use Rattle.stateful_types.specs.declared.anchor.Anchor.{Anchor}
 use Rattle.stateful_db.specs.Databases.{Databases}
 use Rattle.stateful_db.specs.Barrier.{open_at}
 use Rattle.stateful_db.specs.declared.barrier.Handle.{Handle}
 use Rattle.stateful_db.specs.declared.database.FlushToken.{FlushToken}
-use Rattle.stateful_actor.specs.Barriers.{Agrees, Tokens, Recorded}
+use Rattle.stateful_actor.specs.Barriers.{Tokens, Recorded}
 use Rattle.stateful_actor.specs.Stands.{Sound}
 use Rattle.stateful_actor.specs.declared.tables.Active.{Active}
 use Rattle.stateful_actor.specs.declared.tables.Core.{Core}

@@ -1,5 +1,5 @@
 -- What holds over the states of a known block.
-use Rattle.std.proofs.Common.{◌≡◌, ◌∷◌, List, ◌++◌, [], Some}
+use Rattle.std.proofs.Common.{◌∷◌, List, ◌++◌, []}
 use Rattle.stateful_types.specs.declared.digest.Digest.{Digest}
 use Rattle.stateful_actor.specs.Workings.{Workings, Point}
 use Rattle.stateful_actor.specs.Starting.{IsOver, databases, batch}

@@ -1,11 +1,10 @@
 -- What turns of runs and hooks leave.
-use Rattle.std.proofs.Common.{◌≡◌, ◌<◌, ◌++◌, ◌∷◌, [], ℕ, zero, suc, List, Option, Some, None, MatchOption, Vec, Result, OnOk, length, get_or, set, take, drop, slice_get, inl, inr, refl, sym, ◌∙◌, ap, subst, arith}
+use Rattle.std.proofs.Common.{◌≡◌, ◌<◌, ◌++◌, ◌∷◌, [], ℕ, zero, suc, List, Option, Some, None, MatchOption, Vec, Result, OnOk, length, get_or, set, take, drop, slice_get, inr, sym, ◌∙◌, ap, subst, arith}
 use Rattle.std.specs.List.{remove}
 use Rattle.std.specs.Global.{Global}
 use Rattle.std.proofs.lemmas.List.{take-set, drop-set-lt, get_or-set_same}
 use Rattle.stateful_types.specs.declared.anchor.Anchor.{Anchor}
-use Rattle.stateful_types.specs.declared.outcome.Moved.{Moved}
-use Rattle.stateful_types.specs.declared.outcome.Moved.TheVariants.{Pending, Done}
+use Rattle.stateful_types.specs.declared.outcome.Moved.TheVariants.{Done}
 use Rattle.stateful_history.specs.declared.mark.Mark.{Mark}
 use Rattle.stateful_history.specs.declared.mark.Mark.TheVariants.{Ended}
 use Rattle.stateful_history.specs.declared.mark.How.TheVariants.{Hooked}
@@ -32,14 +31,14 @@ module _ {B R U H : Type 0} (w : Workings B R U) (old new : Core B R H U) (befor
       → OnOk r (new ≡ record old { front = left; durability = with_receipt old.durability (w.header.height front.block.block) front.ticket })
       → OnOk r (now ≡ before ++ Ended front.job Hooked ∷ []) → OnOk r (TurnsHook w old new before now j)
   TurnsHook-ended r left front j is job none core marks = on_ok2 r (λ core marks. record {
-      front = front;
-      is = is;
-      job_is = job;
-      leaves = inr (
-        subst (λ (o : Option (Front B H)). new ≡ record old { front = o; durability = with_receipt old.durability (w.header.height front.block.block) front.ticket }) none core,
-        subst (λ (k : ℕ). now ≡ before ++ Ended k Hooked ∷ []) job marks,
-      );
-    }) core marks
+    front = front;
+    is = is;
+    job_is = job;
+    leaves = inr (
+      subst (λ (o : Option (Front B H)). new ≡ record old { front = o; durability = with_receipt old.durability (w.header.height front.block.block) front.ticket }) none core,
+      subst (λ (k : ℕ). now ≡ before ++ Ended k Hooked ∷ []) job marks,
+    );
+  }) core marks
 
   -- a run has ended
   pub TurnsRun-ended : {T E : Type 0} (r : Result T E) (anchor : Anchor) (m : w.kind.Members) (j place : ℕ) (ended : Option U) (live gone : Live B R) (turned : R) (left : Vec (Live B R) Global)
@@ -53,19 +52,19 @@ module _ {B R U H : Type 0} (w : Workings B R U) (old new : Core B R H U) (befor
   TurnsRun-ended r anchor m j place ended live gone turned left found turns gone_is left_is finishes rest =
       let gone_live : gone ≡ record live { run = turned } = gone_is ∙ get_or-set_same old.runs.items place (record live { run = turned }) gone found.2 in
       on_ok2 r (λ finishes rest.
-        let f = subst (λ (l : Live B R). Finishes w anchor l ended old.cache new.cache before now) gone_live finishes in
-        let runs_are : new.runs ≡ left = ap (λ (c : Core B R H U). c.runs) rest in
-        record {
-          place = place;
-          live = live;
-          at = found.0;
-          job_is = found.1;
-          turned = turned;
-          moved = Done ended;
-          turns = turns;
-          leaves = (
-            rest ∙ ap (λ (v : Vec (Live B R) Global). record old { runs = v; cache = new.cache }) (sym runs_are),
-            ap (λ (v : Vec (Live B R) Global). v.items) runs_are ∙ left_is ∙ remove-set old.runs.items place (record live { run = turned }),
-            record { how = f.how; told = f.told; valid = f.valid; valid_is = f.valid_is; marks = f.marks },
-          );
-        }) finishes rest
+      let f = subst (λ (l : Live B R). Finishes w anchor l ended old.cache new.cache before now) gone_live finishes in
+      let runs_are : new.runs ≡ left = ap (λ (c : Core B R H U). c.runs) rest in
+      record {
+        place = place;
+        live = live;
+        at = found.0;
+        job_is = found.1;
+        turned = turned;
+        moved = Done ended;
+        turns = turns;
+        leaves = (
+          rest ∙ ap (λ (v : Vec (Live B R) Global). record old { runs = v; cache = new.cache }) (sym runs_are),
+          ap (λ (v : Vec (Live B R) Global). v.items) runs_are ∙ left_is ∙ remove-set old.runs.items place (record live { run = turned }),
+          record { how = f.how; told = f.told; valid = f.valid; valid_is = f.valid_is; marks = f.marks },
+        );
+      }) finishes rest

@@ -32,3 +32,6 @@ pub mod Releasing
 pub mod CodeSound
 pub mod CodeTurning
 pub mod CodeStarting
+pub mod CodeReleasing
+pub mod CodeSettling
+pub mod CodeFinalizing

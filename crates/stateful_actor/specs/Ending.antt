@@ -82,8 +82,8 @@ module _ {B R U : Type 0} (w : Workings B R U) where
       pub is : old.front ≡ Some front
       pub job_is : front.job ≡ j
       pub leaves :
-        ((hook : H) × (new ≡ record old { front = Some (record front { hook = hook }) }) × (now ≡ before))
-        ⊎ ((new ≡ record old { front = None; durability = with_receipt old.durability (w.header.height front.block.block) front.ticket }) × (now ≡ before ++ Ended j Hooked ∷ []))
+          ((hook : H) × (new ≡ record old { front = Some (record front { hook = hook }) }) × (now ≡ before))
+          ⊎ ((new ≡ record old { front = None; durability = with_receipt old.durability (w.header.height front.block.block) front.ticket }) × (now ≡ before ++ Ended j Hooked ∷ []))
 
     -- one turn of a live job
     abbrev pub TurnsJob : Anchor → w.kind.Members → ℕ → Type 0

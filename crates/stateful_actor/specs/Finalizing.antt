@@ -1,13 +1,10 @@
 -- Which finalized blocks are taken, why others aren't, and what a finalization leaves.
-use Rattle.std.specs.Prelude.{◌≡◌, ◌≢◌, ◌<◌, ◌+◌, ◌++◌, ◌∷◌, [], ◌⊎◌, ℕ, Option, Some, None, List, IsNone}
+use Rattle.std.specs.Prelude.{◌≡◌, ◌≢◌, ◌<◌, ◌+◌, ◌++◌, ◌∷◌, [], ◌⊎◌, ℕ, Some, None, List}
 use Rattle.stateful_types.specs.Names.{Header, Named}
 use Rattle.stateful_types.specs.Anchor.{anchor_by}
-use Rattle.stateful_types.specs.declared.digest.Digest.{Digest}
 use Rattle.stateful_types.specs.declared.anchor.Anchor.{Anchor}
-use Rattle.stateful_db.specs.Databases.{Databases}
 use Rattle.stateful_db.specs.declared.application.Hooked.{Hooked}
 use Rattle.stateful_db.specs.declared.application.Hooked.TheVariants.{Done, Pending}
-use Rattle.stateful_durability.specs.Durability.{Coverage}
 use Rattle.stateful_history.specs.declared.mark.Mark.{Mark}
 use Rattle.stateful_history.specs.declared.mark.Mark.TheVariants.{Began, Applied, Started}
 use Rattle.stateful_history.specs.declared.mark.JobKind.TheVariants.{Hook}
@@ -15,7 +12,6 @@ use Rattle.stateful_actor.specs.Workings.{Workings, Point}
 use Rattle.stateful_actor.specs.Moments.{Moment}
 use Rattle.stateful_actor.specs.Cut.{IsCutTo, IsRootOf}
 use Rattle.stateful_actor.specs.Effects.{BeginsBarrier, with_receipt}
-use Rattle.stateful_actor.specs.declared.tables.Active.{Active}
 use Rattle.stateful_actor.specs.declared.tables.Core.{Core}
 use Rattle.stateful_actor.specs.declared.error.StepError.{StepError}
 use Rattle.stateful_actor.specs.declared.error.StepError.TheVariants.{SkippedHeight, NotExtending, ConflictAtAnchor}
@@ -35,12 +31,6 @@ module _ {B : Type 0} (header : Header B) (anchor : Anchor) (b : Named B) where
   RefusesBlock (NotExtending expected given) = (header.height b.block ≡ anchor.height.0 + 1) × (expected ≡ anchor.digest) × (given ≡ header.parent b.block) × (given ≢ expected)
   RefusesBlock (ConflictAtAnchor expected given) = (header.height b.block ≡ anchor.height.0) × (expected ≡ anchor.digest) × (given ≡ b.digest) × (given ≢ expected)
   RefusesBlock e = ⊥
-
--- where no barrier is active, one may begin
-pub record MayBegin {Ids S T : Type 0} (d : Databases Ids S T) (m : d.Members) (c : Coverage) (active : Option Active) : Type 0 where
-  pub free : active ≡ None → IsNone c.barrier
-  pub behind : active ≡ None → c.durable < c.applied
-  pub idle : active ≡ None → d.Idle m
 
 module _ {B R U H : Type 0} (w : Workings B R U) where
   -- a barrier has begun where none was active

@@ -67,7 +67,8 @@ fn complete<A: Application>(
     core: &mut CoreOf<A>,
     marks: &mut Vec<Mark<A::Block>>,
 ) -> Result<(), StepError>
-    requires { (active : Active) → core.old.barrier ≡ Some active → core.old.durability.barrier ≡ Some active.height.0 }
+    requires none { core.old.barrier ≡ None → IsNone core.old.durability.barrier }
+    requires some { IfSome core.old.barrier (λ active. core.old.durability.barrier ≡ Some active.height.0) }
     ensures ok { OnOk result (CompletesBarrier core.old core.new marks.old.items marks.new.items ⊎ ((core.new ≡ core.old) × (marks.new.items ≡ marks.old.items))) }
     ensures anchor { core.new.anchor ≡ core.old.anchor }
 {

@@ -1,6 +1,6 @@
 //! Finalizations.
 
-ghost use Rattle.std.specs.Prelude.{◌≡◌, ◌≢◌, ◌<◌, ◌≤◌, ◌++◌, ◌∷◌, [], ℕ, List, Option, Some, None, OnOk, IfOk, IfErr, true, false, All, IsTrue, ◌↔◌, ◌⊎◌};
+ghost use Rattle.std.specs.Prelude.{◌≡◌, ◌≢◌, ◌<◌, ◌≤◌, ◌++◌, ◌∷◌, [], ℕ, List, Option, Some, None, OnOk, IfOk, IfErr, true, false, All, IsNone, IsTrue, ◌↔◌, ◌⊎◌};
 ghost use Rattle.stateful_types.specs.Anchor.{anchor_by};
 ghost use Rattle.stateful_types.specs.declared.anchor.Anchor.{Anchor};
 ghost use Rattle.stateful_history.specs.declared.mark.Mark.TheVariants.{Began, Applied};
@@ -11,7 +11,7 @@ ghost use Rattle.stateful_actor.specs.Caching.{IsIn};
 ghost use Rattle.stateful_actor.specs.Cut.{IsCutTo, IsRootOf};
 ghost use Rattle.stateful_actor.specs.Stands.{Sound};
 ghost use Rattle.stateful_actor.specs.Effects.{HoldsReceipt};
-ghost use Rattle.stateful_actor.specs.Finalizing.{IsNext, IsPast, RefusesBlock, MayBegin, Moves, BeginsIfNone, Observes, Finalizes};
+ghost use Rattle.stateful_actor.specs.Finalizing.{IsNext, IsPast, RefusesBlock, Moves, BeginsIfNone, Observes, Finalizes};
 
 use crate::barrier::begin_barrier;
 use crate::cache::{Cache, Cut};
@@ -76,12 +76,16 @@ pub(crate) fn hold<A: Application>(
 }
 
 /// Cuts the cache to the descendants of a cached block, and takes its batch out.
-fn cut<A: Application>(core: &mut CoreOf<A>, root: Anchor) -> Result<Batch<A>, StepError>
-    requires { IsIn core.old.cache root.digest }
-    ensures kept { OnOk result (IsCutTo root core.old.cache core.new.cache) }
-    ensures root { IfOk result (λ batch. IsRootOf root core.old.cache batch) }
+fn cut<A: Application>(
+    core: &mut CoreOf<A>,
+    block: &Digested<A::Block>,
+) -> Result<Batch<A>, StepError>
+    requires { IsIn core.old.cache block.now.digest }
+    ensures kept { OnOk result (IsCutTo (anchor_by A.Block.header block.now) core.old.cache core.new.cache) }
+    ensures root { IfOk result (λ batch. IsRootOf (anchor_by A.Block.header block.now) core.old.cache batch) }
     ensures rest { OnOk result (core.new ≡ record core.old { cache = core.new.cache }) }
 {
+    let root = Anchor::from_block(block);
     let cache = mem::replace(&mut core.cache, Cache::new(core.alloc));
     let Cut { root, kept } = cache.cut(core.alloc, root)?;
     core.cache = kept;
@@ -95,16 +99,17 @@ fn cut<A: Application>(core: &mut CoreOf<A>, root: Anchor) -> Result<Batch<A>, S
 fn apply<A: Application>(
     core: &mut CoreOf<A>,
     databases: &mut A::Databases,
-    root: Anchor,
+    block: &Digested<A::Block>,
     batch: Batch<A>,
 ) -> Result<(), StepError>
-    requires { core.old.durability.applied < root.height.0 }
+    requires { core.old.durability.applied < A.Block.header.height block.now.block }
     ensures members { OnOk result ((p q : A.Databases.Ids × A.Databases.States) (c : List (A.Databases.Ids × A.Databases.States)) → A.Databases.kind.point (A.Databases.members databases.old) ≡ Some p → A.Databases.shows batch (q ∷ p ∷ c) → A.Databases.members databases.new ≡ A.Databases.kind.applied (A.Databases.members databases.old) q) }
     ensures here { OnOk result (A.Databases.kind.point (A.Databases.members databases.new) ≡ None → ⊥) }
     ensures tokens { OnOk result ((i : ℕ) → A.Databases.kind.token (A.Databases.members databases.new) i ≡ A.Databases.kind.token (A.Databases.members databases.old) i) }
     ensures next { A.Databases.next databases.new ≡ A.Databases.next databases.old }
-    ensures core { OnOk result (core.new ≡ record core.old { anchor = Some root; durability = record core.old.durability { applied = root.height.0 } }) }
+    ensures core { OnOk result (core.new ≡ record core.old { anchor = Some (anchor_by A.Block.header block.now); durability = record core.old.durability { applied = A.Block.header.height block.now.block } }) }
 {
+    let root = Anchor::from_block(block);
     databases.apply(batch)?;
     core.durability.applied(root.height);
     core.anchor = Some(root);
@@ -129,10 +134,9 @@ fn advance<A: Application>(
         ticket,
         block: block.share()?,
     })?;
-    let root = Anchor::from_block(block);
-    let batch = cut::<A>(core, root)?;
+    let batch = cut::<A>(core, block)?;
     let captured = application.capture(block.inner().context(), block.inner(), &batch, databases)?;
-    apply::<A>(core, databases, root, batch)?;
+    apply::<A>(core, databases, block, batch)?;
     marks.push(Mark::Applied {
         block: block.share()?,
     })?;
@@ -145,7 +149,9 @@ fn begin_if_none<A: Application>(
     databases: &mut A::Databases,
     marks: &mut Vec<Mark<A::Block>>,
 ) -> Result<(), StepError>
-    requires { MayBegin A.Databases.kind (A.Databases.members databases.old) core.old.durability core.old.barrier }
+    requires free { core.old.barrier ≡ None → IsNone core.old.durability.barrier }
+    requires behind { core.old.barrier ≡ None → core.old.durability.durable < core.old.durability.applied }
+    requires idle { core.old.barrier ≡ None → A.Databases.kind.Idle (A.Databases.members databases.old) }
     ensures ok { OnOk result (let w = workings A.Block.header A.meaning A.Databases.kind A.runs A.Databases.shows in BeginsIfNone w (moment w core.old (A.Databases.members databases.old) (A.Databases.next databases.old) marks.old.items) (moment w core.new (A.Databases.members databases.new) (A.Databases.next databases.new) marks.new.items)) }
 {
     if core.barrier.is_none() {
@@ -211,6 +217,11 @@ pub(crate) fn finalize<A: Application>(
 {
     let captured = advance(application, core, databases, ticket, block, marks)?;
     begin_if_none::<A>(core, databases, marks)?;
-    let hooked = application.finalized(block.inner().context(), block.inner(), captured, databases)?;
+    let hooked = application.finalized(
+        block.inner().context(),
+        block.inner(),
+        captured,
+        databases,
+    )?;
     observe::<A>(core, ticket, block, hooked, marks)
 }

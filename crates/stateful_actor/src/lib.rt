@@ -6,15 +6,15 @@
 
 mod barrier;
 mod cache;
-mod tables;
 mod driving;
 mod error;
 mod finalize;
-mod restart;
 mod judge;
+mod restart;
 mod serve;
 mod stateful;
 mod step;
+mod tables;
 mod task;
 mod turn;
 mod verify;

@@ -17,11 +17,17 @@ use stateful_types::{
 #[derive(Drop)]
 pub(crate) enum Task<B> {
     /// A request is answered at once.
-    Answer { ticket: u64, valid: bool },
+    Answer {
+        ticket: u64,
+        valid: bool,
+    },
     /// A request waits.
     Wait,
     /// The parent of a request's block is fetched.
-    Ask { ticket: u64, digest: Digest },
+    Ask {
+        ticket: u64,
+        digest: Digest,
+    },
     /// A run of a request's block is started on its parent.
     Run {
         anchor: Anchor,
@@ -30,15 +36,30 @@ pub(crate) enum Task<B> {
         parent: Digested<B>,
     },
     /// The receipt of a redelivered block is held.
-    Hold { ticket: u64, height: Height },
+    Hold {
+        ticket: u64,
+        height: Height,
+    },
     /// The next block is final.
-    Finalize { ticket: u64, block: Digested<B> },
+    Finalize {
+        ticket: u64,
+        block: Digested<B>,
+    },
     /// A run or a hook is turned.
-    Turn { anchor: Anchor, job: u64 },
+    Turn {
+        anchor: Anchor,
+        job: u64,
+    },
     /// A database of the active barrier is flushed.
-    Flush { barrier: u64, database: usize },
+    Flush {
+        barrier: u64,
+        database: usize,
+    },
     /// The databases are opened.
-    Start { floor: Floor, keep: Items<usize> },
+    Start {
+        floor: Floor,
+        keep: Items<usize>,
+    },
 }
 
 /// Whether no job is live.

@@ -9,10 +9,10 @@ ghost use Rattle.stateful_actor.specs.Effects.{with_receipt};
 ghost use Rattle.stateful_actor.specs.Ending.{IsTold, Agrees, Finishes, TurnsRun, TurnsHook, TurnsJob};
 
 use crate::cache::Cached;
-use crate::tables::{Front, Live};
 use crate::error::StepError;
-use crate::stateful::CoreOf;
 use crate::judge::knows;
+use crate::stateful::CoreOf;
+use crate::tables::{Front, Live};
 use crate::verify::answer;
 use stateful_db::{Application, Batch, DatabaseSet};
 use stateful_history::{How, Mark};

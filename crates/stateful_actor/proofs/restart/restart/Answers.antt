@@ -1,6 +1,5 @@
-use Rattle.std.proofs.Common.{◌≡◌, ℕ, Some, refl, sym, ◌∙◌, ap, subst, ◌++◌, ◌∷◌, [], List}
+use Rattle.std.proofs.Common.{Some, refl, sym, ◌∙◌, ap, subst, ◌++◌, ◌∷◌, []}
 use Rattle.stateful_types.specs.declared.anchor.Anchor.{Anchor}
-use Rattle.stateful_db.specs.Databases.{IsOpening}
 use Rattle.stateful_history.specs.declared.mark.Mark.TheVariants.{Opened}
 use Rattle.stateful_actor.specs.Restarting.{StartsAt}
 use Rattle.stateful_actor.proofs.CodeResults.{on_err}

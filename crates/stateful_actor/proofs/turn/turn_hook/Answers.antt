@@ -1,6 +1,5 @@
-use Rattle.std.proofs.Common.{◌≡◌, refl, sym, ◌∙◌, inl, inr, Some}
+use Rattle.std.proofs.Common.{◌≡◌, refl, sym, ◌∙◌, inl, Some}
 use Rattle.stateful_actor.specs.Workings.{workings}
-use Rattle.stateful_actor.specs.Ending.{TurnsHook}
 use Rattle.stateful_actor.specs.declared.tables.Front.{Front}
 use Rattle.stateful_actor.proofs.CodeTurning.{TurnsHook-ended}
 use Rattle.stateful_actor.proofs.CodeSound.{of_some, front_height, front_first}
@@ -15,12 +14,14 @@ end_hook-requires-clause-first g c = front_first g.A.Databases.DatabaseSet.kind 
 pub returns-in-Ok-Pending : goal.returns-in-Ok-Pending
 returns-in-Ok-Pending g c =
     let is : c.args.core.now.front ≡ Some c.in-Some.front = sym c.take.ensures.value ∙ c.in-Some.is in
-    record { ok = record {
-      front = c.in-Some.front;
-      is = is;
-      job_is = of_some (λ (f : Front _ _). f.job ≡ c.args.job) c.args.core.now.front c.in-Some.front is c.requires.hook;
-      leaves = inl (c.turn_hook.new.hook, refl, refl);
-    } }
+    record {
+      ok = record {
+        front = c.in-Some.front;
+        is = is;
+        job_is = of_some (λ (f : Front _ _). f.job ≡ c.args.job) c.args.core.now.front c.in-Some.front is c.requires.hook;
+        leaves = inl (c.turn_hook.new.hook, refl, refl);
+      };
+    }
 
 pub returns-in-Ok-Done : goal.returns-in-Ok-Done
 returns-in-Ok-Done g c =

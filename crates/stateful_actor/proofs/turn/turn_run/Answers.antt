@@ -1,6 +1,4 @@
-use Rattle.std.proofs.Common.{◌≡◌, refl, sym, ap, subst, MatchOption, slice_get, List}
-use Rattle.stateful_types.specs.declared.outcome.Moved.{Moved}
-use Rattle.stateful_types.specs.declared.outcome.Moved.TheVariants.{Pending, Done}
+use Rattle.std.proofs.Common.{◌≡◌, refl, subst}
 use Rattle.stateful_actor.specs.Workings.{workings}
 use Rattle.stateful_actor.specs.Ending.{Turns}
 use Rattle.stateful_actor.specs.declared.tables.Live.{Live}
@@ -11,16 +9,18 @@ pub returns-in-Pending : goal.returns-in-Pending
 returns-in-Pending g c =
     let P = (λ (l : Live _ _). l.job ≡ c.args.job) in
     let found = found_at P c.args.core.now.runs.items c.in-Some.i c.index_mut-live.result.now (rw c.as_slice.ensures.value at c.in-Some.ensures.found) c.index_mut-live.ensures.value in
-    record { ok = record {
-      place = c.in-Some.i;
-      live = c.index_mut-live.result.now;
-      at = found.0;
-      job_is = found.1;
-      turned = c.turn.new.run;
-      moved = c.in_ok-turn.field-0;
-      turns = c.in_ok-turn.ensures.ok;
-      leaves = rw c.in-Pending.is (refl, refl, refl);
-    } }
+    record {
+      ok = record {
+        place = c.in-Some.i;
+        live = c.index_mut-live.result.now;
+        at = found.0;
+        job_is = found.1;
+        turned = c.turn.new.run;
+        moved = c.in_ok-turn.field-0;
+        turns = c.in_ok-turn.ensures.ok;
+        leaves = rw c.in-Pending.is (refl, refl, refl);
+      };
+    }
 
 pub returns-in-Done : goal.returns-in-Done
 returns-in-Done g c =
