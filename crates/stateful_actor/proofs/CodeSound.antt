@@ -22,6 +22,10 @@ pub some_of : {X : Type 0} (o : Option X) → o ≢ None → (x : X) × (o ≡ S
 some_of None not = absurd (not refl)
 some_of (Some x) not = (x, refl)
 
+pub none_of : {X : Type 0} (o : Option X) → ((o ≢ None) → ⊥) → o ≡ None
+none_of None not = refl
+none_of (Some x) not = absurd (not (λ none. cc))
+
 -- a token without an answer is one of the barrier's
 open_at-within : (handles : List Handle) (i : ℕ) (token : FlushToken) → open_at handles i ≡ Some token → i < length handles
 open_at-within [] i token is = cc

@@ -2,6 +2,7 @@ pub mod Lists
 pub mod Calm
 pub mod Pushing
 pub mod Sounding
+pub mod Stepping
 pub mod Doable
 pub mod Points
 pub mod Items
@@ -23,6 +24,7 @@ pub mod Settling
 pub mod Flushing
 pub mod Opening
 pub mod Entered
+pub mod Played
 pub mod CodeTests
 pub mod CodeResults
 pub mod CodeFinding

@@ -1,15 +1,15 @@
 //! Barriers: their begin, the flushes of their databases, and the receipts that they release.
 
-ghost use Rattle.std.specs.Prelude.{◌≡◌, ◌≢◌, ◌<◌, ℕ, Some, None, IsNone, OnOk, IfSome, IfNone, All, ◌⊎◌};
+ghost use Rattle.std.specs.Prelude.{◌≡◌, ◌≢◌, ◌<◌, ℕ, Some, None, IsNone, OnOk, IfSome, IfNone, All, ◌⊎◌, ◌↔◌, IsTrue};
 ghost use Rattle.stateful_db.specs.Barrier.{IsGood, open_at, answered};
 ghost use Rattle.stateful_db.specs.declared.barrier.Flushed.TheVariants.{Good};
 ghost use Rattle.stateful_actor.specs.declared.tables.Active.{Active};
 ghost use Rattle.stateful_actor.specs.Workings.{workings};
 ghost use Rattle.stateful_actor.specs.Moments.{moment};
 ghost use Rattle.stateful_actor.specs.Stands.{Sound};
-ghost use Rattle.stateful_actor.specs.Effects.{BeginsBarrier, CompletesBarrier, Acknowledges, Flushes, SettlesAll, Settles};
+ghost use Rattle.stateful_actor.specs.Effects.{BeginsBarrier, CompletesBarrier, Acknowledges, Flushes, SettlesAll};
 
-use crate::error::StepError;
+use crate::error::Fault;
 use crate::stateful::CoreOf;
 use crate::tables::Active;
 use stateful_db::{Application, BarrierPoll, DatabaseSet, FlushToken, Flushed};
@@ -21,7 +21,7 @@ pub(crate) fn begin_barrier<A: Application>(
     core: &mut CoreOf<A>,
     databases: &mut A::Databases,
     marks: &mut Vec<Mark<A::Block>>,
-) -> Result<(), StepError>
+) -> Result<(), Fault>
     requires none { core.old.barrier ≡ None }
     requires free { IsNone core.old.durability.barrier }
     requires behind { core.old.durability.durable < core.old.durability.applied }
@@ -31,7 +31,7 @@ pub(crate) fn begin_barrier<A: Application>(
 {
     let number = core.next_barrier;
     if number == u64::MAX {
-        return Err(StepError::Exhausted);
+        return Err(Fault::Exhausted);
     }
     let height = core.durability.applied_height();
     let barrier = databases.finalize(core.alloc)?;
@@ -66,7 +66,7 @@ fn flushed_barrier(barrier: &Option<Active>) -> Option<(u64, Height)>
 fn complete<A: Application>(
     core: &mut CoreOf<A>,
     marks: &mut Vec<Mark<A::Block>>,
-) -> Result<(), StepError>
+) -> Result<(), Fault>
     requires none { core.old.barrier ≡ None → IsNone core.old.durability.barrier }
     requires some { IfSome core.old.barrier (λ active. core.old.durability.barrier ≡ Some active.height.0) }
     ensures ok { OnOk result (CompletesBarrier core.old core.new marks.old.items marks.new.items ⊎ ((core.new ≡ core.old) × (marks.new.items ≡ marks.old.items))) }
@@ -89,7 +89,7 @@ fn complete<A: Application>(
 fn release<A: Application>(
     core: &mut CoreOf<A>,
     marks: &mut Vec<Mark<A::Block>>,
-) -> Result<(), StepError>
+) -> Result<(), Fault>
     ensures ok { OnOk result (Acknowledges core.old core.new marks.old.items marks.new.items) }
     ensures anchor { core.new.anchor ≡ core.old.anchor }
 {
@@ -99,13 +99,20 @@ fn release<A: Application>(
     Ok(())
 }
 
-/// A flushed barrier is completed, receipts of durable heights are acknowledged, and a barrier begins where something
-/// applied isn't durable and none is active.
-fn settle_all<A: Application>(
+/// Whether there is nothing to settle: the machine is down, or a finalization is in front.
+pub(crate) fn is_held<A: Application>(core: &CoreOf<A>) -> bool
+    ensures { IsTrue result ↔ ((core.now.anchor ≡ None) ⊎ (core.now.front ≢ None)) }
+{
+    core.anchor.is_none() || core.front.is_some()
+}
+
+/// Goes on until nothing can go on without another event: a flushed barrier is completed, receipts of durable heights are
+/// acknowledged, and a barrier begins where something applied isn't durable and none is active.
+pub(crate) fn settle<A: Application>(
     core: &mut CoreOf<A>,
     databases: &mut A::Databases,
     marks: &mut Vec<Mark<A::Block>>,
-) -> Result<(), StepError>
+) -> Result<(), Fault>
     requires up { core.old.anchor ≢ None }
     requires idle { core.old.front ≡ None }
     requires sound { Sound A.Databases.kind (A.Databases.members databases.old) A.Block.header core.old }
@@ -118,24 +125,6 @@ fn settle_all<A: Application>(
         begin_barrier::<A>(core, databases, marks)
     } else {
         Ok(())
-    }
-}
-
-/// Goes on until nothing can go on without another event. While the machine is down or a finalization is in front there is
-/// nothing to do.
-pub(crate) fn settle<A: Application>(
-    core: &mut CoreOf<A>,
-    databases: &mut A::Databases,
-    marks: &mut Vec<Mark<A::Block>>,
-) -> Result<(), StepError>
-    requires { Sound A.Databases.kind (A.Databases.members databases.old) A.Block.header core.old }
-    ensures ok { OnOk result (let w = workings A.Block.header A.meaning A.Databases.kind A.runs A.Databases.shows in Settles w (moment w core.old (A.Databases.members databases.old) (A.Databases.next databases.old) marks.old.items) (moment w core.new (A.Databases.members databases.new) (A.Databases.next databases.new) marks.new.items)) }
-    ensures anchor { core.new.anchor ≡ core.old.anchor }
-{
-    if core.anchor.is_none() || core.front.is_some() {
-        Ok(())
-    } else {
-        settle_all::<A>(core, databases, marks)
     }
 }
 
@@ -173,13 +162,13 @@ pub(crate) fn flush<A: Application>(
     number: u64,
     index: usize,
     marks: &Vec<Mark<A::Block>>,
-) -> Result<(), StepError>
+) -> Result<(), Fault>
     requires up { core.old.anchor ≢ None }
     requires sound { Sound A.Databases.kind (A.Databases.members databases.old) A.Block.header core.old }
     ensures ok { OnOk result (let w = workings A.Block.header A.meaning A.Databases.kind A.runs A.Databases.shows in Flushes w (moment w core.old (A.Databases.members databases.old) (A.Databases.next databases.old) marks.now.items) (moment w core.new (A.Databases.members databases.new) (A.Databases.next databases.new) marks.now.items) number index) }
 {
     let Some(token) = open_token(&core.barrier, number, index) else {
-        return Err(StepError::Failed);
+        return Err(Fault::Failed);
     };
     databases.flush(index, token)?;
     core.barrier = match core.barrier.take() {

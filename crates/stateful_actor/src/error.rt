@@ -102,55 +102,140 @@ impl<T: Drop> From<AllocFailed<T>> for StepError {
     }
 }
 
-impl From<AppFault> for StepError {
+/// What goes wrong while a task is done. It is answered as the error of the same name.
+#[derive(Clone, Copy)]
+pub(crate) enum Fault {
+    Database {
+        index: usize,
+    },
+    TargetMismatch {
+        index: usize,
+        expected: Target,
+        recovered: Target,
+    },
+    Application,
+    MissingBlock {
+        height: Height,
+    },
+    Failed,
+    Exhausted,
+    DatabaseFault {
+        index: usize,
+        call: DbCall,
+    },
+    OutOfMemory,
+}
+
+impl From<OutOfMemory> for Fault {
     ghost use Rattle.std.specs.Prelude.{◌≡◌};
-    ghost use Rattle.stateful_actor.specs.Errors.{error_of_fault};
+    ghost use Rattle.stateful_actor.specs.declared.error.Fault.TheVariants.{OutOfMemory};
 
-    ghost from_gives = { λ fault e. e ≡ error_of_fault fault };
+    ghost from_gives = { λ _ e. e ≡ OutOfMemory };
 
-    fn from(fault: AppFault) -> StepError {
+    fn from(_refused: OutOfMemory) -> Fault {
+        Fault::OutOfMemory
+    }
+}
+
+impl From<AllocError> for Fault {
+    ghost use Rattle.std.specs.Prelude.{◌≡◌};
+    ghost use Rattle.stateful_actor.specs.declared.error.Fault.TheVariants.{OutOfMemory};
+
+    ghost from_gives = { λ _ e. e ≡ OutOfMemory };
+
+    fn from(_refused: AllocError) -> Fault {
+        Fault::OutOfMemory
+    }
+}
+
+impl<T: Drop> From<AllocFailed<T>> for Fault {
+    ghost use Rattle.std.specs.Prelude.{◌≡◌};
+    ghost use Rattle.stateful_actor.specs.declared.error.Fault.TheVariants.{OutOfMemory};
+
+    ghost from_gives = { λ _ e. e ≡ OutOfMemory };
+
+    fn from(_refused: AllocFailed<T>) -> Fault {
+        Fault::OutOfMemory
+    }
+}
+
+impl From<AppFault> for Fault {
+    ghost use Rattle.std.specs.Prelude.{◌≡◌};
+    ghost use Rattle.stateful_actor.specs.Errors.{fault_of_app};
+
+    ghost from_gives = { λ fault e. e ≡ fault_of_app fault };
+
+    fn from(fault: AppFault) -> Fault {
         match fault {
-            AppFault::Failed => StepError::Application,
-            AppFault::OutOfMemory => StepError::OutOfMemory,
+            AppFault::Failed => Fault::Application,
+            AppFault::OutOfMemory => Fault::OutOfMemory,
         }
     }
 }
 
-impl From<SetError> for StepError {
+impl From<SetError> for Fault {
     ghost use Rattle.std.specs.Prelude.{◌≡◌};
-    ghost use Rattle.stateful_actor.specs.Errors.{error_of_set};
+    ghost use Rattle.stateful_actor.specs.Errors.{fault_of_set};
 
-    ghost from_gives = { λ fault e. e ≡ error_of_set fault };
+    ghost from_gives = { λ fault e. e ≡ fault_of_set fault };
 
     // A database that isn't here is met after a failure alone.
-    fn from(fault: SetError) -> StepError {
+    fn from(fault: SetError) -> Fault {
         match fault {
-            SetError::Lost => StepError::Failed,
-            SetError::Exhausted => StepError::Exhausted,
-            SetError::DatabaseFault { index, call } => StepError::DatabaseFault { index, call },
-            SetError::OutOfMemory => StepError::OutOfMemory,
+            SetError::Lost => Fault::Failed,
+            SetError::Exhausted => Fault::Exhausted,
+            SetError::DatabaseFault { index, call } => Fault::DatabaseFault { index, call },
+            SetError::OutOfMemory => Fault::OutOfMemory,
         }
     }
 }
 
-impl From<SetInit> for StepError {
+impl From<SetInit> for Fault {
     ghost use Rattle.std.specs.Prelude.{◌≡◌};
-    ghost use Rattle.stateful_actor.specs.Errors.{error_of_init};
+    ghost use Rattle.stateful_actor.specs.Errors.{fault_of_init};
 
-    ghost from_gives = { λ fault e. e ≡ error_of_init fault };
+    ghost from_gives = { λ fault e. e ≡ fault_of_init fault };
 
-    fn from(fault: SetInit) -> StepError {
+    fn from(fault: SetInit) -> Fault {
         match fault.why {
-            InitError::Database => StepError::Database { index: fault.index },
+            InitError::Database => Fault::Database { index: fault.index },
             InitError::TargetMismatch {
                 expected,
                 recovered,
-            } => StepError::TargetMismatch {
+            } => Fault::TargetMismatch {
                 index: fault.index,
                 expected,
                 recovered,
             },
-            InitError::OutOfMemory => StepError::OutOfMemory,
+            InitError::OutOfMemory => Fault::OutOfMemory,
+        }
+    }
+}
+
+impl From<Fault> for StepError {
+    ghost use Rattle.std.specs.Prelude.{◌≡◌};
+    ghost use Rattle.stateful_actor.specs.Errors.{error_of};
+
+    ghost from_gives = { λ fault e. e ≡ error_of fault };
+
+    fn from(fault: Fault) -> StepError {
+        match fault {
+            Fault::Database { index } => StepError::Database { index },
+            Fault::TargetMismatch {
+                index,
+                expected,
+                recovered,
+            } => StepError::TargetMismatch {
+                index,
+                expected,
+                recovered,
+            },
+            Fault::Application => StepError::Application,
+            Fault::MissingBlock { height } => StepError::MissingBlock { height },
+            Fault::Failed => StepError::Failed,
+            Fault::Exhausted => StepError::Exhausted,
+            Fault::DatabaseFault { index, call } => StepError::DatabaseFault { index, call },
+            Fault::OutOfMemory => StepError::OutOfMemory,
         }
     }
 }

@@ -15,7 +15,7 @@ ghost use Rattle.stateful_actor.specs.Finalizing.{IsNext, IsPast, RefusesBlock, 
 
 use crate::barrier::begin_barrier;
 use crate::cache::{Cache, Cut};
-use crate::error::StepError;
+use crate::error::{Fault, StepError};
 use crate::stateful::CoreOf;
 use crate::tables::Front;
 use stateful_db::{Application, Batch, DatabaseSet, Hooked};
@@ -67,7 +67,7 @@ pub(crate) fn hold<A: Application>(
     ticket: u64,
     height: Height,
     marks: &Vec<Mark<A::Block>>,
-) -> Result<(), StepError>
+) -> Result<(), Fault>
     requires { (height.0 ≤ core.old.durability.durable) ⊎ HasReceipt core.old.durability height.0 }
     ensures ok { OnOk result (HoldsReceipt core.old core.new marks.now.items marks.now.items ticket height.0) }
 {
@@ -79,7 +79,7 @@ pub(crate) fn hold<A: Application>(
 fn cut<A: Application>(
     core: &mut CoreOf<A>,
     block: &Digested<A::Block>,
-) -> Result<Batch<A>, StepError>
+) -> Result<Batch<A>, Fault>
     requires { IsIn core.old.cache block.now.digest }
     ensures kept { OnOk result (IsCutTo (anchor_by A.Block.header block.now) core.old.cache core.new.cache) }
     ensures root { IfOk result (λ batch. IsRootOf (anchor_by A.Block.header block.now) core.old.cache batch) }
@@ -101,7 +101,7 @@ fn apply<A: Application>(
     databases: &mut A::Databases,
     block: &Digested<A::Block>,
     batch: Batch<A>,
-) -> Result<(), StepError>
+) -> Result<(), Fault>
     requires { core.old.durability.applied < A.Block.header.height block.now.block }
     ensures members { OnOk result ((p q : A.Databases.Ids × A.Databases.States) (c : List (A.Databases.Ids × A.Databases.States)) → A.Databases.kind.point (A.Databases.members databases.old) ≡ Some p → A.Databases.shows batch (q ∷ p ∷ c) → A.Databases.members databases.new ≡ A.Databases.kind.applied (A.Databases.members databases.old) q) }
     ensures here { OnOk result (A.Databases.kind.point (A.Databases.members databases.new) ≡ None → ⊥) }
@@ -125,7 +125,7 @@ fn advance<A: Application>(
     ticket: u64,
     block: &Digested<A::Block>,
     marks: &mut Vec<Mark<A::Block>>,
-) -> Result<A::Captured, StepError>
+) -> Result<A::Captured, Fault>
     requires cached { IsIn core.old.cache block.now.digest }
     requires above { core.old.durability.applied < A.Block.header.height block.now.block }
     ensures ok { OnOk result (let w = workings A.Block.header A.meaning A.Databases.kind A.runs A.Databases.shows in Moves w ticket block.now (moment w core.old (A.Databases.members databases.old) (A.Databases.next databases.old) marks.old.items) (moment w core.new (A.Databases.members databases.new) (A.Databases.next databases.new) marks.new.items)) }
@@ -148,7 +148,7 @@ fn begin_if_none<A: Application>(
     core: &mut CoreOf<A>,
     databases: &mut A::Databases,
     marks: &mut Vec<Mark<A::Block>>,
-) -> Result<(), StepError>
+) -> Result<(), Fault>
     requires free { core.old.barrier ≡ None → IsNone core.old.durability.barrier }
     requires behind { core.old.barrier ≡ None → core.old.durability.durable < core.old.durability.applied }
     requires idle { core.old.barrier ≡ None → A.Databases.kind.Idle (A.Databases.members databases.old) }
@@ -168,7 +168,7 @@ fn observe<A: Application>(
     block: &Digested<A::Block>,
     hooked: Hooked<A::Hook>,
     marks: &mut Vec<Mark<A::Block>>,
-) -> Result<(), StepError>
+) -> Result<(), Fault>
     requires height { A.Block.header.height block.now.block ≡ core.old.durability.applied }
     requires first { All (λ receipt. receipt.0 ≢ core.old.durability.applied) core.old.durability.held }
     ensures ok { OnOk result (Observes (workings A.Block.header A.meaning A.Databases.kind A.runs A.Databases.shows) ticket block.now hooked core.old core.new marks.old.items marks.new.items) }
@@ -181,7 +181,7 @@ fn observe<A: Application>(
         Hooked::Pending(hook) => {
             let job = core.next_job;
             if job == u64::MAX {
-                return Err(StepError::Exhausted);
+                return Err(Fault::Exhausted);
             }
             marks.push(Mark::Started {
                 job,
@@ -208,7 +208,7 @@ pub(crate) fn finalize<A: Application>(
     ticket: u64,
     block: &Digested<A::Block>,
     marks: &mut Vec<Mark<A::Block>>,
-) -> Result<(), StepError>
+) -> Result<(), Fault>
     requires sound { Sound A.Databases.kind (A.Databases.members databases.old) A.Block.header core.old }
     requires next { (anchor : Anchor) × (core.old.anchor ≡ Some anchor) × IsNext A.Block.header anchor block.now }
     requires idle { core.old.front ≡ None }

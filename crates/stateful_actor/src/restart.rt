@@ -6,7 +6,7 @@ ghost use Rattle.stateful_actor.specs.Moments.{moment};
 ghost use Rattle.stateful_actor.specs.Restarting.{start_height, StartsAt, Reopens};
 
 use crate::cache::Cache;
-use crate::error::StepError;
+use crate::error::Fault;
 use crate::stateful::CoreOf;
 use stateful_db::{Application, DatabaseSet};
 use stateful_durability::Durability;
@@ -44,7 +44,7 @@ pub(crate) fn restart<A: Application, S: BlockStore<A::Block>>(
     floor: &Floor,
     keep: &[usize],
     marks: &mut Vec<Mark<A::Block>>,
-) -> Result<(), StepError>
+) -> Result<(), Fault>
     requires { A.Databases.kind.Held (A.Databases.members databases.old) }
     ensures ok { OnOk result (let w = workings A.Block.header A.meaning A.Databases.kind A.runs A.Databases.shows in Reopens w floor.now (S.stored store.now) (moment w core.old (A.Databases.members databases.old) (A.Databases.next databases.old) marks.old.items) (moment w core.new (A.Databases.members databases.new) (A.Databases.next databases.new) marks.new.items)) }
     ensures err_core { OnErr result (core.new ≡ core.old) }
@@ -53,7 +53,7 @@ pub(crate) fn restart<A: Application, S: BlockStore<A::Block>>(
     *databases = databases.take().crash(keep);
     let height = start_of(floor);
     let Some(block) = store.at(height)? else {
-        return Err(StepError::MissingBlock { height });
+        return Err(Fault::MissingBlock { height });
     };
     let targets = A::sync_targets(block.inner());
     databases.init(config, Some(targets))?;

@@ -6,8 +6,8 @@ ghost use Rattle.stateful_actor.specs.Moments.{moment};
 ghost use Rattle.stateful_actor.specs.Stands.{Sound};
 ghost use Rattle.stateful_actor.specs.Doing.{IsDoable, Does, Serves};
 
-use crate::barrier::{flush, settle};
-use crate::error::StepError;
+use crate::barrier::{flush, is_held, settle};
+use crate::error::Fault;
 use crate::finalize::{finalize, hold};
 use crate::restart::restart;
 use crate::stateful::{Config, CoreOf};
@@ -26,7 +26,7 @@ fn perform<A: Application + Drop, S: BlockStore<A::Block>>(
     store: &S,
     task: Task<A::Block>,
     marks: &mut Vec<Mark<A::Block>>,
-) -> Result<(), StepError>
+) -> Result<(), Fault>
     requires doable { IsDoable A.Block.header core.old task }
     requires sound { Sound A.Databases.kind (A.Databases.members databases.old) A.Block.header core.old }
     requires held { core.old.anchor ≡ None → A.Databases.kind.Held (A.Databases.members databases.old) }
@@ -84,7 +84,7 @@ pub(crate) fn serve<A: Application + Drop, S: BlockStore<A::Block>>(
     store: &S,
     task: Task<A::Block>,
     marks: &mut Vec<Mark<A::Block>>,
-) -> Result<(), StepError>
+) -> Result<(), Fault>
     requires doable { IsDoable A.Block.header core.old task }
     requires sound { Sound A.Databases.kind (A.Databases.members databases.old) A.Block.header core.old }
     requires held { core.old.anchor ≡ None → A.Databases.kind.Held (A.Databases.members databases.old) }
@@ -92,6 +92,9 @@ pub(crate) fn serve<A: Application + Drop, S: BlockStore<A::Block>>(
     ensures err { OnErr result (core.old.anchor ≡ None → core.new.anchor ≡ None → (core.new ≡ core.old) × A.Databases.kind.Held (A.Databases.members databases.new)) }
 {
     perform(config, core, databases, store, task, marks)?;
+    if is_held::<A>(core) {
+        return Ok(());
+    }
     settle::<A>(core, databases, marks)?;
     Ok(())
 }

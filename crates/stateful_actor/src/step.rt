@@ -1,6 +1,6 @@
 //! One event.
 
-ghost use Rattle.std.specs.Prelude.{◌≡◌, ℕ, Bool, true, false, Option, Some, None, IfOk, IfErr, OnOk, OnErr, IsErrOf, [], ◌↔◌, ◌⊎◌, ◌∷◌, IsTrue};
+ghost use Rattle.std.specs.Prelude.{◌≡◌, ◌≢◌, ℕ, Bool, true, false, Option, Some, None, IfOk, IfErr, OnOk, OnErr, IsErrOf, [], ◌↔◌, ◌⊎◌, ◌∷◌, IsTrue, is_none, if◌then◌else◌};
 ghost use Rattle.stateful_types.specs.Names.{Named};
 ghost use Rattle.stateful_history.specs.Past.{Past, after_entry};
 ghost use Rattle.stateful_history.specs.Opening.{base_after};
@@ -47,6 +47,18 @@ fn is_working(failed: bool, anchor: &Option<Anchor>) -> bool
     !failed || anchor.is_none()
 }
 
+/// The anchor of a machine that met a fault while it was at `before`: one that was up isn't down, for its databases may be
+/// away.
+fn still_up(anchor: Option<Anchor>, before: Option<Anchor>) -> Option<Anchor>
+    ensures { result ≡ (if is_none anchor then before else anchor) }
+{
+    if anchor.is_none() {
+        before
+    } else {
+        anchor
+    }
+}
+
 impl<A: Application + Drop> Stateful<A> {
     /// The marks of an event that names live work.
     fn take<S: BlockStore<A::Block>>(
@@ -60,6 +72,7 @@ impl<A: Application + Drop> Stateful<A> {
         ensures takes { IfOk result (λ marks. (stored : ℕ → Option (Named A.Block)) (base : A.Databases.States) (p : Past A.Block A.Context A.Input) → let w = workings A.Block.header A.meaning A.Databases.kind A.runs A.Databases.shows in TrueNames (setting w stored) (after_entry p event.now marks.items) → may_come A.Databases.kind.count p event.now ≡ true → Stands w stored base p false self.old.core self.old.register (A.Databases.members databases.old) (A.Databases.next databases.old) (S.stored store.now) → TakesIn w stored (base_after base marks.items (A.Databases.kind.point (A.Databases.members databases.new))) p event.now marks.items false self.new.core self.new.register (A.Databases.members databases.new) (A.Databases.next databases.new) (S.stored store.now)) }
         ensures register { IfOk result (λ marks. (p : Past A.Block A.Context A.Input) → RegisterStands A.Databases.kind.count p self.old.register → RegisterStands A.Databases.kind.count (after_entry p event.now marks.items) self.new.register) }
         ensures sound { OnOk result (Sound A.Databases.kind (A.Databases.members databases.new) A.Block.header self.new.core) }
+        ensures up { OnOk result (self.new.core.anchor ≢ None) }
         ensures unchanged { IfErr result (λ e. changes_nothing e ≡ true → (self.new ≡ self.old) × (databases.new ≡ databases.old)) }
         ensures bad { IsErrOf result StepError.BadEvent → ⊥ }
         ensures err { OnErr result (self.old.core.anchor ≡ None → self.new.core.anchor ≡ None → (self.new.core ≡ self.old.core) × (self.new.register ≡ self.old.register) × A.Databases.kind.Held (A.Databases.members databases.new)) }
@@ -121,13 +134,17 @@ impl<A: Application + Drop> Stateful<A> {
         if !is_working(self.failed, &self.core.anchor) {
             return Err(StepError::NotYet);
         }
+        let before = self.core.anchor;
         match self.take(databases, store, &event) {
             Ok(marks) => {
                 self.failed = false;
                 Ok(marks)
             }
             Err(error) => {
-                self.failed = self.failed || !changes_nothing(error);
+                if !changes_nothing(error) {
+                    self.failed = true;
+                    self.core.anchor = still_up(self.core.anchor, before);
+                }
                 Err(error)
             }
         }

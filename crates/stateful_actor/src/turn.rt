@@ -9,7 +9,7 @@ ghost use Rattle.stateful_actor.specs.Effects.{with_receipt};
 ghost use Rattle.stateful_actor.specs.Ending.{IsTold, Agrees, Finishes, TurnsRun, TurnsHook, TurnsJob};
 
 use crate::cache::Cached;
-use crate::error::StepError;
+use crate::error::Fault;
 use crate::judge::knows;
 use crate::stateful::CoreOf;
 use crate::tables::{Front, Live};
@@ -38,7 +38,7 @@ fn keep<A: Application>(
     anchor: Anchor,
     block: &Digested<A::Block>,
     batch: Batch<A>,
-) -> Result<How, StepError>
+) -> Result<How, Fault>
     ensures told { IfOk result (λ how. Agrees (workings A.Block.header A.meaning A.Databases.kind A.runs A.Databases.shows) block.now batch → IsTold (workings A.Block.header A.meaning A.Databases.kind A.runs A.Databases.shows) anchor block.now (Some batch) core.old.cache how core.new.cache) }
     ensures rest { OnOk result (core.new ≡ record core.old { cache = core.new.cache }) }
 {
@@ -61,7 +61,7 @@ fn end<A: Application>(
     anchor: Anchor,
     block: &Digested<A::Block>,
     ended: Option<Batch<A>>,
-) -> Result<How, StepError>
+) -> Result<How, Fault>
     ensures told { IfOk result (λ how. IsTold (workings A.Block.header A.meaning A.Databases.kind A.runs A.Databases.shows) anchor block.now ended core.old.cache how core.new.cache) }
     ensures rest { OnOk result (core.new ≡ record core.old { cache = core.new.cache }) }
 {
@@ -82,7 +82,7 @@ fn finish<A: Application>(
     live: Live<A::Block, A::Run>,
     ended: Option<Batch<A>>,
     marks: &mut Vec<Mark<A::Block>>,
-) -> Result<(), StepError>
+) -> Result<(), Fault>
     ensures ok { OnOk result (Finishes (workings A.Block.header A.meaning A.Databases.kind A.runs A.Databases.shows) anchor live ended core.old.cache core.new.cache marks.old.items marks.new.items) }
     ensures rest { OnOk result (core.new ≡ record core.old { cache = core.new.cache }) }
 {
@@ -107,7 +107,7 @@ fn end_hook<A: Application>(
     core: &mut CoreOf<A>,
     front: Front<A::Block, A::Hook>,
     marks: &mut Vec<Mark<A::Block>>,
-) -> Result<(), StepError>
+) -> Result<(), Fault>
     requires height { A.Block.header.height front.block.block ≡ core.old.durability.applied }
     requires first { All (λ receipt. receipt.0 ≢ core.old.durability.applied) core.old.durability.held }
     ensures core { OnOk result (core.new ≡ record core.old { durability = with_receipt core.old.durability (A.Block.header.height front.block.block) front.ticket }) }
@@ -128,7 +128,7 @@ fn turn_hook<A: Application>(
     anchor: Anchor,
     job: u64,
     marks: &mut Vec<Mark<A::Block>>,
-) -> Result<(), StepError>
+) -> Result<(), Fault>
     requires up { core.old.anchor ≡ Some anchor }
     requires sound { Sound A.Databases.kind (A.Databases.members databases.now) A.Block.header core.old }
     requires hook { MatchOption core.old.front ⊥ (λ front. front.job ≡ job) }
@@ -145,7 +145,7 @@ fn turn_hook<A: Application>(
         Ok(Moved::Done(())) => end_hook::<A>(core, front, marks),
         Err(fault) => {
             core.front = Some(front);
-            Err(StepError::from(fault))
+            Err(Fault::from(fault))
         }
     }
 }
@@ -157,11 +157,11 @@ fn turn_run<A: Application>(
     anchor: Anchor,
     job: u64,
     marks: &mut Vec<Mark<A::Block>>,
-) -> Result<(), StepError>
+) -> Result<(), Fault>
     ensures ok { OnOk result (TurnsRun (workings A.Block.header A.meaning A.Databases.kind A.runs A.Databases.shows) core.old core.new marks.old.items marks.new.items anchor (A.Databases.members databases.now) job) }
 {
     let Some(i) = find_job(core.runs.as_slice(), job) else {
-        return Err(StepError::Failed);
+        return Err(Fault::Failed);
     };
     let live = &mut core.runs[i];
     match A::turn(&mut live.run, databases)? {
@@ -180,7 +180,7 @@ pub(crate) fn turn<A: Application>(
     anchor: Anchor,
     job: u64,
     marks: &mut Vec<Mark<A::Block>>,
-) -> Result<(), StepError>
+) -> Result<(), Fault>
     requires up { core.old.anchor ≡ Some anchor }
     requires sound { Sound A.Databases.kind (A.Databases.members databases.now) A.Block.header core.old }
     ensures ok { OnOk result (TurnsJob (workings A.Block.header A.meaning A.Databases.kind A.runs A.Databases.shows) core.old core.new marks.old.items marks.new.items anchor (A.Databases.members databases.now) job) }

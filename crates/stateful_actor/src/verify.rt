@@ -10,7 +10,7 @@ ghost use Rattle.stateful_actor.specs.Effects.{Tells, Asks};
 ghost use Rattle.stateful_actor.specs.Starting.{IsOver, StartsRun};
 
 use crate::cache::Cache;
-use crate::error::StepError;
+use crate::error::Fault;
 use crate::stateful::CoreOf;
 use crate::tables::Live;
 use stateful_db::{Application, Batch, DatabaseSet, OpenBatch};
@@ -25,7 +25,7 @@ pub(crate) fn answer<B: Drop>(
     ticket: u64,
     valid: bool,
     marks: &mut Vec<Mark<B>>,
-) -> Result<(), StepError>
+) -> Result<(), Fault>
     ensures { OnOk result (marks.new.items ≡ marks.old.items ++ Verdict ticket valid ∷ []) }
 {
     marks.push(Mark::Verdict { ticket, valid })?;
@@ -38,12 +38,12 @@ pub(crate) fn ask<A: Application>(
     ticket: u64,
     digest: Digest,
     marks: &mut Vec<Mark<A::Block>>,
-) -> Result<(), StepError>
+) -> Result<(), Fault>
     ensures { OnOk result (Asks core.old core.new marks.old.items marks.new.items ticket digest) }
 {
     let fetch = core.next_fetch;
     if fetch == u64::MAX {
-        return Err(StepError::Exhausted);
+        return Err(Fault::Exhausted);
     }
     marks.push(Mark::Asked {
         fetch,
@@ -60,7 +60,7 @@ fn begin<A: Application>(
     cache: &Cache<Batch<A>>,
     databases: &mut A::Databases,
     parent: &Digested<A::Block>,
-) -> Result<OpenBatch<A>, StepError>
+) -> Result<OpenBatch<A>, Fault>
     requires { IsAtHand anchor cache.now parent.now.digest }
     ensures ok { IfOk result (λ batches. IsOver (workings A.Block.header A.meaning A.Databases.kind A.runs A.Databases.shows) anchor.digest cache.now (A.Databases.members databases.old) (A.Databases.next databases.old) (A.Databases.next databases.new) (λ q c. A.Databases.opened batches ((A.Databases.next databases.old, A.Databases.kind.begun q.1) ∷ q ∷ c)) parent.now.digest) }
     ensures members { A.Databases.members databases.new ≡ A.Databases.members databases.old }
@@ -100,7 +100,7 @@ fn start<A: Application>(
     anchor: Anchor,
     block: &Digested<A::Block>,
     parent: Digested<A::Block>,
-) -> Result<A::Run, StepError>
+) -> Result<A::Run, Fault>
     requires { IsAtHand anchor core.now.cache parent.digest }
     ensures ok { IfOk result (λ run. IsOver (workings A.Block.header A.meaning A.Databases.kind A.runs A.Databases.shows) anchor.digest core.now.cache (A.Databases.members databases.old) (A.Databases.next databases.old) (A.Databases.next databases.new) (λ q c. A.runs run Candidate block.now.block (A.Databases.next databases.old) (q ∷ c)) parent.digest) }
     ensures members { A.Databases.members databases.new ≡ A.Databases.members databases.old }
@@ -122,14 +122,14 @@ pub(crate) fn run<A: Application>(
     block: Digested<A::Block>,
     parent: Digested<A::Block>,
     marks: &mut Vec<Mark<A::Block>>,
-) -> Result<(), StepError>
+) -> Result<(), Fault>
     requires { IsAtHand anchor core.old.cache parent.digest }
     ensures ok { OnOk result (let w = workings A.Block.header A.meaning A.Databases.kind A.runs A.Databases.shows in StartsRun w anchor.digest ticket block parent (moment w core.old (A.Databases.members databases.old) (A.Databases.next databases.old) marks.old.items) (moment w core.new (A.Databases.members databases.new) (A.Databases.next databases.new) marks.new.items)) }
     ensures members { A.Databases.members databases.new ≡ A.Databases.members databases.old }
 {
     let job = core.next_job;
     if job == u64::MAX {
-        return Err(StepError::Exhausted);
+        return Err(Fault::Exhausted);
     }
     let run = start(application, core, databases, anchor, &block, parent)?;
     marks.push(Mark::Started {

@@ -1,9 +1,13 @@
-use Rattle.std.proofs.Common.{rules}
+use Rattle.std.proofs.Common.{inl, inr, refl}
+use Rattle.stateful_actor.proofs.CodeSound.{none_of}
 use Rattle.stateful_actor.proofs.Sounding.{Sound-does}
 use Rattle.stateful_actor.proofs.serve.serve.Goals as goal
 
-pub settle-requires : goal.settle-requires
-settle-requires g c = Sound-does _ g.met.A.Databases.DatabaseSet.laws _ _ _ c.args.task c.requires.doable c.in_ok-perform.ensures.ok c.requires.sound
+pub settle-requires-clause-sound : goal.settle-requires-clause-sound
+settle-requires-clause-sound g c = Sound-does _ g.met.A.Databases.DatabaseSet.laws _ _ _ c.args.task c.requires.doable c.in_ok-perform.ensures.ok c.requires.sound
+
+pub returns-then-is_held-clause-ok : goal.returns-then-is_held-clause-ok
+returns-then-is_held-clause-ok g c = record { mid = _; does = c.in_ok-perform.ensures.ok; settles = inl (c.is_held.ensures.0 c.if-is_held.true, refl) }
 
 pub returns-clause-ok : goal.returns-clause-ok
-returns-clause-ok g c = record { mid = _; does = c.in_ok-perform.ensures.ok; settles = c.in_ok-settle.ensures.ok }
+returns-clause-ok g c = record { mid = _; does = c.in_ok-perform.ensures.ok; settles = inr (λ down. c.if-is_held.false (c.is_held.ensures.1 (inl down)), none_of c.perform.new.core.front (λ some. c.if-is_held.false (c.is_held.ensures.1 (inr some))), c.in_ok-settle.ensures.ok) }

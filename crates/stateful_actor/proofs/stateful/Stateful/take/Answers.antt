@@ -1,7 +1,8 @@
-use Rattle.std.proofs.Common.{rules, refl, inl, ◌∙◌, sym}
+use Rattle.std.proofs.Common.{rules, refl, inl, sym, ◌∙◌, None}
 use Rattle.stateful_actor.proofs.Doable.{IsDoable-admitted}
 use Rattle.stateful_actor.proofs.Sounding.{Sound-does, Sound-settles}
 use Rattle.stateful_actor.proofs.Entered.{Entered, Holds-works}
+use Rattle.stateful_actor.proofs.Stepping.{settles-anchor, does-up}
 use Rattle.stateful_actor.proofs.stateful.Stateful.take.Goals as goal
 
 pub serve-requires-clause-doable : goal.serve-requires-clause-doable
@@ -18,7 +19,7 @@ returns-in-Ok-clause-takes g c = λ stored base p names may stands.
     let entered = Entered _ laws stored _ base p _ serves.mid _ c.new-marks.ensures.items s.1 c.requires.sound serves.settles c.args.self.now.core.anchor refl c.args.event.now c.in_ok-task.task may names asked serves.does sound in
     record {
       opened = entered.opened;
-      stands = λ working. ((rw c.count.ensures at (c.in-Ok.ensures.ok p)) s.0, entered.served.works);
+      stands = λ working. ((rw (c.count.ensures, c.as_slice.ensures.value) at (c.in-Ok.ensures.ok p)) s.0, entered.served.works);
       keeps = entered.served.keeps;
       holds = Holds-works _ stored _ _ _ _ _ _ entered.served.works;
     }
@@ -29,3 +30,9 @@ returns-in-Ok-clause-sound g c =
     let serves = c.in_ok-serve.ensures.ok in
     let doable = IsDoable-admitted _ _ _ c.args.self.now.core _ c.requires.sound c.args.self.now.core.anchor refl c.args.event.now c.in_ok-task.task c.in_ok-task.ensures.ok in
     Sound-settles _ laws serves.mid _ serves.settles (Sound-does _ laws _ serves.mid _ c.in_ok-task.task doable serves.does c.requires.sound)
+
+pub returns-in-Ok-clause-up : goal.returns-in-Ok-clause-up
+returns-in-Ok-clause-up g c = λ none.
+    let serves = c.in_ok-serve.ensures.ok in
+    let doable = IsDoable-admitted _ _ _ c.args.self.now.core _ c.requires.sound c.args.self.now.core.anchor refl c.args.event.now c.in_ok-task.task c.in_ok-task.ensures.ok in
+    does-up _ _ serves.mid _ c.in_ok-task.task doable serves.does (sym (settles-anchor _ serves.mid _ serves.settles) ∙ none)

@@ -3,7 +3,7 @@ use Rattle.stateful_actor.specs.Effects.{SettlesAll, BeginsBarrier}
 use Rattle.stateful_actor.specs.Workings.{workings}
 use Rattle.stateful_actor.proofs.CodeResults.{on_ok}
 use Rattle.stateful_actor.proofs.CodeSettling.{held_none, held_some, none_active, none_out}
-use Rattle.stateful_actor.proofs.barrier.settle_all.Goals as goal
+use Rattle.stateful_actor.proofs.barrier.settle.Goals as goal
 
 pub complete-requires-clause-none : goal.complete-requires-clause-none
 complete-requires-clause-none g c = held_none g.A.Databases.DatabaseSet.kind g.met.A.Databases.DatabaseSet.laws _ g.A.Block.Block.header c.args.core.now c.requires.up c.requires.sound
@@ -17,30 +17,26 @@ begin_barrier-requires-clause-none g c = none_active g.A.Databases.DatabaseSet.k
 pub begin_barrier-requires-clause-idle : goal.begin_barrier-requires-clause-idle
 begin_barrier-requires-clause-idle g c = none_out g.A.Databases.DatabaseSet.kind g.met.A.Databases.DatabaseSet.laws _ g.A.Block.Block.header c.args.core.now c.requires.up c.requires.sound c.complete.new.core c.release.new.core c.args.marks.now.items c.complete.new.marks.items c.release.new.marks.items c.in_ok-complete.ensures.ok c.in_ok-release.ensures.ok (c.needs_barrier.ensures.needed.0 c.if-needs_barrier.true).0
 
-pub returns-then-needs_barrier : goal.returns-then-needs_barrier
-returns-then-needs_barrier g c =
+pub returns-then-needs_barrier-clause-ok : goal.returns-then-needs_barrier-clause-ok
+returns-then-needs_barrier-clause-ok g c =
     let needed = c.needs_barrier.ensures.needed.0 c.if-needs_barrier.true in
-    record {
-      ok = on_ok c.begin_barrier.result (λ begins. record {
-        completed = c.complete.new.core;
-        done = c.complete.new.marks.items;
-        told = c.release.new.core;
-        released = c.release.new.marks.items;
-        completes = c.in_ok-complete.ensures.ok;
-        acknowledges = c.in_ok-release.ensures.ok;
-        begins = inl (needed.1, needed.0, begins);
-      }) c.begin_barrier.ensures.ok;
-    }
+    on_ok c.begin_barrier.result (λ begins. record {
+      completed = c.complete.new.core;
+      done = c.complete.new.marks.items;
+      told = c.release.new.core;
+      released = c.release.new.marks.items;
+      completes = c.in_ok-complete.ensures.ok;
+      acknowledges = c.in_ok-release.ensures.ok;
+      begins = inl (needed.1, needed.0, begins);
+    }) c.begin_barrier.ensures.ok
 
-pub returns-else-needs_barrier : goal.returns-else-needs_barrier
-returns-else-needs_barrier g c = record {
-  ok = record {
-    completed = c.complete.new.core;
-    done = c.complete.new.marks.items;
-    told = c.release.new.core;
-    released = c.release.new.marks.items;
-    completes = c.in_ok-complete.ensures.ok;
-    acknowledges = c.in_ok-release.ensures.ok;
-    begins = inr refl;
-  };
+pub returns-else-needs_barrier-clause-ok : goal.returns-else-needs_barrier-clause-ok
+returns-else-needs_barrier-clause-ok g c = record {
+  completed = c.complete.new.core;
+  done = c.complete.new.marks.items;
+  told = c.release.new.core;
+  released = c.release.new.marks.items;
+  completes = c.in_ok-complete.ensures.ok;
+  acknowledges = c.in_ok-release.ensures.ok;
+  begins = inr refl;
 }

@@ -1,0 +1,91 @@
+-- Histories that are played, an entry longer.
+use Rattle.std.proofs.Common.{◌≡◌, ◌<◌, ◌+◌, ◌++◌, ℕ, Bool, true, false, List, [], ◌∷◌, length, map, take, Option, None, Some, if◌then◌else◌, refl, sym, ◌∙◌, ap, subst, arith}
+use Rattle.stateful_types.specs.Names.{Named}
+use Rattle.stateful_history.specs.Past.{Past, Came, after, after_entry, after_all}
+use Rattle.stateful_history.specs.Opening.{opens, base_after}
+use Rattle.stateful_history.specs.Met.{TrueNames}
+use Rattle.stateful_history.specs.Holding.{Holds}
+use Rattle.stateful_history.specs.declared.event.Event.{Event}
+use Rattle.stateful_history.specs.declared.mark.Mark.{Mark}
+use Rattle.stateful_history.specs.declared.entry.Entry.{Entry}
+use Rattle.stateful_history.proofs.Marks.{after_all-push, TrueNames-before_entry}
+use Rattle.stateful_register.specs.Register.{RegisterStands, IsBlank}
+use Rattle.stateful_register.specs.declared.register.Register.{Register}
+use Rattle.stateful_actor.specs.Workings.{Workings, setting}
+use Rattle.stateful_actor.specs.Rules.{Keeps}
+use Rattle.stateful_actor.specs.Stands.{Works, Stands}
+use Rattle.stateful_actor.specs.Entering.{OpensAtStored, TakesIn, Plays}
+use Rattle.stateful_actor.specs.Stepping.{IsNew}
+use Rattle.stateful_actor.specs.Driving.{HasPlayed}
+use Rattle.stateful_actor.specs.declared.tables.Core.{Core}
+
+module _ {B C I R U H : Type 0} (w : Workings B R U) (stored : ℕ → Option (Named B)) where
+  -- a new machine stands for the empty past
+  Register-new : (register : Register) → IsBlank register → RegisterStands {B = B} {C = C} {I = I} w.kind.count [] register
+  Register-new register blank = record {
+    tickets = blank.tickets;
+    jobs = blank.jobs;
+    fetches = blank.fetches;
+    flushes = blank.flushes;
+    bound = blank.bound;
+    down = blank.down;
+  }
+
+  Works-new : (core : Core B R H U) (m : w.kind.Members) (next : w.Ids) → core.anchor ≡ None → Works {B = B} {C = C} {I = I} w stored w.kind.initial [] core m next stored
+  Works-new core m next down = record {
+    anchor_is = down;
+    down_is = rw down refl;
+    numbers = record { jobs = λ j d is. cc; tickets = λ t b is. cc; barriers = λ count k i is. cc };
+    stored_is = λ h. refl;
+    idle = λ none j live. cc;
+    up = λ anchor is. absurd cc;
+  }
+
+  pub HasPlayed-new : (failed : Bool) (core : Core B R H U) (register : Register) (m : w.kind.Members) (next : w.Ids) → IsNew failed core register → HasPlayed {B = B} {C = C} {I = I} w stored [] failed core register m next
+  HasPlayed-new failed core register m next new = λ names. (λ up. (Register-new register new.blank, Works-new core m next new.down), tt)
+
+  -- one more entry
+  Plays-push : (base : w.States) (p : Past B C I) (history : List (Entry B C I)) (entry : Entry B C I) (Old New : w.States → Type 0)
+      → Plays w stored base p history Old
+      → ((b : w.States) → Old b → (next : w.States) × (opens entry.marks ≡ false → next ≡ b) × OpensAtStored w stored next entry.event entry.marks × Keeps w stored next (Came entry.event ∷ after_all p history) entry.marks × New next)
+      → Plays w stored base p (history ++ entry ∷ []) New
+  Plays-push base p [] entry Old New old more = more base old
+  Plays-push base p (x ∷ history) entry Old New old more = (old.0, old.1, old.2, old.3, Plays-push old.0 (after_entry p x.event x.marks) history entry Old New old.4 more)
+
+  -- what holds at the end gives another
+  pub Plays-last : (base : w.States) (p : Past B C I) (history : List (Entry B C I)) (Old New : w.States → Type 0)
+      → Plays w stored base p history Old → ((b : w.States) → Old b → New b) → Plays w stored base p history New
+  Plays-last base p [] Old New old more = more base old
+  Plays-last base p (x ∷ history) Old New old more = (old.0, old.1, old.2, old.3, Plays-last old.0 (after_entry p x.event x.marks) history Old New old.4 more)
+
+  module _ (history longer : List (Entry B C I)) (entry : Entry B C I) (is : longer ≡ history ++ entry ∷ [])
+      (failed failing : Bool) (core going : Core B R H U) (register registered : Register) (m n : w.kind.Members) (next other : w.Ids)
+      (played : HasPlayed w stored history failed core register m next)
+      (takes : (base : w.States) → TrueNames (setting w stored) (after_entry (after_all [] history) entry.event entry.marks) → Stands w stored base (after_all [] history) failed core register m next stored → TakesIn w stored (base_after base entry.marks (w.kind.point n)) (after_all [] history) entry.event entry.marks failing going registered n other stored) where
+    now_is : after_all [] longer ≡ after_entry (after_all [] history) entry.event entry.marks
+    now_is = ap (λ (h : List (Entry B C I)). after_all [] h) is ∙ after_all-push [] history entry
+
+    same_base : (base : w.States) → opens entry.marks ≡ false → base_after base entry.marks (w.kind.point n) ≡ base
+    same_base base e = rw e refl
+
+    pub HasPlayed-longer : HasPlayed w stored longer failing going registered n other
+    HasPlayed-longer names =
+        let after_names = subst (λ (p : Past B C I). TrueNames (setting w stored) p) now_is names in
+        rw (now_is, is) (Plays-push w.kind.initial [] history entry
+            (λ base. Stands w stored base (after_all [] history) failed core register m next stored × Holds (setting w stored) w.kind base (after_all [] history) m)
+            (λ base. Stands w stored base (after_entry (after_all [] history) entry.event entry.marks) failing going registered n other stored × Holds (setting w stored) w.kind base (after_entry (after_all [] history) entry.event entry.marks) n)
+            (played (TrueNames-before_entry (setting w stored) (after_all [] history) entry.event entry.marks after_names))
+            (λ base stood.
+                let t = takes base after_names stood.0 in
+                (base_after base entry.marks (w.kind.point n), same_base base, t.opened, t.keeps, (t.stands, t.holds))))
+
+  -- without what stands
+  pub Plays-holds : (history : List (Entry B C I)) (failed : Bool) (core : Core B R H U) (register : Register) (m : w.kind.Members) (next : w.Ids)
+      → HasPlayed w stored history failed core register m next → TrueNames (setting w stored) (after_all [] history)
+      → Plays w stored w.kind.initial [] history (λ base. Holds (setting w stored) w.kind base (after_all [] history) m)
+  Plays-holds history failed core register m next played names = Plays-last w.kind.initial [] history _ _ (played names) (λ base stood. stood.1)
+
+  pub Plays-any : (history : List (Entry B C I)) (failed : Bool) (core : Core B R H U) (register : Register) (m : w.kind.Members) (next : w.Ids)
+      → HasPlayed w stored history failed core register m next → TrueNames (setting w stored) (after_all [] history)
+      → Plays w stored w.kind.initial [] history (λ base. Unit {0})
+  Plays-any history failed core register m next played names = Plays-last w.kind.initial [] history _ _ (played names) (λ base stood. tt)

@@ -1,0 +1,106 @@
+-- What an event leaves of the anchor, and what a machine that is down stands for.
+use Rattle.std.proofs.Common.{◌≡◌, ◌≢◌, ◌⊎◌, inl, inr, ℕ, ◌<◌, List, Bool, true, false, Option, None, Some, IsNone, is_none, refl, sym, ◌∙◌, ap, subst}
+use Rattle.stateful_types.specs.Names.{Named}
+use Rattle.stateful_types.specs.declared.anchor.Anchor.{Anchor}
+use Rattle.stateful_types.specs.declared.outcome.Moved.{Moved}
+use Rattle.stateful_types.specs.declared.outcome.Moved.TheVariants.{Pending, Done}
+use Rattle.stateful_db.specs.declared.application.Hooked.{Hooked}
+use Rattle.stateful_db.specs.declared.application.Hooked.TheVariants as hooked
+use Rattle.stateful_history.specs.Past.{Past}
+use Rattle.stateful_history.specs.Opening.{is_down}
+use Rattle.stateful_history.specs.declared.mark.Mark.{Mark}
+use Rattle.stateful_register.specs.Register.{RegisterStands}
+use Rattle.stateful_register.specs.declared.register.Register.{Register}
+use Rattle.stateful_actor.specs.Workings.{Workings}
+use Rattle.stateful_actor.specs.Moments.{Moment, moment}
+use Rattle.stateful_actor.specs.Effects.{Settles, SettlesAll, CompletesBarrier, Acknowledges, BeginsBarrier}
+use Rattle.stateful_actor.specs.Ending.{TurnsJob, TurnsRun, TurnsHook, LeavesRun}
+use Rattle.stateful_actor.specs.Finalizing.{Finalizes, BeginsIfNone, Observes}
+use Rattle.stateful_actor.specs.Stands.{Works, Stands}
+use Rattle.stateful_actor.specs.Stepping.{changes_nothing}
+use Rattle.stateful_actor.specs.Errors.{error_of}
+use Rattle.stateful_actor.specs.Doing.{IsDoable, Does}
+use Rattle.stateful_actor.specs.declared.error.Fault.{Fault}
+use Rattle.stateful_actor.specs.declared.error.Fault.TheVariants.{Database, TargetMismatch, Application, MissingBlock, Failed, Exhausted, DatabaseFault, OutOfMemory}
+use Rattle.stateful_actor.specs.declared.tables.Core.{Core}
+use Rattle.stateful_actor.specs.declared.task.Task.{Task}
+use Rattle.stateful_actor.specs.declared.task.Task.TheVariants as task
+
+-- a fault isn't a refusal that changes nothing
+pub fault-changes : (fault : Fault) → changes_nothing (error_of fault) ≡ false
+fault-changes (Database index) = refl
+fault-changes (TargetMismatch index expected recovered) = refl
+fault-changes Application = refl
+fault-changes (MissingBlock height) = refl
+fault-changes Failed = refl
+fault-changes Exhausted = refl
+fault-changes (DatabaseFault index call) = refl
+fault-changes OutOfMemory = refl
+
+module _ {B R U H : Type 0} (w : Workings B R U) (old new : Moment w H) where
+  completed-anchor : (completed : Core B R H U) (done : List (Mark B)) → CompletesBarrier old.core completed old.marks done ⊎ ((completed ≡ old.core) × (done ≡ old.marks)) → completed.anchor ≡ old.core.anchor
+  completed-anchor completed done (inl c) = ap (λ (c : Core B R H U). c.anchor) c.core
+  completed-anchor completed done (inr same) = ap (λ (c : Core B R H U). c.anchor) same.0
+
+  begins-anchor : (told : Core B R H U) (released : List (Mark B)) → ((told.durability.durable < told.durability.applied) × IsNone told.durability.barrier × BeginsBarrier w (moment w told old.members old.next released) new) ⊎ (new ≡ moment w told old.members old.next released) → new.core.anchor ≡ told.anchor
+  begins-anchor told released (inl b) = ap (λ (c : Core B R H U). c.anchor) b.2.core
+  begins-anchor told released (inr same) = ap (λ (x : Moment w H). x.core.anchor) same
+
+  -- a machine that settles stays at its anchor
+  pub settles-anchor : Settles w old new → new.core.anchor ≡ old.core.anchor
+  settles-anchor (inl same) = ap (λ (x : Moment w H). x.core.anchor) same.1
+  settles-anchor (inr up) =
+      let all = up.2 in
+      begins-anchor all.told all.released all.begins ∙ ap (λ (c : Core B R H U). c.anchor) all.acknowledges.core ∙ completed-anchor all.completed all.done all.completes
+
+  begun-anchor : (before after : Moment w H) → BeginsIfNone w before after → after.core.anchor ≡ before.core.anchor
+  begun-anchor before after (inl b) = ap (λ (c : Core B R H U). c.anchor) b.1.core
+  begun-anchor before after (inr same) = ap (λ (x : Moment w H). x.core.anchor) same.1
+
+  observed-anchor : (t : ℕ) (b : Named B) (h : Hooked H) (before after : Moment w H) → Observes w t b h before.core after.core before.marks after.marks → after.core.anchor ≡ before.core.anchor
+  observed-anchor t b hooked.Done before after o = ap (λ (c : Core B R H U). c.anchor) o.0
+  observed-anchor t b (hooked.Pending hook) before after o = ap (λ (c : Core B R H U). c.anchor) o.0
+
+  stays : new.core.anchor ≡ old.core.anchor → old.core.anchor ≢ None → new.core.anchor ≢ None
+  stays same up none = up (sym same ∙ none)
+
+  run-anchor : (anchor : Anchor) (j : ℕ) → TurnsRun w old.core new.core old.marks new.marks anchor old.members j → new.core.anchor ≡ old.core.anchor
+  run-anchor anchor j turns = by_moved turns.moved turns.leaves
+    where
+      by_moved : (moved : Moved (Option U)) → LeavesRun w old.core new.core old.marks new.marks anchor turns.place turns.live turns.turned moved → new.core.anchor ≡ old.core.anchor
+      by_moved Pending leaves = ap (λ (c : Core B R H U). c.anchor) leaves.0
+      by_moved (Done ended) leaves = ap (λ (c : Core B R H U). c.anchor) leaves.0
+
+  job-anchor : (anchor : Anchor) (j : ℕ) → TurnsJob w old.core new.core old.marks new.marks anchor old.members j → new.core.anchor ≡ old.core.anchor
+  job-anchor anchor j (inl turns) = elim turns.leaves [
+    | inl on ↦ ap (λ (c : Core B R H U). c.anchor) on.1
+    | inr done ↦ ap (λ (c : Core B R H U). c.anchor) done.0
+  ]
+  job-anchor anchor j (inr run) = run-anchor anchor j run
+
+  -- a machine that has done a task is up
+  pub does-up : (store : ℕ → Option (Named B)) (task : Task B) → IsDoable w.header old.core task → Does w store task old new → new.core.anchor ≢ None
+  does-up store (task.Answer t valid) may does = stays (ap (λ (c : Core B R H U). c.anchor) does.0.0) may
+  does-up store task.Wait may does = stays (ap (λ (x : Moment w H). x.core.anchor) does) may
+  does-up store (task.Ask t digest) may does = stays (ap (λ (c : Core B R H U). c.anchor) does.0.0) may
+  does-up store (task.Run anchor t b parent) may does = stays (ap (λ (c : Core B R H U). c.anchor) does.core) (λ none. cc)
+  does-up store (task.Hold t height) may does = stays (ap (λ (c : Core B R H U). c.anchor) does.0.0) may.0
+  does-up store (task.Finalize t b) may does =
+      let moved = ap (λ (c : Core B R H U). c.anchor) does.moves.core in
+      let after = observed-anchor t b does.hooked does.begun new does.observes ∙ begun-anchor does.moved does.begun does.begins ∙ moved in
+      λ none. cc
+  does-up store (task.Turn anchor j) may does = stays (job-anchor anchor j does.0) (λ none. cc)
+  does-up store (task.Flush number index) may does = stays (ap (λ (c : Core B R H U). c.anchor) does.core) may
+  does-up store (task.Start floor keep) may does = let root = ap (λ (c : Core B R H U). c.anchor) does.starts.core in λ none. cc
+
+module _ {B C I R U H : Type 0} (w : Workings B R U) (stored : ℕ → Option (Named B)) (base : w.States) (p : Past B C I) (core : Core B R H U) (m n : w.kind.Members) (next other : w.Ids) (store : ℕ → Option (Named B)) where
+  -- what a machine that is down stands for doesn't rest on the databases
+  pub Works-down : core.anchor ≡ None → Works w stored base p core m next store → Works w stored base p core n other store
+  Works-down none works = record {
+    anchor_is = works.anchor_is;
+    down_is = works.down_is;
+    numbers = works.numbers;
+    stored_is = works.stored_is;
+    idle = works.idle;
+    up = λ anchor is. absurd cc;
+  }
