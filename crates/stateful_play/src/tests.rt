@@ -21,7 +21,8 @@ fn ran(
     Ok((outcome, sink.written().to_vec(alloc)?))
 }
 
-const FIRST: &[u8] = b"block a on genesis view 1 mint 1 100\nverify a\nturn 0\nfinalize a\nflushed 0 0\n";
+const FIRST: &[u8] =
+    b"block a on genesis view 1 mint 1 100\nverify a\nturn 0\nfinalize a\nflushed 0 0\n";
 
 #[test]
 fn plays_the_first_script(rt: HostRuntime) -> Result<(), Fail> {
@@ -42,14 +43,23 @@ fn answers_other_words(rt: HostRuntime) -> Result<(), Fail> {
         let (outcome, text) = ran(rt.alloc(), words, FIRST, &[], &[])?;
         assert_eq!(rt; outcome.status, Status::Usage);
         assert!(rt; outcome.played.is_none());
-        assert_eq!(rt; text.as_slice(), b"usage: stateful_prog play | make N\n".as_slice());
+        assert_eq!(rt;
+            text.as_slice(),
+            b"usage: stateful_prog play | make N\n".as_slice()
+        );
     }
     Ok(())
 }
 
 #[test]
 fn refuses_lines(rt: HostRuntime) -> Result<(), Fail> {
-    let (outcome, text) = ran(rt.alloc(), &["play"], b"verify genesis\nturn 01\n", &[], &[])?;
+    let (outcome, text) = ran(
+        rt.alloc(),
+        &["play"],
+        b"verify genesis\nturn 01\n",
+        &[],
+        &[],
+    )?;
     assert_eq!(rt; outcome.status, Status::Script { line: 2 });
     assert_eq!(rt; text.as_slice(), b"script 2\n".as_slice());
     Ok(())

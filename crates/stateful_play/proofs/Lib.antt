@@ -1,0 +1,4 @@
+pub mod Planned
+pub mod Kept
+pub mod Labels
+pub mod Carried
