@@ -2,3 +2,4 @@ pub mod Planned
 pub mod Kept
 pub mod Labels
 pub mod Carried
+pub mod Ends

@@ -3,3 +3,4 @@ pub mod Events
 pub mod Store
 pub mod Shown
 pub mod Play
+pub mod Rows
