@@ -19,6 +19,7 @@ use Rattle.stateful_play.specs.Plan.{ArePlanned, labels_of}
 use Rattle.stateful_play.specs.Events.{BankEvent, events_of}
 use Rattle.stateful_play.specs.Store.{store_of}
 use Rattle.stateful_play.specs.Shown.{member_of}
+use Rattle.stateful_play.proofs.Honest.{honest_play}
 use Rattle.stateful_play.specs.Play.{IsPlayOf, KeepRules, AreTaken}
 
 -- a play in the plain world
@@ -37,5 +38,6 @@ carried script made labels entries databases «end» stored events planned label
   labelled = labelled;
   world = refl;
   events = rw are at taken;
+  honest = honest_play (store_of made script.events) script.blocks made script.events «end» entries.items planned (rw are at taken);
   rules = subst (λ s. KeepRules s «end» entries.items (member_of databases)) (fun_ext same) rules;
 }

@@ -16,6 +16,7 @@ use Rattle.stateful_plain_bank.specs.Stepped.{bank_meaning}
 use Rattle.stateful_plain_bank.specs.Runs.{RunsOn}
 use Rattle.stateful_plain_bank.specs.declared.run.BankRun.{BankRun}
 use Rattle.stateful_history.specs.Past.{after_all}
+use Rattle.stateful_history.specs.Honest.{IsHonest}
 use Rattle.stateful_history.specs.Met.{TrueNames}
 use Rattle.stateful_history.specs.Holding.{Holds}
 use Rattle.stateful_history.specs.declared.entry.Entry.{Entry}
@@ -52,11 +53,13 @@ module _ (stored : ℕ → Option (Named BankBlock)) where
   abbrev pub KeepRules : Option Halted → List (Entry BankBlock Round Ask) → Member Whole → Type 0
   KeepRules «end» entries m = TrueNames (setting bank stored) (after_all [] entries) → Plays bank stored initial [] entries (EndsWell «end» entries m)
 
--- This was played of the script, whose blocks go by these labels.
+-- This was played of the script, whose blocks go by these labels: the events were taken in, in each ancestry each block
+-- is the parent of the one before it, and the rules are kept.
 pub record IsPlayOf (script : Script) (labels : List Label) (p : Played) : Type 0 where
   pub blocks : List Planned
   pub planned : ArePlanned script.blocks blocks
   pub labelled : labels ≡ labels_of script.names blocks
   pub world : p.world ≡ world.Plain
   pub events : AreTaken p.«end» (events_of blocks script.events) (map (λ entry. entry.event) (entries_of p.history))
+  pub honest : IsHonest (setting bank (store_of blocks script.events)) (after_all [] (entries_of p.history))
   pub rules : KeepRules (store_of blocks script.events) p.«end» (entries_of p.history) (member_of p.databases)

@@ -1,13 +1,13 @@
 //! The top call.
 
-ghost use Rattle.std.specs.Prelude.{◌≡◌, ◌≢◌, ◌⊎◌, ◌≤◌, ℕ, List, [], true, false, Option, None, Some, IfOk, IfErr, OnOk, OnErr, IsErrOf, IsNone, IsSomeAnd, MatchOption, codes, string_bytes};
+ghost use Rattle.std.specs.Prelude.{◌≡◌, ◌≢◌, ◌⊎◌, ◌≤◌, ℕ, List, [], true, false, Option, None, Some, IfOk, IfErr, IsNone, IsSome, IsSomeAnd, codes, string_bytes};
 ghost use Rattle.std.specs.List.{list_all};
 ghost use Rattle.std.specs.Str.{bytes_eq};
 ghost use Rattle.std.specs.Io.KnownBytes.{Appends};
 ghost use Rattle.stateful_types.specs.Causes.{Rose};
 ghost use Rattle.stateful_text.specs.Transcript.{usage_line, script_line};
 ghost use Rattle.stateful_play.specs.declared.play.Played.{Played};
-ghost use Rattle.stateful_play.specs.Rows.{asks_play, IsLoaded, IsUnread, Stops, IsPlayed, AsksFor, HoldsPrefix, HoldsPart, IsHaltedAt, status_by, Writes, IsOrCut, IsRefused};
+ghost use Rattle.stateful_play.specs.Rows.{asks_play, IsLoaded, IsUnread, Stops, IsPlayed, AsksFor, HoldsPrefix, HoldsPart, IsHaltedAt, status_by, Writes, IsOrCut, IsScript, IsRefused};
 ghost use Rattle.stateful_play.specs.Shown.{text_of};
 ghost use Rattle.stateful_script.specs.Laws.{IsPlan};
 
@@ -166,6 +166,9 @@ pub fn run<S: Source, K: Sink>(
     // The line's number is written.
     ensures script { (line : ℕ) → result.status ≡ Status.Script line → (asks_play words.now ≡ true) × IsNone result.played × IsUnread (S.left source.old) (S.left source.new) line × Appends (K.held sink.old) (K.held sink.new) (script_line line) }
     ensures refused { (bytes : List ℕ) (line : ℕ) → asks_play words.now ≡ true → S.left source.old ≡ Some bytes → IsRefused bytes line → IsOrCut (Status.Script line) result.status ⊎ (result.status ≡ Status.ReadFault) }
+
+    // Bytes that are a script are played.
+    ensures played { (bytes : List ℕ) → asks_play words.now ≡ true → S.left source.old ≡ Some bytes → IsScript bytes → IsSome result.played ⊎ (result.status ≡ Status.ReadFault) ⊎ (result.status ≡ Status.NoMemory) }
 
     // The source failed. Nothing is written.
     ensures read_fault { result.status ≡ Status.ReadFault → (asks_play words.now ≡ true) × IsNone result.played × Rose (S.count source.old) (S.count source.new) × Appends (K.held sink.old) (K.held sink.new) [] }
