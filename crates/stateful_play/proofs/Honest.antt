@@ -92,8 +92,8 @@ module _ (stored : ℕ → Option (Named BankBlock)) where
 
 -- where all events of the script, or some of the first, were taken in, their ancestries are honest
 pub honest_play : (stored : ℕ → Option (Named BankBlock)) (lines : List PlannedBlock) (made : List Planned) (ls : List PlannedEvent) («end» : Option Halted) (entries : List (Entry BankBlock Round Ask))
-  → ArePlanned lines made → AreTaken «end» (events_of made ls) (map (λ entry. entry.event) entries)
-  → IsHonest (setting bank stored) (after_all [] entries)
+    → ArePlanned lines made → AreTaken «end» (events_of made ls) (map (λ entry. entry.event) entries)
+    → IsHonest (setting bank stored) (after_all [] entries)
 honest_play stored lines made ls «end» entries planned taken =
     let all = events_honest stored made ls (all_linked stored lines made planned) in
     let came = taken_honest stored «end» (events_of made ls) (map (λ entry. entry.event) entries) taken all in
