@@ -5,15 +5,15 @@
 mod event;
 mod plan;
 mod play;
-mod run;
 mod status;
 mod store;
 mod text;
+mod top;
 
 pub use play::{Databases, History, Played};
-pub use run::run;
 pub use stateful_script::World;
 pub use status::{Outcome, Status};
+pub use top::run;
 
 #[cfg(test)]
 mod tests;

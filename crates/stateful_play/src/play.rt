@@ -1,15 +1,21 @@
 //! A script's play.
 
+ghost use Rattle.std.specs.Prelude.{◌≡◌, ◌↔◌, IfOk, IsTrue, length};
+ghost use Rattle.stateful_script.specs.Laws.{IsPlan};
+ghost use Rattle.stateful_actor.specs.Stepping.{IsNew};
+ghost use Rattle.stateful_play.specs.Plan.{labels_of};
+ghost use Rattle.stateful_play.specs.Play.{IsPlayOf};
+
 use crate::event::{WINDOW, events};
 use crate::plan::{Planned, plan};
 use crate::store::store_of;
-use stateful_actor::{Config, Driven, Halt, Halted, Stateful, drive};
+use stateful_actor::{Config, Driven, Halted, Stateful, StepError, drive};
 use stateful_bank::{Ask, BankBlock};
-use stateful_db::Held;
+use stateful_db::{DatabaseSet, Held};
 use stateful_history::Entry;
 use stateful_plain::{Plain, PlainMedium};
 use stateful_plain_bank::Bank;
-use stateful_script::{Script, World};
+use stateful_script::{Name, Script, World};
 use stateful_text::Label;
 use stateful_types::{Items, OutOfMemory, Round};
 use std::alloc::Global;
@@ -45,24 +51,32 @@ pub struct Told {
     pub played: Played,
 }
 
+/// A name with the digest of its block.
+fn label(alloc: Global, name: &Name, made: &Planned) -> Result<Label, OutOfMemory>
+    ensures { IfOk result (λ label. label ≡ record { name = name.now; digest = made.now.block.digest }) }
+{
+    Ok(Label {
+        name: Items::from_vec(name.as_str().as_bytes().to_vec(alloc)?),
+        digest: made.block.digest(),
+    })
+}
+
 /// The names of the planned blocks, with their digests.
-fn labels(
-    alloc: Global,
-    script: &Script,
-    planned: &[Planned],
-) -> Result<Vec<Label>, OutOfMemory> {
+fn labels(alloc: Global, names: &[Name], planned: &[Planned]) -> Result<Vec<Label>, OutOfMemory>
+    requires { length planned.now ≡ length names.now }
+    ensures { IfOk result (λ labels. labels.items ≡ labels_of names.now planned.now) }
+{
     let mut labels = Vec::new(alloc);
-    for (name, made) in script.names.as_slice().iter().zip(planned) {
-        labels.push(Label {
-            name: Items::from_vec(name.as_str().as_bytes().to_vec(alloc)?),
-            digest: made.block.digest(),
-        })?;
+    for (place, name) in names.iter().enumerate() {
+        labels.push(label(alloc, name, &planned[place])?)?;
     }
     Ok(labels)
 }
 
-/// A machine that is down, and its databases on an empty medium.
-fn machine(alloc: Global) -> Result<(Stateful<Bank>, Held<Plain>), OutOfMemory> {
+/// A machine that is down.
+fn machine(alloc: Global) -> Result<Stateful<Bank>, OutOfMemory>
+    ensures { IfOk result (λ stateful. IsNew stateful.failed stateful.core stateful.register) }
+{
     let config = Config {
         application: Bank::new(alloc),
         db_config: (),
@@ -71,20 +85,22 @@ fn machine(alloc: Global) -> Result<(Stateful<Bank>, Held<Plain>), OutOfMemory> 
         mailbox_size: MAILBOX,
     };
     match Stateful::new(alloc, config) {
-        Ok(stateful) => Ok((
-            stateful,
-            Held::Closed(PlainMedium::empty(alloc, Vec::new(alloc))),
-        )),
+        Ok(stateful) => Ok(stateful),
         Err(_) => Err(OutOfMemory),
     }
 }
 
+/// A database that is closed, on an empty medium.
+fn closed(alloc: Global) -> Held<Plain>
+    ensures { ⟦<Held<Plain> as DatabaseSet>⟧.kind.Held (⟦<Held<Plain> as DatabaseSet>⟧.members result) }
+{
+    Held::Closed(PlainMedium::empty(alloc, Vec::new(alloc)))
+}
+
 /// What came of the events, and the refused one if one was.
-fn ended(driven: Result<Driven<Bank>, Halt<Bank>>) -> Played {
-    let (driven, end) = match driven {
-        Ok(driven) => (driven, None),
-        Err(halt) => (halt.driven, Some(halt.halted)),
-    };
+fn in_plain(driven: Driven<Bank>, end: Option<Halted>) -> Played
+    ensures { result ≡ record { world = World.Plain; history = History.Plain driven.history; databases = Databases.Plain driven.databases; end = end } }
+{
     Played {
         world: World::Plain,
         history: History::Plain(driven.history),
@@ -93,13 +109,39 @@ fn ended(driven: Result<Driven<Bank>, Halt<Bank>>) -> Played {
     }
 }
 
-/// Plays a script in its world.
-pub fn play(alloc: Global, script: &Script) -> Result<Told, OutOfMemory> {
+/// Whether memory ran out.
+fn wants_memory(error: StepError) -> bool
+    ensures { IsTrue result ↔ (error ≡ StepError.OutOfMemory) }
+{
+    match error {
+        StepError::OutOfMemory => true,
+        _ => false,
+    }
+}
+
+/// Plays a script in its world. Where the machine wants memory there is no play.
+pub fn play(alloc: Global, script: &Script) -> Result<Told, OutOfMemory>
+    requires { IsPlan script.now }
+    ensures { IfOk result (λ told. IsPlayOf script.now told.labels.items told.played) }
+{
     let planned = plan(alloc, script.blocks.as_slice())?;
-    let labels = labels(alloc, script, planned.as_slice())?;
+    let labels = labels(alloc, script.names.as_slice(), planned.as_slice())?;
     let mut store = store_of(alloc, planned.as_slice(), script.events.as_slice())?;
     let events = events(alloc, planned.as_slice(), script.events.as_slice())?;
-    let (stateful, databases) = machine(alloc)?;
-    let played = ended(drive(alloc, stateful, databases, &mut store, events));
-    Ok(Told { labels, played })
+    let stateful = machine(alloc)?;
+    match drive(alloc, stateful, closed(alloc), &mut store, events) {
+        Ok(driven) => Ok(Told {
+            labels,
+            played: in_plain(driven, None),
+        }),
+        Err(halt) => {
+            if wants_memory(halt.halted.error) {
+                return Err(OutOfMemory);
+            }
+            Ok(Told {
+                labels,
+                played: in_plain(halt.driven, Some(halt.halted)),
+            })
+        }
+    }
 }

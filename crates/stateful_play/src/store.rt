@@ -1,41 +1,59 @@
 //! The block store of a script.
 
+ghost use Rattle.std.specs.Prelude.{◌≡◌, ◌++◌, ◌∷◌, [], ℕ, List, IfOk, OnOk, Some, All, length, slice_get};
+ghost use Rattle.stateful_types.specs.Names.{Named};
+ghost use Rattle.stateful_bank.specs.declared.block.BankBlock.{BankBlock};
+ghost use Rattle.stateful_script.specs.Laws.{IsNamedBelow};
+ghost use Rattle.stateful_play.specs.Plan.{genesis};
+ghost use Rattle.stateful_play.specs.Store.{Keeps, finalized, store_of};
+
 use crate::plan::Planned;
 use stateful_bank::BankBlock;
 use stateful_script::PlannedEvent;
-use stateful_types::{BlockStore, MemoryStore, OutOfMemory, Share};
+use stateful_types::{BlockStore, Digested, MemoryStore, OutOfMemory, Share};
 use std::alloc::Global;
 
 /// Keeps a block at its height, where none is kept there.
-fn keep(store: &mut MemoryStore<BankBlock>, planned: &Planned) -> Result<(), OutOfMemory> {
-    match store.at(planned.block.height())? {
-        Some(_) => Ok(()),
-        None => store.insert(planned.block.share()?),
+fn keep(store: &mut MemoryStore<BankBlock>, block: &Digested<BankBlock>) -> Result<(), OutOfMemory>
+    ensures { let stored = ⟦<MemoryStore<BankBlock> as BlockStore<BankBlock>>⟧.stored in OnOk result ((blocks : List (Named BankBlock)) → Keeps (stored store.old) blocks → Keeps (stored store.new) (blocks ++ block.now ∷ [])) }
+{
+    if store.at(block.height())?.is_some() {
+        return Ok(());
     }
+    store.insert(block.share()?)?;
+    Ok(())
 }
 
-/// The place of the block that an event finalizes, if it does.
-fn finalized(event: &PlannedEvent) -> Option<usize> {
+/// Keeps the block that an event finalizes, if it does, at its height, where none is kept there.
+fn keep_finalized(
+    store: &mut MemoryStore<BankBlock>,
+    planned: &[Planned],
+    event: &PlannedEvent,
+) -> Result<(), OutOfMemory>
+    requires { IsNamedBelow (length planned.now) event.now }
+    ensures { let stored = ⟦<MemoryStore<BankBlock> as BlockStore<BankBlock>>⟧.stored in OnOk result ((blocks : List (Named BankBlock)) → Keeps (stored store.old) blocks → Keeps (stored store.new) (blocks ++ finalized planned.now (event.now ∷ []))) }
+{
     match event {
-        PlannedEvent::Finalize(place) => Some(*place),
-        _ => None,
+        PlannedEvent::Finalize(place) => keep(store, &planned[*place].block),
+        PlannedEvent::Verify(_) | PlannedEvent::Turn(_) | PlannedEvent::Flushed { .. } => Ok(()),
     }
 }
 
-/// A store of genesis and, at each other height, of the first block there that the script finalizes.
+/// A store of genesis, and at each other height of the first block there that the script finalizes.
+#[tactic(auto, unfolding(crate::specs::Store::store_of))]
 pub fn store_of(
     alloc: Global,
     planned: &[Planned],
     script: &[PlannedEvent],
-) -> Result<MemoryStore<BankBlock>, OutOfMemory> {
+) -> Result<MemoryStore<BankBlock>, OutOfMemory>
+    requires genesis { slice_get planned.now 0 ≡ Some genesis }
+    requires named { All (IsNamedBelow (length planned.now)) script.now }
+    ensures { IfOk result (λ store. (h : ℕ) → ⟦<MemoryStore<BankBlock> as BlockStore<BankBlock>>⟧.stored store h ≡ store_of planned.now script.now h) }
+{
     let mut store = MemoryStore::new(alloc);
-    if let Some(genesis) = planned.first() {
-        keep(&mut store, genesis)?;
-    }
+    keep(&mut store, &planned[0].block)?;
     for event in script {
-        if let Some(place) = finalized(event) {
-            keep(&mut store, &planned[place])?;
-        }
+        keep_finalized(&mut store, planned, event)?;
     }
     Ok(store)
 }

@@ -1,6 +1,7 @@
 use crate::{Outcome, Status, run};
 use stateful_types::{MemorySink, MemorySource};
 use std::alloc::Global;
+use std::process::Abort;
 use std::test::Fail;
 
 /// Runs `play` with these words on a script, with failing calls of the source and of the sink.
@@ -21,7 +22,8 @@ fn ran(
     Ok((outcome, sink.written().to_vec(alloc)?))
 }
 
-const FIRST: &[u8] = b"block a on genesis view 1 mint 1 100\nverify a\nturn 0\nfinalize a\nflushed 0 0\n";
+const FIRST: &[u8] =
+    b"block a on genesis view 1 mint 1 100\nverify a\nturn 0\nfinalize a\nflushed 0 0\n";
 
 #[test]
 fn plays_the_first_script(rt: HostRuntime) -> Result<(), Fail> {
@@ -42,14 +44,23 @@ fn answers_other_words(rt: HostRuntime) -> Result<(), Fail> {
         let (outcome, text) = ran(rt.alloc(), words, FIRST, &[], &[])?;
         assert_eq!(rt; outcome.status, Status::Usage);
         assert!(rt; outcome.played.is_none());
-        assert_eq!(rt; text.as_slice(), b"usage: stateful_prog play | make N\n".as_slice());
+        assert_eq!(rt;
+            text.as_slice(),
+            b"usage: stateful_prog play | make N\n".as_slice()
+        );
     }
     Ok(())
 }
 
 #[test]
 fn refuses_lines(rt: HostRuntime) -> Result<(), Fail> {
-    let (outcome, text) = ran(rt.alloc(), &["play"], b"verify genesis\nturn 01\n", &[], &[])?;
+    let (outcome, text) = ran(
+        rt.alloc(),
+        &["play"],
+        b"verify genesis\nturn 01\n",
+        &[],
+        &[],
+    )?;
     assert_eq!(rt; outcome.status, Status::Script { line: 2 });
     assert_eq!(rt; text.as_slice(), b"script 2\n".as_slice());
     Ok(())
@@ -77,4 +88,192 @@ fn answers_faults(rt: HostRuntime) -> Result<(), Fail> {
     assert!(rt; outcome.played.is_some());
     assert_eq!(rt; text.len(), 0);
     Ok(())
+}
+
+/// Blocks of the scripts below: a chain of a, b and c, and beside it s with n on it. z isn't acceptable, m leads to no
+/// state, d takes two turns, and e has the round of genesis.
+const BLOCKS: &str =
+    "block a on genesis view 1 mint 1 100;block b on a view 2 mint 2 50;block c on b view 3 mint 3 7;block s on genesis view 2 mint 2 5;block n on s view 3 mint 4 1;block z on genesis view 1 mint 1 0;block m on genesis view 1 move 1 2 5;block d on genesis view 1 mint 1 5 move 1 2 5;block e on genesis view 0 mint 1 1;";
+
+/// What each transcript begins with.
+const OPENED: &str = "#0;opened 0 genesis;";
+
+/// These texts, one behind the other, with a line end in the place of each semicolon.
+fn lines(alloc: Global, texts: &[&str]) -> Result<Vec<u8>, Fail> {
+    let mut lines = Vec::new(alloc);
+    for text in texts {
+        for byte in text.as_bytes() {
+            lines.push(if *byte == b';' { b'\n' } else { *byte })?;
+        }
+    }
+    Ok(lines)
+}
+
+/// A script's lines behind the blocks, what is written behind the opening, and the status.
+#[derive(Drop)]
+struct Row {
+    script: &'static str,
+    text: &'static str,
+    status: Status,
+}
+
+/// Plays each script.
+fn plays_rows(alloc: Global, rt: &impl Abort, rows: &[Row]) -> Result<(), Fail> {
+    for row in rows {
+        let script = lines(alloc, &[BLOCKS, row.script])?;
+        let (outcome, text) = ran(alloc, &["play"], script.as_slice(), &[], &[])?;
+        let expected = lines(alloc, &[OPENED, row.text])?;
+        assert_eq!(rt; text.as_slice(), expected.as_slice());
+        assert_eq!(rt; outcome.status, row.status);
+        assert!(rt; outcome.played.is_some());
+    }
+    Ok(())
+}
+
+#[test]
+fn plays_the_empty_script(rt: HostRuntime) -> Result<(), Fail> {
+    let (outcome, text) = ran(rt.alloc(), &["play"], b"", &[], &[])?;
+    let expected = lines(rt.alloc(), &["#0;opened 0 genesis;database 0 0..1;done;"])?;
+    assert_eq!(rt; text.as_slice(), expected.as_slice());
+    assert_eq!(rt; outcome.status, Status::Done);
+    assert!(rt; outcome.played.is_some());
+    Ok(())
+}
+
+#[test]
+fn plays_to_the_end(rt: HostRuntime) -> Result<(), Fail> {
+    let rows = [
+        // Redelivered receipts are acknowledged with the first one, or at once where their height is durable.
+        Row {
+            script: "verify a;turn 0;finalize a;finalize a;flushed 0 0;finalize a;",
+            text: "#1;started 0 candidate a;#2;ended 0 kept;verdict 0 true;#3;began 1 a;applied 1 a;barrier 0 1;#4;#5;durable 0 1;acknowledged 1 1;acknowledged 2 1;#6;acknowledged 3 1;database 0 1..2 1=100;done;",
+            status: Status::Done,
+        },
+        Row {
+            script: "finalize genesis;verify genesis;",
+            text: "#1;acknowledged 0 0;#2;verdict 1 true;database 0 0..1;done;",
+            status: Status::Done,
+        },
+        // A sibling's state is kept until another block is final at its height, and the sibling is false then.
+        Row {
+            script: "verify a;turn 0;verify s;turn 1;finalize a;verify s;verify a;verify genesis;",
+            text: "#1;started 0 candidate a;#2;ended 0 kept;verdict 0 true;#3;started 1 candidate s;#4;ended 1 kept;verdict 1 true;#5;began 2 a;applied 1 a;barrier 0 1;#6;verdict 3 false;#7;verdict 4 true;#8;verdict 5 true;database 0 1..2 1=100;done;",
+            status: Status::Done,
+        },
+        // Below the anchor the finalized block of a height is true, and another one false. The second block waits for
+        // the first one's barrier.
+        Row {
+            script: "verify a;turn 0;verify b;turn 1;finalize a;finalize b;verify s;verify a;flushed 0 0;flushed 1 0;",
+            text: "#1;started 0 candidate a;#2;ended 0 kept;verdict 0 true;#3;started 1 candidate b;#4;ended 1 kept;verdict 1 true;#5;began 2 a;applied 1 a;barrier 0 1;#6;began 3 b;applied 2 b;#7;verdict 4 false;#8;verdict 5 true;#9;durable 0 1;acknowledged 2 1;barrier 1 2;#10;durable 1 2;acknowledged 3 2;database 0 2..3 1=100 2=50;done;",
+            status: Status::Done,
+        },
+        // A block that isn't acceptable, one that leads to no state, and one that comes too late.
+        Row {
+            script: "verify z;turn 0;verify m;turn 1;verify e;turn 2;",
+            text: "#1;started 0 candidate z;#2;ended 0 rejected;verdict 0 false;#3;started 1 candidate m;#4;ended 1 rejected;verdict 1 false;#5;started 2 candidate e;#6;ended 2 missed;verdict 2 false;database 0 0..1;done;",
+            status: Status::Done,
+        },
+        // A turn for each operation. An account that ends at nothing isn't shown.
+        Row {
+            script: "verify d;turn 0;turn 0;finalize d;flushed 0 0;",
+            text: "#1;started 0 candidate d;#2;#3;ended 0 kept;verdict 0 true;#4;began 1 d;applied 1 d;barrier 0 1;#5;durable 0 1;acknowledged 1 1;database 0 1..2 2=5;done;",
+            status: Status::Done,
+        },
+    ];
+    plays_rows(rt.alloc(), &rt, &rows)
+}
+
+#[test]
+fn halts_at_finalizations(rt: HostRuntime) -> Result<(), Fail> {
+    let rows = [
+        Row {
+            script: "verify a;turn 0;finalize a;finalize c;",
+            text: "#1;started 0 candidate a;#2;ended 0 kept;verdict 0 true;#3;began 1 a;applied 1 a;barrier 0 1;database 0 1..2 1=100;halted 4 SkippedHeight;",
+            status: Status::Halted { at: 4 },
+        },
+        Row {
+            script: "finalize b;",
+            text: "database 0 0..1;halted 1 SkippedHeight;",
+            status: Status::Halted { at: 1 },
+        },
+        Row {
+            script: "verify a;turn 0;finalize a;finalize n;",
+            text: "#1;started 0 candidate a;#2;ended 0 kept;verdict 0 true;#3;began 1 a;applied 1 a;barrier 0 1;database 0 1..2 1=100;halted 4 NotExtending;",
+            status: Status::Halted { at: 4 },
+        },
+        Row {
+            script: "verify a;turn 0;finalize a;finalize s;",
+            text: "#1;started 0 candidate a;#2;ended 0 kept;verdict 0 true;#3;began 1 a;applied 1 a;barrier 0 1;database 0 1..2 1=100;halted 4 ConflictAtAnchor;",
+            status: Status::Halted { at: 4 },
+        },
+        // The height is looked at before the run that goes on.
+        Row {
+            script: "verify a;finalize c;",
+            text: "#1;started 0 candidate a;database 0 0..1;halted 2 SkippedHeight;",
+            status: Status::Halted { at: 2 },
+        },
+    ];
+    plays_rows(rt.alloc(), &rt, &rows)
+}
+
+#[test]
+fn halts_at_work_that_is_not_live(rt: HostRuntime) -> Result<(), Fail> {
+    let rows = [
+        Row {
+            script: "verify a;turn 0;finalize a;turn 0;",
+            text: "#1;started 0 candidate a;#2;ended 0 kept;verdict 0 true;#3;began 1 a;applied 1 a;barrier 0 1;database 0 1..2 1=100;halted 4 BadEvent;",
+            status: Status::Halted { at: 4 },
+        },
+        Row {
+            script: "verify a;turn 1;",
+            text: "#1;started 0 candidate a;database 0 0..1;halted 2 BadEvent;",
+            status: Status::Halted { at: 2 },
+        },
+        Row {
+            script: "flushed 0 0;",
+            text: "database 0 0..1;halted 1 BadEvent;",
+            status: Status::Halted { at: 1 },
+        },
+        Row {
+            script: "verify a;turn 0;finalize a;flushed 0 1;",
+            text: "#1;started 0 candidate a;#2;ended 0 kept;verdict 0 true;#3;began 1 a;applied 1 a;barrier 0 1;database 0 1..2 1=100;halted 4 BadEvent;",
+            status: Status::Halted { at: 4 },
+        },
+    ];
+    plays_rows(rt.alloc(), &rt, &rows)
+}
+
+#[test]
+fn halts_at_forms_that_are_not_done(rt: HostRuntime) -> Result<(), Fail> {
+    let rows = [
+        // The parent isn't known.
+        Row {
+            script: "verify b;",
+            text: "database 0 0..1;halted 1 NotYet;",
+            status: Status::Halted { at: 1 },
+        },
+        // The block's states aren't at hand, since it wasn't run, or wasn't acceptable.
+        Row {
+            script: "finalize a;",
+            text: "database 0 0..1;halted 1 NotYet;",
+            status: Status::Halted { at: 1 },
+        },
+        Row {
+            script: "verify z;turn 0;finalize z;",
+            text: "#1;started 0 candidate z;#2;ended 0 rejected;verdict 0 false;database 0 0..1;halted 3 NotYet;",
+            status: Status::Halted { at: 3 },
+        },
+        // A run goes on.
+        Row {
+            script: "verify a;verify a;",
+            text: "#1;started 0 candidate a;database 0 0..1;halted 2 NotYet;",
+            status: Status::Halted { at: 2 },
+        },
+        Row {
+            script: "verify a;finalize genesis;",
+            text: "#1;started 0 candidate a;database 0 0..1;halted 2 NotYet;",
+            status: Status::Halted { at: 2 },
+        },
+    ];
+    plays_rows(rt.alloc(), &rt, &rows)
 }

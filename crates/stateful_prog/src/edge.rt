@@ -1,7 +1,9 @@
 //! The source and the sink of the system. They tell nothing of content.
 
-use std::io::{Read, Write};
+ghost use Rattle.std.specs.Prelude.{◌≡◌};
+
 use stateful_types::{Failed, Faulty, Sink, SinkFault, Source};
+use std::io::{Read, Write};
 
 /// A source over a reader of the system.
 #[derive(Drop)]
@@ -11,7 +13,10 @@ pub struct StdSource<R: Read + Drop> {
 }
 
 impl<R: Read + Drop> StdSource<R> {
-    pub fn new(inner: R) -> Self {
+    /// A source over this reader, which hasn't failed yet.
+    pub fn new(inner: R) -> Self
+        ensures { result ≡ record { inner = inner; faults = 0 } }
+    {
         StdSource { inner, faults: 0 }
     }
 }
@@ -48,7 +53,10 @@ pub struct StdSink<W: Write + Drop> {
 }
 
 impl<W: Write + Drop> StdSink<W> {
-    pub fn new(inner: W) -> Self {
+    /// A sink over this writer, which hasn't failed yet.
+    pub fn new(inner: W) -> Self
+        ensures { result ≡ record { inner = inner; faults = 0 } }
+    {
         StdSink { inner, faults: 0 }
     }
 }

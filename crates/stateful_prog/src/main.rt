@@ -1,13 +1,18 @@
 //! Plays a script from standard input.
 #![tactic(auto)]
 
+ghost use Rattle.std.specs.Prelude.{◌≡◌};
+ghost use Rattle.stateful_prog.specs.Numbers.{number_of};
+
 mod edge;
 
 use crate::edge::{StdSink, StdSource};
 use stateful_play::{Status, run};
-
 use std::process::ExitCode;
 use std::{env, io};
+
+#[cfg(test)]
+mod tests;
 
 /// The words behind the program's name. Where memory has run out, none.
 fn words(rt: &HostRuntime) -> Option<Vec<String>> {
@@ -19,7 +24,9 @@ fn words(rt: &HostRuntime) -> Option<Vec<String>> {
 }
 
 /// The number of a status.
-fn number_of(status: Status) -> u8 {
+fn number_of(status: Status) -> u8
+    ensures { result ≡ number_of status }
+{
     match status {
         Status::Done => 0,
         Status::Usage => 1,
@@ -32,9 +39,8 @@ fn number_of(status: Status) -> u8 {
 }
 
 fn main(rt: HostRuntime) -> ExitCode {
-    let words = match words(&rt) {
-        Some(words) => words,
-        None => Vec::new(rt.alloc()),
+    let Some(words) = words(&rt) else {
+        return ExitCode::from(number_of(Status::NoMemory));
     };
     let mut source = StdSource::new(rt.reader());
     let mut sink = StdSink::new(io::writer(&rt));

@@ -1,0 +1,43 @@
+-- What the machine's play of the events says of the script.
+use Rattle.std.proofs.Common.{◌≡◌, ◌≢◌, ◌<◌, ℕ, List, Option, Some, None, Vec, Global, length, map, take, refl, sym, ap, subst, ◌∙◌}
+use Rattle.std.proofs.Math.Path.{fun_ext}
+use Rattle.stateful_types.specs.Names.{Named}
+use Rattle.stateful_types.specs.declared.round.Round.{Round}
+use Rattle.stateful_bank.specs.declared.ask.Ask.{Ask}
+use Rattle.stateful_bank.specs.declared.block.BankBlock.{BankBlock}
+use Rattle.stateful_history.specs.declared.entry.Entry.{Entry}
+use Rattle.stateful_actor.specs.declared.driving.Halted.{Halted}
+use Rattle.stateful_actor.specs.declared.error.StepError.TheVariants.{OutOfMemory}
+use Rattle.stateful_script.specs.declared.script.Script.{Script}
+use Rattle.stateful_script.specs.declared.script.World.TheVariants as world
+use Rattle.stateful_text.specs.declared.shown.Label.{Label}
+use Rattle.stateful_play.specs.declared.plan.Planned.{Planned}
+use Rattle.stateful_play.specs.declared.play.Databases.{Databases}
+use Rattle.stateful_play.specs.declared.play.History.TheVariants as history
+use Rattle.stateful_play.specs.declared.play.Played.{Played}
+use Rattle.stateful_play.specs.Plan.{ArePlanned, labels_of}
+use Rattle.stateful_play.specs.Events.{BankEvent, events_of}
+use Rattle.stateful_play.specs.Store.{store_of}
+use Rattle.stateful_play.specs.Shown.{member_of}
+use Rattle.stateful_play.proofs.Honest.{honest_play}
+use Rattle.stateful_play.specs.Play.{IsPlayOf, KeepRules, AreTaken}
+
+-- a play in the plain world
+abbrev pub in_plain : Vec (Entry BankBlock Round Ask) Global → Databases → Option Halted → Played
+in_plain entries databases «end» = record { world = world.Plain; history = history.Plain entries; databases = databases; «end» = «end» }
+
+pub carried : (script : Script) (made : List Planned) (labels : List Label) (entries : Vec (Entry BankBlock Round Ask) Global) (databases : Databases) («end» : Option Halted) (stored : ℕ → Option (Named BankBlock)) (events : List BankEvent)
+    → ArePlanned script.blocks made → labels ≡ labels_of script.names made
+    → ((h : ℕ) → stored h ≡ store_of made script.events h) → events ≡ events_of made script.events
+    → AreTaken «end» events (map (λ entry. entry.event) entries.items)
+    → KeepRules stored «end» entries.items (member_of databases)
+    → IsPlayOf script labels (in_plain entries databases «end»)
+carried script made labels entries databases «end» stored events planned labelled same are taken rules = record {
+  blocks = made;
+  planned = planned;
+  labelled = labelled;
+  world = refl;
+  events = rw are at taken;
+  honest = honest_play (store_of made script.events) script.blocks made script.events «end» entries.items planned (rw are at taken);
+  rules = subst (λ s. KeepRules s «end» entries.items (member_of databases)) (fun_ext same) rules;
+}

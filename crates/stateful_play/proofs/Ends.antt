@@ -1,0 +1,97 @@
+-- How a run ends, by what it wrote and what it played.
+use Rattle.std.proofs.Common.{◌≡◌, ◌≢◌, ℕ, ◌≤◌, ◌<◌, ◌⊎◌, inl, inr, Bool, true, false, List, [], ◌++◌, Option, None, Some, IsNone, IsSomeAnd, length, take, refl, sym, ap, ◌∙◌, subst, arith}
+use Rattle.std.specs.Io.KnownBytes.{Appends}
+use Rattle.stateful_types.proofs.Known.{appends_none}
+use Rattle.stateful_actor.specs.declared.driving.Halted.{Halted}
+use Rattle.stateful_play.specs.declared.play.Played.{Played}
+use Rattle.stateful_play.specs.declared.status.Status.{Status}
+use Rattle.stateful_play.specs.declared.status.Status.TheVariants.{Done, WriteFault, NoMemory}
+use Rattle.stateful_play.specs.declared.status.Status.TheVariants as status
+use Rattle.stateful_script.specs.declared.script.Script.{Script}
+use Rattle.stateful_text.specs.declared.shown.Label.{Label}
+use Rattle.stateful_play.specs.Shown.{text_of}
+use Rattle.stateful_play.specs.Play.{IsPlayOf}
+use Rattle.stateful_play.specs.Rows.{Known, HoldsPrefix, HoldsPart, Writes, AsksFor, IsLoaded, IsPlayed, IsHaltedAt, status_by}
+
+-- nothing more is held
+pub nothing_held : (held : Known) (text : List ℕ) → HoldsPrefix held held text
+nothing_held held text = (0, omega arith, appends_none held)
+
+pub want_writes : (rose : Type 0) (held : Known) (text : List ℕ) (asked answer : Status) → answer ≡ NoMemory → Writes rose held held text asked answer
+want_writes rose held text asked answer e = inr (inr (e, nothing_held held text))
+
+end_none : (e : Option Halted) → Done ≡ status_by e → IsNone e
+end_none None h = refl
+end_none (Some halted) h = absurd (cc)
+
+end_halted : (e : Option Halted) (at : ℕ) → status.Halted at ≡ status_by e → IsHaltedAt e at
+end_halted None at h = absurd (cc)
+end_halted (Some halted) at h = cc
+
+not_cut : (e : Option Halted) → WriteFault ≡ status_by e → ⊥
+not_cut None h = cc
+not_cut (Some halted) h = cc
+
+not_wanting : (e : Option Halted) → NoMemory ≡ status_by e → ⊥
+not_wanting None h = cc
+not_wanting (Some halted) h = cc
+
+-- A play's transcript was written, or not all of it: this was answered, and this is told of the play.
+pub record WasTold (left left_after held held_after : Known) (rose : Type 0) (answer : Status) (played : Option Played) : Type 0 where
+  pub p : Played
+  pub text : List ℕ
+  pub play : IsPlayed left left_after p text
+  pub writes : Writes rose held held_after text (status_by p.«end») answer
+  pub is : ((answer ≡ NoMemory) × IsNone played) ⊎ ((answer ≢ NoMemory) × (played ≡ Some p))
+
+pub was_told : (left left_after held held_after : Known) (rose : Type 0) (answer : Status) (played : Option Played) (script : Script) (labels : List Label) (p : Played)
+    → IsLoaded left left_after script → IsPlayOf script labels p → Writes rose held held_after (text_of labels p) (status_by p.«end») answer
+    → ((answer ≡ NoMemory) × IsNone played) ⊎ ((answer ≢ NoMemory) × (played ≡ Some p))
+    → WasTold left left_after held held_after rose answer played
+was_told left left_after held held_after rose answer played script labels p loaded play writes is = record {
+  p = p;
+  text = text_of labels p;
+  play = record { script = script; loaded = loaded; labels = labels; play = play; text_is = refl };
+  writes = writes;
+  is = is;
+}
+
+written : (rose : Type 0) (held held_after : Known) (text : List ℕ) (asked answer : Status) → Writes rose held held_after text asked answer → answer ≢ WriteFault → answer ≢ NoMemory → (answer ≡ asked) × Appends held held_after text
+written rose held held_after text asked answer (inl w) f m = w
+written rose held held_after text asked answer (inr (inl w)) f m = absurd (f w.0)
+written rose held held_after text asked answer (inr (inr w)) f m = absurd (m w.0)
+
+cut : (rose : Type 0) (held held_after : Known) (text : List ℕ) (asked answer : Status) → Writes rose held held_after text asked answer → answer ≡ WriteFault → (WriteFault ≡ asked → ⊥) → rose × HoldsPrefix held held_after text
+cut rose held held_after text asked answer (inl w) e n = absurd (n (sym e ∙ w.0))
+cut rose held held_after text asked answer (inr (inl w)) e n = (w.1, w.2)
+cut rose held held_after text asked answer (inr (inr w)) e n = absurd (cc)
+
+wanted : (rose : Type 0) (held held_after : Known) (text : List ℕ) (asked answer : Status) → Writes rose held held_after text asked answer → answer ≡ NoMemory → (NoMemory ≡ asked → ⊥) → HoldsPrefix held held_after text
+wanted rose held held_after text asked answer (inl w) e n = absurd (n (sym e ∙ w.0))
+wanted rose held held_after text asked answer (inr (inl w)) e n = absurd (cc)
+wanted rose held held_after text asked answer (inr (inr w)) e n = w.1
+
+module _ (left left_after held held_after : Known) (rose : Type 0) (answer : Status) (played : Option Played) (w : WasTold left left_after held held_after rose answer played) where
+  is_told : answer ≢ NoMemory → played ≡ Some w.p
+  is_told n = elim w.is [ inl m ↦ absurd (n m.0) | inr s ↦ s.1 ]
+
+  pub told_done : answer ≡ Done → IsSomeAnd played (λ p. IsNone p.«end» × ((text : List ℕ) × IsPlayed left left_after p text × Appends held held_after text))
+  told_done e =
+      let done = written rose held held_after w.text (status_by w.p.«end») answer w.writes (λ f. cc) (λ m. cc) in
+      rw (is_told (λ m. cc)) (end_none w.p.«end» (sym e ∙ done.0), (w.text, w.play, done.1))
+
+  pub told_halted : (at : ℕ) → answer ≡ status.Halted at → IsSomeAnd played (λ p. IsHaltedAt p.«end» at × ((text : List ℕ) × IsPlayed left left_after p text × Appends held held_after text))
+  told_halted at e =
+      let done = written rose held held_after w.text (status_by w.p.«end») answer w.writes (λ f. cc) (λ m. cc) in
+      rw (is_told (λ m. cc)) (end_halted w.p.«end» at (sym e ∙ done.0), (w.text, w.play, done.1))
+
+  pub told_cut : (play : Bool) → play ≡ true → answer ≡ WriteFault → rose × ((text : List ℕ) × AsksFor left left_after play played text × HoldsPrefix held held_after text)
+  told_cut play asked e =
+      let part = cut rose held held_after w.text (status_by w.p.«end») answer w.writes e (not_cut w.p.«end») in
+      rw (is_told (λ m. cc)) (part.0, (w.text, (asked, w.play), part.1))
+
+  pub told_wanting : (play : Bool) → play ≡ true → answer ≡ NoMemory → IsNone played × HoldsPart left left_after play held held_after
+  told_wanting play asked e =
+      let part = wanted rose held held_after w.text (status_by w.p.«end») answer w.writes e (not_wanting w.p.«end») in
+      let none : IsNone played = elim w.is [ inl m ↦ m.1 | inr s ↦ absurd (s.0 e) ] in
+      (none, inr (Some w.p, w.text, (asked, w.play), part))

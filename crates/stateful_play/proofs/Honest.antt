@@ -1,0 +1,100 @@
+-- The ancestries of a script's requests: a block, and its parent if it has one.
+use Rattle.std.proofs.Common.{◌≡◌, ℕ, ◌<◌, List, [], ◌∷◌, ◌++◌, Option, None, Some, All, length, map, take, get_or, zero, suc, refl}
+use Rattle.std.proofs.lemmas.List.Elements.{All-nil, All-cons, All-head, All-tail, All-push, All-take}
+use Rattle.stateful_types.specs.Names.{Named}
+use Rattle.stateful_types.specs.declared.round.Round.{Round}
+use Rattle.stateful_bank.specs.declared.ask.Ask.{Ask}
+use Rattle.stateful_bank.specs.declared.block.BankBlock.{BankBlock}
+use Rattle.stateful_history.specs.Past.{Past, Came, Made, after, after_all}
+use Rattle.stateful_history.specs.Honest.{IsHonest, IsLinked}
+use Rattle.stateful_history.specs.declared.entry.Entry.{Entry}
+use Rattle.stateful_history.specs.declared.mark.Mark.{Mark}
+use Rattle.stateful_history.specs.declared.event.Event.TheVariants.{Verify, Prepare, Propose, Finalized, Subscribe, Cancel, Fetched, Turn, Flushed, Progress, Stop, Restart}
+use Rattle.stateful_script.specs.declared.script.PlannedBlock.{PlannedBlock}
+use Rattle.stateful_script.specs.declared.script.PlannedEvent.{PlannedEvent}
+use Rattle.stateful_script.specs.declared.script.PlannedEvent.TheVariants as line
+use Rattle.stateful_actor.specs.declared.driving.Halted.{Halted}
+use Rattle.stateful_actor.specs.Workings.{setting}
+use Rattle.stateful_play.specs.declared.plan.Planned.{Planned}
+use Rattle.stateful_play.specs.Plan.{ArePlanned, first, next, genesis, child}
+use Rattle.stateful_play.specs.Events.{BankEvent, restart, ancestry_of, planned_at, ticket_after, event_of, events_from, events_of}
+use Rattle.stateful_play.specs.Play.{bank, AreTaken}
+
+all_or : {X : Type 0} (P : X → Type 0) (xs : List X) (i : ℕ) (d : X) → All P xs → P d → P (get_or xs i d)
+all_or P [] i d all none = none
+all_or P (x ∷ xs) zero d all none = All-head P x xs all
+all_or P (x ∷ xs) (suc i) d all none = all_or P xs i d (All-tail P x xs all) none
+
+all_front : {X Y : Type 0} (P : Y → Type 0) (f : X → Y) (xs : List X) → All P (map f xs) → All (λ x. P (f x)) xs
+all_front P f [] all = All-nil (λ x. P (f x))
+all_front P f (x ∷ xs) all = All-cons (λ x. P (f x)) x xs (All-head P (f x) (map f xs) all) (all_front P f xs (All-tail P (f x) (map f xs) all))
+
+module _ (stored : ℕ → Option (Named BankBlock)) where
+  abbrev IsBesideParent : Planned → Type 0
+  IsBesideParent p = IsLinked (setting bank stored) (ancestry_of p)
+
+  genesis_linked : IsBesideParent genesis
+  unfolding genesis
+  genesis_linked = tt
+
+  child_linked : (parent : Planned) (b : PlannedBlock) → IsBesideParent (child parent b)
+  unfolding child
+  child_linked parent b = (refl, tt)
+
+  all_linked : (lines : List PlannedBlock) (made : List Planned) → ArePlanned lines made → All IsBesideParent made
+  all_linked lines made first = All-cons IsBesideParent genesis [] genesis_linked (All-nil IsBesideParent)
+  all_linked lines made (next before blocks b parent h there) = All-push IsBesideParent blocks (child parent b) (all_linked before blocks h) (child_linked parent b)
+
+  -- the event brings an honest ancestry, or none
+  abbrev IsHonestEvent : BankEvent → Type 0
+  IsHonestEvent e = IsHonest (setting bank stored) (Came e ∷ [])
+
+  line_honest : (made : List Planned) (ticket : ℕ) (l : PlannedEvent) → All IsBesideParent made → IsHonestEvent (event_of made ticket l)
+  line_honest made ticket (line.Verify place) all = (all_or IsBesideParent made place genesis all genesis_linked, tt)
+  line_honest made ticket (line.Turn job) all = tt
+  line_honest made ticket (line.Finalize place) all = tt
+  line_honest made ticket (line.Flushed barrier database) all = tt
+
+  lines_honest : (made : List Planned) (ticket : ℕ) (ls : List PlannedEvent) → All IsBesideParent made → All IsHonestEvent (events_from made ticket ls)
+  lines_honest made ticket [] all = All-nil IsHonestEvent
+  lines_honest made ticket (l ∷ ls) all = All-cons IsHonestEvent (event_of made ticket l) (events_from made (ticket_after ticket l) ls) (line_honest made ticket l all) (lines_honest made (ticket_after ticket l) ls all)
+
+  events_honest : (made : List Planned) (ls : List PlannedEvent) → All IsBesideParent made → All IsHonestEvent (events_of made ls)
+  unfolding events_of
+  events_honest made ls all = All-cons IsHonestEvent restart (events_from made 0 ls) tt (lines_honest made 0 ls all)
+
+  came_honest : (e : BankEvent) (p : Past BankBlock Round Ask) → IsHonestEvent e → IsHonest (setting bank stored) p → IsHonest (setting bank stored) (Came e ∷ p)
+  came_honest (Verify ticket ancestry) p h q = (h.0, q)
+  came_honest (Prepare ticket context ancestry input) p h q = (h.0, q)
+  came_honest (Propose ticket context ancestry input) p h q = (h.0, q)
+  came_honest (Finalized ticket block) p h q = q
+  came_honest (Subscribe ticket) p h q = q
+  came_honest (Cancel ticket) p h q = q
+  came_honest (Fetched fetch answer) p h q = q
+  came_honest (Turn job) p h q = q
+  came_honest (Flushed barrier database answer) p h q = q
+  came_honest (Progress database) p h q = q
+  came_honest Stop p h q = q
+  came_honest (Restart floor keep) p h q = q
+
+  after_honest : (p : Past BankBlock Round Ask) (marks : List (Mark BankBlock)) → IsHonest (setting bank stored) p → IsHonest (setting bank stored) (after p marks)
+  after_honest p [] q = q
+  after_honest p (mark ∷ marks) q = after_honest (Made mark ∷ p) marks q
+
+  entries_honest : (p : Past BankBlock Round Ask) (entries : List (Entry BankBlock Round Ask)) → IsHonest (setting bank stored) p → All (λ entry. IsHonestEvent entry.event) entries → IsHonest (setting bank stored) (after_all p entries)
+  entries_honest p [] q all = q
+  entries_honest p (entry ∷ entries) q all =
+      entries_honest (after (Came entry.event ∷ p) entry.marks) entries (after_honest (Came entry.event ∷ p) entry.marks (came_honest entry.event p (All-head (λ entry. IsHonestEvent entry.event) entry entries all) q)) (All-tail (λ entry. IsHonestEvent entry.event) entry entries all)
+
+  taken_honest : («end» : Option Halted) (events taken : List BankEvent) → AreTaken «end» events taken → All IsHonestEvent events → All IsHonestEvent taken
+  taken_honest None events taken are all = rw are all
+  taken_honest (Some halted) events taken are all = rw are.0 (All-take IsHonestEvent halted.at events all)
+
+-- where all events of the script, or some of the first, were taken in, their ancestries are honest
+pub honest_play : (stored : ℕ → Option (Named BankBlock)) (lines : List PlannedBlock) (made : List Planned) (ls : List PlannedEvent) («end» : Option Halted) (entries : List (Entry BankBlock Round Ask))
+    → ArePlanned lines made → AreTaken «end» (events_of made ls) (map (λ entry. entry.event) entries)
+    → IsHonest (setting bank stored) (after_all [] entries)
+honest_play stored lines made ls «end» entries planned taken =
+    let all = events_honest stored made ls (all_linked stored lines made planned) in
+    let came = taken_honest stored «end» (events_of made ls) (map (λ entry. entry.event) entries) taken all in
+    entries_honest stored [] entries tt (all_front (IsHonestEvent stored) (λ entry. entry.event) entries came)

@@ -1,0 +1,6 @@
+pub mod Planned
+pub mod Kept
+pub mod Labels
+pub mod Honest
+pub mod Carried
+pub mod Ends

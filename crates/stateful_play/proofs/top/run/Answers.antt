@@ -1,0 +1,23 @@
+use Rattle.std.proofs.Common.{sym}
+use Rattle.stateful_play.proofs.Ends.{was_told, told_done, told_halted, told_cut, told_wanting}
+use Rattle.stateful_play.proofs.top.run.Goals as goal
+
+pub returns-in-Ok-play-clause-done : goal.returns-in-Ok-play-clause-done
+returns-in-Ok-play-clause-done g c =
+    let told = was_told _ _ _ _ _ _ _ _ _ _ c.in-Ok.ensures.found c.in-Ok-play.ensures c.tell.ensures.status c.tell.ensures.played in
+    λ e. (sym c.if-not-asks_play.ensures, told_done _ _ _ _ _ _ _ told e)
+
+pub returns-in-Ok-play-clause-halted : goal.returns-in-Ok-play-clause-halted
+returns-in-Ok-play-clause-halted g c =
+    let told = was_told _ _ _ _ _ _ _ _ _ _ c.in-Ok.ensures.found c.in-Ok-play.ensures c.tell.ensures.status c.tell.ensures.played in
+    λ at e. (sym c.if-not-asks_play.ensures, told_halted _ _ _ _ _ _ _ told at e)
+
+pub returns-in-Ok-play-clause-write_fault : goal.returns-in-Ok-play-clause-write_fault
+returns-in-Ok-play-clause-write_fault g c =
+    let told = was_told _ _ _ _ _ _ _ _ _ _ c.in-Ok.ensures.found c.in-Ok-play.ensures c.tell.ensures.status c.tell.ensures.played in
+    told_cut _ _ _ _ _ _ _ told _ (sym c.if-not-asks_play.ensures)
+
+pub returns-in-Ok-play-clause-memory : goal.returns-in-Ok-play-clause-memory
+returns-in-Ok-play-clause-memory g c =
+    let told = was_told _ _ _ _ _ _ _ _ _ _ c.in-Ok.ensures.found c.in-Ok-play.ensures c.tell.ensures.status c.tell.ensures.played in
+    told_wanting _ _ _ _ _ _ _ told _ (sym c.if-not-asks_play.ensures)

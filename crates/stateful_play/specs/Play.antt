@@ -1,0 +1,65 @@
+-- What was played of a script.
+use Rattle.std.specs.Prelude.{◌≡◌, ◌≢◌, ◌<◌, ℕ, List, [], Option, Some, None, length, map, take}
+use Rattle.stateful_types.specs.Names.{Named}
+use Rattle.stateful_types.specs.declared.round.Round.{Round}
+use Rattle.stateful_types.specs.declared.target.Target.{Target}
+use Rattle.stateful_db.specs.Databases.{Databases}
+use Rattle.stateful_db.specs.Member.{Member}
+use Rattle.stateful_db.specs.Single.{single}
+use Rattle.stateful_bank.specs.BankBlock.{block_header}
+use Rattle.stateful_bank.specs.declared.ask.Ask.{Ask}
+use Rattle.stateful_bank.specs.declared.block.BankBlock.{BankBlock}
+use Rattle.stateful_plain.specs.Whole.{Whole, begun, initial, target_of}
+use Rattle.stateful_plain.specs.Shown.{SealShows}
+use Rattle.stateful_plain.specs.declared.batch.PlainMerkleized.{PlainMerkleized}
+use Rattle.stateful_plain_bank.specs.Stepped.{bank_meaning}
+use Rattle.stateful_plain_bank.specs.Runs.{RunsOn}
+use Rattle.stateful_plain_bank.specs.declared.run.BankRun.{BankRun}
+use Rattle.stateful_history.specs.Past.{after_all}
+use Rattle.stateful_history.specs.Honest.{IsHonest}
+use Rattle.stateful_history.specs.Met.{TrueNames}
+use Rattle.stateful_history.specs.Holding.{Holds}
+use Rattle.stateful_history.specs.declared.entry.Entry.{Entry}
+use Rattle.stateful_actor.specs.Workings.{Workings, workings, setting}
+use Rattle.stateful_actor.specs.Entering.{Plays}
+use Rattle.stateful_actor.specs.declared.driving.Halted.{Halted}
+use Rattle.stateful_actor.specs.declared.error.StepError.TheVariants.{OutOfMemory}
+use Rattle.stateful_script.specs.declared.script.Script.{Script}
+use Rattle.stateful_script.specs.declared.script.World.TheVariants as world
+use Rattle.stateful_text.specs.declared.shown.Label.{Label}
+use Rattle.stateful_play.specs.declared.plan.Planned.{Planned}
+use Rattle.stateful_play.specs.declared.play.Played.{Played}
+use Rattle.stateful_play.specs.Plan.{ArePlanned, labels_of}
+use Rattle.stateful_play.specs.Events.{BankEvent, events_of}
+use Rattle.stateful_play.specs.Store.{store_of}
+use Rattle.stateful_play.specs.Shown.{entries_of, member_of}
+
+-- the bank over one database that is kept whole, as the definitions of the machine take it
+abbrev pub bank : Workings BankBlock BankRun PlainMerkleized
+bank = workings block_header bank_meaning (single target_of (λ target. target) begun initial) RunsOn SealShows
+
+-- All events were taken in; or those before the one of a number, which was refused, and not for want of memory.
+abbrev pub AreTaken : Option Halted → List BankEvent → List BankEvent → Type 0
+AreTaken None events taken = taken ≡ events
+AreTaken (Some halted) events taken = (taken ≡ take halted.at events) × (halted.at < length events) × (halted.error ≢ OutOfMemory)
+
+module _ (stored : ℕ → Option (Named BankBlock)) where
+  -- what holds at the end: where all events were taken in, the database holds the fold over what was applied
+  abbrev pub EndsWell : Option Halted → List (Entry BankBlock Round Ask) → Member Whole → Whole → Type 0
+  EndsWell None entries m base = Holds (setting bank stored) bank.kind base (after_all [] entries) m
+  EndsWell (Some halted) entries m base = Unit {0}
+
+  -- where names are true each entry keeps the rules of the machine
+  abbrev pub KeepRules : Option Halted → List (Entry BankBlock Round Ask) → Member Whole → Type 0
+  KeepRules «end» entries m = TrueNames (setting bank stored) (after_all [] entries) → Plays bank stored initial [] entries (EndsWell «end» entries m)
+
+-- This was played of the script, whose blocks go by these labels: the events were taken in, in each ancestry each block
+-- is the parent of the one before it, and the rules are kept.
+pub record IsPlayOf (script : Script) (labels : List Label) (p : Played) : Type 0 where
+  pub blocks : List Planned
+  pub planned : ArePlanned script.blocks blocks
+  pub labelled : labels ≡ labels_of script.names blocks
+  pub world : p.world ≡ world.Plain
+  pub events : AreTaken p.«end» (events_of blocks script.events) (map (λ entry. entry.event) (entries_of p.history))
+  pub honest : IsHonest (setting bank (store_of blocks script.events)) (after_all [] (entries_of p.history))
+  pub rules : KeepRules (store_of blocks script.events) p.«end» (entries_of p.history) (member_of p.databases)

@@ -1,0 +1,67 @@
+-- What a transcript shows of a play.
+use Rattle.std.specs.Prelude.{ℕ, ◌-◌, List, [], ◌∷◌, Option, Some, None, codes}
+use Rattle.stateful_types.specs.declared.round.Round.{Round}
+use Rattle.stateful_db.specs.Member.{Member, at_home, shut, broken, gone}
+use Rattle.stateful_db.specs.declared.held.Held.TheVariants as held
+use Rattle.stateful_bank.specs.declared.ask.Ask.{Ask}
+use Rattle.stateful_bank.specs.declared.block.BankBlock.{BankBlock}
+use Rattle.stateful_plain.specs.Whole.{Whole}
+use Rattle.stateful_plain.specs.Stored.{standing_of, disk_of}
+use Rattle.stateful_history.specs.declared.entry.Entry.{Entry}
+use Rattle.stateful_actor.specs.declared.error.StepError.{StepError}
+use Rattle.stateful_actor.specs.declared.error.StepError.TheVariants.{Database, TargetMismatch, SkippedHeight, NotExtending, ConflictAtAnchor, Application, MissingBlock, BadEvent, Failed, Exhausted, DatabaseFault, NotYet, OutOfMemory}
+use Rattle.stateful_actor.specs.declared.driving.Halted.{Halted}
+use Rattle.stateful_text.specs.declared.shown.Label.{Label}
+use Rattle.stateful_text.specs.declared.shown.Shown.{Shown}
+use Rattle.stateful_text.specs.declared.shown.Shown.TheVariants.{Balances, Closed, Lost, Away}
+use Rattle.stateful_text.specs.Transcript.{Ending, WithLast, HaltedAt, transcript}
+use Rattle.stateful_play.specs.declared.play.Databases.{Databases}
+use Rattle.stateful_play.specs.declared.play.Databases.TheVariants as databases
+use Rattle.stateful_play.specs.declared.play.History.{History}
+use Rattle.stateful_play.specs.declared.play.History.TheVariants as history
+use Rattle.stateful_play.specs.declared.play.Played.{Played}
+
+-- the entries of a play
+abbrev pub entries_of : History → List (Entry BankBlock Round Ask)
+entries_of (history.Plain entries) = entries.items
+
+-- the database of a play, wherever it is
+abbrev pub member_of : Databases → Member Whole
+member_of (databases.Plain d) = elim d [
+  | held.Here db ↦ at_home (standing_of db)
+  | held.Closed medium ↦ shut (disk_of medium)
+  | held.Lost medium ↦ broken (disk_of medium)
+  | held.Away ↦ gone
+]
+
+-- the range and the balances of the newest state, or where the database is
+abbrev pub shown_of : Member Whole → Shown
+shown_of (at_home s) = Balances (s.disk.newest.size - 1) s.disk.newest.size s.disk.newest.entries
+shown_of (shut disk) = Closed
+shown_of (broken disk) = Lost
+shown_of gone = Away
+
+-- the name of an error
+abbrev pub error_name : StepError → List ℕ
+error_name (Database index) = codes "Database"
+error_name (TargetMismatch index expected recovered) = codes "TargetMismatch"
+error_name (SkippedHeight expected given) = codes "SkippedHeight"
+error_name (NotExtending expected given) = codes "NotExtending"
+error_name (ConflictAtAnchor expected given) = codes "ConflictAtAnchor"
+error_name Application = codes "Application"
+error_name (MissingBlock height) = codes "MissingBlock"
+error_name BadEvent = codes "BadEvent"
+error_name Failed = codes "Failed"
+error_name Exhausted = codes "Exhausted"
+error_name (DatabaseFault index call) = codes "DatabaseFault"
+error_name NotYet = codes "NotYet"
+error_name OutOfMemory = codes "OutOfMemory"
+
+-- with the last event, or at the refused one
+abbrev pub ending_by : Option Halted → Ending
+ending_by None = WithLast
+ending_by (Some halted) = HaltedAt halted.at (error_name halted.error)
+
+-- the transcript of a play, by these names of its blocks
+abbrev pub text_of : List Label → Played → List ℕ
+text_of labels p = transcript (λ b. b.height.0) labels (entries_of p.history) (shown_of (member_of p.databases) ∷ []) (ending_by p.«end»)

@@ -1,0 +1,195 @@
+//! The top call.
+
+ghost use Rattle.std.specs.Prelude.{◌≡◌, ◌≢◌, ◌⊎◌, ◌≤◌, ℕ, List, [], true, false, Option, None, Some, IfOk, IfErr, IsNone, IsSome, IsSomeAnd, codes, string_bytes};
+ghost use Rattle.std.specs.List.{list_all};
+ghost use Rattle.std.specs.Str.{bytes_eq};
+ghost use Rattle.std.specs.Io.KnownBytes.{Appends};
+ghost use Rattle.stateful_types.specs.Causes.{Rose};
+ghost use Rattle.stateful_text.specs.Transcript.{usage_line, script_line};
+ghost use Rattle.stateful_play.specs.declared.play.Played.{Played};
+ghost use Rattle.stateful_play.specs.Rows.{asks_play, IsLoaded, IsUnread, Stops, IsPlayed, AsksFor, HoldsPrefix, HoldsPart, IsHaltedAt, status_by, Writes, IsOrCut, IsScript, IsRefused};
+ghost use Rattle.stateful_play.specs.Shown.{text_of};
+ghost use Rattle.stateful_script.specs.Laws.{IsPlan};
+
+use crate::play::{Played, Told, play};
+use crate::status::{Outcome, Status};
+use crate::text::text_of;
+use stateful_script::{Script, ScriptError, read_script};
+use stateful_text::{script_line, usage_line};
+use stateful_types::{OutOfMemory, ReadError, Sink, SinkFault, Source, read_all, write_all};
+use std::alloc::Global;
+
+/// The most bytes of a script.
+const LIMIT: usize = 16 * 1024 * 1024;
+
+/// Why there was no script.
+#[derive(Clone, Copy, Debug, PartialEq, Eq)]
+pub enum Stop {
+    ReadFault,
+    Refused(u64),
+    NoMemory,
+}
+
+fn all_play(words: &[String]) -> bool
+    ensures { result ≡ list_all (λ word. bytes_eq (string_bytes word) (codes "play")) words.now }
+{
+    words.iter().all(|word| word.as_str() == "play")
+}
+
+/// Whether the words are the one word `play`.
+#[tactic(auto, unfolding(crate::specs::Rows::asks_play))]
+fn asks_play(words: &[String]) -> bool
+    ensures { result ≡ asks_play words.now }
+{
+    if words.len() != 1 {
+        return false;
+    }
+    all_play(words)
+}
+
+/// Reads a script from a source.
+fn load<S: Source>(alloc: Global, source: &mut S) -> Result<Script, Stop>
+    ensures found { IfOk result (λ script. IsLoaded (S.left source.old) (S.left source.new) script) }
+    ensures plan { IfOk result (λ script. IsPlan script) }
+    ensures stopped { IfErr result (λ stop. Stops (S.left source.old) (S.left source.new) (Rose (S.count source.old) (S.count source.new)) stop) }
+{
+    let bytes = match read_all(alloc, LIMIT, source) {
+        Ok(bytes) => bytes,
+        Err(ReadError::Failed) => return Err(Stop::ReadFault),
+        Err(ReadError::TooLong) => return Err(Stop::Refused(0)),
+        Err(ReadError::OutOfMemory) => return Err(Stop::NoMemory),
+    };
+    match read_script(alloc, bytes.as_slice()) {
+        Ok(script) => Ok(script),
+        Err(ScriptError::Line(line)) => Err(Stop::Refused(line)),
+        Err(ScriptError::OutOfMemory) => Err(Stop::NoMemory),
+    }
+}
+
+/// A run without a play.
+fn alone(status: Status) -> Outcome
+    ensures { result ≡ record { status = status; played = None } }
+{
+    Outcome {
+        status,
+        played: None,
+    }
+}
+
+/// Writes a text that stands in the place of a transcript, and has this status.
+fn put<K: Sink>(sink: &mut K, text: &[u8], status: Status) -> Outcome
+    ensures none { IsNone result.played }
+    ensures status { Writes (Rose (K.count sink.old) (K.count sink.new)) (K.held sink.old) (K.held sink.new) text.now status result.status }
+{
+    match write_all(sink, text) {
+        Ok(()) => alone(status),
+        Err(SinkFault::Failed) => alone(Status::WriteFault),
+        Err(SinkFault::OutOfMemory) => alone(Status::NoMemory),
+    }
+}
+
+/// A run with a play whose transcript is written.
+fn outcome_of(played: Played) -> Outcome
+    ensures { result ≡ record { status = status_by played.end; played = Some played } }
+{
+    match played.end {
+        Some(halted) => Outcome {
+            status: Status::Halted { at: halted.at },
+            played: Some(played),
+        },
+        None => Outcome {
+            status: Status::Done,
+            played: Some(played),
+        },
+    }
+}
+
+/// Writes the transcript of a play. Where memory runs out nothing is told of it.
+fn tell<K: Sink>(alloc: Global, sink: &mut K, told: Told) -> Outcome
+    ensures status { Writes (Rose (K.count sink.old) (K.count sink.new)) (K.held sink.old) (K.held sink.new) (text_of told.labels.items told.played) (status_by told.played.end) result.status }
+    ensures played { ((result.status ≡ Status.NoMemory) × IsNone result.played) ⊎ ((result.status ≢ Status.NoMemory) × (result.played ≡ Some told.played)) }
+{
+    let text = match text_of(alloc, &told) {
+        Ok(text) => text,
+        Err(OutOfMemory) => return alone(Status::NoMemory),
+    };
+    match write_all(sink, text.as_slice()) {
+        Ok(()) => outcome_of(told.played),
+        Err(SinkFault::Failed) => Outcome {
+            status: Status::WriteFault,
+            played: Some(told.played),
+        },
+        Err(SinkFault::OutOfMemory) => alone(Status::NoMemory),
+    }
+}
+
+/// Answers words that aren't the one word `play`.
+fn refuse_words<K: Sink>(alloc: Global, sink: &mut K) -> Outcome
+    ensures none { IsNone result.played }
+    ensures status { Writes (Rose (K.count sink.old) (K.count sink.new)) (K.held sink.old) (K.held sink.new) usage_line Status.Usage result.status }
+{
+    match usage_line(alloc) {
+        Ok(text) => put(sink, text.as_slice(), Status::Usage),
+        Err(OutOfMemory) => alone(Status::NoMemory),
+    }
+}
+
+/// Answers a script of which no rule reads this line.
+fn refuse_line<K: Sink>(alloc: Global, sink: &mut K, line: u64) -> Outcome
+    ensures none { IsNone result.played }
+    ensures status { Writes (Rose (K.count sink.old) (K.count sink.new)) (K.held sink.old) (K.held sink.new) (script_line line) (Status.Script line) result.status }
+{
+    match script_line(alloc, line) {
+        Ok(text) => put(sink, text.as_slice(), Status::Script { line }),
+        Err(OutOfMemory) => alone(Status::NoMemory),
+    }
+}
+
+/// Reads a script of at most 16 MiB, plays it, and writes its transcript. The words are the one word `play`.
+pub fn run<S: Source, K: Sink>(
+    alloc: Global,
+    words: &[String],
+    source: &mut S,
+    sink: &mut K,
+) -> Outcome
+    // The script was played to its end, and its transcript is written.
+    ensures done { result.status ≡ Status.Done → (asks_play words.now ≡ true) × IsSomeAnd result.played (λ p. IsNone p.end × ((text : List ℕ) × IsPlayed (S.left source.old) (S.left source.new) p text × Appends (K.held sink.old) (K.held sink.new) text)) }
+
+    // The event of this number was refused. The transcript, whose last line names the error, is written.
+    ensures halted { (at : ℕ) → result.status ≡ Status.Halted at → (asks_play words.now ≡ true) × IsSomeAnd result.played (λ p. IsHaltedAt p.end at × ((text : List ℕ) × IsPlayed (S.left source.old) (S.left source.new) p text × Appends (K.held sink.old) (K.held sink.new) text)) }
+
+    // The words aren't the one word `play`. The usage line is written.
+    ensures usage { result.status ≡ Status.Usage → (asks_play words.now ≡ false) × IsNone result.played × Appends (K.held sink.old) (K.held sink.new) usage_line }
+    ensures other_words { asks_play words.now ≡ false → IsOrCut Status.Usage result.status }
+
+    // All bytes were read, and this is the first line that no rule reads; or it is line 0, and there were more than 16 MiB.
+    // The line's number is written.
+    ensures script { (line : ℕ) → result.status ≡ Status.Script line → (asks_play words.now ≡ true) × IsNone result.played × IsUnread (S.left source.old) (S.left source.new) line × Appends (K.held sink.old) (K.held sink.new) (script_line line) }
+    ensures refused { (bytes : List ℕ) (line : ℕ) → asks_play words.now ≡ true → S.left source.old ≡ Some bytes → IsRefused bytes line → IsOrCut (Status.Script line) result.status ⊎ (result.status ≡ Status.ReadFault) }
+
+    // Bytes that are a script are played.
+    ensures played { (bytes : List ℕ) → asks_play words.now ≡ true → S.left source.old ≡ Some bytes → IsScript bytes → IsSome result.played ⊎ (result.status ≡ Status.ReadFault) ⊎ (result.status ≡ Status.NoMemory) }
+
+    // The source failed. Nothing is written.
+    ensures read_fault { result.status ≡ Status.ReadFault → (asks_play words.now ≡ true) × IsNone result.played × Rose (S.count source.old) (S.count source.new) × Appends (K.held sink.old) (K.held sink.new) [] }
+
+    // The sink failed. A prefix of the text is written.
+    ensures write_fault { result.status ≡ Status.WriteFault → Rose (K.count sink.old) (K.count sink.new) × ((text : List ℕ) × AsksFor (S.left source.old) (S.left source.new) (asks_play words.now) result.played text × HoldsPrefix (K.held sink.old) (K.held sink.new) text) }
+
+    // Memory ran out. Nothing is written, or a prefix of the text.
+    ensures memory { result.status ≡ Status.NoMemory → IsNone result.played × HoldsPart (S.left source.old) (S.left source.new) (asks_play words.now) (K.held sink.old) (K.held sink.new) }
+{
+    if !asks_play(words) {
+        return refuse_words(alloc, sink);
+    }
+    let script = match load(alloc, source) {
+        Ok(script) => script,
+        Err(Stop::ReadFault) => return alone(Status::ReadFault),
+        Err(Stop::Refused(line)) => return refuse_line(alloc, sink, line),
+        Err(Stop::NoMemory) => return alone(Status::NoMemory),
+    };
+    match play(alloc, &script) {
+        Ok(told) => tell(alloc, sink, told),
+        Err(OutOfMemory) => alone(Status::NoMemory),
+    }
+}
