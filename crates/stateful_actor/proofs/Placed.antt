@@ -29,7 +29,7 @@ nat_eq-same a b e = grind (arith, common_steps)
 nat_lt-below : (a b : ℕ) → a < b → nat_lt a b ≡ true
 nat_lt-below a b l = grind (arith, common_steps)
 
-nat_lt-above : (a b : ℕ) → b ≤ a → nat_lt a b ≡ false
+pub nat_lt-above : (a b : ℕ) → b ≤ a → nat_lt a b ≡ false
 nat_lt-above a b l = grind (arith, common_steps)
 
 cond_same : {X Y : Type 0} (f : X → Y) (c : Bool) (o : Option X) → (if c then None else option_map f o) ≡ option_map f (if c then None else o)

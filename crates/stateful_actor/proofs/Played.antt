@@ -16,10 +16,22 @@ use Rattle.stateful_actor.specs.Rules.{Keeps}
 use Rattle.stateful_actor.specs.Stands.{Works, Stands}
 use Rattle.stateful_actor.specs.Entering.{OpensAtStored, TakesIn, Plays}
 use Rattle.stateful_actor.specs.Stepping.{IsNew}
-use Rattle.stateful_actor.specs.Driving.{HasPlayed}
+use Rattle.stateful_actor.specs.Driving.{AddsEntry, HasPlayed}
 use Rattle.stateful_actor.specs.declared.tables.Core.{Core}
+use Rattle.stateful_actor.proofs.Placed.{nat_lt-above}
 
-module _ {B C I R U H : Type 0} (w : Workings B R U) (stored : ℕ → Option (Named B)) where
+-- the events of a history, one more
+events-append : {B C I : Type 0} (history : List (Entry B C I)) (entry : Entry B C I) → map (λ (e : Entry B C I). e.event) (history ++ entry ∷ []) ≡ map (λ (e : Entry B C I). e.event) history ++ entry.event ∷ []
+events-append [] entry = refl
+events-append {B} {C} {I} (x ∷ history) entry = ap (λ (l : List (Event B C I)). x.event ∷ l) (events-append history entry)
+
+pub events-push : {B C I : Type 0} (history longer : List (Entry B C I)) (event : Event B C I) (events : List (Event B C I)) → AddsEntry event history longer → map (λ (e : Entry B C I). e.event) history ≡ events → map (λ (e : Entry B C I). e.event) longer ≡ events ++ event ∷ []
+events-push {B} {C} {I} history longer event events adds is =
+    ap (λ (l : List (Entry B C I)). map (λ (e : Entry B C I). e.event) l) adds.1
+    ∙ events-append history (record { event = event; marks = adds.0 })
+    ∙ ap (λ (l : List (Event B C I)). l ++ event ∷ []) is
+
+module _ {B C I R U : Type 0} (w : Workings B R U) (stored : ℕ → Option (Named B)) where
   -- a new machine stands for the empty past
   Register-new : (register : Register) → IsBlank register → RegisterStands {B = B} {C = C} {I = I} w.kind.count [] register
   Register-new register blank = record {
@@ -31,17 +43,17 @@ module _ {B C I R U H : Type 0} (w : Workings B R U) (stored : ℕ → Option (N
     down = blank.down;
   }
 
-  Works-new : (core : Core B R H U) (m : w.kind.Members) (next : w.Ids) → core.anchor ≡ None → Works {B = B} {C = C} {I = I} w stored w.kind.initial [] core m next stored
+  Works-new : {H : Type 0} (core : Core B R H U) (m : w.kind.Members) (next : w.Ids) → core.anchor ≡ None → Works {B = B} {C = C} {I = I} w stored w.kind.initial [] core m next stored
   Works-new core m next down = record {
     anchor_is = down;
     down_is = rw down refl;
     numbers = record { jobs = λ j d is. cc; tickets = λ t b is. cc; barriers = λ count k i is. cc };
-    stored_is = λ h. refl;
+    stored_is = λ h. rw (nat_lt-above h 0 (omega arith)) refl;
     idle = λ none j live. cc;
     up = λ anchor is. absurd cc;
   }
 
-  pub HasPlayed-new : (failed : Bool) (core : Core B R H U) (register : Register) (m : w.kind.Members) (next : w.Ids) → IsNew failed core register → HasPlayed {B = B} {C = C} {I = I} w stored [] failed core register m next
+  pub HasPlayed-new : {H : Type 0} (failed : Bool) (core : Core B R H U) (register : Register) (m : w.kind.Members) (next : w.Ids) → IsNew failed core register → HasPlayed {B = B} {C = C} {I = I} w stored [] failed core register m next
   HasPlayed-new failed core register m next new = λ names. (λ up. (Register-new register new.blank, Works-new core m next new.down), tt)
 
   -- one more entry
@@ -58,7 +70,7 @@ module _ {B C I R U H : Type 0} (w : Workings B R U) (stored : ℕ → Option (N
   Plays-last base p [] Old New old more = more base old
   Plays-last base p (x ∷ history) Old New old more = (old.0, old.1, old.2, old.3, Plays-last old.0 (after_entry p x.event x.marks) history Old New old.4 more)
 
-  module _ (history longer : List (Entry B C I)) (entry : Entry B C I) (is : longer ≡ history ++ entry ∷ [])
+  module _ {H : Type 0} (history longer : List (Entry B C I)) (entry : Entry B C I) (is : longer ≡ history ++ entry ∷ [])
       (failed failing : Bool) (core going : Core B R H U) (register registered : Register) (m n : w.kind.Members) (next other : w.Ids)
       (played : HasPlayed w stored history failed core register m next)
       (takes : (base : w.States) → TrueNames (setting w stored) (after_entry (after_all [] history) entry.event entry.marks) → Stands w stored base (after_all [] history) failed core register m next stored → TakesIn w stored (base_after base entry.marks (w.kind.point n)) (after_all [] history) entry.event entry.marks failing going registered n other stored) where
@@ -80,12 +92,12 @@ module _ {B C I R U H : Type 0} (w : Workings B R U) (stored : ℕ → Option (N
                 (base_after base entry.marks (w.kind.point n), same_base base, t.opened, t.keeps, (t.stands, t.holds))))
 
   -- without what stands
-  pub Plays-holds : (history : List (Entry B C I)) (failed : Bool) (core : Core B R H U) (register : Register) (m : w.kind.Members) (next : w.Ids)
+  pub Plays-holds : {H : Type 0} (history : List (Entry B C I)) (failed : Bool) (core : Core B R H U) (register : Register) (m : w.kind.Members) (next : w.Ids)
       → HasPlayed w stored history failed core register m next → TrueNames (setting w stored) (after_all [] history)
       → Plays w stored w.kind.initial [] history (λ base. Holds (setting w stored) w.kind base (after_all [] history) m)
   Plays-holds history failed core register m next played names = Plays-last w.kind.initial [] history _ _ (played names) (λ base stood. stood.1)
 
-  pub Plays-any : (history : List (Entry B C I)) (failed : Bool) (core : Core B R H U) (register : Register) (m : w.kind.Members) (next : w.Ids)
+  pub Plays-any : {H : Type 0} (history : List (Entry B C I)) (failed : Bool) (core : Core B R H U) (register : Register) (m : w.kind.Members) (next : w.Ids)
       → HasPlayed w stored history failed core register m next → TrueNames (setting w stored) (after_all [] history)
       → Plays w stored w.kind.initial [] history (λ base. Unit {0})
   Plays-any history failed core register m next played names = Plays-last w.kind.initial [] history _ _ (played names) (λ base stood. tt)

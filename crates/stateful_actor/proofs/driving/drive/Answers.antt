@@ -1,0 +1,33 @@
+use Rattle.std.proofs.Common.{◌≡◌, sym, ◌∙◌, refl}
+use Rattle.stateful_actor.proofs.CodeCut.{one_over, none_over}
+use Rattle.stateful_actor.proofs.Played.{HasPlayed-new, Plays-any, Plays-holds, events-push}
+use Rattle.stateful_actor.proofs.driving.drive.Goals as goal
+
+pub loop-event-init : goal.loop-event-init
+loop-event-init g c = record {
+  all = c.into_iter-event-iterator.ensures.into_iter_gives.0;
+  events = rw c.new.ensures.items refl;
+  played = rw c.new.ensures.items (HasPlayed-new _ _ c.args.stateful.failed c.args.stateful.core c.args.stateful.register _ _ c.requires.new);
+  safe = record { sound = λ up anchor is. let down = c.requires.new.down in absurd cc; held = λ none. c.requires.held };
+  store = refl;
+}
+
+pub loop-event-preserved : goal.loop-event-preserved
+loop-event-preserved g c =
+    let i = c.loop-event.invariant in
+    record {
+      all = one_over c.loop-event.yielded _ _ _ _ i.all c.in-Some.ensures.steps.0;
+      events = events-push c.loop-event.driven.history.items _ c.in-Some.event _ c.in-Ok.ensures.ok i.events;
+      played = (rw i.store at c.in-Ok.ensures.played) i.played;
+      safe = c.in-Ok.ensures.safe;
+      store = c.in-Ok.ensures.store ∙ i.store;
+    }
+
+pub returns-in-Err-clause-played : goal.returns-in-Err-clause-played
+returns-in-Err-clause-played g c = λ names. rw c.in-Err.ensures.err (Plays-any _ _ c.loop-event.driven.history.items _ _ _ _ _ c.loop-event.invariant.played (rw (sym c.in-Err.ensures.err) names))
+
+pub returns-clause-all : goal.returns-clause-all
+returns-clause-all g c = c.loop-event.invariant.events ∙ none_over c.loop-event.yielded _ _ _ c.loop-event.invariant.all c.loop-event.event-iterator.rest.ok.0 c.in-None.ensures.steps.0
+
+pub returns-clause-plays : goal.returns-clause-plays
+returns-clause-plays g c = λ names. Plays-holds _ _ _ _ _ _ _ _ c.loop-event.invariant.played names

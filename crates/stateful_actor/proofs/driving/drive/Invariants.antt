@@ -1,0 +1,17 @@
+use Rattle.std.proofs.Common.{◌≡◌, ◌++◌, map}
+use Rattle.stateful_actor.specs.Workings.{workings}
+use Rattle.stateful_actor.specs.Stepping.{IsSafe}
+use Rattle.stateful_actor.specs.Driving.{HasPlayed}
+use Rattle.stateful_actor.proofs.driving.drive.Given as goal
+
+abbrev pub invariant-loop-event : goal.invariant-loop-event
+invariant-loop-event g l =
+    let D = g.A.Databases.DatabaseSet in
+    let w = workings g.A.Block.Block.header g.A.Application.meaning D.kind g.A.Application.runs D.shows in
+    record {
+      all : l.yielded ++ l.event-iterator.rest.items ≡ l.fn.events.items;
+      events : map (λ entry. entry.event) l.driven.history.items ≡ l.yielded;
+      played : HasPlayed w (g.S.BlockStore.stored l.fn.store) l.driven.history.items l.driven.stateful.failed l.driven.stateful.core l.driven.stateful.register (D.members l.driven.databases) (D.next l.driven.databases);
+      safe : IsSafe D.kind (D.members l.driven.databases) g.A.Block.Block.header l.driven.stateful.failed l.driven.stateful.core;
+      store : l.store ≡ l.fn.store;
+    }
