@@ -1,13 +1,11 @@
 -- What an event leaves of the anchor, and what a machine that is down stands for.
-use Rattle.std.proofs.Common.{◌≡◌, ◌≢◌, ◌⊎◌, inl, inr, ℕ, ◌<◌, List, Bool, true, false, Option, None, Some, IsNone, is_none, refl, sym, ◌∙◌, ap, subst}
-use Rattle.stateful_types.specs.Names.{Named}
+use Rattle.std.proofs.Common.{◌≡◌, ◌≢◌, ◌⊎◌, inl, inr, ℕ, ◌<◌, List, Bool, true, false, Option, None, Some, IsNone, is_none, if◌then◌else◌, refl, sym, ◌∙◌, ap, subst}
 use Rattle.stateful_types.specs.declared.anchor.Anchor.{Anchor}
 use Rattle.stateful_types.specs.declared.outcome.Moved.{Moved}
 use Rattle.stateful_types.specs.declared.outcome.Moved.TheVariants.{Pending, Done}
 use Rattle.stateful_db.specs.declared.application.Hooked.{Hooked}
 use Rattle.stateful_db.specs.declared.application.Hooked.TheVariants as hooked
 use Rattle.stateful_history.specs.Past.{Past}
-use Rattle.stateful_history.specs.Opening.{is_down}
 use Rattle.stateful_history.specs.declared.mark.Mark.{Mark}
 use Rattle.stateful_register.specs.Register.{RegisterStands}
 use Rattle.stateful_register.specs.declared.register.Register.{Register}
@@ -16,7 +14,9 @@ use Rattle.stateful_actor.specs.Moments.{Moment, moment}
 use Rattle.stateful_actor.specs.Effects.{Settles, SettlesAll, CompletesBarrier, Acknowledges, BeginsBarrier}
 use Rattle.stateful_actor.specs.Ending.{TurnsJob, TurnsRun, TurnsHook, LeavesRun}
 use Rattle.stateful_actor.specs.Finalizing.{Finalizes, BeginsIfNone, Observes}
-use Rattle.stateful_actor.specs.Stands.{Works, Stands}
+use Rattle.stateful_db.specs.Databases.{Databases}
+use Rattle.stateful_types.specs.Names.{Header, Named}
+use Rattle.stateful_actor.specs.Stands.{Sound, Works, Stands}
 use Rattle.stateful_actor.specs.Stepping.{changes_nothing}
 use Rattle.stateful_actor.specs.Errors.{error_of}
 use Rattle.stateful_actor.specs.Doing.{IsDoable, Does}
@@ -104,3 +104,34 @@ module _ {B C I R U H : Type 0} (w : Workings B R U) (stored : ℕ → Option (N
     idle = works.idle;
     up = λ anchor is. absurd cc;
   }
+
+-- a machine that takes an event in agrees with the databases
+pub Sound-working : {Ids S T B R H U : Type 0} (d : Databases Ids S T) (m : d.Members) (header : Header B) (failed : Bool) (core : Core B R H U) → (failed ≡ false) ⊎ (core.anchor ≡ None) → (failed ≡ false → Sound d m header core) → Sound d m header core
+Sound-working d m header failed core (inl working) sound = sound working
+Sound-working d m header failed core (inr down) sound = λ anchor is. absurd cc
+
+pub still-none : (anchor before : Option Anchor) → (if is_none anchor then before else anchor) ≡ None → (anchor ≡ None) × (before ≡ None)
+still-none None before none = (refl, none)
+still-none (Some x) before none = cc
+
+module _ {B C I R U H : Type 0} (w : Workings B R U) (stored : ℕ → Option (Named B)) (base : w.States) (p : Past B C I) (store : ℕ → Option (Named B)) (before mid : Core B R H U) (registered register : Register) (m n : w.kind.Members) (next other : w.Ids) (still : Option Anchor)
+    (is : still ≡ (if is_none mid.anchor then before.anchor else mid.anchor))
+    (err : before.anchor ≡ None → mid.anchor ≡ None → (mid ≡ before) × (register ≡ registered) × w.kind.Held n) where
+  was-down : still ≡ None → (mid.anchor ≡ None) × (before.anchor ≡ None)
+  was-down none = still-none mid.anchor before.anchor (sym is ∙ none)
+
+  -- a machine that met a fault stands for the same past, where it is down still
+  pub Stands-faulted : (failed : Bool) → Stands w stored base p failed before registered m next store → Stands w stored base p true (record mid { anchor = still }) register n other store
+  Stands-faulted failed stands (inl e) = cc
+  Stands-faulted failed stands (inr none) =
+      let down = was-down none in
+      let same = err down.1 down.0 in
+      let stood = stands (inr down.1) in
+      let back : mid ≡ before = same.0 in
+      let anchor : still ≡ mid.anchor = none ∙ sym down.0 in
+      let core : (record mid { anchor = still }) ≡ before = ap (λ (a : Option Anchor). record mid { anchor = a }) anchor ∙ back in
+      rw (core, same.1) (stood.0, Works-down w stored base p before m n next other store down.1 stood.1)
+
+-- no database of a machine is away that met a fault and is down still
+pub Held-faulted : {X Y Z : Type 0} (before mid still : Option Anchor) → still ≡ (if is_none mid then before else mid) → (before ≡ None → mid ≡ None → X × Y × Z) → still ≡ None → Z
+Held-faulted before mid still is err none = let down = still-none mid before (sym is ∙ none) in (err down.1 down.0).2

@@ -64,7 +64,7 @@ module _ {B C I R U : Type 0} (w : Workings B R U) (stored : ℕ → Option (Nam
     -- register of live work stands for it, and it works on from it.
     abbrev pub Stands : Bool → Core B R H U → Register → w.kind.Members → w.Ids → (ℕ → Option (Named B)) → Type 0
     Stands failed core register m next store =
-        ((failed ≡ false) ⊎ ((is_down p ≡ true) × (core.anchor ≡ None))) → RegisterStands w.kind.count p register × Works core m next store
+        ((failed ≡ false) ⊎ (core.anchor ≡ None)) → RegisterStands w.kind.count p register × Works core m next store
 
 -- the marks that were made of an event keep the rules, and the machine works on behind them
 pub record HasServed {B C I R U H : Type 0} (w : Workings B R U) (stored : ℕ → Option (Named B)) (base : w.States) (q : Past B C I) (now : Moment w H) (store : ℕ → Option (Named B)) : Type 0 where

@@ -1,5 +1,5 @@
 -- What the machine's play of the events says of the script.
-use Rattle.std.proofs.Common.{◌≡◌, ◌≢◌, ◌<◌, ℕ, List, Option, Some, None, Vec, Global, length, map, take, refl, sym, ap, subst, ◌∙◌}
+use Rattle.std.proofs.Common.{◌≡◌, ℕ, List, Option, Vec, Global, map, refl, subst}
 use Rattle.std.proofs.Math.Path.{fun_ext}
 use Rattle.stateful_types.specs.Names.{Named}
 use Rattle.stateful_types.specs.declared.round.Round.{Round}
@@ -7,7 +7,6 @@ use Rattle.stateful_bank.specs.declared.ask.Ask.{Ask}
 use Rattle.stateful_bank.specs.declared.block.BankBlock.{BankBlock}
 use Rattle.stateful_history.specs.declared.entry.Entry.{Entry}
 use Rattle.stateful_actor.specs.declared.driving.Halted.{Halted}
-use Rattle.stateful_actor.specs.declared.error.StepError.TheVariants.{OutOfMemory}
 use Rattle.stateful_script.specs.declared.script.Script.{Script}
 use Rattle.stateful_script.specs.declared.script.World.TheVariants as world
 use Rattle.stateful_text.specs.declared.shown.Label.{Label}

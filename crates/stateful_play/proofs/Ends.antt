@@ -1,5 +1,5 @@
 -- How a run ends, by what it wrote and what it played.
-use Rattle.std.proofs.Common.{◌≡◌, ◌≢◌, ℕ, ◌≤◌, ◌<◌, ◌⊎◌, inl, inr, Bool, true, false, List, [], ◌++◌, Option, None, Some, IsNone, IsSomeAnd, length, take, refl, sym, ap, ◌∙◌, subst, arith}
+use Rattle.std.proofs.Common.{◌≡◌, ◌≢◌, ℕ, ◌⊎◌, inl, inr, Bool, true, List, Option, None, Some, IsNone, IsSomeAnd, refl, sym, ◌∙◌, arith}
 use Rattle.std.specs.Io.KnownBytes.{Appends}
 use Rattle.stateful_types.proofs.Known.{appends_none}
 use Rattle.stateful_actor.specs.declared.driving.Halted.{Halted}

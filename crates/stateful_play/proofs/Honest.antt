@@ -1,5 +1,5 @@
 -- The ancestries of a script's requests: a block, and its parent if it has one.
-use Rattle.std.proofs.Common.{◌≡◌, ℕ, ◌<◌, List, [], ◌∷◌, ◌++◌, Option, None, Some, All, length, map, take, get_or, zero, suc, refl}
+use Rattle.std.proofs.Common.{ℕ, List, [], ◌∷◌, Option, None, Some, All, map, get_or, zero, suc, refl}
 use Rattle.std.proofs.lemmas.List.Elements.{All-nil, All-cons, All-head, All-tail, All-push, All-take}
 use Rattle.stateful_types.specs.Names.{Named}
 use Rattle.stateful_types.specs.declared.round.Round.{Round}
@@ -17,7 +17,7 @@ use Rattle.stateful_actor.specs.declared.driving.Halted.{Halted}
 use Rattle.stateful_actor.specs.Workings.{setting}
 use Rattle.stateful_play.specs.declared.plan.Planned.{Planned}
 use Rattle.stateful_play.specs.Plan.{ArePlanned, first, next, genesis, child}
-use Rattle.stateful_play.specs.Events.{BankEvent, restart, ancestry_of, planned_at, ticket_after, event_of, events_from, events_of}
+use Rattle.stateful_play.specs.Events.{BankEvent, restart, ancestry_of, ticket_after, event_of, events_from, events_of}
 use Rattle.stateful_play.specs.Play.{bank, AreTaken}
 
 all_or : {X : Type 0} (P : X → Type 0) (xs : List X) (i : ℕ) (d : X) → All P xs → P d → P (get_or xs i d)

@@ -1,5 +1,5 @@
 -- Blocks that are planned one after another.
-use Rattle.std.proofs.Common.{◌≡◌, ℕ, ◌<◌, ◌+◌, List, [], ◌∷◌, ◌++◌, Some, slice_get, length, take, get_or, refl, sym}
+use Rattle.std.proofs.Common.{◌≡◌, ℕ, ◌<◌, ◌+◌, List, [], ◌∷◌, ◌++◌, Some, slice_get, length, take, get_or, refl}
 use Rattle.std.proofs.lemmas.List.{take_more}
 use Rattle.std.proofs.lemmas.Option.{slice_get_read, none-some}
 use Rattle.stateful_script.specs.declared.script.PlannedBlock.{PlannedBlock}

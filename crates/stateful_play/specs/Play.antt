@@ -2,8 +2,6 @@
 use Rattle.std.specs.Prelude.{◌≡◌, ◌≢◌, ◌<◌, ℕ, List, [], Option, Some, None, length, map, take}
 use Rattle.stateful_types.specs.Names.{Named}
 use Rattle.stateful_types.specs.declared.round.Round.{Round}
-use Rattle.stateful_types.specs.declared.target.Target.{Target}
-use Rattle.stateful_db.specs.Databases.{Databases}
 use Rattle.stateful_db.specs.Member.{Member}
 use Rattle.stateful_db.specs.Single.{single}
 use Rattle.stateful_bank.specs.BankBlock.{block_header}

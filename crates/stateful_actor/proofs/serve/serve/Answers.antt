@@ -10,4 +10,12 @@ pub returns-then-is_held-clause-ok : goal.returns-then-is_held-clause-ok
 returns-then-is_held-clause-ok g c = record { mid = _; does = c.in_ok-perform.ensures.ok; settles = inl (c.is_held.ensures.0 c.if-is_held.true, refl) }
 
 pub returns-clause-ok : goal.returns-clause-ok
-returns-clause-ok g c = record { mid = _; does = c.in_ok-perform.ensures.ok; settles = inr (λ down. c.if-is_held.false (c.is_held.ensures.1 (inl down)), none_of c.perform.new.core.front (λ some. c.if-is_held.false (c.is_held.ensures.1 (inr some))), c.in_ok-settle.ensures.ok) }
+returns-clause-ok g c = record {
+  mid = _;
+  does = c.in_ok-perform.ensures.ok;
+  settles = inr (
+    (λ down. let held = c.is_held.ensures.1 (inl down) in let free = c.if-is_held.false in cc),
+    none_of c.perform.new.core.front (λ some. let held = c.is_held.ensures.1 (inr some) in let free = c.if-is_held.false in cc),
+    c.in_ok-settle.ensures.ok,
+  );
+}

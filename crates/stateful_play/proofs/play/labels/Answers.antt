@@ -1,4 +1,3 @@
-use Rattle.std.proofs.Common.{◌≡◌, refl}
 use Rattle.stateful_play.proofs.Labels.{labels_more, labels_all}
 use Rattle.stateful_play.proofs.play.labels.Goals as goal
 

@@ -1,4 +1,4 @@
-use Rattle.std.proofs.Common.{◌≡◌, ℕ, Some, ◌==◌, if◌then◌else◌, true, false, refl, sym, ◌∙◌, ap}
+use Rattle.std.proofs.Common.{true, false}
 use Rattle.std.specs.Ordering.{nat_cmp}
 use Rattle.std.specs.BTreeMap.{get}
 use Rattle.stateful_play.proofs.Kept.{found_at, kept_already, kept_first}

@@ -1,9 +1,9 @@
-use Rattle.std.proofs.Common.{◌≡◌, ℕ, ◌+◌, ◌∷◌, ◌++◌, [], take, get_or, sym, ◌∙◌, ap}
+use Rattle.std.proofs.Common.{◌∷◌, [], take}
 use Rattle.std.proofs.lemmas.Option.{get_or_from_slice_get}
 use Rattle.std.specs.Ordering.{nat_cmp}
 use Rattle.std.specs.BTreeMap.{get}
 use Rattle.stateful_play.specs.Plan.{genesis}
-use Rattle.stateful_play.specs.Store.{Keeps, finalized}
+use Rattle.stateful_play.specs.Store.{finalized}
 use Rattle.stateful_play.proofs.Kept.{kept_more}
 use Rattle.stateful_play.proofs.store.store_of.Goals as goal
 

@@ -1,0 +1,38 @@
+use Rattle.std.proofs.Common.{rules, ◌≡◌, true, refl, sym, ◌∙◌}
+use Rattle.stateful_actor.specs.Stepping.{changes_nothing}
+use Rattle.stateful_actor.proofs.Stepping.{Sound-working, Stands-faulted, Held-faulted}
+use Rattle.stateful_actor.proofs.stateful.Stateful.step.Goals.{then-not-changes_nothing, else-not-changes_nothing}
+use Rattle.stateful_actor.proofs.stateful.Stateful.step.Goals as goal
+
+pub take-requires-clause-sound : goal.take-requires-clause-sound
+take-requires-clause-sound g c =
+    let working : c.is_working.result ≡ true = search rules in
+    Sound-working _ _ _ c.args.self.now.failed c.args.self.now.core (c.is_working.ensures.0 working) c.requires.sound
+
+pub returns-in-Ok-clause-takes : goal.returns-in-Ok-clause-takes
+returns-in-Ok-clause-takes g c = λ stored base p names stands.
+    let working : c.is_working.result ≡ true = search rules in
+    let allowed : c.allows.result ≡ true = search rules in
+    let stood = stands (c.is_working.ensures.0 working) in
+    c.in-Ok.ensures.takes stored base p names (sym (c.allows.ensures _ p stood.0) ∙ allowed) (λ up. stood)
+
+pub returns-clause-refused : goal.returns-clause-refused
+returns-clause-refused g c = λ stored base p stands. elim c.if-not-changes_nothing.branch [
+  | then-not-changes_nothing w ↦ rw w.self-is (Stands-faulted _ stored base p _ c.args.self.now.core c.take.new.self.core _ _ _ _ _ _ _ w.still_up-self.ensures c.in-Err.ensures.err c.args.self.now.failed stands)
+  | else-not-changes_nothing w ↦
+    let nothing : changes_nothing c.in-Err.error ≡ true = search rules in
+    let same = c.in-Err.ensures.unchanged nothing in
+    rw (w.self-is, same.0, same.1) stands
+]
+
+pub returns-clause-safe : goal.returns-clause-safe
+returns-clause-safe g c = elim c.if-not-changes_nothing.branch [
+  | then-not-changes_nothing w ↦ rw w.self-is (record {
+      sound = λ e. cc;
+      held = λ none. Held-faulted _ _ _ w.still_up-self.ensures c.in-Err.ensures.err none;
+    })
+  | else-not-changes_nothing w ↦
+    let nothing : changes_nothing c.in-Err.error ≡ true = search rules in
+    let same = c.in-Err.ensures.unchanged nothing in
+    rw (w.self-is, same.0, same.1) c.requires
+]
