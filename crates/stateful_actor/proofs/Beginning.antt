@@ -13,9 +13,8 @@ use Rattle.stateful_db.specs.declared.barrier.Flushed.TheVariants.{Good}
 use Rattle.stateful_db.specs.declared.database.FlushToken.{FlushToken}
 use Rattle.stateful_history.specs.Setting.{Setting}
 use Rattle.stateful_history.specs.Past.{Past, Made}
-use Rattle.stateful_history.specs.Anchors.{applied}
 use Rattle.stateful_history.specs.Live.{live_flush}
-use Rattle.stateful_history.specs.Durable.{durable, WasApplied}
+use Rattle.stateful_history.specs.Durable.{WasApplied}
 use Rattle.stateful_history.specs.declared.mark.Mark.TheVariants.{BarrierBegun}
 use Rattle.stateful_actor.specs.Workings.{Workings, setting}
 use Rattle.stateful_actor.specs.Numbers.{NumbersStand}

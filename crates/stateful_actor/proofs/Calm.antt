@@ -1,17 +1,16 @@
 -- What stands for a past stands for a longer one, where the item that is added leaves things as they are.
-use Rattle.std.proofs.Common.{◌≡◌, ◌≢◌, ◌<◌, ◌≤◌, ◌+◌, ◌++◌, ◌⊎◌, inl, inr, ℕ, List, [], ◌∷◌, All, Any, Option, None, Some, Bool, true, false, sym, ◌∙◌, ap, subst, arith, refl, MatchOption, nat_lt, if◌then◌else◌}
+use Rattle.std.proofs.Common.{◌≡◌, ◌⊎◌, inl, inr, ℕ, List, ◌∷◌, All, Option, None, Some, true, sym, ◌∙◌, subst, MatchOption}
 use Rattle.std.proofs.lemmas.List.Elements.{All-weaker}
-use Rattle.stateful_types.specs.Names.{Header, Named}
+use Rattle.stateful_types.specs.Names.{Named}
 use Rattle.stateful_types.specs.Round.{IsLater}
 use Rattle.stateful_types.specs.declared.digest.Digest.{Digest}
 use Rattle.stateful_types.specs.declared.anchor.Anchor.{Anchor}
-use Rattle.stateful_history.specs.Setting.{Setting, parent_of, round_of}
-use Rattle.stateful_history.specs.Past.{Past, Item, Came, Made}
+use Rattle.stateful_history.specs.Setting.{Setting, round_of}
+use Rattle.stateful_history.specs.Past.{Past, Item}
 use Rattle.stateful_history.specs.Opening.{opening, is_down, StartsNone}
 use Rattle.stateful_history.specs.Anchors.{applied, anchor_of, tip_of}
 use Rattle.stateful_history.specs.Asked.{verified, started, kept_by}
-use Rattle.stateful_history.specs.Met.{Met}
-use Rattle.stateful_history.specs.Known.{Known, is_tip, kept, stays, IsPastTip, IsUnknown}
+use Rattle.stateful_history.specs.Known.{Known, is_tip, kept, stays, IsPastTip}
 use Rattle.stateful_history.specs.Canonical.{pruned_below}
 use Rattle.stateful_history.specs.Joined.{WasBuilt}
 use Rattle.stateful_history.specs.Live.{live_job, live_flush}
@@ -22,8 +21,8 @@ use Rattle.stateful_actor.specs.Numbers.{NumbersStand}
 use Rattle.stateful_actor.specs.Caching.{IsCached, Caches}
 use Rattle.stateful_actor.specs.Running.{RunsOn, IsRun, IsLive}
 use Rattle.stateful_actor.specs.Checkpoints.{Keeping, Anchored}
-use Rattle.stateful_actor.specs.Barriers.{BarrierStands, ActiveStands, HandleStands}
-use Rattle.stateful_actor.specs.Stands.{Works, IsUp, Executes}
+use Rattle.stateful_actor.specs.Barriers.{ActiveStands}
+use Rattle.stateful_actor.specs.Stands.{Works, IsUp}
 use Rattle.stateful_actor.specs.declared.cache.Cached.{Cached}
 use Rattle.stateful_actor.specs.declared.tables.Active.{Active}
 use Rattle.stateful_actor.specs.declared.tables.Core.{Core}

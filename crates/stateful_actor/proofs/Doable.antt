@@ -1,20 +1,19 @@
 -- An admitted event's task can be done, where the machine agrees with the databases.
-use Rattle.std.proofs.Common.{◌≡◌, ◌≢◌, ◌⊎◌, inl, inr, ℕ, ◌<◌, ◌≤◌, ◌+◌, List, [], ◌∷◌, Bool, true, false, Option, None, Some, refl, sym, ◌∙◌, ap, subst, arith}
+use Rattle.std.proofs.Common.{◌≡◌, ◌≢◌, ◌⊎◌, inl, inr, ℕ, ◌≤◌, Option, None, Some, sym, ◌∙◌, ap, subst, arith}
 use Rattle.std.proofs.lemmas.Bool.{cases_lt}
 use Rattle.stateful_types.specs.Names.{Header, Named}
 use Rattle.stateful_types.specs.declared.digest.Digest.{Digest}
 use Rattle.stateful_types.specs.declared.anchor.Anchor.{Anchor}
 use Rattle.stateful_types.specs.declared.block.Ancestry.{Ancestry}
 use Rattle.stateful_db.specs.Databases.{Databases}
-use Rattle.stateful_db.specs.declared.barrier.Flushed.TheVariants.{Good, Interrupted}
+use Rattle.stateful_db.specs.declared.barrier.Flushed.TheVariants.{Good}
 use Rattle.stateful_history.specs.declared.event.Event.{Event}
-use Rattle.stateful_history.specs.declared.event.Event.TheVariants.{Verify, Prepare, Propose, Finalized, Subscribe, Cancel, Fetched, Turn, Flushed, Progress, Stop, Restart}
+use Rattle.stateful_history.specs.declared.event.Event.TheVariants.{Verify, Finalized, Turn, Flushed, Restart}
 use Rattle.stateful_actor.specs.Caching.{IsAtHand}
 use Rattle.stateful_actor.specs.Barriers.{HasReceipt, Recorded, Agrees}
 use Rattle.stateful_actor.specs.Stands.{Sound}
-use Rattle.stateful_actor.specs.Judging.{IsJudged}
 use Rattle.stateful_actor.specs.Finalizing.{IsPast}
-use Rattle.stateful_actor.specs.Tasks.{IsIdle, IsVerification, IsDoneFor, IsRunOnParent, IsFinalization, IsTaskAt}
+use Rattle.stateful_actor.specs.Tasks.{IsDoneFor, IsRunOnParent, IsFinalization, IsTaskAt}
 use Rattle.stateful_actor.specs.Doing.{IsDoable}
 use Rattle.stateful_actor.specs.declared.judge.Judgement.{Judgement}
 use Rattle.stateful_actor.specs.declared.judge.Judgement.TheVariants.{Valid, Invalid, Waits, Open}

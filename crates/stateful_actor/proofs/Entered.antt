@@ -1,5 +1,5 @@
 -- What an event that was taken in leaves: the tasks together.
-use Rattle.std.proofs.Common.{◌≡◌, ◌≢◌, ◌⊎◌, inl, inr, ℕ, ◌++◌, List, [], ◌∷◌, Bool, true, false, not, ◌&&◌, Option, None, Some, if◌then◌else◌, refl, sym, ◌∙◌, ap, subst, MatchOption, arith}
+use Rattle.std.proofs.Common.{◌≡◌, ◌⊎◌, inl, inr, ℕ, ◌++◌, List, [], ◌∷◌, Bool, true, false, not, ◌&&◌, Option, None, Some, refl, sym, ◌∙◌, ap, subst, arith}
 use Rattle.std.proofs.Common.{zero, suc, ◌<◌, map, append_assoc, IsNone}
 use Rattle.std.specs.List.{Contains}
 use Rattle.std.proofs.lemmas.List.{append-nil}
@@ -7,14 +7,14 @@ use Rattle.stateful_types.specs.Names.{Header, Named}
 use Rattle.stateful_types.specs.declared.anchor.Anchor.{Anchor}
 use Rattle.stateful_db.specs.Databases.{Laws}
 use Rattle.stateful_db.specs.declared.barrier.Flushed.TheVariants.{Good, Interrupted}
-use Rattle.stateful_history.specs.Past.{Past, Item, Came, Made, after, after_entry}
-use Rattle.stateful_history.specs.Opening.{opening, opens, base_after, held_or, is_down}
+use Rattle.stateful_history.specs.Past.{Past, Came, Made, after, after_entry}
+use Rattle.stateful_history.specs.Opening.{opening, opens, base_after, is_down}
 use Rattle.stateful_history.specs.Anchors.{anchor_of}
 use Rattle.stateful_history.specs.Met.{TrueNames}
-use Rattle.stateful_history.specs.Live.{may_come, names_live, is_new, live_job}
-use Rattle.stateful_history.specs.Holding.{Holds, HoldsSince}
+use Rattle.stateful_history.specs.Live.{may_come, is_new, live_job}
+use Rattle.stateful_history.specs.Holding.{Holds}
 use Rattle.stateful_history.specs.declared.event.Event.{Event}
-use Rattle.stateful_history.specs.declared.event.Event.TheVariants.{Verify, Prepare, Propose, Finalized, Subscribe, Cancel, Fetched, Turn, Flushed, Progress, Stop, Restart}
+use Rattle.stateful_history.specs.declared.event.Event.TheVariants.{Verify, Finalized, Turn, Flushed, Restart}
 use Rattle.stateful_history.specs.declared.mark.Mark.{Mark}
 use Rattle.stateful_history.specs.declared.mark.Mark.TheVariants.{Opened, Converged, Asked, Started, Ended, Verdict, Began, BarrierBegun, BarrierDone}
 use Rattle.stateful_history.specs.declared.mark.Mark.TheVariants as mark
@@ -29,11 +29,11 @@ use Rattle.stateful_db.specs.declared.application.Hooked.TheVariants as hooked
 use Rattle.stateful_history.proofs.Marks.{after-append, TrueNames-before_marks}
 use Rattle.stateful_actor.specs.Workings.{Workings, setting}
 use Rattle.stateful_actor.specs.Moments.{Moment, moment}
-use Rattle.stateful_actor.specs.Stands.{Sound, Works, IsUp, HasServed}
+use Rattle.stateful_actor.specs.Stands.{Sound, Works, HasServed}
 use Rattle.stateful_actor.specs.Entering.{OpensAtStored}
 use Rattle.stateful_actor.specs.Tasks.{IsTaskAt, IsDoneFor}
-use Rattle.stateful_actor.specs.Doing.{Does, IsDoable}
-use Rattle.stateful_actor.specs.Effects.{Settles, SettlesAll, CompletesBarrier, Acknowledges, acknowledged, BeginsBarrier, Flushes}
+use Rattle.stateful_actor.specs.Doing.{Does}
+use Rattle.stateful_actor.specs.Effects.{Settles, CompletesBarrier, acknowledged, BeginsBarrier, Flushes}
 use Rattle.stateful_actor.specs.Ending.{TurnsRun, TurnsHook, LeavesRun}
 use Rattle.stateful_actor.specs.Finalizing.{Finalizes, BeginsIfNone, Observes}
 use Rattle.stateful_actor.specs.Restarting.{Reopens, start_height}
@@ -48,7 +48,6 @@ use Rattle.stateful_actor.proofs.Finalizing.{Served-finalized}
 use Rattle.stateful_actor.proofs.Flushing.{Served-flush}
 use Rattle.stateful_actor.proofs.Opening.{Served-start, opened-stored}
 use Rattle.stateful_actor.proofs.Settling.{Served-settles, opens-settles, opens-push, opens-acknowledged}
-use Rattle.stateful_actor.proofs.Sounding.{Sound-does}
 
 -- without an anchor there is no opening
 no-opening : {B C I : Type 0} (header : Header B) (q : Past B C I) → anchor_of header q ≡ None → opening q ≡ None
@@ -100,10 +99,11 @@ module _ {B R U H : Type 0} (w : Workings B R U) (laws : Laws w.kind) (old new :
   settles-more (inr up) =
       let all = up.2 in
       let one = done-more all.completed all.done all.completes in
-      let three = begun-more all.told all.released all.begins in
-      (one.0 ++ (map acknowledged all.acknowledges.receipts ++ three.0),
-      three.1 ∙ ap (λ (ms : List (Mark B)). ms ++ three.0) (all.acknowledges.marks ∙ ap (λ (ms : List (Mark B)). ms ++ map acknowledged all.acknowledges.receipts) one.1) ∙ simp append_assoc,
-      opens-both one.0 (map acknowledged all.acknowledges.receipts ++ three.0) one.2 (opens-both (map acknowledged all.acknowledges.receipts) three.0 (opens-acknowledged [] all.acknowledges.receipts) three.2))
+      let three = begun-more all.told all.released all.begins in (
+        one.0 ++ (map acknowledged all.acknowledges.receipts ++ three.0),
+        three.1 ∙ ap (λ (ms : List (Mark B)). ms ++ three.0) (all.acknowledges.marks ∙ ap (λ (ms : List (Mark B)). ms ++ map acknowledged all.acknowledges.receipts) one.1) ∙ simp append_assoc,
+        opens-both one.0 (map acknowledged all.acknowledges.receipts ++ three.0) one.2 (opens-both (map acknowledged all.acknowledges.receipts) three.0 (opens-acknowledged [] all.acknowledges.receipts) three.2),
+      )
     where
       done-more : (completed : Core B R H U) (done : List (Mark B)) → CompletesBarrier old.core completed old.marks done ⊎ ((completed ≡ old.core) × (done ≡ old.marks)) → (more : List (Mark B)) × (done ≡ old.marks ++ more) × (opens more ≡ false)
       done-more completed done (inl c) = (BarrierDone c.active.number c.active.height true ∷ [], c.marks, refl)

@@ -16,7 +16,7 @@ use Rattle.stateful_history.specs.declared.event.Event.TheVariants.{Finalized}
 use Rattle.stateful_history.specs.declared.mark.Mark.{Mark}
 use Rattle.stateful_history.specs.declared.mark.Mark.TheVariants.{Began, Applied, Started, BarrierBegun}
 use Rattle.stateful_history.specs.declared.mark.JobKind.TheVariants.{Hook}
-use Rattle.stateful_history.proofs.Marks.{after-push, TrueNames-before_marks}
+use Rattle.stateful_history.proofs.Marks.{TrueNames-before_marks}
 use Rattle.stateful_actor.specs.Workings.{Workings, setting}
 use Rattle.stateful_actor.specs.Moments.{Moment}
 use Rattle.stateful_actor.specs.Rules.{Keeps}

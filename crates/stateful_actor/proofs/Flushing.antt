@@ -1,30 +1,28 @@
 -- What the flush of a database leaves.
-use Rattle.std.proofs.Common.{◌≡◌, ◌≢◌, ◌⊎◌, inl, inr, ℕ, zero, suc, ◌<◌, ◌≤◌, ◌+◌, ◌-◌, ◌++◌, List, [], ◌∷◌, length, Bool, true, false, Option, None, Some, IfSome, is_none, refl, sym, ◌∙◌, ap, subst, arith, slice_get, option_map, not, ◌==◌, ◌&&◌}
+use Rattle.std.proofs.Common.{◌≡◌, ◌⊎◌, inl, inr, ℕ, zero, suc, ◌<◌, ◌≤◌, ◌+◌, ◌-◌, List, [], ◌∷◌, length, Bool, true, false, Option, None, Some, IfSome, refl, sym, ◌∙◌, ap, subst, arith, slice_get, option_map, not, ◌==◌, ◌&&◌}
 use Rattle.std.proofs.lemmas.Bool.{cases_eq}
 use Rattle.std.proofs.lemmas.Bool.Decides.{nat_tests}
 use Rattle.stateful_types.specs.Names.{Named}
 use Rattle.stateful_types.specs.declared.anchor.Anchor.{Anchor}
 use Rattle.stateful_db.specs.Databases.{Laws}
-use Rattle.stateful_db.specs.Barrier.{open_at, still_open, answered}
+use Rattle.stateful_db.specs.Barrier.{open_at, answered}
 use Rattle.stateful_db.specs.declared.barrier.Handle.{Handle}
 use Rattle.stateful_db.specs.declared.barrier.Flushed.{Flushed as FlushedIs}
 use Rattle.stateful_db.specs.declared.barrier.Flushed.TheVariants.{Good}
 use Rattle.stateful_db.specs.declared.database.FlushToken.{FlushToken}
 use Rattle.stateful_history.specs.Past.{Past, Came, after}
 use Rattle.stateful_history.specs.Live.{live_flush}
-use Rattle.stateful_history.specs.Durable.{durable, BeganOver, WasFlushed}
+use Rattle.stateful_history.specs.Durable.{durable}
 use Rattle.stateful_history.specs.declared.event.Event.TheVariants.{Flushed}
 use Rattle.stateful_history.specs.declared.mark.Mark.{Mark}
 use Rattle.stateful_actor.specs.Workings.{Workings, setting}
 use Rattle.stateful_actor.specs.Rules.{Keeps}
 use Rattle.stateful_actor.specs.Moments.{Moment}
-use Rattle.stateful_actor.specs.Numbers.{NumbersStand}
 use Rattle.stateful_actor.specs.Checkpoints.{Keeping}
 use Rattle.stateful_actor.specs.Barriers.{Tokens, Agrees, BarrierStands, ActiveStands, HandleStands, IsWaiting}
 use Rattle.stateful_actor.specs.Stands.{Sound, Works, IsUp, HasServed}
 use Rattle.stateful_actor.specs.Effects.{Flushes}
 use Rattle.stateful_actor.specs.declared.tables.Active.{Active}
-use Rattle.stateful_actor.specs.declared.tables.Core.{Core}
 use Rattle.stateful_actor.proofs.Calm.{IsCalm, IsQuiet, Works-quiet}
 use Rattle.stateful_actor.proofs.Pushing.{Keeps-none}
 use Rattle.stateful_actor.proofs.Advancing.{Works-same}

@@ -41,7 +41,15 @@ module _ {B C I R U : Type 0} (w : Workings B R U) (stored : ℕ → Option (Nam
   IsCached-with e h =
       let same : points e.digest ≡ with_point points own pt e.digest = sym (same-where_known e.digest h.known) in
       record {
-        block = h.block; met = h.met; digest_is = h.digest_is; parent_is = h.parent_is; round_is = h.round_is; known = h.known; later = h.later; other = h.other; below = h.below;
+        block = h.block;
+        met = h.met;
+        digest_is = h.digest_is;
+        parent_is = h.parent_is;
+        round_is = h.round_is;
+        known = h.known;
+        later = h.later;
+        other = h.other;
+        below = h.below;
         chain = subst (λ (x : Point w). Chain w stored p (with_point points own pt) anchor e.digest (x ∷ h.below)) same (Chain-with e.digest _ h.known h.chain);
         drawn = subst (λ (x : Point w). w.kind.issued next (x ∷ h.below)) same h.drawn;
         shows = subst (λ (x : Point w). w.shows e.batch (x ∷ h.below)) same h.shows;
@@ -73,7 +81,6 @@ module _ {B C I R U H : Type 0} (w : Workings B R U) (stored : ℕ → Option (N
     (on : RunsOn w stored p u.executes.points next anchor.digest live.run live.block)
     (shows : w.shows batch ((on.own, s) ∷ u.executes.points (w.header.parent live.block.block) ∷ on.below))
     (later : IsLater anchor.round (w.header.round live.block.block)) (at_hand : IsAtHand anchor core.cache (w.header.parent live.block.block)) where
-
   unknown : IsUnknown (setting w stored) p live.block.digest
   unknown = (IsLive-at w stored base p core m next anchor u place live at).unknown
 
@@ -148,7 +155,7 @@ module _ {B C I R U H : Type 0} (w : Workings B R U) (stored : ℕ → Option (N
   Caches-kept = record {
     cached = All-push (IsCached w stored (item ∷ p) points next anchor.digest) core.cache entry
         (All-weaker (IsCached w stored p u.executes.points next anchor.digest) (IsCached w stored (item ∷ p) points next anchor.digest)
-            (λ e h. IsCached-calm w stored p item calm points next anchor.digest e (IsCached-with w stored p u.executes.points next anchor.digest live.block.digest unknown top e h)) core.cache u.executes.caches.cached)
+        (λ e h. IsCached-calm w stored p item calm points next anchor.digest e (IsCached-with w stored p u.executes.points next anchor.digest live.block.digest unknown top e h)) core.cache u.executes.caches.cached)
         own-IsCached;
     in_order = InOrder-push anchor.digest core.cache entry u.executes.caches.in_order at_hand;
     complete = λ d k. elim (Known-kept (setting w stored) k calm run.started_for) [

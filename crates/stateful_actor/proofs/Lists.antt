@@ -1,7 +1,7 @@
 -- Some and all of the elements of a list.
-use Rattle.std.proofs.Common.{◌≡◌, ◌⊎◌, inl, inr, ℕ, zero, suc, ◌<◌, ◌≤◌, ◌++◌, List, [], ◌∷◌, length, get_or, All, Any, Bool, true, false, Option, None, Some, refl, sym, subst, arith, nat_le, nat_lt}
+use Rattle.std.proofs.Common.{◌≡◌, ◌⊎◌, inl, inr, zero, suc, ◌<◌, ◌++◌, List, [], ◌∷◌, All, Any, Bool, true, false, refl, sym, subst, arith}
 use Rattle.std.specs.List.{filter}
-use Rattle.std.proofs.lemmas.List.Elements.{All-head, All-tail}
+use Rattle.std.proofs.lemmas.List.Elements.{All-tail}
 
 module _ {X : Type 0} (P : X → Type 0) where
   pub Any-here : (x : X) (xs : List X) → P x → Any P (x ∷ xs)
@@ -31,7 +31,6 @@ module _ {X : Type 0} (P : X → Type 0) where
     | inl p ↦ inl (Any-here x xs p)
     | inr rest ↦ elim (Any-either xs ys rest) [ inl left ↦ inl (Any-there x xs left) | inr right ↦ inr right ]
   ]
-
 
 -- what holds of all holds of the rest
 pub All-behind : {X : Type 0} (P : X → Type 0) (xs ys : List X) → All P (xs ++ ys) → All P ys

@@ -1,6 +1,5 @@
 -- What the first start leaves.
-use Rattle.std.proofs.Common.{◌≡◌, ◌≢◌, ◌⊎◌, inl, inr, ℕ, ◌<◌, ◌≤◌, ◌+◌, ◌-◌, ◌++◌, List, [], ◌∷◌, length, All, Any, Bool, true, false, Option, None, Some, is_none, zero, suc, nat_lt, if◌then◌else◌, refl, sym, ◌∙◌, ap, subst, arith}
-use Rattle.std.specs.List.{Contains}
+use Rattle.std.proofs.Common.{◌≡◌, inl, inr, ℕ, ◌++◌, List, [], ◌∷◌, All, Bool, true, false, Option, None, Some, is_none, nat_lt, if◌then◌else◌, refl, sym, ◌∙◌, ap, subst, arith}
 use Rattle.std.proofs.lemmas.List.Elements.{All-nil}
 use Rattle.stateful_types.specs.Names.{Named}
 use Rattle.stateful_types.specs.Anchor.{anchor_by}
@@ -16,18 +15,16 @@ use Rattle.stateful_history.specs.Asked.{kept_by}
 use Rattle.stateful_history.specs.Met.{Met}
 use Rattle.stateful_history.specs.Known.{Known, is_tip, kept, stays}
 use Rattle.stateful_history.specs.Canonical.{pruned_below}
-use Rattle.stateful_history.specs.Live.{live_job, live_flush}
 use Rattle.stateful_history.specs.declared.event.Event.TheVariants.{Restart}
 use Rattle.stateful_history.specs.declared.mark.Mark.{Mark}
 use Rattle.stateful_history.specs.declared.mark.Mark.TheVariants.{Opened}
-use Rattle.stateful_actor.specs.Workings.{Workings, setting, Point}
+use Rattle.stateful_actor.specs.Workings.{Workings, setting}
 use Rattle.stateful_actor.specs.Moments.{Moment}
 use Rattle.stateful_actor.specs.Rules.{Keeps}
-use Rattle.stateful_actor.specs.Caching.{IsCached, InOrder, IsIn}
+use Rattle.stateful_actor.specs.Caching.{IsCached}
 use Rattle.stateful_actor.specs.Running.{IsRun, IsLive}
 use Rattle.stateful_actor.specs.Stands.{Works, IsUp, HasServed}
 use Rattle.stateful_actor.specs.Restarting.{start_height, Reopens}
-use Rattle.stateful_actor.specs.Entering.{OpensAtStored}
 use Rattle.stateful_actor.specs.Numbers.{NumbersStand}
 use Rattle.stateful_actor.specs.declared.tables.Core.{Core}
 use Rattle.stateful_actor.specs.declared.tables.Live.{Live}

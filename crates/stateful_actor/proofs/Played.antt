@@ -1,12 +1,11 @@
 -- Histories that are played, an entry longer.
-use Rattle.std.proofs.Common.{◌≡◌, ◌<◌, ◌+◌, ◌++◌, ℕ, Bool, true, false, List, [], ◌∷◌, length, map, take, Option, None, Some, if◌then◌else◌, refl, sym, ◌∙◌, ap, subst, arith}
+use Rattle.std.proofs.Common.{◌≡◌, ◌++◌, ℕ, Bool, false, List, [], ◌∷◌, map, Option, None, refl, ◌∙◌, ap, subst, arith}
 use Rattle.stateful_types.specs.Names.{Named}
-use Rattle.stateful_history.specs.Past.{Past, Came, after, after_entry, after_all}
+use Rattle.stateful_history.specs.Past.{Past, Came, after_entry, after_all}
 use Rattle.stateful_history.specs.Opening.{opens, base_after}
 use Rattle.stateful_history.specs.Met.{TrueNames}
 use Rattle.stateful_history.specs.Holding.{Holds}
 use Rattle.stateful_history.specs.declared.event.Event.{Event}
-use Rattle.stateful_history.specs.declared.mark.Mark.{Mark}
 use Rattle.stateful_history.specs.declared.entry.Entry.{Entry}
 use Rattle.stateful_history.proofs.Marks.{after_all-push, TrueNames-before_entry}
 use Rattle.stateful_register.specs.Register.{RegisterStands, IsBlank}
@@ -84,12 +83,12 @@ module _ {B C I R U : Type 0} (w : Workings B R U) (stored : ℕ → Option (Nam
     HasPlayed-longer names =
         let after_names = subst (λ (p : Past B C I). TrueNames (setting w stored) p) now_is names in
         rw (now_is, is) (Plays-push w.kind.initial [] history entry
-            (λ base. Stands w stored base (after_all [] history) failed core register m next stored × Holds (setting w stored) w.kind base (after_all [] history) m)
-            (λ base. Stands w stored base (after_entry (after_all [] history) entry.event entry.marks) failing going registered n other stored × Holds (setting w stored) w.kind base (after_entry (after_all [] history) entry.event entry.marks) n)
-            (played (TrueNames-before_entry (setting w stored) (after_all [] history) entry.event entry.marks after_names))
-            (λ base stood.
-                let t = takes base after_names stood.0 in
-                (base_after base entry.marks (w.kind.point n), same_base base, t.opened, t.keeps, (t.stands, t.holds))))
+        (λ base. Stands w stored base (after_all [] history) failed core register m next stored × Holds (setting w stored) w.kind base (after_all [] history) m)
+        (λ base. Stands w stored base (after_entry (after_all [] history) entry.event entry.marks) failing going registered n other stored × Holds (setting w stored) w.kind base (after_entry (after_all [] history) entry.event entry.marks) n)
+        (played (TrueNames-before_entry (setting w stored) (after_all [] history) entry.event entry.marks after_names))
+        (λ base stood.
+        let t = takes base after_names stood.0 in
+        (base_after base entry.marks (w.kind.point n), same_base base, t.opened, t.keeps, (t.stands, t.holds))))
 
   -- without what stands
   pub Plays-holds : {H : Type 0} (history : List (Entry B C I)) (failed : Bool) (core : Core B R H U) (register : Register) (m : w.kind.Members) (next : w.Ids)

@@ -70,6 +70,16 @@ module _ {B C I R U : Type 0} (w : Workings B R U) (stored : ℕ → Option (Nam
       stored_is = h.stored_is;
       idle = h.idle;
       up = λ a e. let u = h.up a e in record {
-        first = u.first; origin = u.origin; point = u.point; here = u.here; anchored = u.anchored; drawn = u.drawn; keeping = u.keeping; barriers = u.barriers; runs = u.runs; in_table = u.in_table; executes = u.executes
+        first = u.first;
+        origin = u.origin;
+        point = u.point;
+        here = u.here;
+        anchored = u.anchored;
+        drawn = u.drawn;
+        keeping = u.keeping;
+        barriers = u.barriers;
+        runs = u.runs;
+        in_table = u.in_table;
+        executes = u.executes;
       };
     }

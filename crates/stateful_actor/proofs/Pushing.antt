@@ -1,7 +1,7 @@
 -- Marks that keep the rules, with one more.
 use Rattle.std.proofs.Common.{◌≡◌, ℕ, Option, ◌++◌, List, [], ◌∷◌, sym, subst}
 use Rattle.stateful_types.specs.Names.{Named}
-use Rattle.stateful_history.specs.Past.{Past, Item, Made, EachMark, after}
+use Rattle.stateful_history.specs.Past.{Past, Made, after}
 use Rattle.stateful_history.specs.Honest.{IsHonest}
 use Rattle.stateful_history.specs.Joined.{TrueIsEarned}
 use Rattle.stateful_history.specs.Reasons.{FalseHasReason}

@@ -1,46 +1,41 @@
 -- What the machine works on from behind the barriers that are done, the receipts that are acknowledged, and the barriers
 -- that begin.
-use Rattle.std.proofs.Common.{◌≡◌, ◌≢◌, ◌⊎◌, inl, inr, ℕ, zero, suc, ◌<◌, ◌≤◌, ◌+◌, ◌-◌, ◌*◌, max, ◌++◌, List, [], ◌∷◌, length, map, All, Any, Bool, true, false, Option, None, Some, IfSome, IsNone, refl, sym, ◌∙◌, ap, subst, arith, MatchOption, option_map, slice_get, ◌==◌, ◌&&◌, ◌||◌, not}
+use Rattle.std.proofs.Common.{◌≡◌, ◌≢◌, ◌⊎◌, inl, inr, ℕ, zero, suc, ◌<◌, ◌≤◌, ◌+◌, ◌-◌, max, ◌++◌, List, [], ◌∷◌, length, map, All, Bool, true, false, Option, None, Some, IfSome, IsNone, refl, sym, ◌∙◌, ap, subst, arith, MatchOption, slice_get, ◌==◌, ◌&&◌, not}
 use Rattle.std.proofs.Common.{append_assoc, is_none, rules}
 use Rattle.std.proofs.lemmas.List.{append-nil}
 use Rattle.std.proofs.lemmas.List.Elements.{All-head, All-tail}
-use Rattle.std.proofs.lemmas.Bool.{cases_lt, cases_eq}
 use Rattle.std.proofs.lemmas.Bool.Decides.{nat_tests}
 use Rattle.stateful_types.specs.Names.{Header, Named}
 use Rattle.stateful_types.specs.Anchor.{anchor_by}
 use Rattle.stateful_types.specs.declared.anchor.Anchor.{Anchor}
 use Rattle.stateful_types.specs.declared.number.Height.{Height}
 use Rattle.stateful_db.specs.Databases.{Laws}
-use Rattle.stateful_db.specs.Barrier.{open_at, answered, IsGood}
+use Rattle.stateful_db.specs.Barrier.{IsGood}
 use Rattle.stateful_db.specs.declared.barrier.Handle.{Handle}
-use Rattle.stateful_db.specs.declared.barrier.Flushed.{Flushed as FlushedIs}
-use Rattle.stateful_db.specs.declared.barrier.Flushed.TheVariants.{Good, Interrupted}
-use Rattle.stateful_db.specs.declared.database.FlushToken.{FlushToken}
-use Rattle.stateful_durability.specs.Durability.{Coverage, after_completion}
-use Rattle.stateful_history.specs.Past.{Past, Item, Came, Made, after}
+use Rattle.stateful_durability.specs.Durability.{Coverage}
+use Rattle.stateful_history.specs.Past.{Past, Came, Made, after}
 use Rattle.stateful_history.specs.Opening.{opening, opens}
 use Rattle.stateful_history.specs.Anchors.{applied, anchor_of}
-use Rattle.stateful_history.specs.Live.{live_flush, live_job}
-use Rattle.stateful_history.specs.Durable.{durable, WasRecorded, BeganOver, WasFlushed, WasApplied, GoodIsFlushed, AcknowledgedIsDurable}
-use Rattle.stateful_history.specs.declared.event.Event.TheVariants.{Verify, Prepare, Propose, Finalized, Subscribe, Cancel, Fetched, Turn, Flushed, Progress, Stop, Restart}
+use Rattle.stateful_history.specs.Live.{live_flush}
+use Rattle.stateful_history.specs.Durable.{durable, WasRecorded, WasFlushed, WasApplied, GoodIsFlushed, AcknowledgedIsDurable}
+use Rattle.stateful_history.specs.declared.event.Event.TheVariants.{Restart}
 use Rattle.stateful_history.specs.declared.mark.Mark.{Mark}
-use Rattle.stateful_history.specs.declared.mark.Mark.TheVariants.{Opened, Converged, Asked, Withdrawn, Started, Ended, Built, Verdict, Answered, Declined, Databases, Began, Applied, BarrierBegun, BarrierDone, Acknowledged, Dropped, Recorded, Dispatched, Pruned, Completed, Stopped}
-use Rattle.stateful_history.proofs.Marks.{after-append, after-push}
-use Rattle.stateful_actor.specs.Workings.{Workings, setting, Point}
+use Rattle.stateful_history.specs.declared.mark.Mark.TheVariants.{Opened, Converged, Applied, BarrierBegun, BarrierDone, Acknowledged}
+use Rattle.stateful_history.proofs.Marks.{after-push}
+use Rattle.stateful_actor.specs.Workings.{Workings, setting}
 use Rattle.stateful_actor.specs.Moments.{Moment, moment}
 use Rattle.stateful_actor.specs.Numbers.{NumbersStand}
-use Rattle.stateful_actor.specs.Checkpoints.{Keeping, Anchored}
-use Rattle.stateful_actor.specs.Barriers.{IsBounded, Tokens, Agrees, BarrierStands, ActiveStands, HandleStands, IsWaiting}
-use Rattle.stateful_actor.specs.Rules.{Keeps}
+use Rattle.stateful_actor.specs.Checkpoints.{Keeping}
+use Rattle.stateful_actor.specs.Barriers.{Tokens, Agrees, BarrierStands, ActiveStands, IsWaiting}
 use Rattle.stateful_actor.specs.Stands.{Sound, Works, IsUp, Executes, HasServed}
 use Rattle.stateful_actor.specs.Running.{IsRun, IsInTable}
-use Rattle.stateful_actor.specs.Effects.{BeginsBarrier, CompletesBarrier, Acknowledges, acknowledged, Flushes, SettlesAll, Settles}
+use Rattle.stateful_actor.specs.Effects.{BeginsBarrier, CompletesBarrier, Acknowledges, acknowledged, Settles}
 use Rattle.stateful_actor.specs.declared.tables.Active.{Active}
 use Rattle.stateful_actor.specs.declared.tables.Core.{Core}
-use Rattle.stateful_actor.proofs.Calm.{IsCalm, IsQuiet, Works-quiet, IsUp-quiet, Anchored-calm, Keeping-calm, Caches-calm, IsLive-calm, IsRun-calm, ActiveStands-calm}
+use Rattle.stateful_actor.proofs.Calm.{IsCalm, IsQuiet, Works-quiet, Anchored-calm, Caches-calm, IsLive-calm, IsRun-calm}
 use Rattle.stateful_actor.proofs.Pushing.{Keeps-push, Served-same, Served-push}
 use Rattle.stateful_actor.proofs.Sounding.{Sound-told, Sound-completes, completes-front}
-use Rattle.stateful_actor.proofs.Advancing.{Works-same, some_same}
+use Rattle.stateful_actor.proofs.Advancing.{some_same}
 use Rattle.stateful_actor.proofs.Beginning.{Works-begun}
 use Rattle.stateful_actor.proofs.Fronting.{Works-covered}
 
@@ -233,7 +228,7 @@ module _ {B C I R U H : Type 0} (w : Workings B R U) (laws : Laws w.kind) (store
       let k : HasServed w stored base p (moment w completed old.members old.next (done ++ map acknowledged a.receipts)) store = Served-acknowledged w stored store base p completed old.members old.next anchor is a.receipts done a.covered h in
       subst (λ (ms : List (Mark B)). HasServed w stored base p (moment w told old.members old.next ms) store) (sym a.marks) (record {
         works = subst (λ (x : Core B R H U). Works w stored base (after p (done ++ map acknowledged a.receipts)) x old.members old.next store) (sym a.core)
-        (Works-covered w stored base (after p (done ++ map acknowledged a.receipts)) completed old.members old.next store k.works (record completed.durability { held = told.durability.held }) refl);
+            (Works-covered w stored base (after p (done ++ map acknowledged a.receipts)) completed old.members old.next store k.works (record completed.durability { held = told.durability.held }) refl);
         keeps = k.keeps;
       })
 

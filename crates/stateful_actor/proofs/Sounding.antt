@@ -1,6 +1,5 @@
 -- What each step leaves of the agreement between the machine and the databases.
-use Rattle.std.proofs.Common.{◌≡◌, ◌≢◌, ◌⊎◌, inl, inr, ℕ, zero, suc, ◌<◌, ◌≤◌, ◌+◌, ◌++◌, List, [], ◌∷◌, length, All, Any, Bool, true, false, Option, None, Some, IfSome, IsNone, refl, sym, ◌∙◌, ap, subst, arith, nat_le, nat_lt, option_map, slice_get}
-use Rattle.std.specs.List.{filter}
+use Rattle.std.proofs.Common.{◌≡◌, ◌⊎◌, inl, inr, ℕ, zero, suc, ◌<◌, ◌≤◌, ◌+◌, ◌++◌, List, [], ◌∷◌, length, All, Any, true, Option, None, Some, IfSome, IsNone, refl, sym, ◌∙◌, ap, subst, arith, nat_le, nat_lt, option_map}
 use Rattle.std.proofs.lemmas.List.Elements.{All-nil, All-head, All-tail, All-cons, All-append, All-push, All-filter, All-weaker, All-same}
 use Rattle.std.proofs.lemmas.Bool.{cases_lt, cases_eq}
 use Rattle.std.proofs.lemmas.Bool.Decides.{nat_tests}
@@ -8,7 +7,7 @@ use Rattle.stateful_types.specs.Names.{Header, Named}
 use Rattle.stateful_types.specs.Anchor.{anchor_by}
 use Rattle.stateful_types.specs.declared.anchor.Anchor.{Anchor}
 use Rattle.stateful_types.specs.declared.number.Height.{Height}
-use Rattle.stateful_db.specs.Databases.{Databases, Laws, IsOpening}
+use Rattle.stateful_db.specs.Databases.{Databases, Laws}
 use Rattle.stateful_history.specs.declared.mark.Mark.{Mark}
 use Rattle.stateful_db.specs.Barrier.{open_at, answered, IsGood}
 use Rattle.stateful_db.specs.declared.barrier.Handle.{Handle}
@@ -68,7 +67,7 @@ module _ (c : Coverage) (height ticket : ℕ) where
   has-duplicate n has (inr high) =
       Any-right (IsOf n) (receipts_up_to height c.held) ((height, ticket) ∷ receipts_above height c.held)
       (Any-there (IsOf n) (height, ticket) (receipts_above height c.held)
-          (Any-filter (IsOf n) (λ (receipt : ℕ × ℕ). nat_lt height receipt.0) c.held (Any-weaker (IsOf n) (λ (receipt : ℕ × ℕ). IsOf n receipt × (nat_lt height receipt.0 ≡ true)) c.held (λ receipt e. (e, subst (λ (k : ℕ). nat_lt height k ≡ true) (sym e) high)) has)))
+      (Any-filter (IsOf n) (λ (receipt : ℕ × ℕ). nat_lt height receipt.0) c.held (Any-weaker (IsOf n) (λ (receipt : ℕ × ℕ). IsOf n receipt × (nat_lt height receipt.0 ≡ true)) c.held (λ receipt e. (e, subst (λ (k : ℕ). nat_lt height k ≡ true) (sym e) high)) has)))
 
   Recorded-duplicate : {B : Type 0} (H : Type 0) (header : Header B) → Recorded {H = H} header c None → Recorded {H = H} header (record c { held = with_duplicate c.held height ticket }) None
   Recorded-duplicate H header r n above low = has-duplicate n (r n above low) (le_or_lt n height)
@@ -271,7 +270,7 @@ module _ {B R U H : Type 0} (w : Workings B R U) (laws : Laws w.kind) (old new :
   Sound-settles_all none all s =
       Sound-begins all.told all.released all.begins
       (Sound-told w laws old.members all.completed all.told all.done all.released all.acknowledges (completes-front all.completed all.done all.completes ∙ none)
-          (Sound-completes none all.completed all.done all.completes s))
+      (Sound-completes none all.completed all.done all.completes s))
 
   -- the machine has settled
   pub Sound-settles : Settles w old new → Sound w.kind old.members w.header old.core → Sound w.kind new.members w.header new.core

@@ -58,7 +58,18 @@ module _ {B C I R U : Type 0} (w : Workings B R U) (stored : ℕ → Option (Nam
   pub Caches-drawn : (cache : List (Cached U)) → Caches w stored p points old anchor cache → Caches w stored p points new anchor cache
   Caches-drawn cache h = record {
     cached = All-weaker (IsCached w stored p points old anchor) (IsCached w stored p points new anchor) (λ e c. record {
-      block = c.block; met = c.met; digest_is = c.digest_is; parent_is = c.parent_is; round_is = c.round_is; known = c.known; later = c.later; other = c.other; below = c.below; chain = c.chain; drawn = keeps _ c.drawn; shows = c.shows
+      block = c.block;
+      met = c.met;
+      digest_is = c.digest_is;
+      parent_is = c.parent_is;
+      round_is = c.round_is;
+      known = c.known;
+      later = c.later;
+      other = c.other;
+      below = c.below;
+      chain = c.chain;
+      drawn = keeps _ c.drawn;
+      shows = c.shows;
     }) cache h.cached;
     in_order = h.in_order;
     complete = h.complete;
@@ -97,7 +108,6 @@ module _ {B C I R U : Type 0} (w : Workings B R U) (laws : Laws w.kind) (stored 
 module _ {B C I R U H : Type 0} (w : Workings B R U) (laws : Laws w.kind) (stored store : ℕ → Option (Named B)) (base : w.States) (p : Past B C I) (old new : Moment w H) (works : Works w stored base p old.core old.members old.next store)
     (anchor : Anchor) (is : old.core.anchor ≡ Some anchor) (idle : IsIdle old.core) (t : ℕ) (b parent : Named B) (starts : StartsRun w anchor.digest t b parent old new)
     (asked : verified t p ≡ Some b) (met : Met (setting w stored) p b) (above : anchor.height.0 < height_of (setting w stored) b) (unknown : IsUnknown (setting w stored) p b.digest) (parent_is : parent.digest ≡ parent_of (setting w stored) b) where
-
   live : Live B R
   live = record { job = old.core.next_job; ticket = t; block = b; run = starts.run }
 

@@ -1,5 +1,5 @@
 -- What an event leaves of the anchor, and what a machine that is down stands for.
-use Rattle.std.proofs.Common.{◌≡◌, ◌≢◌, ◌⊎◌, inl, inr, ℕ, ◌<◌, List, Bool, true, false, Option, None, Some, IsNone, is_none, if◌then◌else◌, refl, sym, ◌∙◌, ap, subst}
+use Rattle.std.proofs.Common.{◌≡◌, ◌≢◌, ◌⊎◌, inl, inr, ℕ, ◌<◌, List, Bool, true, false, Option, None, Some, IsNone, is_none, if◌then◌else◌, refl, sym, ◌∙◌, ap}
 use Rattle.stateful_types.specs.declared.anchor.Anchor.{Anchor}
 use Rattle.stateful_types.specs.declared.outcome.Moved.{Moved}
 use Rattle.stateful_types.specs.declared.outcome.Moved.TheVariants.{Pending, Done}
@@ -7,13 +7,12 @@ use Rattle.stateful_db.specs.declared.application.Hooked.{Hooked}
 use Rattle.stateful_db.specs.declared.application.Hooked.TheVariants as hooked
 use Rattle.stateful_history.specs.Past.{Past}
 use Rattle.stateful_history.specs.declared.mark.Mark.{Mark}
-use Rattle.stateful_register.specs.Register.{RegisterStands}
 use Rattle.stateful_register.specs.declared.register.Register.{Register}
 use Rattle.stateful_actor.specs.Workings.{Workings}
 use Rattle.stateful_actor.specs.Moments.{Moment, moment}
-use Rattle.stateful_actor.specs.Effects.{Settles, SettlesAll, CompletesBarrier, Acknowledges, BeginsBarrier}
-use Rattle.stateful_actor.specs.Ending.{TurnsJob, TurnsRun, TurnsHook, LeavesRun}
-use Rattle.stateful_actor.specs.Finalizing.{Finalizes, BeginsIfNone, Observes}
+use Rattle.stateful_actor.specs.Effects.{Settles, CompletesBarrier, BeginsBarrier}
+use Rattle.stateful_actor.specs.Ending.{TurnsJob, TurnsRun, LeavesRun}
+use Rattle.stateful_actor.specs.Finalizing.{BeginsIfNone, Observes}
 use Rattle.stateful_db.specs.Databases.{Databases}
 use Rattle.stateful_types.specs.Names.{Header, Named}
 use Rattle.stateful_actor.specs.Stands.{Sound, Works, Stands}

@@ -63,11 +63,23 @@ module _ {B C I R U H : Type 0} (w : Workings B R U) (stored store : ℕ → Opt
   -- the hook in front goes on
   pub Works-hooked : (front : Front B H) (hook : H) → old.front ≡ Some front → Works w stored base p (record old { front = Some (record front { hook = hook }) }) m next store
   Works-hooked front hook e = record {
-    anchor_is = works.anchor_is; down_is = works.down_is; numbers = works.numbers; stored_is = works.stored_is; idle = works.idle;
+    anchor_is = works.anchor_is;
+    down_is = works.down_is;
+    numbers = works.numbers;
+    stored_is = works.stored_is;
+    idle = works.idle;
     up = λ a ea. let u = works.up a ea in record {
-      first = u.first; origin = u.origin; point = u.point; here = u.here; anchored = u.anchored; drawn = u.drawn; keeping = u.keeping; barriers = u.barriers; runs = u.runs;
+      first = u.first;
+      origin = u.origin;
+      point = u.point;
+      here = u.here;
+      anchored = u.anchored;
+      drawn = u.drawn;
+      keeping = u.keeping;
+      barriers = u.barriers;
+      runs = u.runs;
       in_table = λ k l. in_table-hooked old.runs.items old.front front hook k e (u.in_table k l);
-      executes = u.executes
+      executes = u.executes;
     };
   }
 
@@ -76,20 +88,33 @@ module _ {B C I R U H : Type 0} (w : Workings B R U) (stored store : ℕ → Opt
   Works-unhooked front height ticket e =
       let h = Works-quiet w stored p (Made (Ended front.job Hooked)) (ended-IsCalm (setting w stored) p front.job Hooked) base old m next store (ended-IsQuiet p front.job Hooked refl) works in
       record {
-        anchor_is = h.anchor_is; down_is = h.down_is; numbers = h.numbers; stored_is = h.stored_is; idle = h.idle;
+        anchor_is = h.anchor_is;
+        down_is = h.down_is;
+        numbers = h.numbers;
+        stored_is = h.stored_is;
+        idle = h.idle;
         up = λ a ea. let u = h.up a ea in record {
-          first = u.first; origin = u.origin; point = u.point; here = u.here; anchored = u.anchored; drawn = u.drawn; keeping = u.keeping;
+          first = u.first;
+          origin = u.origin;
+          point = u.point;
+          here = u.here;
+          anchored = u.anchored;
+          drawn = u.drawn;
+          keeping = u.keeping;
           barriers = record { durable_is = u.barriers.durable_is; above = u.barriers.above; begun = u.barriers.begun; waiting = u.barriers.waiting };
           runs = u.runs;
           in_table = λ k l. let r = live_behind p front.job k Hooked l in in_table-unhooked old.runs.items old.front front k e r.0 ((works.up a ea).in_table k r.1);
-          executes = u.executes
+          executes = u.executes;
         };
       }
 
   -- a run has ended
   pub Works-ended : (j : ℕ) (how : How) (new : Core B R H U) → new ≡ record old { runs = new.runs; cache = new.cache } → IsUp w stored base (Made (Ended j how) ∷ p) anchor new m next → Works w stored base (Made (Ended j how) ∷ p) new m next store
   Works-ended j how new e u = rw e (record {
-    anchor_is = works.anchor_is; down_is = works.down_is; numbers = NumbersStand-ended p j how old.next_job old.next_barrier works.numbers; stored_is = works.stored_is;
+    anchor_is = works.anchor_is;
+    down_is = works.down_is;
+    numbers = NumbersStand-ended p j how old.next_job old.next_barrier works.numbers;
+    stored_is = works.stored_is;
     idle = λ none. absurd (none-some is none);
     up = λ a ea. subst (λ (x : Anchor). IsUp w stored base (Made (Ended j how) ∷ p) x (record old { runs = new.runs; cache = new.cache }) m next) (unsome (sym is ∙ ea)) (subst (λ (c : Core B R H U). IsUp w stored base (Made (Ended j how) ∷ p) anchor c m next) e u);
   })
@@ -104,17 +129,31 @@ module _ {B C I R U H : Type 0} (w : Workings B R U) (stored store : ℕ → Opt
     turned_run : (turned : R) → Turns w m live.run turned Pending → RunsOn w stored p up.executes.points next anchor.digest turned live.block
     unfolding lived
     turned_run turned turns = record {
-      known = lived.runs_on.known; below = lived.runs_on.below; chain = lived.runs_on.chain; own = lived.runs_on.own; drawn = lived.runs_on.drawn;
+      known = lived.runs_on.known;
+      below = lived.runs_on.below;
+      chain = lived.runs_on.chain;
+      own = lived.runs_on.own;
+      drawn = lived.runs_on.drawn;
       runs = turned-at w stored base p old m next anchor up place live at turned Pending turns;
     }
 
     -- a run goes on
     pub Works-pending : (new : Core B R H U) (turned : R) → new ≡ record old { runs = new.runs } → new.runs.items ≡ set old.runs.items place (record live { run = turned }) → Turns w m live.run turned Pending → Works w stored base p new m next store
     Works-pending new turned e items turns = rw e (record {
-      anchor_is = works.anchor_is; down_is = works.down_is; numbers = works.numbers; stored_is = works.stored_is;
+      anchor_is = works.anchor_is;
+      down_is = works.down_is;
+      numbers = works.numbers;
+      stored_is = works.stored_is;
       idle = λ none. absurd (none-some is none);
       up = λ a ea. subst (λ (x : Anchor). IsUp w stored base p x (record old { runs = new.runs }) m next) (unsome (sym is ∙ ea)) (record {
-        first = up.first; origin = up.origin; point = up.point; here = up.here; anchored = up.anchored; drawn = up.drawn; keeping = up.keeping; barriers = up.barriers;
+        first = up.first;
+        origin = up.origin;
+        point = up.point;
+        here = up.here;
+        anchored = up.anchored;
+        drawn = up.drawn;
+        keeping = up.keeping;
+        barriers = up.barriers;
         runs = rw items (All-set (IsRun w stored p anchor) old.runs.items place (record live { run = turned }) (record { verified_for = ran.verified_for; started_for = ran.started_for; met = ran.met; above = ran.above }) up.runs);
         in_table = λ k l. rw items (in_table-set old.runs.items old.front place live turned at k (up.in_table k l));
         executes = record {
@@ -136,7 +175,14 @@ module _ {B C I R U H : Type 0} (w : Workings B R U) (stored store : ℕ → Opt
     IsUp-gone how none new e items cache =
         let u : IsUp w stored base (Made (Ended live.job how) ∷ p) anchor old m next = up-behind how none in
         rw e (record {
-          first = u.first; origin = u.origin; point = u.point; here = u.here; anchored = u.anchored; drawn = u.drawn; keeping = u.keeping; barriers = u.barriers;
+          first = u.first;
+          origin = u.origin;
+          point = u.point;
+          here = u.here;
+          anchored = u.anchored;
+          drawn = u.drawn;
+          keeping = u.keeping;
+          barriers = u.barriers;
           runs = rw items (All-remove (IsRun w stored (Made (Ended live.job how) ∷ p) anchor) old.runs.items place u.runs);
           in_table = λ k l. rw items (in_table-ended w stored base p old m next anchor up place live at how k l);
           executes = record {
@@ -158,12 +204,12 @@ module _ {B C I R U H : Type 0} (w : Workings B R U) (stored store : ℕ → Opt
     | inl goes ↦
         HasServed-from w stored base p store new [] (now-same goes.2)
         (Works-same w stored base p store (record old.core { front = Some (record (h.front) { hook = goes.0 }) }) new.core old.members new.members old.next new.next goes.1 members next
-            (Works-hooked w stored store base p old.core old.members old.next anchor is works h.front goes.0 h.is))
+        (Works-hooked w stored store base p old.core old.members old.next anchor is works h.front goes.0 h.is))
         (Keeps-none w stored base p)
     | inr gone ↦
         HasServed-from w stored base p store new (Ended h.front.job Hooked ∷ []) (gone.1 ∙ ap (λ (x : List (Mark B)). x ++ Ended j Hooked ∷ []) none ∙ ap (λ (x : ℕ). Ended x Hooked ∷ []) (sym h.job_is))
         (Works-same w stored base (Made (Ended h.front.job Hooked) ∷ p) store (record old.core { front = None; durability = with_receipt old.core.durability (w.header.height h.front.block.block) h.front.ticket }) new.core old.members new.members old.next new.next gone.0 members next
-            (Works-unhooked w stored store base p old.core old.members old.next anchor is works h.front (w.header.height h.front.block.block) h.front.ticket h.is))
+        (Works-unhooked w stored store base p old.core old.members old.next anchor is works h.front (w.header.height h.front.block.block) h.front.ticket h.is))
         (Keeps-ended w stored base p h.front.job Hooked [] (Keeps-none w stored base (Made (Ended h.front.job Hooked) ∷ p)))
   ]
 
@@ -173,7 +219,7 @@ module _ {B C I R U H : Type 0} (w : Workings B R U) (stored store : ℕ → Opt
     Served-pending e items marks turns =
         HasServed-from w stored base p store new [] (now-same marks)
         (Works-same w stored base p store new.core new.core old.members new.members old.next new.next refl members next
-            (Works-pending w stored store base p old.core old.members old.next anchor is works place live at new.core turned e items turns))
+        (Works-pending w stored store base p old.core old.members old.next anchor is works place live at new.core turned e items turns))
         (Keeps-none w stored base p)
 
     verified_for : verified live.ticket p ≡ Some live.block
@@ -187,8 +233,8 @@ module _ {B C I R U H : Type 0} (w : Workings B R U) (stored store : ℕ → Opt
     Served-ended how valid e u marks keeps =
         HasServed-from w stored base p store new (Ended live.job how ∷ Verdict live.ticket valid ∷ []) marks
         (Works-same w stored base (Made (Verdict live.ticket valid) ∷ Made (Ended live.job how) ∷ p) store new.core new.core old.members new.members old.next new.next refl members next
-            (Works-quiet w stored (Made (Ended live.job how) ∷ p) (Made (Verdict live.ticket valid)) (verdict-IsCalm (setting w stored) (Made (Ended live.job how) ∷ p) live.ticket valid) base new.core old.members old.next store (verdict-IsQuiet (Made (Ended live.job how) ∷ p) live.ticket valid)
-                (Works-ended w stored store base p old.core old.members old.next anchor is works live.job how new.core e u)))
+        (Works-quiet w stored (Made (Ended live.job how) ∷ p) (Made (Verdict live.ticket valid)) (verdict-IsCalm (setting w stored) (Made (Ended live.job how) ∷ p) live.ticket valid) base new.core old.members old.next store (verdict-IsQuiet (Made (Ended live.job how) ∷ p) live.ticket valid)
+        (Works-ended w stored store base p old.core old.members old.next anchor is works live.job how new.core e u)))
         (Keeps-ended w stored base p live.job how (Verdict live.ticket valid ∷ []) keeps)
 
     -- the run has ended, and isn't kept
@@ -197,7 +243,7 @@ module _ {B C I R U H : Type 0} (w : Workings B R U) (stored store : ℕ → Opt
     Served-gone ended how false ne no_kept e items cache turns told valid_is marks =
         Served-ended how false e (IsUp-gone w stored store base p old.core old.members old.next anchor is works place live at how no_kept new.core e items cache) (both how false marks)
         (Keeps-false w stored base (Made (Ended live.job how) ∷ p) live.ticket live.block verified_for (λ honest.
-            reason-of_told w stored base (Made (Ended live.job how) ∷ p) old.core old.members old.next anchor (up-behind w stored store base p old.core old.members old.next anchor is works place live at how no_kept) place live at turned ended how new.core.cache ne turns told))
+        reason-of_told w stored base (Made (Ended live.job how) ∷ p) old.core old.members old.next anchor (up-behind w stored store base p old.core old.members old.next anchor is works place live at how no_kept) place live at turned ended how new.core.cache ne turns told))
 
     -- the run has ended, and is kept
     Served-kept : (batch : U) (valid : Bool) → new.core ≡ record old.core { runs = new.core.runs; cache = new.core.cache } → new.core.runs.items ≡ remove old.core.runs.items place → Turns w old.members live.run turned (Done (Some batch)) → IsTold w anchor live.block (Some batch) old.core.cache Kept new.core.cache → (Kept ≡ Kept → valid ≡ true) → new.marks ≡ (old.marks ++ Ended live.job Kept ∷ []) ++ Verdict live.ticket valid ∷ [] → HasServed w stored base p new store
@@ -210,7 +256,7 @@ module _ {B C I R U H : Type 0} (w : Workings B R U) (stored store : ℕ → Opt
         (IsUp-kept w stored base p old.core old.members old.next anchor (works.up anchor is) place live at batch ends.0 leads.0 leads.1 (told.1 _ _ ends.2) lived.runs_on ends.2 told.2 told.3 new.core e items told.0)
         marks'
         (Keeps-true w stored base (Made (Ended live.job Kept) ∷ p) live.ticket live.block verified_for
-            (inl (Joined-kept w stored base p old.core old.members old.next anchor (works.up anchor is) place live at batch ends.0 leads.0 leads.1 (told.1 _ _ ends.2) lived.runs_on ends.2 told.2 told.3)))
+        (inl (Joined-kept w stored base p old.core old.members old.next anchor (works.up anchor is) place live at batch ends.0 leads.0 leads.1 (told.1 _ _ ends.2) lived.runs_on ends.2 told.2 told.3)))
 
     by_end : (ended : Option U) (how : How) (valid : Bool) → new.core ≡ record old.core { runs = new.core.runs; cache = new.core.cache } → new.core.runs.items ≡ remove old.core.runs.items place → Turns w old.members live.run turned (Done ended) → IsTold w anchor live.block ended old.core.cache how new.core.cache → (valid ≡ true → how ≡ Kept) → (how ≡ Kept → valid ≡ true) → new.marks ≡ (old.marks ++ Ended live.job how ∷ []) ++ Verdict live.ticket valid ∷ [] → HasServed w stored base p new store
     by_end None Kept valid e items turns told valid_is is_valid marks = absurd told

@@ -69,7 +69,7 @@ module _ {B C I R U H : Type 0} (w : Workings B R U) (laws : Laws w.kind) (store
         let marks : new.marks ≡ Verdict t true ∷ [] = marks_are (Verdict u valid) does.0.1 ∙ ap (λ (x : ℕ). Verdict x valid ∷ []) eu ∙ ap (λ (x : Bool). Verdict t x ∷ []) ev in
         HasServed-from w stored base came store new (Verdict t true ∷ []) marks
         (Works-same w stored base (Made (Verdict t true) ∷ came) store old.core new.core old.members new.members old.next new.next does.0.0 does.1.0 does.1.1
-            (Works-quiet w stored came (Made (Verdict t true)) (verdict-IsCalm (setting w stored) came t true) base old.core old.members old.next store (verdict-IsQuiet came t true) Works-came))
+        (Works-quiet w stored came (Made (Verdict t true)) (verdict-IsCalm (setting w stored) came t true) base old.core old.members old.next store (verdict-IsQuiet came t true) Works-came))
         (Keeps-true w stored base came t ancestry.first asked-came (earned-of_Valid w stored store base came old.core old.members old.next Works-came anchor up-came ancestry.first judged))
 
     -- the request is answered false, for this reason
@@ -78,7 +78,7 @@ module _ {B C I R U H : Type 0} (w : Workings B R U) (laws : Laws w.kind) (store
         let marks : new.marks ≡ Verdict t false ∷ [] = marks_are (Verdict u valid) does.0.1 ∙ ap (λ (x : ℕ). Verdict x valid ∷ []) eu ∙ ap (λ (x : Bool). Verdict t x ∷ []) ev in
         HasServed-from w stored base came store new (Verdict t false ∷ []) marks
         (Works-same w stored base (Made (Verdict t false) ∷ came) store old.core new.core old.members new.members old.next new.next does.0.0 does.1.0 does.1.1
-            (Works-quiet w stored came (Made (Verdict t false)) (verdict-IsCalm (setting w stored) came t false) base old.core old.members old.next store (verdict-IsQuiet came t false) Works-came))
+        (Works-quiet w stored came (Made (Verdict t false)) (verdict-IsCalm (setting w stored) came t false) base old.core old.members old.next store (verdict-IsQuiet came t false) Works-came))
         (Keeps-false w stored base came t ancestry.first asked-came reason)
 
     -- the request waits
@@ -93,8 +93,8 @@ module _ {B C I R U H : Type 0} (w : Workings B R U) (laws : Laws w.kind) (store
     Served-ask u d does =
         HasServed-from w stored base came store new (Asked old.core.next_fetch (Some u) d ∷ []) (marks_are _ does.0.1)
         (Works-same w stored base (Made (Asked old.core.next_fetch (Some u) d) ∷ came) store (record old.core { next_fetch = old.core.next_fetch + 1 }) new.core old.members new.members old.next new.next does.0.0 does.1.0 does.1.1
-            (Works-fetch w stored base (Made (Asked old.core.next_fetch (Some u) d) ∷ came) store old.core old.members old.next (old.core.next_fetch + 1)
-                (Works-quiet w stored came (Made (Asked old.core.next_fetch (Some u) d)) (asked-IsCalm (setting w stored) came old.core.next_fetch (Some u) d) base old.core old.members old.next store (asked-IsQuiet came old.core.next_fetch (Some u) d) Works-came)))
+        (Works-fetch w stored base (Made (Asked old.core.next_fetch (Some u) d) ∷ came) store old.core old.members old.next (old.core.next_fetch + 1)
+        (Works-quiet w stored came (Made (Asked old.core.next_fetch (Some u) d)) (asked-IsCalm (setting w stored) came old.core.next_fetch (Some u) d) base old.core old.members old.next store (asked-IsQuiet came old.core.next_fetch (Some u) d) Works-came)))
         (Keeps-asked w stored base came old.core.next_fetch (Some u) d)
 
     -- a run of its block is live
@@ -102,7 +102,7 @@ module _ {B C I R U H : Type 0} (w : Workings B R U) (laws : Laws w.kind) (store
     run-served parent idle ep judged starts =
         HasServed-from w stored base came store new (Started old.core.next_job job.Candidate ancestry.first.digest ∷ []) (marks_are _ starts.marks)
         (Works-started w laws stored store base came old new Works-came anchor is idle t ancestry.first parent starts asked-came met-came judged.1
-            (unknown-of_Open w stored store base came old.core old.members old.next Works-came anchor up-came ancestry.first names-came met-came judged) ep)
+        (unknown-of_Open w stored store base came old.core old.members old.next Works-came anchor up-came ancestry.first names-came met-came judged) ep)
         (Keeps-started w stored base came old.core.next_job job.Candidate ancestry.first.digest)
 
     Served-run : IsIdle old.core → (a : Anchor) (u : ℕ) (b parent : Named B) → a ≡ anchor → u ≡ t → b ≡ ancestry.first → parent.digest ≡ w.header.parent ancestry.first.block → IsJudged w.header anchor old.core.cache store ancestry.first Open → Does w store (task.Run a u b parent) old new → HasServed w stored base came new store

@@ -3,7 +3,7 @@ use Rattle.std.specs.Prelude.{◌≡◌, ◌≢◌, ◌≤◌, ◌⊎◌, ℕ, O
 use Rattle.stateful_types.specs.Names.{Header, Named}
 use Rattle.stateful_types.specs.declared.anchor.Anchor.{Anchor}
 use Rattle.stateful_actor.specs.Workings.{Workings}
-use Rattle.stateful_actor.specs.Moments.{Moment, moment}
+use Rattle.stateful_actor.specs.Moments.{Moment}
 use Rattle.stateful_actor.specs.Caching.{IsIn, IsAtHand}
 use Rattle.stateful_actor.specs.Barriers.{HasReceipt}
 use Rattle.stateful_actor.specs.Effects.{Tells, Asks, HoldsReceipt, Flushes, Settles}

@@ -1,7 +1,7 @@
 -- Histories that events add to.
 use Rattle.std.specs.Prelude.{◌≡◌, ℕ, Bool, Option, List, [], ◌∷◌, ◌++◌}
 use Rattle.stateful_types.specs.Names.{Named}
-use Rattle.stateful_history.specs.Past.{Past, after_all}
+use Rattle.stateful_history.specs.Past.{after_all}
 use Rattle.stateful_history.specs.Met.{TrueNames}
 use Rattle.stateful_history.specs.Holding.{Holds}
 use Rattle.stateful_history.specs.declared.event.Event.{Event}

@@ -1,8 +1,6 @@
 -- What each step of the machine changes, field by field.
-use Rattle.std.specs.Prelude.{◌≡◌, ◌≢◌, ◌<◌, ◌≤◌, ◌+◌, ◌⊎◌, ℕ, Bool, true, Option, Some, None, List, [], ◌∷◌, ◌++◌, All, length, map, IsNone}
-use Rattle.stateful_types.specs.Names.{Named}
+use Rattle.std.specs.Prelude.{◌≡◌, ◌≢◌, ◌<◌, ◌≤◌, ◌+◌, ◌⊎◌, ℕ, Bool, true, Some, None, List, [], ◌∷◌, ◌++◌, All, length, map, IsNone}
 use Rattle.stateful_types.specs.declared.digest.Digest.{Digest}
-use Rattle.stateful_types.specs.declared.number.Height.{Height}
 use Rattle.stateful_db.specs.Barrier.{open_at, answered, IsGood}
 use Rattle.stateful_db.specs.declared.barrier.Flushed.TheVariants.{Good}
 use Rattle.stateful_db.specs.declared.database.FlushToken.{FlushToken}

@@ -1,8 +1,7 @@
 -- Turns of runs and hooks, and how the end of a candidate run is told.
-use Rattle.std.specs.Prelude.{◌≡◌, ◌≢◌, ◌⊎◌, ◌<◌, ◌++◌, ◌∷◌, ◌↔◌, [], ℕ, Bool, true, Option, Some, None, List, length, slice_get, set, remove}
+use Rattle.std.specs.Prelude.{◌≡◌, ◌≢◌, ◌⊎◌, ◌++◌, ◌∷◌, ◌↔◌, [], ℕ, Bool, true, Option, Some, None, List, slice_get, set, remove}
 use Rattle.stateful_types.specs.Names.{Named}
 use Rattle.stateful_types.specs.Round.{IsLater}
-use Rattle.stateful_types.specs.declared.digest.Digest.{Digest}
 use Rattle.stateful_types.specs.declared.anchor.Anchor.{Anchor}
 use Rattle.stateful_types.specs.declared.outcome.Finality.{Finality}
 use Rattle.stateful_types.specs.declared.outcome.Moved.{Moved}

@@ -1,11 +1,10 @@
 -- What an event and its marks leave.
-use Rattle.std.specs.Prelude.{◌≡◌, ℕ, Bool, true, false, Option, Some, List, [], ◌∷◌, Contains}
+use Rattle.std.specs.Prelude.{◌≡◌, ℕ, Bool, false, Option, Some, List, [], ◌∷◌, Contains}
 use Rattle.stateful_types.specs.Names.{Named}
 use Rattle.stateful_types.specs.Anchor.{anchor_by}
 use Rattle.stateful_types.specs.declared.anchor.Anchor.{Anchor}
 use Rattle.stateful_history.specs.Past.{Past, Came, after_entry}
-use Rattle.stateful_history.specs.Opening.{opens, base_after}
-use Rattle.stateful_history.specs.Met.{TrueNames}
+use Rattle.stateful_history.specs.Opening.{opens}
 use Rattle.stateful_history.specs.Holding.{Holds}
 use Rattle.stateful_history.specs.declared.event.Event.{Event}
 use Rattle.stateful_history.specs.declared.mark.Mark.{Mark}

@@ -1,5 +1,5 @@
 -- Which fault a lower error becomes, and which error a fault.
-use Rattle.std.specs.Prelude.{◌≡◌, ℕ}
+use Rattle.std.specs.Prelude.{ℕ}
 use Rattle.stateful_db.specs.declared.application.AppFault.{AppFault}
 use Rattle.stateful_db.specs.declared.application.AppFault.TheVariants as fault
 use Rattle.stateful_db.specs.declared.set.SetError.{SetError}

@@ -1,5 +1,5 @@
 -- The rules that marks keep, each at its place.
-use Rattle.std.specs.Prelude.{◌≡◌, ℕ, Option, List}
+use Rattle.std.specs.Prelude.{ℕ, Option, List}
 use Rattle.stateful_types.specs.Names.{Named}
 use Rattle.stateful_history.specs.Past.{Past, EachMark}
 use Rattle.stateful_history.specs.Honest.{IsHonest}

@@ -1,5 +1,5 @@
 -- Which machines may take an event in, and which refusals change nothing.
-use Rattle.std.specs.Prelude.{◌≡◌, Bool, true, false, Option, Some, None, [], ℕ}
+use Rattle.std.specs.Prelude.{◌≡◌, Bool, true, false, None}
 use Rattle.stateful_types.specs.Names.{Header}
 use Rattle.stateful_db.specs.Databases.{Databases}
 use Rattle.stateful_history.specs.declared.event.Event.{Event}

@@ -76,10 +76,7 @@ pub(crate) fn hold<A: Application>(
 }
 
 /// Cuts the cache to the descendants of a cached block, and takes its batch out.
-fn cut<A: Application>(
-    core: &mut CoreOf<A>,
-    block: &Digested<A::Block>,
-) -> Result<Batch<A>, Fault>
+fn cut<A: Application>(core: &mut CoreOf<A>, block: &Digested<A::Block>) -> Result<Batch<A>, Fault>
     requires { IsIn core.old.cache block.now.digest }
     ensures kept { OnOk result (IsCutTo (anchor_by A.Block.header block.now) core.old.cache core.new.cache) }
     ensures root { IfOk result (λ batch. IsRootOf (anchor_by A.Block.header block.now) core.old.cache batch) }

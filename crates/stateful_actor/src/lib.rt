@@ -28,6 +28,15 @@ pub use stateful_history::{Decision, Entry, Event, How, JobKind, Mark};
 
 #[cfg(test)]
 mod tests {
+    use super::error::{Fault, StepError};
+
+    // Whole plays of the machine are tested where there are databases, in the crate of the plays.
     #[test]
-    fn nothing() {}
+    fn a_fault_keeps_its_name(rt: HostRuntime) {
+        assert_eq!(rt; StepError::from(Fault::Exhausted), StepError::Exhausted);
+        assert_eq!(rt;
+            StepError::from(Fault::Database { index: 2 }),
+            StepError::Database { index: 2 }
+        );
+    }
 }

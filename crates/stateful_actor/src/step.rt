@@ -52,11 +52,7 @@ fn is_working(failed: bool, anchor: &Option<Anchor>) -> bool
 fn still_up(anchor: Option<Anchor>, before: Option<Anchor>) -> Option<Anchor>
     ensures { result ≡ (if is_none anchor then before else anchor) }
 {
-    if anchor.is_none() {
-        before
-    } else {
-        anchor
-    }
+    if anchor.is_none() { before } else { anchor }
 }
 
 impl<A: Application + Drop> Stateful<A> {

@@ -1,6 +1,4 @@
 use Rattle.std.proofs.Common.{inl, inr, refl}
-use Rattle.stateful_actor.specs.Effects.{SettlesAll, BeginsBarrier}
-use Rattle.stateful_actor.specs.Workings.{workings}
 use Rattle.stateful_actor.proofs.CodeResults.{on_ok}
 use Rattle.stateful_actor.proofs.CodeSettling.{held_none, held_some, none_active, none_out}
 use Rattle.stateful_actor.proofs.barrier.settle.Goals as goal

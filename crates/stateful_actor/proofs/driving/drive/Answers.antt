@@ -1,4 +1,4 @@
-use Rattle.std.proofs.Common.{◌≡◌, sym, ◌∙◌, refl}
+use Rattle.std.proofs.Common.{sym, ◌∙◌, refl}
 use Rattle.stateful_actor.proofs.CodeCut.{one_over, none_over}
 use Rattle.stateful_actor.proofs.Played.{HasPlayed-new, Plays-any, Plays-holds, events-push}
 use Rattle.stateful_actor.proofs.driving.drive.Goals as goal

@@ -1,4 +1,3 @@
-use Rattle.std.proofs.Common.{subst, sym}
 use Rattle.stateful_actor.proofs.task.admit.Goals as goal
 
 pub returns-in-Finalized-Some-clause-err : goal.returns-in-Finalized-Some-clause-err

@@ -1,8 +1,8 @@
-use Rattle.std.proofs.Common.{◌≡◌, inr, refl, sym, subst, true}
+use Rattle.std.proofs.Common.{◌≡◌, inr, sym, subst, true}
 use Rattle.stateful_types.specs.declared.digest.Digest.{Digest}
 use Rattle.stateful_actor.specs.Caching.{IsAtHand}
 use Rattle.stateful_actor.specs.Judging.{IsJudged}
-use Rattle.stateful_actor.specs.Tasks.{IsOpen, IsVerification}
+use Rattle.stateful_actor.specs.Tasks.{IsOpen}
 use Rattle.stateful_actor.specs.declared.judge.Judgement.{Judgement}
 use Rattle.stateful_actor.specs.declared.judge.Judgement.TheVariants.{Open}
 use Rattle.stateful_actor.proofs.CodeTests.{refuted, shown}

@@ -1,4 +1,4 @@
-use Rattle.std.proofs.Common.{rules, ◌≡◌, true, refl, sym, ◌∙◌}
+use Rattle.std.proofs.Common.{rules, ◌≡◌, true, sym, ◌∙◌}
 use Rattle.stateful_actor.specs.Stepping.{changes_nothing}
 use Rattle.stateful_actor.proofs.Stepping.{Sound-working, Stands-faulted, Held-faulted}
 use Rattle.stateful_actor.proofs.stateful.Stateful.step.Goals.{then-not-changes_nothing, else-not-changes_nothing}
@@ -20,19 +20,19 @@ pub returns-clause-refused : goal.returns-clause-refused
 returns-clause-refused g c = λ stored base p stands. elim c.if-not-changes_nothing.branch [
   | then-not-changes_nothing w ↦ rw w.self-is (Stands-faulted _ stored base p _ c.args.self.now.core c.take.new.self.core _ _ _ _ _ _ _ w.still_up-self.ensures c.in-Err.ensures.err c.args.self.now.failed stands)
   | else-not-changes_nothing w ↦
-    let nothing : changes_nothing c.in-Err.error ≡ true = search rules in
-    let same = c.in-Err.ensures.unchanged nothing in
-    rw (w.self-is, same.0, same.1) stands
+      let nothing : changes_nothing c.in-Err.error ≡ true = search rules in
+      let same = c.in-Err.ensures.unchanged nothing in
+      rw (w.self-is, same.0, same.1) stands
 ]
 
 pub returns-clause-safe : goal.returns-clause-safe
 returns-clause-safe g c = elim c.if-not-changes_nothing.branch [
   | then-not-changes_nothing w ↦ rw w.self-is (record {
-      sound = λ e. cc;
-      held = λ none. Held-faulted _ _ _ w.still_up-self.ensures c.in-Err.ensures.err none;
-    })
+    sound = λ e. cc;
+    held = λ none. Held-faulted _ _ _ w.still_up-self.ensures c.in-Err.ensures.err none;
+  })
   | else-not-changes_nothing w ↦
-    let nothing : changes_nothing c.in-Err.error ≡ true = search rules in
-    let same = c.in-Err.ensures.unchanged nothing in
-    rw (w.self-is, same.0, same.1) c.requires
+      let nothing : changes_nothing c.in-Err.error ≡ true = search rules in
+      let same = c.in-Err.ensures.unchanged nothing in
+      rw (w.self-is, same.0, same.1) c.requires
 ]

@@ -1,4 +1,4 @@
-use Rattle.std.proofs.Common.{rules, refl, inl, sym, ◌∙◌, None}
+use Rattle.std.proofs.Common.{refl, inl, sym, ◌∙◌}
 use Rattle.stateful_actor.proofs.Doable.{IsDoable-admitted}
 use Rattle.stateful_actor.proofs.Sounding.{Sound-does, Sound-settles}
 use Rattle.stateful_actor.proofs.Entered.{Entered, Holds-works}
