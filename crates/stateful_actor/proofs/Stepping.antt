@@ -16,7 +16,11 @@ use Rattle.stateful_actor.specs.Finalizing.{BeginsIfNone, Observes}
 use Rattle.stateful_db.specs.Databases.{Databases}
 use Rattle.stateful_types.specs.Names.{Header, Named}
 use Rattle.stateful_actor.specs.Stands.{Sound, Works, Stands}
-use Rattle.stateful_actor.specs.Stepping.{changes_nothing}
+use Rattle.stateful_actor.specs.Stepping.{changes_nothing, is_restart, is_refusal}
+use Rattle.stateful_actor.specs.Tasks.{RefusesAt}
+use Rattle.stateful_history.specs.declared.event.Event.{Event}
+use Rattle.stateful_history.specs.declared.event.Event.TheVariants.{Restart}
+use Rattle.stateful_actor.specs.declared.error.StepError.TheVariants.{NotYet}
 use Rattle.stateful_actor.specs.Errors.{error_of}
 use Rattle.stateful_actor.specs.Doing.{IsDoable, Does}
 use Rattle.stateful_actor.specs.declared.error.Fault.{Fault}
@@ -134,3 +138,20 @@ module _ {B C I R U H : Type 0} (w : Workings B R U) (stored : ℕ → Option (N
 -- no database of a machine is away that met a fault and is down still
 pub Held-faulted : {X Y Z : Type 0} (before mid still : Option Anchor) → still ≡ (if is_none mid then before else mid) → (before ≡ None → mid ≡ None → X × Y × Z) → still ≡ None → Z
 Held-faulted before mid still is err none = let down = still-none mid before (sym is ∙ none) in (err down.1 down.0).2
+
+-- a restart of a machine that is up isn't done yet
+pub restart-refused : {B C I R U H : Type 0} (header : Header B) (core : Core B R H U) (stored : ℕ → Option (Named B)) (anchor : Option Anchor) (event : Event B C I) → anchor ≢ None → is_restart event ≡ true → RefusesAt header core stored anchor event NotYet
+restart-refused header core stored None event up restart = absurd (up refl)
+restart-refused header core stored (Some anchor) (Restart floor keep) up restart = refl
+restart-refused header core stored (Some anchor) event up restart = cc
+
+-- a fault is no refusal
+pub fault-refuses : (fault : Fault) → is_refusal (error_of fault) ≡ false
+fault-refuses (Database index) = refl
+fault-refuses (TargetMismatch index expected recovered) = refl
+fault-refuses Application = refl
+fault-refuses (MissingBlock height) = refl
+fault-refuses Failed = refl
+fault-refuses Exhausted = refl
+fault-refuses (DatabaseFault index call) = refl
+fault-refuses OutOfMemory = refl

@@ -11,6 +11,8 @@ use Rattle.stateful_actor.specs.Starting.{StartsRun}
 use Rattle.stateful_actor.specs.Ending.{TurnsJob}
 use Rattle.stateful_actor.specs.Finalizing.{IsNext, Finalizes}
 use Rattle.stateful_actor.specs.Restarting.{Reopens}
+use Rattle.stateful_actor.specs.Tasks.{IsTaskAt}
+use Rattle.stateful_history.specs.declared.event.Event.{Event}
 use Rattle.stateful_actor.specs.declared.tables.Core.{Core}
 use Rattle.stateful_actor.specs.declared.task.Task.{Task}
 use Rattle.stateful_actor.specs.declared.task.Task.TheVariants.{Answer, Wait, Ask, Run, Hold, Finalize, Turn, Flush, Start}
@@ -46,3 +48,7 @@ module _ {B R U H : Type 0} (w : Workings B R U) (store : ℕ → Option (Named 
     pub mid : Moment w H
     pub does : Does done old mid
     pub settles : Settles w mid new
+
+  -- what an event asks for is done, and then the machine settles
+  abbrev pub IsStep : {C I : Type 0} → Event B C I → (old new : Moment w H) → Type 0
+  IsStep event old new = (done : Task B) × IsTaskAt w.header old.core store old.core.anchor event done × Serves done old new

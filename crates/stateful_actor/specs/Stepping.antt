@@ -9,7 +9,7 @@ use Rattle.stateful_register.specs.declared.register.Register.{Register}
 use Rattle.stateful_actor.specs.Stands.{Sound}
 use Rattle.stateful_actor.specs.declared.tables.Core.{Core}
 use Rattle.stateful_actor.specs.declared.error.StepError.{StepError}
-use Rattle.stateful_actor.specs.declared.error.StepError.TheVariants.{BadEvent, NotYet}
+use Rattle.stateful_actor.specs.declared.error.StepError.TheVariants.{BadEvent, NotYet, SkippedHeight, NotExtending, ConflictAtAnchor}
 
 -- as long as it hasn't failed, the machine agrees with the databases; while it is down, no database is away
 pub record IsSafe {Ids S T B R H U : Type 0} (d : Databases Ids S T) (m : d.Members) (header : Header B) (failed : Bool) (core : Core B R H U) : Type 0 where
@@ -31,3 +31,11 @@ abbrev pub changes_nothing : StepError → Bool
 changes_nothing BadEvent = true
 changes_nothing NotYet = true
 changes_nothing e = false
+
+-- an event that is answered so was refused before anything of it was done
+abbrev pub is_refusal : StepError → Bool
+is_refusal NotYet = true
+is_refusal (SkippedHeight expected given) = true
+is_refusal (NotExtending expected given) = true
+is_refusal (ConflictAtAnchor expected given) = true
+is_refusal e = false

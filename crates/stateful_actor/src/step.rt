@@ -10,7 +10,10 @@ ghost use Rattle.stateful_register.specs.Register.{RegisterStands};
 ghost use Rattle.stateful_actor.specs.Workings.{workings, setting};
 ghost use Rattle.stateful_actor.specs.Stands.{Sound, Stands};
 ghost use Rattle.stateful_actor.specs.Entering.{TakesIn};
-ghost use Rattle.stateful_actor.specs.Stepping.{IsSafe, is_restart, changes_nothing};
+ghost use Rattle.stateful_actor.specs.Moments.{moment};
+ghost use Rattle.stateful_actor.specs.Tasks.{RefusesAt};
+ghost use Rattle.stateful_actor.specs.Doing.{IsStep};
+ghost use Rattle.stateful_actor.specs.Stepping.{IsSafe, is_restart, changes_nothing, is_refusal};
 
 use crate::error::StepError;
 use crate::serve::serve;
@@ -68,6 +71,8 @@ impl<A: Application + Drop> Stateful<A> {
         ensures takes { IfOk result (λ marks. (stored : ℕ → Option (Named A.Block)) (base : A.Databases.States) (p : Past A.Block A.Context A.Input) → let w = workings A.Block.header A.meaning A.Databases.kind A.runs A.Databases.shows in TrueNames (setting w stored) (after_entry p event.now marks.items) → may_come A.Databases.kind.count p event.now ≡ true → Stands w stored base p false self.old.core self.old.register (A.Databases.members databases.old) (A.Databases.next databases.old) (S.stored store.now) → TakesIn w stored (base_after base marks.items (A.Databases.kind.point (A.Databases.members databases.new))) p event.now marks.items false self.new.core self.new.register (A.Databases.members databases.new) (A.Databases.next databases.new) (S.stored store.now)) }
         ensures register { IfOk result (λ marks. (p : Past A.Block A.Context A.Input) → RegisterStands A.Databases.kind.count p self.old.register → RegisterStands A.Databases.kind.count (after_entry p event.now marks.items) self.new.register) }
         ensures sound { OnOk result (Sound A.Databases.kind (A.Databases.members databases.new) A.Block.header self.new.core) }
+        ensures does { IfOk result (λ marks. let w = workings A.Block.header A.meaning A.Databases.kind A.runs A.Databases.shows in IsStep w (S.stored store.now) event.now (moment w self.old.core (A.Databases.members databases.old) (A.Databases.next databases.old) []) (moment w self.new.core (A.Databases.members databases.new) (A.Databases.next databases.new) marks.items)) }
+        ensures refuses { IfErr result (λ e. is_refusal e ≡ true → RefusesAt A.Block.header self.old.core (S.stored store.now) self.old.core.anchor event.now e) }
         ensures up { OnOk result (self.new.core.anchor ≢ None) }
         ensures unchanged { IfErr result (λ e. changes_nothing e ≡ true → (self.new ≡ self.old) × (databases.new ≡ databases.old)) }
         ensures bad { IsErrOf result StepError.BadEvent → ⊥ }
@@ -110,6 +115,10 @@ impl<A: Application + Drop> Stateful<A> {
         ensures register { IfOk result (λ marks. (p : Past A.Block A.Context A.Input) → RegisterStands A.Databases.kind.count p self.old.register → RegisterStands A.Databases.kind.count (after_entry p event marks.items) self.new.register) }
         ensures safe { IsSafe A.Databases.kind (A.Databases.members databases.new) A.Block.header self.new.failed self.new.core }
         ensures store { store.new ≡ store.old }
+
+        // What the event asks for was done, with these marks. A refusal for the event's form, or by the anchor, has its cause.
+        ensures does { IfOk result (λ marks. let w = workings A.Block.header A.meaning A.Databases.kind A.runs A.Databases.shows in IsStep w (S.stored store.old) event (moment w self.old.core (A.Databases.members databases.old) (A.Databases.next databases.old) []) (moment w self.new.core (A.Databases.members databases.new) (A.Databases.next databases.new) marks.items)) }
+        ensures refuses { IfErr result (λ e. is_refusal e ≡ true → RefusesAt A.Block.header self.old.core (S.stored store.old) self.old.core.anchor event e) }
 
         // An event that names work that isn't live is refused as such, and no other; then nothing has changed.
         ensures bad { (p : Past A.Block A.Context A.Input) → RegisterStands A.Databases.kind.count p self.old.register → (IsErrOf result StepError.BadEvent ↔ ((may_come A.Databases.kind.count p event ≡ false) × ((self.old.failed ≡ false) ⊎ (is_restart event ≡ true)))) }

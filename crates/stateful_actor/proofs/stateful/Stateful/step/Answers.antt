@@ -1,7 +1,7 @@
-use Rattle.std.proofs.Common.{rules, ◌≡◌, true, sym, ◌∙◌}
+use Rattle.std.proofs.Common.{rules, ◌≡◌, true, sym, ◌∙◌, false, inl, inr, None, ◌≢◌}
 use Rattle.stateful_actor.specs.Stepping.{changes_nothing}
-use Rattle.stateful_actor.proofs.Stepping.{Sound-working, Stands-faulted, Held-faulted}
-use Rattle.stateful_actor.proofs.stateful.Stateful.step.Goals.{then-not-changes_nothing, else-not-changes_nothing}
+use Rattle.stateful_actor.proofs.Stepping.{restart-refused, Sound-working, Stands-faulted, Held-faulted}
+use Rattle.stateful_actor.proofs.stateful.Stateful.step.Goals.{else-self-via-then-self+else-not-is_restart, else-self-via-else-self, then-not-changes_nothing, else-not-changes_nothing}
 use Rattle.stateful_actor.proofs.stateful.Stateful.step.Goals as goal
 
 pub take-requires-clause-sound : goal.take-requires-clause-sound
@@ -36,3 +36,15 @@ returns-clause-safe g c = elim c.if-not-changes_nothing.branch [
       let same = c.in-Err.ensures.unchanged nothing in
       rw (w.self-is, same.0, same.1) c.requires
 ]
+
+pub returns-then-not-is_working-clause-refuses : goal.returns-then-not-is_working-clause-refuses
+returns-then-not-is_working-clause-refuses g c = λ refusal.
+    let stops : c.is_working.result ≡ false = search rules in
+    let up : c.args.self.now.core.anchor ≢ None = λ none. let works = c.is_working.ensures.1 (inr none) in cc in
+    restart-refused g.A.Block.Block.header c.args.self.now.core (g.S.BlockStore.stored c.args.store.now) c.args.self.now.core.anchor c.args.event up (elim c.else-self.branch [
+      | else-self-via-then-self+else-not-is_restart w ↦ let restarts : w.is_restart.result ≡ true = search rules in sym w.is_restart.ensures ∙ restarts
+      | else-self-via-else-self w ↦
+          let working : c.args.self.now.failed ≡ false = search rules in
+          let works = c.is_working.ensures.1 (inl working) in
+          absurd cc
+    ])

@@ -42,3 +42,6 @@ returns-in-Err-clause-err g c = λ down still.
     let serves = c.in_ok-serve.ensures.ok in
     let doable = IsDoable-admitted _ _ _ c.args.self.now.core _ c.requires.sound c.args.self.now.core.anchor refl c.args.event.now c.in_ok-task.task c.in_ok-task.ensures.ok in
     absurd (does-up _ _ serves.mid _ c.in_ok-task.task doable serves.does (sym (settles-anchor _ serves.mid _ serves.settles) ∙ still))
+
+pub returns-in-Ok-clause-does : goal.returns-in-Ok-clause-does
+returns-in-Ok-clause-does g c = (c.in_ok-task.task, c.in_ok-task.ensures.ok, (rw c.new-marks.ensures.items at c.in_ok-serve.ensures.ok))
