@@ -19,5 +19,7 @@ pub mod Finalizing
 pub mod Tasks
 pub mod Doing
 pub mod Errors
+pub mod Causes
 pub mod Stepping
+pub mod Refusing
 pub mod Driving

@@ -1,12 +1,13 @@
 //! Barriers: their begin, the flushes of their databases, and the receipts that they release.
 
-ghost use Rattle.std.specs.Prelude.{◌≡◌, ◌≢◌, ◌<◌, ℕ, Some, None, IsNone, OnOk, IfSome, IfNone, All, ◌⊎◌, ◌↔◌, IsTrue};
+ghost use Rattle.std.specs.Prelude.{◌≡◌, ◌≢◌, ◌<◌, ◌≤◌, ℕ, Some, None, IsNone, OnOk, OnErr, IfErr, IfSome, IfNone, All, ◌⊎◌, ◌↔◌, IsTrue};
 ghost use Rattle.stateful_db.specs.Barrier.{IsGood, open_at, answered};
 ghost use Rattle.stateful_db.specs.declared.barrier.Flushed.TheVariants.{Good};
 ghost use Rattle.stateful_actor.specs.declared.tables.Active.{Active};
 ghost use Rattle.stateful_actor.specs.Workings.{workings};
 ghost use Rattle.stateful_actor.specs.Moments.{moment};
 ghost use Rattle.stateful_actor.specs.Stands.{Sound};
+ghost use Rattle.stateful_actor.specs.Causes.{FaultsBarrier, FaultsFlush, KeepsStates};
 ghost use Rattle.stateful_actor.specs.Effects.{BeginsBarrier, CompletesBarrier, Acknowledges, Flushes, SettlesAll};
 
 use crate::error::Fault;
@@ -28,6 +29,9 @@ pub(crate) fn begin_barrier<A: Application>(
     requires idle { A.Databases.kind.Idle (A.Databases.members databases.old) }
     ensures ok { OnOk result (let w = workings A.Block.header A.meaning A.Databases.kind A.runs A.Databases.shows in BeginsBarrier w (moment w core.old (A.Databases.members databases.old) (A.Databases.next databases.old) marks.old.items) (moment w core.new (A.Databases.members databases.new) (A.Databases.next databases.new) marks.new.items)) }
     ensures anchor { core.new.anchor ≡ core.old.anchor }
+    ensures fault { IfErr result (FaultsBarrier (workings A.Block.header A.meaning A.Databases.kind A.runs A.Databases.shows) (A.Databases.counted databases.old) (A.Databases.counted databases.new) core.old.next_barrier) }
+    ensures states { OnErr result (KeepsStates (workings A.Block.header A.meaning A.Databases.kind A.runs A.Databases.shows) (A.Databases.members databases.old) (A.Databases.members databases.new)) }
+    ensures later { (n : ℕ) → A.Databases.counted databases.old n ≤ A.Databases.counted databases.new n }
 {
     let number = core.next_barrier;
     if number == u64::MAX {
@@ -71,6 +75,7 @@ fn complete<A: Application>(
     requires some { IfSome core.old.barrier (λ active. core.old.durability.barrier ≡ Some active.height.0) }
     ensures ok { OnOk result (CompletesBarrier core.old core.new marks.old.items marks.new.items ⊎ ((core.new ≡ core.old) × (marks.new.items ≡ marks.old.items))) }
     ensures anchor { core.new.anchor ≡ core.old.anchor }
+    ensures memory { IfErr result (λ f. f ≡ Fault.OutOfMemory) }
 {
     let Some((number, height)) = flushed_barrier(&core.barrier) else {
         return Ok(());
@@ -92,6 +97,7 @@ fn release<A: Application>(
 ) -> Result<(), Fault>
     ensures ok { OnOk result (Acknowledges core.old core.new marks.old.items marks.new.items) }
     ensures anchor { core.new.anchor ≡ core.old.anchor }
+    ensures memory { IfErr result (λ f. f ≡ Fault.OutOfMemory) }
 {
     while let Some((ticket, height)) = core.durability.released() {
         marks.push(Mark::Acknowledged { ticket, height })?;
@@ -118,6 +124,9 @@ pub(crate) fn settle<A: Application>(
     requires sound { Sound A.Databases.kind (A.Databases.members databases.old) A.Block.header core.old }
     ensures ok { OnOk result (let w = workings A.Block.header A.meaning A.Databases.kind A.runs A.Databases.shows in SettlesAll w (moment w core.old (A.Databases.members databases.old) (A.Databases.next databases.old) marks.old.items) (moment w core.new (A.Databases.members databases.new) (A.Databases.next databases.new) marks.new.items)) }
     ensures anchor { core.new.anchor ≡ core.old.anchor }
+    ensures fault { IfErr result (FaultsBarrier (workings A.Block.header A.meaning A.Databases.kind A.runs A.Databases.shows) (A.Databases.counted databases.old) (A.Databases.counted databases.new) core.old.next_barrier) }
+    ensures states { OnErr result (KeepsStates (workings A.Block.header A.meaning A.Databases.kind A.runs A.Databases.shows) (A.Databases.members databases.old) (A.Databases.members databases.new)) }
+    ensures later { (n : ℕ) → A.Databases.counted databases.old n ≤ A.Databases.counted databases.new n }
 {
     complete::<A>(core, marks)?;
     release::<A>(core, marks)?;
@@ -166,6 +175,9 @@ pub(crate) fn flush<A: Application>(
     requires up { core.old.anchor ≢ None }
     requires sound { Sound A.Databases.kind (A.Databases.members databases.old) A.Block.header core.old }
     ensures ok { OnOk result (let w = workings A.Block.header A.meaning A.Databases.kind A.runs A.Databases.shows in Flushes w (moment w core.old (A.Databases.members databases.old) (A.Databases.next databases.old) marks.now.items) (moment w core.new (A.Databases.members databases.new) (A.Databases.next databases.new) marks.now.items) number index) }
+    ensures fault { IfErr result (FaultsFlush (workings A.Block.header A.meaning A.Databases.kind A.runs A.Databases.shows) (A.Databases.counted databases.old) (A.Databases.counted databases.new) core.old.barrier number index) }
+    ensures states { OnErr result (KeepsStates (workings A.Block.header A.meaning A.Databases.kind A.runs A.Databases.shows) (A.Databases.members databases.old) (A.Databases.members databases.new)) }
+    ensures later { (n : ℕ) → A.Databases.counted databases.old n ≤ A.Databases.counted databases.new n }
 {
     let Some(token) = open_token(&core.barrier, number, index) else {
         return Err(Fault::Failed);

@@ -1,7 +1,8 @@
 //! Finalizations.
 
-ghost use Rattle.std.specs.Prelude.{◌≡◌, ◌≢◌, ◌<◌, ◌≤◌, ◌++◌, ◌∷◌, [], ℕ, List, Option, Some, None, OnOk, IfOk, IfErr, true, false, All, IsNone, IsTrue, ◌↔◌, ◌⊎◌};
+ghost use Rattle.std.specs.Prelude.{◌≡◌, ◌≢◌, ◌<◌, ◌≤◌, ◌++◌, ◌∷◌, [], ℕ, List, Option, Some, None, OnOk, OnErr, IfOk, IfErr, true, false, All, IsNone, IsTrue, ◌↔◌, ◌⊎◌};
 ghost use Rattle.stateful_types.specs.Anchor.{anchor_by};
+ghost use Rattle.stateful_types.specs.Causes.{Rose};
 ghost use Rattle.stateful_types.specs.declared.anchor.Anchor.{Anchor};
 ghost use Rattle.stateful_history.specs.declared.mark.Mark.TheVariants.{Began, Applied};
 ghost use Rattle.stateful_actor.specs.Workings.{workings};
@@ -11,6 +12,7 @@ ghost use Rattle.stateful_actor.specs.Caching.{IsIn};
 ghost use Rattle.stateful_actor.specs.Cut.{IsCutTo, IsRootOf};
 ghost use Rattle.stateful_actor.specs.Stands.{Sound};
 ghost use Rattle.stateful_actor.specs.Effects.{HoldsReceipt};
+ghost use Rattle.stateful_actor.specs.Causes.{FaultsApply, FaultsAdvance, FaultsBarrier, FaultsObserving, FaultsFinalize, KeepsStates, LeavesStates};
 ghost use Rattle.stateful_actor.specs.Finalizing.{IsNext, IsPast, RefusesBlock, Moves, BeginsIfNone, Observes, Finalizes};
 
 use crate::barrier::begin_barrier;
@@ -70,6 +72,7 @@ pub(crate) fn hold<A: Application>(
 ) -> Result<(), Fault>
     requires { (height.0 ≤ core.old.durability.durable) ⊎ HasReceipt core.old.durability height.0 }
     ensures ok { OnOk result (HoldsReceipt core.old core.new marks.now.items marks.now.items ticket height.0) }
+    ensures memory { IfErr result (λ f. f ≡ Fault.OutOfMemory) }
 {
     core.durability.record_duplicate(height, ticket)?;
     Ok(())
@@ -81,6 +84,7 @@ fn cut<A: Application>(core: &mut CoreOf<A>, block: &Digested<A::Block>) -> Resu
     ensures kept { OnOk result (IsCutTo (anchor_by A.Block.header block.now) core.old.cache core.new.cache) }
     ensures root { IfOk result (λ batch. IsRootOf (anchor_by A.Block.header block.now) core.old.cache batch) }
     ensures rest { OnOk result (core.new ≡ record core.old { cache = core.new.cache }) }
+    ensures memory { IfErr result (λ f. f ≡ Fault.OutOfMemory) }
 {
     let root = Anchor::from_block(block);
     let cache = mem::replace(&mut core.cache, Cache::new(core.alloc));
@@ -105,6 +109,9 @@ fn apply<A: Application>(
     ensures tokens { OnOk result ((i : ℕ) → A.Databases.kind.token (A.Databases.members databases.new) i ≡ A.Databases.kind.token (A.Databases.members databases.old) i) }
     ensures next { A.Databases.next databases.new ≡ A.Databases.next databases.old }
     ensures core { OnOk result (core.new ≡ record core.old { anchor = Some (anchor_by A.Block.header block.now); durability = record core.old.durability { applied = A.Block.header.height block.now.block } }) }
+    ensures fault { IfErr result (FaultsApply (workings A.Block.header A.meaning A.Databases.kind A.runs A.Databases.shows) (A.Databases.counted databases.old) (A.Databases.counted databases.new) (A.Databases.members databases.old)) }
+    ensures states { OnErr result ((p q : A.Databases.Ids × A.Databases.States) (c : List (A.Databases.Ids × A.Databases.States)) → A.Databases.kind.point (A.Databases.members databases.old) ≡ Some p → A.Databases.shows batch (q ∷ p ∷ c) → (i : ℕ) → A.Databases.kind.HasState (A.Databases.members databases.new) i p.1 ⊎ A.Databases.kind.HasState (A.Databases.members databases.new) i q.1) }
+    ensures later { (n : ℕ) → A.Databases.counted databases.old n ≤ A.Databases.counted databases.new n }
 {
     let root = Anchor::from_block(block);
     databases.apply(batch)?;
@@ -126,6 +133,10 @@ fn advance<A: Application>(
     requires cached { IsIn core.old.cache block.now.digest }
     requires above { core.old.durability.applied < A.Block.header.height block.now.block }
     ensures ok { OnOk result (let w = workings A.Block.header A.meaning A.Databases.kind A.runs A.Databases.shows in Moves w ticket block.now (moment w core.old (A.Databases.members databases.old) (A.Databases.next databases.old) marks.old.items) (moment w core.new (A.Databases.members databases.new) (A.Databases.next databases.new) marks.new.items)) }
+    ensures fault { IfErr result (FaultsAdvance (workings A.Block.header A.meaning A.Databases.kind A.runs A.Databases.shows) (A.Databases.counted databases.old) (A.Databases.counted databases.new) (Rose (A.count application.old) (A.count application.new)) (A.Databases.members databases.old)) }
+    ensures states { OnErr result (LeavesStates (workings A.Block.header A.meaning A.Databases.kind A.runs A.Databases.shows) (anchor_by A.Block.header block.now) core.old.cache (A.Databases.members databases.old) (A.Databases.members databases.new)) }
+    ensures later { (n : ℕ) → A.Databases.counted databases.old n ≤ A.Databases.counted databases.new n }
+    ensures application { A.count application.old ≤ A.count application.new }
 {
     marks.push(Mark::Began {
         ticket,
@@ -150,6 +161,10 @@ fn begin_if_none<A: Application>(
     requires behind { core.old.barrier ≡ None → core.old.durability.durable < core.old.durability.applied }
     requires idle { core.old.barrier ≡ None → A.Databases.kind.Idle (A.Databases.members databases.old) }
     ensures ok { OnOk result (let w = workings A.Block.header A.meaning A.Databases.kind A.runs A.Databases.shows in BeginsIfNone w (moment w core.old (A.Databases.members databases.old) (A.Databases.next databases.old) marks.old.items) (moment w core.new (A.Databases.members databases.new) (A.Databases.next databases.new) marks.new.items)) }
+    ensures fault { IfErr result (FaultsBarrier (workings A.Block.header A.meaning A.Databases.kind A.runs A.Databases.shows) (A.Databases.counted databases.old) (A.Databases.counted databases.new) core.old.next_barrier) }
+    ensures none { OnErr result (core.old.barrier ≡ None) }
+    ensures states { OnErr result (KeepsStates (workings A.Block.header A.meaning A.Databases.kind A.runs A.Databases.shows) (A.Databases.members databases.old) (A.Databases.members databases.new)) }
+    ensures later { (n : ℕ) → A.Databases.counted databases.old n ≤ A.Databases.counted databases.new n }
 {
     if core.barrier.is_none() {
         begin_barrier::<A>(core, databases, marks)
@@ -169,6 +184,7 @@ fn observe<A: Application>(
     requires height { A.Block.header.height block.now.block ≡ core.old.durability.applied }
     requires first { All (λ receipt. receipt.0 ≢ core.old.durability.applied) core.old.durability.held }
     ensures ok { OnOk result (Observes (workings A.Block.header A.meaning A.Databases.kind A.runs A.Databases.shows) ticket block.now hooked core.old core.new marks.old.items marks.new.items) }
+    ensures fault { IfErr result (FaultsObserving hooked core.old.next_job) }
 {
     match hooked {
         Hooked::Done => {
@@ -211,6 +227,10 @@ pub(crate) fn finalize<A: Application>(
     requires idle { core.old.front ≡ None }
     requires cached { IsIn core.old.cache block.now.digest }
     ensures ok { OnOk result (let w = workings A.Block.header A.meaning A.Databases.kind A.runs A.Databases.shows in Finalizes w ticket block.now (moment w core.old (A.Databases.members databases.old) (A.Databases.next databases.old) marks.old.items) (moment w core.new (A.Databases.members databases.new) (A.Databases.next databases.new) marks.new.items)) }
+    ensures fault { IfErr result (FaultsFinalize (workings A.Block.header A.meaning A.Databases.kind A.runs A.Databases.shows) (A.Databases.counted databases.old) (A.Databases.counted databases.new) (Rose (A.count application.old) (A.count application.new)) core.old (A.Databases.members databases.old)) }
+    ensures states { OnErr result (LeavesStates (workings A.Block.header A.meaning A.Databases.kind A.runs A.Databases.shows) (anchor_by A.Block.header block.now) core.old.cache (A.Databases.members databases.old) (A.Databases.members databases.new)) }
+    ensures later { (n : ℕ) → A.Databases.counted databases.old n ≤ A.Databases.counted databases.new n }
+    ensures application { A.count application.old ≤ A.count application.new }
 {
     let captured = advance(application, core, databases, ticket, block, marks)?;
     begin_if_none::<A>(core, databases, marks)?;

@@ -1,9 +1,10 @@
 //! What is done for each task.
 
-ghost use Rattle.std.specs.Prelude.{◌≡◌, None, OnOk, OnErr};
+ghost use Rattle.std.specs.Prelude.{◌≡◌, ◌≢◌, ◌≤◌, ℕ, None, OnOk, OnErr, IfErr};
 ghost use Rattle.stateful_actor.specs.Workings.{workings};
 ghost use Rattle.stateful_actor.specs.Moments.{moment};
 ghost use Rattle.stateful_actor.specs.Stands.{Sound};
+ghost use Rattle.stateful_actor.specs.Causes.{FaultsAt, FaultsIn, LeavesAt, tally};
 ghost use Rattle.stateful_actor.specs.Doing.{IsDoable, Does, Serves};
 
 use crate::barrier::{flush, is_held, settle};
@@ -32,6 +33,10 @@ fn perform<A: Application + Drop, S: BlockStore<A::Block>>(
     requires held { core.old.anchor ≡ None → A.Databases.kind.Held (A.Databases.members databases.old) }
     ensures ok { OnOk result (let w = workings A.Block.header A.meaning A.Databases.kind A.runs A.Databases.shows in Does w (S.stored store.now) task (moment w core.old (A.Databases.members databases.old) (A.Databases.next databases.old) marks.old.items) (moment w core.new (A.Databases.members databases.new) (A.Databases.next databases.new) marks.new.items)) }
     ensures err { OnErr result (core.old.anchor ≡ None → (core.new ≡ core.old) × A.Databases.kind.Held (A.Databases.members databases.new)) }
+    ensures fault { IfErr result (let w = workings A.Block.header A.meaning A.Databases.kind A.runs A.Databases.shows in FaultsAt w A.Run.count A.Hook.count (S.stored store.now) (moment w core.old (A.Databases.members databases.old) (A.Databases.next databases.old) marks.old.items) core.new (A.Databases.members databases.new) (tally (A.count config.old.application) (A.Databases.counted databases.old)) (tally (A.count config.new.application) (A.Databases.counted databases.new)) task) }
+    ensures states { OnErr result (core.old.anchor ≢ None → LeavesAt (workings A.Block.header A.meaning A.Databases.kind A.runs A.Databases.shows) task core.old.cache (A.Databases.members databases.old) (A.Databases.members databases.new)) }
+    ensures later { (n : ℕ) → A.Databases.counted databases.old n ≤ A.Databases.counted databases.new n }
+    ensures application { A.count config.old.application ≤ A.count config.new.application }
 {
     match task {
         Task::Answer { ticket, valid } => answer(ticket, valid, marks),
@@ -90,6 +95,10 @@ pub(crate) fn serve<A: Application + Drop, S: BlockStore<A::Block>>(
     requires held { core.old.anchor ≡ None → A.Databases.kind.Held (A.Databases.members databases.old) }
     ensures ok { OnOk result (let w = workings A.Block.header A.meaning A.Databases.kind A.runs A.Databases.shows in Serves w (S.stored store.now) task (moment w core.old (A.Databases.members databases.old) (A.Databases.next databases.old) marks.old.items) (moment w core.new (A.Databases.members databases.new) (A.Databases.next databases.new) marks.new.items)) }
     ensures err { OnErr result (core.old.anchor ≡ None → core.new.anchor ≡ None → (core.new ≡ core.old) × A.Databases.kind.Held (A.Databases.members databases.new)) }
+    ensures fault { IfErr result (let w = workings A.Block.header A.meaning A.Databases.kind A.runs A.Databases.shows in FaultsIn w A.Run.count A.Hook.count (S.stored store.now) (moment w core.old (A.Databases.members databases.old) (A.Databases.next databases.old) marks.old.items) core.new (A.Databases.members databases.new) (tally (A.count config.old.application) (A.Databases.counted databases.old)) (tally (A.count config.new.application) (A.Databases.counted databases.new)) task) }
+    ensures states { OnErr result (core.old.anchor ≢ None → LeavesAt (workings A.Block.header A.meaning A.Databases.kind A.runs A.Databases.shows) task core.old.cache (A.Databases.members databases.old) (A.Databases.members databases.new)) }
+    ensures later { (n : ℕ) → A.Databases.counted databases.old n ≤ A.Databases.counted databases.new n }
+    ensures application { A.count config.old.application ≤ A.count config.new.application }
 {
     perform(config, core, databases, store, task, marks)?;
     if is_held::<A>(core) {

@@ -1,11 +1,12 @@
 //! One event.
 
-ghost use Rattle.std.specs.Prelude.{◌≡◌, ◌≢◌, ℕ, Bool, true, false, Option, Some, None, IfOk, IfErr, OnOk, OnErr, IsErrOf, [], ◌↔◌, ◌⊎◌, ◌∷◌, IsTrue, is_none, if◌then◌else◌};
+ghost use Rattle.std.specs.Prelude.{◌≡◌, ◌≢◌, ◌≤◌, ℕ, Bool, true, false, Option, Some, None, IfOk, IfErr, OnOk, OnErr, IsErrOf, [], ◌↔◌, ◌⊎◌, ◌∷◌, IsTrue, is_none, if◌then◌else◌};
 ghost use Rattle.stateful_types.specs.Names.{Named};
-ghost use Rattle.stateful_history.specs.Past.{Past, after_entry};
+ghost use Rattle.stateful_history.specs.Past.{Past, Came, after_entry};
 ghost use Rattle.stateful_history.specs.Opening.{base_after};
 ghost use Rattle.stateful_history.specs.Met.{TrueNames};
 ghost use Rattle.stateful_history.specs.Live.{may_come};
+ghost use Rattle.stateful_history.specs.Holding.{HoldsBehind};
 ghost use Rattle.stateful_register.specs.Register.{RegisterStands};
 ghost use Rattle.stateful_actor.specs.Workings.{workings, setting};
 ghost use Rattle.stateful_actor.specs.Stands.{Sound, Stands};
@@ -13,6 +14,8 @@ ghost use Rattle.stateful_actor.specs.Entering.{TakesIn};
 ghost use Rattle.stateful_actor.specs.Moments.{moment};
 ghost use Rattle.stateful_actor.specs.Tasks.{RefusesAt};
 ghost use Rattle.stateful_actor.specs.Doing.{IsStep};
+ghost use Rattle.stateful_actor.specs.Causes.{tally};
+ghost use Rattle.stateful_actor.specs.Refusing.{IsCause};
 ghost use Rattle.stateful_actor.specs.Stepping.{IsSafe, is_restart, changes_nothing, is_refusal};
 
 use crate::error::StepError;
@@ -78,6 +81,11 @@ impl<A: Application + Drop> Stateful<A> {
         ensures bad { IsErrOf result StepError.BadEvent → ⊥ }
         ensures err { OnErr result (self.old.core.anchor ≡ None → self.new.core.anchor ≡ None → (self.new.core ≡ self.old.core) × (self.new.register ≡ self.old.register) × A.Databases.kind.Held (A.Databases.members databases.new)) }
         ensures failed { self.new.failed ≡ self.old.failed }
+        ensures cause { IfErr result (let w = workings A.Block.header A.meaning A.Databases.kind A.runs A.Databases.shows in IsCause w A.Run.count A.Hook.count (S.stored store.now) event.now self.old.failed self.old.register (moment w self.old.core (A.Databases.members databases.old) (A.Databases.next databases.old) []) self.new.core (A.Databases.members databases.new) (tally (A.count self.old.config.application) (A.Databases.counted databases.old)) (tally (A.count self.new.config.application) (A.Databases.counted databases.new))) }
+        ensures able { IsErrOf result StepError.Failed → (stored : ℕ → Option (Named A.Block)) (base : A.Databases.States) (p : Past A.Block A.Context A.Input) → let w = workings A.Block.header A.meaning A.Databases.kind A.runs A.Databases.shows in may_come A.Databases.kind.count p event.now ≡ true → Stands w stored base p false self.old.core self.old.register (A.Databases.members databases.old) (A.Databases.next databases.old) (S.stored store.now) → ⊥ }
+        ensures behind { OnErr result ((stored : ℕ → Option (Named A.Block)) (base : A.Databases.States) (p : Past A.Block A.Context A.Input) → let w = workings A.Block.header A.meaning A.Databases.kind A.runs A.Databases.shows in TrueNames (setting w stored) (Came event.now ∷ p) → Stands w stored base p false self.old.core self.old.register (A.Databases.members databases.old) (A.Databases.next databases.old) (S.stored store.now) → self.old.core.anchor ≢ None → HoldsBehind (setting w stored) w.kind base p event.now (A.Databases.members databases.new)) }
+        ensures later { (n : ℕ) → A.Databases.counted databases.old n ≤ A.Databases.counted databases.new n }
+        ensures application { A.count self.old.config.application ≤ A.count self.new.config.application }
     {
         let task = admit::<A, S>(&self.core, store, event)?;
         let mut marks = Vec::new(self.core.alloc);
@@ -128,6 +136,19 @@ impl<A: Application + Drop> Stateful<A> {
         ensures failed { self.old.failed ≡ true → is_restart event ≡ false → IsErrOf result StepError.Failed }
         ensures fails { IfErr result (λ e. changes_nothing e ≡ false → self.new.failed ≡ true) }
         ensures works { OnOk result (self.new.failed ≡ false) }
+
+        // Every refusal has its cause. `Failed` comes only from a machine that had failed before.
+        ensures cause { IfErr result (let w = workings A.Block.header A.meaning A.Databases.kind A.runs A.Databases.shows in IsCause w A.Run.count A.Hook.count (S.stored store.old) event self.old.failed self.old.register (moment w self.old.core (A.Databases.members databases.old) (A.Databases.next databases.old) []) self.new.core (A.Databases.members databases.new) (tally (A.count self.old.config.application) (A.Databases.counted databases.old)) (tally (A.count self.new.config.application) (A.Databases.counted databases.new))) }
+        ensures able { IsErrOf result StepError.Failed → (stored : ℕ → Option (Named A.Block)) (base : A.Databases.States) (p : Past A.Block A.Context A.Input) → let w = workings A.Block.header A.meaning A.Databases.kind A.runs A.Databases.shows in Stands w stored base p self.old.failed self.old.core self.old.register (A.Databases.members databases.old) (A.Databases.next databases.old) (S.stored store.old) → self.old.failed ≡ true }
+
+        // Behind a refusal of a machine that was up each database that is here holds what was applied, or that and the block that
+        // the event finalizes.
+        ensures behind { OnErr result ((stored : ℕ → Option (Named A.Block)) (base : A.Databases.States) (p : Past A.Block A.Context A.Input) → let w = workings A.Block.header A.meaning A.Databases.kind A.runs A.Databases.shows in TrueNames (setting w stored) (Came event ∷ p) → self.old.failed ≡ false → Stands w stored base p self.old.failed self.old.core self.old.register (A.Databases.members databases.old) (A.Databases.next databases.old) (S.stored store.old) → self.old.core.anchor ≢ None → HoldsBehind (setting w stored) w.kind base p event (A.Databases.members databases.new)) }
+        ensures idle { self.old.failed ≡ true → is_restart event ≡ false → (self.new ≡ self.old) × (databases.new ≡ databases.old) }
+
+        // Counts of faults never fall.
+        ensures later { (n : ℕ) → A.Databases.counted databases.old n ≤ A.Databases.counted databases.new n }
+        ensures application { A.count self.old.config.application ≤ A.count self.new.config.application }
     {
         if self.failed && !is_restart(&event) {
             return Err(StepError::Failed);

@@ -1,11 +1,12 @@
 //! Turns of runs and hooks.
 
-ghost use Rattle.std.specs.Prelude.{◌≡◌, ◌≢◌, ◌<◌, ◌++◌, ◌∷◌, [], ℕ, Option, Some, None, OnOk, IfOk, IfSome, IfNone, All, slice_get, IsTrue, ◌↔◌, MatchOption};
+ghost use Rattle.std.specs.Prelude.{◌≡◌, ◌≢◌, ◌<◌, ◌++◌, ◌∷◌, [], ℕ, Option, Some, None, OnOk, IfOk, IfSome, IfNone, All, slice_get, IsTrue, ◌↔◌, MatchOption, IfErr, IsErrOf, ◌⊎◌};
 ghost use Rattle.stateful_history.specs.declared.mark.Mark.TheVariants.{Ended};
 ghost use Rattle.stateful_history.specs.declared.mark.How.TheVariants.{Hooked};
 ghost use Rattle.stateful_actor.specs.Workings.{workings};
 ghost use Rattle.stateful_actor.specs.Stands.{Sound};
 ghost use Rattle.stateful_actor.specs.Effects.{with_receipt};
+ghost use Rattle.stateful_actor.specs.Causes.{RunFailed, FaultsTurn};
 ghost use Rattle.stateful_actor.specs.Ending.{IsTold, Agrees, Finishes, TurnsRun, TurnsHook, TurnsJob};
 
 use crate::cache::Cached;
@@ -41,6 +42,7 @@ fn keep<A: Application>(
 ) -> Result<How, Fault>
     ensures told { IfOk result (λ how. Agrees (workings A.Block.header A.meaning A.Databases.kind A.runs A.Databases.shows) block.now batch → IsTold (workings A.Block.header A.meaning A.Databases.kind A.runs A.Databases.shows) anchor block.now (Some batch) core.old.cache how core.new.cache) }
     ensures rest { OnOk result (core.new ≡ record core.old { cache = core.new.cache }) }
+    ensures memory { IfErr result (λ f. f ≡ Fault.OutOfMemory) }
 {
     let round = block.round();
     if !round.is_later_than(anchor.round) || !knows(anchor, &core.cache, block.parent()) {
@@ -64,6 +66,7 @@ fn end<A: Application>(
 ) -> Result<How, Fault>
     ensures told { IfOk result (λ how. IsTold (workings A.Block.header A.meaning A.Databases.kind A.runs A.Databases.shows) anchor block.now ended core.old.cache how core.new.cache) }
     ensures rest { OnOk result (core.new ≡ record core.old { cache = core.new.cache }) }
+    ensures memory { IfErr result (λ f. f ≡ Fault.OutOfMemory) }
 {
     let Some(batch) = ended else {
         return Ok(How::Rejected);
@@ -85,6 +88,7 @@ fn finish<A: Application>(
 ) -> Result<(), Fault>
     ensures ok { OnOk result (Finishes (workings A.Block.header A.meaning A.Databases.kind A.runs A.Databases.shows) anchor live ended core.old.cache core.new.cache marks.old.items marks.new.items) }
     ensures rest { OnOk result (core.new ≡ record core.old { cache = core.new.cache }) }
+    ensures memory { IfErr result (λ f. f ≡ Fault.OutOfMemory) }
 {
     let how = end::<A>(core, anchor, &live.block, ended)?;
     marks.push(Mark::Ended { job: live.job, how })?;
@@ -112,6 +116,7 @@ fn end_hook<A: Application>(
     requires first { All (λ receipt. receipt.0 ≢ core.old.durability.applied) core.old.durability.held }
     ensures core { OnOk result (core.new ≡ record core.old { durability = with_receipt core.old.durability (A.Block.header.height front.block.block) front.ticket }) }
     ensures marks { OnOk result (marks.new.items ≡ marks.old.items ++ Ended front.job Hooked ∷ []) }
+    ensures memory { IfErr result (λ f. f ≡ Fault.OutOfMemory) }
 {
     marks.push(Mark::Ended {
         job: front.job,
@@ -133,6 +138,7 @@ fn turn_hook<A: Application>(
     requires sound { Sound A.Databases.kind (A.Databases.members databases.now) A.Block.header core.old }
     requires hook { MatchOption core.old.front ⊥ (λ front. front.job ≡ job) }
     ensures ok { OnOk result (TurnsHook (workings A.Block.header A.meaning A.Databases.kind A.runs A.Databases.shows) core.old core.new marks.old.items marks.new.items job) }
+    ensures fault { IfErr result (FaultsTurn A.Run.count A.Hook.count core.old core.new job) }
 {
     let Some(mut front) = core.front.take() else {
         unreachable!();
@@ -159,6 +165,9 @@ fn turn_run<A: Application>(
     marks: &mut Vec<Mark<A::Block>>,
 ) -> Result<(), Fault>
     ensures ok { OnOk result (TurnsRun (workings A.Block.header A.meaning A.Databases.kind A.runs A.Databases.shows) core.old core.new marks.old.items marks.new.items anchor (A.Databases.members databases.now) job) }
+    ensures application { IsErrOf result Fault.Application → RunFailed A.Run.count core.old.runs.items core.new.runs.items job }
+    ensures failed { IsErrOf result Fault.Failed → All (λ r. r.job ≢ job) core.old.runs.items }
+    ensures fault { IfErr result (λ f. (f ≡ Fault.OutOfMemory) ⊎ (f ≡ Fault.Application) ⊎ (f ≡ Fault.Failed)) }
 {
     let Some(i) = find_job(core.runs.as_slice(), job) else {
         return Err(Fault::Failed);
@@ -184,6 +193,7 @@ pub(crate) fn turn<A: Application>(
     requires up { core.old.anchor ≡ Some anchor }
     requires sound { Sound A.Databases.kind (A.Databases.members databases.now) A.Block.header core.old }
     ensures ok { OnOk result (TurnsJob (workings A.Block.header A.meaning A.Databases.kind A.runs A.Databases.shows) core.old core.new marks.old.items marks.new.items anchor (A.Databases.members databases.now) job) }
+    ensures fault { IfErr result (FaultsTurn A.Run.count A.Hook.count core.old core.new job) }
 {
     if is_hook(&core.front, job) {
         turn_hook::<A>(core, databases, anchor, job, marks)

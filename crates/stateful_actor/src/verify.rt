@@ -1,6 +1,7 @@
 //! Requests to judge blocks: answers, fetches of parents, and the start of a run.
 
 ghost use Rattle.std.specs.Prelude.{◌≡◌, ◌+◌, ◌-◌, ◌^◌, ◌≤◌, ◌++◌, ◌∷◌, [], ℕ, List, Some, OnOk, IfOk, IfErr, IsErrOf};
+ghost use Rattle.stateful_types.specs.Causes.{Rose};
 ghost use Rattle.stateful_types.specs.declared.outcome.Finality.TheVariants.{Candidate};
 ghost use Rattle.stateful_history.specs.declared.mark.Mark.TheVariants.{Verdict, Asked};
 ghost use Rattle.stateful_actor.specs.Workings.{workings};
@@ -8,6 +9,7 @@ ghost use Rattle.stateful_actor.specs.Moments.{moment};
 ghost use Rattle.stateful_actor.specs.Caching.{IsAtHand};
 ghost use Rattle.stateful_actor.specs.Effects.{Tells, Asks};
 ghost use Rattle.stateful_actor.specs.Starting.{IsOver, StartsRun};
+ghost use Rattle.stateful_actor.specs.Causes.{FaultsDraw, FaultsBatches, FaultsProcess, FaultsRun};
 
 use crate::cache::Cache;
 use crate::error::Fault;
@@ -27,6 +29,7 @@ pub(crate) fn answer<B: Drop>(
     marks: &mut Vec<Mark<B>>,
 ) -> Result<(), Fault>
     ensures { OnOk result (marks.new.items ≡ marks.old.items ++ Verdict ticket valid ∷ []) }
+    ensures memory { IfErr result (λ f. f ≡ Fault.OutOfMemory) }
 {
     marks.push(Mark::Verdict { ticket, valid })?;
     Ok(())
@@ -40,6 +43,7 @@ pub(crate) fn ask<A: Application>(
     marks: &mut Vec<Mark<A::Block>>,
 ) -> Result<(), Fault>
     ensures { OnOk result (Asks core.old core.new marks.old.items marks.new.items ticket digest) }
+    ensures fault { IfErr result (FaultsDraw core.old.next_fetch) }
 {
     let fetch = core.next_fetch;
     if fetch == u64::MAX {
@@ -65,6 +69,8 @@ fn begin<A: Application>(
     ensures ok { IfOk result (λ batches. IsOver (workings A.Block.header A.meaning A.Databases.kind A.runs A.Databases.shows) anchor.digest cache.now (A.Databases.members databases.old) (A.Databases.next databases.old) (A.Databases.next databases.new) (λ q c. A.Databases.opened batches ((A.Databases.next databases.old, A.Databases.kind.begun q.1) ∷ q ∷ c)) parent.now.digest) }
     ensures members { A.Databases.members databases.new ≡ A.Databases.members databases.old }
     ensures keeps { (c : List (A.Databases.Ids × A.Databases.States)) → A.Databases.kind.issued (A.Databases.next databases.old) c → A.Databases.kind.issued (A.Databases.next databases.new) c }
+    ensures fault { IfErr result (FaultsBatches (workings A.Block.header A.meaning A.Databases.kind A.runs A.Databases.shows) (A.Databases.members databases.old) (A.Databases.next databases.old)) }
+    ensures counts { (n : ℕ) → A.Databases.counted databases.new n ≡ A.Databases.counted databases.old n }
 {
     let parent = parent.digest();
     if parent.is(anchor.digest) {
@@ -105,6 +111,9 @@ fn start<A: Application>(
     ensures ok { IfOk result (λ run. IsOver (workings A.Block.header A.meaning A.Databases.kind A.runs A.Databases.shows) anchor.digest core.now.cache (A.Databases.members databases.old) (A.Databases.next databases.old) (A.Databases.next databases.new) (λ q c. A.runs run Candidate block.now.block (A.Databases.next databases.old) (q ∷ c)) parent.digest) }
     ensures members { A.Databases.members databases.new ≡ A.Databases.members databases.old }
     ensures keeps { (c : List (A.Databases.Ids × A.Databases.States)) → A.Databases.kind.issued (A.Databases.next databases.old) c → A.Databases.kind.issued (A.Databases.next databases.new) c }
+    ensures fault { IfErr result (FaultsProcess (workings A.Block.header A.meaning A.Databases.kind A.runs A.Databases.shows) (Rose (A.count application.old) (A.count application.new)) (A.Databases.members databases.old) (A.Databases.next databases.old)) }
+    ensures counts { (n : ℕ) → A.Databases.counted databases.new n ≡ A.Databases.counted databases.old n }
+    ensures application { A.count application.old ≤ A.count application.new }
 {
     let batches = begin::<A>(anchor, &core.cache, databases, &parent)?;
     let ancestry = pair(core.alloc, block, parent)?;
@@ -126,6 +135,9 @@ pub(crate) fn run<A: Application>(
     requires { IsAtHand anchor core.old.cache parent.digest }
     ensures ok { OnOk result (let w = workings A.Block.header A.meaning A.Databases.kind A.runs A.Databases.shows in StartsRun w anchor.digest ticket block parent (moment w core.old (A.Databases.members databases.old) (A.Databases.next databases.old) marks.old.items) (moment w core.new (A.Databases.members databases.new) (A.Databases.next databases.new) marks.new.items)) }
     ensures members { A.Databases.members databases.new ≡ A.Databases.members databases.old }
+    ensures fault { IfErr result (FaultsRun (workings A.Block.header A.meaning A.Databases.kind A.runs A.Databases.shows) (Rose (A.count application.old) (A.count application.new)) core.old.next_job (A.Databases.members databases.old) (A.Databases.next databases.old)) }
+    ensures counts { (n : ℕ) → A.Databases.counted databases.new n ≡ A.Databases.counted databases.old n }
+    ensures application { A.count application.old ≤ A.count application.new }
 {
     let job = core.next_job;
     if job == u64::MAX {

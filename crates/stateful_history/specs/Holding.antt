@@ -1,13 +1,16 @@
 -- What the databases hold.
-use Rattle.std.specs.Prelude.{◌≡◌, ◌≤◌, ℕ, ◌+◌, ◌-◌, ◌<◌, Option, Some, None, MatchOption, List}
+use Rattle.std.specs.Prelude.{◌≡◌, ◌≤◌, ℕ, ◌+◌, ◌-◌, ◌<◌, ◌⊎◌, ◌++◌, ◌∷◌, [], Option, Some, None, MatchOption, List}
+use Rattle.stateful_types.specs.Names.{Named}
 use Rattle.stateful_types.specs.declared.anchor.Anchor.{Anchor}
 use Rattle.stateful_db.specs.Databases.{Databases}
 use Rattle.stateful_history.specs.Setting.{Setting}
 use Rattle.stateful_history.specs.Past.{Past}
 use Rattle.stateful_history.specs.Opening.{opening}
-use Rattle.stateful_history.specs.Anchors.{applied}
+use Rattle.stateful_history.specs.Anchors.{applied, anchor_of}
 use Rattle.stateful_history.specs.States.{fold, prefixes}
 use Rattle.stateful_history.specs.Durable.{durable}
+use Rattle.stateful_history.specs.declared.event.Event.{Event}
+use Rattle.stateful_history.specs.declared.event.Event.TheVariants.{Finalized}
 
 module _ {B C I Ids S T : Type 0} (s : Setting B S T) (d : Databases Ids S T) where
   -- The databases are here and hold the fold over what was applied since this opening. From a place of its own on, each
@@ -24,3 +27,23 @@ module _ {B C I Ids S T : Type 0} (s : Setting B S T) (d : Databases Ids S T) wh
   -- the databases hold what was applied since the opening, where there is one
   abbrev pub Holds : S → Past B C I → d.Members → Type 0
   Holds base p m = MatchOption (opening p) (Unit {0}) (λ anchor. HoldsSince base p m anchor)
+
+  -- the database of this number, where it is here, has its part of the fold over these blocks
+  pub record HasFold (base : S) (blocks : List (Named B)) (m : d.Members) (i : ℕ) : Type 0 where
+    pub state : S
+    pub folded : fold s (Some base) blocks ≡ Some state
+    pub has : d.HasState m i state
+
+  -- the event finalizes this block, which is the next child of the anchor
+  pub record FinalizesNext (p : Past B C I) (event : Event B C I) (b : Named B) : Type 0 where
+    pub ticket : ℕ
+    pub anchor : Anchor
+    pub event_is : event ≡ Finalized ticket b
+    pub anchor_is : anchor_of s.header p ≡ Some anchor
+    pub height : s.header.height b.block ≡ anchor.height.0 + 1
+    pub parent : s.header.parent b.block ≡ anchor.digest
+
+  -- What the databases hold behind an event that was refused: each that is here has its part of the fold over what was
+  -- applied, or over that and the block that the event finalizes.
+  abbrev pub HoldsBehind : S → Past B C I → Event B C I → d.Members → Type 0
+  HoldsBehind base p event m = (i : ℕ) → HasFold base (applied p) m i ⊎ ((b : Named B) × FinalizesNext p event b × HasFold base (applied p ++ b ∷ []) m i)
