@@ -28,7 +28,7 @@ pub(crate) fn answer<B: Drop>(
     valid: bool,
     marks: &mut Vec<Mark<B>>,
 ) -> Result<(), Fault>
-    ensures { OnOk result (marks.new.items ≡ marks.old.items ++ Verdict ticket valid ∷ []) }
+    ensures marks { OnOk result (marks.new.items ≡ marks.old.items ++ Verdict ticket valid ∷ []) }
     ensures memory { IfErr result (λ f. f ≡ Fault.OutOfMemory) }
 {
     marks.push(Mark::Verdict { ticket, valid })?;
@@ -42,7 +42,7 @@ pub(crate) fn ask<A: Application>(
     digest: Digest,
     marks: &mut Vec<Mark<A::Block>>,
 ) -> Result<(), Fault>
-    ensures { OnOk result (Asks core.old core.new marks.old.items marks.new.items ticket digest) }
+    ensures ok { OnOk result (Asks core.old core.new marks.old.items marks.new.items ticket digest) }
     ensures fault { IfErr result (FaultsDraw core.old.next_fetch) }
 {
     let fetch = core.next_fetch;

@@ -28,12 +28,14 @@ module _ {B C I Ids S T : Type 0} (s : Setting B S T) (d : Databases Ids S T) wh
   abbrev pub Holds : S → Past B C I → d.Members → Type 0
   Holds base p m = MatchOption (opening p) (Unit {0}) (λ anchor. HoldsSince base p m anchor)
 
+module _ {B Ids S T : Type 0} (s : Setting B S T) (d : Databases Ids S T) where
   -- the database of this number, where it is here, has its part of the fold over these blocks
   pub record HasFold (base : S) (blocks : List (Named B)) (m : d.Members) (i : ℕ) : Type 0 where
     pub state : S
     pub folded : fold s (Some base) blocks ≡ Some state
     pub has : d.HasState m i state
 
+module _ {B C I S T : Type 0} (s : Setting B S T) where
   -- the event finalizes this block, which is the next child of the anchor
   pub record FinalizesNext (p : Past B C I) (event : Event B C I) (b : Named B) : Type 0 where
     pub ticket : ℕ
@@ -43,7 +45,8 @@ module _ {B C I Ids S T : Type 0} (s : Setting B S T) (d : Databases Ids S T) wh
     pub height : s.header.height b.block ≡ anchor.height.0 + 1
     pub parent : s.header.parent b.block ≡ anchor.digest
 
+module _ {B C I Ids S T : Type 0} (s : Setting B S T) (d : Databases Ids S T) where
   -- What the databases hold behind an event that was refused: each that is here has its part of the fold over what was
   -- applied, or over that and the block that the event finalizes.
   abbrev pub HoldsBehind : S → Past B C I → Event B C I → d.Members → Type 0
-  HoldsBehind base p event m = (i : ℕ) → HasFold base (applied p) m i ⊎ ((b : Named B) × FinalizesNext p event b × HasFold base (applied p ++ b ∷ []) m i)
+  HoldsBehind base p event m = (i : ℕ) → HasFold s d base (applied p) m i ⊎ ((b : Named B) × FinalizesNext s p event b × HasFold s d base (applied p ++ b ∷ []) m i)
