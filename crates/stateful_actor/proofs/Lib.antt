@@ -25,6 +25,7 @@ pub mod Flushing
 pub mod Opening
 pub mod Entered
 pub mod Played
+pub mod Halting
 pub mod CodeTests
 pub mod CodeResults
 pub mod CodeFinding
