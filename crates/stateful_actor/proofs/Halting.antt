@@ -30,12 +30,16 @@ pub err_to : {T E : Type 0} (r : Result T E) (Q P : E → Type 0) → IsErrAnd r
 err_to (Ok x) Q P is f = absurd is
 err_to (Err e) Q P is f = f e is
 
+-- the event behind those that were taken in
+pub event_at : {X : Type 0} (done rest left all taken : List X) (x : X) → done ++ rest ≡ all → rest ≡ x ∷ left → taken ≡ done → all ≡ taken ++ x ∷ left
+event_at {X} done rest left all taken x e is t = sym e ∙ (ap (λ (l : List X). done ++ l) is ∙ ap (λ (d : List X). d ++ x ∷ left) (sym t))
+
 -- a register that stands for a history an entry longer
 pub registered-longer : {B C I : Type 0} (count : ℕ) (history longer : List (Entry B C I)) (entry : Entry B C I) (register : Register) → longer ≡ history ++ entry ∷ [] → RegisterStands count (after_entry (after_all [] history) entry.event entry.marks) register → RegisterStands count (after_all [] longer) register
 registered-longer {B} {C} {I} count history longer entry register is stands =
     subst (λ (p : Past B C I). RegisterStands count p register) (sym (ap (λ (h : List (Entry B C I)). after_all [] h) is ∙ after_all-push [] history entry)) stands
 
-HasNotFallen-itself : (t : Tally) → HasNotFallen t t
+pub HasNotFallen-itself : (t : Tally) → HasNotFallen t t
 HasNotFallen-itself t = record { application = omega arith; databases = λ i. omega arith }
 
 pub HasNotFallen-further : (start before now : Tally) → HasNotFallen start before → HasNotFallen before now → HasNotFallen start now

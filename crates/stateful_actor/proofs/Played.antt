@@ -32,7 +32,7 @@ events-push {B} {C} {I} history longer event events adds is =
 
 module _ {B C I R U : Type 0} (w : Workings B R U) (stored : ℕ → Option (Named B)) where
   -- a new machine stands for the empty past
-  Register-new : (register : Register) → IsBlank register → RegisterStands {B = B} {C = C} {I = I} w.kind.count [] register
+  pub Register-new : (register : Register) → IsBlank register → RegisterStands {B = B} {C = C} {I = I} w.kind.count [] register
   Register-new register blank = record {
     tickets = blank.tickets;
     jobs = blank.jobs;

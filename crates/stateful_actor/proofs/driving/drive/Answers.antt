@@ -1,6 +1,8 @@
 use Rattle.std.proofs.Common.{sym, ◌∙◌, refl}
 use Rattle.stateful_actor.proofs.CodeCut.{one_over, none_over}
-use Rattle.stateful_actor.proofs.Played.{HasPlayed-new, Plays-any, Plays-holds, events-push}
+use Rattle.stateful_actor.specs.Workings.{workings}
+use Rattle.stateful_actor.proofs.Halting.{HasNotFallen-itself, HasNotFallen-further, IsRefused-since, event_at}
+use Rattle.stateful_actor.proofs.Played.{Register-new, HasPlayed-new, Plays-any, Plays-holds, events-push}
 use Rattle.stateful_actor.proofs.driving.drive.Goals as goal
 
 pub loop-event-init : goal.loop-event-init
@@ -10,6 +12,9 @@ loop-event-init g c = record {
   played = rw c.new.ensures.items (HasPlayed-new _ _ c.args.stateful.failed c.args.stateful.core c.args.stateful.register _ _ c.requires.new);
   safe = record { sound = λ up anchor is. let down = c.requires.new.down in absurd cc; held = λ none. c.requires.held };
   store = refl;
+  working = c.requires.new.working;
+  registered = rw c.new.ensures.items (Register-new (workings g.A.Block.Block.header g.A.Application.meaning g.A.Databases.DatabaseSet.kind g.A.Application.runs g.A.Databases.DatabaseSet.shows) (g.S.BlockStore.stored c.args.store.now) c.args.stateful.register c.requires.new.blank);
+  later = HasNotFallen-itself _;
 }
 
 pub loop-event-preserved : goal.loop-event-preserved
@@ -21,7 +26,19 @@ loop-event-preserved g c =
       played = (rw i.store at c.in-Ok.ensures.played) i.played;
       safe = c.in-Ok.ensures.safe;
       store = c.in-Ok.ensures.store ∙ i.store;
+      working = c.in-Ok.ensures.works;
+      registered = c.in-Ok.ensures.register i.registered;
+      later = HasNotFallen-further _ _ _ i.later (record { application = c.in-Ok.ensures.application; databases = c.in-Ok.ensures.later });
     }
+
+pub returns-in-Err-clause-refused : goal.returns-in-Err-clause-refused
+returns-in-Err-clause-refused g c =
+    let D = g.A.Databases.DatabaseSet in
+    let w = workings g.A.Block.Block.header g.A.Application.meaning D.kind g.A.Application.runs D.shows in
+    let i = c.loop-event.invariant in
+    (c.in-Some.event, c.next.new.self.rest.items, rw c.in-Err.ensures.err (event_at c.loop-event.yielded _ _ _ _ _ i.all c.in-Some.ensures.steps.0 i.events),
+    rw c.in-Err.ensures.err (IsRefused-since w g.met.A.Databases.DatabaseSet.laws (g.S.BlockStore.stored c.args.store.now) g.A.Run.Faulty.count g.A.Hook.Faulty.count c.loop-event.driven.history.items c.in-Some.event _ _ _ _ _ _ i.later
+    ((rw i.store at c.in-Err.ensures.refused) i.played i.registered)))
 
 pub returns-in-Err-clause-played : goal.returns-in-Err-clause-played
 returns-in-Err-clause-played g c = λ names. rw c.in-Err.ensures.err (Plays-any _ _ c.loop-event.driven.history.items _ _ _ _ _ c.loop-event.invariant.played (rw (sym c.in-Err.ensures.err) names))

@@ -1,7 +1,10 @@
-use Rattle.std.proofs.Common.{◌≡◌, ◌++◌, map}
+use Rattle.std.proofs.Common.{◌≡◌, ◌++◌, false, [], map}
+use Rattle.stateful_history.specs.Past.{after_all}
+use Rattle.stateful_register.specs.Register.{RegisterStands}
 use Rattle.stateful_actor.specs.Workings.{workings}
+use Rattle.stateful_actor.specs.Causes.{tally}
 use Rattle.stateful_actor.specs.Stepping.{IsSafe}
-use Rattle.stateful_actor.specs.Driving.{HasPlayed}
+use Rattle.stateful_actor.specs.Driving.{HasPlayed, HasNotFallen}
 use Rattle.stateful_actor.proofs.driving.drive.Given as goal
 
 abbrev pub invariant-loop-event : goal.invariant-loop-event
@@ -14,4 +17,7 @@ invariant-loop-event g l =
       played : HasPlayed w (g.S.BlockStore.stored l.fn.store) l.driven.history.items l.driven.stateful.failed l.driven.stateful.core l.driven.stateful.register (D.members l.driven.databases) (D.next l.driven.databases);
       safe : IsSafe D.kind (D.members l.driven.databases) g.A.Block.Block.header l.driven.stateful.failed l.driven.stateful.core;
       store : l.store ≡ l.fn.store;
+      working : l.driven.stateful.failed ≡ false;
+      registered : RegisterStands D.kind.count (after_all [] l.driven.history.items) l.driven.stateful.register;
+      later : HasNotFallen (tally (g.A.Faulty.count l.fn.stateful.config.application) (D.counted l.fn.databases)) (tally (g.A.Faulty.count l.driven.stateful.config.application) (D.counted l.driven.databases));
     }
