@@ -15,3 +15,7 @@ IsHook (hooked.Pending hook) turns = (hook.left ≡ turns) × (0 < turns)
 abbrev pub GoesOn : {T : Type 0} → Moved T → ℕ → Type 0
 GoesOn moved.Pending left = 0 < left
 GoesOn (moved.Done value) left = left ≡ 0
+
+-- a hook never fails
+abbrev pub hook_faults : BankHook → ℕ
+hook_faults hook = 0

@@ -62,3 +62,7 @@ abbrev pub counted : {T : Type 0} → Result T AppFault → ℕ → ℕ
 counted (Err Failed) faults = min (faults + 1) (2 ^ 64 - 1)
 counted (Err OutOfMemory) faults = faults
 counted (Ok value) faults = faults
+
+-- how often a run has failed
+abbrev pub run_faults : BankRun → ℕ
+run_faults run = run.faults

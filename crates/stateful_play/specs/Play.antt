@@ -1,5 +1,5 @@
 -- What was played of a script.
-use Rattle.std.specs.Prelude.{◌≡◌, ◌≢◌, ◌<◌, ℕ, List, [], Option, Some, None, length, map, take}
+use Rattle.std.specs.Prelude.{◌≡◌, ◌≢◌, ◌<◌, ℕ, List, [], ◌∷◌, ◌++◌, Option, Some, None, IfSome, length, map, take}
 use Rattle.stateful_types.specs.Names.{Named}
 use Rattle.stateful_types.specs.declared.round.Round.{Round}
 use Rattle.stateful_db.specs.Member.{Member}
@@ -11,7 +11,9 @@ use Rattle.stateful_plain.specs.Whole.{Whole, begun, initial, target_of}
 use Rattle.stateful_plain.specs.Shown.{SealShows}
 use Rattle.stateful_plain.specs.declared.batch.PlainMerkleized.{PlainMerkleized}
 use Rattle.stateful_plain_bank.specs.Stepped.{bank_meaning}
-use Rattle.stateful_plain_bank.specs.Runs.{RunsOn}
+use Rattle.stateful_plain_bank.specs.Runs.{RunsOn, run_faults}
+use Rattle.stateful_plain_bank.specs.Hooks.{hook_faults}
+use Rattle.stateful_plain_bank.specs.declared.hook.BankHook.{BankHook}
 use Rattle.stateful_plain_bank.specs.declared.run.BankRun.{BankRun}
 use Rattle.stateful_history.specs.Past.{after_all}
 use Rattle.stateful_history.specs.Honest.{IsHonest}
@@ -20,6 +22,9 @@ use Rattle.stateful_history.specs.Holding.{Holds}
 use Rattle.stateful_history.specs.declared.entry.Entry.{Entry}
 use Rattle.stateful_actor.specs.Workings.{Workings, workings, setting}
 use Rattle.stateful_actor.specs.Entering.{Plays}
+use Rattle.stateful_actor.specs.Causes.{Tally}
+use Rattle.stateful_actor.specs.Driving.{IsRefused}
+use Rattle.stateful_actor.specs.declared.tables.Core.{Core}
 use Rattle.stateful_actor.specs.declared.driving.Halted.{Halted}
 use Rattle.stateful_actor.specs.declared.error.StepError.TheVariants.{OutOfMemory}
 use Rattle.stateful_script.specs.declared.script.Script.{Script}
@@ -51,8 +56,19 @@ module _ (stored : ℕ → Option (Named BankBlock)) where
   abbrev pub KeepRules : Option Halted → List (Entry BankBlock Round Ask) → Member Whole → Type 0
   KeepRules «end» entries m = TrueNames (setting bank stored) (after_all [] entries) → Plays bank stored initial [] entries (EndsWell «end» entries m)
 
+-- The event behind those that were taken in was refused with this error, and the machine says why. Counts have not fallen
+-- since the start.
+pub record IsHaltedBy (stored : ℕ → Option (Named BankBlock)) (events : List BankEvent) (entries : List (Entry BankBlock Round Ask)) (m : Member Whole) (halted : Halted) : Type 0 where
+  pub event : BankEvent
+  pub rest : List BankEvent
+  pub behind : events ≡ map (λ entry. entry.event) entries ++ event ∷ rest
+  pub core : Core BankBlock BankRun BankHook PlainMerkleized
+  pub start : Tally
+  pub now : Tally
+  pub refused : IsRefused bank stored run_faults hook_faults entries event halted.error core m start now
+
 -- This was played of the script, whose blocks go by these labels: the events were taken in, in each ancestry each block
--- is the parent of the one before it, and the rules are kept.
+-- is the parent of the one before it, the rules are kept, and an event that was refused has its cause.
 pub record IsPlayOf (script : Script) (labels : List Label) (p : Played) : Type 0 where
   pub blocks : List Planned
   pub planned : ArePlanned script.blocks blocks
@@ -61,3 +77,4 @@ pub record IsPlayOf (script : Script) (labels : List Label) (p : Played) : Type 
   pub events : AreTaken p.«end» (events_of blocks script.events) (map (λ entry. entry.event) (entries_of p.history))
   pub honest : IsHonest (setting bank (store_of blocks script.events)) (after_all [] (entries_of p.history))
   pub rules : KeepRules (store_of blocks script.events) p.«end» (entries_of p.history) (member_of p.databases)
+  pub refused : IfSome p.«end» (IsHaltedBy (store_of blocks script.events) (events_of blocks script.events) (entries_of p.history) (member_of p.databases))
