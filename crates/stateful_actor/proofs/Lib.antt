@@ -37,3 +37,4 @@ pub mod CodeStarting
 pub mod CodeReleasing
 pub mod CodeSettling
 pub mod CodeFinalizing
+pub mod CodeStates

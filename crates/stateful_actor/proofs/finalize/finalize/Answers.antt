@@ -40,13 +40,12 @@ observe-requires-clause-first g c =
     let old = moment w c.args.core.now (g.A.Databases.DatabaseSet.members c.args.databases.now) (g.A.Databases.DatabaseSet.next c.args.databases.now) c.args.marks.now.items in
     begun_first w g.met.A.Databases.DatabaseSet.laws c.args.ticket c.args.block.now old c.requires.sound c.requires.next _ c.in_ok-captured.ensures.ok _ c.in_ok-begin_if_none.ensures.ok
 
-pub returns : goal.returns
-returns g c =
+pub returns-clause-ok : goal.returns-clause-ok
+returns-clause-ok g c =
     let w = workings g.A.Block.Block.header g.A.Application.meaning g.A.Databases.DatabaseSet.kind g.A.Application.runs g.A.Databases.DatabaseSet.shows in
     let moved = moment w c.advance.new.core (g.A.Databases.DatabaseSet.members c.advance.new.databases) (g.A.Databases.DatabaseSet.next c.advance.new.databases) c.advance.new.marks.items in
     let begun = moment w c.begin_if_none.new.core (g.A.Databases.DatabaseSet.members c.begin_if_none.new.databases) (g.A.Databases.DatabaseSet.next c.begin_if_none.new.databases) c.begin_if_none.new.marks.items in
-    record {
-      ok = on_ok c.observe.result (λ observes. record {
+    on_ok c.observe.result (λ observes. record {
         moved = moved;
         begun = begun;
         hooked = c.in_ok-hooked.hooked;
@@ -55,5 +54,4 @@ returns g c =
         observes = observes;
         members = refl;
         next = refl;
-      }) c.observe.ensures.ok;
-    }
+      }) c.observe.ensures.ok
