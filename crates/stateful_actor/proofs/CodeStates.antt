@@ -62,11 +62,14 @@ module _ {B R U : Type 0} (w : Workings B R U) (before now : ℕ → ℕ) (e : S
 
 module _ {B R U : Type 0} (w : Workings B R U) (laws : Laws w.kind) where
   -- where nothing has changed they hold the states before
-  pub keeps_same : (m : w.kind.Members) → KeepsStates w m m
+  keeps_same : (m : w.kind.Members) → KeepsStates w m m
   keeps_same m p here i = laws.has_state m p i here
 
+  pub leaves_same : (root : Anchor) (cache : List (Cached U)) (m : w.kind.Members) → LeavesStates w root cache m m
+  leaves_same root cache m p here = inl (keeps_same m p here)
+
   -- where the batch of the root was applied, and what was there behind the apply was kept, they hold the states of that batch
-  pub leaves_applied : (root : Anchor) (cache : List (Cached U)) (batch : U) (old mid new : w.kind.Members) → IsRootOf root cache batch
+  leaves_applied : (root : Anchor) (cache : List (Cached U)) (batch : U) (old mid new : w.kind.Members) → IsRootOf root cache batch
       → ((p q : Point w) (c : List (Point w)) → w.kind.point old ≡ Some p → w.shows batch (q ∷ p ∷ c) → mid ≡ w.kind.applied old q)
       → KeepsStates w mid new → LeavesStates w root cache old new
   leaves_applied root cache batch old mid new is_root applies keeps p here =

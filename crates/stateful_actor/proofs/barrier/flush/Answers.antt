@@ -1,9 +1,9 @@
-use Rattle.std.proofs.Common.{Err, ap, ◌≡◌, sym, subst, ◌<◌}
+use Rattle.std.proofs.Common.{◌<◌, Err, sym, ap, subst}
 use Rattle.stateful_actor.specs.Workings.{workings}
 use Rattle.stateful_actor.specs.Errors.{fault_of_set}
 use Rattle.stateful_actor.specs.Causes.{FaultsFlush}
-use Rattle.stateful_actor.proofs.CodeStates.{converted, fault_flushing}
 use Rattle.stateful_actor.proofs.CodeSound.{handle_within, handle_out}
+use Rattle.stateful_actor.proofs.CodeStates.{converted, fault_flushing}
 use Rattle.stateful_actor.proofs.barrier.flush.Goals as goal
 
 pub flush-requires-clause-within : goal.flush-requires-clause-within
@@ -26,5 +26,5 @@ returns-in_err-flush-clause-fault g c =
     let f = c.in-Some.ensures.found in
     let within = handle_within g.A.Databases.DatabaseSet.kind _ g.A.Block.Block.header c.args.core.now c.requires.sound c.requires.up f.0 f.1 c.args.index c.in-Some.token f.3 in
     converted (FaultsFlush w before now c.args.core.now.barrier c.args.number c.args.index) c.from_residual.result (fault_of_set e) c.from_residual.ensures.1
-        (fault_flushing w before now e c.args.core.now.barrier c.args.number c.args.index (λ is. failed.lost (ap Err is)) (λ is. failed.exhausted (ap Err is))
-        (λ n k is. let h = failed.fault n k (ap Err is) in (h.1, (h.0, subst (λ i. i < w.kind.count) (sym h.1) within, h.2))))
+    (fault_flushing w before now e c.args.core.now.barrier c.args.number c.args.index (λ is. failed.lost (ap Err is)) (λ is. failed.exhausted (ap Err is))
+    (λ n k is. let h = failed.fault n k (ap Err is) in (h.1, (h.0, subst (λ i. i < w.kind.count) (sym h.1) within, h.2))))

@@ -14,4 +14,4 @@ returns-in_err-apply-clause-fault g c =
     let e = c.in_err-apply.field-0.0 in
     let failed = c.in_err-apply.ensures in
     converted (FaultsApply w before now members) c.from_residual.result (fault_of_set e) c.from_residual.ensures.1
-        (fault_applying w before now e members (λ is. failed.lost.0 (ap Err is)) (λ is. failed.exhausted (ap Err is)) (λ n k is. let f = failed.fault n k (ap Err is) in (f.0, f.1, f.2)))
+    (fault_applying w before now e members (λ is. failed.lost.0 (ap Err is)) (λ is. failed.exhausted (ap Err is)) (λ n k is. let f = failed.fault n k (ap Err is) in (f.0, f.1, f.2)))

@@ -47,15 +47,15 @@ returns-clause-ok g c =
     let moved = moment w c.advance.new.core (g.A.Databases.DatabaseSet.members c.advance.new.databases) (g.A.Databases.DatabaseSet.next c.advance.new.databases) c.advance.new.marks.items in
     let begun = moment w c.begin_if_none.new.core (g.A.Databases.DatabaseSet.members c.begin_if_none.new.databases) (g.A.Databases.DatabaseSet.next c.begin_if_none.new.databases) c.begin_if_none.new.marks.items in
     on_ok c.observe.result (λ observes. record {
-        moved = moved;
-        begun = begun;
-        hooked = c.in_ok-hooked.hooked;
-        moves = c.in_ok-captured.ensures.ok;
-        begins = c.in_ok-begin_if_none.ensures.ok;
-        observes = observes;
-        members = refl;
-        next = refl;
-      }) c.observe.ensures.ok
+      moved = moved;
+      begun = begun;
+      hooked = c.in_ok-hooked.hooked;
+      moves = c.in_ok-captured.ensures.ok;
+      begins = c.in_ok-begin_if_none.ensures.ok;
+      observes = observes;
+      members = refl;
+      next = refl;
+    }) c.observe.ensures.ok
 
 pub returns-in_err-begin_if_none-clause-states : goal.returns-in_err-begin_if_none-clause-states
 returns-in_err-begin_if_none-clause-states g c =
