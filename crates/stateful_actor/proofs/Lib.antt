@@ -38,3 +38,4 @@ pub mod CodeStarting
 pub mod CodeReleasing
 pub mod CodeSettling
 pub mod CodeFinalizing
+pub mod CodeStates

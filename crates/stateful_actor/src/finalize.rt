@@ -110,7 +110,7 @@ fn apply<A: Application>(
     ensures next { A.Databases.next databases.new ≡ A.Databases.next databases.old }
     ensures core { OnOk result (core.new ≡ record core.old { anchor = Some (anchor_by A.Block.header block.now); durability = record core.old.durability { applied = A.Block.header.height block.now.block } }) }
     ensures fault { IfErr result (FaultsApply (workings A.Block.header A.meaning A.Databases.kind A.runs A.Databases.shows) (A.Databases.counted databases.old) (A.Databases.counted databases.new) (A.Databases.members databases.old)) }
-    ensures states { OnErr result ((p q : A.Databases.Ids × A.Databases.States) (c : List (A.Databases.Ids × A.Databases.States)) → A.Databases.kind.point (A.Databases.members databases.old) ≡ Some p → A.Databases.shows batch (q ∷ p ∷ c) → (i : ℕ) → A.Databases.kind.HasState (A.Databases.members databases.new) i p.1 ⊎ A.Databases.kind.HasState (A.Databases.members databases.new) i q.1) }
+    ensures states { (p q : A.Databases.Ids × A.Databases.States) (c : List (A.Databases.Ids × A.Databases.States)) → A.Databases.kind.point (A.Databases.members databases.old) ≡ Some p → A.Databases.shows batch (q ∷ p ∷ c) → (i : ℕ) → A.Databases.kind.HasState (A.Databases.members databases.new) i p.1 ⊎ A.Databases.kind.HasState (A.Databases.members databases.new) i q.1 }
     ensures later { (n : ℕ) → A.Databases.counted databases.old n ≤ A.Databases.counted databases.new n }
 {
     let root = Anchor::from_block(block);
