@@ -1,13 +1,19 @@
 -- Which errors of calls lead to a fault.
-use Rattle.std.proofs.Common.{◌≡◌, ◌<◌, ℕ, List, Result, IsErrAnd, IsErrOf, Some, length, set, slice_get, refl, sym, inr}
+use Rattle.std.proofs.Common.{◌≡◌, ◌<◌, ℕ, List, Result, Option, IsErrAnd, IsErrOf, IfErr, Some, length, set, slice_get, refl, sym, inr}
 use Rattle.std.proofs.lemmas.Result.{err_from_is_err_and}
 use Rattle.std.proofs.lemmas.List.{get_or-set_same, length-set}
 use Rattle.std.proofs.lemmas.Option.{slice_get_read}
+use Rattle.stateful_types.specs.Names.{Named}
 use Rattle.stateful_types.specs.Causes.{Rose}
+use Rattle.stateful_types.specs.declared.floor.Floor.{Floor}
+use Rattle.stateful_db.specs.declared.database.InitError.{InitError}
+use Rattle.stateful_db.specs.declared.database.InitError.TheVariants as init
 use Rattle.stateful_db.specs.declared.application.AppFault.{AppFault}
 use Rattle.stateful_db.specs.declared.application.AppFault.TheVariants as app
-use Rattle.stateful_actor.specs.Errors.{fault_of_app}
-use Rattle.stateful_actor.specs.Causes.{RunFailed, FaultsTurn}
+use Rattle.stateful_db.specs.declared.set.SetInit.{SetInit}
+use Rattle.stateful_actor.specs.Errors.{fault_of_app, fault_of_why, fault_of_init}
+use Rattle.stateful_actor.specs.Workings.{Workings}
+use Rattle.stateful_actor.specs.Causes.{RunFailed, FaultsTurn, FailsToOpen, FaultsOpening}
 use Rattle.stateful_actor.specs.declared.error.Fault.{Fault}
 use Rattle.stateful_actor.specs.declared.error.Fault.TheVariants.{Application}
 use Rattle.stateful_actor.specs.declared.tables.Core.{Core}
@@ -47,3 +53,13 @@ FaultsTurn-hook run_count hook_count old new front turned app.Failed f was is ro
   rose = rose refl;
 }))
 FaultsTurn-hook run_count hook_count old new front turned app.OutOfMemory f was is rose of = rw of tt
+
+-- a database doesn't open
+module _ {B R U : Type 0} (w : Workings B R U) (before now : ℕ → ℕ) (floor : Floor) (keep : List ℕ) (store : ℕ → Option (Named B)) (old new : w.kind.Members) where
+  FaultsOpening-why : (i : ℕ) (why : InitError) → FailsToOpen w before now floor keep store old new i why → FaultsOpening w before now floor keep store old new (fault_of_why i why)
+  FaultsOpening-why i init.Database fails = fails
+  FaultsOpening-why i (init.TargetMismatch expected recovered) fails = fails
+  FaultsOpening-why i init.OutOfMemory fails = tt
+
+  pub FaultsOpening-init : {T : Type 0} (r : Result T Fault) (e : SetInit) → IsErrAnd r (λ f. f ≡ fault_of_init e) → FailsToOpen w before now floor keep store old new e.index e.why → IfErr r (FaultsOpening w before now floor keep store old new)
+  FaultsOpening-init r e of fails = let p = err_from_is_err_and r of in rw (p.1, p.2) (FaultsOpening-why e.index e.why fails)
