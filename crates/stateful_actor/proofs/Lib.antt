@@ -33,6 +33,7 @@ pub mod CodeJudging
 pub mod CodeCut
 pub mod Releasing
 pub mod CodeSound
+pub mod CodeFaults
 pub mod CodeTurning
 pub mod CodeStarting
 pub mod CodeReleasing

@@ -1,6 +1,7 @@
-use Rattle.std.proofs.Common.{◌≡◌, refl, sym, ◌∙◌, inl, Some}
+use Rattle.std.proofs.Common.{◌≡◌, refl, sym, ◌∙◌, ap, inl, Some, Err}
 use Rattle.stateful_actor.specs.Workings.{workings}
 use Rattle.stateful_actor.specs.declared.tables.Front.{Front}
+use Rattle.stateful_actor.proofs.CodeFaults.{FaultsTurn-hook}
 use Rattle.stateful_actor.proofs.CodeTurning.{TurnsHook-ended}
 use Rattle.stateful_actor.proofs.CodeSound.{of_some, front_height, front_first}
 use Rattle.stateful_actor.proofs.turn.turn_hook.Goals as goal
@@ -11,21 +12,26 @@ end_hook-requires-clause-height g c = front_height g.A.Databases.DatabaseSet.kin
 pub end_hook-requires-clause-first : goal.end_hook-requires-clause-first
 end_hook-requires-clause-first g c = front_first g.A.Databases.DatabaseSet.kind _ g.A.Block.Block.header c.args.core.now c.requires.sound c.args.anchor c.requires.up c.in-Some.front (sym c.take.ensures.value ∙ c.in-Some.is)
 
-pub returns-in-Ok-Pending : goal.returns-in-Ok-Pending
-returns-in-Ok-Pending g c =
+pub returns-in-Ok-Pending-clause-ok : goal.returns-in-Ok-Pending-clause-ok
+returns-in-Ok-Pending-clause-ok g c =
     let is : c.args.core.now.front ≡ Some c.in-Some.front = sym c.take.ensures.value ∙ c.in-Some.is in
     record {
-      ok = record {
-        front = c.in-Some.front;
-        is = is;
-        job_is = of_some (λ (f : Front _ _). f.job ≡ c.args.job) c.args.core.now.front c.in-Some.front is c.requires.hook;
-        leaves = inl (c.turn_hook.new.hook, refl, refl);
-      };
+      front = c.in-Some.front;
+      is = is;
+      job_is = of_some (λ (f : Front _ _). f.job ≡ c.args.job) c.args.core.now.front c.in-Some.front is c.requires.hook;
+      leaves = inl (c.turn_hook.new.hook, refl, refl);
     }
 
-pub returns-in-Ok-Done : goal.returns-in-Ok-Done
-returns-in-Ok-Done g c =
+pub returns-in-Ok-Done-clause-ok : goal.returns-in-Ok-Done-clause-ok
+returns-in-Ok-Done-clause-ok g c =
     let is : c.args.core.now.front ≡ Some c.in-Some.front = sym c.take.ensures.value ∙ c.in-Some.is in
     let job : c.in-Some.front.job ≡ c.args.job = of_some (λ (f : Front _ _). f.job ≡ c.args.job) c.args.core.now.front c.in-Some.front is c.requires.hook in
     let w = workings g.A.Block.Block.header g.A.Application.meaning g.A.Databases.DatabaseSet.kind g.A.Application.runs g.A.Databases.DatabaseSet.shows in
-    record { ok = TurnsHook-ended w c.args.core.now c.end_hook.new.core _ c.end_hook.new.marks.items c.end_hook.result c.take.new.self c.in-Some.front c.args.job is job c.take.ensures.after c.end_hook.ensures.core c.end_hook.ensures.marks }
+    TurnsHook-ended w c.args.core.now c.end_hook.new.core _ c.end_hook.new.marks.items c.end_hook.result c.take.new.self c.in-Some.front c.args.job is job c.take.ensures.after c.end_hook.ensures.core c.end_hook.ensures.marks
+
+pub returns-in-Err-clause-fault : goal.returns-in-Err-clause-fault
+returns-in-Err-clause-fault g c =
+    let is : c.args.core.now.front ≡ Some c.in-Some.front = sym c.take.ensures.value ∙ c.in-Some.is in
+    let job : c.in-Some.front.job ≡ c.args.job = of_some (λ (f : Front _ _). f.job ≡ c.args.job) c.args.core.now.front c.in-Some.front is c.requires.hook in
+    let turned = record c.args.core.now { front = Some (record c.in-Some.front { hook = c.turn_hook.new.hook }) } in
+    rw (← job) (FaultsTurn-hook g.A.Run.Faulty.count g.A.Hook.Faulty.count c.args.core.now turned c.in-Some.front c.turn_hook.new.hook c.in-Err.fault c.from.result is refl (λ failed. c.turn_hook.ensures.failed (c.in-Err.is ∙ ap Err failed)) c.from.ensures)
