@@ -37,3 +37,5 @@ pub mod CodeStarting
 pub mod CodeReleasing
 pub mod CodeSettling
 pub mod CodeFinalizing
+pub mod CodeCauses
+pub mod Refused

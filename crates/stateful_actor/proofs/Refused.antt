@@ -1,0 +1,1 @@
+-- What a refused event leaves of the databases, and which faults no event that may come can meet, over a past.
