@@ -11,13 +11,20 @@ use Rattle.stateful_actor.specs.Workings.{Workings, Point}
 use Rattle.stateful_actor.specs.Moments.{Moment, moment}
 use Rattle.stateful_actor.specs.Effects.{BeginsBarrier, Settles}
 use Rattle.stateful_actor.specs.Finalizing.{Finalizes, BeginsIfNone}
+use Rattle.stateful_actor.specs.Errors.{error_of}
 use Rattle.stateful_actor.specs.Doing.{Does, Serves}
 use Rattle.stateful_actor.specs.Causes.{HasCounted, Tally, FaultsBarrier, KeepsStates, LeavesStates, LeavesAt, FaultsIn, settling}
 use Rattle.stateful_actor.specs.declared.error.Fault.{Fault}
 use Rattle.stateful_actor.specs.declared.error.Fault.TheVariants.{Database, TargetMismatch, Application, MissingBlock, Failed, Exhausted, DatabaseFault, OutOfMemory}
+use Rattle.stateful_actor.specs.declared.error.StepError.TheVariants as step
 use Rattle.stateful_actor.specs.declared.tables.Core.{Core}
 use Rattle.stateful_actor.specs.declared.task.Task.{Task}
 use Rattle.stateful_actor.specs.declared.task.Task.TheVariants as task
+
+-- only a fault of that name is answered as failed
+pub failed-only : (f : Fault) → error_of f ≡ step.Failed → f ≡ Failed
+failed-only Failed e = refl
+failed-only f e = cc
 
 min-since : (a b c n : ℕ) → a ≤ b → min (b + 1) c ≤ n → min (a + 1) c ≤ n
 min-since a b c n l h = omega arith
