@@ -1,25 +1,33 @@
 -- What the fault of a task says and leaves, where a part of the task was done before.
-use Rattle.std.proofs.Common.{◌≡◌, ◌⊎◌, inl, inr, ℕ, ◌≤◌, ◌+◌, min, Bool, true, Option, None, Some, List, IsNone, ◌<◌, sym, ◌∙◌, ap, refl, arith}
+use Rattle.std.proofs.Common.{◌≡◌, ◌⊎◌, inl, inr, ℕ, ◌≤◌, ◌+◌, min, Bool, true, false, Option, None, Some, List, IsNone, ◌<◌, sym, ◌∙◌, ap, refl, arith}
 use Rattle.stateful_types.specs.Names.{Header, Named}
 use Rattle.stateful_types.specs.Causes.{Rose}
 use Rattle.stateful_types.specs.Anchor.{anchor_by}
 use Rattle.stateful_types.specs.declared.anchor.Anchor.{Anchor}
 use Rattle.stateful_db.specs.Databases.{Laws}
 use Rattle.stateful_db.specs.declared.database.DbCall.{DbCall}
+use Rattle.stateful_history.specs.declared.event.Event.{Event}
 use Rattle.stateful_history.specs.declared.mark.Mark.{Mark}
+use Rattle.stateful_register.specs.declared.register.Register.{Register}
 use Rattle.stateful_actor.specs.Workings.{Workings, Point}
 use Rattle.stateful_actor.specs.Moments.{Moment, moment}
 use Rattle.stateful_actor.specs.Effects.{BeginsBarrier, Settles}
 use Rattle.stateful_actor.specs.Finalizing.{Finalizes, BeginsIfNone}
 use Rattle.stateful_actor.specs.Errors.{error_of}
 use Rattle.stateful_actor.specs.Doing.{Does, Serves}
-use Rattle.stateful_actor.specs.Causes.{HasCounted, Tally, FaultsBarrier, KeepsStates, LeavesStates, LeavesAt, FaultsIn, settling}
+use Rattle.stateful_actor.specs.Causes.{HasCounted, Tally, FaultsBarrier, KeepsStates, LeavesStates, LeavesAt, FaultsAt, FaultsIn, doing, settling}
 use Rattle.stateful_actor.specs.declared.error.Fault.{Fault}
 use Rattle.stateful_actor.specs.declared.error.Fault.TheVariants.{Database, TargetMismatch, Application, MissingBlock, Failed, Exhausted, DatabaseFault, OutOfMemory}
+use Rattle.stateful_actor.specs.Refusing.{IsCause, memory, failed_before, unlawful, failed_up, refused, fault}
+use Rattle.stateful_actor.specs.declared.error.StepError.{StepError}
 use Rattle.stateful_actor.specs.declared.error.StepError.TheVariants as step
 use Rattle.stateful_actor.specs.declared.tables.Core.{Core}
 use Rattle.stateful_actor.specs.declared.task.Task.{Task}
 use Rattle.stateful_actor.specs.declared.task.Task.TheVariants as task
+
+pub is_true : (b : Bool) → (b ≡ false → ⊥) → b ≡ true
+is_true true not = refl
+is_true false not = absurd (not refl)
 
 -- only a fault of that name is answered as failed
 pub failed-only : (f : Fault) → error_of f ≡ step.Failed → f ≡ Failed
@@ -99,3 +107,24 @@ module _ {B R U H : Type 0} (w : Workings B R U) (laws : Laws w.kind) where
   pub LeavesAt-serves : (store : ℕ → Option (Named B)) (old new : Moment w H) (done : Task B) → Serves w store done old new → LeavesAt w done old.core.cache old.members new.members
   LeavesAt-serves store old new done serves =
       LeavesAt-does store old serves.mid new.members (λ p here i. laws.has_state new.members p i (settles-point serves.mid new serves.settles ∙ here)) done serves.does
+
+-- a fault has the same cause whatever anchor the machine is given back
+module _ {B R U H : Type 0} (w : Workings B R U) (run_count : R → ℕ) (hook_count : H → ℕ) (store : ℕ → Option (Named B)) (old : Moment w H) (core : Core B R H U) (members : w.kind.Members) (before now : Tally) (still : Option Anchor) where
+  FaultsAt-anchor : (done : Task B) (f : Fault) → FaultsAt w run_count hook_count store old core members before now done f → FaultsAt w run_count hook_count store old (record core { anchor = still }) members before now done f
+  FaultsAt-anchor (task.Turn anchor j) OutOfMemory h = h
+  FaultsAt-anchor (task.Turn anchor j) Application h = h
+  FaultsAt-anchor (task.Turn anchor j) Failed h = h
+  FaultsAt-anchor (task.Turn anchor j) f h = absurd h
+  FaultsAt-anchor done f h = h
+
+  FaultsIn-anchor : (done : Task B) (f : Fault) → FaultsIn w run_count hook_count store old core members before now done f → FaultsIn w run_count hook_count store old (record core { anchor = still }) members before now done f
+  FaultsIn-anchor done f (doing h) = doing (FaultsAt-anchor done f h)
+  FaultsIn-anchor done f (settling mid does h) = settling mid does h
+
+  pub IsCause-anchor : {C I : Type 0} (event : Event B C I) (failed : Bool) (register : Register) (e : StepError) → IsCause w run_count hook_count store event failed register old core members before now e → IsCause w run_count hook_count store event failed register old (record core { anchor = still }) members before now e
+  IsCause-anchor event failed register e (memory is) = memory is
+  IsCause-anchor event failed register e (failed_before is stopped other) = failed_before is stopped other
+  IsCause-anchor event failed register e (unlawful is may) = unlawful is may
+  IsCause-anchor event failed register e (failed_up is stopped up restart) = failed_up is stopped up restart
+  IsCause-anchor event failed register e (refused is h) = refused is h
+  IsCause-anchor event failed register e (fault f is done asked h) = fault f is done asked (FaultsIn-anchor done f h)

@@ -103,10 +103,10 @@ module _ {B C I R H U : Type 0} (w : Workings B R U) (laws : Laws w.kind) (store
                 elim (root.2 to shown.rest shows i) [
                   | inl before ↦ inl (record { state = u.point.1; folded = u.anchored.folded; has = before })
                   | inr after ↦ inr (
-                      b,
-                      record { ticket = t; anchor = anchor; event_is = event_is; anchor_is = sym works.anchor_is ∙ is; height = is_next.0; parent = is_next.1 },
-                      record { state = to.1; folded = fold-push (setting w stored) (Some base) (applied p) b u.point.1 to.1 u.anchored.folded step; has = after },
-                    )
+                    b,
+                    record { ticket = t; anchor = anchor; event_is = event_is; anchor_is = sym works.anchor_is ∙ is; height = is_next.0; parent = is_next.1 },
+                    record { state = to.1; folded = fold-push (setting w stored) (Some base) (applied p) b u.point.1 to.1 u.anchored.folded step; has = after },
+                  )
                 ]
           ]
 
