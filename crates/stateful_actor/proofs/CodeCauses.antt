@@ -1,6 +1,6 @@
 -- What the fault of a task says and leaves, where a part of the task was done before.
-use Rattle.std.proofs.Common.{◌≡◌, ◌⊎◌, inl, inr, ℕ, ◌≤◌, ◌+◌, min, Bool, true, false, Option, None, Some, List, IsNone, ◌<◌, sym, ◌∙◌, ap, refl, arith}
-use Rattle.stateful_types.specs.Names.{Header, Named}
+use Rattle.std.proofs.Common.{◌≡◌, ◌⊎◌, inl, inr, ℕ, ◌∷◌, ◌≤◌, ◌+◌, min, Bool, true, false, Option, None, Some, List, IsNone, ◌<◌, sym, ◌∙◌, ap, refl, arith}
+use Rattle.stateful_types.specs.Names.{Named}
 use Rattle.stateful_types.specs.Causes.{Rose}
 use Rattle.stateful_types.specs.Anchor.{anchor_by}
 use Rattle.stateful_types.specs.declared.anchor.Anchor.{Anchor}
@@ -62,11 +62,13 @@ KeepsStates-from : {B R U : Type 0} (w : Workings B R U) (old mid new : w.kind.M
 KeepsStates-from w old mid new same keeps p here = keeps p (same ∙ here)
 
 module _ {B R U H : Type 0} (w : Workings B R U) (laws : Laws w.kind) where
+  -- a barrier that begins leaves the databases at their point
   begun-point : (old new : Moment w H) → BeginsIfNone w old new → w.kind.point new.members ≡ w.kind.point old.members
   begun-point old new (inl b) = ap (λ (m : w.kind.Members). w.kind.point m) b.1.members ∙ laws.point_finalized old.members
   begun-point old new (inr same) = ap (λ (x : Moment w H). w.kind.point x.members) same.1
 
-  settles-point : (old new : Moment w H) → Settles w old new → w.kind.point new.members ≡ w.kind.point old.members
+  -- a machine that settles leaves the databases at their point
+  pub settles-point : (old new : Moment w H) → Settles w old new → w.kind.point new.members ≡ w.kind.point old.members
   settles-point old new (inl same) = ap (λ (x : Moment w H). w.kind.point x.members) same.1
   settles-point old new (inr up) = by_begins up.2.told up.2.released up.2.begins
     where
@@ -75,18 +77,16 @@ module _ {B R U H : Type 0} (w : Workings B R U) (laws : Laws w.kind) where
       by_begins told released (inr same) = ap (λ (x : Moment w H). w.kind.point x.members) same
 
   module _ (store : ℕ → Option (Named B)) (old mid : Moment w H) (new : w.kind.Members) (keeps : KeepsStates w mid.members new) where
+    -- the databases are at the point of the applied batch
+    finalized-point : (t : ℕ) (b : Named B) (f : Finalizes w t b old mid) (p q : Point w) (c : List (Point w)) → w.kind.point old.members ≡ Some p → w.shows f.moves.batch (q ∷ p ∷ c) → w.kind.point mid.members ≡ Some q
+    finalized-point t b f p q c here shows =
+        ap (λ (m : w.kind.Members). w.kind.point m) f.members
+        ∙ begun-point f.moved f.begun f.begins
+        ∙ ap (λ (m : w.kind.Members). w.kind.point m) (f.moves.members p q c here shows)
+        ∙ laws.point_applied old.members p q here
+
     leaves-finalized : (t : ℕ) (b : Named B) → Finalizes w t b old mid → LeavesStates w (anchor_by w.header b) old.core.cache old.members new
-    leaves-finalized t b f p here = inr (
-      f.moves.batch,
-      f.moves.root,
-      λ q c shows i.
-          let point : w.kind.point mid.members ≡ Some q =
-          ap (λ (m : w.kind.Members). w.kind.point m) f.members
-          ∙ begun-point f.moved f.begun f.begins
-          ∙ ap (λ (m : w.kind.Members). w.kind.point m) (f.moves.members p q c here shows)
-          ∙ laws.point_applied old.members p q here in
-          inr (keeps q point i),
-    )
+    leaves-finalized t b f p here = inr (f.moves.batch, f.moves.root, λ q c shows i. inr (keeps q (finalized-point t b f p q c here shows) i))
 
     same-members : mid.members ≡ old.members → KeepsStates w old.members new
     same-members same = KeepsStates-from w old.members mid.members new (ap (λ (m : w.kind.Members). w.kind.point m) same) keeps

@@ -47,6 +47,7 @@ module _ {B R H U : Type 0} (C I : Type 0) (header : Header B) (core : Core B R 
   Names event (task.Start floor keep) = ⊥
   Names event done = Unit {0}
 
+  -- a request asks for nothing else than an answer, a fetch or a run
   requested : (t : ℕ) (ancestry : Ancestry B) (judgement : Judgement) (done : Task B) → IsDoneFor header core store anchor t ancestry judgement done → Names (Verify t ancestry) done
   requested t ancestry Valid (task.Answer u valid) h = tt
   requested t ancestry Invalid (task.Answer u valid) h = tt
@@ -67,6 +68,11 @@ module _ {B R H U : Type 0} (C I : Type 0) (header : Header B) (core : Core B R 
   named (Turn j) (task.Turn a i) h = ap (λ (x : ℕ). Turn x) (sym h.1)
   named (Flushed k i Good) (task.Flush m n) h = ap (λ (x : ℕ). Flushed x i Good) (sym h.0) ∙ ap (λ (x : ℕ). Flushed m x Good) (sym h.1)
   named event done h = absurd h
+
+-- the event names live work, where the machine is up
+live-named : (down live : Bool) → not down && live ≡ true → live ≡ true
+live-named true live e = cc
+live-named false live e = e
 
 -- a flush that waits has a token of the active barrier without an answer
 waiting-open : (barrier : Option Active) (k i : ℕ) → IsWaiting barrier k i → ((found : Active) → barrier ≡ Some found → found.number ≡ k → open_at found.barrier i ≡ None) → ⊥
@@ -89,7 +95,6 @@ module _ {B C I R H U : Type 0} (w : Workings B R U) (laws : Laws w.kind) (store
       -- a finalization that failed leaves at each database the states before, or those of the finalized block
       holds-finalized : (t : ℕ) (b : Named B) → event ≡ Finalized t b → IsNext w.header anchor b → LeavesStates w (anchor_by w.header b) core.cache m new → HoldsBehind (setting w stored) w.kind base p event new
       holds-finalized t b event_is is_next leaves =
-          let q : Past B C I = Came (Finalized t b) ∷ p in
           let names_q : TrueNames (setting w stored) (Came (Finalized t b) ∷ p) = subst (λ (e : Event B C I). TrueNames (setting w stored) (Came e ∷ p)) event_is names in
           let came : Works w stored base (Came (Finalized t b) ∷ p) core m next store = Works-quiet w stored p (Came (Finalized t b)) (finalized-IsCalm (setting w stored) p t b) base core m next store (finalized-IsQuiet p t b) works in
           let u : IsUp w stored base (Came (Finalized t b) ∷ p) anchor core m next = came.up anchor is in
@@ -118,15 +123,11 @@ module _ {B C I R H U : Type 0} (w : Workings B R U) (laws : Laws w.kind) (store
       holds-up (task.Start floor keep) asked leaves = absurd (named C I w.header core store anchor event (task.Start floor keep) asked)
       holds-up done asked leaves = holds-kept anchor is new leaves
 
+    -- what the databases hold behind the fault of a task that the event asks for
     pub HoldsBehind-leaves : core.anchor ≢ None → TrueNames (setting w stored) (Came event ∷ p) → (new : w.kind.Members) (done : Task B) → IsTaskAt w.header core store core.anchor event done → LeavesAt w done core.cache m new → HoldsBehind (setting w stored) w.kind base p event new
     HoldsBehind-leaves up names new done asked leaves =
         let a = some_of core.anchor up in
         holds-up a.0 a.1 names new done (subst (λ (o : Option Anchor). IsTaskAt w.header core store o event done) a.1 asked) leaves
-
-  -- the event names live work, where the machine is up
-  named-live : (down live : Bool) → not down && live ≡ true → live ≡ true
-  named-live true live e = cc
-  named-live false live e = e
 
   module _ (run_count : R → ℕ) (hook_count : H → ℕ) (marks : List (Mark B)) (after : Core B R H U) (new : w.kind.Members) (before now : Tally) where
     -- the databases are here, each live job is in a table, and each live flush has its token
@@ -137,11 +138,11 @@ module _ {B C I R H U : Type 0} (w : Workings B R U) (laws : Laws w.kind) (store
     able-at anchor is event (task.Finalize t b) may asked faults = let here = (works.up anchor is).here in cc
     able-at anchor is event (task.Turn a j) may asked faults =
         let event_is : event ≡ Turn j = named C I w.header core store anchor event (task.Turn a j) asked in
-        let live : live_job j p ≡ true = named-live (is_down p) (live_job j p) (subst (λ (e : Event B C I). may_come w.kind.count p e ≡ true) event_is may) in
+        let live : live_job j p ≡ true = live-named (is_down p) (live_job j p) (subst (λ (e : Event B C I). may_come w.kind.count p e ≡ true) event_is may) in
         faults ((works.up anchor is).in_table j live)
     able-at anchor is event (task.Flush k i) may asked faults =
         let event_is : event ≡ Flushed k i Good = named C I w.header core store anchor event (task.Flush k i) asked in
-        let live : live_flush w.kind.count k i p ≡ true = named-live (is_down p) (live_flush w.kind.count k i p) (subst (λ (e : Event B C I). may_come w.kind.count p e ≡ true) event_is may) in
+        let live : live_flush w.kind.count k i p ≡ true = live-named (is_down p) (live_flush w.kind.count k i p) (subst (λ (e : Event B C I). may_come w.kind.count p e ≡ true) event_is may) in
         waiting-open core.barrier k i ((works.up anchor is).barriers.waiting k i live) faults
     able-at anchor is event done may asked faults = faults
 
