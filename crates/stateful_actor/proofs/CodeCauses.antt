@@ -1,5 +1,5 @@
 -- What the fault of a task says and leaves, where a part of the task was done before.
-use Rattle.std.proofs.Common.{◌≡◌, ◌⊎◌, inl, inr, ℕ, ◌∷◌, ◌≤◌, ◌+◌, min, Bool, true, false, Option, None, Some, List, IsNone, ◌<◌, sym, ◌∙◌, ap, refl, arith}
+use Rattle.std.proofs.Common.{◌≡◌, ◌⊎◌, inl, inr, ℕ, ◌∷◌, ◌≤◌, ◌+◌, min, Bool, true, false, Option, Some, List, IsNone, ◌<◌, ◌∙◌, ap, refl, arith}
 use Rattle.stateful_types.specs.Names.{Named}
 use Rattle.stateful_types.specs.Causes.{Rose}
 use Rattle.stateful_types.specs.Anchor.{anchor_by}
@@ -17,7 +17,7 @@ use Rattle.stateful_actor.specs.Errors.{error_of}
 use Rattle.stateful_actor.specs.Doing.{Does, Serves}
 use Rattle.stateful_actor.specs.Causes.{HasCounted, Tally, FaultsBarrier, KeepsStates, LeavesStates, LeavesAt, FaultsAt, FaultsIn, doing, settling}
 use Rattle.stateful_actor.specs.declared.error.Fault.{Fault}
-use Rattle.stateful_actor.specs.declared.error.Fault.TheVariants.{Database, TargetMismatch, Application, MissingBlock, Failed, Exhausted, DatabaseFault, OutOfMemory}
+use Rattle.stateful_actor.specs.declared.error.Fault.TheVariants.{Application, Failed, Exhausted, DatabaseFault, OutOfMemory}
 use Rattle.stateful_actor.specs.Refusing.{IsCause, memory, failed_before, unlawful, failed_up, refused, fault}
 use Rattle.stateful_actor.specs.declared.error.StepError.{StepError}
 use Rattle.stateful_actor.specs.declared.error.StepError.TheVariants as step

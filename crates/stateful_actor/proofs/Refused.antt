@@ -1,5 +1,5 @@
 -- What a refused event leaves of the databases, and that an event that may come isn't refused as failed, over a past.
-use Rattle.std.proofs.Common.{◌≡◌, ◌≢◌, ◌⊎◌, inl, inr, ℕ, ◌++◌, [], ◌∷◌, List, Bool, true, false, not, ◌&&◌, Option, None, Some, option_map, sym, ◌∙◌, ap, subst, refl}
+use Rattle.std.proofs.Common.{◌≡◌, ◌≢◌, inl, inr, ℕ, ◌∷◌, List, Bool, true, false, not, ◌&&◌, Option, None, Some, option_map, sym, ◌∙◌, ap, subst, refl}
 use Rattle.stateful_types.specs.Names.{Header, Named}
 use Rattle.stateful_types.specs.Anchor.{anchor_by}
 use Rattle.stateful_types.specs.declared.anchor.Anchor.{Anchor}
@@ -14,7 +14,7 @@ use Rattle.stateful_history.specs.Opening.{is_down}
 use Rattle.stateful_history.specs.Anchors.{applied}
 use Rattle.stateful_history.specs.Met.{TrueNames}
 use Rattle.stateful_history.specs.Live.{may_come, live_job, live_flush}
-use Rattle.stateful_history.specs.Holding.{HasFold, FinalizesNext, HoldsBehind}
+use Rattle.stateful_history.specs.Holding.{HoldsBehind}
 use Rattle.stateful_history.specs.declared.event.Event.{Event}
 use Rattle.stateful_history.specs.declared.event.Event.TheVariants.{Verify, Finalized, Turn, Flushed, Restart}
 use Rattle.stateful_history.specs.declared.mark.Mark.{Mark}
