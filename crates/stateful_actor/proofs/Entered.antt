@@ -42,6 +42,7 @@ use Rattle.stateful_actor.specs.declared.judge.Judgement.TheVariants.{Valid, Inv
 use Rattle.stateful_actor.specs.declared.tables.Core.{Core}
 use Rattle.stateful_actor.specs.declared.task.Task.{Task}
 use Rattle.stateful_actor.specs.declared.task.Task.TheVariants as task
+use Rattle.stateful_actor.proofs.CodeCauses.{settles-point}
 use Rattle.stateful_actor.proofs.Verifying.{Served-verify}
 use Rattle.stateful_actor.proofs.Turning.{Served-turn}
 use Rattle.stateful_actor.proofs.Finalizing.{Served-finalized}
@@ -112,15 +113,6 @@ module _ {B R U H : Type 0} (w : Workings B R U) (laws : Laws w.kind) (old new :
       begun-more : (told : Core B R H U) (released : List (Mark B)) → ((told.durability.durable < told.durability.applied) × IsNone told.durability.barrier × BeginsBarrier w (moment w told old.members old.next released) new) ⊎ (new ≡ moment w told old.members old.next released) → (more : List (Mark B)) × (new.marks ≡ released ++ more) × (opens more ≡ false)
       begun-more told released (inl b) = (BarrierBegun b.2.active.number b.2.active.height ∷ [], b.2.marks, refl)
       begun-more told released (inr same) = ([], ap (λ (x : Moment w H). x.marks) same ∙ sym (append-nil released), refl)
-
-  -- a machine that settles leaves the databases at their point
-  settles-point : Settles w old new → w.kind.point new.members ≡ w.kind.point old.members
-  settles-point (inl same) = ap (λ (x : Moment w H). w.kind.point x.members) same.1
-  settles-point (inr up) = by_begins up.2.told up.2.released up.2.begins
-    where
-      by_begins : (told : Core B R H U) (released : List (Mark B)) → ((told.durability.durable < told.durability.applied) × IsNone told.durability.barrier × BeginsBarrier w (moment w told old.members old.next released) new) ⊎ (new ≡ moment w told old.members old.next released) → w.kind.point new.members ≡ w.kind.point old.members
-      by_begins told released (inl b) = ap (λ (m : w.kind.Members). w.kind.point m) b.2.members ∙ laws.point_finalized old.members
-      by_begins told released (inr same) = ap (λ (x : Moment w H). w.kind.point x.members) same
 
   -- what a finalization marks opens nothing
   opens-begins : (before after : Moment w H) → BeginsIfNone w before after → opens after.marks ≡ opens before.marks

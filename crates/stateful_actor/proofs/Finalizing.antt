@@ -34,7 +34,7 @@ use Rattle.stateful_actor.proofs.Advancing.{Works-same, Works-moved}
 use Rattle.stateful_actor.proofs.Beginning.{Works-begun}
 use Rattle.stateful_actor.proofs.Fronting.{Works-covered, Works-fronted}
 
-finalized-IsCalm : {B C I S T : Type 0} (s : Setting B S T) (p : Past B C I) (t : ℕ) (b : Named B) → IsCalm s p (Came (Finalized t b))
+pub finalized-IsCalm : {B C I S T : Type 0} (s : Setting B S T) (p : Past B C I) (t : ℕ) (b : Named B) → IsCalm s p (Came (Finalized t b))
 finalized-IsCalm s p t b = record {
   opening = refl;
   anchor = refl;
@@ -48,7 +48,7 @@ finalized-IsCalm s p t b = record {
   flushed = λ k i h. h;
 }
 
-finalized-IsQuiet : {B C I : Type 0} (p : Past B C I) (t : ℕ) (b : Named B) → IsQuiet p (Came (Finalized t b))
+pub finalized-IsQuiet : {B C I : Type 0} (p : Past B C I) (t : ℕ) (b : Named B) → IsQuiet p (Came (Finalized t b))
 finalized-IsQuiet p t b = record {
   durable = refl;
   kept = refl;

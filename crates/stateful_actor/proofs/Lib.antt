@@ -36,7 +36,8 @@ pub mod CodeSound
 pub mod CodeFaults
 pub mod CodeTurning
 pub mod CodeStarting
-pub mod CodeReleasing
 pub mod CodeSettling
 pub mod CodeFinalizing
 pub mod CodeStates
+pub mod CodeCauses
+pub mod Refused

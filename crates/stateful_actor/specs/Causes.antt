@@ -104,7 +104,7 @@ module _ {B R U : Type 0} (w : Workings B R U) where
   abbrev pub LeavesStates : Anchor → List (Cached U) → (old new : w.kind.Members) → Type 0
   LeavesStates root cache old new = (p : Point w) → w.kind.point old ≡ Some p
       → ((i : ℕ) → w.kind.HasState new i p.1)
-        ⊎ ((batch : U) × IsRootOf root cache batch × ((q : Point w) (c : List (Point w)) → w.shows batch (q ∷ p ∷ c) → (i : ℕ) → w.kind.HasState new i p.1 ⊎ w.kind.HasState new i q.1))
+      ⊎ ((batch : U) × IsRootOf root cache batch × ((q : Point w) (c : List (Point w)) → w.shows batch (q ∷ p ∷ c) → (i : ℕ) → w.kind.HasState new i p.1 ⊎ w.kind.HasState new i q.1))
 
   module _ (before now : ℕ → ℕ) where
     -- the database of this number failed at this call, and has counted it

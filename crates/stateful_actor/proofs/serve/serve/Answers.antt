@@ -1,4 +1,6 @@
 use Rattle.std.proofs.Common.{inl, inr, refl}
+use Rattle.std.proofs.lemmas.Result.{err_from_is_err_and}
+use Rattle.stateful_actor.proofs.CodeCauses.{settled_later, LeavesAt-does}
 use Rattle.stateful_actor.proofs.CodeSound.{none_of}
 use Rattle.stateful_actor.proofs.Sounding.{Sound-does}
 use Rattle.stateful_actor.proofs.serve.serve.Goals as goal
@@ -19,3 +21,13 @@ returns-clause-ok g c = record {
     c.in_ok-settle.ensures.ok,
   );
 }
+
+pub returns-in_err-settle-clause-fault : goal.returns-in_err-settle-clause-fault
+returns-in_err-settle-clause-fault g c =
+    let p = err_from_is_err_and c.from_residual-in_err-settle.result c.from_residual-in_err-settle.ensures.1 in
+    rw (p.1, p.2) (settled_later _ _ _ _ _ _ _ _ _ c.args.task c.in_err-settle.field-0.0 _ c.in_ok-perform.ensures.ok _ c.in_ok-perform.ensures.later c.in_err-settle.ensures.fault)
+
+pub returns-in_err-settle-clause-states : goal.returns-in_err-settle-clause-states
+returns-in_err-settle-clause-states g c =
+    let p = err_from_is_err_and c.from_residual-in_err-settle.result c.from_residual-in_err-settle.ensures.1 in
+    rw p.1 (λ up. LeavesAt-does _ g.met.A.Databases.DatabaseSet.laws _ _ _ _ c.in_err-settle.ensures.states c.args.task c.in_ok-perform.ensures.ok)

@@ -1,5 +1,8 @@
-use Rattle.std.proofs.Common.{rules, ◌≡◌, true, sym, ◌∙◌, false, inl, inr, None, ◌≢◌}
+use Rattle.std.proofs.Common.{rules, refl, ◌≡◌, true, sym, ◌∙◌, false, inl, inr, None, ◌≢◌}
 use Rattle.stateful_actor.specs.Stepping.{changes_nothing}
+use Rattle.stateful_actor.specs.Refusing.{failed_up}
+use Rattle.stateful_actor.proofs.CodeCauses.{is_true, IsCause-anchor}
+use Rattle.stateful_actor.proofs.Refused.{HoldsBehind-same}
 use Rattle.stateful_actor.proofs.Stepping.{restart-refused, Sound-working, Stands-faulted, Held-faulted}
 use Rattle.stateful_actor.proofs.stateful.Stateful.step.Goals.{else-self-via-then-self+else-not-is_restart, else-self-via-else-self, then-not-changes_nothing, else-not-changes_nothing}
 use Rattle.stateful_actor.proofs.stateful.Stateful.step.Goals as goal
@@ -48,3 +51,47 @@ returns-then-not-is_working-clause-refuses g c = λ refusal.
           let works = c.is_working.ensures.1 (inl working) in
           absurd cc
     ])
+
+pub returns-then-not-is_working-clause-cause : goal.returns-then-not-is_working-clause-cause
+returns-then-not-is_working-clause-cause g c =
+    let stops : c.is_working.result ≡ false = search rules in
+    let failed : c.args.self.now.failed ≡ true = is_true c.args.self.now.failed (λ working. let works = c.is_working.ensures.1 (inl working) in cc) in
+    let up : c.args.self.now.core.anchor ≢ None = λ none. let works = c.is_working.ensures.1 (inr none) in cc in
+    failed_up refl failed up (elim c.else-self.branch [
+      | else-self-via-then-self+else-not-is_restart w ↦ let restarts : w.is_restart.result ≡ true = search rules in sym w.is_restart.ensures ∙ restarts
+      | else-self-via-else-self w ↦ let working : c.args.self.now.failed ≡ false = search rules in absurd cc
+    ])
+
+pub returns-then-not-allows-clause-behind : goal.returns-then-not-allows-clause-behind
+returns-then-not-allows-clause-behind g c = λ stored base p names working stands up.
+    HoldsBehind-same _ g.met.A.Databases.DatabaseSet.laws stored _ base p c.args.self.now.core _ _ (stands (inl working)).1 c.args.event up
+
+pub returns-in-Ok-clause-idle : goal.returns-in-Ok-clause-idle
+returns-in-Ok-clause-idle g c = λ failed other. elim c.else-self.branch [
+  | else-self-via-then-self+else-not-is_restart w ↦ let restarts : w.is_restart.result ≡ true = search rules in let same = w.is_restart.ensures in absurd cc
+  | else-self-via-else-self w ↦ let working : c.args.self.now.failed ≡ false = search rules in absurd cc
+]
+
+pub returns-clause-idle : goal.returns-clause-idle
+returns-clause-idle g c = λ failed other. elim c.else-self.branch [
+  | else-self-via-then-self+else-not-is_restart w ↦ let restarts : w.is_restart.result ≡ true = search rules in let same = w.is_restart.ensures in absurd cc
+  | else-self-via-else-self w ↦ let working : c.args.self.now.failed ≡ false = search rules in absurd cc
+]
+
+pub returns-clause-cause : goal.returns-clause-cause
+returns-clause-cause g c = elim c.if-not-changes_nothing.branch [
+  | then-not-changes_nothing w ↦ rw w.self-is (IsCause-anchor _ _ _ _ _ c.take.new.self.core _ _ _ _ _ _ _ _ c.in-Err.ensures.cause)
+  | else-not-changes_nothing w ↦ rw w.self-is c.in-Err.ensures.cause
+]
+
+pub returns-clause-able : goal.returns-clause-able
+returns-clause-able g c = λ is stored base p stands.
+    let working : c.is_working.result ≡ true = search rules in
+    let allowed : c.allows.result ≡ true = search rules in
+    let stood = stands (c.is_working.ensures.0 working) in
+    absurd (c.in-Err.ensures.able is stored base p (sym (c.allows.ensures _ p stood.0) ∙ allowed) (λ up. stood))
+
+pub returns-clause-behind : goal.returns-clause-behind
+returns-clause-behind g c = λ stored base p names working stands up.
+    let stood = stands (inl working) in
+    c.in-Err.ensures.behind stored base p names (λ same. stood) up

@@ -1,4 +1,8 @@
 use Rattle.std.proofs.Common.{refl, inl, sym, ◌∙◌}
+use Rattle.std.proofs.lemmas.Result.{err_from_is_err_and}
+use Rattle.stateful_actor.specs.Refusing.{fault}
+use Rattle.stateful_actor.proofs.CodeCauses.{failed-only, LeavesAt-serves}
+use Rattle.stateful_actor.proofs.Refused.{HoldsBehind-same, HoldsBehind-leaves, IsAble-admitted}
 use Rattle.stateful_actor.proofs.Doable.{IsDoable-admitted}
 use Rattle.stateful_actor.proofs.Sounding.{Sound-does, Sound-settles}
 use Rattle.stateful_actor.proofs.Entered.{Entered, Holds-works}
@@ -45,3 +49,30 @@ returns-in-Err-clause-err g c = λ down still.
 
 pub returns-in-Ok-clause-does : goal.returns-in-Ok-clause-does
 returns-in-Ok-clause-does g c = (c.in_ok-task.task, c.in_ok-task.ensures.ok, (rw c.new-marks.ensures.items at c.in_ok-serve.ensures.ok))
+
+pub returns-in_err-task-clause-behind : goal.returns-in_err-task-clause-behind
+returns-in_err-task-clause-behind g c = let p = err_from_is_err_and c.from_residual.result c.from_residual.ensures.1 in rw p.1 (λ stored base p names stands up.
+    HoldsBehind-same _ g.met.A.Databases.DatabaseSet.laws stored _ base p c.args.self.now.core _ _ (stands (inl refl)).1 c.args.event.now up)
+
+pub returns-in_err-serve-clause-cause : goal.returns-in_err-serve-clause-cause
+returns-in_err-serve-clause-cause g c =
+    let p = err_from_is_err_and c.from_residual-in_err-serve.result c.from_residual-in_err-serve.ensures.1 in
+    rw p.1 (fault c.in_err-serve.field-0.0 p.2 c.in_ok-task.task c.in_ok-task.ensures.ok (rw c.new-marks.ensures.items at c.in_err-serve.ensures.fault))
+
+pub returns-in_err-serve-clause-able : goal.returns-in_err-serve-clause-able
+returns-in_err-serve-clause-able g c =
+    let p = err_from_is_err_and c.from_residual-in_err-serve.result c.from_residual-in_err-serve.ensures.1 in
+    λ failed stored base q may stands.
+    let is = failed-only c.in_err-serve.field-0.0 (let first = p.1 in let second = p.2 in cc) in
+    IsAble-admitted _ g.met.A.Databases.DatabaseSet.laws stored _ base q c.args.self.now.core _ _ (stands (inl refl)).1 _ _ _ _ _ _ _ c.args.self.now.core.anchor refl c.args.event.now c.in_ok-task.task may c.in_ok-task.ensures.ok (rw is at c.in_err-serve.ensures.fault)
+
+pub returns-in_err-serve-clause-behind : goal.returns-in_err-serve-clause-behind
+returns-in_err-serve-clause-behind g c =
+    let p = err_from_is_err_and c.from_residual-in_err-serve.result c.from_residual-in_err-serve.ensures.1 in
+    rw p.1 (λ stored base q names stands up.
+    HoldsBehind-leaves _ g.met.A.Databases.DatabaseSet.laws stored _ base q c.args.self.now.core _ _ (stands (inl refl)).1 c.args.event.now up names _ c.in_ok-task.task c.in_ok-task.ensures.ok (c.in_err-serve.ensures.states up))
+
+pub returns-in-Err-clause-behind : goal.returns-in-Err-clause-behind
+returns-in-Err-clause-behind g c = λ stored base p names stands up.
+    HoldsBehind-leaves _ g.met.A.Databases.DatabaseSet.laws stored _ base p c.args.self.now.core _ _ (stands (inl refl)).1 c.args.event.now up names _ c.in_ok-task.task c.in_ok-task.ensures.ok
+    (LeavesAt-serves _ g.met.A.Databases.DatabaseSet.laws _ _ _ c.in_ok-task.task c.in_ok-serve.ensures.ok)
