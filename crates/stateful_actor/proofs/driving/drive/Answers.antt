@@ -35,10 +35,13 @@ pub returns-in-Err-clause-refused : goal.returns-in-Err-clause-refused
 returns-in-Err-clause-refused g c =
     let D = g.A.Databases.DatabaseSet in
     let w = workings g.A.Block.Block.header g.A.Application.meaning D.kind g.A.Application.runs D.shows in
-    let i = c.loop-event.invariant in
-    (c.in-Some.event, c.next.new.self.rest.items, rw c.in-Err.ensures.err (event_at c.loop-event.yielded _ _ _ _ _ i.all c.in-Some.ensures.steps.0 i.events),
-    rw c.in-Err.ensures.err (IsRefused-since w g.met.A.Databases.DatabaseSet.laws (g.S.BlockStore.stored c.args.store.now) g.A.Run.Faulty.count g.A.Hook.Faulty.count c.loop-event.driven.history.items c.in-Some.event _ _ _ _ _ _ i.later
-    ((rw i.store at c.in-Err.ensures.refused) i.played i.registered)))
+    let i = c.loop-event.invariant in (
+      c.in-Some.event,
+      c.next.new.self.rest.items,
+      rw c.in-Err.ensures.err (event_at c.loop-event.yielded _ _ _ _ _ i.all c.in-Some.ensures.steps.0 i.events),
+      rw c.in-Err.ensures.err (IsRefused-since w g.met.A.Databases.DatabaseSet.laws (g.S.BlockStore.stored c.args.store.now) g.A.Run.Faulty.count g.A.Hook.Faulty.count c.loop-event.driven.history.items c.in-Some.event _ _ _ _ _ _ i.later
+          ((rw i.store at c.in-Err.ensures.refused) i.played i.registered)),
+    )
 
 pub returns-in-Err-clause-played : goal.returns-in-Err-clause-played
 returns-in-Err-clause-played g c = λ names. rw c.in-Err.ensures.err (Plays-any _ _ c.loop-event.driven.history.items _ _ _ _ _ c.loop-event.invariant.played (rw (sym c.in-Err.ensures.err) names))
