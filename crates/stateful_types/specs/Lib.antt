@@ -1,5 +1,12 @@
+pub mod Format
+pub mod Number
+pub mod Digest
 pub mod Round
 pub mod Names
 pub mod Causes
 pub mod Handoff
 pub mod Anchor
+pub mod Finalization
+pub mod Vote
+pub mod Request
+pub mod Response
