@@ -1,13 +1,13 @@
 //! Reading values from the front of some bytes, and writing them behind others. All numbers have a fixed width, the
 //! highest byte first.
 
-ghost use Rattle.std.specs.Prelude.{◌≡◌};
+ghost use Rattle.std.specs.Prelude.{◌≡◌, drop};
 ghost use Rattle.stateful_types.specs.Format.{Reads, Writes};
-ghost use Rattle.stateful_types.specs.Number.{u8_format, u32_format, u64_format};
+ghost use Rattle.stateful_types.specs.Number.{u8_format, u32_format, u64_format, bytes_format};
 ghost use Rattle.stateful_types.specs.declared.codec.CodecError.TheVariants as errors;
 
 use crate::share::OutOfMemory;
-use bytes::{Buf, Bytes};
+use bytes::Bytes;
 use std::alloc::{AllocError, AllocFailed};
 use thiserror::Error;
 
@@ -76,28 +76,39 @@ pub fn write_u64(n: u64, out: &mut Vec<u8>) -> Result<(), OutOfMemory>
 pub fn read_u8(input: &mut Bytes) -> Result<u8, CodecError>
     ensures { Reads u8_format result input.old input.new }
 {
-    match input.try_get_u8() {
-        Ok(n) => Ok(n),
-        Err(_) => Err(CodecError::EndOfBuffer),
-    }
+    Ok(u8::from_be_bytes(read_array(input)?))
 }
 
 /// Takes a number of four bytes.
 pub fn read_u32(input: &mut Bytes) -> Result<u32, CodecError>
     ensures { Reads u32_format result input.old input.new }
 {
-    match input.try_get_u32() {
-        Ok(n) => Ok(n),
-        Err(_) => Err(CodecError::EndOfBuffer),
-    }
+    Ok(u32::from_be_bytes(read_array(input)?))
 }
 
 /// Takes a number of eight bytes.
 pub fn read_u64(input: &mut Bytes) -> Result<u64, CodecError>
     ensures { Reads u64_format result input.old input.new }
 {
-    match input.try_get_u64() {
-        Ok(n) => Ok(n),
-        Err(_) => Err(CodecError::EndOfBuffer),
-    }
+    Ok(u64::from_be_bytes(read_array(input)?))
+}
+
+/// Takes `N` bytes, as they are.
+pub(crate) fn read_array<const N: usize>(input: &mut Bytes) -> Result<[u8; N], CodecError>
+    ensures { Reads (bytes_format N) result input.old input.new }
+{
+    let front = first_bytes(input.as_slice())?;
+    input.advance(N);
+    Ok(front)
+}
+
+/// The first `N` bytes.
+fn first_bytes<const N: usize>(bytes: &[u8]) -> Result<[u8; N], CodecError>
+    ensures { Reads (bytes_format N) result bytes.now (drop N bytes.now) }
+{
+    let Some(front) = bytes.first_chunk::<N>() else {
+        return Err(CodecError::EndOfBuffer);
+    };
+    let front = *front;
+    Ok(front)
 }

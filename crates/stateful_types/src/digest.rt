@@ -5,9 +5,9 @@ ghost use Rattle.sha2.specs.Sha256.{sha256};
 ghost use Rattle.stateful_types.specs.Format.{Reads, Writes};
 ghost use Rattle.stateful_types.specs.Digest.{digest_format};
 
-use crate::codec::CodecError;
+use crate::codec::{CodecError, read_array};
 use crate::share::OutOfMemory;
-use bytes::{Buf, Bytes};
+use bytes::Bytes;
 use sha2::Sha256;
 
 /// The SHA-256 of some bytes: 32 bytes.
@@ -43,10 +43,6 @@ impl Digest {
     pub fn read(input: &mut Bytes) -> Result<Digest, CodecError>
         ensures { Reads digest_format result input.old input.new }
     {
-        let mut bytes = [0; 32];
-        match input.try_copy_to_slice(&mut bytes) {
-            Ok(()) => Ok(Digest(bytes)),
-            Err(_) => Err(CodecError::EndOfBuffer),
-        }
+        Ok(Digest(read_array(input)?))
     }
 }

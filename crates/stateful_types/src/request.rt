@@ -1,6 +1,7 @@
 //! What a syncing database asks of a server.
 
 ghost use Rattle.stateful_types.specs.Format.{Reads, Writes};
+ghost use Rattle.stateful_types.specs.Number.{nonzero_format};
 ghost use Rattle.stateful_types.specs.Request.{request_format};
 
 use crate::codec::{CodecError, read_u8, read_u64, write_u8, write_u64};
@@ -53,22 +54,33 @@ impl Request {
     pub fn read(input: &mut Bytes) -> Result<Request, CodecError>
         ensures { Reads request_format result input.old input.new }
     {
-        let tag = read_u8(input)?;
-        if tag > 1 {
-            return Err(CodecError::InvalidEnum(tag));
+        match read_u8(input)? {
+            0 => {
+                let size = Location::read(input)?;
+                let start = Location::read(input)?;
+                let max_ops = read_nonzero(input)?;
+                Ok(Request::Operations {
+                    size,
+                    start,
+                    max_ops,
+                })
+            }
+            1 => {
+                let size = Location::read(input)?;
+                let start = Location::read(input)?;
+                Ok(Request::Boundary { size, start })
+            }
+            tag => Err(CodecError::InvalidEnum(tag)),
         }
-        let size = Location::read(input)?;
-        let start = Location::read(input)?;
-        if tag == 1 {
-            return Ok(Request::Boundary { size, start });
-        }
-        match NonZeroU64::new(read_u64(input)?) {
-            Some(max_ops) => Ok(Request::Operations {
-                size,
-                start,
-                max_ops,
-            }),
-            None => Err(CodecError::InvalidEnum(0)),
-        }
+    }
+}
+
+/// Takes a number of eight bytes that is not 0. A 0 is refused at its last byte.
+fn read_nonzero(input: &mut Bytes) -> Result<NonZeroU64, CodecError>
+    ensures { Reads nonzero_format result input.old input.new }
+{
+    match NonZeroU64::new(read_u64(input)?) {
+        Some(n) => Ok(n),
+        None => Err(CodecError::InvalidEnum(0)),
     }
 }
