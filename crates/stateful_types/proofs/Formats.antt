@@ -5,21 +5,10 @@ use Rattle.std.proofs.lemmas.List.{append_cancel_left, append-nil}
 use Rattle.std.proofs.lemmas.Result.{on_ok_weaker}
 use Rattle.stateful_types.specs.declared.codec.CodecError.{CodecError}
 use Rattle.stateful_types.specs.declared.codec.CodecError.TheVariants.{InvalidEnum, EndOfBuffer, OutOfMemory}
+use Rattle.stateful_types.specs.FormatLaws.{split, same_first, Rest, Rest-format, both, Rest-both}
 use Rattle.stateful_types.specs.Format.{Format, Begins, EndsInside, IsWrong, Stands, answer_with, UnlessMemory, Reads, Writes, IsFormat}
 
 -- ---- lists that begin alike
-
--- where two lists joined are two others joined, one of the fronts begins the other
-pub split : (a b c d : List ℕ) → a ++ b ≡ c ++ d → ((m : List ℕ) × (c ≡ a ++ m) × (b ≡ m ++ d)) ⊎ ((m : List ℕ) × (a ≡ c ++ m) × (d ≡ m ++ b))
-split [] b c d e = inl (c, refl, e)
-split (x ∷ a) b [] d e = inr (x ∷ a, refl, sym e)
-split (x ∷ a) b (y ∷ c) d e =
-    let heads : x ≡ y = cc in
-    let tails : a ++ b ≡ c ++ d = cc in
-    elim (split a b c d tails) [
-      | inl s ↦ inl (s.0, rw (heads, s.1) refl, s.2)
-      | inr s ↦ inr (s.0, rw (heads, s.1) refl, s.2)
-    ]
 
 nothing_more : (xs : List ℕ) (n : ℕ) (front rest : List ℕ) → xs ++ (front ++ n ∷ rest) ≡ xs → ⊥
 nothing_more xs n front rest e =
@@ -92,11 +81,7 @@ same_found f x y r s same e =
 -- one value at most stands first
 pub one_found : {A : Type 0} (f : Format A) → IsFormat f → (x y : A) (r s : List ℕ) → f.fits x → f.fits y → f.spelling x ++ r ≡ f.spelling y ++ s
     → ◌≡◌ {A = Result (A × List ℕ) CodecError} (Ok (x, r)) (Ok (y, s))
-one_found f law x y r s fits fits' e =
-    elim (split (f.spelling x) r (f.spelling y) s e) [
-      | inl m ↦ same_found f x y r s (law.alone x y m.0 fits fits' (sym m.1)) e
-      | inr m ↦ same_found f x y r s (sym (law.alone y x m.0 fits' fits (sym m.1))) e
-    ]
+one_found f law x y r s fits fits' e = same_found f x y r s (same_first f law x y r s fits fits' e) e
 
 -- one thing at most stands first
 pub stands_alone : {A : Type 0} (f : Format A) → IsFormat f → (bytes : List ℕ) (one other : Result (A × List ℕ) CodecError) → Stands f bytes one → Stands f bytes other → one ≡ other
@@ -139,6 +124,10 @@ pub passed : {A : Type 0} (f : Format A) → IsFormat f → (result : Result A C
 passed f law (Ok x) error before after is m = absurd is
 passed f law (Err e) error before after is m = subst (λ (d : CodecError). Reads f (Err d) before after) (sym is) (reads f law (Err error) before after m)
 
+-- some bytes were taken, and then some more
+pub taken_then : (before mid after : List ℕ) → ((front : List ℕ) × (before ≡ front ++ mid)) → ((front : List ℕ) × (mid ≡ front ++ after)) → (front : List ℕ) × (before ≡ front ++ after)
+taken_then before mid after one other = (one.0 ++ other.0, one.1 ∙ ap (λ (w : List ℕ). one.0 ++ w) other.1 ∙ sym (append_assoc one.0 other.0 after))
+
 -- a refusal says nothing of what it leaves, but that some bytes were taken
 pub err_leaves : {A : Type 0} (f : Format A) (error : CodecError) (before after after' : List ℕ) → ((front : List ℕ) × (before ≡ front ++ after')) → Met f (Err error) before after → Met f (Err error) before after'
 err_leaves f EndOfBuffer before after after' taken m = record { first = m.first; taken = taken }
@@ -146,12 +135,6 @@ err_leaves f (InvalidEnum byte) before after after' taken m = record { first = m
 err_leaves f OutOfMemory before after after' taken m = record { first = tt; taken = taken }
 
 -- ---- what is left of a format behind some bytes
-
--- Behind these bytes the values of one format are those of another.
-pub record Rest {A X : Type 0} (whole : Format X) (front : List ℕ) (f : Format A) (into : A → X) : Type 0 where
-  pub fits : (a : A) → f.fits a → whole.fits (into a)
-  pub spelled : (a : A) → f.fits a → whole.spelling (into a) ≡ front ++ f.spelling a
-  pub back : (x : X) (bytes : List ℕ) → whole.fits x → whole.spelling x ≡ front ++ bytes → (a : A) × f.fits a × (x ≡ into a)
 
 module _ {A X : Type 0} (whole : Format X) (front : List ℕ) (f : Format A) (into : A → X) (rest : Rest whole front f into) where
   pub Rest-begins : (bytes : List ℕ) → Begins f bytes → Begins whole (front ++ bytes)
@@ -197,39 +180,6 @@ module _ {A X : Type 0} (whole : Format X) (front : List ℕ) (f : Format A) (in
   rest_err (InvalidEnum byte) before mid after e m = record { first = subst (λ (b : List ℕ). IsWrong whole b byte) (sym e) (Rest-wrong mid byte m.first); taken = taken_behind before mid after e m.taken }
   rest_err OutOfMemory before mid after e m = record { first = tt; taken = taken_behind before mid after e m.taken }
 
--- a rest of a rest
-pub Rest-then : {A B X : Type 0} (whole : Format X) (front : List ℕ) (f : Format A) (into : A → X) (behind : List ℕ) (g : Format B) (into' : B → A)
-    → Rest whole front f into → Rest f behind g into' → Rest whole (front ++ behind) g (λ b. into (into' b))
-Rest-then whole front f into behind g into' one other = record {
-  fits = λ b fits. one.fits (into' b) (other.fits b fits);
-  spelled = λ b fits. one.spelled (into' b) (other.fits b fits) ∙ ap (λ (w : List ℕ). front ++ w) (other.spelled b fits) ∙ sym (append_assoc front behind (g.spelling b));
-  back = λ x bytes fits e.
-    let regrouped : whole.spelling x ≡ front ++ (behind ++ bytes) = e ∙ append_assoc front behind bytes in
-    let a = one.back x (behind ++ bytes) fits regrouped in
-    let spelled : f.spelling a.0 ≡ behind ++ bytes = append_cancel_left front (f.spelling a.0) (behind ++ bytes) (sym (one.spelled a.0 a.1) ∙ ap whole.spelling (sym a.2) ∙ regrouped) in
-    let b = other.back a.0 bytes a.1 spelled in
-    (b.0, b.1, a.2 ∙ ap into b.2);
-}
-
--- two values of a format that both have a rest behind the same bytes
-pub Rest-alone : {A X : Type 0} (whole : Format X) (front : List ℕ) (f : Format A) (into : A → X) → Rest whole front f into → IsFormat f
-    → (x y : X) (more bytes : List ℕ) → whole.fits x → whole.fits y → whole.spelling x ≡ front ++ bytes → whole.spelling x ++ more ≡ whole.spelling y → x ≡ y
-Rest-alone whole front f into rest law x y more bytes fits fits' begins e =
-    let a = rest.back x bytes fits begins in
-    let e' : whole.spelling y ≡ front ++ (bytes ++ more) = sym e ∙ ap (λ (w : List ℕ). w ++ more) begins ∙ append_assoc front bytes more in
-    let b = rest.back y (bytes ++ more) fits' e' in
-    let one : bytes ≡ f.spelling a.0 = append_cancel_left front bytes (f.spelling a.0) (sym begins ∙ ap whole.spelling a.2 ∙ rest.spelled a.0 a.1) in
-    let other : bytes ++ more ≡ f.spelling b.0 = append_cancel_left front (bytes ++ more) (f.spelling b.0) (sym e' ∙ ap whole.spelling b.2 ∙ rest.spelled b.0 b.1) in
-    let same : a.0 ≡ b.0 = law.alone a.0 b.0 more a.1 b.1 (ap (λ (w : List ℕ). w ++ more) (sym one) ∙ other) in
-    a.2 ∙ ap into same ∙ sym b.2
-
--- a format whose values are those of another, under other names
-pub Rest-format : {A X : Type 0} (whole : Format X) (f : Format A) (into : A → X) → Rest whole [] f into → IsFormat f → IsFormat whole
-Rest-format whole f into rest law = record {
-  some = (into law.some.0, rest.fits law.some.0 law.some.1);
-  alone = λ x y more fits fits' e. Rest-alone whole [] f into rest law x y more (whole.spelling x) fits fits' refl e;
-}
-
 module _ {A X : Type 0} (whole : Format X) (f : Format A) (into : A → X) (rest : Rest whole [] f into) (law : IsFormat f) where
   -- what is read under other names
   pub renamed : (a : A) (before after : List ℕ) → Met f (Ok a) before after → Reads whole (Ok (into a)) before after
@@ -242,33 +192,12 @@ module _ {A X : Type 0} (whole : Format X) (f : Format A) (into : A → X) (rest
 
 -- ---- one value behind another
 
-abbrev pub both : {A B : Type 0} → Format A → Format B → Format (A × B)
-both f g = record { fits = λ p. f.fits p.0 × g.fits p.1; spelling = λ p. f.spelling p.0 ++ g.spelling p.1 }
-
 module _ {A B : Type 0} (f : Format A) (g : Format B) (law : IsFormat f) where
-  -- where two pairs' bytes begin alike, the first values are the same
-  same_first : (a a' : A) (bytes bytes' : List ℕ) → f.fits a → f.fits a' → f.spelling a' ++ bytes' ≡ f.spelling a ++ bytes → a' ≡ a
-  same_first a a' bytes bytes' fits fits' e =
-      elim (split (f.spelling a') bytes' (f.spelling a) bytes e) [
-        | inl m ↦ law.alone a' a m.0 fits' fits (sym m.1)
-        | inr m ↦ sym (law.alone a a' m.0 fits fits' (sym m.1))
-      ]
-
-  -- behind the first value stands the second
-  pub Rest-both : (a : A) → f.fits a → Rest (both f g) (f.spelling a) g (λ b. (a, b))
-  Rest-both a fits = record {
-    fits = λ b fits'. (fits, fits');
-    spelled = λ b _. refl;
-    back = λ p bytes fits' e.
-      let same : p.0 ≡ a = same_first a p.0 bytes (g.spelling p.1) fits fits'.0 e in
-      (p.1, fits'.1, ap (λ (z : A). (z, p.1)) same);
-  }
-
   pub both_ok : (a : A) (b : B) (before mid after : List ℕ) → Met f (Ok a) before mid → Met g (Ok b) mid after → Met (both f g) (Ok (a, b)) before after
-  both_ok a b before mid after one other = rest_ok (both f g) (f.spelling a) g (λ b. (a, b)) (Rest-both a one.first.0) b before mid after one.first.1 other
+  both_ok a b before mid after one other = rest_ok (both f g) (f.spelling a) g (λ b. (a, b)) (Rest-both f g law a one.first.0) b before mid after one.first.1 other
 
   pub second_err : (a : A) (error : CodecError) (before mid after : List ℕ) → Met f (Ok a) before mid → Met g (Err error) mid after → Met (both f g) (Err error) before after
-  second_err a error before mid after one other = rest_err (both f g) (f.spelling a) g (λ b. (a, b)) (Rest-both a one.first.0) error before mid after one.first.1 other
+  second_err a error before mid after one other = rest_err (both f g) (f.spelling a) g (λ b. (a, b)) (Rest-both f g law a one.first.0) error before mid after one.first.1 other
 
   -- what begins a first value, with some second one
   begins_both : (law' : IsFormat g) (bytes : List ℕ) → Begins f bytes → Begins (both f g) bytes
@@ -295,17 +224,6 @@ module _ {A B : Type 0} (f : Format A) (g : Format B) (law : IsFormat f) where
   first_err law' EndOfBuffer before after m = record { first = inside_both law' before m.first; taken = m.taken }
   first_err law' (InvalidEnum byte) before after m = record { first = wrong_both law' before byte m.first; taken = m.taken }
   first_err law' OutOfMemory before after m = record { first = tt; taken = m.taken }
-
-  pub IsFormat-both : IsFormat g → IsFormat (both f g)
-  IsFormat-both law' = record {
-    some = ((law.some.0, law'.some.0), (law.some.1, law'.some.1));
-    alone = λ p q rest fits fits' e.
-      let e' : f.spelling p.0 ++ (g.spelling p.1 ++ rest) ≡ f.spelling q.0 ++ g.spelling q.1 = sym (append_assoc (f.spelling p.0) (g.spelling p.1) rest) ∙ e in
-      let same : p.0 ≡ q.0 = same_first q.0 p.0 (g.spelling q.1) (g.spelling p.1 ++ rest) fits'.0 fits.0 e' in
-      let other : g.spelling p.1 ++ rest ≡ g.spelling q.1 = append_cancel_left (f.spelling p.0) (g.spelling p.1 ++ rest) (g.spelling q.1) (e' ∙ ap (λ (z : A). f.spelling z ++ g.spelling q.1) (sym same)) in
-      let same' : p.1 ≡ q.1 = law'.alone p.1 q.1 rest fits.1 fits'.1 other in
-      rw (same, same') refl;
-  }
 
 -- ---- writing
 

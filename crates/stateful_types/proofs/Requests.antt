@@ -15,8 +15,10 @@ use Rattle.stateful_types.specs.Request.{request_fits, request_bytes, request_fo
 use Rattle.stateful_types.specs.declared.number.Location.{Location}
 use Rattle.stateful_types.specs.declared.request.Request.{Request}
 use Rattle.stateful_types.specs.declared.request.Request.TheVariants.{Operations, Boundary}
-use Rattle.stateful_types.proofs.Formats.{Met, Rest, Rest-alone, both, IsFormat-both}
-use Rattle.stateful_types.proofs.Fixed.{IsByte, All-front, All-behind, wide64, u64_alone}
+use Rattle.stateful_types.proofs.Formats.{Met}
+use Rattle.stateful_types.specs.FormatLaws.{Rest, Rest-alone, both, IsFormat-both}
+use Rattle.stateful_types.specs.FixedLaws.{IsByte, wide64, u64_alone}
+use Rattle.stateful_types.proofs.Fixed.{All-front, All-behind}
 use Rattle.stateful_types.proofs.Values.{location_alone}
 
 -- ---- numbers that are not 0

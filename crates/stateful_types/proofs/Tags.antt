@@ -5,7 +5,8 @@ use Rattle.stateful_types.specs.declared.codec.CodecError.{CodecError}
 use Rattle.stateful_types.specs.declared.codec.CodecError.TheVariants.{InvalidEnum, EndOfBuffer, OutOfMemory}
 use Rattle.stateful_types.specs.Format.{Format, Begins, EndsInside, IsWrong, IsFormat}
 use Rattle.stateful_types.specs.Number.{u8_format}
-use Rattle.stateful_types.proofs.Formats.{Met, Rest, Rest-begins}
+use Rattle.stateful_types.proofs.Formats.{Met, Rest-begins}
+use Rattle.stateful_types.specs.FormatLaws.{Rest}
 
 -- what ends inside one byte is empty
 inside_byte : (bytes : List ℕ) → EndsInside u8_format bytes → bytes ≡ []

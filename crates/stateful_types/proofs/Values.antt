@@ -10,8 +10,8 @@ use Rattle.stateful_types.specs.Number.{bytes_format, u64_format, height_format,
 use Rattle.stateful_types.specs.Digest.{digest_format}
 use Rattle.stateful_types.specs.Round.{round_format}
 use Rattle.stateful_types.specs.Finalization.{finalization_format}
-use Rattle.stateful_types.proofs.Formats.{Rest, Rest-format, both, IsFormat-both}
-use Rattle.stateful_types.proofs.Fixed.{bytes_alone, u64_alone}
+use Rattle.stateful_types.specs.FormatLaws.{Rest, Rest-format, both, IsFormat-both}
+use Rattle.stateful_types.specs.FixedLaws.{bytes_alone, u64_alone}
 
 abbrev pub to_height : ℕ → Height
 to_height n = record { 0 = n }

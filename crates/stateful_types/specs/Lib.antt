@@ -1,5 +1,7 @@
 pub mod Format
+pub mod FormatLaws
 pub mod Number
+pub mod FixedLaws
 pub mod Digest
 pub mod Round
 pub mod Names
@@ -7,6 +9,9 @@ pub mod Causes
 pub mod Handoff
 pub mod Anchor
 pub mod Finalization
+pub mod Items
+pub mod ItemsLaws
 pub mod Vote
+pub mod VoteLaws
 pub mod Request
 pub mod Response

@@ -1,9 +1,9 @@
 -- Responses of a sync in bytes.
-use Rattle.std.specs.Prelude.{◌≡◌, ℕ, ◌<◌, ◌≤◌, ◌^◌, List, [], ◌∷◌, ◌++◌, length, All}
-use Rattle.std.specs.List.{flat_map}
+use Rattle.std.specs.Prelude.{◌≡◌, ℕ, ◌≤◌, List, [], ◌∷◌, ◌++◌, length}
 use Rattle.std.specs.Int.NonZero.{non_zero_u64_get}
 use Rattle.stateful_types.specs.Format.{Format}
 use Rattle.stateful_types.specs.Number.{u32_format}
+use Rattle.stateful_types.specs.Items.{items_format}
 use Rattle.stateful_types.specs.Digest.{digest_format}
 use Rattle.stateful_types.specs.declared.request.Request.{Request}
 use Rattle.stateful_types.specs.declared.request.Request.TheVariants as asked
@@ -11,12 +11,12 @@ use Rattle.stateful_types.specs.declared.response.Response.{Response}
 use Rattle.stateful_types.specs.declared.response.Response.TheVariants.{Operations, Boundary}
 
 abbrev pub response_fits : {Op : Type 0} → Format Op → Response Op → Type 0
-response_fits op (Operations operations) = (length operations < 2 ^ 32) × All op.fits operations
+response_fits op (Operations operations) = (items_format op).fits operations
 response_fits op (Boundary before operation) = digest_format.fits before × op.fits operation
 
 -- byte 0, the number of operations and each of them, or byte 1, the digest and the operation
 abbrev pub response_bytes : {Op : Type 0} → Format Op → Response Op → List ℕ
-response_bytes op (Operations operations) = 0 ∷ [] ++ u32_format.spelling (length operations) ++ flat_map op.spelling operations
+response_bytes op (Operations operations) = 0 ∷ [] ++ (items_format op).spelling operations
 response_bytes op (Boundary before operation) = 1 ∷ [] ++ digest_format.spelling before ++ op.spelling operation
 
 abbrev pub response_format : {Op : Type 0} → Format Op → Format (Response Op)

@@ -1,9 +1,9 @@
 -- Certificates of votes.
-use Rattle.std.specs.Prelude.{ℕ, ◌<◌, ◌≤◌, ◌-◌, ◌/◌, ◌^◌, List, ◌++◌, All, length}
-use Rattle.std.specs.List.{flat_map}
+use Rattle.std.specs.Prelude.{ℕ, ◌<◌, ◌≤◌, ◌-◌, ◌/◌, ◌^◌, List, All, length}
 use Rattle.std.specs.List.Sorted.{IsStrictlyIncreasing}
 use Rattle.stateful_types.specs.Format.{Format}
 use Rattle.stateful_types.specs.Number.{u32_format}
+use Rattle.stateful_types.specs.Items.{items_format}
 
 -- how many of n participants may be faulty: fewer than a third of them
 abbrev pub max_faults : ℕ → ℕ
@@ -11,10 +11,7 @@ max_faults n = (n - 1) / 3
 
 -- how many signers there are, and then the number of each
 abbrev pub votes_format : Format (List ℕ)
-votes_format = record {
-  fits = λ signers. (length signers < 2 ^ 32) × All u32_format.fits signers;
-  spelling = λ signers. u32_format.spelling (length signers) ++ flat_map u32_format.spelling signers;
-}
+votes_format = items_format u32_format
 
 -- of so many participants all but the faulty ones signed, each named once, in ascending order
 pub record IsQuorum (participants : ℕ) (signers : List ℕ) : Type 0 where

@@ -1,8 +1,9 @@
 //! What a server answers to a syncing database.
 
-ghost use Rattle.std.specs.Prelude.{◌≡◌, ◌%◌, ◌++◌, ◌^◌, ℕ, List, IfOk, IsErrOf};
+ghost use Rattle.std.specs.Prelude.{◌≡◌, ◌↔◌, ◌%◌, ◌++◌, ◌^◌, ℕ, List, IsTrue, IfOk, IsErrOf};
 ghost use Rattle.stateful_types.specs.Format.{Reads, Writes, UnlessMemory};
-ghost use Rattle.stateful_types.specs.Response.{response_format, IsAllowed, HasTooMany};
+ghost use Rattle.stateful_types.specs.Items.{items_format, exactly_format};
+ghost use Rattle.stateful_types.specs.Response.{response_format, Allows, IsAllowed, HasTooMany};
 
 use crate::codec::{CodecError, read_u8, read_u32, write_u8, write_u32};
 use crate::digest::Digest;
@@ -58,7 +59,7 @@ impl<Op: Operation> Response<Op> {
             0 => {
                 let count = read_u32(input)?;
                 if !allows(request, count) {
-                    return Err(CodecError::InvalidEnum(count.to_be_bytes()[3]));
+                    return Err(CodecError::InvalidEnum((count % 256) as u8));
                 }
                 let operations = read_operations(alloc, count, input)?;
                 Ok(Response::Operations { operations })
@@ -77,7 +78,9 @@ impl<Op: Operation> Response<Op> {
 fn write_operations<Op: Operation>(
     operations: &Items<Op>,
     out: &mut Vec<u8>,
-) -> Result<(), OutOfMemory> {
+) -> Result<(), OutOfMemory>
+    ensures { Writes (items_format Op.operations) operations.now result out.old.items out.new.items }
+{
     let Ok(count) = u32::try_from(operations.len()) else {
         return Err(OutOfMemory);
     };
@@ -93,7 +96,9 @@ fn read_operations<Op: Operation + Drop>(
     alloc: Global,
     count: u32,
     input: &mut Bytes,
-) -> Result<Items<Op>, CodecError> {
+) -> Result<Items<Op>, CodecError>
+    ensures { Reads (exactly_format count Op.operations) result input.old input.new }
+{
     let mut operations = Items::new(alloc);
     for _ in 0..count {
         operations.push(Op::read(alloc, input)?)?;
@@ -102,7 +107,9 @@ fn read_operations<Op: Operation + Drop>(
 }
 
 /// Whether the request allows so many operations.
-fn allows(request: &Request, count: u32) -> bool {
+fn allows(request: &Request, count: u32) -> bool
+    ensures { IsTrue result ↔ Allows request.now count }
+{
     match request {
         Request::Operations { max_ops, .. } => count as u64 <= max_ops.get(),
         Request::Boundary { .. } => true,

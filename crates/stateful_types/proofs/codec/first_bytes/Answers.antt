@@ -1,7 +1,8 @@
 use Rattle.std.proofs.Common.{refl, drop, take-append-drop, sym, take, arith}
 use Rattle.stateful_types.specs.Number.{bytes_format}
 use Rattle.stateful_types.proofs.Formats.{reads}
-use Rattle.stateful_types.proofs.Fixed.{bytes_alone, bytes_ok, bytes_short, all_bytes}
+use Rattle.stateful_types.specs.FixedLaws.{bytes_alone}
+use Rattle.stateful_types.proofs.Fixed.{bytes_ok, bytes_short, all_bytes}
 use Rattle.stateful_types.proofs.codec.first_bytes.Goals as goal
 
 pub returns : goal.returns

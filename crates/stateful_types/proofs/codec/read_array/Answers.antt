@@ -2,7 +2,7 @@ use Rattle.std.proofs.Common.{[], refl, sym, subst, List, ℕ, Ok, ◌≡◌}
 use Rattle.stateful_types.specs.Format.{Reads}
 use Rattle.stateful_types.specs.Number.{bytes_format}
 use Rattle.stateful_types.proofs.Formats.{met, passed, err_leaves}
-use Rattle.stateful_types.proofs.Fixed.{bytes_alone}
+use Rattle.stateful_types.specs.FixedLaws.{bytes_alone}
 use Rattle.stateful_types.proofs.codec.read_array.Goals as goal
 
 pub returns-in_err-front : goal.returns-in_err-front

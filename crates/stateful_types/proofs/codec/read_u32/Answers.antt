@@ -1,7 +1,7 @@
 use Rattle.std.specs.Int.{w32, from_be_bytes}
 use Rattle.stateful_types.specs.Number.{bytes_format, u32_format}
 use Rattle.stateful_types.proofs.Formats.{met, renamed, renamed_err}
-use Rattle.stateful_types.proofs.Fixed.{bytes_alone, Rest-u32}
+use Rattle.stateful_types.specs.FixedLaws.{bytes_alone, Rest-u32}
 use Rattle.stateful_types.proofs.codec.read_u32.Goals as goal
 
 pub returns-in_err-read_array : goal.returns-in_err-read_array

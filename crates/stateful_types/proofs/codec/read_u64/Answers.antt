@@ -1,7 +1,7 @@
 use Rattle.std.specs.Int.{w64, from_be_bytes}
 use Rattle.stateful_types.specs.Number.{bytes_format, u64_format}
 use Rattle.stateful_types.proofs.Formats.{met, renamed, renamed_err}
-use Rattle.stateful_types.proofs.Fixed.{bytes_alone, Rest-u64}
+use Rattle.stateful_types.specs.FixedLaws.{bytes_alone, Rest-u64}
 use Rattle.stateful_types.proofs.codec.read_u64.Goals as goal
 
 pub returns-in_err-read_array : goal.returns-in_err-read_array

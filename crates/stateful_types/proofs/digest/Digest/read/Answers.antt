@@ -1,7 +1,7 @@
 use Rattle.stateful_types.specs.Number.{bytes_format}
 use Rattle.stateful_types.specs.Digest.{digest_format}
 use Rattle.stateful_types.proofs.Formats.{met, renamed, renamed_err}
-use Rattle.stateful_types.proofs.Fixed.{bytes_alone}
+use Rattle.stateful_types.specs.FixedLaws.{bytes_alone}
 use Rattle.stateful_types.proofs.Values.{to_digest, Rest-digest}
 use Rattle.stateful_types.proofs.digest.Digest.read.Goals as goal
 

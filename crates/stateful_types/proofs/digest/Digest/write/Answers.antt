@@ -1,5 +1,6 @@
 use Rattle.std.proofs.Common.{All, ◌++◌, subst, length, ◌≡◌, arith}
-use Rattle.stateful_types.proofs.Fixed.{IsByte, All-behind}
+use Rattle.stateful_types.specs.FixedLaws.{IsByte}
+use Rattle.stateful_types.proofs.Fixed.{All-behind}
 use Rattle.stateful_types.proofs.digest.Digest.write.Goals as goal
 
 pub returns : goal.returns

@@ -2,8 +2,9 @@ use Rattle.stateful_types.specs.Number.{u64_format}
 use Rattle.stateful_types.specs.Digest.{digest_format}
 use Rattle.stateful_types.specs.Round.{round_format}
 use Rattle.stateful_types.specs.Finalization.{finalization_format}
-use Rattle.stateful_types.proofs.Formats.{both, IsFormat-both, met, renamed, renamed_err, both_ok, first_err, second_err}
-use Rattle.stateful_types.proofs.Fixed.{u64_alone}
+use Rattle.stateful_types.specs.FormatLaws.{both, IsFormat-both}
+use Rattle.stateful_types.proofs.Formats.{met, renamed, renamed_err, both_ok, first_err, second_err}
+use Rattle.stateful_types.specs.FixedLaws.{u64_alone}
 use Rattle.stateful_types.proofs.Values.{round_alone, digest_alone, place_format, place_alone, proposal_format, proposal_alone, to_finalization, Rest-finalization}
 use Rattle.stateful_types.proofs.finalization.Finalization.read.Goals as goal
 

@@ -4,7 +4,8 @@ use Rattle.stateful_types.specs.Number.{u64_format}
 use Rattle.stateful_types.specs.Digest.{digest_format}
 use Rattle.stateful_types.specs.Round.{round_format}
 use Rattle.stateful_types.specs.Finalization.{finalization_format}
-use Rattle.stateful_types.proofs.Formats.{both, write_both, write_rest}
+use Rattle.stateful_types.specs.FormatLaws.{both}
+use Rattle.stateful_types.proofs.Formats.{write_both, write_rest}
 use Rattle.stateful_types.proofs.Values.{place_format, proposal_format, to_finalization, Rest-finalization}
 use Rattle.stateful_types.proofs.finalization.Finalization.write.Goals as goal
 

@@ -1,6 +1,6 @@
 use Rattle.stateful_types.specs.Number.{u64_format, height_format}
 use Rattle.stateful_types.proofs.Formats.{met, renamed, renamed_err}
-use Rattle.stateful_types.proofs.Fixed.{u64_alone}
+use Rattle.stateful_types.specs.FixedLaws.{u64_alone}
 use Rattle.stateful_types.proofs.Values.{to_height, Rest-height}
 use Rattle.stateful_types.proofs.number.Height.read.Goals as goal
 

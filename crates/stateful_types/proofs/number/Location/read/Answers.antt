@@ -1,6 +1,6 @@
 use Rattle.stateful_types.specs.Number.{u64_format, location_format}
 use Rattle.stateful_types.proofs.Formats.{met, renamed, renamed_err}
-use Rattle.stateful_types.proofs.Fixed.{u64_alone}
+use Rattle.stateful_types.specs.FixedLaws.{u64_alone}
 use Rattle.stateful_types.proofs.Values.{to_location, Rest-location}
 use Rattle.stateful_types.proofs.number.Location.read.Goals as goal
 

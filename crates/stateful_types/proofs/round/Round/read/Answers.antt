@@ -1,7 +1,7 @@
 use Rattle.stateful_types.specs.Number.{u64_format}
 use Rattle.stateful_types.specs.Round.{round_format}
 use Rattle.stateful_types.proofs.Formats.{met, renamed, renamed_err, both_ok, first_err, second_err}
-use Rattle.stateful_types.proofs.Fixed.{u64_alone}
+use Rattle.stateful_types.specs.FixedLaws.{u64_alone}
 use Rattle.stateful_types.proofs.Values.{pair_format, pair_alone, to_round, Rest-round}
 use Rattle.stateful_types.proofs.round.Round.read.Goals as goal
 
