@@ -27,7 +27,7 @@ module _ {A : Type 0} (item : Format A) (law : IsFormat item) where
       let others = exactly_format total item in
       let one = Rest-then whole [] (both item others) cons (item.spelling x) others (λ xs. (x, xs)) (Rest-cons item total) (Rest-both item others law x (All-head item.fits x items all)) in
       Rest-then whole (item.spelling x) others (λ xs. x ∷ xs) (flat_map item.spelling items) (exactly_format n item) (λ xs. items ++ xs) one
-        (Rest-items items total n (omega arith) (All-tail item.fits x items all))
+      (Rest-items items total n (omega arith) (All-tail item.fits x items all))
 
   -- one item is refused, and so are all
   pub exactly_err : (items : List A) (total : ℕ) (error : CodecError) (before mid after : List ℕ) → length items < total → All item.fits items → before ≡ flat_map item.spelling items ++ mid
@@ -36,8 +36,8 @@ module _ {A : Type 0} (item : Format A) (law : IsFormat item) where
       let k : ℕ = total - (length items + 1) in
       let rest = exactly_format (suc k) item in
       rest_err (exactly_format total item) (flat_map item.spelling items) rest (λ xs. items ++ xs) (Rest-items items total (suc k) (omega arith) all) error before mid after e
-        (rest_err rest [] (both item (exactly_format k item)) cons (Rest-cons item k) error mid mid after refl
-          (first_err item (exactly_format k item) law (exactly_alone item law k) error mid after m))
+      (rest_err rest [] (both item (exactly_format k item)) cons (Rest-cons item k) error mid mid after refl
+      (first_err item (exactly_format k item) law (exactly_alone item law k) error mid after m))
 
   pub exactly_ok : (items : List A) (total : ℕ) (before after : List ℕ) → length items ≡ total → All item.fits items → before ≡ flat_map item.spelling items ++ after → Met (exactly_format total item) (Ok items) before after
   exactly_ok items total before after len all e = record { first = ((len, all), e); taken = (flat_map item.spelling items, e) }
@@ -98,6 +98,6 @@ module _ {A : Type 0} (item : Format A) (xs : List A) (i : ℕ) (d : A) (lt : i 
       let so_far : List ℕ = flat_map item.spelling (take i xs) in
       let next : List ℕ = item.spelling (get_or xs i d) in
       let more : flat_map item.spelling (take (i + 1) xs) ≡ so_far ++ next =
-        ap (flat_map item.spelling) (take_more xs i d lt) ∙ flat_map-append item.spelling (take i xs) (get_or xs i d ∷ []) ∙ ap (λ (w : List ℕ). so_far ++ w) (append-nil next) in
+      ap (flat_map item.spelling) (take_more xs i d lt) ∙ flat_map-append item.spelling (take i xs) (get_or xs i d ∷ []) ∙ ap (λ (w : List ℕ). so_far ++ w) (append-nil next) in
       let joined : (before ++ (count ++ so_far)) ++ next ≡ before ++ (count ++ (so_far ++ next)) = simp append_assoc in
       e' ∙ ap (λ (w : List ℕ). w ++ next) e ∙ joined ∙ ap (λ (w : List ℕ). before ++ (count ++ w)) (sym more)

@@ -53,7 +53,7 @@ module _ {A : Type 0} (f : Format A) (law : IsFormat f) (x : A) (fits : f.fits x
 pub inside_not_wrong : {A : Type 0} (f : Format A) (bytes : List ℕ) (byte : ℕ) → EndsInside f bytes → IsWrong f bytes byte → ⊥
 inside_not_wrong f bytes byte inside wrong =
     let regrouped : bytes ++ inside.next ∷ [] ≡ (wrong.front ++ byte ∷ []) ++ (wrong.rest ++ inside.next ∷ []) =
-        ap (λ (b : List ℕ). b ++ inside.next ∷ []) wrong.place ∙ simp append_assoc in
+    ap (λ (b : List ℕ). b ++ inside.next ∷ []) wrong.place ∙ simp append_assoc in
     wrong.none (Begins-front f (wrong.front ++ byte ∷ []) (wrong.rest ++ inside.next ∷ []) (subst (Begins f) regrouped inside.begins))
 
 wrong_before : {A : Type 0} (f : Format A) (front other k rest rest' : List ℕ) (byte byte' : ℕ) → (Begins f (front ++ byte ∷ []) → ⊥) → EndsInside f other
@@ -62,7 +62,7 @@ wrong_before f front other [] rest rest' byte byte' none inside e place = cc
 wrong_before f front other (b ∷ k) rest rest' byte byte' none inside e place =
     let same : b ≡ byte = cc in
     let regrouped : other ++ inside.next ∷ [] ≡ (front ++ byte ∷ []) ++ (k ++ inside.next ∷ []) =
-        ap (λ (o : List ℕ). o ++ inside.next ∷ []) (e ∙ ap (λ (c : ℕ). front ++ c ∷ k) same) ∙ simp append_assoc in
+    ap (λ (o : List ℕ). o ++ inside.next ∷ []) (e ∙ ap (λ (c : ℕ). front ++ c ∷ k) same) ∙ simp append_assoc in
     absurd (none (Begins-front f (front ++ byte ∷ []) (k ++ inside.next ∷ []) (subst (Begins f) regrouped inside.begins)))
 
 -- one byte at most is the first wrong one
@@ -242,7 +242,7 @@ pub write_rest : {A X E : Type 0} (whole : Format X) (front : List ℕ) (f : For
 write_rest whole front f into rest a result before mid after e w = record {
   fits = on_ok_weaker result (rest.fits a) w.fits;
   appended = ok_both result w.fits w.appended (λ (fits : f.fits a) (e' : after ≡ mid ++ f.spelling a).
-    e' ∙ ap (λ (m : List ℕ). m ++ f.spelling a) e ∙ append_assoc before front (f.spelling a) ∙ ap (λ (m : List ℕ). before ++ m) (sym (rest.spelled a fits)));
+      e' ∙ ap (λ (m : List ℕ). m ++ f.spelling a) e ∙ append_assoc before front (f.spelling a) ∙ ap (λ (m : List ℕ). before ++ m) (sym (rest.spelled a fits)));
   kept = (front ++ w.kept.0, w.kept.1 ∙ ap (λ (m : List ℕ). m ++ w.kept.0) e ∙ append_assoc before front w.kept.0);
 } where
   ok_both : {E P Q R : Type 0} (result : Result (Unit {0}) E) → OnOk result P → OnOk result Q → (P → Q → R) → OnOk result R

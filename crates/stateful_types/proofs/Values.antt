@@ -25,6 +25,9 @@ to_location n = record { 0 = n }
 pub Rest-location : Rest location_format [] u64_format to_location
 Rest-location = record { fits = λ n fits. fits; spelled = λ n fits. refl; back = λ l bytes fits e. (l.0, fits, refl) }
 
+pub height_alone : IsFormat height_format
+height_alone = Rest-format height_format u64_format to_height Rest-height u64_alone
+
 pub location_alone : IsFormat location_format
 location_alone = Rest-format location_format u64_format to_location Rest-location u64_alone
 
@@ -75,3 +78,6 @@ module _ {C : Type 0} (certificate : Format C) where
     spelled = λ p fits. refl;
     back = λ f bytes fits e. ((((f.round, f.parent.0), f.payload), f.certificate), (((fits.0, fits.1), fits.2), fits.3), refl);
   }
+
+  pub finalization_alone : IsFormat certificate → IsFormat (finalization_format certificate)
+  finalization_alone law = Rest-format (finalization_format certificate) (both proposal_format certificate) to_finalization Rest-finalization (IsFormat-both proposal_format certificate proposal_alone law)

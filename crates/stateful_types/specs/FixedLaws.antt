@@ -18,8 +18,8 @@ pub bytes_alone : (n : ℕ) → IsFormat (bytes_format n)
 bytes_alone n = record {
   some = (replicate n 0, (length-replicate n 0, All-replicate IsByte n 0 (omega arith)));
   alone = λ x y rest fits fits' e.
-    let none : rest ≡ [] = nil_from_length rest (omega (arith, simp length-append at (ap length e), fits.0, fits'.0)) in
-    sym (append-nil x) ∙ ap (λ (r : List ℕ). x ++ r) (sym none) ∙ e;
+      let none : rest ≡ [] = nil_from_length rest (omega (arith, simp length-append at (ap length e), fits.0, fits'.0)) in
+      sym (append-nil x) ∙ ap (λ (r : List ℕ). x ++ r) (sym none) ∙ e;
 }
 
 -- ---- numbers
@@ -93,6 +93,7 @@ Rest-u8 = record {
   one_below [] e all = absurd (omega arith)
   one_below (b ∷ []) e all = rw from_one (All-head IsByte b [] all)
   one_below (b ∷ c ∷ bytes) e all = absurd (omega arith)
+
   one_back : (bytes : List ℕ) → length bytes ≡ 1 → from_be_bytes w8 bytes ∷ [] ≡ bytes
   one_back [] e = absurd (omega arith)
   one_back (b ∷ []) e = rw from_one refl

@@ -39,11 +39,11 @@ Rest-then whole front f into behind g into' one other = record {
   fits = λ b fits. one.fits (into' b) (other.fits b fits);
   spelled = λ b fits. one.spelled (into' b) (other.fits b fits) ∙ ap (λ (w : List ℕ). front ++ w) (other.spelled b fits) ∙ sym (append_assoc front behind (g.spelling b));
   back = λ x bytes fits e.
-    let regrouped : whole.spelling x ≡ front ++ (behind ++ bytes) = e ∙ append_assoc front behind bytes in
-    let a = one.back x (behind ++ bytes) fits regrouped in
-    let spelled : f.spelling a.0 ≡ behind ++ bytes = append_cancel_left front (f.spelling a.0) (behind ++ bytes) (sym (one.spelled a.0 a.1) ∙ ap whole.spelling (sym a.2) ∙ regrouped) in
-    let b = other.back a.0 bytes a.1 spelled in
-    (b.0, b.1, a.2 ∙ ap into b.2);
+      let regrouped : whole.spelling x ≡ front ++ (behind ++ bytes) = e ∙ append_assoc front behind bytes in
+      let a = one.back x (behind ++ bytes) fits regrouped in
+      let spelled : f.spelling a.0 ≡ behind ++ bytes = append_cancel_left front (f.spelling a.0) (behind ++ bytes) (sym (one.spelled a.0 a.1) ∙ ap whole.spelling (sym a.2) ∙ regrouped) in
+      let b = other.back a.0 bytes a.1 spelled in
+      (b.0, b.1, a.2 ∙ ap into b.2);
 }
 
 -- two values of a format that both have a rest behind the same bytes
@@ -58,12 +58,17 @@ Rest-alone whole front f into rest law x y more bytes fits fits' begins e =
     let same : a.0 ≡ b.0 = law.alone a.0 b.0 more a.1 b.1 (ap (λ (w : List ℕ). w ++ more) (sym one) ∙ other) in
     a.2 ∙ ap into same ∙ sym b.2
 
+-- a format whose spellings all begin with the same bytes, behind which stands a value of another
+pub Rest-whole : {A X : Type 0} (whole : Format X) (front : List ℕ) (f : Format A) (into : A → X) → Rest whole front f into
+    → ((x : X) → whole.fits x → (bytes : List ℕ) × (whole.spelling x ≡ front ++ bytes)) → IsFormat f → IsFormat whole
+Rest-whole whole front f into rest begins law = record {
+  some = (into law.some.0, rest.fits law.some.0 law.some.1);
+  alone = λ x y more fits fits' e. let b = begins x fits in Rest-alone whole front f into rest law x y more b.0 fits fits' b.1 e;
+}
+
 -- a format whose values are those of another, under other names
 pub Rest-format : {A X : Type 0} (whole : Format X) (f : Format A) (into : A → X) → Rest whole [] f into → IsFormat f → IsFormat whole
-Rest-format whole f into rest law = record {
-  some = (into law.some.0, rest.fits law.some.0 law.some.1);
-  alone = λ x y more fits fits' e. Rest-alone whole [] f into rest law x y more (whole.spelling x) fits fits' refl e;
-}
+Rest-format whole f into rest law = Rest-whole whole [] f into rest (λ x fits. (whole.spelling x, refl)) law
 
 -- ---- one value behind another
 
@@ -77,17 +82,17 @@ module _ {A B : Type 0} (f : Format A) (g : Format B) (law : IsFormat f) where
     fits = λ b fits'. (fits, fits');
     spelled = λ b _. refl;
     back = λ p bytes fits' e.
-      let same : p.0 ≡ a = same_first f law p.0 a (g.spelling p.1) bytes fits'.0 fits e in
-      (p.1, fits'.1, ap (λ (z : A). (z, p.1)) same);
+        let same : p.0 ≡ a = same_first f law p.0 a (g.spelling p.1) bytes fits'.0 fits e in
+        (p.1, fits'.1, ap (λ (z : A). (z, p.1)) same);
   }
 
   pub IsFormat-both : IsFormat g → IsFormat (both f g)
   IsFormat-both law' = record {
     some = ((law.some.0, law'.some.0), (law.some.1, law'.some.1));
     alone = λ p q rest fits fits' e.
-      let e' : f.spelling p.0 ++ (g.spelling p.1 ++ rest) ≡ f.spelling q.0 ++ g.spelling q.1 = sym (append_assoc (f.spelling p.0) (g.spelling p.1) rest) ∙ e in
-      let same : p.0 ≡ q.0 = same_first f law p.0 q.0 (g.spelling p.1 ++ rest) (g.spelling q.1) fits.0 fits'.0 e' in
-      let other : g.spelling p.1 ++ rest ≡ g.spelling q.1 = append_cancel_left (f.spelling p.0) (g.spelling p.1 ++ rest) (g.spelling q.1) (e' ∙ ap (λ (z : A). f.spelling z ++ g.spelling q.1) (sym same)) in
-      let same' : p.1 ≡ q.1 = law'.alone p.1 q.1 rest fits.1 fits'.1 other in
-      rw (same, same') refl;
+        let e' : f.spelling p.0 ++ (g.spelling p.1 ++ rest) ≡ f.spelling q.0 ++ g.spelling q.1 = sym (append_assoc (f.spelling p.0) (g.spelling p.1) rest) ∙ e in
+        let same : p.0 ≡ q.0 = same_first f law p.0 q.0 (g.spelling p.1 ++ rest) (g.spelling q.1) fits.0 fits'.0 e' in
+        let other : g.spelling p.1 ++ rest ≡ g.spelling q.1 = append_cancel_left (f.spelling p.0) (g.spelling p.1 ++ rest) (g.spelling q.1) (e' ∙ ap (λ (z : A). f.spelling z ++ g.spelling q.1) (sym same)) in
+        let same' : p.1 ≡ q.1 = law'.alone p.1 q.1 rest fits.1 fits'.1 other in
+        rw (same, same') refl;
   }

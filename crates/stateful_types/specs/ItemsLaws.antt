@@ -43,5 +43,5 @@ module _ {A : Type 0} (item : Format A) (law : IsFormat item) where
   items_alone = record {
     some = ([], (omega arith, All-nil item.fits));
     alone = λ xs ys rest fits fits' e.
-      Rest-alone (items_format item) (u32_format.spelling (length xs)) (exactly_format (length xs) item) (λ zs. zs) (Rest-counted (length xs) fits.0) (exactly_alone (length xs)) xs ys rest (flat_map item.spelling xs) fits fits' refl e;
+        Rest-alone (items_format item) (u32_format.spelling (length xs)) (exactly_format (length xs) item) (λ zs. zs) (Rest-counted (length xs) fits.0) (exactly_alone (length xs)) xs ys rest (flat_map item.spelling xs) fits fits' refl e;
   }

@@ -73,7 +73,7 @@ impl Scheme for VoteScheme {
 
     ghost lawful = { items_alone u32_format u32_alone };
 
-    ghost bounded = { λ scheme finalization participants certified few. votes_bounded certified few };
+    ghost bounded = { λ scheme finalization participants certified few small. votes_bounded certified few };
 }
 
 /// Appends the number of signers, and the number of each.

@@ -19,4 +19,4 @@ returns g c =
     let place = write_both round_format u64_format f.round f.parent.0 _ _ _ _ round.fits round.appended parent in
     let proposal = write_both place_format digest_format (f.round, f.parent.0) f.payload _ _ _ _ place.fits place.appended payload in
     write_rest (finalization_format certificate) [] (both proposal_format certificate) to_finalization (Rest-finalization certificate) _ _ _ _ _ (sym (append-nil _))
-      (write_both proposal_format certificate ((f.round, f.parent.0), f.payload) f.certificate _ _ _ _ proposal.fits proposal.appended c.write_certificate.ensures)
+    (write_both proposal_format certificate ((f.round, f.parent.0), f.payload) f.certificate _ _ _ _ proposal.fits proposal.appended c.write_certificate.ensures)

@@ -18,7 +18,7 @@ returns-in_err-tag-clause-otherwise g c =
     let op = g.Op.Operation.operations in
     let alone = g.met.Op.Operation.lawful in
     λ _. passed (response_format op) (response_alone op alone) _ _ _ _ c.from_residual.ensures.1
-      (tag_err (response_format op) 1 (boundary_format op) (to_boundary op) (Rest-boundary op) (boundary_alone op alone) (λ byte b. omega (arith, response_tags op byte b)) _ _ _ (met c.in_err-tag.ensures))
+    (tag_err (response_format op) 1 (boundary_format op) (to_boundary op) (Rest-boundary op) (boundary_alone op alone) (λ byte b. omega (arith, response_tags op byte b)) _ _ _ (met c.in_err-tag.ensures))
 
 pub returns-in_err-count-in-0-clause-too_many : goal.returns-in_err-count-in-0-clause-too_many
 returns-in_err-count-in-0-clause-too_many g c =
@@ -29,8 +29,8 @@ returns-in_err-count-in-0-clause-otherwise g c =
     let op = g.Op.Operation.operations in
     let alone = g.met.Op.Operation.lawful in
     λ _. passed (response_format op) (response_alone op alone) _ _ _ _ c.from_residual-in_err-count-in-0.ensures.1
-      (rest_err (response_format op) (0 ∷ []) (items_format op) (to_operations op) (Rest-operations op) _ _ _ _ (tag_is _ 0 _ _ c.in-0.is (met c.in_ok-tag.ensures))
-        (count_err op alone _ _ _ (met c.in_err-count-in-0.ensures)))
+    (rest_err (response_format op) (0 ∷ []) (items_format op) (to_operations op) (Rest-operations op) _ _ _ _ (tag_is _ 0 _ _ c.in-0.is (met c.in_ok-tag.ensures))
+    (count_err op alone _ _ _ (met c.in_err-count-in-0.ensures)))
 
 pub returns-then-not-allows-clause-otherwise : goal.returns-then-not-allows-clause-otherwise
 returns-then-not-allows-clause-otherwise g c =
@@ -42,47 +42,47 @@ returns-in_err-operations-in-0-clause-otherwise g c =
     let op = g.Op.Operation.operations in
     let alone = g.met.Op.Operation.lawful in
     λ _. passed (response_format op) (response_alone op alone) _ _ _ _ c.from_residual-in_err-operations-in-0.ensures.1
-      (rest_err (response_format op) (0 ∷ []) (items_format op) (to_operations op) (Rest-operations op) _ _ _ _ (tag_is _ 0 _ _ c.in-0.is (met c.in_ok-tag.ensures))
-        (items_met op alone _ _ _ _ _ (met c.in_ok-count-in-0.ensures) (met c.in_err-operations-in-0.ensures)))
+    (rest_err (response_format op) (0 ∷ []) (items_format op) (to_operations op) (Rest-operations op) _ _ _ _ (tag_is _ 0 _ _ c.in-0.is (met c.in_ok-tag.ensures))
+    (items_met op alone _ _ _ _ _ (met c.in_ok-count-in-0.ensures) (met c.in_err-operations-in-0.ensures)))
 
 pub returns-in_err-before-in-1-clause-otherwise : goal.returns-in_err-before-in-1-clause-otherwise
 returns-in_err-before-in-1-clause-otherwise g c =
     let op = g.Op.Operation.operations in
     let alone = g.met.Op.Operation.lawful in
     λ _. passed (response_format op) (response_alone op alone) _ _ _ _ c.from_residual-in_err-before-in-1.ensures.1
-      (rest_err (response_format op) (1 ∷ []) (boundary_format op) (to_boundary op) (Rest-boundary op) _ _ _ _ (tag_is _ 1 _ _ c.in-1.is (met c.in_ok-tag.ensures))
-        (first_err digest_format op digest_alone alone _ _ _ (met c.in_err-before-in-1.ensures)))
+    (rest_err (response_format op) (1 ∷ []) (boundary_format op) (to_boundary op) (Rest-boundary op) _ _ _ _ (tag_is _ 1 _ _ c.in-1.is (met c.in_ok-tag.ensures))
+    (first_err digest_format op digest_alone alone _ _ _ (met c.in_err-before-in-1.ensures)))
 
 pub returns-in_err-op-in-1-clause-otherwise : goal.returns-in_err-op-in-1-clause-otherwise
 returns-in_err-op-in-1-clause-otherwise g c =
     let op = g.Op.Operation.operations in
     let alone = g.met.Op.Operation.lawful in
     λ _. passed (response_format op) (response_alone op alone) _ _ _ _ c.from_residual-in_err-op-in-1.ensures.1
-      (rest_err (response_format op) (1 ∷ []) (boundary_format op) (to_boundary op) (Rest-boundary op) _ _ _ _ (tag_is _ 1 _ _ c.in-1.is (met c.in_ok-tag.ensures))
-        (second_err digest_format op digest_alone _ _ _ _ _ (met c.in_ok-before-in-1.ensures) (met c.in_err-op-in-1.ensures)))
+    (rest_err (response_format op) (1 ∷ []) (boundary_format op) (to_boundary op) (Rest-boundary op) _ _ _ _ (tag_is _ 1 _ _ c.in-1.is (met c.in_ok-tag.ensures))
+    (second_err digest_format op digest_alone _ _ _ _ _ (met c.in_ok-before-in-1.ensures) (met c.in_err-op-in-1.ensures)))
 
 pub returns-in_ok-operations-in-0-clause-otherwise : goal.returns-in_ok-operations-in-0-clause-otherwise
 returns-in_ok-operations-in-0-clause-otherwise g c =
     let op = g.Op.Operation.operations in
     let alone = g.met.Op.Operation.lawful in
     λ _. reads (response_format op) (response_alone op alone) _ _ _
-      (rest_ok (response_format op) (0 ∷ []) (items_format op) (to_operations op) (Rest-operations op) _ _ _ _ (tag_is _ 0 _ _ c.in-0.is (met c.in_ok-tag.ensures))
-        (items_met op alone _ _ _ _ _ (met c.in_ok-count-in-0.ensures) (met c.in_ok-operations-in-0.ensures)))
+    (rest_ok (response_format op) (0 ∷ []) (items_format op) (to_operations op) (Rest-operations op) _ _ _ _ (tag_is _ 0 _ _ c.in-0.is (met c.in_ok-tag.ensures))
+    (items_met op alone _ _ _ _ _ (met c.in_ok-count-in-0.ensures) (met c.in_ok-operations-in-0.ensures)))
 
 pub returns-in_ok-op-in-1-clause-otherwise : goal.returns-in_ok-op-in-1-clause-otherwise
 returns-in_ok-op-in-1-clause-otherwise g c =
     let op = g.Op.Operation.operations in
     let alone = g.met.Op.Operation.lawful in
     λ _. reads (response_format op) (response_alone op alone) _ _ _
-      (rest_ok (response_format op) (1 ∷ []) (boundary_format op) (to_boundary op) (Rest-boundary op) _ _ _ _ (tag_is _ 1 _ _ c.in-1.is (met c.in_ok-tag.ensures))
-        (both_ok digest_format op digest_alone _ _ _ _ _ (met c.in_ok-before-in-1.ensures) (met c.in_ok-op-in-1.ensures)))
+    (rest_ok (response_format op) (1 ∷ []) (boundary_format op) (to_boundary op) (Rest-boundary op) _ _ _ _ (tag_is _ 1 _ _ c.in-1.is (met c.in_ok-tag.ensures))
+    (both_ok digest_format op digest_alone _ _ _ _ _ (met c.in_ok-before-in-1.ensures) (met c.in_ok-op-in-1.ensures)))
 
 pub returns-in_default-clause-otherwise : goal.returns-in_default-clause-otherwise
 returns-in_default-clause-otherwise g c =
     let op = g.Op.Operation.operations in
     let alone = g.met.Op.Operation.lawful in
     λ _. reads (response_format op) (response_alone op alone) _ _ _
-      (tag_wrong (response_format op) 1 (boundary_format op) (to_boundary op) (Rest-boundary op) (boundary_alone op alone) _ (λ b. absurd (omega (arith, response_tags op _ b))) _ _ (met c.in_ok-tag.ensures))
+    (tag_wrong (response_format op) 1 (boundary_format op) (to_boundary op) (Rest-boundary op) (boundary_alone op alone) _ (λ b. absurd (omega (arith, response_tags op _ b))) _ _ (met c.in_ok-tag.ensures))
 
 pub returns-in_err-count-in-0-clause-taken : goal.returns-in_err-count-in-0-clause-taken
 returns-in_err-count-in-0-clause-taken g c = taken_then _ _ _ c.in_ok-tag.ensures.taken c.in_err-count-in-0.ensures.taken
