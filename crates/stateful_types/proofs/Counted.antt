@@ -1,12 +1,12 @@
 -- Lists of items, by the format of one.
-use Rattle.std.proofs.Common.{◌≡◌, ℕ, zero, suc, ◌+◌, ◌-◌, ◌^◌, ◌<◌, ◌≤◌, List, [], ◌∷◌, ◌++◌, length, get_or, take, replicate, All, Result, Ok, Err, refl, sym, ap, subst, ◌∙◌, append_assoc, arith, length-append, inl, inr}
+use Rattle.std.proofs.Common.{◌≡◌, ℕ, zero, suc, ◌+◌, ◌-◌, ◌^◌, ◌<◌, List, [], ◌∷◌, ◌++◌, length, get_or, take, replicate, All, Result, Ok, Err, refl, sym, ap, subst, ◌∙◌, append_assoc, arith}
 use Rattle.std.specs.List.{flat_map}
-use Rattle.std.proofs.lemmas.List.{append-nil, nil_from_length, length-replicate, take_more}
+use Rattle.std.proofs.lemmas.List.{append-nil, length-replicate, take_more}
 use Rattle.std.proofs.lemmas.List.Concat.{flat_map-append}
-use Rattle.std.proofs.lemmas.List.Elements.{All-append, All-nil, All-cons, All-replicate, All-head, All-tail, All-more}
+use Rattle.std.proofs.lemmas.List.Elements.{All-replicate, All-head, All-tail, All-more}
 use Rattle.stateful_types.specs.declared.codec.CodecError.{CodecError}
 use Rattle.stateful_types.specs.declared.codec.CodecError.TheVariants.{InvalidEnum, EndOfBuffer, OutOfMemory}
-use Rattle.stateful_types.specs.Format.{Format, Begins, EndsInside, IsWrong, IsFormat, Writes}
+use Rattle.stateful_types.specs.Format.{Format, EndsInside, IsWrong, IsFormat}
 use Rattle.stateful_types.specs.Number.{u32_format}
 use Rattle.stateful_types.specs.Items.{exactly_format, items_format}
 use Rattle.stateful_types.specs.FormatLaws.{Rest, Rest-then, Rest-both, both}

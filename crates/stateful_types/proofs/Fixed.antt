@@ -1,5 +1,5 @@
 -- Readers of formats of fixed width, and bytes in lists.
-use Rattle.std.proofs.Common.{◌≡◌, ℕ, suc, ◌+◌, ◌-◌, ◌^◌, ◌<◌, ◌≤◌, List, [], ◌∷◌, ◌++◌, length, get_or, take, drop, replicate, All, Ok, Err, refl, sym, subst, append_assoc, length-append, arith}
+use Rattle.std.proofs.Common.{◌≡◌, ℕ, suc, ◌+◌, ◌-◌, ◌<◌, ◌≤◌, List, [], ◌∷◌, ◌++◌, length, get_or, take, drop, replicate, All, Ok, Err, refl, sym, subst, append_assoc, length-append, arith}
 use Rattle.std.proofs.lemmas.List.{take-append-drop, length-take, length-replicate, take_at, drop_at}
 use Rattle.std.proofs.lemmas.List.Elements.{All-append, All-replicate, All-take, All-drop, All-from_get_or}
 use Rattle.stateful_types.specs.declared.codec.CodecError.TheVariants.{EndOfBuffer}

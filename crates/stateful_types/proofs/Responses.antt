@@ -1,5 +1,5 @@
 -- The format of responses, by its two cases, and what a request allows of them.
-use Rattle.std.proofs.Common.{◌≡◌, ℕ, ◌+◌, ◌%◌, ◌^◌, ◌<◌, List, [], ◌∷◌, ◌++◌, length, Result, Ok, Err, refl, sym, ap, subst, ◌∙◌, arith}
+use Rattle.std.proofs.Common.{◌≡◌, ℕ, ◌<◌, List, [], ◌∷◌, ◌++◌, Result, Ok, Err, refl, sym, ap, subst, ◌∙◌, arith}
 use Rattle.std.specs.Prelude.{IsErrAnd}
 use Rattle.std.proofs.lemmas.List.Elements.{All-nil}
 use Rattle.stateful_types.specs.declared.codec.CodecError.{CodecError}
@@ -9,14 +9,13 @@ use Rattle.stateful_types.specs.declared.request.Request.{Request}
 use Rattle.stateful_types.specs.declared.response.Response.{Response}
 use Rattle.stateful_types.specs.declared.response.Response.TheVariants.{Operations, Boundary}
 use Rattle.stateful_types.specs.Format.{Format, Begins, IsFormat, Reads, UnlessMemory}
-use Rattle.stateful_types.specs.FormatLaws.{Rest, Rest-alone, both, IsFormat-both, same_first}
+use Rattle.stateful_types.specs.FormatLaws.{Rest, Rest-alone, both, IsFormat-both}
 use Rattle.stateful_types.specs.Number.{u8_format, u32_format}
-use Rattle.stateful_types.specs.FixedLaws.{u32_alone}
 use Rattle.stateful_types.specs.Items.{items_format}
 use Rattle.stateful_types.specs.ItemsLaws.{items_alone}
 use Rattle.stateful_types.specs.Digest.{digest_format}
-use Rattle.stateful_types.specs.Response.{response_fits, response_bytes, response_format, Allows, IsAllowed, HasTooMany}
-use Rattle.stateful_types.proofs.Formats.{Met, reads}
+use Rattle.stateful_types.specs.Response.{response_fits, response_bytes, response_format, Allows, HasTooMany}
+use Rattle.stateful_types.proofs.Formats.{Met}
 use Rattle.stateful_types.proofs.Values.{digest_alone}
 
 module _ {Op : Type 0} (op : Format Op) where

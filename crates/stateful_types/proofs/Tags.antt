@@ -1,9 +1,8 @@
 -- Formats whose first byte says which case it is.
-use Rattle.std.proofs.Common.{◌≡◌, ℕ, ◌+◌, ◌^◌, ◌<◌, List, [], ◌∷◌, ◌++◌, length, Result, Ok, Err, refl, sym, ap, subst, ◌∙◌, arith, length-append}
-use Rattle.std.proofs.lemmas.List.{append-nil}
+use Rattle.std.proofs.Common.{◌≡◌, ℕ, ◌^◌, ◌<◌, List, [], ◌∷◌, ◌++◌, length, Ok, Err, refl, sym, ap, subst, ◌∙◌, arith, length-append}
 use Rattle.stateful_types.specs.declared.codec.CodecError.{CodecError}
 use Rattle.stateful_types.specs.declared.codec.CodecError.TheVariants.{InvalidEnum, EndOfBuffer, OutOfMemory}
-use Rattle.stateful_types.specs.Format.{Format, Begins, EndsInside, IsWrong, IsFormat}
+use Rattle.stateful_types.specs.Format.{Format, Begins, EndsInside, IsFormat}
 use Rattle.stateful_types.specs.Number.{u8_format}
 use Rattle.stateful_types.proofs.Formats.{Met, Rest-begins}
 use Rattle.stateful_types.specs.FormatLaws.{Rest}

@@ -1,5 +1,5 @@
 -- The formats of heights, locations, digests, rounds and finalizations, by those of their parts.
-use Rattle.std.proofs.Common.{◌≡◌, ℕ, List, [], ◌++◌, refl, append_assoc}
+use Rattle.std.proofs.Common.{ℕ, List, [], refl}
 use Rattle.stateful_types.specs.declared.number.Height.{Height}
 use Rattle.stateful_types.specs.declared.number.Location.{Location}
 use Rattle.stateful_types.specs.declared.digest.Digest.{Digest}

@@ -1,4 +1,4 @@
-use Rattle.std.proofs.Common.{[], refl, sym, subst, List, ℕ, Ok, ◌≡◌}
+use Rattle.std.proofs.Common.{[], refl, sym, subst, Ok}
 use Rattle.stateful_types.specs.Format.{Reads}
 use Rattle.stateful_types.specs.Number.{bytes_format}
 use Rattle.stateful_types.proofs.Formats.{met, passed, err_leaves}

@@ -1,5 +1,5 @@
 use Rattle.stateful_types.specs.Number.{u32_format}
-use Rattle.stateful_types.specs.FixedLaws.{bytes_alone, u8_alone, u32_alone, u64_alone}
+use Rattle.stateful_types.specs.FixedLaws.{u8_alone, u32_alone, u64_alone}
 use Rattle.stateful_types.specs.ItemsLaws.{items_alone}
 use Rattle.stateful_types.proofs.Values.{height_alone, location_alone, digest_alone, round_alone, finalization_alone}
 use Rattle.stateful_types.proofs.Requests.{request_alone}

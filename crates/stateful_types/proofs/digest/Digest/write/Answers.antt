@@ -1,4 +1,4 @@
-use Rattle.std.proofs.Common.{All, ◌++◌, subst, length, ◌≡◌, arith}
+use Rattle.std.proofs.Common.{All, subst, length, ◌≡◌, arith}
 use Rattle.stateful_types.specs.FixedLaws.{IsByte}
 use Rattle.stateful_types.proofs.Fixed.{All-behind}
 use Rattle.stateful_types.proofs.digest.Digest.write.Goals as goal

@@ -1,7 +1,6 @@
 use Rattle.std.proofs.Common.{◌≡◌, true, [], ◌∷◌, arith}
 use Rattle.stateful_types.specs.Digest.{digest_format}
-use Rattle.stateful_types.specs.Items.{items_format, exactly_format}
-use Rattle.stateful_types.specs.ItemsLaws.{items_alone}
+use Rattle.stateful_types.specs.Items.{items_format}
 use Rattle.stateful_types.specs.Response.{response_format}
 use Rattle.stateful_types.proofs.Formats.{met, reads, passed, taken_then, rest_ok, rest_err, both_ok, first_err, second_err}
 use Rattle.stateful_types.proofs.Tags.{tag_err, tag_wrong, tag_is}

@@ -1,7 +1,7 @@
 use Rattle.std.proofs.Common.{◌≡◌, ◌∷◌, [], ◌++◌, List, ℕ, refl, arith}
 use Rattle.stateful_types.specs.declared.tests.Update.{Update}
 use Rattle.stateful_types.specs.Format.{Format, IsFormat, Begins}
-use Rattle.stateful_types.specs.FormatLaws.{Rest, Rest-whole, both, IsFormat-both}
+use Rattle.stateful_types.specs.FormatLaws.{Rest, Rest-whole, both}
 use Rattle.stateful_types.specs.Number.{u64_format}
 use Rattle.stateful_types.specs.FixedLaws.{u64_alone}
 use Rattle.stateful_types.proofs.Formats.{met, reads, passed, rest_ok, rest_err, both_ok, first_err, second_err}
