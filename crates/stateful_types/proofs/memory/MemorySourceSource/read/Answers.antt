@@ -1,5 +1,5 @@
-use Rattle.std.proofs.Common.{ℕ, ◌≡◌, ◌<◌, ◌+◌, length, drop, take, [], ◌++◌, arith}
-use Rattle.stateful_types.proofs.Known.{Piece, copied, rest_at}
+use Rattle.std.proofs.Common.{arith}
+use Rattle.stateful_types.proofs.Known.{copied, rest_at}
 use Rattle.stateful_types.proofs.memory.MemorySourceSource.read.Goals as goal
 
 pub returns-clause-bytes : goal.returns-clause-bytes

@@ -1,8 +1,7 @@
-use Rattle.std.proofs.Common.{rules, arith, ◌≡◌, ◌<◌, ℕ, Option, Some, None, if◌then◌else◌, nat_lt, nat_le, Bool, true, false, ◌∙◌, ap, cond, refl, List}
+use Rattle.std.proofs.Common.{rules, arith, ◌≡◌, ℕ, Option, None, if◌then◌else◌, nat_lt, nat_le, true, ◌∙◌, ap, cond}
 use Rattle.std.proofs.lemmas.Grind.{common_steps}
 use Rattle.std.specs.Ordering.{nat_cmp}
-use Rattle.std.specs.BTreeMap.{get, is_at}
-use Rattle.std.specs.Map.{lookup}
+use Rattle.std.specs.BTreeMap.{is_at}
 use Rattle.std.proofs.lemmas.Map.Entries.{lookup-filter-keys}
 use Rattle.std.proofs.lemmas.Map.Made.{filter_same_pairs}
 use Rattle.stateful_types.proofs.store.MemoryStoreBlockStore.prune.Goals as goal

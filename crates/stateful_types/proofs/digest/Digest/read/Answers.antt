@@ -1,0 +1,12 @@
+use Rattle.stateful_types.specs.Number.{bytes_format}
+use Rattle.stateful_types.specs.Digest.{digest_format}
+use Rattle.stateful_types.proofs.Formats.{met, renamed, renamed_err}
+use Rattle.stateful_types.specs.FixedLaws.{bytes_alone}
+use Rattle.stateful_types.proofs.Values.{to_digest, Rest-digest}
+use Rattle.stateful_types.proofs.digest.Digest.read.Goals as goal
+
+pub returns-in_err-read_array : goal.returns-in_err-read_array
+returns-in_err-read_array c = renamed_err digest_format (bytes_format 32) to_digest Rest-digest (bytes_alone 32) _ _ _ _ c.from_residual.ensures.1 (met c.in_err-read_array.ensures)
+
+pub returns : goal.returns
+returns c = renamed digest_format (bytes_format 32) to_digest Rest-digest (bytes_alone 32) _ _ _ (met c.in_ok-read_array.ensures)

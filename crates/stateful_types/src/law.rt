@@ -1,0 +1,24 @@
+//! What holds of the formats for all values and all bytes.
+
+ghost use Rattle.stateful_types.specs.Format.{IsFormat};
+ghost use Rattle.stateful_types.specs.Number.{u8_format, u32_format, u64_format, height_format, location_format};
+ghost use Rattle.stateful_types.specs.Digest.{digest_format};
+ghost use Rattle.stateful_types.specs.Round.{round_format};
+ghost use Rattle.stateful_types.specs.Vote.{votes_format};
+ghost use Rattle.stateful_types.specs.Finalization.{finalization_format};
+ghost use Rattle.stateful_types.specs.Request.{request_format};
+ghost use Rattle.stateful_types.specs.Response.{response_format};
+
+use crate::operation::Operation;
+use crate::scheme::Scheme;
+
+/// In each format no spelling begins another, and so no value has the spelling of another.
+pub fn no_spelling_begins_another<S: Scheme, Op: Operation>()
+    ensures numbers { IsFormat u8_format × IsFormat u32_format × IsFormat u64_format }
+    ensures places { IsFormat height_format × IsFormat location_format × IsFormat round_format }
+    ensures digests { IsFormat digest_format }
+    ensures votes { IsFormat votes_format }
+    ensures finalizations { IsFormat (finalization_format S.certificates) }
+    ensures requests { IsFormat request_format }
+    ensures responses { IsFormat (response_format Op.operations) }
+{}
