@@ -3,3 +3,5 @@ pub mod Names
 pub mod Causes
 pub mod Handoff
 pub mod Anchor
+pub mod Offers
+pub mod Mailbox
