@@ -1,3 +1,6 @@
+pub mod Format
+pub mod Number
+pub mod Digest
 pub mod Round
 pub mod Names
 pub mod Causes
@@ -5,3 +8,7 @@ pub mod Handoff
 pub mod Anchor
 pub mod Offers
 pub mod Mailbox
+pub mod Finalization
+pub mod Vote
+pub mod Request
+pub mod Response

@@ -2,7 +2,12 @@
 
 ghost use Rattle.std.specs.Prelude.{◌≡◌, ◌↔◌, IsTrue};
 ghost use Rattle.sha2.specs.Sha256.{sha256};
+ghost use Rattle.stateful_types.specs.Format.{Reads, Writes};
+ghost use Rattle.stateful_types.specs.Digest.{digest_format};
 
+use crate::codec::CodecError;
+use crate::share::OutOfMemory;
+use bytes::{Buf, Bytes};
 use sha2::Sha256;
 
 /// The SHA-256 of some bytes: 32 bytes.
@@ -25,5 +30,23 @@ impl Digest {
         ensures { IsTrue result ↔ (self ≡ other) }
     {
         self == other
+    }
+    /// Appends its 32 bytes.
+    pub fn write(&self, out: &mut Vec<u8>) -> Result<(), OutOfMemory>
+        ensures { Writes digest_format self.now result out.old.items out.new.items }
+    {
+        out.extend_from_slice(&self.0)?;
+        Ok(())
+    }
+
+    /// Takes 32 bytes.
+    pub fn read(input: &mut Bytes) -> Result<Digest, CodecError>
+        ensures { Reads digest_format result input.old input.new }
+    {
+        let mut bytes = [0; 32];
+        match input.try_copy_to_slice(&mut bytes) {
+            Ok(()) => Ok(Digest(bytes)),
+            Err(_) => Err(CodecError::EndOfBuffer),
+        }
     }
 }

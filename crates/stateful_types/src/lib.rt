@@ -4,34 +4,53 @@
 
 mod anchor;
 mod block;
+mod codec;
 mod digest;
 mod fault;
+mod finalization;
 mod floor;
 mod items;
+mod latest;
 mod mailbox;
 mod memory;
 mod number;
+mod operation;
 mod outcome;
+mod request;
+mod response;
 mod round;
+mod scheme;
 mod share;
 mod sink;
 mod source;
 mod store;
 mod target;
+mod vote;
 
 pub use anchor::Anchor;
 pub use block::{Ancestry, Block, Digested};
+pub use codec::{CodecError, read_u8, read_u32, read_u64, write_u8, write_u32, write_u64};
 pub use digest::Digest;
 pub use fault::{Failed, Faulty};
+pub use finalization::Finalization;
 pub use floor::Floor;
 pub use items::Items;
 pub use mailbox::{Bounded, Feedback, Overflow, Policy};
+pub use latest::{Latest, MemoryLatest};
 pub use memory::{MemorySink, MemorySource};
 pub use number::{Epoch, Height, Location, View};
+pub use operation::Operation;
 pub use outcome::{Finality, Handoff, Moved};
+pub use request::Request;
+pub use response::Response;
 pub use round::{Round, Rounded};
+pub use scheme::{Scheme, max_faults};
 pub use share::{OutOfMemory, Share};
 pub use sink::{Sink, SinkFault, write_all};
 pub use source::{ReadError, Source, read_all};
 pub use store::{BlockStore, MemoryStore};
 pub use target::{CompactTarget, Target};
+pub use vote::VoteScheme;
+
+#[cfg(test)]
+mod tests;

@@ -2,6 +2,12 @@
 
 ghost use Rattle.std.specs.Prelude.{◌+◌, ◌-◌, ◌^◌, ◌<◌};
 ghost use Rattle.std.specs.Option.{SomeIff};
+ghost use Rattle.stateful_types.specs.Format.{Reads, Writes};
+ghost use Rattle.stateful_types.specs.Number.{height_format, location_format};
+
+use crate::codec::{CodecError, read_u64, write_u64};
+use crate::share::OutOfMemory;
+use bytes::Bytes;
 
 /// A block's place in the chain, from 0 for genesis on.
 #[derive(Clone, Copy, Debug, PartialEq, Eq, PartialOrd, Ord)]
@@ -38,5 +44,34 @@ impl Height {
             Some(previous) => Some(Height(previous)),
             None => None,
         }
+    }
+    /// Appends it in eight bytes.
+    pub fn write(&self, out: &mut Vec<u8>) -> Result<(), OutOfMemory>
+        ensures { Writes height_format self.now result out.old.items out.new.items }
+    {
+        write_u64(self.0, out)
+    }
+
+    /// Takes eight bytes.
+    pub fn read(input: &mut Bytes) -> Result<Height, CodecError>
+        ensures { Reads height_format result input.old input.new }
+    {
+        Ok(Height(read_u64(input)?))
+    }
+}
+
+impl Location {
+    /// Appends it in eight bytes.
+    pub fn write(&self, out: &mut Vec<u8>) -> Result<(), OutOfMemory>
+        ensures { Writes location_format self.now result out.old.items out.new.items }
+    {
+        write_u64(self.0, out)
+    }
+
+    /// Takes eight bytes.
+    pub fn read(input: &mut Bytes) -> Result<Location, CodecError>
+        ensures { Reads location_format result input.old input.new }
+    {
+        Ok(Location(read_u64(input)?))
     }
 }

@@ -1,9 +1,13 @@
 //! Rounds of consensus, ordered by epoch and then view.
 
 ghost use Rattle.std.specs.Prelude.{◌≡◌, ◌↔◌, IsTrue};
-ghost use Rattle.stateful_types.specs.Round.{IsLater};
+ghost use Rattle.stateful_types.specs.Format.{Reads, Writes};
+ghost use Rattle.stateful_types.specs.Round.{IsLater, round_format};
 
+use crate::codec::{CodecError, read_u64, write_u64};
 use crate::number::{Epoch, View};
+use crate::share::OutOfMemory;
+use bytes::Bytes;
 
 /// A view of an epoch.
 #[derive(Clone, Copy, Debug, PartialEq, Eq, PartialOrd, Ord)]
@@ -22,6 +26,23 @@ impl Round {
         } else {
             self.epoch.0 > other.epoch.0
         }
+    }
+
+    /// Appends the epoch and the view.
+    pub fn write(&self, out: &mut Vec<u8>) -> Result<(), OutOfMemory>
+        ensures { Writes round_format self.now result out.old.items out.new.items }
+    {
+        write_u64(self.epoch.0, out)?;
+        write_u64(self.view.0, out)
+    }
+
+    /// Takes a round.
+    pub fn read(input: &mut Bytes) -> Result<Round, CodecError>
+        ensures { Reads round_format result input.old input.new }
+    {
+        let epoch = Epoch(read_u64(input)?);
+        let view = View(read_u64(input)?);
+        Ok(Round { epoch, view })
     }
 }
 

@@ -1,0 +1,103 @@
+//! Reading values from the front of some bytes, and writing them behind others. All numbers have a fixed width, the
+//! highest byte first.
+
+ghost use Rattle.std.specs.Prelude.{◌≡◌};
+ghost use Rattle.stateful_types.specs.Format.{Reads, Writes};
+ghost use Rattle.stateful_types.specs.Number.{u8_format, u32_format, u64_format};
+ghost use Rattle.stateful_types.specs.declared.codec.CodecError.TheVariants as errors;
+
+use crate::share::OutOfMemory;
+use bytes::{Buf, Bytes};
+use std::alloc::{AllocError, AllocFailed};
+use thiserror::Error;
+
+/// Why no value was read. It is the first fault of the bytes, from the left.
+#[derive(Clone, Copy, Debug, PartialEq, Eq, Error)]
+pub enum CodecError {
+    /// A byte stands there that no case has.
+    #[error("no case has the byte {0}")]
+    InvalidEnum(u8),
+    /// The bytes end inside a value.
+    #[error("the bytes end inside a value")]
+    EndOfBuffer,
+    #[error("out of memory")]
+    OutOfMemory,
+}
+
+impl From<OutOfMemory> for CodecError {
+    ghost from_gives = { λ _ e. e ≡ errors.OutOfMemory };
+
+    fn from(_refused: OutOfMemory) -> CodecError {
+        CodecError::OutOfMemory
+    }
+}
+
+impl From<AllocError> for CodecError {
+    ghost from_gives = { λ _ e. e ≡ errors.OutOfMemory };
+
+    fn from(_refused: AllocError) -> CodecError {
+        CodecError::OutOfMemory
+    }
+}
+
+impl<T: Drop> From<AllocFailed<T>> for CodecError {
+    ghost from_gives = { λ _ e. e ≡ errors.OutOfMemory };
+
+    fn from(_refused: AllocFailed<T>) -> CodecError {
+        CodecError::OutOfMemory
+    }
+}
+
+/// Appends a byte.
+pub fn write_u8(n: u8, out: &mut Vec<u8>) -> Result<(), OutOfMemory>
+    ensures { Writes u8_format n result out.old.items out.new.items }
+{
+    out.push(n)?;
+    Ok(())
+}
+
+/// Appends a number in four bytes.
+pub fn write_u32(n: u32, out: &mut Vec<u8>) -> Result<(), OutOfMemory>
+    ensures { Writes u32_format n result out.old.items out.new.items }
+{
+    out.extend_from_slice(&n.to_be_bytes())?;
+    Ok(())
+}
+
+/// Appends a number in eight bytes.
+pub fn write_u64(n: u64, out: &mut Vec<u8>) -> Result<(), OutOfMemory>
+    ensures { Writes u64_format n result out.old.items out.new.items }
+{
+    out.extend_from_slice(&n.to_be_bytes())?;
+    Ok(())
+}
+
+/// Takes a byte.
+pub fn read_u8(input: &mut Bytes) -> Result<u8, CodecError>
+    ensures { Reads u8_format result input.old input.new }
+{
+    match input.try_get_u8() {
+        Ok(n) => Ok(n),
+        Err(_) => Err(CodecError::EndOfBuffer),
+    }
+}
+
+/// Takes a number of four bytes.
+pub fn read_u32(input: &mut Bytes) -> Result<u32, CodecError>
+    ensures { Reads u32_format result input.old input.new }
+{
+    match input.try_get_u32() {
+        Ok(n) => Ok(n),
+        Err(_) => Err(CodecError::EndOfBuffer),
+    }
+}
+
+/// Takes a number of eight bytes.
+pub fn read_u64(input: &mut Bytes) -> Result<u64, CodecError>
+    ensures { Reads u64_format result input.old input.new }
+{
+    match input.try_get_u64() {
+        Ok(n) => Ok(n),
+        Err(_) => Err(CodecError::EndOfBuffer),
+    }
+}

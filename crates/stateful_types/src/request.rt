@@ -1,0 +1,74 @@
+//! What a syncing database asks of a server.
+
+ghost use Rattle.stateful_types.specs.Format.{Reads, Writes};
+ghost use Rattle.stateful_types.specs.Request.{request_format};
+
+use crate::codec::{CodecError, read_u8, read_u64, write_u8, write_u64};
+use crate::number::Location;
+use crate::share::OutOfMemory;
+use bytes::Bytes;
+use std::num::NonZeroU64;
+
+/// What is asked of a database that has `size` operations.
+#[derive(Clone, Copy, Debug, PartialEq, Eq)]
+pub enum Request {
+    /// At most `max_ops` operations, from `start` on.
+    Operations {
+        size: Location,
+        start: Location,
+        max_ops: NonZeroU64,
+    },
+    /// The operation at `start`, and the digest of those before it.
+    Boundary {
+        size: Location,
+        start: Location,
+    },
+}
+
+impl Request {
+    /// Appends byte 0 and three numbers, or byte 1 and two.
+    pub fn write(&self, out: &mut Vec<u8>) -> Result<(), OutOfMemory>
+        ensures { Writes request_format self.now result out.old.items out.new.items }
+    {
+        match self {
+            Request::Operations {
+                size,
+                start,
+                max_ops,
+            } => {
+                write_u8(0, out)?;
+                size.write(out)?;
+                start.write(out)?;
+                write_u64(max_ops.get(), out)
+            }
+            Request::Boundary { size, start } => {
+                write_u8(1, out)?;
+                size.write(out)?;
+                start.write(out)
+            }
+        }
+    }
+
+    /// Takes a request. A request for no operations is refused at the last byte of that 0.
+    pub fn read(input: &mut Bytes) -> Result<Request, CodecError>
+        ensures { Reads request_format result input.old input.new }
+    {
+        let tag = read_u8(input)?;
+        if tag > 1 {
+            return Err(CodecError::InvalidEnum(tag));
+        }
+        let size = Location::read(input)?;
+        let start = Location::read(input)?;
+        if tag == 1 {
+            return Ok(Request::Boundary { size, start });
+        }
+        match NonZeroU64::new(read_u64(input)?) {
+            Some(max_ops) => Ok(Request::Operations {
+                size,
+                start,
+                max_ops,
+            }),
+            None => Err(CodecError::InvalidEnum(0)),
+        }
+    }
+}
