@@ -8,6 +8,8 @@ pub mod Names
 pub mod Causes
 pub mod Handoff
 pub mod Anchor
+pub mod Offers
+pub mod Mailbox
 pub mod Finalization
 pub mod Items
 pub mod ItemsLaws

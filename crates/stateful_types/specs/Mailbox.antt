@@ -1,0 +1,60 @@
+-- Bounded mailboxes.
+use Rattle.std.specs.Prelude.{◌≡◌, ◌≢◌, ℕ, ◌<◌, ◌≤◌, ◌⊎◌, Bool, true, false, Option, List, [], ◌∷◌, ◌++◌, length, option_to_list}
+
+-- How many messages may be ready, those that are, and behind them those in the overflow, both in the order in which
+-- they are handed out. Beside them whether the mailbox is closed.
+pub record Queues (T : Type 0) : Type 0 where
+  pub capacity : ℕ
+  pub ready : List T
+  pub overflow : List T
+  pub closed : Bool
+
+-- the messages in the order in which they are handed out
+abbrev pub messages : {T : Type 0} → Queues T → List T
+messages q = q.ready ++ q.overflow
+
+module _ {T : Type 0} where
+  -- at least one message may be ready, no more are than may be, and while fewer are, the overflow is empty
+  pub record IsFilled (q : Queues T) : Type 0 where
+    pub capacity : 1 ≤ q.capacity
+    pub ready : length q.ready ≤ q.capacity
+    pub overflow : length q.ready < q.capacity → q.overflow ≡ []
+
+  -- it isn't closed, one more message may be ready, and the overflow is empty
+  pub record HasRoom (q : Queues T) : Type 0 where
+    pub still_open : q.closed ≡ false
+    pub ready : length q.ready < q.capacity
+    pub overflow : q.overflow ≡ []
+
+  -- it isn't closed, and no more messages may be ready, or the overflow isn't empty
+  pub record IsBusy (q : Queues T) : Type 0 where
+    pub still_open : q.closed ≡ false
+    pub full : (q.capacity ≤ length q.ready) ⊎ (q.overflow ≢ [])
+
+  -- the first message is handed out, if there is one, and the others stay in their order
+  pub record HandsOut (old new : Queues T) (message : Option T) : Type 0 where
+    pub front : messages old ≡ option_to_list message ++ messages new
+    pub capacity : new.capacity ≡ old.capacity
+    pub closed : new.closed ≡ old.closed
+
+module _ {T : Type 0} (kept : List T → T → List T) where
+  -- one call that changed a mailbox with this policy, with the messages that it took and those that it handed out
+  pub data Call : Queues T → List T → List T → Queues T → Type 0 where
+    takes : {q : Queues T} (message : T) → HasRoom q → Call q (message ∷ []) [] (record q { ready = q.ready ++ message ∷ [] })
+    lets_wait : {q : Queues T} (message : T) → IsBusy q → Call q (message ∷ []) [] (record q { overflow = kept q.overflow message })
+    hands_out : {old new : Queues T} {message : Option T} → HandsOut old new message → Call old [] (option_to_list message) new
+    closes : {q : Queues T} → Call q [] [] (record q { closed = true })
+
+  -- calls, one after another
+  pub data Calls : Queues T → List T → List T → Queues T → Type 0 where
+    none : {q : Queues T} → Calls q [] [] q
+    further : {q r last : Queues T} {taken handed more_taken more_handed : List T} → Call q taken handed r → Calls r more_taken more_handed last → Calls q (taken ++ more_taken) (handed ++ more_handed) last
+
+  -- a message that has to wait stands behind all that wait
+  abbrev pub IsInOrder : Type 0
+  IsInOrder = (waiting : List T) (message : T) → kept waiting message ≡ waiting ++ message ∷ []
+
+  -- Where the policy keeps messages in order, whatever calls follow: what was there and what is taken is handed out in
+  -- that order, and the rest is still there.
+  abbrev pub KeepsOrder : Queues T → Type 0
+  KeepsOrder q = IsInOrder → (taken handed : List T) (last : Queues T) → Calls q taken handed last → messages q ++ taken ≡ handed ++ messages last

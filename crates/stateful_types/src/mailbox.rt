@@ -1,0 +1,237 @@
+//! Mailboxes of a bounded size, behind which further messages wait by a policy.
+
+ghost use Rattle.std.specs.Prelude.{◌≡◌, ◌↔◌, ◌≤◌, ◌<◌, ◌∷◌, ◌++◌, [], List, IsTrue, IsNone, IsErr, IfOk, OnOk, OnErr, true, false};
+ghost use Rattle.std.specs.VecDeque.{deque_capacity, deque_len};
+ghost use Rattle.stateful_types.specs.Mailbox.{Queues, HasRoom, IsBusy, IsFilled, HandsOut, KeepsOrder, messages};
+
+use crate::share::OutOfMemory;
+use std::alloc::Global;
+use std::collections::VecDeque;
+use std::marker::Model;
+
+/// What became of a message: it is ready, it waits behind a full mailbox, or the mailbox is closed and it was dropped.
+#[derive(Clone, Copy, Debug, PartialEq, Eq)]
+pub enum Feedback {
+    Ok,
+    Backoff,
+    Closed,
+}
+
+/// Messages that wait behind a full mailbox.
+pub trait Overflow<T>: Sized {
+    ghost use Rattle.std.specs.Prelude.{◌≡◌, ◌↔◌, List, [], IsTrue};
+    ghost use Rattle.stateful_types.specs.Offers.{Offers};
+
+    /// Its messages in the order in which they are handed out.
+    ghost items: { Self → List T };
+
+    /// Without messages.
+    fn empty(alloc: Global) -> Self
+        ensures { items result ≡ [] };
+
+    /// Whether it has no message.
+    fn is_empty(&self) -> bool
+        ensures { IsTrue result ↔ (items self.now ≡ []) };
+
+    /// Offers its messages in their order, until `push` gives one back, which stays in front.
+    fn drain<F: FnMut(T) -> Option<T>>(&mut self, push: &mut F)
+        requires { F.IsAlwaysCallable push.old }
+        ensures { Offers F.step push.old (items self.old) (items self.new) push.new };
+}
+
+/// How the messages of a type wait behind a full mailbox.
+pub trait Policy: Sized {
+    ghost use Rattle.std.specs.Prelude.{◌≡◌, List, OnOk, OnErr};
+
+    /// Where they wait.
+    type Overflow: Overflow<Self>;
+
+    /// What waits once one more message has come, in the order in which it is handed out.
+    ghost kept: { List Self → Self → List Self };
+
+    /// Lets one more message wait.
+    fn handle(overflow: &mut Self::Overflow, message: Self) -> Result<(), OutOfMemory>
+        ensures ok { OnOk result (Self.Overflow.items overflow.new ≡ kept (Self.Overflow.items overflow.old) message) }
+        ensures err { OnErr result (Self.Overflow.items overflow.new ≡ Self.Overflow.items overflow.old) };
+}
+
+impl<T> Overflow<T> for VecDeque<T> {
+    ghost items = { λ q. q.items };
+
+    fn empty(alloc: Global) -> VecDeque<T> {
+        VecDeque::new(alloc)
+    }
+
+    fn is_empty(&self) -> bool {
+        self.len() == 0
+    }
+
+    fn drain<F: FnMut(T) -> Option<T>>(&mut self, push: &mut F) {
+        'offering: while let Some(message) = self.pop_front() {
+            if let Some(refused) = push(message) {
+                self.push_front_reserved(refused);
+                return;
+            }
+        }
+    }
+}
+
+/// A mailbox in which so many messages are ready at most. Further ones wait in its overflow.
+#[derive(Drop)]
+pub struct Bounded<T, O: Overflow<T>> {
+    ready: VecDeque<T>,
+    overflow: O,
+    capacity: usize,
+    closed: bool,
+}
+
+impl<T, O: Overflow<T>> Model for Bounded<T, O> {
+    ghost use Rattle.std.specs.Prelude.{◌≤◌};
+    ghost use Rattle.std.specs.VecDeque.{deque_capacity};
+    ghost use Rattle.stateful_types.specs.Mailbox.{Queues, IsFilled};
+
+    ghost Value = { Queues T };
+
+    ghost view = { λ a. record { capacity = a.capacity; ready = a.ready.items; overflow = O.items a.overflow; closed = a.closed } };
+
+    ghost invariant = { λ a. (a.capacity ≤ deque_capacity a.ready) × IsFilled (record { capacity = a.capacity; ready = a.ready.items; overflow = O.items a.overflow; closed = a.closed }) };
+}
+
+impl<T: Policy + Drop> Bounded<T, T::Overflow> {
+    /// An empty mailbox, with room for so many ready messages.
+    pub fn new(alloc: Global, capacity: usize) -> Result<Bounded<T, T::Overflow>, OutOfMemory>
+        requires { 1 ≤ capacity }
+        ensures empty { IfOk result (λ mailbox. mailbox ≡ record { capacity = capacity; ready = []; overflow = []; closed = false }) }
+
+        // Whatever calls follow, messages are handed out in order, if they wait in order.
+        ensures order { IfOk result (λ mailbox. KeepsOrder T.kept mailbox) }
+    {
+        let ready = VecDeque::with_capacity(alloc, capacity)?;
+        Ok(Bounded {
+            ready,
+            overflow: T::Overflow::empty(alloc),
+            capacity,
+            closed: false,
+        })
+    }
+
+    /// Takes a message, unless the mailbox is closed.
+    pub fn enqueue(&mut self, message: T) -> Result<Feedback, OutOfMemory>
+        ensures closed { (result ≡ Ok Feedback.Closed) ↔ IsTrue self.old.closed }
+        ensures room { (result ≡ Ok Feedback.Ok) ↔ HasRoom self.old }
+        ensures busy { (result ≡ Ok Feedback.Backoff) → IsBusy self.old }
+        ensures refused { IsErr result → IsBusy self.old }
+
+        ensures unchanged { (result ≡ Ok Feedback.Closed) → self.new ≡ self.old }
+        ensures ready { (result ≡ Ok Feedback.Ok) → self.new ≡ record self.old { ready = self.old.ready ++ message ∷ [] } }
+        ensures waits { (result ≡ Ok Feedback.Backoff) → self.new ≡ record self.old { overflow = T.kept self.old.overflow message } }
+        ensures err { OnErr result (self.new ≡ self.old) }
+
+        ensures filled { IsFilled self.new }
+    {
+        if self.closed {
+            return Ok(Feedback::Closed);
+        }
+        if self.overflow.is_empty() && self.ready.len() < self.capacity {
+            self.ready.push_back_reserved(message);
+            return Ok(Feedback::Ok);
+        }
+        T::handle(&mut self.overflow, message)?;
+        Ok(Feedback::Backoff)
+    }
+
+    /// Takes out the first message, and lets those that wait be ready as far as there is room. None exactly where
+    /// there is no message.
+    pub fn try_recv(&mut self) -> Option<T>
+        ensures front { HandsOut self.old self.new result }
+        ensures none { IsNone result ↔ (messages self.old ≡ []) }
+        ensures filled { IsFilled self.new }
+    {
+        let message = self.ready.pop_front()?;
+        refill(self.capacity, &mut self.ready, &mut self.overflow);
+        Some(message)
+    }
+
+    /// Refuses later messages. Those that it has stay.
+    pub fn close(&mut self)
+        ensures closed { self.new ≡ record self.old { closed = true } }
+        ensures filled { IsFilled self.new }
+    {
+        self.closed = true;
+    }
+}
+
+/// Moves the messages that wait to the ready ones, as far as there is room.
+fn refill<T, O: Overflow<T>>(capacity: usize, ready: &mut VecDeque<T>, overflow: &mut O)
+    requires room { capacity ≤ deque_capacity ready.old }
+    requires within { deque_len ready.old ≤ capacity }
+    ensures order { ready.new.items ++ O.items overflow.new ≡ ready.old.items ++ O.items overflow.old }
+    ensures within { deque_len ready.new ≤ capacity }
+    ensures filled { deque_len ready.new < capacity → O.items overflow.new ≡ [] }
+    ensures room { capacity ≤ deque_capacity ready.new }
+{
+    let mut push = |message: T| {
+        if ready.len() == capacity {
+            return Some(message);
+        }
+        match ready.push_back(message) {
+            Ok(()) => None,
+            Err(refused) => Some(refused.value),
+        }
+    };
+    overflow.drain(&mut push);
+}
+
+#[cfg(test)]
+mod tests {
+    use super::*;
+    use std::test::Fail;
+
+    // Notes wait in order.
+    #[derive(Clone, Copy, Debug, PartialEq, Eq)]
+    struct Note(u8);
+
+    impl Policy for Note {
+        type Overflow = VecDeque<Note>;
+
+        ghost kept = { λ waiting note. waiting ++ note ∷ [] };
+
+        fn handle(overflow: &mut VecDeque<Note>, message: Note) -> Result<(), OutOfMemory> {
+            overflow.push_back(message)?;
+            Ok(())
+        }
+    }
+
+    #[test]
+    fn full_mailbox_lets_messages_wait_in_order(rt: HostRuntime) -> Result<(), Fail> {
+        let mut mailbox = Bounded::new(rt.alloc(), 2)?;
+        assert_eq!(rt; mailbox.try_recv(), None);
+        assert_eq!(rt; mailbox.enqueue(Note(1))?, Feedback::Ok);
+        assert_eq!(rt; mailbox.enqueue(Note(2))?, Feedback::Ok);
+        assert_eq!(rt; mailbox.enqueue(Note(3))?, Feedback::Backoff);
+        assert_eq!(rt; mailbox.enqueue(Note(4))?, Feedback::Backoff);
+        assert_eq!(rt; mailbox.try_recv(), Some(Note(1)));
+        assert_eq!(rt; mailbox.enqueue(Note(5))?, Feedback::Backoff);
+        assert_eq!(rt; mailbox.try_recv(), Some(Note(2)));
+        assert_eq!(rt; mailbox.try_recv(), Some(Note(3)));
+        assert_eq!(rt; mailbox.try_recv(), Some(Note(4)));
+        assert_eq!(rt; mailbox.enqueue(Note(6))?, Feedback::Ok);
+        assert_eq!(rt; mailbox.try_recv(), Some(Note(5)));
+        assert_eq!(rt; mailbox.try_recv(), Some(Note(6)));
+        assert_eq!(rt; mailbox.try_recv(), None);
+        Ok(())
+    }
+
+    #[test]
+    fn closed_mailbox_keeps_what_it_has(rt: HostRuntime) -> Result<(), Fail> {
+        let mut mailbox = Bounded::new(rt.alloc(), 1)?;
+        assert_eq!(rt; mailbox.enqueue(Note(1))?, Feedback::Ok);
+        assert_eq!(rt; mailbox.enqueue(Note(2))?, Feedback::Backoff);
+        mailbox.close();
+        assert_eq!(rt; mailbox.enqueue(Note(3))?, Feedback::Closed);
+        assert_eq!(rt; mailbox.try_recv(), Some(Note(1)));
+        assert_eq!(rt; mailbox.try_recv(), Some(Note(2)));
+        assert_eq!(rt; mailbox.try_recv(), None);
+        Ok(())
+    }
+}
