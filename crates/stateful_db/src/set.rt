@@ -19,7 +19,7 @@ pub enum SetError {
     /// A database has no batch id left.
     #[error("no number is left")]
     Exhausted,
-    /// The database of this number failed at this call.
+    /// The database of this number failed at this call, and is lost with its medium.
     #[error("database {index} failed at {call:?}")]
     DatabaseFault { index: usize, call: DbCall },
     #[error("out of memory")]
