@@ -41,12 +41,12 @@ min-since a b c n l h = omega arith
 Rose-since : (before mid now : ℕ) → before ≤ mid → Rose mid now → Rose before now
 Rose-since before mid now l h = min-since before mid _ now l h
 
-module _ {B R U : Type 0} (w : Workings B R U) (before mid now : ℕ → ℕ) (later : (n : ℕ) → before n ≤ mid n) where
-  HasCounted-since : (i : ℕ) (given call : DbCall) → HasCounted w mid now i given call → HasCounted w before now i given call
-  HasCounted-since i given call h = (h.0, h.1, Rose-since (before i) (mid i) (now i) (later i) h.2)
+module _ {B R U : Type 0} (w : Workings B R U) (before mid now : ℕ → ℕ) (new : w.kind.Members) (later : (n : ℕ) → before n ≤ mid n) where
+  HasCounted-since : (i : ℕ) (given call : DbCall) → HasCounted w mid now new i given call → HasCounted w before now new i given call
+  HasCounted-since i given call h = (h.0, h.1, Rose-since (before i) (mid i) (now i) (later i) h.2, h.3)
 
   -- the fault of a barrier's begin, where other calls came before
-  pub FaultsBarrier-since : (number : ℕ) (f : Fault) → FaultsBarrier w mid now number f → FaultsBarrier w before now number f
+  pub FaultsBarrier-since : (number : ℕ) (f : Fault) → FaultsBarrier w mid now new number f → FaultsBarrier w before now new number f
   FaultsBarrier-since number OutOfMemory h = tt
   FaultsBarrier-since number Exhausted h = h
   FaultsBarrier-since number (DatabaseFault i given) h = HasCounted-since i given _ h
@@ -54,8 +54,8 @@ module _ {B R U : Type 0} (w : Workings B R U) (before mid now : ℕ → ℕ) (l
 
 module _ {B R U H : Type 0} (w : Workings B R U) (run_count : R → ℕ) (hook_count : H → ℕ) (store : ℕ → Option (Named B)) (old : Moment w H) (core : Core B R H U) (members : w.kind.Members) (before now : Tally) where
   -- a task is done, and no barrier has begun that was needed then
-  pub settled_later : (done : Task B) (f : Fault) (mid : Moment w H) → Does w store done old mid → (counts : ℕ → ℕ) → ((n : ℕ) → before.databases n ≤ counts n) → FaultsBarrier w counts now.databases mid.core.next_barrier f → FaultsIn w run_count hook_count store old core members before now done f
-  settled_later done f mid does counts later h = settling mid does (FaultsBarrier-since w before.databases counts now.databases later mid.core.next_barrier f h)
+  pub settled_later : (done : Task B) (f : Fault) (mid : Moment w H) → Does w store done old mid → (counts : ℕ → ℕ) → ((n : ℕ) → before.databases n ≤ counts n) → FaultsBarrier w counts now.databases members mid.core.next_barrier f → FaultsIn w run_count hook_count store old core members before now done f
+  settled_later done f mid does counts later h = settling mid does (FaultsBarrier-since w before.databases counts now.databases members later mid.core.next_barrier f h)
 
 -- what is kept of the states behind databases at the same point
 KeepsStates-from : {B R U : Type 0} (w : Workings B R U) (old mid new : w.kind.Members) → w.kind.point mid ≡ w.kind.point old → KeepsStates w mid new → KeepsStates w old new

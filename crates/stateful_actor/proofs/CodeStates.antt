@@ -23,14 +23,14 @@ pub converted : {T E : Type 0} (P : E → Type 0) (r : Result T E) (e : E) → I
 converted P (Ok x) e made p = tt
 converted P (Err y) e made p = subst P (sym made) p
 
-module _ {B R U : Type 0} (w : Workings B R U) (before now : ℕ → ℕ) (e : SetError) where
+module _ {B R U : Type 0} (w : Workings B R U) (before now : ℕ → ℕ) (new : w.kind.Members) (e : SetError) where
   -- a set failed at its finalize
   pub fault_finalizing : (number : ℕ) → (e ≡ set.Lost → ⊥) → (e ≡ set.Exhausted → ⊥)
-      → ((n : ℕ) (k : DbCall) → e ≡ set.DatabaseFault n k → HasCounted w before now n k call.Finalize)
-      → FaultsBarrier w before now number (fault_of_set e)
+      → ((n : ℕ) (k : DbCall) → e ≡ set.DatabaseFault n k → HasCounted w before now new n k call.Finalize)
+      → FaultsBarrier w before now new number (fault_of_set e)
   fault_finalizing number lost exhausted fault = barrier e refl
     where
-      barrier : (f : SetError) → e ≡ f → FaultsBarrier w before now number (fault_of_set f)
+      barrier : (f : SetError) → e ≡ f → FaultsBarrier w before now new number (fault_of_set f)
       barrier set.Lost is = absurd (lost is)
       barrier set.Exhausted is = absurd (exhausted is)
       barrier (set.DatabaseFault n k) is = fault n k is
@@ -38,11 +38,11 @@ module _ {B R U : Type 0} (w : Workings B R U) (before now : ℕ → ℕ) (e : S
 
   -- a set failed at a flush of the database of this number
   pub fault_flushing : (active : Option Active) (number i : ℕ) → (e ≡ set.Lost → ⊥) → (e ≡ set.Exhausted → ⊥)
-      → ((n : ℕ) (k : DbCall) → e ≡ set.DatabaseFault n k → (n ≡ i) × HasCounted w before now n k call.Flush)
-      → FaultsFlush w before now active number i (fault_of_set e)
+      → ((n : ℕ) (k : DbCall) → e ≡ set.DatabaseFault n k → (n ≡ i) × HasCounted w before now new n k call.Flush)
+      → FaultsFlush w before now new active number i (fault_of_set e)
   fault_flushing active number i lost exhausted fault = flush e refl
     where
-      flush : (f : SetError) → e ≡ f → FaultsFlush w before now active number i (fault_of_set f)
+      flush : (f : SetError) → e ≡ f → FaultsFlush w before now new active number i (fault_of_set f)
       flush set.Lost is = absurd (lost is)
       flush set.Exhausted is = absurd (exhausted is)
       flush (set.DatabaseFault n k) is = fault n k is
@@ -50,11 +50,11 @@ module _ {B R U : Type 0} (w : Workings B R U) (before now : ℕ → ℕ) (e : S
 
   -- a set failed at an apply
   pub fault_applying : (m : w.kind.Members) → (e ≡ set.Lost → w.kind.point m ≡ None) → (e ≡ set.Exhausted → ⊥)
-      → ((n : ℕ) (k : DbCall) → e ≡ set.DatabaseFault n k → HasCounted w before now n k call.Apply)
-      → FaultsApply w before now m (fault_of_set e)
+      → ((n : ℕ) (k : DbCall) → e ≡ set.DatabaseFault n k → HasCounted w before now new n k call.Apply)
+      → FaultsApply w before now new m (fault_of_set e)
   fault_applying m lost exhausted fault = apply e refl
     where
-      apply : (f : SetError) → e ≡ f → FaultsApply w before now m (fault_of_set f)
+      apply : (f : SetError) → e ≡ f → FaultsApply w before now new m (fault_of_set f)
       apply set.Lost is = lost is
       apply set.Exhausted is = absurd (exhausted is)
       apply (set.DatabaseFault n k) is = fault n k is

@@ -106,10 +106,10 @@ module _ {B R U : Type 0} (w : Workings B R U) where
       → ((i : ℕ) → w.kind.HasState new i p.1)
       ⊎ ((batch : U) × IsRootOf root cache batch × ((q : Point w) (c : List (Point w)) → w.shows batch (q ∷ p ∷ c) → (i : ℕ) → w.kind.HasState new i p.1 ⊎ w.kind.HasState new i q.1))
 
-  module _ (before now : ℕ → ℕ) where
-    -- the database of this number failed at this call, and has counted it
+  module _ (before now : ℕ → ℕ) (new : w.kind.Members) where
+    -- the database of this number failed at this call, has counted it, and is lost with its medium
     abbrev pub HasCounted : ℕ → DbCall → DbCall → Type 0
-    HasCounted i given call = (given ≡ call) × (i < w.kind.count) × Rose (before i) (now i)
+    HasCounted i given call = (given ≡ call) × (i < w.kind.count) × Rose (before i) (now i) × w.kind.Lost new i
 
     -- a database failed at the apply, or isn't here
     abbrev pub FaultsApply : w.kind.Members → Fault → Type 0
@@ -144,23 +144,23 @@ module _ {B R U : Type 0} (w : Workings B R U) where
     FaultsFlush active k i (DatabaseFault n given) = (n ≡ i) × HasCounted n given call.Flush
     FaultsFlush active k i f = ⊥
 
-    module _ (floor : Floor) (keep : List ℕ) (store : ℕ → Option (Named B)) (old new : w.kind.Members) where
-      -- behind the crash the database of this number doesn't open at what the store's block commits to, for this reason
-      pub record FailsToOpen (i : ℕ) (why : InitError) : Type 0 where
-        pub crashed : w.kind.Members
-        pub is_crashed : w.kind.Crashed old keep crashed
-        pub block : Named B
-        pub stored : store (start_height floor) ≡ Some block
-        pub within : i < w.kind.count
-        pub not_opened : w.kind.NotOpened crashed (Some (w.meaning.targets block.block)) i (Rose (before i) (now i)) why new
+  module _ (before now : ℕ → ℕ) (floor : Floor) (keep : List ℕ) (store : ℕ → Option (Named B)) (old new : w.kind.Members) where
+    -- behind the crash the database of this number doesn't open at what the store's block commits to, for this reason
+    pub record FailsToOpen (i : ℕ) (why : InitError) : Type 0 where
+      pub crashed : w.kind.Members
+      pub is_crashed : w.kind.Crashed old keep crashed
+      pub block : Named B
+      pub stored : store (start_height floor) ≡ Some block
+      pub within : i < w.kind.count
+      pub not_opened : w.kind.NotOpened crashed (Some (w.meaning.targets block.block)) i (Rose (before i) (now i)) why new
 
-      -- the store has no block at the height that is to be opened, or a database doesn't open
-      abbrev pub FaultsOpening : Fault → Type 0
-      FaultsOpening OutOfMemory = Unit {0}
-      FaultsOpening (MissingBlock height) = (height.0 ≡ start_height floor) × (store height.0 ≡ None)
-      FaultsOpening (Database i) = FailsToOpen i init.Database
-      FaultsOpening (TargetMismatch i expected recovered) = FailsToOpen i (init.TargetMismatch expected recovered)
-      FaultsOpening f = ⊥
+    -- the store has no block at the height that is to be opened, or a database doesn't open
+    abbrev pub FaultsOpening : Fault → Type 0
+    FaultsOpening OutOfMemory = Unit {0}
+    FaultsOpening (MissingBlock height) = (height.0 ≡ start_height floor) × (store height.0 ≡ None)
+    FaultsOpening (Database i) = FailsToOpen i init.Database
+    FaultsOpening (TargetMismatch i expected recovered) = FailsToOpen i (init.TargetMismatch expected recovered)
+    FaultsOpening f = ⊥
 
 -- what a fault of a task leaves of the databases of a machine that is up
 abbrev pub LeavesAt : {B R U : Type 0} (w : Workings B R U) → Task B → List (Cached U) → (old new : w.kind.Members) → Type 0
@@ -176,12 +176,12 @@ module _ {B R U H : Type 0} (w : Workings B R U) (run_count : R → ℕ) (hook_c
   FaultsAt (Ask ticket digest) f = FaultsDraw old.core.next_fetch f
   FaultsAt (Run anchor ticket b parent) f = FaultsRun w (Rose before.application now.application) old.core.next_job old.members old.next f
   FaultsAt (Hold ticket height) f = f ≡ OutOfMemory
-  FaultsAt (Finalize ticket b) f = FaultsFinalize w before.databases now.databases (Rose before.application now.application) old.core old.members f
+  FaultsAt (Finalize ticket b) f = FaultsFinalize w before.databases now.databases members (Rose before.application now.application) old.core old.members f
   FaultsAt (Turn anchor j) f = FaultsTurn run_count hook_count old.core core j f
-  FaultsAt (Flush k i) f = FaultsFlush w before.databases now.databases old.core.barrier k i f
+  FaultsAt (Flush k i) f = FaultsFlush w before.databases now.databases members old.core.barrier k i f
   FaultsAt (Start floor keep) f = FaultsOpening w before.databases now.databases floor keep store old.members members f
 
   -- why a task isn't done and settled: it isn't done; or it is, and then no barrier has begun that was needed
   pub data FaultsIn (done : Task B) (f : Fault) : Type 0 where
     doing : FaultsAt done f → FaultsIn done f
-    settling : (mid : Moment w H) → Does w store done old mid → FaultsBarrier w before.databases now.databases mid.core.next_barrier f → FaultsIn done f
+    settling : (mid : Moment w H) → Does w store done old mid → FaultsBarrier w before.databases now.databases members mid.core.next_barrier f → FaultsIn done f

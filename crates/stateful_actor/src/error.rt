@@ -56,7 +56,7 @@ pub enum StepError {
     /// A counter stands at its last value.
     #[error("no number is left")]
     Exhausted,
-    /// The database of this number failed at this call, and has counted it.
+    /// The database of this number failed at this call, has counted it, and is lost with its medium.
     #[error("database {index} failed at {call:?}")]
     DatabaseFault {
         index: usize,

@@ -40,6 +40,8 @@ pub record Databases (Ids States Targets : Type 0) : Type 1 where
   pub Shut : Members → Type 0
   -- no database is away
   pub Held : Members → Type 0
+  -- the database of this number is lost, with its medium
+  pub Lost : Members → ℕ → Type 0
   -- each database has one checkpoint more
   pub applied : Members → Ids × States → Members
   -- a token is out at each database, for all its checkpoints

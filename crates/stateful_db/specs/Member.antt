@@ -55,6 +55,11 @@ module _ {S : Type 0} where
   IsHeld gone = ⊥
   IsHeld _ = Unit {0}
 
+  -- lost with its medium
+  abbrev pub IsLost : Member S → Type 0
+  IsLost (broken d) = Unit {0}
+  IsLost _ = ⊥
+
   -- one checkpoint more
   abbrev pub member_applied : Member S → ℕ × S → Member S
   member_applied (at_home s) p = at_home (record s { id = p.0; disk = applied s.disk p.1 })

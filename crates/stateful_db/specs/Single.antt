@@ -3,7 +3,7 @@ use Rattle.std.specs.Prelude.{◌≡◌, ℕ, ◌-◌, ◌^◌, ◌≤◌, ◌==
 use Rattle.stateful_types.specs.declared.target.Target.{Target}
 use Rattle.stateful_db.specs.Chain.{AllBelow, ids}
 use Rattle.stateful_db.specs.Databases.{Databases}
-use Rattle.stateful_db.specs.Member.{Member, member_point, MemberKeeps, member_place, member_durable, member_token, IsIdle, IsShut, IsHeld, member_applied, member_finalized, member_flushed, MemberHas, IsLostAt, IsLostAsItWas, IsLostFlushing, MemberReopened, MemberNotOpened, MemberCrashed}
+use Rattle.stateful_db.specs.Member.{Member, member_point, MemberKeeps, member_place, member_durable, member_token, IsIdle, IsShut, IsHeld, IsLost, member_applied, member_finalized, member_flushed, MemberHas, IsLostAt, IsLostAsItWas, IsLostFlushing, MemberReopened, MemberNotOpened, MemberCrashed}
 
 module _ {S T : Type 0} (target_of : S → T) (targeted : T → Target) (begun : S → S) (initial : S) where
   abbrev pub single : Databases ℕ S T
@@ -26,6 +26,7 @@ module _ {S T : Type 0} (target_of : S → T) (targeted : T → Target) (begun :
     Idle = IsIdle;
     Shut = IsShut;
     Held = IsHeld;
+    Lost = λ m i. (i ≡ 0) × IsLost m;
     applied = member_applied;
     finalized = member_finalized;
     flushed = λ m i at. (if i == 0 then member_flushed m at else m);

@@ -19,7 +19,7 @@ pub enum SetError {
     /// A database has no batch id left.
     #[error("no number is left")]
     Exhausted,
-    /// The database of this number failed at this call.
+    /// The database of this number failed at this call, and is lost with its medium.
     #[error("database {index} failed at {call:?}")]
     DatabaseFault { index: usize, call: DbCall },
     #[error("out of memory")]
@@ -162,7 +162,7 @@ pub trait DatabaseSet: Sized {
         ensures here { OnOk result (kind.point (members self.new) ≡ None → ⊥) }
         ensures tokens { OnOk result ((i : ℕ) → kind.token (members self.new) i ≡ kind.token (members self.old) i) }
         ensures next { next self.new ≡ next self.old }
-        ensures fault { (n : ℕ) (k : DbCall) → IsErrOf result (SetError.DatabaseFault n k) → (k ≡ DbCall.Apply) × (n < kind.count) × Rose (counted self.old n) (counted self.new n) × ((p q : Self.Ids × Self.States) (c : List (Self.Ids × Self.States)) → kind.point (members self.old) ≡ Some p → shows batches (q ∷ p ∷ c) → kind.LostApplying (members self.old) q n (members self.new)) }
+        ensures fault { (n : ℕ) (k : DbCall) → IsErrOf result (SetError.DatabaseFault n k) → (k ≡ DbCall.Apply) × (n < kind.count) × Rose (counted self.old n) (counted self.new n) × kind.Lost (members self.new) n × ((p q : Self.Ids × Self.States) (c : List (Self.Ids × Self.States)) → kind.point (members self.old) ≡ Some p → shows batches (q ∷ p ∷ c) → kind.LostApplying (members self.old) q n (members self.new)) }
         ensures memory { IsErrOf result SetError.OutOfMemory → (p q : Self.Ids × Self.States) (c : List (Self.Ids × Self.States)) → kind.point (members self.old) ≡ Some p → shows batches (q ∷ p ∷ c) → (n : ℕ) × (n < kind.count) × kind.LostApplying (members self.old) q n (members self.new) }
         ensures err { OnErr result ((p q : Self.Ids × Self.States) (c : List (Self.Ids × Self.States)) → kind.point (members self.old) ≡ Some p → shows batches (q ∷ p ∷ c) → (i : ℕ) → kind.HasState (members self.new) i p.1 ⊎ kind.HasState (members self.new) i q.1) }
         ensures later { (n : ℕ) → counted self.old n ≤ counted self.new n };
@@ -175,7 +175,7 @@ pub trait DatabaseSet: Sized {
         ensures lost { IsErrOf result SetError.Lost → ⊥ }
         ensures exhausted { IsErrOf result SetError.Exhausted → ⊥ }
         ensures next { next self.new ≡ next self.old }
-        ensures fault { (n : ℕ) (k : DbCall) → IsErrOf result (SetError.DatabaseFault n k) → (k ≡ DbCall.Finalize) × (n < kind.count) × Rose (counted self.old n) (counted self.new n) × kind.LostFinalizing (members self.old) n (members self.new) }
+        ensures fault { (n : ℕ) (k : DbCall) → IsErrOf result (SetError.DatabaseFault n k) → (k ≡ DbCall.Finalize) × (n < kind.count) × Rose (counted self.old n) (counted self.new n) × kind.Lost (members self.new) n × kind.LostFinalizing (members self.old) n (members self.new) }
         ensures memory { IsErrOf result SetError.OutOfMemory → (n : ℕ) × (n < kind.count) × kind.LostFinalizing (members self.old) n (members self.new) }
         ensures err { OnErr result ((i : ℕ) (s : Self.States) → kind.HasState (members self.old) i s → kind.HasState (members self.new) i s) }
         ensures later { (n : ℕ) → counted self.old n ≤ counted self.new n };
@@ -190,7 +190,7 @@ pub trait DatabaseSet: Sized {
         ensures lost { IsErrOf result SetError.Lost → ⊥ }
         ensures exhausted { IsErrOf result SetError.Exhausted → ⊥ }
         ensures next { next self.new ≡ next self.old }
-        ensures fault { (n : ℕ) (k : DbCall) → IsErrOf result (SetError.DatabaseFault n k) → (k ≡ DbCall.Finalize) × (n < kind.count) × Rose (counted self.old n) (counted self.new n) × kind.LostFinalizing (members self.old) n (members self.new) }
+        ensures fault { (n : ℕ) (k : DbCall) → IsErrOf result (SetError.DatabaseFault n k) → (k ≡ DbCall.Finalize) × (n < kind.count) × Rose (counted self.old n) (counted self.new n) × kind.Lost (members self.new) n × kind.LostFinalizing (members self.old) n (members self.new) }
         ensures memory { IsErrOf result SetError.OutOfMemory → (members self.new ≡ kind.finalized (members self.old)) ⊎ ((n : ℕ) × (n < kind.count) × kind.LostFinalizing (members self.old) n (members self.new)) }
         ensures err { OnErr result ((i : ℕ) (s : Self.States) → kind.HasState (members self.old) i s → kind.HasState (members self.new) i s) }
         ensures later { (n : ℕ) → counted self.old n ≤ counted self.new n }
@@ -211,7 +211,7 @@ pub trait DatabaseSet: Sized {
         ensures lost { IsErrOf result SetError.Lost → ⊥ }
         ensures exhausted { IsErrOf result SetError.Exhausted → ⊥ }
         ensures next { next self.new ≡ next self.old }
-        ensures fault { (n : ℕ) (k : DbCall) → IsErrOf result (SetError.DatabaseFault n k) → (k ≡ DbCall.Flush) × (n ≡ index) × Rose (counted self.old n) (counted self.new n) × kind.LostFlushing (members self.old) n token.place (members self.new) }
+        ensures fault { (n : ℕ) (k : DbCall) → IsErrOf result (SetError.DatabaseFault n k) → (k ≡ DbCall.Flush) × (n ≡ index) × Rose (counted self.old n) (counted self.new n) × kind.Lost (members self.new) n × kind.LostFlushing (members self.old) n token.place (members self.new) }
         ensures memory { IsErrOf result SetError.OutOfMemory → kind.LostFlushing (members self.old) index token.place (members self.new) }
         ensures err { OnErr result ((i : ℕ) (s : Self.States) → kind.HasState (members self.old) i s → kind.HasState (members self.new) i s) }
         ensures later { (n : ℕ) → counted self.old n ≤ counted self.new n };
