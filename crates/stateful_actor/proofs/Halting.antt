@@ -1,24 +1,22 @@
 -- Histories at whose end an event was refused.
-use Rattle.std.proofs.Common.{◌≡◌, ◌≢◌, ◌≤◌, ◌++◌, ℕ, Bool, true, false, inl, List, [], ◌∷◌, Option, None, Some, Result, Ok, Err, IsErrAnd, IfErr, map, refl, sym, ◌∙◌, ap, subst, arith}
+use Rattle.std.proofs.Common.{◌≡◌, ◌≢◌, ◌++◌, ℕ, Bool, true, false, inl, List, [], ◌∷◌, Option, None, Result, Ok, Err, IsErrAnd, IfErr, refl, sym, ◌∙◌, ap, subst, arith}
 use Rattle.stateful_types.specs.Names.{Named}
 use Rattle.stateful_db.specs.Databases.{Laws}
 use Rattle.stateful_history.specs.Past.{Past, Came, after_entry, after_all}
-use Rattle.stateful_history.specs.Anchors.{anchor_of}
 use Rattle.stateful_history.specs.Met.{TrueNames}
 use Rattle.stateful_history.specs.Holding.{Holds, HoldsBehind}
 use Rattle.stateful_history.specs.declared.event.Event.{Event}
 use Rattle.stateful_history.specs.declared.entry.Entry.{Entry}
-use Rattle.stateful_history.specs.declared.mark.Mark.{Mark}
 use Rattle.stateful_history.proofs.Marks.{after_all-push, TrueNames-before}
 use Rattle.stateful_register.specs.Register.{RegisterStands}
 use Rattle.stateful_register.specs.declared.register.Register.{Register}
 use Rattle.stateful_actor.specs.Workings.{Workings, setting}
-use Rattle.stateful_actor.specs.Moments.{moment}
-use Rattle.stateful_actor.specs.Stands.{Works, Stands, IsUp}
+use Rattle.stateful_actor.specs.Moments.{Moment, moment}
+use Rattle.stateful_actor.specs.Stands.{Works, Stands}
 use Rattle.stateful_actor.specs.Causes.{Tally}
 use Rattle.stateful_actor.specs.Refusing.{IsCause, memory}
 use Rattle.stateful_actor.specs.Stepping.{changes_nothing}
-use Rattle.stateful_actor.specs.Driving.{HasPlayed, HasNotFallen, IsRefused}
+use Rattle.stateful_actor.specs.Driving.{Steps, HasPlayed, HasNotFallen, IsRefused}
 use Rattle.stateful_actor.specs.declared.tables.Core.{Core}
 use Rattle.stateful_actor.specs.declared.error.StepError.{StepError}
 use Rattle.stateful_actor.specs.declared.error.StepError.TheVariants.{OutOfMemory}
@@ -59,7 +57,8 @@ module _ {B C I R U H : Type 0} (w : Workings B R U) (laws : Laws w.kind) (store
 
   module _ (run_count : R → ℕ) (hook_count : H → ℕ) (history : List (Entry B C I)) (event : Event B C I) (core : Core B R H U) (register : Register) (m : w.kind.Members) (next : w.Ids) (before : Tally)
       (failed : Bool) (works : failed ≡ false) (is_played : HasPlayed w stored history failed core register m next)
-      (registered : RegisterStands w.kind.count (after_all [] history) register) where
+      (registered : RegisterStands w.kind.count (after_all [] history) register)
+      (first : Moment w H) (steps : Steps w stored [] first history (moment w core m next [])) where
     played : HasPlayed w stored history false core register m next
     played = subst (λ (f : Bool). HasPlayed w stored history f core register m next) works is_played
 
@@ -68,10 +67,11 @@ module _ {B C I R U H : Type 0} (w : Workings B R U) (laws : Laws w.kind) (store
         → IsCause w run_count hook_count stored event failed register (moment w core m next []) going n before now e
         → (changes_nothing e ≡ true → n ≡ m)
         → ((base : w.States) → TrueNames (setting w stored) (Came event ∷ after_all [] history) → Stands w stored base (after_all [] history) failed core register m next stored → core.anchor ≢ None → HoldsBehind (setting w stored) w.kind base (after_all [] history) event n)
-        → IsRefused w stored run_count hook_count history event e going n before now
+        → IsRefused w stored run_count hook_count first history event e going n before now
     Refused-from e going n now cause unchanged behind = record {
       register = register;
       old = moment w core m next [];
+      steps = steps;
       before = before;
       later = HasNotFallen-itself before;
       registered = registered;
@@ -84,15 +84,16 @@ module _ {B C I R U H : Type 0} (w : Workings B R U) (laws : Laws w.kind) (store
     }
 
     -- memory ran out before anything was done
-    pub Refused-early : (e : StepError) → e ≡ OutOfMemory → IsRefused w stored run_count hook_count history event e core m before before
+    pub Refused-early : (e : StepError) → e ≡ OutOfMemory → IsRefused w stored run_count hook_count first history event e core m before before
     Refused-early e is = Refused-from e core m before (memory is) (λ same. refl) (λ base names stood up. Works-behind base (after_all [] history) event core m next stored (stood (inl works)).1 up)
 
   -- counts that have not fallen before
-  pub IsRefused-since : (run_count : R → ℕ) (hook_count : H → ℕ) (history : List (Entry B C I)) (event : Event B C I) (e : StepError) (core : Core B R H U) (m : w.kind.Members) (start before now : Tally)
-      → HasNotFallen start before → IsRefused w stored run_count hook_count history event e core m before now → IsRefused w stored run_count hook_count history event e core m start now
-  IsRefused-since run_count hook_count history event e core m start before now later refused = record {
+  pub IsRefused-since : (run_count : R → ℕ) (hook_count : H → ℕ) (first : Moment w H) (history : List (Entry B C I)) (event : Event B C I) (e : StepError) (core : Core B R H U) (m : w.kind.Members) (start before now : Tally)
+      → HasNotFallen start before → IsRefused w stored run_count hook_count first history event e core m before now → IsRefused w stored run_count hook_count first history event e core m start now
+  IsRefused-since run_count hook_count first history event e core m start before now later refused = record {
     register = refused.register;
     old = refused.old;
+    steps = refused.steps;
     before = refused.before;
     later = HasNotFallen-further start before refused.before later refused.later;
     registered = refused.registered;

@@ -1,21 +1,25 @@
 -- Histories that are played, an entry longer.
-use Rattle.std.proofs.Common.{◌≡◌, ◌++◌, ℕ, Bool, false, List, [], ◌∷◌, map, Option, None, refl, ◌∙◌, ap, subst, arith}
+use Rattle.std.proofs.Common.{◌≡◌, ◌++◌, ℕ, Bool, false, List, [], ◌∷◌, map, Option, None, true, refl, sym, ◌∙◌, ap, subst, arith}
 use Rattle.stateful_types.specs.Names.{Named}
 use Rattle.stateful_history.specs.Past.{Past, Came, after_entry, after_all}
 use Rattle.stateful_history.specs.Opening.{opens, base_after}
 use Rattle.stateful_history.specs.Met.{TrueNames}
+use Rattle.stateful_history.specs.Live.{may_come}
 use Rattle.stateful_history.specs.Holding.{Holds}
 use Rattle.stateful_history.specs.declared.event.Event.{Event}
 use Rattle.stateful_history.specs.declared.entry.Entry.{Entry}
+use Rattle.stateful_history.specs.declared.mark.Mark.{Mark}
 use Rattle.stateful_history.proofs.Marks.{after_all-push, TrueNames-before_entry}
 use Rattle.stateful_register.specs.Register.{RegisterStands, IsBlank}
 use Rattle.stateful_register.specs.declared.register.Register.{Register}
 use Rattle.stateful_actor.specs.Workings.{Workings, setting}
+use Rattle.stateful_actor.specs.Moments.{Moment, moment}
+use Rattle.stateful_actor.specs.Doing.{IsStep}
 use Rattle.stateful_actor.specs.Rules.{Keeps}
 use Rattle.stateful_actor.specs.Stands.{Works, Stands}
 use Rattle.stateful_actor.specs.Entering.{OpensAtStored, TakesIn, Plays}
 use Rattle.stateful_actor.specs.Stepping.{IsNew}
-use Rattle.stateful_actor.specs.Driving.{AddsEntry, HasPlayed}
+use Rattle.stateful_actor.specs.Driving.{AddsEntry, Steps, HasPlayed}
 use Rattle.stateful_actor.specs.declared.tables.Core.{Core}
 use Rattle.stateful_actor.proofs.Placed.{nat_lt-above}
 
@@ -24,10 +28,10 @@ events-append : {B C I : Type 0} (history : List (Entry B C I)) (entry : Entry B
 events-append [] entry = refl
 events-append {B} {C} {I} (x ∷ history) entry = ap (λ (l : List (Event B C I)). x.event ∷ l) (events-append history entry)
 
-pub events-push : {B C I : Type 0} (history longer : List (Entry B C I)) (event : Event B C I) (events : List (Event B C I)) → AddsEntry event history longer → map (λ (e : Entry B C I). e.event) history ≡ events → map (λ (e : Entry B C I). e.event) longer ≡ events ++ event ∷ []
-events-push {B} {C} {I} history longer event events adds is =
-    ap (λ (l : List (Entry B C I)). map (λ (e : Entry B C I). e.event) l) adds.1
-    ∙ events-append history (record { event = event; marks = adds.0 })
+pub events-push : {B C I : Type 0} (history longer : List (Entry B C I)) (event : Event B C I) (marks : List (Mark B)) (events : List (Event B C I)) → longer ≡ history ++ record { event = event; marks = marks } ∷ [] → map (λ (e : Entry B C I). e.event) history ≡ events → map (λ (e : Entry B C I). e.event) longer ≡ events ++ event ∷ []
+events-push {B} {C} {I} history longer event marks events adds is =
+    ap (λ (l : List (Entry B C I)). map (λ (e : Entry B C I). e.event) l) adds
+    ∙ events-append history (record { event = event; marks = marks })
     ∙ ap (λ (l : List (Event B C I)). l ++ event ∷ []) is
 
 module _ {B C I R U : Type 0} (w : Workings B R U) (stored : ℕ → Option (Named B)) where
@@ -54,6 +58,16 @@ module _ {B C I R U : Type 0} (w : Workings B R U) (stored : ℕ → Option (Nam
 
   pub HasPlayed-new : {H : Type 0} (failed : Bool) (core : Core B R H U) (register : Register) (m : w.kind.Members) (next : w.Ids) → IsNew failed core register → HasPlayed {B = B} {C = C} {I = I} w stored [] failed core register m next
   HasPlayed-new failed core register m next new = λ names. (λ up. (Register-new register new.blank, Works-new core m next new.down), tt)
+
+  -- one more step
+  Steps-push : {H : Type 0} (p : Past B C I) (old mid : Moment w H) (history : List (Entry B C I)) (event : Event B C I) (new : Moment w H) → Steps w stored p old history mid → may_come w.kind.count (after_all p history) event ≡ true → IsStep w stored event mid new → Steps w stored p old (history ++ record { event = event; marks = new.marks } ∷ []) (record new { marks = [] })
+  Steps-push p old mid [] event new is may step = (may, new, refl, subst (λ (x : Moment w _). IsStep w stored event x new) is step, refl)
+  Steps-push p old mid (x ∷ history) event new steps may step = (steps.0, steps.1, steps.2, steps.3, Steps-push (after_entry p x.event x.marks) (record (steps.1) { marks = [] }) mid history event new steps.4 may step)
+
+  pub Steps-longer : {H : Type 0} (first : Moment w H) (mid : Moment w H) (history longer : List (Entry B C I)) (event : Event B C I) (core : Core B R H U) (m : w.kind.Members) (next : w.Ids)
+      → Steps w stored [] first history mid → may_come w.kind.count (after_all [] history) event ≡ true → AddsEntry w stored event mid core m next history longer → Steps w stored [] first longer (moment w core m next [])
+  Steps-longer first mid history longer event core m next steps may adds =
+      subst (λ (h : List (Entry B C I)). Steps w stored [] first h (moment w core m next [])) (sym adds.1) (Steps-push [] first mid history event (moment w core m next adds.0) steps may adds.2)
 
   -- one more entry
   Plays-push : (base : w.States) (p : Past B C I) (history : List (Entry B C I)) (entry : Entry B C I) (Old New : w.States → Type 0)

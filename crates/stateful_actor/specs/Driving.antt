@@ -1,9 +1,10 @@
 -- Histories that events add to.
 use Rattle.std.specs.Prelude.{◌≡◌, ◌≢◌, ◌≤◌, ℕ, Bool, true, false, Option, None, List, [], ◌∷◌, ◌++◌}
 use Rattle.stateful_types.specs.Names.{Named}
-use Rattle.stateful_history.specs.Past.{Past, Came, after_all}
+use Rattle.stateful_history.specs.Past.{Past, Came, after_entry, after_all}
 use Rattle.stateful_history.specs.Anchors.{anchor_of}
 use Rattle.stateful_history.specs.Met.{TrueNames}
+use Rattle.stateful_history.specs.Live.{may_come}
 use Rattle.stateful_history.specs.Holding.{Holds, HoldsBehind}
 use Rattle.stateful_history.specs.declared.event.Event.{Event}
 use Rattle.stateful_history.specs.declared.mark.Mark.{Mark}
@@ -11,8 +12,9 @@ use Rattle.stateful_history.specs.declared.entry.Entry.{Entry}
 use Rattle.stateful_register.specs.Register.{RegisterStands}
 use Rattle.stateful_register.specs.declared.register.Register.{Register}
 use Rattle.stateful_actor.specs.Workings.{Workings, setting}
-use Rattle.stateful_actor.specs.Moments.{Moment}
+use Rattle.stateful_actor.specs.Moments.{Moment, moment}
 use Rattle.stateful_actor.specs.Stands.{Stands}
+use Rattle.stateful_actor.specs.Doing.{IsStep}
 use Rattle.stateful_actor.specs.Entering.{Plays}
 use Rattle.stateful_actor.specs.Causes.{Tally}
 use Rattle.stateful_actor.specs.Stepping.{changes_nothing}
@@ -20,9 +22,23 @@ use Rattle.stateful_actor.specs.Refusing.{IsCause}
 use Rattle.stateful_actor.specs.declared.tables.Core.{Core}
 use Rattle.stateful_actor.specs.declared.error.StepError.{StepError}
 
--- an entry of the event, with some marks, is added
-abbrev pub AddsEntry : {B C I : Type 0} → Event B C I → List (Entry B C I) → List (Entry B C I) → Type 0
-AddsEntry {B = B} event old new = (marks : List (Mark B)) × (new ≡ old ++ record { event = event; marks = marks } ∷ [])
+-- an entry of the event is added, with the marks of the step from one moment to these tables and databases
+abbrev pub AddsEntry : {B C I R U H : Type 0} (w : Workings B R U) → (ℕ → Option (Named B)) → Event B C I → Moment w H → Core B R H U → w.kind.Members → w.Ids → List (Entry B C I) → List (Entry B C I) → Type 0
+AddsEntry {B = B} w store event before core m next old new =
+    (marks : List (Mark B))
+    × (new ≡ old ++ record { event = event; marks = marks } ∷ [])
+    × IsStep w store event before (moment w core m next marks)
+
+-- From one moment behind a past on, the entries were taken in one after another: each event may come behind those before
+-- it, and its entry has the marks of its step. And so on to the moment behind the last one.
+abbrev pub Steps : {B C I R U H : Type 0} (w : Workings B R U) → (ℕ → Option (Named B)) → Past B C I → Moment w H → List (Entry B C I) → Moment w H → Type 0
+Steps w store p old [] last = last ≡ old
+Steps {H = H} w store p old (entry ∷ entries) last =
+    (may_come w.kind.count p entry.event ≡ true)
+    × (new : Moment w H)
+    × (new.marks ≡ entry.marks)
+    × IsStep w store entry.event old new
+    × Steps w store (after_entry p entry.event entry.marks) (record new { marks = [] }) entries last
 
 -- Where names are true, the history was played from the start on: the machine stands for it, and the databases hold what
 -- was applied.
@@ -44,11 +60,12 @@ module _ {B C I R U H : Type 0} (w : Workings B R U) (stored : ℕ → Option (N
     pub unchanged : changes_nothing e ≡ true → Holds (setting w stored) w.kind base p m
     pub behind : anchor_of w.header p ≢ None → HoldsBehind (setting w stored) w.kind base p event m
 
-  -- The event that was refused behind a history, and why: the machine before it, whose register stood for the history, and
-  -- the cause that it had. Counts have not fallen since the start.
-  pub record IsRefused (run_count : R → ℕ) (hook_count : H → ℕ) (history : List (Entry B C I)) (event : Event B C I) (e : StepError) (core : Core B R H U) (m : w.kind.Members) (start now : Tally) : Type 0 where
+  -- The event that was refused behind a history, and why: the machine before it, to which the entries led from the first
+  -- moment on and whose register stood for the history, and the cause that it had. Counts have not fallen since the start.
+  pub record IsRefused (run_count : R → ℕ) (hook_count : H → ℕ) (first : Moment w H) (history : List (Entry B C I)) (event : Event B C I) (e : StepError) (core : Core B R H U) (m : w.kind.Members) (start now : Tally) : Type 0 where
     pub register : Register
     pub old : Moment w H
+    pub steps : Steps w stored [] first history old
     pub before : Tally
     pub later : HasNotFallen start before
     pub registered : RegisterStands w.kind.count (after_all [] history) register

@@ -1,5 +1,5 @@
 -- What each step of the machine changes, field by field.
-use Rattle.std.specs.Prelude.{◌≡◌, ◌≢◌, ◌<◌, ◌≤◌, ◌+◌, ◌⊎◌, ℕ, Bool, true, Some, None, List, [], ◌∷◌, ◌++◌, All, length, map, IsNone}
+use Rattle.std.specs.Prelude.{◌≡◌, ◌≢◌, ◌<◌, ◌≤◌, ◌+◌, ◌⊎◌, ℕ, Bool, true, Option, Some, None, IfSome, List, [], ◌∷◌, ◌++◌, All, length, map, IsNone}
 use Rattle.stateful_types.specs.declared.digest.Digest.{Digest}
 use Rattle.stateful_db.specs.Barrier.{open_at, answered, IsGood}
 use Rattle.stateful_db.specs.declared.barrier.Flushed.TheVariants.{Good}
@@ -19,6 +19,10 @@ with_receipt c height ticket = record c { held = c.held ++ (height, ticket) ∷ 
 -- the mark of an acknowledged receipt
 abbrev pub acknowledged : {B : Type 0} → ℕ × ℕ → Mark B
 acknowledged receipt = Acknowledged receipt.1 (record { 0 = receipt.0 })
+
+-- no barrier is active, or one of its databases wasn't flushed
+abbrev pub HasUnflushed : Option Active → Type 0
+HasUnflushed active = IfSome active (λ a. All IsGood a.barrier → ⊥)
 
 module _ {B R H U : Type 0} (old new : Core B R H U) (before now : List (Mark B)) where
   -- a request is answered
@@ -75,8 +79,8 @@ module _ {B R U H : Type 0} (w : Workings B R U) (old new : Moment w H) where
     pub marks : new.marks ≡ old.marks
 
 module _ {B R U H : Type 0} (w : Workings B R U) where
-  -- A flushed barrier is completed, receipts of durable heights are acknowledged, and a barrier begins where something
-  -- applied isn't durable and none is active.
+  -- A flushed barrier is completed, the receipts of durable heights are acknowledged, and a barrier begins where something
+  -- applied isn't durable and none is active. Then nothing of this is left to be done.
   pub record SettlesAll (old new : Moment w H) : Type 0 where
     pub completed : Core B R H U
     pub done : List (Mark B)
@@ -85,6 +89,9 @@ module _ {B R U H : Type 0} (w : Workings B R U) where
     pub completes : CompletesBarrier old.core completed old.marks done ⊎ ((completed ≡ old.core) × (done ≡ old.marks))
     pub acknowledges : Acknowledges completed told done released
     pub begins : ((told.durability.durable < told.durability.applied) × IsNone told.durability.barrier × BeginsBarrier w (moment w told old.members old.next released) new) ⊎ (new ≡ moment w told old.members old.next released)
+    pub none_flushed : HasUnflushed completed.barrier
+    pub none_durable : All (λ receipt. told.durability.durable < receipt.0) told.durability.held
+    pub none_needed : IsNone new.core.durability.barrier → new.core.durability.applied ≤ new.core.durability.durable
 
   -- while the machine is down or a finalization is in front, nothing of this is done
   abbrev pub Settles : (old new : Moment w H) → Type 0

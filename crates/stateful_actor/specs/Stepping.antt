@@ -16,11 +16,14 @@ pub record IsSafe {Ids S T B R H U : Type 0} (d : Databases Ids S T) (m : d.Memb
   pub sound : failed ≡ false → Sound d m header core
   pub held : core.anchor ≡ None → d.Held m
 
--- a machine that has taken nothing in
+-- a machine that has taken nothing in, whose numbers begin at 0
 pub record IsNew {B R H U : Type 0} (failed : Bool) (core : Core B R H U) (register : Register) : Type 0 where
   pub working : failed ≡ false
   pub down : core.anchor ≡ None
   pub blank : IsBlank register
+  pub jobs : core.next_job ≡ 0
+  pub fetches : core.next_fetch ≡ 0
+  pub barriers : core.next_barrier ≡ 0
 
 abbrev pub is_restart : {B C I : Type 0} → Event B C I → Bool
 is_restart (Restart floor keep) = true

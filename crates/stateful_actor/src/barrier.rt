@@ -8,7 +8,7 @@ ghost use Rattle.stateful_actor.specs.Workings.{workings};
 ghost use Rattle.stateful_actor.specs.Moments.{moment};
 ghost use Rattle.stateful_actor.specs.Stands.{Sound};
 ghost use Rattle.stateful_actor.specs.Causes.{FaultsBarrier, FaultsFlush, KeepsStates};
-ghost use Rattle.stateful_actor.specs.Effects.{BeginsBarrier, CompletesBarrier, Acknowledges, Flushes, SettlesAll};
+ghost use Rattle.stateful_actor.specs.Effects.{BeginsBarrier, CompletesBarrier, Acknowledges, Flushes, HasUnflushed, SettlesAll};
 
 use crate::error::Fault;
 use crate::stateful::CoreOf;
@@ -55,7 +55,8 @@ pub(crate) fn begin_barrier<A: Application>(
 
 /// The active barrier, where each of its databases was flushed.
 fn flushed_barrier(barrier: &Option<Active>) -> Option<(u64, Height)>
-    ensures { IfSome result (λ found. (active : Active) × (barrier.now ≡ Some active) × (found ≡ (active.number, active.height)) × All IsGood active.barrier) }
+    ensures found { IfSome result (λ found. (active : Active) × (barrier.now ≡ Some active) × (found ≡ (active.number, active.height)) × All IsGood active.barrier) }
+    ensures absent { IfNone result (HasUnflushed barrier.now) }
 {
     match barrier {
         Some(active) => match active.barrier.poll() {
@@ -74,6 +75,7 @@ fn complete<A: Application>(
     requires none { core.old.barrier ≡ None → IsNone core.old.durability.barrier }
     requires some { IfSome core.old.barrier (λ active. core.old.durability.barrier ≡ Some active.height.0) }
     ensures ok { OnOk result (CompletesBarrier core.old core.new marks.old.items marks.new.items ⊎ ((core.new ≡ core.old) × (marks.new.items ≡ marks.old.items))) }
+    ensures unflushed { OnOk result (HasUnflushed core.new.barrier) }
     ensures anchor { core.new.anchor ≡ core.old.anchor }
     ensures memory { IfErr result (λ f. f ≡ Fault.OutOfMemory) }
 {
@@ -96,6 +98,7 @@ fn release<A: Application>(
     marks: &mut Vec<Mark<A::Block>>,
 ) -> Result<(), Fault>
     ensures ok { OnOk result (Acknowledges core.old core.new marks.old.items marks.new.items) }
+    ensures all { OnOk result (All (λ receipt. core.new.durability.durable < receipt.0) core.new.durability.held) }
     ensures anchor { core.new.anchor ≡ core.old.anchor }
     ensures memory { IfErr result (λ f. f ≡ Fault.OutOfMemory) }
 {

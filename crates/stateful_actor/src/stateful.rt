@@ -48,9 +48,10 @@ pub struct Stateful<A: Application + Drop> {
 }
 
 impl<A: Application + Drop> Stateful<A> {
-    /// A machine that is down.
+    /// A machine that is down, of this configuration.
     pub fn new(alloc: Global, config: Config<A>) -> Result<Stateful<A>, NewError>
-        ensures { IfOk result (λ stateful. IsNew stateful.failed stateful.core stateful.register) }
+        ensures new { IfOk result (λ stateful. IsNew stateful.failed stateful.core stateful.register) }
+        ensures config { IfOk result (λ stateful. stateful.config ≡ config) }
     {
         Ok(Stateful {
             config,

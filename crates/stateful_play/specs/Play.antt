@@ -21,6 +21,7 @@ use Rattle.stateful_history.specs.Met.{TrueNames}
 use Rattle.stateful_history.specs.Holding.{Holds}
 use Rattle.stateful_history.specs.declared.entry.Entry.{Entry}
 use Rattle.stateful_actor.specs.Workings.{Workings, workings, setting}
+use Rattle.stateful_actor.specs.Moments.{Moment}
 use Rattle.stateful_actor.specs.Entering.{Plays}
 use Rattle.stateful_actor.specs.Causes.{Tally}
 use Rattle.stateful_actor.specs.Driving.{IsRefused}
@@ -63,9 +64,10 @@ pub record IsHaltedBy (stored : ℕ → Option (Named BankBlock)) (events : List
   pub rest : List BankEvent
   pub behind : events ≡ map (λ entry. entry.event) entries ++ event ∷ rest
   pub core : Core BankBlock BankRun BankHook PlainMerkleized
+  pub first : Moment bank BankHook
   pub start : Tally
   pub now : Tally
-  pub refused : IsRefused bank stored run_faults hook_faults entries event halted.error core m start now
+  pub refused : IsRefused bank stored run_faults hook_faults first entries event halted.error core m start now
 
 -- This was played of the script, whose blocks go by these labels: the events were taken in, in each ancestry each block
 -- is the parent of the one before it, the rules are kept, and an event that was refused has its cause.

@@ -1,4 +1,4 @@
-use Rattle.std.proofs.Common.{inl, inr, refl}
+use Rattle.std.proofs.Common.{◌<◌, arith, inl, inr, refl, ap, subst, IsNone, Some}
 use Rattle.stateful_actor.proofs.CodeResults.{on_ok}
 use Rattle.stateful_actor.proofs.CodeSettling.{held_none, held_some, none_active, none_out}
 use Rattle.stateful_actor.proofs.barrier.settle.Goals as goal
@@ -26,6 +26,9 @@ returns-then-needs_barrier-clause-ok g c =
       completes = c.in_ok-complete.ensures.ok;
       acknowledges = c.in_ok-release.ensures.ok;
       begins = inl (needed.1, needed.0, begins);
+      none_flushed = c.in_ok-complete.ensures.unflushed;
+      none_durable = c.in_ok-release.ensures.all;
+      none_needed = λ free. let e : IsNone (Some c.release.new.core.durability.applied) = subst IsNone (ap (λ core. core.durability.barrier) begins.core) free in cc;
     }) c.begin_barrier.ensures.ok
 
 pub returns-else-needs_barrier-clause-ok : goal.returns-else-needs_barrier-clause-ok
@@ -37,4 +40,7 @@ returns-else-needs_barrier-clause-ok g c = record {
   completes = c.in_ok-complete.ensures.ok;
   acknowledges = c.in_ok-release.ensures.ok;
   begins = inr refl;
+  none_flushed = c.in_ok-complete.ensures.unflushed;
+  none_durable = c.in_ok-release.ensures.all;
+  none_needed = λ free. let within : c.release.new.core.durability.durable < c.release.new.core.durability.applied → ⊥ = λ behind. let needed = c.if-needs_barrier.ensures.needed.1 (free, behind) in cc in omega arith;
 }

@@ -1,14 +1,17 @@
-use Rattle.std.proofs.Common.{sym, ◌∙◌, refl}
+use Rattle.std.proofs.Common.{sym, ◌∙◌, refl, subst, []}
 use Rattle.stateful_actor.proofs.CodeCut.{one_over, none_over}
 use Rattle.stateful_actor.specs.Workings.{workings}
+use Rattle.stateful_actor.specs.Moments.{moment}
+use Rattle.stateful_actor.specs.Doing.{IsStep}
 use Rattle.stateful_actor.proofs.Halting.{HasNotFallen-itself, HasNotFallen-further, IsRefused-since, event_at}
-use Rattle.stateful_actor.proofs.Played.{Register-new, HasPlayed-new, Plays-any, Plays-holds, events-push}
+use Rattle.stateful_actor.proofs.Played.{Register-new, HasPlayed-new, Plays-any, Plays-holds, Steps-longer, events-push}
 use Rattle.stateful_actor.proofs.driving.drive.Goals as goal
 
 pub loop-event-init : goal.loop-event-init
 loop-event-init g c = record {
   all = c.into_iter-event-iterator.ensures.into_iter_gives.0;
   events = rw c.new.ensures.items refl;
+  steps = rw c.new.ensures.items refl;
   played = rw c.new.ensures.items (HasPlayed-new _ _ c.args.stateful.failed c.args.stateful.core c.args.stateful.register _ _ c.requires.new);
   safe = record { sound = λ up anchor is. let down = c.requires.new.down in absurd cc; held = λ none. c.requires.held };
   store = refl;
@@ -19,10 +22,16 @@ loop-event-init g c = record {
 
 pub loop-event-preserved : goal.loop-event-preserved
 loop-event-preserved g c =
+    let D = g.A.Databases.DatabaseSet in
+    let w = workings g.A.Block.Block.header g.A.Application.meaning D.kind g.A.Application.runs D.shows in
     let i = c.loop-event.invariant in
+    let was = c.loop-event.driven in
+    let now = c.enter.new.driven in
     record {
       all = one_over c.loop-event.yielded _ _ _ _ i.all c.in-Some.ensures.steps.0;
-      events = events-push c.loop-event.driven.history.items _ c.in-Some.event _ c.in-Ok.ensures.ok i.events;
+      events = events-push c.loop-event.driven.history.items _ c.in-Some.event c.in-Ok.ensures.ok.0 _ c.in-Ok.ensures.ok.1 i.events;
+      steps = Steps-longer w (g.S.BlockStore.stored c.args.store.now) _ (moment w was.stateful.core (D.members was.databases) (D.next was.databases) []) was.history.items now.history.items c.in-Some.event now.stateful.core (D.members now.databases) (D.next now.databases) i.steps (c.in-Ok.ensures.may i.registered)
+          (c.in-Ok.ensures.ok.0, c.in-Ok.ensures.ok.1, subst (λ store. IsStep w (g.S.BlockStore.stored store) c.in-Some.event (moment w was.stateful.core (D.members was.databases) (D.next was.databases) []) (moment w now.stateful.core (D.members now.databases) (D.next now.databases) c.in-Ok.ensures.ok.0)) i.store c.in-Ok.ensures.ok.2);
       played = (rw i.store at c.in-Ok.ensures.played) i.played;
       safe = c.in-Ok.ensures.safe;
       store = c.in-Ok.ensures.store ∙ i.store;
@@ -39,8 +48,8 @@ returns-in-Err-clause-refused g c =
       c.in-Some.event,
       c.next.new.self.rest.items,
       rw c.in-Err.ensures.err (event_at c.loop-event.yielded _ _ _ _ _ i.all c.in-Some.ensures.steps.0 i.events),
-      rw c.in-Err.ensures.err (IsRefused-since w g.met.A.Databases.DatabaseSet.laws (g.S.BlockStore.stored c.args.store.now) g.A.Run.Faulty.count g.A.Hook.Faulty.count c.loop-event.driven.history.items c.in-Some.event _ _ _ _ _ _ i.later
-          ((rw i.store at c.in-Err.ensures.refused) i.played i.registered)),
+      rw c.in-Err.ensures.err (IsRefused-since w g.met.A.Databases.DatabaseSet.laws (g.S.BlockStore.stored c.args.store.now) g.A.Run.Faulty.count g.A.Hook.Faulty.count _ c.loop-event.driven.history.items c.in-Some.event _ _ _ _ _ _ i.later
+          ((rw i.store at c.in-Err.ensures.refused) _ i.steps i.played i.registered)),
     )
 
 pub returns-in-Err-clause-played : goal.returns-in-Err-clause-played

@@ -2,9 +2,10 @@ use Rattle.std.proofs.Common.{◌≡◌, ◌++◌, false, [], map}
 use Rattle.stateful_history.specs.Past.{after_all}
 use Rattle.stateful_register.specs.Register.{RegisterStands}
 use Rattle.stateful_actor.specs.Workings.{workings}
+use Rattle.stateful_actor.specs.Moments.{moment}
 use Rattle.stateful_actor.specs.Causes.{tally}
 use Rattle.stateful_actor.specs.Stepping.{IsSafe}
-use Rattle.stateful_actor.specs.Driving.{HasPlayed, HasNotFallen}
+use Rattle.stateful_actor.specs.Driving.{Steps, HasPlayed, HasNotFallen}
 use Rattle.stateful_actor.proofs.driving.drive.Given as goal
 
 abbrev pub invariant-loop-event : goal.invariant-loop-event
@@ -14,6 +15,7 @@ invariant-loop-event g l =
     record {
       all : l.yielded ++ l.event-iterator.rest.items ≡ l.fn.events.items;
       events : map (λ entry. entry.event) l.driven.history.items ≡ l.yielded;
+      steps : Steps w (g.S.BlockStore.stored l.fn.store) [] (moment w l.fn.stateful.core (D.members l.fn.databases) (D.next l.fn.databases) []) l.driven.history.items (moment w l.driven.stateful.core (D.members l.driven.databases) (D.next l.driven.databases) []);
       played : HasPlayed w (g.S.BlockStore.stored l.fn.store) l.driven.history.items l.driven.stateful.failed l.driven.stateful.core l.driven.stateful.register (D.members l.driven.databases) (D.next l.driven.databases);
       safe : IsSafe D.kind (D.members l.driven.databases) g.A.Block.Block.header l.driven.stateful.failed l.driven.stateful.core;
       store : l.store ≡ l.fn.store;

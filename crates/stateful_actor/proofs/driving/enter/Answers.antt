@@ -1,4 +1,4 @@
-use Rattle.std.proofs.Common.{rules, ◌≡◌, sym, ◌∙◌, ap, refl, arith}
+use Rattle.std.proofs.Common.{rules, ◌≡◌, sym, ◌∙◌, ap, refl}
 use Rattle.stateful_actor.specs.Workings.{workings}
 use Rattle.stateful_actor.specs.Causes.{tally}
 use Rattle.stateful_actor.specs.Stepping.{changes_nothing}
@@ -19,7 +19,7 @@ returns-in_err-reserve-clause-refused g c =
     let w = workings g.A.Block.Block.header g.A.Application.meaning D.kind g.A.Application.runs D.shows in
     let old = c.args.driven.now in
     let counts = tally (g.A.Faulty.count old.stateful.config.application) (D.counted old.databases) in
-    err_to c.from_residual.result _ _ c.from_residual.ensures.1 (λ e is played registered. Refused-early w g.met.A.Databases.DatabaseSet.laws (g.S.BlockStore.stored c.args.store.now) g.A.Run.Faulty.count g.A.Hook.Faulty.count old.history.items c.args.event old.stateful.core old.stateful.register (D.members old.databases) (D.next old.databases) counts old.stateful.failed c.requires.working played registered e is)
+    err_to c.from_residual.result _ _ c.from_residual.ensures.1 (λ e is first steps played registered. Refused-early w g.met.A.Databases.DatabaseSet.laws (g.S.BlockStore.stored c.args.store.now) g.A.Run.Faulty.count g.A.Hook.Faulty.count old.history.items c.args.event old.stateful.core old.stateful.register (D.members old.databases) (D.next old.databases) counts old.stateful.failed c.requires.working played registered first steps e is)
 
 pub returns-in_err-kept-clause-refused : goal.returns-in_err-kept-clause-refused
 returns-in_err-kept-clause-refused g c =
@@ -27,7 +27,7 @@ returns-in_err-kept-clause-refused g c =
     let w = workings g.A.Block.Block.header g.A.Application.meaning D.kind g.A.Application.runs D.shows in
     let old = c.args.driven.now in
     let counts = tally (g.A.Faulty.count old.stateful.config.application) (D.counted old.databases) in
-    err_to c.from_residual-in_err-kept.result _ _ c.from_residual-in_err-kept.ensures.1 (λ e is played registered. Refused-early w g.met.A.Databases.DatabaseSet.laws (g.S.BlockStore.stored c.args.store.now) g.A.Run.Faulty.count g.A.Hook.Faulty.count old.history.items c.args.event old.stateful.core old.stateful.register (D.members old.databases) (D.next old.databases) counts old.stateful.failed c.requires.working played registered e is)
+    err_to c.from_residual-in_err-kept.result _ _ c.from_residual-in_err-kept.ensures.1 (λ e is first steps played registered. Refused-early w g.met.A.Databases.DatabaseSet.laws (g.S.BlockStore.stored c.args.store.now) g.A.Run.Faulty.count g.A.Hook.Faulty.count old.history.items c.args.event old.stateful.core old.stateful.register (D.members old.databases) (D.next old.databases) counts old.stateful.failed c.requires.working played registered first steps e is)
 
 pub returns-in_err-marks-clause-refused : goal.returns-in_err-marks-clause-refused
 returns-in_err-marks-clause-refused g c =
@@ -35,8 +35,8 @@ returns-in_err-marks-clause-refused g c =
     let w = workings g.A.Block.Block.header g.A.Application.meaning D.kind g.A.Application.runs D.shows in
     let old = c.args.driven.now in
     let counts = tally (g.A.Faulty.count old.stateful.config.application) (D.counted old.databases) in
-    err_to c.from_residual-in_err-marks.result _ _ c.from_residual-in_err-marks.ensures.1 (λ e is played registered.
-    Refused-from w g.met.A.Databases.DatabaseSet.laws (g.S.BlockStore.stored c.args.store.now) g.A.Run.Faulty.count g.A.Hook.Faulty.count old.history.items c.args.event old.stateful.core old.stateful.register (D.members old.databases) (D.next old.databases) counts old.stateful.failed c.requires.working played registered
+    err_to c.from_residual-in_err-marks.result _ _ c.from_residual-in_err-marks.ensures.1 (λ e is first steps played registered.
+    Refused-from w g.met.A.Databases.DatabaseSet.laws (g.S.BlockStore.stored c.args.store.now) g.A.Run.Faulty.count g.A.Hook.Faulty.count old.history.items c.args.event old.stateful.core old.stateful.register (D.members old.databases) (D.next old.databases) counts old.stateful.failed c.requires.working played registered first steps
     e c.step.new.self.core (D.members c.step.new.databases) (tally (g.A.Faulty.count c.step.new.self.config.application) (D.counted c.step.new.databases))
     (rw is c.in_err-marks.ensures.cause)
     (λ same. ap D.members (c.in_err-marks.ensures.unchanged (sym (ap changes_nothing is) ∙ same)).1)

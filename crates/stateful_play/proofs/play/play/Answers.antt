@@ -24,6 +24,7 @@ returns c =
       rest = c.in-Err.ensures.refused.1;
       behind = c.in-Err.ensures.refused.2;
       core = halt.driven.stateful.core;
+      first = _;
       start = _;
       now = _;
       refused = c.in-Err.ensures.refused.3;
