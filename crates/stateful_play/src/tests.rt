@@ -91,9 +91,9 @@ fn answers_faults(rt: HostRuntime) -> Result<(), Fail> {
 }
 
 /// Blocks of the scripts below: a chain of a, b and c, and beside it s with n on it. z isn't acceptable, m leads to no
-/// state, d takes two turns, and e has the round of genesis.
+/// state, d takes two turns, w has no operations, e has the round of genesis, and u that of its parent a.
 const BLOCKS: &str =
-    "block a on genesis view 1 mint 1 100;block b on a view 2 mint 2 50;block c on b view 3 mint 3 7;block s on genesis view 2 mint 2 5;block n on s view 3 mint 4 1;block z on genesis view 1 mint 1 0;block m on genesis view 1 move 1 2 5;block d on genesis view 1 mint 1 5 move 1 2 5;block e on genesis view 0 mint 1 1;";
+    "block a on genesis view 1 mint 1 100;block b on a view 2 mint 2 50;block c on b view 3 mint 3 7;block s on genesis view 2 mint 2 5;block n on s view 3 mint 4 1;block z on genesis view 1 mint 1 0;block m on genesis view 1 move 1 2 5;block d on genesis view 1 mint 1 5 move 1 2 5;block w on genesis view 1;block e on genesis view 0 mint 1 1;block u on a view 1 mint 5 1;";
 
 /// What each transcript begins with.
 const OPENED: &str = "#0;opened 0 genesis;";
@@ -167,13 +167,30 @@ fn plays_to_the_end(rt: HostRuntime) -> Result<(), Fail> {
             text: "#1;started 0 candidate a;#2;ended 0 kept;verdict 0 true;#3;started 1 candidate b;#4;ended 1 kept;verdict 1 true;#5;began 2 a;applied 1 a;barrier 0 1;#6;began 3 b;applied 2 b;#7;verdict 4 false;#8;verdict 5 true;#9;durable 0 1;acknowledged 2 1;barrier 1 2;#10;durable 1 2;acknowledged 3 2;database 0 2..3 1=100 2=50;done;",
             status: Status::Done,
         },
-        // A block that isn't acceptable, one that leads to no state, and one that comes too late.
+        // A receipt of a height below the anchor is held with those of its height, whichever block it is for.
         Row {
-            script: "verify z;turn 0;verify m;turn 1;verify e;turn 2;",
-            text: "#1;started 0 candidate z;#2;ended 0 rejected;verdict 0 false;#3;started 1 candidate m;#4;ended 1 rejected;verdict 1 false;#5;started 2 candidate e;#6;ended 2 missed;verdict 2 false;database 0 0..1;done;",
+            script: "verify a;turn 0;verify b;turn 1;finalize a;finalize b;finalize a;finalize s;flushed 0 0;flushed 1 0;",
+            text: "#1;started 0 candidate a;#2;ended 0 kept;verdict 0 true;#3;started 1 candidate b;#4;ended 1 kept;verdict 1 true;#5;began 2 a;applied 1 a;barrier 0 1;#6;began 3 b;applied 2 b;#7;#8;#9;durable 0 1;acknowledged 2 1;acknowledged 4 1;acknowledged 5 1;barrier 1 2;#10;durable 1 2;acknowledged 3 2;database 0 2..3 1=100 2=50;done;",
             status: Status::Done,
         },
-        // A turn for each operation. An account that ends at nothing isn't shown.
+        // A block that isn't acceptable, which is run again, one that leads to no state, and one that comes too late.
+        Row {
+            script: "verify z;turn 0;verify m;turn 1;verify e;turn 2;verify z;turn 3;",
+            text: "#1;started 0 candidate z;#2;ended 0 rejected;verdict 0 false;#3;started 1 candidate m;#4;ended 1 rejected;verdict 1 false;#5;started 2 candidate e;#6;ended 2 missed;verdict 2 false;#7;started 3 candidate z;#8;ended 3 rejected;verdict 3 false;database 0 0..1;done;",
+            status: Status::Done,
+        },
+        // A child whose round isn't later than its parent's is true until its parent is final.
+        Row {
+            script: "verify a;turn 0;verify u;turn 1;finalize a;verify u;turn 2;",
+            text: "#1;started 0 candidate a;#2;ended 0 kept;verdict 0 true;#3;started 1 candidate u;#4;ended 1 kept;verdict 1 true;#5;began 2 a;applied 1 a;barrier 0 1;#6;started 2 candidate u;#7;ended 2 missed;verdict 3 false;database 0 1..2 1=100;done;",
+            status: Status::Done,
+        },
+        // A turn for each operation, and one where there is none. An account that ends at nothing isn't shown.
+        Row {
+            script: "verify w;turn 0;finalize w;flushed 0 0;",
+            text: "#1;started 0 candidate w;#2;ended 0 kept;verdict 0 true;#3;began 1 w;applied 1 w;barrier 0 1;#4;durable 0 1;acknowledged 1 1;database 0 1..2;done;",
+            status: Status::Done,
+        },
         Row {
             script: "verify d;turn 0;turn 0;finalize d;flushed 0 0;",
             text: "#1;started 0 candidate d;#2;#3;ended 0 kept;verdict 0 true;#4;began 1 d;applied 1 d;barrier 0 1;#5;durable 0 1;acknowledged 1 1;database 0 1..2 2=5;done;",
@@ -206,11 +223,21 @@ fn halts_at_finalizations(rt: HostRuntime) -> Result<(), Fail> {
             text: "#1;started 0 candidate a;#2;ended 0 kept;verdict 0 true;#3;began 1 a;applied 1 a;barrier 0 1;database 0 1..2 1=100;halted 4 ConflictAtAnchor;",
             status: Status::Halted { at: 4 },
         },
-        // The height is looked at before the run that goes on.
+        // What the anchor says comes before the run that goes on.
         Row {
             script: "verify a;finalize c;",
             text: "#1;started 0 candidate a;database 0 0..1;halted 2 SkippedHeight;",
             status: Status::Halted { at: 2 },
+        },
+        Row {
+            script: "verify a;turn 0;finalize a;verify b;finalize n;",
+            text: "#1;started 0 candidate a;#2;ended 0 kept;verdict 0 true;#3;began 1 a;applied 1 a;barrier 0 1;#4;started 1 candidate b;database 0 1..2 1=100;halted 5 NotExtending;",
+            status: Status::Halted { at: 5 },
+        },
+        Row {
+            script: "verify a;turn 0;finalize a;verify b;finalize s;",
+            text: "#1;started 0 candidate a;#2;ended 0 kept;verdict 0 true;#3;began 1 a;applied 1 a;barrier 0 1;#4;started 1 candidate b;database 0 1..2 1=100;halted 5 ConflictAtAnchor;",
+            status: Status::Halted { at: 5 },
         },
     ];
     plays_rows(rt.alloc(), &rt, &rows)
@@ -234,6 +261,12 @@ fn halts_at_work_that_is_not_live(rt: HostRuntime) -> Result<(), Fail> {
             text: "database 0 0..1;halted 1 BadEvent;",
             status: Status::Halted { at: 1 },
         },
+        // A barrier is flushed once.
+        Row {
+            script: "verify a;turn 0;finalize a;flushed 0 0;flushed 0 0;",
+            text: "#1;started 0 candidate a;#2;ended 0 kept;verdict 0 true;#3;began 1 a;applied 1 a;barrier 0 1;#4;durable 0 1;acknowledged 1 1;database 0 1..2 1=100;halted 5 BadEvent;",
+            status: Status::Halted { at: 5 },
+        },
         Row {
             script: "verify a;turn 0;finalize a;flushed 0 1;",
             text: "#1;started 0 candidate a;#2;ended 0 kept;verdict 0 true;#3;began 1 a;applied 1 a;barrier 0 1;database 0 1..2 1=100;halted 4 BadEvent;",
@@ -251,6 +284,12 @@ fn halts_at_forms_that_are_not_done(rt: HostRuntime) -> Result<(), Fail> {
             script: "verify b;",
             text: "database 0 0..1;halted 1 NotYet;",
             status: Status::Halted { at: 1 },
+        },
+        // A sibling of the final block is gone, and what stood on it.
+        Row {
+            script: "verify s;turn 0;verify n;turn 1;verify a;turn 2;finalize a;verify n;",
+            text: "#1;started 0 candidate s;#2;ended 0 kept;verdict 0 true;#3;started 1 candidate n;#4;ended 1 kept;verdict 1 true;#5;started 2 candidate a;#6;ended 2 kept;verdict 2 true;#7;began 3 a;applied 1 a;barrier 0 1;database 0 1..2 1=100;halted 8 NotYet;",
+            status: Status::Halted { at: 8 },
         },
         // The block's states aren't at hand, since it wasn't run, or wasn't acceptable.
         Row {
