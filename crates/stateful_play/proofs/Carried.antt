@@ -19,7 +19,7 @@ use Rattle.stateful_play.specs.Events.{BankEvent, events_of}
 use Rattle.stateful_play.specs.Store.{store_of}
 use Rattle.stateful_play.specs.Shown.{member_of}
 use Rattle.stateful_play.proofs.Honest.{honest_play}
-use Rattle.stateful_play.specs.Play.{IsPlayOf, KeepRules, AreTaken, IsHaltedBy}
+use Rattle.stateful_play.specs.Play.{IsPlayOf, KeepRules, AreTaken, AreSteps, IsHaltedBy}
 
 -- a play in the plain world
 abbrev pub in_plain : Vec (Entry BankBlock Round Ask) Global → Databases → Option Halted → Played
@@ -29,16 +29,18 @@ pub carried : (script : Script) (made : List Planned) (labels : List Label) (ent
     → ArePlanned script.blocks made → labels ≡ labels_of script.names made
     → ((h : ℕ) → stored h ≡ store_of made script.events h) → events ≡ events_of made script.events
     → AreTaken «end» events (map (λ entry. entry.event) entries.items)
+    → AreSteps stored entries.items
     → KeepRules stored «end» entries.items (member_of databases)
     → IfSome «end» (IsHaltedBy stored events entries.items (member_of databases))
     → IsPlayOf script labels (in_plain entries databases «end»)
-carried script made labels entries databases «end» stored events planned labelled same are taken rules halted = record {
+carried script made labels entries databases «end» stored events planned labelled same are taken steps rules halted = record {
   blocks = made;
   planned = planned;
   labelled = labelled;
   world = refl;
   events = rw are at taken;
   honest = honest_play (store_of made script.events) script.blocks made script.events «end» entries.items planned (rw are at taken);
+  steps = subst (λ s. AreSteps s entries.items) (fun_ext same) steps;
   rules = subst (λ s. KeepRules s «end» entries.items (member_of databases)) (fun_ext same) rules;
   refused = subst (λ s. IfSome «end» (IsHaltedBy s (events_of made script.events) entries.items (member_of databases))) (fun_ext same) (rw are at halted);
 }

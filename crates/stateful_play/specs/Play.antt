@@ -1,5 +1,5 @@
 -- What was played of a script.
-use Rattle.std.specs.Prelude.{◌≡◌, ◌≢◌, ◌<◌, ℕ, List, [], ◌∷◌, ◌++◌, Option, Some, None, IfSome, length, map, take}
+use Rattle.std.specs.Prelude.{◌≡◌, ◌≢◌, ◌<◌, ℕ, Bool, List, [], ◌∷◌, ◌++◌, Option, Some, None, IfSome, length, map, take}
 use Rattle.stateful_types.specs.Names.{Named}
 use Rattle.stateful_types.specs.declared.round.Round.{Round}
 use Rattle.stateful_db.specs.Member.{Member}
@@ -20,11 +20,13 @@ use Rattle.stateful_history.specs.Honest.{IsHonest}
 use Rattle.stateful_history.specs.Met.{TrueNames}
 use Rattle.stateful_history.specs.Holding.{Holds}
 use Rattle.stateful_history.specs.declared.entry.Entry.{Entry}
+use Rattle.stateful_register.specs.declared.register.Register.{Register}
 use Rattle.stateful_actor.specs.Workings.{Workings, workings, setting}
 use Rattle.stateful_actor.specs.Moments.{Moment}
 use Rattle.stateful_actor.specs.Entering.{Plays}
 use Rattle.stateful_actor.specs.Causes.{Tally}
-use Rattle.stateful_actor.specs.Driving.{IsRefused}
+use Rattle.stateful_actor.specs.Stepping.{IsNew}
+use Rattle.stateful_actor.specs.Driving.{Steps, IsRefused}
 use Rattle.stateful_actor.specs.declared.tables.Core.{Core}
 use Rattle.stateful_actor.specs.declared.driving.Halted.{Halted}
 use Rattle.stateful_actor.specs.declared.error.StepError.TheVariants.{OutOfMemory}
@@ -57,6 +59,15 @@ module _ (stored : ℕ → Option (Named BankBlock)) where
   abbrev pub KeepRules : Option Halted → List (Entry BankBlock Round Ask) → Member Whole → Type 0
   KeepRules «end» entries m = TrueNames (setting bank stored) (after_all [] entries) → Plays bank stored initial [] entries (EndsWell «end» entries m)
 
+-- Each entry is one step of the machine, from a new one on.
+pub record AreSteps (stored : ℕ → Option (Named BankBlock)) (entries : List (Entry BankBlock Round Ask)) : Type 0 where
+  pub failed : Bool
+  pub register : Register
+  pub first : Moment bank BankHook
+  pub last : Moment bank BankHook
+  pub new : IsNew failed first.core register
+  pub steps : Steps bank stored [] first entries last
+
 -- The event behind those that were taken in was refused with this error, and the machine says why. Counts have not fallen
 -- since the start.
 pub record IsHaltedBy (stored : ℕ → Option (Named BankBlock)) (events : List BankEvent) (entries : List (Entry BankBlock Round Ask)) (m : Member Whole) (halted : Halted) : Type 0 where
@@ -70,7 +81,7 @@ pub record IsHaltedBy (stored : ℕ → Option (Named BankBlock)) (events : List
   pub refused : IsRefused bank stored run_faults hook_faults first entries event halted.error core m start now
 
 -- This was played of the script, whose blocks go by these labels: the events were taken in, in each ancestry each block
--- is the parent of the one before it, the rules are kept, and an event that was refused has its cause.
+-- is the parent of the one before it, each entry is a step of the machine, the rules are kept, and an event that was refused has its cause.
 pub record IsPlayOf (script : Script) (labels : List Label) (p : Played) : Type 0 where
   pub blocks : List Planned
   pub planned : ArePlanned script.blocks blocks
@@ -78,5 +89,6 @@ pub record IsPlayOf (script : Script) (labels : List Label) (p : Played) : Type 
   pub world : p.world ≡ world.Plain
   pub events : AreTaken p.«end» (events_of blocks script.events) (map (λ entry. entry.event) (entries_of p.history))
   pub honest : IsHonest (setting bank (store_of blocks script.events)) (after_all [] (entries_of p.history))
+  pub steps : AreSteps (store_of blocks script.events) (entries_of p.history)
   pub rules : KeepRules (store_of blocks script.events) p.«end» (entries_of p.history) (member_of p.databases)
   pub refused : IfSome p.«end» (IsHaltedBy (store_of blocks script.events) (events_of blocks script.events) (entries_of p.history) (member_of p.databases))
