@@ -49,25 +49,6 @@ module _ {B C I : Type 0} (header : Header B) where
   WasApplied-anchor (Made (Applied b) ∷ q) anchor is some = let same : anchor_by header b ≡ anchor = cc in inl (ap (λ (a : Anchor). a.height.0) same)
   WasApplied-anchor (item ∷ q) anchor is some = WasApplied-anchor q anchor is some
 
--- the machine with another durability, barrier or databases, where the anchor, the cache, the runs and the numbers are the same
-module _ {B C I R U H : Type 0} (w : Workings B R U) (stored : ℕ → Option (Named B)) (base : w.States) (q : Past B C I) where
-  -- the cached and live work, and the anchor, don't speak of barriers
-  pub IsUp-other : (anchor : Anchor) (old new : Core B R H U) (m n : w.kind.Members) (next : w.Ids) → w.kind.point n ≡ w.kind.point m → new.cache ≡ old.cache → new.runs.items ≡ old.runs.items → new.front ≡ old.front
-      → (u : IsUp w stored base q anchor old m next) → Keeping (setting w stored) w.kind base q n u.first u.origin → BarrierStands w.kind w.header q n u.first u.origin new.durability new.barrier → IsUp w stored base q anchor new n next
-  IsUp-other anchor old new m n next here cache runs front u keeping barriers = record {
-    first = u.first;
-    origin = u.origin;
-    point = u.point;
-    here = here ∙ u.here;
-    anchored = u.anchored;
-    drawn = u.drawn;
-    keeping = keeping;
-    barriers = barriers;
-    runs = rw runs u.runs;
-    in_table = λ j live. rw (runs, front) (u.in_table j live);
-    executes = rw (cache, runs) u.executes;
-  }
-
 -- marks of barriers and receipts
 module _ {B C I R U : Type 0} (w : Workings B R U) (stored : ℕ → Option (Named B)) (q : Past B C I) where
   done-IsCalm : (k : ℕ) (height : Height) → IsCalm (setting w stored) q (Made (BarrierDone k height true))

@@ -16,29 +16,15 @@ use Rattle.stateful_actor.specs.Finalizing.{BeginsIfNone, Observes}
 use Rattle.stateful_db.specs.Databases.{Databases}
 use Rattle.stateful_types.specs.Names.{Header, Named}
 use Rattle.stateful_actor.specs.Stands.{Sound, Works, Stands}
-use Rattle.stateful_actor.specs.Stepping.{changes_nothing, is_restart, is_refusal}
+use Rattle.stateful_actor.specs.Stepping.{is_restart}
 use Rattle.stateful_actor.specs.Tasks.{RefusesAt}
 use Rattle.stateful_history.specs.declared.event.Event.{Event}
 use Rattle.stateful_history.specs.declared.event.Event.TheVariants.{Restart}
 use Rattle.stateful_actor.specs.declared.error.StepError.TheVariants.{NotYet}
-use Rattle.stateful_actor.specs.Errors.{error_of}
 use Rattle.stateful_actor.specs.Doing.{IsDoable, Does}
-use Rattle.stateful_actor.specs.declared.error.Fault.{Fault}
-use Rattle.stateful_actor.specs.declared.error.Fault.TheVariants.{Database, TargetMismatch, Application, MissingBlock, Failed, Exhausted, DatabaseFault, OutOfMemory}
 use Rattle.stateful_actor.specs.declared.tables.Core.{Core}
 use Rattle.stateful_actor.specs.declared.task.Task.{Task}
 use Rattle.stateful_actor.specs.declared.task.Task.TheVariants as task
-
--- a fault isn't a refusal that changes nothing
-pub fault-changes : (fault : Fault) → changes_nothing (error_of fault) ≡ false
-fault-changes (Database index) = refl
-fault-changes (TargetMismatch index expected recovered) = refl
-fault-changes Application = refl
-fault-changes (MissingBlock height) = refl
-fault-changes Failed = refl
-fault-changes Exhausted = refl
-fault-changes (DatabaseFault index call) = refl
-fault-changes OutOfMemory = refl
 
 module _ {B R U H : Type 0} (w : Workings B R U) (old new : Moment w H) where
   completed-anchor : (completed : Core B R H U) (done : List (Mark B)) → CompletesBarrier old.core completed old.marks done ⊎ ((completed ≡ old.core) × (done ≡ old.marks)) → completed.anchor ≡ old.core.anchor
@@ -144,14 +130,3 @@ pub restart-refused : {B C I R U H : Type 0} (header : Header B) (core : Core B 
 restart-refused header core stored None event up restart = absurd (up refl)
 restart-refused header core stored (Some anchor) (Restart floor keep) up restart = refl
 restart-refused header core stored (Some anchor) event up restart = cc
-
--- a fault is no refusal
-pub fault-refuses : (fault : Fault) → is_refusal (error_of fault) ≡ false
-fault-refuses (Database index) = refl
-fault-refuses (TargetMismatch index expected recovered) = refl
-fault-refuses Application = refl
-fault-refuses (MissingBlock height) = refl
-fault-refuses Failed = refl
-fault-refuses Exhausted = refl
-fault-refuses (DatabaseFault index call) = refl
-fault-refuses OutOfMemory = refl
