@@ -13,6 +13,7 @@ use Rattle.stateful_text.specs.declared.shown.Label.{Label}
 use Rattle.stateful_play.specs.declared.plan.Planned.{Planned}
 use Rattle.stateful_play.specs.declared.play.Databases.{Databases}
 use Rattle.stateful_play.specs.declared.play.History.TheVariants as history
+use Rattle.stateful_play.specs.declared.play.Machine.{Machine}
 use Rattle.stateful_play.specs.declared.play.Played.{Played}
 use Rattle.stateful_play.specs.Plan.{ArePlanned, labels_of}
 use Rattle.stateful_play.specs.Events.{BankEvent, events_of}
@@ -22,18 +23,18 @@ use Rattle.stateful_play.proofs.Honest.{honest_play}
 use Rattle.stateful_play.specs.Play.{IsPlayOf, KeepRules, AreTaken, AreSteps, IsHaltedBy}
 
 -- a play in the plain world
-abbrev pub in_plain : Vec (Entry BankBlock Round Ask) Global → Databases → Option Halted → Played
-in_plain entries databases «end» = record { world = world.Plain; history = history.Plain entries; databases = databases; «end» = «end» }
+abbrev pub in_plain : Vec (Entry BankBlock Round Ask) Global → Machine → Databases → Option Halted → Played
+in_plain entries machine databases «end» = record { world = world.Plain; history = history.Plain entries; machine = machine; databases = databases; «end» = «end» }
 
-pub carried : (script : Script) (made : List Planned) (labels : List Label) (entries : Vec (Entry BankBlock Round Ask) Global) (databases : Databases) («end» : Option Halted) (stored : ℕ → Option (Named BankBlock)) (events : List BankEvent)
+pub carried : (script : Script) (made : List Planned) (labels : List Label) (entries : Vec (Entry BankBlock Round Ask) Global) (machine : Machine) (databases : Databases) («end» : Option Halted) (stored : ℕ → Option (Named BankBlock)) (events : List BankEvent)
     → ArePlanned script.blocks made → labels ≡ labels_of script.names made
     → ((h : ℕ) → stored h ≡ store_of made script.events h) → events ≡ events_of made script.events
     → AreTaken «end» events (map (λ entry. entry.event) entries.items)
     → AreSteps stored entries.items
     → KeepRules stored «end» entries.items (member_of databases)
-    → IfSome «end» (IsHaltedBy stored events entries.items (member_of databases))
-    → IsPlayOf script labels (in_plain entries databases «end»)
-carried script made labels entries databases «end» stored events planned labelled same are taken steps rules halted = record {
+    → IfSome «end» (IsHaltedBy stored events entries.items machine databases)
+    → IsPlayOf script labels (in_plain entries machine databases «end»)
+carried script made labels entries machine databases «end» stored events planned labelled same are taken steps rules halted = record {
   blocks = made;
   planned = planned;
   labelled = labelled;
@@ -42,5 +43,5 @@ carried script made labels entries databases «end» stored events planned label
   honest = honest_play (store_of made script.events) script.blocks made script.events «end» entries.items planned (rw are at taken);
   steps = subst (λ s. AreSteps s entries.items) (fun_ext same) steps;
   rules = subst (λ s. KeepRules s «end» entries.items (member_of databases)) (fun_ext same) rules;
-  refused = subst (λ s. IfSome «end» (IsHaltedBy s (events_of made script.events) entries.items (member_of databases))) (fun_ext same) (rw are at halted);
+  refused = subst (λ s. IfSome «end» (IsHaltedBy s (events_of made script.events) entries.items machine databases)) (fun_ext same) (rw are at halted);
 }

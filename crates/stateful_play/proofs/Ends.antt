@@ -5,7 +5,7 @@ use Rattle.stateful_types.proofs.Known.{appends_none}
 use Rattle.stateful_actor.specs.declared.driving.Halted.{Halted}
 use Rattle.stateful_play.specs.declared.play.Played.{Played}
 use Rattle.stateful_play.specs.declared.status.Status.{Status}
-use Rattle.stateful_play.specs.declared.status.Status.TheVariants.{Done, WriteFault, NoMemory}
+use Rattle.stateful_play.specs.declared.status.Status.TheVariants.{Done, Usage, ReadFault, WriteFault, NoMemory}
 use Rattle.stateful_play.specs.declared.status.Status.TheVariants as status
 use Rattle.stateful_script.specs.declared.script.Script.{Script}
 use Rattle.stateful_text.specs.declared.shown.Label.{Label}
@@ -35,6 +35,14 @@ not_cut (Some halted) h = cc
 not_wanting : (e : Option Halted) → NoMemory ≡ status_by e → ⊥
 not_wanting None h = cc
 not_wanting (Some halted) h = cc
+
+not_usage : (e : Option Halted) → Usage ≡ status_by e → ⊥
+not_usage None h = cc
+not_usage (Some halted) h = cc
+
+not_read_fault : (e : Option Halted) → ReadFault ≡ status_by e → ⊥
+not_read_fault None h = cc
+not_read_fault (Some halted) h = cc
 
 -- A play's transcript was written, or not all of it: this was answered, and this is told of the play.
 pub record WasTold (left left_after held held_after : Known) (rose : Type 0) (answer : Status) (played : Option Played) : Type 0 where
@@ -84,6 +92,15 @@ module _ (left left_after held held_after : Known) (rose : Type 0) (answer : Sta
   told_halted at e =
       let done = written rose held held_after w.text (status_by w.p.«end») answer w.writes (λ f. cc) (λ m. cc) in
       rw (is_told (λ m. cc)) (end_halted w.p.«end» at (sym e ∙ done.0), (w.text, w.play, done.1))
+
+  status_is : answer ≢ WriteFault → answer ≢ NoMemory → answer ≡ status_by w.p.«end»
+  status_is f m = (written rose held held_after w.text (status_by w.p.«end») answer w.writes f m).0
+
+  pub never_usage : answer ≡ Usage → ⊥
+  never_usage e = not_usage w.p.«end» (sym e ∙ status_is (λ f. cc) (λ m. cc))
+
+  pub never_read_fault : answer ≡ ReadFault → ⊥
+  never_read_fault e = not_read_fault w.p.«end» (sym e ∙ status_is (λ f. cc) (λ m. cc))
 
   pub told_cut : (play : Bool) → play ≡ true → answer ≡ WriteFault → rose × ((text : List ℕ) × AsksFor left left_after play played text × HoldsPrefix held held_after text)
   told_cut play asked e =

@@ -13,7 +13,6 @@ use Rattle.stateful_plain.specs.declared.batch.PlainMerkleized.{PlainMerkleized}
 use Rattle.stateful_plain_bank.specs.Stepped.{bank_meaning}
 use Rattle.stateful_plain_bank.specs.Runs.{RunsOn, run_faults}
 use Rattle.stateful_plain_bank.specs.Hooks.{hook_faults}
-use Rattle.stateful_plain_bank.specs.declared.hook.BankHook.{BankHook}
 use Rattle.stateful_plain_bank.specs.declared.run.BankRun.{BankRun}
 use Rattle.stateful_history.specs.Past.{after_all}
 use Rattle.stateful_history.specs.Honest.{IsHonest}
@@ -24,21 +23,22 @@ use Rattle.stateful_register.specs.declared.register.Register.{Register}
 use Rattle.stateful_actor.specs.Workings.{Workings, workings, setting}
 use Rattle.stateful_actor.specs.Moments.{Moment}
 use Rattle.stateful_actor.specs.Entering.{Plays}
-use Rattle.stateful_actor.specs.Causes.{Tally}
+use Rattle.stateful_actor.specs.Causes.{tally}
 use Rattle.stateful_actor.specs.Stepping.{IsNew}
 use Rattle.stateful_actor.specs.Driving.{Steps, IsRefused}
-use Rattle.stateful_actor.specs.declared.tables.Core.{Core}
 use Rattle.stateful_actor.specs.declared.driving.Halted.{Halted}
 use Rattle.stateful_actor.specs.declared.error.StepError.TheVariants.{OutOfMemory}
 use Rattle.stateful_script.specs.declared.script.Script.{Script}
 use Rattle.stateful_script.specs.declared.script.World.TheVariants as world
 use Rattle.stateful_text.specs.declared.shown.Label.{Label}
 use Rattle.stateful_play.specs.declared.plan.Planned.{Planned}
+use Rattle.stateful_play.specs.declared.play.Databases.{Databases}
+use Rattle.stateful_play.specs.declared.play.Machine.{Machine}
 use Rattle.stateful_play.specs.declared.play.Played.{Played}
 use Rattle.stateful_play.specs.Plan.{ArePlanned, labels_of}
 use Rattle.stateful_play.specs.Events.{BankEvent, events_of}
 use Rattle.stateful_play.specs.Store.{store_of}
-use Rattle.stateful_play.specs.Shown.{entries_of, member_of}
+use Rattle.stateful_play.specs.Shown.{entries_of, core_of, member_of, failed_of}
 
 -- the bank over one database that is kept whole, as the definitions of the machine take it
 abbrev pub bank : Workings BankBlock BankRun PlainMerkleized
@@ -68,20 +68,18 @@ pub record AreSteps (stored : ℕ → Option (Named BankBlock)) (entries : List 
   pub new : IsNew failed first.core register
   pub steps : Steps bank stored [] first entries last
 
--- The event behind those that were taken in was refused with this error, and the machine says why. Counts have not fallen
--- since the start.
-pub record IsHaltedBy (stored : ℕ → Option (Named BankBlock)) (events : List BankEvent) (entries : List (Entry BankBlock Round Ask)) (m : Member Whole) (halted : Halted) : Type 0 where
+-- The event behind those that were taken in was refused with this error, and the machine says why. The bank itself never
+-- fails, and no database had failed before the start.
+pub record IsHaltedBy (stored : ℕ → Option (Named BankBlock)) (events : List BankEvent) (entries : List (Entry BankBlock Round Ask)) (machine : Machine) (d : Databases) (halted : Halted) : Type 0 where
   pub event : BankEvent
   pub rest : List BankEvent
   pub behind : events ≡ map (λ entry. entry.event) entries ++ event ∷ rest
-  pub core : Core BankBlock BankRun BankHook PlainMerkleized
   pub first : Moment bank BankHook
-  pub start : Tally
-  pub now : Tally
-  pub refused : IsRefused bank stored run_faults hook_faults first entries event halted.error core m start now
+  pub refused : IsRefused bank stored run_faults hook_faults first entries event halted.error (core_of machine) (member_of d) (tally 0 (λ i. 0)) (tally 0 (failed_of d))
 
 -- This was played of the script, whose blocks go by these labels: the events were taken in, in each ancestry each block
--- is the parent of the one before it, each entry is a step of the machine, the rules are kept, and an event that was refused has its cause.
+-- is the parent of the one before it, each entry is a step of the machine, the rules are kept, and an event that was
+-- refused has its cause.
 pub record IsPlayOf (script : Script) (labels : List Label) (p : Played) : Type 0 where
   pub blocks : List Planned
   pub planned : ArePlanned script.blocks blocks
@@ -91,4 +89,4 @@ pub record IsPlayOf (script : Script) (labels : List Label) (p : Played) : Type 
   pub honest : IsHonest (setting bank (store_of blocks script.events)) (after_all [] (entries_of p.history))
   pub steps : AreSteps (store_of blocks script.events) (entries_of p.history)
   pub rules : KeepRules (store_of blocks script.events) p.«end» (entries_of p.history) (member_of p.databases)
-  pub refused : IfSome p.«end» (IsHaltedBy (store_of blocks script.events) (events_of blocks script.events) (entries_of p.history) (member_of p.databases))
+  pub refused : IfSome p.«end» (IsHaltedBy (store_of blocks script.events) (events_of blocks script.events) (entries_of p.history) p.machine p.databases)

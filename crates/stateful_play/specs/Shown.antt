@@ -7,7 +7,11 @@ use Rattle.stateful_bank.specs.declared.ask.Ask.{Ask}
 use Rattle.stateful_bank.specs.declared.block.BankBlock.{BankBlock}
 use Rattle.stateful_plain.specs.Whole.{Whole}
 use Rattle.stateful_plain.specs.Stored.{standing_of, disk_of}
+use Rattle.stateful_plain.specs.declared.batch.PlainMerkleized.{PlainMerkleized}
+use Rattle.stateful_plain_bank.specs.declared.hook.BankHook.{BankHook}
+use Rattle.stateful_plain_bank.specs.declared.run.BankRun.{BankRun}
 use Rattle.stateful_history.specs.declared.entry.Entry.{Entry}
+use Rattle.stateful_actor.specs.declared.tables.Core.{Core}
 use Rattle.stateful_actor.specs.declared.error.StepError.{StepError}
 use Rattle.stateful_actor.specs.declared.error.StepError.TheVariants.{Database, TargetMismatch, SkippedHeight, NotExtending, ConflictAtAnchor, Application, MissingBlock, BadEvent, Failed, Exhausted, DatabaseFault, NotYet, OutOfMemory}
 use Rattle.stateful_actor.specs.declared.driving.Halted.{Halted}
@@ -19,6 +23,8 @@ use Rattle.stateful_play.specs.declared.play.Databases.{Databases}
 use Rattle.stateful_play.specs.declared.play.Databases.TheVariants as databases
 use Rattle.stateful_play.specs.declared.play.History.{History}
 use Rattle.stateful_play.specs.declared.play.History.TheVariants as history
+use Rattle.stateful_play.specs.declared.play.Machine.{Machine}
+use Rattle.stateful_play.specs.declared.play.Machine.TheVariants as machine
 use Rattle.stateful_play.specs.declared.play.Played.{Played}
 
 -- the entries of a play
@@ -33,6 +39,19 @@ member_of (databases.Plain d) = elim d [
   | held.Lost medium ↦ broken (disk_of medium)
   | held.Away ↦ gone
 ]
+
+-- how often the database has failed
+abbrev pub failed_of : Databases → ℕ → ℕ
+failed_of (databases.Plain d) i = elim d [
+  | held.Here db ↦ db.medium.calls.faults
+  | held.Closed medium ↦ medium.calls.faults
+  | held.Lost medium ↦ medium.calls.faults
+  | held.Away ↦ 0
+]
+
+-- the tables of the machine of a play
+abbrev pub core_of : Machine → Core BankBlock BankRun BankHook PlainMerkleized
+core_of (machine.Plain stateful) = stateful.core
 
 -- the range and the balances of the newest state, or where the database is
 abbrev pub shown_of : Member Whole → Shown

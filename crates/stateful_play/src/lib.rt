@@ -10,7 +10,7 @@ mod store;
 mod text;
 mod top;
 
-pub use play::{Databases, History, Played};
+pub use play::{Databases, History, Machine, Played};
 pub use stateful_script::World;
 pub use status::{Outcome, Status};
 pub use top::run;

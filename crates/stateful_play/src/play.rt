@@ -1,6 +1,6 @@
 //! A script's play.
 
-ghost use Rattle.std.specs.Prelude.{◌≡◌, ◌↔◌, IfOk, IsTrue, length};
+ghost use Rattle.std.specs.Prelude.{◌≡◌, ◌↔◌, ℕ, IfOk, IsTrue, length};
 ghost use Rattle.stateful_script.specs.Laws.{IsPlan};
 ghost use Rattle.stateful_actor.specs.Stepping.{IsNew};
 ghost use Rattle.stateful_play.specs.Plan.{labels_of};
@@ -29,17 +29,24 @@ pub enum History {
     Plain(Vec<Entry<BankBlock, Round, Ask>>),
 }
 
+/// The machine of a play, by its world.
+#[derive(Drop)]
+pub enum Machine {
+    Plain(Stateful<Bank>),
+}
+
 /// The databases of a play, by its world.
 #[derive(Drop)]
 pub enum Databases {
     Plain(Held<Plain>),
 }
 
-/// What was played: the entries, the databases as they are after them, and the refused event if one was.
+/// What was played: the entries, the machine and the databases as they are after them, and the refused event if one was.
 #[derive(Drop)]
 pub struct Played {
     pub world: World,
     pub history: History,
+    pub machine: Machine,
     pub databases: Databases,
     pub end: Option<Halted>,
 }
@@ -74,7 +81,7 @@ fn labels(alloc: Global, names: &[Name], planned: &[Planned]) -> Result<Vec<Labe
 }
 
 /// A machine that is down.
-fn machine(alloc: Global) -> Result<Stateful<Bank>, OutOfMemory>
+fn new_machine(alloc: Global) -> Result<Stateful<Bank>, OutOfMemory>
     ensures { IfOk result (λ stateful. IsNew stateful.failed stateful.core stateful.register) }
 {
     let config = Config {
@@ -90,20 +97,22 @@ fn machine(alloc: Global) -> Result<Stateful<Bank>, OutOfMemory>
     }
 }
 
-/// A database that is closed, on an empty medium.
+/// A database that is closed, on an empty medium that hasn't failed.
 fn closed(alloc: Global) -> Held<Plain>
-    ensures { ⟦<Held<Plain> as DatabaseSet>⟧.kind.Held (⟦<Held<Plain> as DatabaseSet>⟧.members result) }
+    ensures held { ⟦<Held<Plain> as DatabaseSet>⟧.kind.Held (⟦<Held<Plain> as DatabaseSet>⟧.members result) }
+    ensures counts { (i : ℕ) → ⟦<Held<Plain> as DatabaseSet>⟧.counted result i ≡ 0 }
 {
     Held::Closed(PlainMedium::empty(alloc, Vec::new(alloc)))
 }
 
 /// What came of the events, and the refused one if one was.
 fn in_plain(driven: Driven<Bank>, end: Option<Halted>) -> Played
-    ensures { result ≡ record { world = World.Plain; history = History.Plain driven.history; databases = Databases.Plain driven.databases; end = end } }
+    ensures { result ≡ record { world = World.Plain; history = History.Plain driven.history; machine = Machine.Plain driven.stateful; databases = Databases.Plain driven.databases; end = end } }
 {
     Played {
         world: World::Plain,
         history: History::Plain(driven.history),
+        machine: Machine::Plain(driven.stateful),
         databases: Databases::Plain(driven.databases),
         end,
     }
@@ -128,7 +137,7 @@ pub fn play(alloc: Global, script: &Script) -> Result<Told, OutOfMemory>
     let labels = labels(alloc, script.names.as_slice(), planned.as_slice())?;
     let mut store = store_of(alloc, planned.as_slice(), script.events.as_slice())?;
     let events = events(alloc, planned.as_slice(), script.events.as_slice())?;
-    let stateful = machine(alloc)?;
+    let stateful = new_machine(alloc)?;
     match drive(alloc, stateful, closed(alloc), &mut store, events) {
         Ok(driven) => Ok(Told {
             labels,
