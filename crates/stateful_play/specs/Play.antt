@@ -13,6 +13,7 @@ use Rattle.stateful_plain.specs.declared.batch.PlainMerkleized.{PlainMerkleized}
 use Rattle.stateful_plain_bank.specs.Stepped.{bank_meaning}
 use Rattle.stateful_plain_bank.specs.Runs.{RunsOn, run_faults}
 use Rattle.stateful_plain_bank.specs.Hooks.{hook_faults}
+use Rattle.stateful_plain_bank.specs.declared.hook.BankHook.{BankHook}
 use Rattle.stateful_plain_bank.specs.declared.run.BankRun.{BankRun}
 use Rattle.stateful_history.specs.Past.{after_all}
 use Rattle.stateful_history.specs.Honest.{IsHonest}
