@@ -1,5 +1,5 @@
 -- What was played of a script.
-use Rattle.std.specs.Prelude.{◌≡◌, ◌≢◌, ◌<◌, ℕ, Bool, List, [], ◌∷◌, ◌++◌, Option, Some, None, IfSome, length, map, take}
+use Rattle.std.specs.Prelude.{◌≡◌, ◌≢◌, ◌<◌, ℕ, List, [], ◌∷◌, ◌++◌, Option, Some, None, IfSome, length, map, take}
 use Rattle.stateful_types.specs.Names.{Named}
 use Rattle.stateful_types.specs.declared.round.Round.{Round}
 use Rattle.stateful_db.specs.Member.{Member}
@@ -20,12 +20,10 @@ use Rattle.stateful_history.specs.Honest.{IsHonest}
 use Rattle.stateful_history.specs.Met.{TrueNames}
 use Rattle.stateful_history.specs.Holding.{Holds}
 use Rattle.stateful_history.specs.declared.entry.Entry.{Entry}
-use Rattle.stateful_register.specs.declared.register.Register.{Register}
 use Rattle.stateful_actor.specs.Workings.{Workings, workings, setting}
 use Rattle.stateful_actor.specs.Moments.{Moment}
 use Rattle.stateful_actor.specs.Entering.{Plays}
 use Rattle.stateful_actor.specs.Causes.{tally}
-use Rattle.stateful_actor.specs.Stepping.{IsNew}
 use Rattle.stateful_actor.specs.Driving.{Steps, IsRefused}
 use Rattle.stateful_actor.specs.declared.driving.Halted.{Halted}
 use Rattle.stateful_actor.specs.declared.error.StepError.TheVariants.{OutOfMemory}
@@ -60,13 +58,14 @@ module _ (stored : ℕ → Option (Named BankBlock)) where
   abbrev pub KeepRules : Option Halted → List (Entry BankBlock Round Ask) → Member Whole → Type 0
   KeepRules «end» entries m = TrueNames (setting bank stored) (after_all [] entries) → Plays bank stored initial [] entries (EndsWell «end» entries m)
 
--- Each entry is one step of the machine, from a new one on.
+-- Each entry is one step of the machine, from one on that is down, and whose numbers begin at 0.
 pub record AreSteps (stored : ℕ → Option (Named BankBlock)) (entries : List (Entry BankBlock Round Ask)) : Type 0 where
-  pub failed : Bool
-  pub register : Register
   pub first : Moment bank BankHook
   pub last : Moment bank BankHook
-  pub new : IsNew failed first.core register
+  pub down : first.core.anchor ≡ None
+  pub jobs : first.core.next_job ≡ 0
+  pub fetches : first.core.next_fetch ≡ 0
+  pub barriers : first.core.next_barrier ≡ 0
   pub steps : Steps bank stored [] first entries last
 
 -- The event behind those that were taken in was refused with this error, and the machine says why. The bank itself never
