@@ -1,11 +1,18 @@
 -- What the machine's play of the events says of the script.
-use Rattle.std.proofs.Common.{◌≡◌, ℕ, List, Option, IfSome, Vec, Global, map, refl, subst}
+use Rattle.std.proofs.Common.{◌≡◌, ℕ, List, [], Option, None, IfSome, Vec, Global, map, refl, subst}
 use Rattle.std.proofs.Math.Path.{fun_ext}
 use Rattle.stateful_types.specs.Names.{Named}
 use Rattle.stateful_types.specs.declared.round.Round.{Round}
+use Rattle.stateful_db.specs.Member.{Member, shut}
 use Rattle.stateful_bank.specs.declared.ask.Ask.{Ask}
 use Rattle.stateful_bank.specs.declared.block.BankBlock.{BankBlock}
+use Rattle.stateful_plain.specs.Whole.{Whole, initial}
+use Rattle.stateful_plain.specs.declared.batch.PlainMerkleized.{PlainMerkleized}
+use Rattle.stateful_plain_bank.specs.declared.hook.BankHook.{BankHook}
+use Rattle.stateful_plain_bank.specs.declared.run.BankRun.{BankRun}
 use Rattle.stateful_history.specs.declared.entry.Entry.{Entry}
+use Rattle.stateful_actor.specs.Moments.{moment}
+use Rattle.stateful_actor.specs.declared.tables.Core.{Core}
 use Rattle.stateful_actor.specs.declared.driving.Halted.{Halted}
 use Rattle.stateful_script.specs.declared.script.Script.{Script}
 use Rattle.stateful_script.specs.declared.script.World.TheVariants as world
@@ -20,11 +27,25 @@ use Rattle.stateful_play.specs.Events.{BankEvent, events_of}
 use Rattle.stateful_play.specs.Store.{store_of}
 use Rattle.stateful_play.specs.Shown.{member_of}
 use Rattle.stateful_play.proofs.Honest.{honest_play}
-use Rattle.stateful_play.specs.Play.{IsPlayOf, KeepRules, AreTaken, AreSteps, IsHaltedBy}
+use Rattle.stateful_play.specs.Play.{bank, IsPlayOf, IsFirst, KeepRules, AreTaken, AreSteps, IsHaltedBy}
 
 -- a play in the plain world
 abbrev pub in_plain : Vec (Entry BankBlock Round Ask) Global → Machine → Databases → Option Halted → Played
 in_plain entries machine databases «end» = record { world = world.Plain; history = history.Plain entries; machine = machine; databases = databases; «end» = «end» }
+
+-- a play begins with a new machine and an empty database
+pub begins_new : (core : Core BankBlock BankRun BankHook PlainMerkleized) (members : Member Whole) (ids : ℕ)
+    → core.anchor ≡ None → core.next_job ≡ 0 → core.next_fetch ≡ 0 → core.next_barrier ≡ 0
+    → members ≡ shut (record { older = []; newest = initial; pruned = 0; durable = 0 }) → ids ≡ 1
+    → IsFirst (moment bank core members ids [])
+begins_new core members ids down jobs fetches barriers empty batches = record {
+  down = down;
+  jobs = jobs;
+  fetches = fetches;
+  barriers = barriers;
+  members = empty;
+  batches = batches;
+}
 
 pub carried : (script : Script) (made : List Planned) (labels : List Label) (entries : Vec (Entry BankBlock Round Ask) Global) (machine : Machine) (databases : Databases) («end» : Option Halted) (stored : ℕ → Option (Named BankBlock)) (events : List BankEvent)
     → ArePlanned script.blocks made → labels ≡ labels_of script.names made

@@ -40,6 +40,10 @@ not_usage : (e : Option Halted) → Usage ≡ status_by e → ⊥
 not_usage None h = cc
 not_usage (Some halted) h = cc
 
+not_script : (e : Option Halted) (line : ℕ) → status.Script line ≡ status_by e → ⊥
+not_script None line h = cc
+not_script (Some halted) line h = cc
+
 not_read_fault : (e : Option Halted) → ReadFault ≡ status_by e → ⊥
 not_read_fault None h = cc
 not_read_fault (Some halted) h = cc
@@ -98,6 +102,9 @@ module _ (left left_after held held_after : Known) (rose : Type 0) (answer : Sta
 
   pub never_usage : answer ≡ Usage → ⊥
   never_usage e = not_usage w.p.«end» (sym e ∙ status_is (λ f. cc) (λ m. cc))
+
+  pub never_script : (line : ℕ) → answer ≡ status.Script line → ⊥
+  never_script line e = not_script w.p.«end» line (sym e ∙ status_is (λ f. cc) (λ m. cc))
 
   pub never_read_fault : answer ≡ ReadFault → ⊥
   never_read_fault e = not_read_fault w.p.«end» (sym e ∙ status_is (λ f. cc) (λ m. cc))

@@ -2,7 +2,7 @@
 use Rattle.std.specs.Prelude.{◌≡◌, ◌≢◌, ◌<◌, ℕ, List, [], ◌∷◌, ◌++◌, Option, Some, None, IfSome, length, map, take}
 use Rattle.stateful_types.specs.Names.{Named}
 use Rattle.stateful_types.specs.declared.round.Round.{Round}
-use Rattle.stateful_db.specs.Member.{Member}
+use Rattle.stateful_db.specs.Member.{Member, shut}
 use Rattle.stateful_db.specs.Single.{single}
 use Rattle.stateful_bank.specs.BankBlock.{block_header}
 use Rattle.stateful_bank.specs.declared.ask.Ask.{Ask}
@@ -58,14 +58,20 @@ module _ (stored : ℕ → Option (Named BankBlock)) where
   abbrev pub KeepRules : Option Halted → List (Entry BankBlock Round Ask) → Member Whole → Type 0
   KeepRules «end» entries m = TrueNames (setting bank stored) (after_all [] entries) → Plays bank stored initial [] entries (EndsWell «end» entries m)
 
--- Each entry is one step of the machine, from one on that is down, and whose numbers begin at 0.
-pub record AreSteps (stored : ℕ → Option (Named BankBlock)) (entries : List (Entry BankBlock Round Ask)) : Type 0 where
-  pub first : Moment bank BankHook
-  pub last : Moment bank BankHook
+-- where a play begins: the machine is down, its numbers begin at 0, and the database is closed on an empty medium
+pub record IsFirst (first : Moment bank BankHook) : Type 0 where
   pub down : first.core.anchor ≡ None
   pub jobs : first.core.next_job ≡ 0
   pub fetches : first.core.next_fetch ≡ 0
   pub barriers : first.core.next_barrier ≡ 0
+  pub members : first.members ≡ shut (record { older = []; newest = initial; pruned = 0; durable = 0 })
+  pub batches : first.next ≡ 1
+
+-- each entry is one step of the machine, from the first moment on
+pub record AreSteps (stored : ℕ → Option (Named BankBlock)) (entries : List (Entry BankBlock Round Ask)) : Type 0 where
+  pub first : Moment bank BankHook
+  pub begins : IsFirst first
+  pub last : Moment bank BankHook
   pub steps : Steps bank stored [] first entries last
 
 -- The event behind those that were taken in was refused with this error, and the machine says why. The bank itself never
@@ -75,6 +81,7 @@ pub record IsHaltedBy (stored : ℕ → Option (Named BankBlock)) (events : List
   pub rest : List BankEvent
   pub behind : events ≡ map (λ entry. entry.event) entries ++ event ∷ rest
   pub first : Moment bank BankHook
+  pub begins : IsFirst first
   pub refused : IsRefused bank stored run_faults hook_faults first entries event halted.error (core_of machine) (member_of d) (tally 0 (λ i. 0)) (tally 0 (failed_of d))
 
 -- This was played of the script, whose blocks go by these labels: the events were taken in, in each ancestry each block

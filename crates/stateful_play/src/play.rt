@@ -1,6 +1,8 @@
 //! A script's play.
 
-ghost use Rattle.std.specs.Prelude.{◌≡◌, ◌↔◌, ℕ, IfOk, IsTrue, length};
+ghost use Rattle.std.specs.Prelude.{◌≡◌, ◌↔◌, ℕ, [], IfOk, IsTrue, length};
+ghost use Rattle.stateful_db.specs.Member.{shut};
+ghost use Rattle.stateful_plain.specs.Whole.{initial};
 ghost use Rattle.stateful_script.specs.Laws.{IsPlan};
 ghost use Rattle.stateful_actor.specs.Stepping.{IsNew};
 ghost use Rattle.stateful_play.specs.Plan.{labels_of};
@@ -100,6 +102,8 @@ fn new_machine(alloc: Global) -> Result<Stateful<Bank>, OutOfMemory>
 /// A database that is closed, on an empty medium that hasn't failed.
 fn closed(alloc: Global) -> Held<Plain>
     ensures held { ⟦<Held<Plain> as DatabaseSet>⟧.kind.Held (⟦<Held<Plain> as DatabaseSet>⟧.members result) }
+    ensures empty { ⟦<Held<Plain> as DatabaseSet>⟧.members result ≡ shut (record { older = []; newest = initial; pruned = 0; durable = 0 }) }
+    ensures batches { ⟦<Held<Plain> as DatabaseSet>⟧.next result ≡ 1 }
     ensures counts { (i : ℕ) → ⟦<Held<Plain> as DatabaseSet>⟧.counted result i ≡ 0 }
 {
     Held::Closed(PlainMedium::empty(alloc, Vec::new(alloc)))

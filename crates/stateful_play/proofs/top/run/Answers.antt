@@ -1,5 +1,5 @@
 use Rattle.std.proofs.Common.{sym}
-use Rattle.stateful_play.proofs.Ends.{was_told, told_done, told_halted, told_cut, told_wanting, never_usage, never_read_fault}
+use Rattle.stateful_play.proofs.Ends.{was_told, told_done, told_halted, told_cut, told_wanting, never_usage, never_script, never_read_fault}
 use Rattle.stateful_play.proofs.top.run.Goals as goal
 
 pub returns-in-Ok-play-clause-done : goal.returns-in-Ok-play-clause-done
@@ -16,6 +16,11 @@ pub returns-in-Ok-play-clause-usage : goal.returns-in-Ok-play-clause-usage
 returns-in-Ok-play-clause-usage g c =
     let told = was_told _ _ _ _ _ _ _ _ _ _ c.in-Ok.ensures.found c.in-Ok-play.ensures c.tell.ensures.status c.tell.ensures.played in
     λ e. absurd (never_usage _ _ _ _ _ _ _ told e)
+
+pub returns-in-Ok-play-clause-script : goal.returns-in-Ok-play-clause-script
+returns-in-Ok-play-clause-script g c =
+    let told = was_told _ _ _ _ _ _ _ _ _ _ c.in-Ok.ensures.found c.in-Ok-play.ensures c.tell.ensures.status c.tell.ensures.played in
+    λ line e. absurd (never_script _ _ _ _ _ _ _ told line e)
 
 pub returns-in-Ok-play-clause-read_fault : goal.returns-in-Ok-play-clause-read_fault
 returns-in-Ok-play-clause-read_fault g c =
