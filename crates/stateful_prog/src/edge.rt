@@ -1,4 +1,5 @@
-//! The source and the sink of the system. They tell nothing of content.
+//! The source and the sink of the system. They tell of the bytes what the reader and the writer tell of theirs, and those
+//! of the system tell nothing.
 
 ghost use Rattle.std.specs.Prelude.{◌≡◌};
 
@@ -30,9 +31,7 @@ impl<R: Read + Drop> Faulty for StdSource<R> {
 }
 
 impl<R: Read + Drop> Source for StdSource<R> {
-    ghost use Rattle.std.specs.Prelude.{None};
-
-    ghost left = { λ _. None };
+    ghost left = { λ s. R.remaining s.inner };
 
     fn read(&mut self, buf: &mut [u8]) -> Result<usize, Failed> {
         match self.inner.read(buf) {
@@ -70,9 +69,7 @@ impl<W: Write + Drop> Faulty for StdSink<W> {
 }
 
 impl<W: Write + Drop> Sink for StdSink<W> {
-    ghost use Rattle.std.specs.Prelude.{None};
-
-    ghost held = { λ _. None };
+    ghost held = { λ s. W.contents s.inner };
 
     fn write(&mut self, piece: &[u8]) -> Result<usize, SinkFault> {
         match self.inner.write(piece) {
