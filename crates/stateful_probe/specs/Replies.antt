@@ -1,0 +1,68 @@
+-- What the bytes that a peer sent are.
+use Rattle.std.specs.Prelude.{◌≡◌, ℕ, true, false, Option, Some, None, List, [], ◌∷◌, ◌++◌}
+use Rattle.stateful_types.specs.Number.{view_format}
+use Rattle.stateful_types.specs.Digest.{digest_format}
+use Rattle.stateful_types.specs.Round.{round_format}
+use Rattle.stateful_types.specs.declared.number.View.{View}
+use Rattle.stateful_types.specs.declared.digest.Digest.{Digest}
+use Rattle.stateful_types.specs.declared.round.Round.{Round}
+use Rattle.stateful_types.specs.declared.finalization.Finalization.{Finalization}
+use Rattle.stateful_probe.specs.Wire.{message_format}
+use Rattle.stateful_probe.specs.Setup.{Setup, committee, is_one_of, Counts, TakesPart}
+use Rattle.stateful_probe.specs.declared.wire.Message.TheVariants.{Response}
+
+-- a request, whatever follows its tag
+abbrev pub IsRequest : List ℕ → Type 0
+IsRequest bytes = (rest : List ℕ) × (bytes ≡ 0 ∷ rest)
+
+-- they begin with the tag of a response
+abbrev pub IsTagged : List ℕ → Type 0
+IsTagged bytes = (rest : List ℕ) × (bytes ≡ 1 ∷ rest)
+
+-- they begin as a response of this round: behind the tag stand the round, the view of the parent and the payload
+pub record HasHeader (bytes : List ℕ) (round : Round) : Type 0 where
+  pub parent : View
+  pub payload : Digest
+  pub rest : List ℕ
+  pub fits : round_format.fits round × view_format.fits parent × digest_format.fits payload
+  pub is : bytes ≡ 1 ∷ [] ++ (round_format.spelling round ++ (view_format.spelling parent ++ (digest_format.spelling payload ++ rest)))
+
+module _ {S K C : Type 0} (u : Setup S K C) where
+  -- they begin as a response of an epoch that doesn't count
+  pub record IsForeign (bytes : List ℕ) : Type 0 where
+    pub round : Round
+    pub header : HasHeader bytes round
+    pub foreign : (scheme : S) → Counts u round.epoch scheme → ⊥
+
+  -- they are a response with this finalization, and nothing follows
+  abbrev pub IsWhole : List ℕ → Finalization C → Type 0
+  IsWhole bytes f = (message_format u.certificates).fits (Response f) × (bytes ≡ (message_format u.certificates).spelling (Response f))
+
+  -- they don't decode: they are no request, no response of an epoch that doesn't count, and no whole response
+  pub record IsMalformed (bytes : List ℕ) : Type 0 where
+    pub no_request : IsRequest bytes → ⊥
+    pub no_foreign : IsForeign bytes → ⊥
+    pub no_whole : (f : Finalization C) → IsWhole bytes f → ⊥
+
+  -- a good reply: a participant of the lowest epoch sent a finalization of an epoch that counts, and its certificate holds
+  pub record IsGood (peer : K) (bytes : List ℕ) (f : Finalization C) : Type 0 where
+    pub whole : IsWhole bytes f
+    pub scheme : S
+    pub counts : Counts u f.round.epoch scheme
+    pub certified : u.certifies scheme f
+    pub keys : List K
+    pub takes_part : TakesPart u peer keys
+
+  -- A reply for which its peer is blocked: it doesn't decode; or it is a finalization of an epoch that counts, and the peer
+  -- is no participant of the lowest epoch, or the certificate doesn't hold.
+  pub data IsAtFault (peer : K) (bytes : List ℕ) : Type 0 where
+    malformed : IsMalformed bytes → IsAtFault peer bytes
+    outsider : (f : Finalization C) (scheme : S) (keys : List K) → IsWhole bytes f → Counts u f.round.epoch scheme → committee u ≡ Some keys → is_one_of u.eq keys peer ≡ false → IsAtFault peer bytes
+    uncertified : (f : Finalization C) (scheme : S) (keys : List K) → IsWhole bytes f → Counts u f.round.epoch scheme → committee u ≡ Some keys → (u.certifies scheme f → ⊥) → IsAtFault peer bytes
+
+  -- A message of which nothing is made: a request; a response of an epoch that doesn't count; a whole response where the
+  -- scheme of the lowest epoch isn't known.
+  pub data IsIgnored (bytes : List ℕ) : Type 0 where
+    request : IsRequest bytes → IsIgnored bytes
+    foreign : IsForeign bytes → IsIgnored bytes
+    unjudged : (f : Finalization C) → IsWhole bytes f → committee u ≡ None → IsIgnored bytes

@@ -1,0 +1,98 @@
+//! Discovery: the participants are asked, and the floor is selected from their replies.
+
+ghost use Rattle.std.specs.Prelude.{◌≡◌, ◌++◌, ◌∷◌, ◌≢◌, [], true, false, Option, Some, None, map, OnOk, OnErr, length};
+ghost use Rattle.stateful_types.specs.declared.finalization.Finalization.{Finalization};
+ghost use Rattle.stateful_probe.specs.Setup.{setup, committee};
+ghost use Rattle.stateful_probe.specs.Sampled.{awaits, with_reply};
+ghost use Rattle.stateful_probe.specs.Probing.{Steps, asked, restarted, handed_out, is_serving};
+ghost use Rattle.stateful_probe.specs.declared.event.Event.TheVariants as events;
+
+use crate::event::Out;
+use crate::reply::{Judgement, judge};
+use crate::schemes::Schemes;
+use crate::state::State;
+use bytes::Bytes;
+use stateful_types::{Epoch, Finalization, Items, OutOfMemory, Scheme, Share};
+use std::alloc::Global;
+
+/// Begins the round anew: the replies are dropped, and the participants of the lowest epoch are asked.
+pub(crate) fn request_latest<S: Scheme>(
+    alloc: Global,
+    schemes: &Schemes<S>,
+    state: &mut State<S::Key, S::Certificate>,
+    outs: &mut Vec<Out<S::Key, S::Certificate>>,
+) -> Result<(), OutOfMemory>
+    ensures restarted { OnOk result (state.new ≡ restarted state.old) }
+    ensures asked { OnOk result (outs.new.items ≡ outs.old.items ++ asked (committee (setup S.Key.cmp S.Key.eq S.certificates S.keys S.certifies schemes.now state.old.sample.minimum_epoch))) }
+{
+    state.sample.reset();
+    let Some(scheme) = schemes.at(state.sample.minimum_epoch()) else {
+        return Ok(());
+    };
+    let peers = Items::from_vec(Vec::from_slice(alloc, scheme.participants())?);
+    outs.push(Out::Request { peers })?;
+    Ok(())
+}
+
+/// Hands the floor to each of those who wait.
+fn hand_out<K: Drop, C: Share + Drop>(
+    floor: &Finalization<C>,
+    waiting: &[u64],
+    outs: &mut Vec<Out<K, C>>,
+) -> Result<(), OutOfMemory>
+    ensures { OnOk result (outs.new.items ≡ outs.old.items ++ handed_out waiting.now (Some floor.now)) }
+{
+    for ticket in waiting {
+        outs.push(Out::Floor {
+            ticket: *ticket,
+            finalization: floor.share()?,
+        })?;
+    }
+    Ok(())
+}
+
+/// Selects the floor, if there are enough replies by now, and hands it to those who wait.
+fn select<S: Scheme>(
+    schemes: &Schemes<S>,
+    state: &mut State<S::Key, S::Certificate>,
+    outs: &mut Vec<Out<S::Key, S::Certificate>>,
+) -> Result<(), OutOfMemory> {
+    let Some(scheme) = schemes.at(state.sample.minimum_epoch()) else {
+        return Ok(());
+    };
+    let committee = scheme.participants().len() as u32;
+    let judgeable = |f: &Finalization<S::Certificate>| schemes.at(f.round.epoch).is_some();
+    let Some(floor) = state.sample.select(committee, judgeable)? else {
+        return Ok(());
+    };
+    hand_out(&floor, state.subscribers.as_slice(), outs)?;
+    state.subscribers.clear();
+    Ok(())
+}
+
+/// Takes a message of a peer.
+pub(crate) fn receive<S: Scheme>(
+    alloc: Global,
+    schemes: &Schemes<S>,
+    state: &mut State<S::Key, S::Certificate>,
+    peer: S::Key,
+    value: Bytes,
+    outs: &mut Vec<Out<S::Key, S::Certificate>>,
+) -> Result<(), OutOfMemory> {
+    if !state.sample.awaits(&peer) {
+        return Ok(());
+    }
+    match judge(alloc, schemes, state.sample.minimum_epoch(), &peer, value)? {
+        Judgement::Ignored => {}
+        Judgement::AtFault => outs.push(Out::Block { peer })?,
+        Judgement::Good(finalization) => {
+            if state.subscribers.is_empty() {
+                state.sample.reset();
+            } else {
+                state.sample.record(peer, finalization)?;
+                select(schemes, state, outs)?;
+            }
+        }
+    }
+    Ok(())
+}

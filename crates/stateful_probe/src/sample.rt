@@ -1,0 +1,183 @@
+//! Samples of a committee's replies.
+
+ghost use Rattle.std.specs.Prelude.{◌≡◌, ◌∷◌, [], Option, None, Bool, IsTrue, IfOk, OnOk, OnErr, ◌↔◌};
+ghost use Rattle.std.specs.Option.{option_copied};
+ghost use Rattle.std.specs.Fn.{FnReturnsAt};
+ghost use Rattle.std.specs.List.Sorted.{IsStrictlySortedBy};
+ghost use Rattle.std.specs.Map.{keys_of};
+ghost use Rattle.stateful_types.specs.declared.finalization.Finalization.{Finalization};
+ghost use Rattle.stateful_probe.specs.Sampled.{awaits, with_reply, with_floor, cleared, Selects};
+
+use stateful_types::{Epoch, Finalization, OutOfMemory, Round, Share, max_faults};
+use std::alloc::Global;
+use std::collections::BTreeMap;
+use std::marker::Model;
+
+/// The first replies of a committee's participants, from which the floor is selected.
+///
+/// It resolves to the highest reply once there is one more than may be faulty: if no more than these lie, one reply at
+/// least is an honest participant's. Who records a reply has verified it before, and that the peer takes part.
+#[derive(Drop)]
+pub struct Sample<K: Ord, C> {
+    minimum_epoch: Epoch,
+    replies: BTreeMap<K, Finalization<C>>,
+    floor: Option<Finalization<C>>,
+}
+
+impl<K: Ord, C> Model for Sample<K, C> {
+    ghost use Rattle.stateful_probe.specs.Sampled.{Sampled};
+
+    ghost Value = { Sampled K C };
+
+    ghost view = { λ a. record { minimum_epoch = a.minimum_epoch; replies = a.replies.entries; floor = a.floor } };
+}
+
+impl<K: Ord + Drop, C: Share + Drop> Sample<K, C> {
+    /// An empty sample, whose replies are not to be below this epoch.
+    pub fn new(alloc: Global, minimum_epoch: Epoch) -> Sample<K, C>
+        ensures { result ≡ record { minimum_epoch = minimum_epoch; replies = []; floor = None } }
+    {
+        Sample {
+            minimum_epoch,
+            replies: BTreeMap::new(alloc),
+            floor: None,
+        }
+    }
+
+    /// The lowest epoch that counts.
+    pub fn minimum_epoch(&self) -> Epoch
+        ensures { result ≡ self.now.minimum_epoch }
+    {
+        self.minimum_epoch
+    }
+
+    /// The floor, once it is selected.
+    pub fn floor(&self) -> Option<&Finalization<C>>
+        ensures { option_copied result ≡ self.now.floor }
+    {
+        self.floor.as_ref()
+    }
+
+    /// Whether a reply of this peer is awaited: no floor is selected, and none of its replies is recorded.
+    pub fn awaits(&self, peer: &K) -> bool
+        ensures { result ≡ awaits K.cmp self.now peer.now }
+    {
+        self.floor.is_none() && !self.replies.contains_key(peer)
+    }
+
+    /// Records a reply, where it is the peer's first since the last reset.
+    pub fn record(&mut self, peer: K, finalization: Finalization<C>) -> Result<(), OutOfMemory>
+        ensures ok { OnOk result (self.new ≡ with_reply K.cmp self.old peer finalization) }
+        ensures err { OnErr result (self.new ≡ self.old) }
+
+        // The replies stand by ascending keys, and there is one of a peer at most.
+        ensures ordered { IsStrictlySortedBy K.cmp (keys_of self.new.replies) }
+    {
+        if self.replies.contains_key(&peer) {
+            return Ok(());
+        }
+        self.replies.insert(peer, finalization)?;
+        Ok(())
+    }
+
+    /// Drops all replies and the floor.
+    pub fn reset(&mut self)
+        ensures { self.new ≡ cleared self.old }
+    {
+        self.replies.clear();
+        self.floor = None;
+    }
+
+    /// Selects the floor once more replies can be judged than participants of a committee of this size may be faulty: the
+    /// highest of these. It answers the floor when it is selected, and none at any other time.
+    pub fn select<F: Fn(&Finalization<C>) -> bool>(
+        &mut self,
+        committee: u32,
+        judgeable: F,
+    ) -> Result<Option<Finalization<C>>, OutOfMemory>
+        requires { F.IsAlwaysCallable judgeable }
+
+        // Where the closure always gives the answers of some test, as one does that only looks at the reply.
+        ensures selects { IfOk result (λ chosen. (judges : Finalization C → Bool) → ((f : Finalization C) (b : Bool) → FnReturnsAt F.Fn judgeable f b → b ≡ judges f) → Selects committee judges self.old chosen) }
+        ensures ok { IfOk result (λ chosen. self.new ≡ with_floor self.old chosen) }
+        ensures err { OnErr result (self.new ≡ self.old) }
+    {
+        if self.floor.is_some() {
+            return Ok(None);
+        }
+        let Some(highest) = highest_round(&self.replies, committee, &judgeable) else {
+            return Ok(None);
+        };
+        for reply in self.replies.values() {
+            if judgeable(reply) && !highest.is_later_than(reply.round) {
+                let selected = reply.share()?;
+                self.floor = Some(reply.share()?);
+                return Ok(Some(selected));
+            }
+        }
+        Ok(None)
+    }
+}
+
+/// The highest round of the replies that can be judged, where there are more of these than participants of a committee of
+/// this size may be faulty.
+fn highest_round<K: Ord, C, F: Fn(&Finalization<C>) -> bool>(
+    replies: &BTreeMap<K, Finalization<C>>,
+    committee: u32,
+    judgeable: &F,
+) -> Option<Round>
+    requires { F.IsAlwaysCallable judgeable.now }
+{
+    let mut count = 0usize;
+    let mut highest: Option<Round> = None;
+    for reply in replies.values() {
+        if judgeable(reply) {
+            count += 1;
+            highest = match highest {
+                Some(before) if !reply.round.is_later_than(before) => Some(before),
+                _ => Some(reply.round),
+            };
+        }
+    }
+    if count <= max_faults(committee) as usize {
+        return None;
+    }
+    highest
+}
+
+#[cfg(test)]
+mod tests {
+    use super::*;
+    use stateful_types::{Digest, Items, View};
+    use std::test::Fail;
+
+    fn reply(alloc: Global, view: u64) -> Finalization<Items<u32>> {
+        Finalization {
+            round: Round {
+                epoch: Epoch(0),
+                view: View(view),
+            },
+            parent: View(0),
+            payload: Digest([7; 32]),
+            certificate: Items::new(alloc),
+        }
+    }
+
+    fn view_of(found: &Option<Finalization<Items<u32>>>) -> Option<u64> {
+        match found {
+            Some(finalization) => Some(finalization.round.view.0),
+            None => None,
+        }
+    }
+
+    #[test]
+    fn floor_is_the_highest_of_two_replies_in_four(rt: HostRuntime) -> Result<(), Fail> {
+        let mut sample: Sample<u64, Items<u32>> = Sample::new(rt.alloc(), Epoch(0));
+        sample.record(1, reply(rt.alloc(), 7))?;
+        assert_eq!(rt; view_of(&sample.select(4, |_| true)?), None);
+        sample.record(2, reply(rt.alloc(), 9))?;
+        assert_eq!(rt; view_of(&sample.select(4, |_| true)?), Some(9));
+        assert_eq!(rt; view_of(&sample.select(4, |_| true)?), None);
+        Ok(())
+    }
+}

@@ -1,0 +1,41 @@
+//! Service: peers that ask are sent the node's latest finalization.
+
+use crate::event::Out;
+use crate::wire::{Message, Tag};
+use bytes::Bytes;
+use stateful_types::{CodecError, Latest, OutOfMemory, Scheme};
+use std::alloc::Global;
+
+/// The bytes of the node's latest finalization, as a response.
+fn latest_response<S: Scheme, L: Latest<S::Certificate>>(
+    alloc: Global,
+    latest: &L,
+) -> Result<Option<Bytes>, OutOfMemory> {
+    let Some(finalization) = latest.latest()? else {
+        return Ok(None);
+    };
+    let mut bytes = Vec::new(alloc);
+    Message::Response(finalization).write::<S>(&mut bytes)?;
+    Ok(Some(Bytes::from_vec(bytes)?))
+}
+
+/// Takes a message of a peer.
+pub(crate) fn receive<S: Scheme, L: Latest<S::Certificate>>(
+    alloc: Global,
+    latest: &L,
+    peer: S::Key,
+    value: Bytes,
+    outs: &mut Vec<Out<S::Key, S::Certificate>>,
+) -> Result<(), OutOfMemory> {
+    let mut input = value;
+    match Tag::read(&mut input) {
+        Ok(Tag::Request) => {
+            if let Some(value) = latest_response::<S, L>(alloc, latest)? {
+                outs.push(Out::Response { peer, value })?;
+            }
+        }
+        Ok(Tag::Response) => {}
+        Err(_) => outs.push(Out::Block { peer })?,
+    }
+    Ok(())
+}
