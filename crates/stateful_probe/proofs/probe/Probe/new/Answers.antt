@@ -1,0 +1,5 @@
+use Rattle.stateful_probe.proofs.probe.Probe.new.Goals as goal
+use Rattle.stateful_probe.proofs.Trust.{floors_trusted, sound_empty}
+
+pub returns-clause-laws : goal.returns-clause-laws
+returns-clause-laws g c = ?
