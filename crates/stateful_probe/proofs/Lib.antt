@@ -1,3 +1,5 @@
 
 pub mod Tallies
+pub mod Outs
 pub mod Trust
+pub mod Blame

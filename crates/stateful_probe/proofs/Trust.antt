@@ -15,12 +15,13 @@ use Rattle.stateful_types.specs.declared.finalization.Finalization.{Finalization
 use Rattle.stateful_probe.specs.Sampled.{Sampled, has_replied, awaits, with_reply, with_floor, cleared, IsHighest, judged, Selects}
 use Rattle.stateful_probe.specs.Setup.{Setup, committee, is_one_of, is_judgeable, Counts, TakesPart}
 use Rattle.stateful_probe.specs.Replies.{IsGood}
-use Rattle.stateful_probe.specs.Probing.{Steps, Sends, asked, handed_out, answered, closed, begins_round, waits, leaves, attaches, asks_again, rests, unawaited, ignored, blocked, not_needed, recorded, served, passed_over, untagged, stops}
+use Rattle.stateful_probe.specs.Probing.{Steps, answered, closed, begins_round, waits, leaves, attaches, asks_again, rests, unawaited, ignored, blocked, not_needed, recorded, served, passed_over, untagged, stops}
 use Rattle.stateful_probe.specs.Laws.{Turn, Runs, IsTrusted}
 use Rattle.stateful_probe.specs.declared.state.State.{State}
 use Rattle.stateful_probe.specs.declared.event.Event.{Event}
 use Rattle.stateful_probe.specs.declared.event.Out.{Out}
 use Rattle.stateful_probe.specs.declared.event.Out.TheVariants.{Floor, Closed, Request, Response, Block}
+use Rattle.stateful_probe.proofs.Outs.{one_out, asked_all, handed_all, sent_all}
 use Rattle.stateful_probe.proofs.Tallies.{Contains-filter, filter_all, All-unmap, count_none, Gains, insert-gains, All-gains, count-gains, no_liar}
 
 -- which keys are the same, by their order
@@ -194,42 +195,30 @@ module _ {S K C : Type 0} (u : Setup S K C) where
   IsOf floor (Response peer bytes) = Unit {0}
   IsOf floor (Block peer) = Unit {0}
 
-  asked_of : (floor : Option (Finalization C)) (known : Option (List K)) → All (IsOf floor) (asked known)
-  asked_of floor None = All-nil (IsOf floor)
-  asked_of floor (Some keys) = All-cons (IsOf floor) (Request keys) [] tt (All-nil (IsOf floor))
-
-  sent_of : (floor latest : Option (Finalization C)) (peer : K) (outs : List (Out K C)) → Sends u latest peer outs → All (IsOf floor) outs
-  sent_of floor None peer outs none = All-same (IsOf floor) outs [] none (All-nil (IsOf floor))
-  sent_of floor (Some f) peer outs sends = All-same (IsOf floor) outs _ sends.1 (All-cons (IsOf floor) _ [] tt (All-nil (IsOf floor)))
-
-  handed_of : (floor chosen : Option (Finalization C)) (waiting : List ℕ) → ((f : Finalization C) → chosen ≡ Some f → floor ≡ Some f) → All (IsOf floor) (handed_out waiting chosen)
-  handed_of floor None waiting same = All-nil (IsOf floor)
-  handed_of floor (Some f) waiting same = All-map (IsOf floor) (λ t. Floor t f) waiting (λ k d lt. same f refl)
-
   floor_chosen : (s : Sampled K C) (chosen : Option (Finalization C)) (f : Finalization C) → chosen ≡ Some f → (with_floor s chosen).floor ≡ Some f
   floor_chosen s None f e = cc
   floor_chosen s (Some g) f e = e
 
   -- each floor that an event puts out is the one that the state behind it has
   step_floors : (latest : Option (Finalization C)) (s : State K C) (e : Event K) (outs : List (Out K C)) (next : State K C) → Steps u latest s e outs next → All (IsOf next.sample.floor) outs
-  step_floors latest s e outs next (answered {f = f} is) = All-cons (IsOf s.sample.floor) (Floor _ f) [] is (All-nil (IsOf s.sample.floor))
-  step_floors latest s e outs next (closed unset serving) = All-cons (IsOf s.sample.floor) _ [] tt (All-nil (IsOf s.sample.floor))
-  step_floors latest s e outs next (begins_round unset idle nobody) = asked_of None (committee u)
+  step_floors latest s e outs next (answered {f = f} is) = one_out (IsOf s.sample.floor) (Floor _ f) is
+  step_floors latest s e outs next (closed unset serving) = one_out (IsOf s.sample.floor) _ tt
+  step_floors latest s e outs next (begins_round unset idle nobody) = asked_all (IsOf None) (λ keys. tt) (committee u)
   step_floors latest s e outs next (waits unset others) = All-nil (IsOf s.sample.floor)
   step_floors latest s e outs next leaves = All-nil (IsOf s.sample.floor)
   step_floors latest s e outs next attaches = All-nil (IsOf s.sample.floor)
-  step_floors latest s e outs next (asks_again unset others) = asked_of None (committee u)
+  step_floors latest s e outs next (asks_again unset others) = asked_all (IsOf None) (λ keys. tt) (committee u)
   step_floors latest s e outs next (rests why) = All-nil (IsOf s.sample.floor)
   step_floors latest s e outs next (unawaited idle unwanted) = All-nil (IsOf s.sample.floor)
   step_floors latest s e outs next (ignored idle waited why) = All-nil (IsOf s.sample.floor)
-  step_floors latest s e outs next (blocked idle waited fault) = All-cons (IsOf s.sample.floor) _ [] tt (All-nil (IsOf s.sample.floor))
+  step_floors latest s e outs next (blocked idle waited fault) = one_out (IsOf s.sample.floor) _ tt
   step_floors latest s e outs next (not_needed idle waited good nobody) = All-nil (IsOf None)
   step_floors latest s e outs next (recorded {peer = peer} {f = f} {chosen = chosen} idle waited good others known selects) =
       let sample = with_reply u.cmp s.sample peer f in
-      handed_of (with_floor sample chosen).floor chosen s.subscribers (floor_chosen sample chosen)
-  step_floors latest s e outs next (served {peer = peer} serving request sends) = sent_of s.sample.floor latest peer outs sends
+      handed_all (IsOf (with_floor sample chosen).floor) chosen s.subscribers (λ t f. floor_chosen sample chosen f)
+  step_floors latest s e outs next (served {peer = peer} serving request sends) = sent_all (IsOf s.sample.floor) u (λ peer bytes. tt) latest peer outs sends
   step_floors latest s e outs next (passed_over serving tagged) = All-nil (IsOf s.sample.floor)
-  step_floors latest s e outs next (untagged serving request tagged) = All-cons (IsOf s.sample.floor) _ [] tt (All-nil (IsOf s.sample.floor))
+  step_floors latest s e outs next (untagged serving request tagged) = one_out (IsOf s.sample.floor) _ tt
   step_floors latest s e outs next stops = All-map (IsOf s.sample.floor) (λ t. Closed t) s.subscribers (λ k d lt. tt)
 
   module _ (laws : AreKeys u.eq u.cmp) where
