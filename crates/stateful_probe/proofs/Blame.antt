@@ -1,7 +1,7 @@
 -- That a peer is blocked for nothing but a bad message.
-use Rattle.std.proofs.Common.{◌≡◌, ℕ, zero, Bool, true, false, Option, Some, None, List, [], ◌∷◌, ◌++◌, map, All, Contains, refl, sym, ap, subst, ◌∙◌, append_assoc, append-nil}
-use Rattle.std.proofs.lemmas.List.Elements.{All-nil, All-cons, All-map, All-same, All-contains}
-use Rattle.stateful_types.specs.Format.{Format, IsFormat}
+use Rattle.std.proofs.Common.{◌≡◌, ℕ, true, false, Option, Some, List, [], ◌∷◌, ◌++◌, All, Contains, refl, sym, ap, subst, ◌∙◌, append_assoc, append-nil}
+use Rattle.std.proofs.lemmas.List.Elements.{All-nil, All-cons, All-map, All-contains}
+use Rattle.stateful_types.specs.Format.{IsFormat}
 use Rattle.stateful_types.specs.FormatLaws.{same_first}
 use Rattle.stateful_types.specs.Number.{view_format}
 use Rattle.stateful_types.specs.Digest.{digest_format}
@@ -10,9 +10,9 @@ use Rattle.stateful_types.specs.Finalization.{finalization_format}
 use Rattle.stateful_types.specs.declared.round.Round.{Round}
 use Rattle.stateful_types.specs.declared.finalization.Finalization.{Finalization}
 use Rattle.stateful_types.proofs.Values.{round_alone, finalization_alone}
-use Rattle.stateful_probe.specs.Setup.{Setup, committee, is_one_of, scheme_at, Counts, TakesPart}
-use Rattle.stateful_probe.specs.Replies.{IsRequest, IsTagged, HasHeader, IsForeign, IsWhole, IsMalformed, IsGood, IsAtFault, malformed, outsider, uncertified}
-use Rattle.stateful_probe.specs.Probing.{Steps, answered, closed, begins_round, waits, leaves, attaches, asks_again, rests, unawaited, ignored, blocked, not_needed, recorded, served, passed_over, untagged, stops}
+use Rattle.stateful_probe.specs.Setup.{Setup, committee, is_one_of, scheme_at, Counts}
+use Rattle.stateful_probe.specs.Replies.{IsRequest, IsTagged, HasHeader, IsForeign, IsWhole, IsGood, IsAtFault, malformed, outsider, uncertified}
+use Rattle.stateful_probe.specs.Probing.{Steps, answered, closed, begins_round, asks_again, blocked, recorded, served, untagged, stops}
 use Rattle.stateful_probe.specs.Laws.{Turn, Runs, SentBad}
 use Rattle.stateful_probe.specs.declared.state.State.{State}
 use Rattle.stateful_probe.specs.declared.event.Event.{Event}
@@ -22,8 +22,8 @@ use Rattle.stateful_probe.specs.declared.event.Out.TheVariants.{Floor, Closed, R
 use Rattle.stateful_probe.proofs.Outs.{one_out, asked_all, handed_all, sent_all}
 use Rattle.stateful_probe.proofs.Trust.{one_value}
 
-regrouped : (a b c d : List ℕ) → ((a ++ b) ++ c) ++ d ≡ a ++ (b ++ (c ++ d))
-regrouped a b c d = simp append_assoc
+regroup : (a b c d : List ℕ) → ((a ++ b) ++ c) ++ d ≡ a ++ (b ++ (c ++ d))
+regroup a b c d = simp append_assoc
 
 tail_same : (x y : ℕ) (xs ys : List ℕ) → ◌≡◌ {A = List ℕ} (x ∷ xs) (y ∷ ys) → xs ≡ ys
 tail_same x y xs ys e = cc
@@ -51,7 +51,7 @@ module _ {S K C : Type 0} (u : Setup S K C) where
       let e : round_format.spelling round ++ behind ≡ (finalization_format u.certificates).spelling f =
       tail_same 1 1 (round_format.spelling round ++ behind) ((finalization_format u.certificates).spelling f) (sym header.is ∙ whole.1) in
       let e' : round_format.spelling round ++ behind ≡ round_format.spelling f.round ++ behind' =
-      e ∙ regrouped (round_format.spelling f.round) (view_format.spelling f.parent) (digest_format.spelling f.payload) (u.certificates.spelling f.certificate) in
+      e ∙ regroup (round_format.spelling f.round) (view_format.spelling f.parent) (digest_format.spelling f.payload) (u.certificates.spelling f.certificate) in
       same_first round_format round_alone round f.round behind behind' header.fits.0 whole.0.0 e'
 
   -- a whole response of an epoch that counts is not foreign
@@ -68,7 +68,8 @@ module _ {S K C : Type 0} (u : Setup S K C) where
         (finalization_alone u.certificates law).alone f g [] whole.0 other.0 (append-nil (format.spelling f) ∙ e)
 
     -- a good reply is no fault
-    uncertified_not_good : (peer : K) (bytes : List ℕ) (f : Finalization C) (scheme : S) → IsWhole u bytes f → Counts u f.round.epoch scheme → (u.certifies scheme f → ⊥) → (g : Finalization C) → IsGood u peer bytes g → ⊥
+    uncertified_not_good : (peer : K) (bytes : List ℕ) (f : Finalization C) (scheme : S) → IsWhole u bytes f → Counts u f.round.epoch scheme
+        → (u.certifies scheme f → ⊥) → (g : Finalization C) → IsGood u peer bytes g → ⊥
     uncertified_not_good peer bytes f scheme whole counts none g good =
         let same : f ≡ g = whole_same bytes f g whole good.whole in
         let there : Counts u g.round.epoch scheme = subst (λ (h : Finalization C). Counts u h.round.epoch scheme) same counts in
@@ -137,7 +138,8 @@ module _ {S K C : Type 0} (u : Setup S K C) where
     step_due latest s e outs next _ = All-nil (IsDue e)
 
     -- no peer was blocked but for what it had just sent
-    pub blocked_bad : (turns : List (Turn K C)) (s last : State K C) → Runs u s turns last → All (λ turn. (peer : K) → Contains turn.outs (Block peer) → SentBad u peer turn.event) turns
+    pub blocked_bad : (turns : List (Turn K C)) (s last : State K C) → Runs u s turns last
+        → All (λ turn. (peer : K) → Contains turn.outs (Block peer) → SentBad u peer turn.event) turns
     blocked_bad [] s last runs = All-nil (λ turn. (peer : K) → Contains turn.outs (Block peer) → SentBad u peer turn.event)
     blocked_bad (turn ∷ turns) s last runs =
         let due = step_due turn.latest s turn.event turn.outs runs.1 runs.2 in

@@ -1,11 +1,11 @@
 -- That a new probe keeps the laws, whatever events come.
-use Rattle.std.proofs.Common.{◌≡◌, ℕ, ◌+◌, List, [], count_by, ◌==◌, refl, ap, ◌∙◌, arith}
+use Rattle.std.proofs.Common.{◌≡◌, ◌+◌, [], count_by, ◌==◌, refl, ap, ◌∙◌, arith}
 use Rattle.stateful_types.specs.Format.{IsFormat}
 use Rattle.stateful_probe.specs.Setup.{Setup}
 use Rattle.stateful_probe.specs.Probing.{IsNew}
 use Rattle.stateful_probe.specs.Laws.{KeepsLaws, asked_count}
 use Rattle.stateful_probe.specs.declared.state.State.{State}
-use Rattle.stateful_probe.proofs.Trust.{AreKeys, IsSound, sound_empty, floors_trusted}
+use Rattle.stateful_probe.proofs.Trust.{AreKeys, sound_empty, floors_trusted}
 use Rattle.stateful_probe.proofs.Blame.{blocked_bad}
 use Rattle.stateful_probe.proofs.Tickets.{IsLive, once, none_forgotten, stopped}
 

@@ -1,4 +1,3 @@
-
 pub mod Tallies
 pub mod Outs
 pub mod Trust

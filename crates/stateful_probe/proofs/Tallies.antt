@@ -1,13 +1,13 @@
 -- What counts and members of lists are after a filter, an insertion or a map.
-use Rattle.std.proofs.Common.{◌≡◌, ℕ, zero, suc, ◌+◌, ◌<◌, ◌≤◌, ◌==◌, Bool, true, false, not, cond, is_some, Option, Some, None, List, [], ◌∷◌, ◌++◌, map, filter, length, All, Contains, sum_by, count_by, ◌⊎◌, Ordering, Less, Equal, Greater, is_eq, refl, sym, ap, subst, ◌∙◌, inl, inr, arith}
+use Rattle.std.proofs.Common.{◌≡◌, ℕ, ◌+◌, ◌<◌, ◌≤◌, Bool, true, false, not, cond, is_some, Some, List, [], ◌∷◌, ◌++◌, map, filter, length, All, Contains, sum_by, count_by, Ordering, Less, Equal, Greater, is_eq, refl, sym, ap, subst, ◌∙◌, arith}
 use Rattle.std.specs.List.{list_any}
 use Rattle.std.specs.Map.{lookup}
 use Rattle.std.specs.Ordering.{match_ordering}
 use Rattle.std.specs.BTreeMap.{is_at, insert_entry}
-use Rattle.std.proofs.lemmas.Bool.{not-true, or_from, eqb-true, eqb-false}
+use Rattle.std.proofs.lemmas.Bool.{not-true, or_from}
 use Rattle.std.proofs.lemmas.List.Sums.{sum_by-cons, sum_by-append, length-filter}
 use Rattle.std.proofs.lemmas.List.Filters.{sum_by-filter_both, length-filter_both}
-use Rattle.std.proofs.lemmas.List.Elements.{All-head, All-tail, All-cons, All-append, All-filter, All-contains, All-contains_itself, filter_passes}
+use Rattle.std.proofs.lemmas.List.Elements.{All-head, All-tail, All-cons, All-filter, All-contains, All-contains_itself, filter_passes}
 
 -- ---- members
 
@@ -26,15 +26,15 @@ filter_all p (x ∷ xs) all =
     rw here (ap (λ ys. x ∷ ys) rest)
 
 -- what holds of the images holds of what they are images of
-pub All-unmap : {X Y : Type 0} (P : Y → Type 0) (f : X → Y) (xs : List X) → All P (map f xs) → All (λ x. P (f x)) xs
-All-unmap P f [] all = λ k d lt. absurd (omega arith)
-All-unmap P f (x ∷ xs) all = All-cons (λ y. P (f y)) x xs (All-head P (f x) (map f xs) all) (All-unmap P f xs (All-tail P (f x) (map f xs) all))
+pub All-from_map : {X Y : Type 0} (P : Y → Type 0) (f : X → Y) (xs : List X) → All P (map f xs) → All (λ x. P (f x)) xs
+All-from_map P f [] all = λ k d lt. absurd (omega arith)
+All-from_map P f (x ∷ xs) all = All-cons (λ y. P (f y)) x xs (All-head P (f x) (map f xs) all) (All-from_map P f xs (All-tail P (f x) (map f xs) all))
 
 -- ---- counts
 
 -- a filter leaves no more of any kind
-pub count-filter-le : {X : Type 0} (p q : X → Bool) (xs : List X) → count_by p (filter q xs) ≤ count_by p xs
-count-filter-le p q xs = omega (arith, sum_by-filter_both q (λ x. not (q x)) (λ x. refl) (λ x. cond (p x) 1 0) xs)
+pub count_by-filter-le : {X : Type 0} (p q : X → Bool) (xs : List X) → count_by p (filter q xs) ≤ count_by p xs
+count_by-filter-le p q xs = omega (arith, sum_by-filter_both q (λ x. not (q x)) (λ x. refl) (λ x. cond (p x) 1 0) xs)
 
 -- what passes and what doesn't make up the list
 pub length_without : {X : Type 0} (p : X → Bool) (xs : List X) → count_by p xs + length (filter (λ x. not (p x)) xs) ≡ length xs
@@ -58,9 +58,9 @@ pub record Gains {X : Type 0} (xs ys : List X) (x : X) : Type 0 where
   pub was : xs ≡ front ++ back
   pub is : ys ≡ front ++ x ∷ back
 
-pub insert-gains : {K X : Type 0} (cmp : K → K → Ordering) (es : List (K × X)) (k : K) (v : X) → is_some (lookup (is_at (cmp k)) es) ≡ false → Gains es (insert_entry cmp es k v) (k, v)
-insert-gains cmp [] k v new = record { front = []; back = []; was = refl; is = refl }
-insert-gains cmp (e ∷ es) k v new = go (cmp k e.0) new (insert-gains cmp es k v)
+pub gains_from_insert : {K X : Type 0} (cmp : K → K → Ordering) (es : List (K × X)) (k : K) (v : X) → is_some (lookup (is_at (cmp k)) es) ≡ false → Gains es (insert_entry cmp es k v) (k, v)
+gains_from_insert cmp [] k v new = record { front = []; back = []; was = refl; is = refl }
+gains_from_insert cmp (e ∷ es) k v new = go (cmp k e.0) new (gains_from_insert cmp es k v)
   where
     go : (o : Ordering) → is_some (cond (is_eq o) (Some e.1) (lookup (is_at (cmp k)) es)) ≡ false → (is_some (lookup (is_at (cmp k)) es) ≡ false → Gains es (insert_entry cmp es k v) (k, v))
         → Gains (e ∷ es) (match_ordering o ((k, v) ∷ e ∷ es) ((e.0, v) ∷ es) (e ∷ insert_entry cmp es k v)) (k, v)
@@ -77,8 +77,8 @@ module _ {X : Type 0} {xs ys : List X} {x : X} (gains : Gains xs ys x) where
   pub All-gains : (P : X → Type 0) → P x → All P xs → All P ys
   All-gains P here all = subst (All P) (sym gains.is) (All-amid P gains.front gains.back x here (subst (All P) gains.was all))
 
-  pub count-gains : (p : X → Bool) → count_by p ys ≡ cond (p x) 1 0 + count_by p xs
-  count-gains p =
+  pub count_by_gains : (p : X → Bool) → count_by p ys ≡ cond (p x) 1 0 + count_by p xs
+  count_by_gains p =
       let f : X → ℕ = λ y. cond (p y) 1 0 in
       let new = ap (sum_by f) gains.is ∙ sum_by-append f gains.front (x ∷ gains.back) in
       let old = ap (sum_by f) gains.was ∙ sum_by-append f gains.front gains.back in
@@ -95,6 +95,6 @@ no_liar {K} {X} eq (l ∷ liars) es apart more =
     let is : K × X → Bool = λ e. eq l e.0 in
     let others = filter (λ e. not (is e)) es in
     let long : length liars < length others = omega (arith, apart l, length_without is es) in
-    let found = no_liar eq liars others (λ m. omega (arith, apart m, count-filter-le (λ (e : K × X). eq m e.0) (λ e. not (is e)) es)) long in
+    let found = no_liar eq liars others (λ m. omega (arith, apart m, count_by-filter-le (λ (e : K × X). eq m e.0) (λ e. not (is e)) es)) long in
     let other : eq l found.0 ≡ false = not-true _ (passes (λ e. not (is e)) es (found.0, found.1) found.2) in
     (found.0, found.1, Contains-filter (λ e. not (is e)) es (found.0, found.1) found.2, or_from _ _ other found.3)

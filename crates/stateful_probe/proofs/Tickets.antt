@@ -1,18 +1,18 @@
 -- That each ticket is given once, and is answered, taken back or waits; and what a stop leaves.
-use Rattle.std.proofs.Common.{◌≡◌, ◌≢◌, ℕ, zero, suc, ◌+◌, ◌<◌, ◌≤◌, ◌==◌, nat_le, Bool, true, false, not, ◌&&◌, cond, if◌then◌else◌, Option, Some, None, List, [], ◌∷◌, ◌++◌, map, filter, length, slice_index_or, All, Any, sum_by, count_by, refl, sym, ap, subst, ◌∙◌, arith}
+use Rattle.std.proofs.Common.{◌≡◌, ℕ, zero, suc, ◌+◌, ◌<◌, ◌≤◌, ◌==◌, Bool, true, false, not, cond, Option, Some, None, List, [], ◌∷◌, map, filter, length, slice_index_or, All, sum_by, count_by, refl, sym, ap, subst, ◌∙◌, arith}
 use Rattle.std.specs.List.{list_any}
-use Rattle.std.proofs.lemmas.Bool.{and_parts, not-true, leb-true, eqb-true, eqb-false, or_cases}
+use Rattle.std.proofs.lemmas.Bool.{and_parts, not-true, leb-true, eqb-true, eqb-false}
 use Rattle.std.proofs.lemmas.List.Sums.{sum_by-cons, sum_by-append}
-use Rattle.std.proofs.lemmas.List.Elements.{All-head, All-tail, All-nil}
+use Rattle.std.proofs.lemmas.List.Elements.{All-head, All-tail}
 use Rattle.stateful_types.specs.declared.finalization.Finalization.{Finalization}
 use Rattle.stateful_probe.specs.Setup.{Setup, committee}
-use Rattle.stateful_probe.specs.Probing.{may_come, names_live, is_waiting, left_waiting, asked, handed_out, Steps, Sends, answered, closed, begins_round, waits, leaves, attaches, asks_again, rests, unawaited, ignored, blocked, not_needed, recorded, served, passed_over, untagged, stops}
+use Rattle.stateful_probe.specs.Probing.{may_come, names_live, is_waiting, left_waiting, asked, handed_out, Steps, answered, closed, begins_round, waits, leaves, asks_again, recorded, served, stops}
 use Rattle.stateful_probe.specs.Laws.{Turn, Runs, asks, takes_back, ends, asked_count, cancelled_count, answered_count}
 use Rattle.stateful_probe.specs.declared.state.State.{State}
 use Rattle.stateful_probe.specs.declared.event.Event.{Event}
-use Rattle.stateful_probe.specs.declared.event.Event.TheVariants.{Subscribe, Cancel, Attach, Received, Retry, Stop}
+use Rattle.stateful_probe.specs.declared.event.Event.TheVariants.{Subscribe, Stop}
 use Rattle.stateful_probe.specs.declared.event.Out.{Out}
-use Rattle.stateful_probe.specs.declared.event.Out.TheVariants.{Floor, Closed, Request, Response, Block}
+use Rattle.stateful_probe.specs.declared.event.Out.TheVariants.{Floor, Closed}
 use Rattle.stateful_probe.proofs.Outs.{asked_all, sent_all}
 
 -- how many wait under the ticket
@@ -41,8 +41,10 @@ count_without t t' (w ∷ waiting) = go (w == t') refl (w == t) refl (t' == t) r
   where
     rest : List ℕ
     rest = filter (λ w. not (w == t')) waiting
+
     more : count_of t (w ∷ waiting) ≡ cond (w == t) 1 0 + count_of t waiting
     more = sum_by-cons (λ v. cond (v == t) 1 0) w waiting
+
     go : (a : Bool) → (w == t') ≡ a → (b : Bool) → (w == t) ≡ b → (d : Bool) → (t' == t) ≡ d → count_of t rest ≡ cond d 0 (count_of t waiting)
         → count_of t (cond (not a) (w ∷ rest) rest) ≡ cond d 0 (count_of t (w ∷ waiting))
     go true at b here true same h = h
@@ -59,15 +61,19 @@ count_waiting t (w ∷ waiting) any = go (w == t) refl any (count_waiting t wait
   where
     more : count_of t (w ∷ waiting) ≡ cond (w == t) 1 0 + count_of t waiting
     more = sum_by-cons (λ v. cond (v == t) 1 0) w waiting
-    go : (b : Bool) → (w == t) ≡ b → list_any (λ w. w == t) (w ∷ waiting) ≡ true → (list_any (λ w. w == t) waiting ≡ true → 1 ≤ count_of t waiting) → 1 ≤ count_of t (w ∷ waiting)
+
+    go : (b : Bool) → (w == t) ≡ b → list_any (λ w. w == t) (w ∷ waiting) ≡ true → (list_any (λ w. w == t) waiting ≡ true → 1 ≤ count_of t waiting)
+        → 1 ≤ count_of t (w ∷ waiting)
     go true here any rest = let e = more ∙ ap (λ b. cond b 1 0 + count_of t waiting) here in omega arith
     go false here any rest = let e = more in let r = rest (rw here at any) in omega arith
 
 -- the one that waits is taken back
-count_leaving : (t given : ℕ) (waiting : List ℕ) → count_of given waiting ≤ 1 → list_any (λ w. w == given) waiting ≡ true → cond (given == t) 1 0 + count_of t (filter (λ w. not (w == given)) waiting) ≡ count_of t waiting
+count_leaving : (t given : ℕ) (waiting : List ℕ) → count_of given waiting ≤ 1 → list_any (λ w. w == given) waiting ≡ true
+    → cond (given == t) 1 0 + count_of t (filter (λ w. not (w == given)) waiting) ≡ count_of t waiting
 count_leaving t given waiting single any = go (given == t) refl (count_without t given waiting)
   where
-    go : (b : Bool) → (given == t) ≡ b → count_of t (filter (λ w. not (w == given)) waiting) ≡ cond b 0 (count_of t waiting) → cond b 1 0 + count_of t (filter (λ w. not (w == given)) waiting) ≡ count_of t waiting
+    go : (b : Bool) → (given == t) ≡ b → count_of t (filter (λ w. not (w == given)) waiting) ≡ cond b 0 (count_of t waiting)
+        → cond b 1 0 + count_of t (filter (λ w. not (w == given)) waiting) ≡ count_of t waiting
     go true same h =
         let e : count_of given waiting ≡ count_of t waiting = ap (λ v. count_of v waiting) (eqb-true given t same) in
         let one : 1 ≤ count_of given waiting = count_waiting given waiting any in
@@ -95,7 +101,8 @@ module _ {S K C : Type 0} (u : Setup S K C) where
   ends_handed t waiting (Some f) = omega (arith, ends_each {K = K} {C = C} t (λ w. Floor w f) (λ w. refl) waiting)
 
   -- what an event does to a ticket: whoever asked or waited is answered, taken back, or waits
-  step_ticket : (latest : Option (Finalization C)) (s : State K C) (e : Event K) (outs : List (Out K C)) (next : State K C) → Steps u latest s e outs next → IsLive s.next_ticket s.subscribers → may_come s e ≡ true → (t : ℕ)
+  step_ticket : (latest : Option (Finalization C)) (s : State K C) (e : Event K) (outs : List (Out K C)) (next : State K C) → Steps u latest s e outs next
+      → IsLive s.next_ticket s.subscribers → may_come s e ≡ true → (t : ℕ)
       → sum_by (ends t) outs + takes_back t e + count_of t next.subscribers ≡ asks t e + count_of t s.subscribers
   step_ticket latest s e outs next (answered is) live comes t = omega arith
   step_ticket latest s e outs next (closed unset serving) live comes t = omega arith
@@ -105,7 +112,8 @@ module _ {S K C : Type 0} (u : Setup S K C) where
       let e = count_leaving t given s.subscribers (live.single given) (and_parts (not s.stopped) (is_waiting s given) comes).1 in omega arith
   step_ticket latest s e outs next (asks_again unset others) live comes t = let none = ends_asked t (committee u) in omega arith
   step_ticket latest s e outs next (recorded {chosen = chosen} idle waited good others known selects) live comes t = let all = ends_handed t s.subscribers chosen in omega arith
-  step_ticket latest s e outs next (served {peer = peer} serving request sends) live comes t = let none = sum_none (ends t) outs (sent_all (λ out. ends t out ≡ 0) u (λ peer bytes. refl) latest peer outs sends) in omega arith
+  step_ticket latest s e outs next (served {peer = peer} serving request sends) live comes t =
+      let none = sum_none (ends t) outs (sent_all (λ out. ends t out ≡ 0) u (λ peer bytes. refl) latest peer outs sends) in omega arith
   step_ticket latest s e outs next stops live comes t = let all = ends_each {K = K} {C = C} t (λ w. Closed w) (λ w. refl) s.subscribers in omega arith
   step_ticket latest s e outs next _ live comes t = omega arith
 
@@ -113,7 +121,8 @@ module _ {S K C : Type 0} (u : Setup S K C) where
   step_next latest s e outs next (answered is) = refl
   step_next latest s e outs next _ = refl
 
-  step_live : (latest : Option (Finalization C)) (s : State K C) (e : Event K) (outs : List (Out K C)) (next : State K C) → Steps u latest s e outs next → IsLive s.next_ticket s.subscribers → may_come s e ≡ true → IsLive next.next_ticket next.subscribers
+  step_live : (latest : Option (Finalization C)) (s : State K C) (e : Event K) (outs : List (Out K C)) (next : State K C) → Steps u latest s e outs next
+      → IsLive s.next_ticket s.subscribers → may_come s e ≡ true → IsLive next.next_ticket next.subscribers
   step_live latest s e outs next step live comes =
       subst (λ n. IsLive n next.subscribers) (sym (step_next latest s e outs next step))
       (go e (and_parts (not s.stopped) _ comes).1 (λ t. omega (arith, step_ticket latest s e outs next step live comes t)))
@@ -124,6 +133,7 @@ module _ {S K C : Type 0} (u : Setup S K C) where
           given_once : (b : Bool) (t : ℕ) → (given == t) ≡ b → count_of t next.subscribers ≤ cond b 1 0 + count_of t s.subscribers → count_of t next.subscribers ≤ 1
           given_once true t same h = omega (arith, live.fresh t, leb-true s.next_ticket given new, eqb-true given t same)
           given_once false t other h = omega (arith, live.single t)
+
           given_before : (b : Bool) (t : ℕ) → (given == t) ≡ b → given + 1 ≤ t → count_of t next.subscribers ≤ cond b 1 0 + count_of t s.subscribers → count_of t next.subscribers ≡ 0
           given_before true t same above h = absurd (omega (arith, eqb-true given t same))
           given_before false t other above h = omega (arith, live.fresh t, leb-true s.next_ticket given new)
@@ -142,7 +152,8 @@ module _ {S K C : Type 0} (u : Setup S K C) where
       let both : (asks t turn.event + asked_count t turns ≤ 1) × (t < s.next_ticket → asks t turn.event + asked_count t turns ≡ 0) = go turn.event (and_parts (not s.stopped) _ runs.0).1 rest.0 later in
       (omega (arith, both.0, more), λ earlier. omega (arith, both.1 earlier, more))
     where
-      go : (e : Event K) → names_live s e ≡ true → asked_count t turns ≤ 1 → (t < next_of s.next_ticket e → asked_count t turns ≡ 0) → (asks t e + asked_count t turns ≤ 1) × (t < s.next_ticket → asks t e + asked_count t turns ≡ 0)
+      go : (e : Event K) → names_live s e ≡ true → asked_count t turns ≤ 1 → (t < next_of s.next_ticket e → asked_count t turns ≡ 0)
+          → (asks t e + asked_count t turns ≤ 1) × (t < s.next_ticket → asks t e + asked_count t turns ≡ 0)
       go (Subscribe given) new few later = asked_now (given == t) refl
         where
           asked_now : (b : Bool) → (given == t) ≡ b → (cond b 1 0 + asked_count t turns ≤ 1) × (t < s.next_ticket → cond b 1 0 + asked_count t turns ≡ 0)
@@ -169,7 +180,8 @@ module _ {S K C : Type 0} (u : Setup S K C) where
 
   -- ---- a stop
 
-  step_stops : (latest : Option (Finalization C)) (s : State K C) (e : Event K) (outs : List (Out K C)) (next : State K C) → Steps u latest s e outs next → e ≡ Stop → (next.subscribers ≡ []) × (next.stopped ≡ true)
+  step_stops : (latest : Option (Finalization C)) (s : State K C) (e : Event K) (outs : List (Out K C)) (next : State K C) → Steps u latest s e outs next
+      → e ≡ Stop → (next.subscribers ≡ []) × (next.stopped ≡ true)
   step_stops latest s e outs next stops is = (refl, refl)
   step_stops latest s e outs next _ is = cc
 

@@ -1,12 +1,11 @@
 -- That a floor may be trusted: what holds of the recorded replies, and that no event drops a floor.
-use Rattle.std.proofs.Common.{◌≡◌, ◌≢◌, ℕ, ◌+◌, ◌<◌, ◌≤◌, Bool, true, false, not, ◌&&◌, cond, Ordering, is_some, is_none, Option, Some, None, List, [], ◌∷◌, ◌++◌, map, filter, length, All, Contains, count_by, ◌⊎◌, is_eq, refl, sym, ap, subst, ◌∙◌, inl, inr, arith}
+use Rattle.std.proofs.Common.{◌≡◌, ℕ, ◌+◌, ◌≤◌, Bool, true, false, not, cond, Ordering, is_some, is_none, Option, Some, None, List, [], ◌∷◌, ◌++◌, length, All, Contains, count_by, is_eq, refl, sym, ap, subst, ◌∙◌, inl, inr, arith}
 use Rattle.std.specs.Cmp.{IsEquivalence}
-use Rattle.std.specs.Map.{values_of, lookup}
-use Rattle.std.specs.BTreeMap.{is_at, insert_entry}
+use Rattle.std.specs.Map.{values_of}
+use Rattle.std.specs.BTreeMap.{insert_entry}
 use Rattle.std.proofs.lemmas.Bool.{and_parts, not-true}
 use Rattle.std.proofs.lemmas.Option.{same_Some}
 use Rattle.std.proofs.lemmas.List.{length-map}
-use Rattle.std.proofs.lemmas.List.Sums.{length-filter, count_by-le-length}
 use Rattle.std.proofs.lemmas.List.Elements.{All-nil, All-cons, All-append, All-weaker, All-map, All-same, All-contains, Contains-append_right}
 use Rattle.stateful_types.specs.Round.{IsLater}
 use Rattle.stateful_types.specs.Vote.{max_faults}
@@ -22,7 +21,7 @@ use Rattle.stateful_probe.specs.declared.event.Event.{Event}
 use Rattle.stateful_probe.specs.declared.event.Out.{Out}
 use Rattle.stateful_probe.specs.declared.event.Out.TheVariants.{Floor, Closed, Request, Response, Block}
 use Rattle.stateful_probe.proofs.Outs.{one_out, asked_all, handed_all, sent_all}
-use Rattle.stateful_probe.proofs.Tallies.{Contains-filter, filter_all, All-unmap, count_none, Gains, insert-gains, All-gains, count-gains, no_liar}
+use Rattle.stateful_probe.proofs.Tallies.{filter_all, All-from_map, count_none, gains_from_insert, All-gains, count_by_gains, no_liar}
 
 -- which keys are the same, by their order
 pub record AreKeys {K : Type 0} (eq : K → K → Bool) (cmp : K → K → Ordering) : Type 0 where
@@ -87,7 +86,6 @@ module _ {S K C : Type 0} (u : Setup S K C) where
     floor = rw unset tt;
   }
 
-  -- the floor of a sound sample may be trusted
   module _ (replies : List (K × Finalization C)) (f : Finalization C) (good : All IsReply replies) (chosen : IsChosen replies f) where
     -- a recorded reply is a participant's, and no later than the floor
     vouched : (liars : List K) (peer : K) (reply : Finalization C) → Contains replies (peer, reply) → is_one_of u.eq liars peer ≡ false
@@ -97,12 +95,14 @@ module _ {S K C : Type 0} (u : Setup S K C) where
         let same : by.keys ≡ chosen.keys = one_value (committee u) by.keys chosen.keys by.takes_part.committee_is chosen.committee_is in
         (peer, reply, at, ap (λ keys. is_one_of u.eq keys peer) (sym same) ∙ by.takes_part.member, other, All-contains (λ e. IsLater f.round e.1.round → ⊥) replies (peer, reply) chosen.highest at)
 
+    -- the floor's epoch counts, and its certificate holds
     certified_in : (scheme : S) × Counts u f.round.epoch scheme × u.certifies scheme f
     certified_in =
         let Stands : Finalization C → Type 0 = λ g. (scheme : S) × Counts u g.round.epoch scheme × u.certifies scheme g in
         let stand : All Stands (values_of replies) = All-map Stands (λ e. e.1) replies (All-weaker IsReply (λ e. Stands e.1) (λ e reply. (reply.scheme, reply.counts, reply.certified)) replies good) in
         All-contains Stands (values_of replies) f stand chosen.among
 
+  -- the floor of a sound sample may be trusted
   trusted : (s : State K C) (f : Finalization C) → IsSound s.sample → s.sample.floor ≡ Some f → IsTrusted u s f
   trusted s f sound e =
       let chosen : IsChosen s.sample.replies f = subst (IsFloorOf s.sample.replies) e sound.floor in
@@ -131,9 +131,11 @@ module _ {S K C : Type 0} (u : Setup S K C) where
     apart_more es peer f new apart l = go (u.eq l peer) refl
       where
         gained : count_by (λ e. u.eq l e.0) (insert_entry u.cmp es peer f) ≡ cond (u.eq l peer) 1 0 + count_by (λ e. u.eq l e.0) es
-        gained = count-gains (insert-gains u.cmp es peer f new) (λ e. u.eq l e.0)
+        gained = count_by_gains (gains_from_insert u.cmp es peer f new) (λ e. u.eq l e.0)
+
         agree : u.eq l peer ≡ true → (k : K) → u.eq l k ≡ is_eq (u.cmp peer k)
         agree same k = laws.same.congr l peer k same ∙ laws.agrees peer k
+
         go : (b : Bool) → u.eq l peer ≡ b → count_by (λ e. u.eq l e.0) (insert_entry u.cmp es peer f) ≤ 1
         go false other = let few = apart l in let e = gained ∙ ap (λ b. cond b 1 0 + count_by (λ e. u.eq l e.0) es) other in omega arith
         go true same =
@@ -141,13 +143,15 @@ module _ {S K C : Type 0} (u : Setup S K C) where
             let none : count_by (λ e. u.eq l e.0) es ≡ 0 = (λ i. count_by (λ (e : K × Finalization C). agree same e.0 i) es) ∙ count_none (λ k. is_eq (u.cmp peer k)) es new in
             omega arith
 
-    with_reply_is : (s : Sampled K C) (peer : K) (f : Finalization C) → has_replied u.cmp s.replies peer ≡ false → with_reply u.cmp s peer f ≡ record s { replies = insert_entry u.cmp s.replies peer f }
+    with_reply_is : (s : Sampled K C) (peer : K) (f : Finalization C) → has_replied u.cmp s.replies peer ≡ false
+        → with_reply u.cmp s peer f ≡ record s { replies = insert_entry u.cmp s.replies peer f }
     with_reply_is s peer f new = rw new refl
 
-    sound_more : (s : Sampled K C) (peer : K) (f : Finalization C) → IsSound s → s.floor ≡ None → has_replied u.cmp s.replies peer ≡ false → IsReply (peer, f) → IsSound (with_reply u.cmp s peer f)
+    sound_more : (s : Sampled K C) (peer : K) (f : Finalization C) → IsSound s → s.floor ≡ None → has_replied u.cmp s.replies peer ≡ false
+        → IsReply (peer, f) → IsSound (with_reply u.cmp s peer f)
     sound_more s peer f sound unset new reply =
         subst IsSound (sym (with_reply_is s peer f new)) (record {
-          good = All-gains (insert-gains u.cmp s.replies peer f new) IsReply reply sound.good;
+          good = All-gains (gains_from_insert u.cmp s.replies peer f new) IsReply reply sound.good;
           apart = apart_more s.replies peer f new sound.apart;
           floor = rw unset tt;
         })
@@ -169,7 +173,8 @@ module _ {S K C : Type 0} (u : Setup S K C) where
       let P : Finalization C → Type 0 = λ g. is_judgeable u g ≡ true in
       filter_all (is_judgeable u) (values_of s.replies) (All-map P (λ e. e.1) s.replies (All-weaker IsReply (λ e. P e.1) (λ e reply. ap is_some reply.counts.known) s.replies good))
 
-  chosen_from : (s : Sampled K C) (keys : List K) (f : Finalization C) → All IsReply s.replies → committee u ≡ Some keys → Selects (length keys) (is_judgeable u) s (Some f) → IsChosen s.replies f
+  chosen_from : (s : Sampled K C) (keys : List K) (f : Finalization C) → All IsReply s.replies → committee u ≡ Some keys
+      → Selects (length keys) (is_judgeable u) s (Some f) → IsChosen s.replies f
   chosen_from s keys f good known selects =
       let all = all_judged (length keys) s good in
       let highest : IsHighest (values_of s.replies) f = subst (λ fs. IsHighest fs f) all selects.highest in
@@ -178,10 +183,11 @@ module _ {S K C : Type 0} (u : Setup S K C) where
         committee_is = known;
         enough = omega (arith, (selects.exactly.0 refl).1, ap length all, length-map s.replies (λ e. e.1));
         among = among_highest (values_of s.replies) f highest;
-        highest = All-unmap (λ g. IsLater f.round g.round → ⊥) (λ e. e.1) s.replies (none_later (values_of s.replies) f highest);
+        highest = All-from_map (λ g. IsLater f.round g.round → ⊥) (λ e. e.1) s.replies (none_later (values_of s.replies) f highest);
       }
 
-  sound_chosen : (s : Sampled K C) (keys : List K) (chosen : Option (Finalization C)) → IsSound s → committee u ≡ Some keys → Selects (length keys) (is_judgeable u) s chosen → IsSound (with_floor s chosen)
+  sound_chosen : (s : Sampled K C) (keys : List K) (chosen : Option (Finalization C)) → IsSound s → committee u ≡ Some keys
+      → Selects (length keys) (is_judgeable u) s chosen → IsSound (with_floor s chosen)
   sound_chosen s keys None sound known selects = sound
   sound_chosen s keys (Some f) sound known selects = record { good = sound.good; apart = sound.apart; floor = chosen_from s keys f sound.good known selects }
 
@@ -200,7 +206,8 @@ module _ {S K C : Type 0} (u : Setup S K C) where
   floor_chosen s (Some g) f e = e
 
   -- each floor that an event puts out is the one that the state behind it has
-  step_floors : (latest : Option (Finalization C)) (s : State K C) (e : Event K) (outs : List (Out K C)) (next : State K C) → Steps u latest s e outs next → All (IsOf next.sample.floor) outs
+  step_floors : (latest : Option (Finalization C)) (s : State K C) (e : Event K) (outs : List (Out K C)) (next : State K C) → Steps u latest s e outs next
+      → All (IsOf next.sample.floor) outs
   step_floors latest s e outs next (answered {f = f} is) = one_out (IsOf s.sample.floor) (Floor _ f) is
   step_floors latest s e outs next (closed unset serving) = one_out (IsOf s.sample.floor) _ tt
   step_floors latest s e outs next (begins_round unset idle nobody) = asked_all (IsOf None) (λ keys. tt) (committee u)
@@ -223,14 +230,16 @@ module _ {S K C : Type 0} (u : Setup S K C) where
 
   module _ (laws : AreKeys u.eq u.cmp) where
     -- no event drops a floor
-    step_keeps : (latest : Option (Finalization C)) (s : State K C) (e : Event K) (outs : List (Out K C)) (next : State K C) → Steps u latest s e outs next → (f : Finalization C) → s.sample.floor ≡ Some f → next.sample.floor ≡ Some f
+    step_keeps : (latest : Option (Finalization C)) (s : State K C) (e : Event K) (outs : List (Out K C)) (next : State K C) → Steps u latest s e outs next
+        → (f : Finalization C) → s.sample.floor ≡ Some f → next.sample.floor ≡ Some f
     step_keeps latest s e outs next (begins_round unset idle nobody) f is = cc
     step_keeps latest s e outs next (asks_again unset others) f is = cc
     step_keeps latest s e outs next (not_needed {peer = peer} idle waited good nobody) f is = let unset = (awaits_parts laws s.sample peer waited).0 in cc
     step_keeps latest s e outs next (recorded {peer = peer} idle waited good others known selects) f is = let unset = (awaits_parts laws s.sample peer waited).0 in cc
     step_keeps latest s e outs next _ f is = is
 
-    step_sound : (latest : Option (Finalization C)) (s : State K C) (e : Event K) (outs : List (Out K C)) (next : State K C) → Steps u latest s e outs next → IsSound s.sample → IsSound next.sample
+    step_sound : (latest : Option (Finalization C)) (s : State K C) (e : Event K) (outs : List (Out K C)) (next : State K C) → Steps u latest s e outs next
+        → IsSound s.sample → IsSound next.sample
     step_sound latest s e outs next (begins_round unset idle nobody) sound = sound_empty (cleared s.sample) refl refl
     step_sound latest s e outs next (asks_again unset others) sound = sound_empty (cleared s.sample) refl refl
     step_sound latest s e outs next (not_needed idle waited good nobody) sound = sound_empty (cleared s.sample) refl refl
@@ -262,7 +271,8 @@ module _ {S K C : Type 0} (u : Setup S K C) where
               (All-weaker (IsOf next.sample.floor) (IsOf last.sample.floor) (carried next rest.kept) turn.outs (step_floors turn.latest s turn.event turn.outs next runs.2)) rest.of_last;
         }
       where
-        carried : (next : State K C) → ((f : Finalization C) → next.sample.floor ≡ Some f → last.sample.floor ≡ Some f) → (out : Out K C) → IsOf next.sample.floor out → IsOf last.sample.floor out
+        carried : (next : State K C) → ((f : Finalization C) → next.sample.floor ≡ Some f → last.sample.floor ≡ Some f)
+            → (out : Out K C) → IsOf next.sample.floor out → IsOf last.sample.floor out
         carried next kept (Floor t f) is = kept f is
         carried next kept (Closed t) is = tt
         carried next kept (Request peers) is = tt
@@ -270,7 +280,8 @@ module _ {S K C : Type 0} (u : Setup S K C) where
         carried next kept (Block peer) is = tt
 
     -- each floor that was handed out may be trusted
-    pub floors_trusted : (turns : List (Turn K C)) (s last : State K C) → IsSound s.sample → Runs u s turns last → All (λ turn. (t : ℕ) (f : Finalization C) → Contains turn.outs (Floor t f) → IsTrusted u last f) turns
+    pub floors_trusted : (turns : List (Turn K C)) (s last : State K C) → IsSound s.sample → Runs u s turns last
+        → All (λ turn. (t : ℕ) (f : Finalization C) → Contains turn.outs (Floor t f) → IsTrusted u last f) turns
     floors_trusted turns s last sound runs =
         let all = trusting turns s last sound runs in
         All-weaker (λ turn. All (IsOf last.sample.floor) turn.outs) (λ turn. (t : ℕ) (f : Finalization C) → Contains turn.outs (Floor t f) → IsTrusted u last f)
