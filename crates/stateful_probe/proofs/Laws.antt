@@ -6,6 +6,7 @@ use Rattle.stateful_probe.specs.Probing.{IsNew}
 use Rattle.stateful_probe.specs.Laws.{KeepsLaws, asked_count}
 use Rattle.stateful_probe.specs.declared.state.State.{State}
 use Rattle.stateful_probe.proofs.Trust.{AreKeys, sound_empty, floors_trusted}
+use Rattle.stateful_probe.proofs.Sent.{replies_sent}
 use Rattle.stateful_probe.proofs.Blame.{blocked_bad}
 use Rattle.stateful_probe.proofs.Tickets.{IsLive, once, none_forgotten, stopped}
 
@@ -16,6 +17,7 @@ module _ {S K C : Type 0} (u : Setup S K C) where
   pub KeepsLaws-new : AreKeys u.eq u.cmp → IsFormat u.certificates → (first : State K C) → IsNew u.minimum first → KeepsLaws u first
   KeepsLaws-new keys law first new turns last runs = record {
     trusted = floors_trusted u keys turns first last (sound_empty u first.sample new.no_replies new.no_floor) runs;
+    sent = replies_sent u turns first last new.no_replies runs;
     blocked = blocked_bad u law turns first last runs;
     once = once u turns first last runs;
     none_forgotten = λ t. none_forgotten u turns first last (nobody_live first new.nobody) runs t ∙ ap (λ ws. asked_count t turns + count_by (λ w. w == t) ws) new.nobody ∙ omega arith;

@@ -124,6 +124,21 @@ module _ {S K C : Type 0} (u : Setup S K C) where
   reply_of : (peer : K) (bytes : List ℕ) (f : Finalization C) → IsGood u peer bytes f → IsReply (peer, f)
   reply_of peer bytes f good = record { scheme = good.scheme; counts = good.counts; certified = good.certified; keys = good.keys; takes_part = good.takes_part }
 
+  -- the replies with the first one of a peer
+  pub with_reply_is : (s : Sampled K C) (peer : K) (f : Finalization C) → has_replied u.cmp s.replies peer ≡ false
+      → with_reply u.cmp s peer f ≡ record s { replies = insert_entry u.cmp s.replies peer f }
+  with_reply_is s peer f new = rw new refl
+
+  -- a peer whose reply is awaited hasn't replied, and there is no floor
+  pub awaits_parts : (s : Sampled K C) (peer : K) → awaits u.cmp s peer ≡ true → (s.floor ≡ None) × (has_replied u.cmp s.replies peer ≡ false)
+  awaits_parts s peer awaits =
+      let parts = and_parts (is_none s.floor) (not (has_replied u.cmp s.replies peer)) awaits in
+      (none_from s.floor parts.0, not-true _ parts.1)
+    where
+      none_from : (o : Option (Finalization C)) → is_none o ≡ true → o ≡ None
+      none_from None e = refl
+      none_from (Some f) e = cc
+
   module _ (laws : AreKeys u.eq u.cmp) where
     -- where no reply of the peer is recorded, one of it is all that there is of its key
     apart_more : (es : List (K × Finalization C)) (peer : K) (f : Finalization C) → has_replied u.cmp es peer ≡ false → ((l : K) → count_by (λ e. u.eq l e.0) es ≤ 1)
@@ -143,10 +158,6 @@ module _ {S K C : Type 0} (u : Setup S K C) where
             let none : count_by (λ e. u.eq l e.0) es ≡ 0 = (λ i. count_by (λ (e : K × Finalization C). agree same e.0 i) es) ∙ count_none (λ k. is_eq (u.cmp peer k)) es new in
             omega arith
 
-    with_reply_is : (s : Sampled K C) (peer : K) (f : Finalization C) → has_replied u.cmp s.replies peer ≡ false
-        → with_reply u.cmp s peer f ≡ record s { replies = insert_entry u.cmp s.replies peer f }
-    with_reply_is s peer f new = rw new refl
-
     sound_more : (s : Sampled K C) (peer : K) (f : Finalization C) → IsSound s → s.floor ≡ None → has_replied u.cmp s.replies peer ≡ false
         → IsReply (peer, f) → IsSound (with_reply u.cmp s peer f)
     sound_more s peer f sound unset new reply =
@@ -155,16 +166,6 @@ module _ {S K C : Type 0} (u : Setup S K C) where
           apart = apart_more s.replies peer f new sound.apart;
           floor = rw unset tt;
         })
-
-    -- a peer whose reply is awaited hasn't replied, and there is no floor
-    awaits_parts : (s : Sampled K C) (peer : K) → awaits u.cmp s peer ≡ true → (s.floor ≡ None) × (has_replied u.cmp s.replies peer ≡ false)
-    awaits_parts s peer awaits =
-        let parts = and_parts (is_none s.floor) (not (has_replied u.cmp s.replies peer)) awaits in
-        (none_from s.floor parts.0, not-true _ parts.1)
-      where
-        none_from : (o : Option (Finalization C)) → is_none o ≡ true → o ≡ None
-        none_from None e = refl
-        none_from (Some f) e = cc
 
   -- ---- the floor that is chosen
 
@@ -234,8 +235,8 @@ module _ {S K C : Type 0} (u : Setup S K C) where
         → (f : Finalization C) → s.sample.floor ≡ Some f → next.sample.floor ≡ Some f
     step_keeps latest s e outs next (begins_round unset idle nobody) f is = cc
     step_keeps latest s e outs next (asks_again unset others) f is = cc
-    step_keeps latest s e outs next (not_needed {peer = peer} idle waited good nobody) f is = let unset = (awaits_parts laws s.sample peer waited).0 in cc
-    step_keeps latest s e outs next (recorded {peer = peer} idle waited good others known selects) f is = let unset = (awaits_parts laws s.sample peer waited).0 in cc
+    step_keeps latest s e outs next (not_needed {peer = peer} idle waited good nobody) f is = let unset = (awaits_parts s.sample peer waited).0 in cc
+    step_keeps latest s e outs next (recorded {peer = peer} idle waited good others known selects) f is = let unset = (awaits_parts s.sample peer waited).0 in cc
     step_keeps latest s e outs next _ f is = is
 
     step_sound : (latest : Option (Finalization C)) (s : State K C) (e : Event K) (outs : List (Out K C)) (next : State K C) → Steps u latest s e outs next
@@ -244,7 +245,7 @@ module _ {S K C : Type 0} (u : Setup S K C) where
     step_sound latest s e outs next (asks_again unset others) sound = sound_empty (cleared s.sample) refl refl
     step_sound latest s e outs next (not_needed idle waited good nobody) sound = sound_empty (cleared s.sample) refl refl
     step_sound latest s e outs next (recorded {peer = peer} {bytes = bytes} {f = f} {keys = keys} {chosen = chosen} idle waited good others known selects) sound =
-        let parts = awaits_parts laws s.sample peer waited in
+        let parts = awaits_parts s.sample peer waited in
         sound_chosen (with_reply u.cmp s.sample peer f) keys chosen (sound_more laws s.sample peer f sound parts.0 parts.1 (reply_of peer bytes f good)) known selects
     step_sound latest s e outs next _ sound = sound
 

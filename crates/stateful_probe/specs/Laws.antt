@@ -73,10 +73,16 @@ module _ {S K C : Type 0} (u : Setup S K C) where
     pub no_foreign : IsForeign u bytes → ⊥
     pub no_good : (f : Finalization C) → IsGood u peer bytes f → ⊥
 
+  -- this event brought that reply, a good one, from its peer
+  abbrev pub Brought : K × Finalization C → Turn K C → Type 0
+  Brought reply turn = (bytes : List ℕ) × (turn.event ≡ Received reply.0 bytes) × IsGood u reply.0 bytes reply.1
+
   -- Whatever events came since the probe was made:
   pub record Lawful (turns : List (Turn K C)) (last : State K C) : Type 0 where
     -- each floor that was handed out may be trusted
     pub trusted : All (λ turn. (t : ℕ) (f : Finalization C) → Contains turn.outs (Floor t f) → IsTrusted last f) turns
+    -- each recorded reply is one that its peer sent
+    pub sent : All (λ reply. Any (Brought reply) turns) last.sample.replies
     -- no peer was blocked but for what it had just sent
     pub blocked : All (λ turn. (peer : K) → Contains turn.outs (Block peer) → SentBad peer turn.event) turns
     -- a ticket was given once at most, and was answered, was taken back, or waits
