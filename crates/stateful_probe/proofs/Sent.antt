@@ -1,11 +1,11 @@
 -- That each recorded reply is one that its peer sent.
-use Rattle.std.proofs.Common.{◌≡◌, ℕ, zero, suc, ◌<◌, Option, Some, None, List, [], ◌∷◌, All, Any, length, refl, sym, ap, subst, ◌∙◌, arith}
+use Rattle.std.proofs.Common.{◌≡◌, ℕ, suc, Option, Some, None, List, [], ◌∷◌, All, Any, refl, sym, ap, subst, ◌∙◌, arith}
 use Rattle.std.proofs.lemmas.List.Elements.{All-nil, All-same}
 use Rattle.stateful_types.specs.declared.finalization.Finalization.{Finalization}
 use Rattle.stateful_probe.specs.Sampled.{Sampled, with_reply, with_floor}
 use Rattle.stateful_probe.specs.Setup.{Setup}
 use Rattle.stateful_probe.specs.Replies.{IsGood}
-use Rattle.stateful_probe.specs.Probing.{Steps, begins_round, asks_again, not_needed, recorded, rests}
+use Rattle.stateful_probe.specs.Probing.{Steps, begins_round, asks_again, not_needed, recorded}
 use Rattle.stateful_probe.specs.Laws.{Turn, Runs, Brought}
 use Rattle.stateful_probe.specs.declared.state.State.{State}
 use Rattle.stateful_probe.specs.declared.event.Event.{Event}
