@@ -44,6 +44,7 @@ module _ {B C I R U : Type 0} (w : Workings B R U) (stored : ℕ → Option (Nam
     flushes = blank.flushes;
     bound = blank.bound;
     down = blank.down;
+    syncs_none = refl;
   }
 
   Works-new : {H : Type 0} (core : Core B R H U) (m : w.kind.Members) (next : w.Ids) → core.anchor ≡ None → Works {B = B} {C = C} {I = I} w stored w.kind.initial [] core m next stored
