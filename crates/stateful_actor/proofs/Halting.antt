@@ -1,5 +1,5 @@
 -- Histories at whose end an event was refused.
-use Rattle.std.proofs.Common.{◌≡◌, ◌≢◌, ◌++◌, ℕ, Bool, true, false, inl, List, [], ◌∷◌, Option, None, Result, Ok, Err, IsErrAnd, IfErr, OnErr, refl, sym, ◌∙◌, ap, subst, arith}
+use Rattle.std.proofs.Common.{◌≡◌, ◌≢◌, ◌++◌, ℕ, Bool, true, false, inl, List, [], ◌∷◌, Option, None, Result, Ok, Err, IsErrAnd, IfErr, refl, sym, ◌∙◌, ap, subst, arith}
 use Rattle.stateful_types.specs.Names.{Named}
 use Rattle.stateful_db.specs.Databases.{Laws}
 use Rattle.stateful_history.specs.Past.{Past, Came, after_entry, after_all}
@@ -22,11 +22,6 @@ use Rattle.stateful_actor.specs.declared.error.StepError.{StepError}
 use Rattle.stateful_actor.specs.declared.error.StepError.TheVariants.{OutOfMemory}
 use Rattle.stateful_actor.proofs.CodeSound.{some_of}
 use Rattle.stateful_actor.proofs.Played.{Plays-last}
-
--- what holds holds where there is an error
-pub on_err : {T E P : Type 0} (r : Result T E) → P → OnErr r P
-on_err (Ok x) holds = tt
-on_err (Err e) holds = holds
 
 -- what holds of the error that was converted
 pub err_to : {T E : Type 0} (r : Result T E) (Q P : E → Type 0) → IsErrAnd r Q → ((e : E) → Q e → P e) → IfErr r P

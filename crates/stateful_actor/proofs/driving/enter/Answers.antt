@@ -4,8 +4,9 @@ use Rattle.stateful_actor.specs.Workings.{workings}
 use Rattle.stateful_actor.specs.Causes.{tally}
 use Rattle.stateful_actor.specs.Stepping.{changes_nothing}
 use Rattle.stateful_actor.specs.Driving.{HasPlayed, HasStood}
+use Rattle.stateful_actor.proofs.CodeResults.{on_err}
 use Rattle.stateful_actor.proofs.Played.{HasPlayed-longer, HasStood-from}
-use Rattle.stateful_actor.proofs.Halting.{Refused-from, Refused-early, err_to, on_err, registered-longer}
+use Rattle.stateful_actor.proofs.Halting.{Refused-from, Refused-early, err_to, registered-longer}
 use Rattle.stateful_actor.proofs.driving.enter.Goals as goal
 
 pub returns-clause-played : goal.returns-clause-played
