@@ -15,6 +15,7 @@ use Rattle.stateful_actor.specs.Effects.{BeginsBarrier, Settles}
 use Rattle.stateful_actor.specs.Finalizing.{Finalizes, BeginsIfNone}
 use Rattle.stateful_actor.specs.Errors.{error_of}
 use Rattle.stateful_actor.specs.Doing.{Does, Serves}
+use Rattle.stateful_actor.specs.Effects.{NeedsBarrier}
 use Rattle.stateful_actor.specs.Causes.{HasCounted, Tally, FaultsBarrier, KeepsStates, LeavesStates, LeavesAt, FaultsAt, FaultsIn, doing, settling}
 use Rattle.stateful_actor.specs.declared.error.Fault.{Fault}
 use Rattle.stateful_actor.specs.declared.error.Fault.TheVariants.{Application, Failed, Exhausted, DatabaseFault, OutOfMemory}
@@ -54,8 +55,8 @@ module _ {B R U : Type 0} (w : Workings B R U) (before mid now : ℕ → ℕ) (n
 
 module _ {B R U H : Type 0} (w : Workings B R U) (run_count : R → ℕ) (hook_count : H → ℕ) (store : ℕ → Option (Named B)) (old : Moment w H) (core : Core B R H U) (members : w.kind.Members) (before now : Tally) where
   -- a task is done, and no barrier has begun that was needed then
-  pub settled_later : (done : Task B) (f : Fault) (mid : Moment w H) → Does w store done old mid → (counts : ℕ → ℕ) → ((n : ℕ) → before.databases n ≤ counts n) → FaultsBarrier w counts now.databases members mid.core.next_barrier f → FaultsIn w run_count hook_count store old core members before now done f
-  settled_later done f mid does counts later h = settling mid does (FaultsBarrier-since w before.databases counts now.databases members later mid.core.next_barrier f h)
+  pub settled_later : (done : Task B) (f : Fault) (mid : Moment w H) → Does w store done old mid → (counts : ℕ → ℕ) → ((n : ℕ) → before.databases n ≤ counts n) → (f ≡ OutOfMemory) ⊎ NeedsBarrier mid.core → FaultsBarrier w counts now.databases members mid.core.next_barrier f → FaultsIn w run_count hook_count store old core members before now done f
+  settled_later done f mid does counts later needed h = settling mid does needed (FaultsBarrier-since w before.databases counts now.databases members later mid.core.next_barrier f h)
 
 -- what is kept of the states behind databases at the same point
 KeepsStates-from : {B R U : Type 0} (w : Workings B R U) (old mid new : w.kind.Members) → w.kind.point mid ≡ w.kind.point old → KeepsStates w mid new → KeepsStates w old new
@@ -119,7 +120,7 @@ module _ {B R U H : Type 0} (w : Workings B R U) (run_count : R → ℕ) (hook_c
 
   FaultsIn-anchor : (done : Task B) (f : Fault) → FaultsIn w run_count hook_count store old core members before now done f → FaultsIn w run_count hook_count store old (record core { anchor = still }) members before now done f
   FaultsIn-anchor done f (doing h) = doing (FaultsAt-anchor done f h)
-  FaultsIn-anchor done f (settling mid does h) = settling mid does h
+  FaultsIn-anchor done f (settling mid does needed h) = settling mid does needed h
 
   pub IsCause-anchor : {C I : Type 0} (event : Event B C I) (failed : Bool) (register : Register) (e : StepError) → IsCause w run_count hook_count store event failed register old core members before now e → IsCause w run_count hook_count store event failed register old (record core { anchor = still }) members before now e
   IsCause-anchor event failed register e (memory is) = memory is

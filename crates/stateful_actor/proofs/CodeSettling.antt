@@ -1,5 +1,5 @@
 -- What is known where a barrier is completed and where one begins.
-use Rattle.std.proofs.Common.{◌≡◌, ◌≢◌, ◌⊎◌, ◌<◌, inl, inr, ℕ, zero, suc, Option, Some, None, List, [], ◌∷◌, All, IfSome, IsNone, is_some, option_map, refl, sym, ◌∙◌, ap, subst}
+use Rattle.std.proofs.Common.{◌≡◌, ◌≢◌, ◌⊎◌, ◌<◌, inl, inr, ℕ, zero, suc, Option, Some, None, List, [], ◌∷◌, All, IfSome, IsNone, is_some, option_map, Result, Ok, Err, IfErr, refl, sym, ◌∙◌, ap, subst}
 use Rattle.std.proofs.lemmas.List.Elements.{All-head, All-tail}
 use Rattle.stateful_types.specs.Names.{Header}
 use Rattle.stateful_types.specs.declared.anchor.Anchor.{Anchor}
@@ -11,9 +11,11 @@ use Rattle.stateful_db.specs.declared.database.FlushToken.{FlushToken}
 use Rattle.stateful_history.specs.declared.mark.Mark.{Mark}
 use Rattle.stateful_actor.specs.Barriers.{Agrees, Tokens}
 use Rattle.stateful_actor.specs.Stands.{Sound}
-use Rattle.stateful_actor.specs.Effects.{CompletesBarrier, Acknowledges}
+use Rattle.stateful_actor.specs.Effects.{CompletesBarrier, Acknowledges, NeedsBarrier}
 use Rattle.stateful_actor.specs.declared.tables.Active.{Active}
 use Rattle.stateful_actor.specs.declared.tables.Core.{Core}
+use Rattle.stateful_actor.specs.declared.error.Fault.{Fault}
+use Rattle.stateful_actor.specs.declared.error.Fault.TheVariants.{OutOfMemory}
 use Rattle.stateful_actor.proofs.CodeSound.{some_of}
 
 -- where every flush was good no token is open
@@ -75,3 +77,20 @@ module _ {Ids S T B R H U : Type 0} (d : Databases Ids S T) (laws : Laws d) (m :
     -- and no token is out
     pub none_out : d.Idle m
     none_out = is_idle completes
+
+module _ {B R H U : Type 0} (old mid told : Core B R H U) (before done released : List (Mark B)) (completes : CompletesBarrier old mid before done ⊎ ((mid ≡ old) × (done ≡ before))) (acknowledges : Acknowledges mid told done released) where
+  -- a barrier that is needed behind the acknowledgements is needed before them
+  NeedsBarrier-before : IsNone told.durability.barrier → told.durability.durable < told.durability.applied → NeedsBarrier old
+  NeedsBarrier-before free behind = record {
+    completed = mid;
+    before = before;
+    done = done;
+    completes = completes;
+    none_active = subst IsNone (ap (λ (c : Core B R H U). c.durability.barrier) acknowledges.core) free;
+    needed = subst (λ (c : Core B R H U). c.durability.durable < c.durability.applied) acknowledges.core behind;
+  }
+
+  -- so whatever goes wrong where it begins, it was needed
+  pub needed-or : {T : Type 0} (r : Result T Fault) → IsNone told.durability.barrier → told.durability.durable < told.durability.applied → IfErr r (λ f. (f ≡ OutOfMemory) ⊎ NeedsBarrier old)
+  needed-or (Ok x) free behind = tt
+  needed-or (Err f) free behind = inr (NeedsBarrier-before free behind)

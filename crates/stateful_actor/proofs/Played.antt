@@ -19,7 +19,7 @@ use Rattle.stateful_actor.specs.Rules.{Keeps}
 use Rattle.stateful_actor.specs.Stands.{Works, Stands}
 use Rattle.stateful_actor.specs.Entering.{OpensAtStored, TakesIn, Plays}
 use Rattle.stateful_actor.specs.Stepping.{IsNew}
-use Rattle.stateful_actor.specs.Driving.{AddsEntry, Steps, HasPlayed}
+use Rattle.stateful_actor.specs.Driving.{AddsEntry, Steps, HasPlayed, HasStood}
 use Rattle.stateful_actor.specs.declared.tables.Core.{Core}
 use Rattle.stateful_actor.proofs.Placed.{nat_lt-above}
 
@@ -44,6 +44,7 @@ module _ {B C I R U : Type 0} (w : Workings B R U) (stored : ℕ → Option (Nam
     flushes = blank.flushes;
     bound = blank.bound;
     down = blank.down;
+    syncs_none = refl;
   }
 
   Works-new : {H : Type 0} (core : Core B R H U) (m : w.kind.Members) (next : w.Ids) → core.anchor ≡ None → Works {B = B} {C = C} {I = I} w stored w.kind.initial [] core m next stored
@@ -114,3 +115,10 @@ module _ {B C I R U : Type 0} (w : Workings B R U) (stored : ℕ → Option (Nam
       → HasPlayed w stored history failed core register m next → TrueNames (setting w stored) (after_all [] history)
       → Plays w stored w.kind.initial [] history (λ base. Unit {0})
   Plays-any history failed core register m next played names = Plays-last w.kind.initial [] history _ _ (played names) (λ base stood. tt)
+
+  -- what stands at the end, and what stands for it then
+  pub HasStood-from : {H : Type 0} (history : List (Entry B C I)) (failed failing : Bool) (core going : Core B R H U) (register registered : Register) (m n : w.kind.Members) (next other : w.Ids)
+      → HasPlayed w stored history failed core register m next
+      → ((base : w.States) → Stands w stored base (after_all [] history) failed core register m next stored → Stands w stored base (after_all [] history) failing going registered n other stored)
+      → HasStood w stored history failing going registered n other
+  HasStood-from history failed failing core going register registered m n next other played more names = Plays-last w.kind.initial [] history _ _ (played names) (λ base stood. more base stood.0)

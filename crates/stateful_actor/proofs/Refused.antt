@@ -152,6 +152,6 @@ module _ {B C I R H U : Type 0} (w : Workings B R U) (laws : Laws w.kind) (store
 
     -- an event that may come isn't refused as failed by a machine that hasn't failed
     pub IsAble-admitted : (anchor : Option Anchor) → core.anchor ≡ anchor → (event : Event B C I) (done : Task B) → may_come w.kind.count p event ≡ true → IsTaskAt w.header core store anchor event done → FaultsIn w run_count hook_count store (moment w core m next marks) after new before now done Failed → ⊥
-    IsAble-admitted anchor is event done may asked (settling mid does faults) = faults
+    IsAble-admitted anchor is event done may asked (settling mid does needed faults) = faults
     IsAble-admitted None is event done may asked (doing faults) = able-down event done asked faults
     IsAble-admitted (Some anchor) is event done may asked (doing faults) = able-at anchor is event done may asked faults

@@ -17,6 +17,7 @@ use Rattle.stateful_actor.specs.Moments.{Moment}
 use Rattle.stateful_actor.specs.Cut.{IsRootOf}
 use Rattle.stateful_actor.specs.Running.{IsInTable}
 use Rattle.stateful_actor.specs.Restarting.{start_height}
+use Rattle.stateful_actor.specs.Effects.{NeedsBarrier}
 use Rattle.stateful_actor.specs.Doing.{Does}
 use Rattle.stateful_actor.specs.declared.cache.Cached.{Cached}
 use Rattle.stateful_actor.specs.declared.tables.Active.{Active}
@@ -181,7 +182,8 @@ module _ {B R U H : Type 0} (w : Workings B R U) (run_count : R → ℕ) (hook_c
   FaultsAt (Flush k i) f = FaultsFlush w before.databases now.databases members old.core.barrier k i f
   FaultsAt (Start floor keep) f = FaultsOpening w before.databases now.databases floor keep store old.members members f
 
-  -- why a task isn't done and settled: it isn't done; or it is, and then no barrier has begun that was needed
+  -- why a task isn't done and settled: it isn't done; or it is, and then no barrier has begun though one was needed, or
+  -- memory ran out
   pub data FaultsIn (done : Task B) (f : Fault) : Type 0 where
     doing : FaultsAt done f → FaultsIn done f
-    settling : (mid : Moment w H) → Does w store done old mid → FaultsBarrier w before.databases now.databases members mid.core.next_barrier f → FaultsIn done f
+    settling : (mid : Moment w H) → Does w store done old mid → (f ≡ OutOfMemory) ⊎ NeedsBarrier mid.core → FaultsBarrier w before.databases now.databases members mid.core.next_barrier f → FaultsIn done f

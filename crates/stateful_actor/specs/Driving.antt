@@ -47,6 +47,12 @@ HasPlayed {B} {C} {I} w store history failed core register m next =
     TrueNames (setting w store) (after_all [] history)
     → Plays w store w.kind.initial [] history (λ base. Stands w store base (after_all [] history) failed core register m next store × Holds (setting w store) w.kind base (after_all [] history) m)
 
+-- Where names are true, each entry of the history keeps the rules, and at its end the machine stands for it.
+abbrev pub HasStood : {B C I R H U : Type 0} (w : Workings B R U) → (ℕ → Option (Named B)) → List (Entry B C I) → Bool → Core B R H U → Register → w.kind.Members → w.Ids → Type 0
+HasStood {B} {C} {I} w store history failed core register m next =
+    TrueNames (setting w store) (after_all [] history)
+    → Plays w store w.kind.initial [] history (λ base. Stands w store base (after_all [] history) failed core register m next store)
+
 -- no count has fallen
 pub record HasNotFallen (before now : Tally) : Type 0 where
   pub application : before.application ≤ now.application

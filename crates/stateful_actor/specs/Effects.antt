@@ -53,6 +53,15 @@ module _ {B R H U : Type 0} (old new : Core B R H U) (before now : List (Mark B)
     pub core : new ≡ record old { durability = record old.durability { held = new.durability.held } }
     pub marks : now ≡ before ++ map acknowledged receipts
 
+-- A barrier is needed: once a flushed one is completed, none is active and something applied isn't durable.
+pub record NeedsBarrier {B R H U : Type 0} (core : Core B R H U) : Type 0 where
+  pub completed : Core B R H U
+  pub before : List (Mark B)
+  pub done : List (Mark B)
+  pub completes : CompletesBarrier core completed before done ⊎ ((completed ≡ core) × (done ≡ before))
+  pub none_active : IsNone completed.durability.barrier
+  pub needed : completed.durability.durable < completed.durability.applied
+
 module _ {B R U H : Type 0} (w : Workings B R U) (old new : Moment w H) where
   -- a barrier over all that is applied has begun, with the tokens of all databases
   pub record BeginsBarrier : Type 0 where

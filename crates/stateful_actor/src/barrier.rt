@@ -8,7 +8,7 @@ ghost use Rattle.stateful_actor.specs.Workings.{workings};
 ghost use Rattle.stateful_actor.specs.Moments.{moment};
 ghost use Rattle.stateful_actor.specs.Stands.{Sound};
 ghost use Rattle.stateful_actor.specs.Causes.{FaultsBarrier, FaultsFlush, KeepsStates};
-ghost use Rattle.stateful_actor.specs.Effects.{BeginsBarrier, CompletesBarrier, Acknowledges, Flushes, HasUnflushed, SettlesAll};
+ghost use Rattle.stateful_actor.specs.Effects.{BeginsBarrier, CompletesBarrier, Acknowledges, Flushes, HasUnflushed, NeedsBarrier, SettlesAll};
 
 use crate::error::Fault;
 use crate::stateful::CoreOf;
@@ -128,6 +128,7 @@ pub(crate) fn settle<A: Application>(
     ensures ok { OnOk result (let w = workings A.Block.header A.meaning A.Databases.kind A.runs A.Databases.shows in SettlesAll w (moment w core.old (A.Databases.members databases.old) (A.Databases.next databases.old) marks.old.items) (moment w core.new (A.Databases.members databases.new) (A.Databases.next databases.new) marks.new.items)) }
     ensures anchor { core.new.anchor ≡ core.old.anchor }
     ensures fault { IfErr result (FaultsBarrier (workings A.Block.header A.meaning A.Databases.kind A.runs A.Databases.shows) (A.Databases.counted databases.old) (A.Databases.counted databases.new) (A.Databases.members databases.new) core.old.next_barrier) }
+    ensures needed { IfErr result (λ f. (f ≡ Fault.OutOfMemory) ⊎ NeedsBarrier core.old) }
     ensures states { OnErr result (KeepsStates (workings A.Block.header A.meaning A.Databases.kind A.runs A.Databases.shows) (A.Databases.members databases.old) (A.Databases.members databases.new)) }
     ensures later { (n : ℕ) → A.Databases.counted databases.old n ≤ A.Databases.counted databases.new n }
 {

@@ -13,7 +13,7 @@ ghost use Rattle.stateful_actor.specs.Moments.{Moment, moment};
 ghost use Rattle.stateful_actor.specs.Entering.{Plays};
 ghost use Rattle.stateful_actor.specs.Stepping.{IsSafe, IsNew};
 ghost use Rattle.stateful_actor.specs.Causes.{tally};
-ghost use Rattle.stateful_actor.specs.Driving.{AddsEntry, Steps, HasPlayed, IsRefused};
+ghost use Rattle.stateful_actor.specs.Driving.{AddsEntry, Steps, HasPlayed, HasStood, IsRefused};
 
 use crate::error::StepError;
 use crate::stateful::Stateful;
@@ -61,6 +61,7 @@ fn enter<A: Application + Drop, S: BlockStore<A::Block>>(
     ensures works { OnOk result (driven.new.stateful.failed ≡ false) }
     ensures register { OnOk result (RegisterStands A.Databases.kind.count (after_all [] driven.old.history.items) driven.old.stateful.register → RegisterStands A.Databases.kind.count (after_all [] driven.new.history.items) driven.new.stateful.register) }
     ensures refused { IfErr result (λ e. (first : Moment (workings A.Block.header A.meaning A.Databases.kind A.runs A.Databases.shows) A.Hook) → Steps (workings A.Block.header A.meaning A.Databases.kind A.runs A.Databases.shows) (S.stored store.old) [] first driven.old.history.items (moment (workings A.Block.header A.meaning A.Databases.kind A.runs A.Databases.shows) driven.old.stateful.core (A.Databases.members driven.old.databases) (A.Databases.next driven.old.databases) []) → HasPlayed (workings A.Block.header A.meaning A.Databases.kind A.runs A.Databases.shows) (S.stored store.old) driven.old.history.items driven.old.stateful.failed driven.old.stateful.core driven.old.stateful.register (A.Databases.members driven.old.databases) (A.Databases.next driven.old.databases) → RegisterStands A.Databases.kind.count (after_all [] driven.old.history.items) driven.old.stateful.register → IsRefused (workings A.Block.header A.meaning A.Databases.kind A.runs A.Databases.shows) (S.stored store.old) A.Run.count A.Hook.count first driven.old.history.items event e driven.new.stateful.core (A.Databases.members driven.new.databases) (tally (A.count driven.old.stateful.config.application) (A.Databases.counted driven.old.databases)) (tally (A.count driven.new.stateful.config.application) (A.Databases.counted driven.new.databases))) }
+    ensures still { OnErr result (HasPlayed (workings A.Block.header A.meaning A.Databases.kind A.runs A.Databases.shows) (S.stored store.old) driven.old.history.items driven.old.stateful.failed driven.old.stateful.core driven.old.stateful.register (A.Databases.members driven.old.databases) (A.Databases.next driven.old.databases) → HasStood (workings A.Block.header A.meaning A.Databases.kind A.runs A.Databases.shows) (S.stored store.old) driven.old.history.items driven.new.stateful.failed driven.new.stateful.core driven.new.stateful.register (A.Databases.members driven.new.databases) (A.Databases.next driven.new.databases)) }
     ensures later { (n : ℕ) → A.Databases.counted driven.old.databases n ≤ A.Databases.counted driven.new.databases n }
     ensures application { A.count driven.old.stateful.config.application ≤ A.count driven.new.stateful.config.application }
 {
@@ -97,6 +98,15 @@ pub fn drive<A: Application + Drop, S: BlockStore<A::Block>>(
     ensures plays { IfOk result (λ driven. let w = workings A.Block.header A.meaning A.Databases.kind A.runs A.Databases.shows in TrueNames (setting w (S.stored store.old)) (after_all [] driven.history.items) → Plays w (S.stored store.old) A.Databases.kind.initial [] driven.history.items (λ base. Holds (setting w (S.stored store.old)) w.kind base (after_all [] driven.history.items) (A.Databases.members driven.databases))) }
     ensures played { IfErr result (λ halt. let w = workings A.Block.header A.meaning A.Databases.kind A.runs A.Databases.shows in TrueNames (setting w (S.stored store.old)) (after_all [] halt.driven.history.items) → Plays w (S.stored store.old) A.Databases.kind.initial [] halt.driven.history.items (λ base. Unit {0})) }
     ensures store { store.new ≡ store.old }
+
+    // The machine works at the end and stands for the history; it may be called again with these databases. Behind a
+    // refusal it still stands for the events before.
+    ensures works { IfOk result (λ driven. driven.stateful.failed ≡ false) }
+    ensures registered { IfOk result (λ driven. RegisterStands A.Databases.kind.count (after_all [] driven.history.items) driven.stateful.register) }
+    ensures stands { IfOk result (λ driven. HasStood (workings A.Block.header A.meaning A.Databases.kind A.runs A.Databases.shows) (S.stored store.old) driven.history.items driven.stateful.failed driven.stateful.core driven.stateful.register (A.Databases.members driven.databases) (A.Databases.next driven.databases)) }
+    ensures safe { IfOk result (λ driven. IsSafe A.Databases.kind (A.Databases.members driven.databases) A.Block.header driven.stateful.failed driven.stateful.core) }
+    ensures still_stands { IfErr result (λ halt. HasStood (workings A.Block.header A.meaning A.Databases.kind A.runs A.Databases.shows) (S.stored store.old) halt.driven.history.items halt.driven.stateful.failed halt.driven.stateful.core halt.driven.stateful.register (A.Databases.members halt.driven.databases) (A.Databases.next halt.driven.databases)) }
+    ensures still_safe { IfErr result (λ halt. IsSafe A.Databases.kind (A.Databases.members halt.driven.databases) A.Block.header halt.driven.stateful.failed halt.driven.stateful.core) }
 
     // The event that was refused, and why, and what the databases hold behind it.
     ensures refused { IfErr result (λ halt. (event : Event A.Block A.Context A.Input) × (rest : List (Event A.Block A.Context A.Input)) × (events.items ≡ map (λ entry. entry.event) halt.driven.history.items ++ event ∷ rest) × IsRefused (workings A.Block.header A.meaning A.Databases.kind A.runs A.Databases.shows) (S.stored store.old) A.Run.count A.Hook.count (moment (workings A.Block.header A.meaning A.Databases.kind A.runs A.Databases.shows) stateful.core (A.Databases.members databases) (A.Databases.next databases) []) halt.driven.history.items event halt.halted.error halt.driven.stateful.core (A.Databases.members halt.driven.databases) (tally (A.count stateful.config.application) (A.Databases.counted databases)) (tally (A.count halt.driven.stateful.config.application) (A.Databases.counted halt.driven.databases))) }

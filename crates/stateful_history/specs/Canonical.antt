@@ -4,15 +4,16 @@ use Rattle.stateful_types.specs.Names.{Named}
 use Rattle.stateful_types.specs.declared.digest.Digest.{Digest}
 use Rattle.stateful_types.specs.declared.anchor.Anchor.{Anchor}
 use Rattle.stateful_history.specs.Setting.{Setting, height_of}
-use Rattle.stateful_history.specs.Past.{Past, Item, Came, Made}
+use Rattle.stateful_history.specs.Past.{Past, Item, Came, Made, Unmarked}
 use Rattle.stateful_history.specs.Anchors.{tip_of, anchor_of}
 use Rattle.stateful_history.specs.declared.mark.Mark.TheVariants.{Pruned}
 
 module _ {B C I : Type 0} where
-  -- the height below which the store's blocks were dropped
+  -- the height below which the store's blocks were dropped, by prunes with a mark and by those without one
   abbrev pub pruned_below : Past B C I → ℕ
   pruned_below [] = 0
   pruned_below (Made (Pruned marshal target) ∷ p) = max marshal.0 (pruned_below p)
+  pruned_below (Unmarked marshal ∷ p) = max marshal.0 (pruned_below p)
   pruned_below (item ∷ p) = pruned_below p
 
 module _ {B C I S T : Type 0} where

@@ -1,12 +1,13 @@
 -- What is live at a place, and which events may come there.
 use Rattle.std.specs.Prelude.{◌≡◌, ℕ, ◌+◌, Bool, true, false, not, nat_lt, ◌==◌, ◌&&◌, ◌||◌, max, if◌then◌else◌, Option, Some, None, List, [], ◌∷◌}
-use Rattle.stateful_history.specs.Past.{Past, Item, Came, Made}
+use Rattle.std.specs.List.{list_any}
+use Rattle.stateful_history.specs.Past.{Past, Item, Came, Made, Seeking}
 use Rattle.stateful_history.specs.Opening.{is_down}
 use Rattle.stateful_history.specs.declared.ticket.Ticket.{Ticket}
 use Rattle.stateful_history.specs.declared.ticket.Ticket.TheVariants.{Request, Receipt}
 use Rattle.stateful_history.specs.declared.event.Event.{Event}
 use Rattle.stateful_history.specs.declared.event.Event.TheVariants.{Verify, Prepare, Propose, Finalized, Subscribe, Cancel, Fetched, Turn, Flushed, Progress, Stop, Restart}
-use Rattle.stateful_history.specs.declared.mark.Mark.TheVariants.{Asked, Withdrawn, Started, Ended, Built, Verdict, Answered, Declined, Databases, BarrierBegun, BarrierDone, Acknowledged, Dropped, Stopped}
+use Rattle.stateful_history.specs.declared.mark.Mark.TheVariants.{Asked, Withdrawn, Started, Ended, Built, Verdict, Answered, Declined, Databases, BarrierBegun, BarrierDone, Acknowledged, Dropped, Stopped, Opened, Converged}
 
 -- a request that may be cancelled
 abbrev pub is_request : Option Ticket → Bool
@@ -68,6 +69,17 @@ module _ {B C I : Type 0} where
   live_flush count k i (Came (Restart floor keep) ∷ p) = false
   live_flush count k i (item ∷ p) = live_flush count k i p
 
+  -- The databases that are live for progress: those that a sync was last said to wait for, until it converges, the
+  -- machine is stopped, or the next restart.
+  abbrev pub seeking : Past B C I → List ℕ
+  seeking [] = []
+  seeking (Seeking databases ∷ p) = databases
+  seeking (Came (Restart floor keep) ∷ p) = []
+  seeking (Made (Opened anchor) ∷ p) = []
+  seeking (Made (Converged anchor) ∷ p) = []
+  seeking (Made Stopped ∷ p) = []
+  seeking (item ∷ p) = seeking p
+
   -- the ticket is above every earlier one
   abbrev pub is_new : ℕ → Past B C I → Bool
   is_new t p = not (nat_lt t (bound_of p))
@@ -83,7 +95,7 @@ module _ {B C I : Type 0} where
   names_live count p (Fetched f answer) = live_fetch f p
   names_live count p (Turn j) = live_job j p
   names_live count p (Flushed k i answer) = live_flush count k i p
-  names_live count p (Progress i) = false
+  names_live count p (Progress i) = list_any (λ j. j == i) (seeking p)
   names_live count p Stop = true
   names_live count p (Restart floor keep) = true
 

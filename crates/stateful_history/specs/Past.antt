@@ -1,13 +1,17 @@
 -- The past at a place: the events and the marks before it, the newest first.
-use Rattle.std.specs.Prelude.{List, [], ◌∷◌}
+use Rattle.std.specs.Prelude.{ℕ, List, [], ◌∷◌}
+use Rattle.stateful_types.specs.declared.number.Height.{Height}
 use Rattle.stateful_history.specs.declared.event.Event.{Event}
 use Rattle.stateful_history.specs.declared.mark.Mark.{Mark}
 use Rattle.stateful_history.specs.declared.entry.Entry.{Entry}
 
--- an event came, or a mark was made
+-- An event came, or a mark was made. Two further items tell what no entry does: an event that was refused had pruned
+-- the store below this height before, without a mark; and from here on these databases are live for progress.
 pub data Item (B C I : Type 0) : Type 0 where
   Came : Event B C I → Item B C I
   Made : Mark B → Item B C I
+  Unmarked : Height → Item B C I
+  Seeking : List ℕ → Item B C I
 
 abbrev pub Past : Type 0 → Type 0 → Type 0 → Type 0
 Past B C I = List (Item B C I)

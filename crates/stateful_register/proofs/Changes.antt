@@ -5,11 +5,11 @@ use Rattle.stateful_types.specs.declared.floor.Floor.{Floor}
 use Rattle.stateful_types.specs.declared.items.Items.{Items}
 use Rattle.stateful_history.specs.Past.{Past, Came, Made}
 use Rattle.stateful_history.specs.Opening.{is_down}
-use Rattle.stateful_history.specs.Live.{live_ticket, live_job, live_fetch, live_flush, bound_of, names_live, may_come}
+use Rattle.stateful_history.specs.Live.{live_ticket, live_job, live_fetch, live_flush, bound_of, seeking, names_live, may_come}
 use Rattle.stateful_history.specs.declared.event.Event.{Event}
 use Rattle.stateful_history.specs.declared.event.Event.TheVariants.{Verify, Flushed, Restart}
 use Rattle.stateful_history.specs.declared.mark.Mark.{Mark}
-use Rattle.stateful_history.specs.declared.mark.Mark.TheVariants.{BarrierBegun, BarrierDone, Stopped}
+use Rattle.stateful_history.specs.declared.mark.Mark.TheVariants.{Opened, Converged, BarrierBegun, BarrierDone, Stopped}
 use Rattle.stateful_register.specs.Change.{change_by_event, change_by_mark, ticket_after, job_after, fetch_after, flush_after, bound_after, down_after}
 use Rattle.stateful_register.specs.Register.{RegisterStands, Applies, IsBlank}
 use Rattle.stateful_register.specs.declared.register.Register.{Register}
@@ -79,6 +79,16 @@ module _ {B C I : Type 0} where
     bound_of-made Stopped = refl
     bound_of-made mark = refl
 
+    seeking-came : (event : Event B C I) → seeking p ≡ [] → seeking (Came event ∷ p) ≡ []
+    seeking-came (Restart floor keep) none = refl
+    seeking-came event none = none
+
+    seeking-made : (mark : Mark B) → seeking p ≡ [] → seeking (Made mark ∷ p) ≡ []
+    seeking-made (Opened anchor) none = refl
+    seeking-made (Converged anchor) none = refl
+    seeking-made Stopped none = refl
+    seeking-made mark none = none
+
     is_down-made : (mark : Mark B) → down_after (change_by_mark mark) (is_down p) ≡ is_down (Made mark ∷ p)
     is_down-made Stopped = refl
     is_down-made mark = refl
@@ -93,6 +103,7 @@ module _ {B C I : Type 0} where
       flushes = λ k i. applies.flushes k i ∙ ap (flush_after count (change_by_event event) k i) (stands.flushes k i) ∙ live_flush-came p count k i event;
       bound = applies.bound ∙ ap (bound_after (change_by_event event)) stands.bound ∙ bound_of-came p event;
       down = applies.down ∙ ap (down_after (change_by_event event)) stands.down ∙ is_down-came p event;
+      syncs_none = seeking-came p event stands.syncs_none;
     }
 
     -- with the change of a mark a register stands for the past with this mark
@@ -104,6 +115,7 @@ module _ {B C I : Type 0} where
       flushes = λ k i. applies.flushes k i ∙ ap (flush_after count (change_by_mark mark) k i) (stands.flushes k i) ∙ live_flush-made p count k i mark;
       bound = applies.bound ∙ ap (bound_after (change_by_mark mark)) stands.bound ∙ bound_of-made p mark;
       down = applies.down ∙ ap (down_after (change_by_mark mark)) stands.down ∙ is_down-made p mark;
+      syncs_none = seeking-made p mark stands.syncs_none;
     }
 
   -- a new register stands for the empty past
@@ -115,6 +127,7 @@ module _ {B C I : Type 0} where
     flushes = blank.flushes;
     bound = blank.bound;
     down = blank.down;
+    syncs_none = refl;
   }
 
   -- another event than a restart may come where the machine isn't down and the event names live work

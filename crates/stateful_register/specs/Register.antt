@@ -1,11 +1,11 @@
 -- The pasts that a register stands for.
-use Rattle.std.specs.Prelude.{◌≡◌, ℕ, ◌+◌, ◌⊎◌, true, false, Option, Some, None, List, take}
+use Rattle.std.specs.Prelude.{◌≡◌, ℕ, ◌+◌, ◌⊎◌, true, false, Option, Some, None, List, [], take}
 use Rattle.std.specs.Ordering.{nat_cmp}
 use Rattle.std.specs.BTreeMap.{get}
 use Rattle.std.specs.BTreeSet.{contains}
 use Rattle.stateful_history.specs.Past.{Past, after_entry}
 use Rattle.stateful_history.specs.Opening.{is_down}
-use Rattle.stateful_history.specs.Live.{live_ticket, live_job, live_fetch, live_flush, bound_of}
+use Rattle.stateful_history.specs.Live.{live_ticket, live_job, live_fetch, live_flush, bound_of, seeking}
 use Rattle.stateful_history.specs.declared.event.Event.{Event}
 use Rattle.stateful_history.specs.declared.mark.Mark.{Mark}
 use Rattle.stateful_register.specs.Change.{ticket_after, job_after, fetch_after, flush_after, bound_after, down_after}
@@ -29,7 +29,8 @@ pub record IsBlank (r : Register) : Type 0 where
 
 module _ {B C I : Type 0} (count : ℕ) (p : Past B C I) where
   -- With so many databases, what the register has as live is live after this past, and it has all of it. Its bound is
-  -- the least new ticket, and it knows whether the machine is down.
+  -- the least new ticket, and it knows whether the machine is down. It has no database that is live for progress, since
+  -- none syncs yet.
   pub record RegisterStands (r : Register) : Type 0 where
     pub tickets : (t : ℕ) → get nat_cmp r.tickets t ≡ live_ticket t p
     pub jobs : (j : ℕ) → contains nat_cmp r.jobs j ≡ live_job j p
@@ -37,6 +38,7 @@ module _ {B C I : Type 0} (count : ℕ) (p : Past B C I) where
     pub flushes : (k i : ℕ) → is_waiting r.flushes k i ≡ live_flush count k i p
     pub bound : above r.last ≡ bound_of p
     pub down : r.down ≡ is_down p
+    pub syncs_none : seeking p ≡ []
 
 -- the register stands for the past as it was, or with an event and some first marks of it
 abbrev pub StandsWithin : {B C I : Type 0} → ℕ → Past B C I → Event B C I → List (Mark B) → Register → Type 0

@@ -31,6 +31,7 @@ impl Digest {
     {
         self == other
     }
+
     /// Appends its 32 bytes.
     pub fn write(&self, out: &mut Vec<u8>) -> Result<(), OutOfMemory>
         ensures { Writes digest_format self.now result out.old.items out.new.items }

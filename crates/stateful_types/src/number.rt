@@ -45,6 +45,7 @@ impl Height {
             None => None,
         }
     }
+
     /// Appends it in eight bytes.
     pub fn write(&self, out: &mut Vec<u8>) -> Result<(), OutOfMemory>
         ensures { Writes height_format self.now result out.old.items out.new.items }

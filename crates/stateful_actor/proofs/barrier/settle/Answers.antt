@@ -1,6 +1,6 @@
 use Rattle.std.proofs.Common.{◌<◌, arith, inl, inr, refl, ap, subst, IsNone, Some}
 use Rattle.stateful_actor.proofs.CodeResults.{on_ok}
-use Rattle.stateful_actor.proofs.CodeSettling.{held_none, held_some, none_active, none_out}
+use Rattle.stateful_actor.proofs.CodeSettling.{held_none, held_some, none_active, none_out, needed-or}
 use Rattle.stateful_actor.proofs.barrier.settle.Goals as goal
 
 pub complete-requires-clause-none : goal.complete-requires-clause-none
@@ -44,3 +44,8 @@ returns-else-needs_barrier-clause-ok g c = record {
   none_durable = c.in_ok-release.ensures.all;
   none_needed = λ free. let within : c.release.new.core.durability.durable < c.release.new.core.durability.applied → ⊥ = λ behind. let needed = c.if-needs_barrier.ensures.needed.1 (free, behind) in cc in omega arith;
 }
+
+pub returns-then-needs_barrier-clause-needed : goal.returns-then-needs_barrier-clause-needed
+returns-then-needs_barrier-clause-needed g c =
+    let needed = c.needs_barrier.ensures.needed.0 c.if-needs_barrier.true in
+    needed-or c.args.core.now c.complete.new.core c.release.new.core c.args.marks.now.items c.complete.new.marks.items c.release.new.marks.items c.in_ok-complete.ensures.ok c.in_ok-release.ensures.ok c.begin_barrier.result needed.0 needed.1

@@ -4,7 +4,7 @@ use Rattle.stateful_actor.specs.Workings.{workings}
 use Rattle.stateful_actor.specs.Moments.{moment}
 use Rattle.stateful_actor.specs.Doing.{IsStep}
 use Rattle.stateful_actor.proofs.Halting.{HasNotFallen-itself, HasNotFallen-further, IsRefused-since, event_at}
-use Rattle.stateful_actor.proofs.Played.{Register-new, HasPlayed-new, Plays-any, Plays-holds, Steps-longer, events-push}
+use Rattle.stateful_actor.proofs.Played.{Register-new, HasPlayed-new, Plays-any, Plays-holds, HasStood-from, Steps-longer, events-push}
 use Rattle.stateful_actor.proofs.driving.drive.Goals as goal
 
 pub loop-event-init : goal.loop-event-init
@@ -60,3 +60,9 @@ returns-clause-all g c = c.loop-event.invariant.events ∙ none_over c.loop-even
 
 pub returns-clause-plays : goal.returns-clause-plays
 returns-clause-plays g c = λ names. Plays-holds _ _ _ _ _ _ _ _ c.loop-event.invariant.played names
+
+pub returns-clause-stands : goal.returns-clause-stands
+returns-clause-stands g c = HasStood-from _ _ _ _ _ _ _ _ _ _ _ _ _ c.loop-event.invariant.played (λ base stood. stood)
+
+pub returns-in-Err-clause-still_stands : goal.returns-in-Err-clause-still_stands
+returns-in-Err-clause-still_stands g c = rw c.in-Err.ensures.err ((rw c.loop-event.invariant.store at c.in-Err.ensures.still) c.loop-event.invariant.played)

@@ -1,8 +1,11 @@
-use Rattle.std.proofs.Common.{rules, ◌≡◌, sym, ◌∙◌, ap, refl}
+use Rattle.std.proofs.Common.{rules, ◌≡◌, [], sym, ◌∙◌, ap, refl}
+use Rattle.stateful_history.specs.Past.{after_all}
 use Rattle.stateful_actor.specs.Workings.{workings}
 use Rattle.stateful_actor.specs.Causes.{tally}
 use Rattle.stateful_actor.specs.Stepping.{changes_nothing}
-use Rattle.stateful_actor.proofs.Played.{HasPlayed-longer}
+use Rattle.stateful_actor.specs.Driving.{HasPlayed, HasStood}
+use Rattle.stateful_actor.proofs.CodeResults.{on_err}
+use Rattle.stateful_actor.proofs.Played.{HasPlayed-longer, HasStood-from}
 use Rattle.stateful_actor.proofs.Halting.{Refused-from, Refused-early, err_to, registered-longer}
 use Rattle.stateful_actor.proofs.driving.enter.Goals as goal
 
@@ -47,3 +50,33 @@ returns-clause-register g c = λ registered.
     let event : c.in_ok-kept.kept ≡ c.args.event = search rules in
     let marks : c.from_vec.result ≡ c.in_ok-marks.marks.items = search rules in
     registered-longer _ c.args.driven.now.history.items _ (record { event = c.in_ok-kept.kept; marks = c.from_vec.result }) _ (c.in_ok-push.ensures.items ∙ rw c.in_ok-reserve.ensures.items refl) (rw (event, marks) (c.in_ok-marks.ensures.register _ registered))
+
+pub returns-in_err-reserve-clause-still : goal.returns-in_err-reserve-clause-still
+returns-in_err-reserve-clause-still g c =
+    let D = g.A.Databases.DatabaseSet in
+    let w = workings g.A.Block.Block.header g.A.Application.meaning D.kind g.A.Application.runs D.shows in
+    let stored = g.S.BlockStore.stored c.args.store.now in
+    let old = c.args.driven.now in
+    let still : HasPlayed w stored old.history.items old.stateful.failed old.stateful.core old.stateful.register (D.members old.databases) (D.next old.databases) → HasStood w stored old.history.items old.stateful.failed old.stateful.core old.stateful.register (D.members old.databases) (D.next old.databases) =
+    λ played. HasStood-from w stored old.history.items _ _ _ _ _ _ _ _ _ _ played (λ base stood. stood) in
+    on_err _ still
+
+pub returns-in_err-kept-clause-still : goal.returns-in_err-kept-clause-still
+returns-in_err-kept-clause-still g c =
+    let D = g.A.Databases.DatabaseSet in
+    let w = workings g.A.Block.Block.header g.A.Application.meaning D.kind g.A.Application.runs D.shows in
+    let stored = g.S.BlockStore.stored c.args.store.now in
+    let old = c.args.driven.now in
+    let still : HasPlayed w stored old.history.items old.stateful.failed old.stateful.core old.stateful.register (D.members old.databases) (D.next old.databases) → HasStood w stored old.history.items old.stateful.failed old.stateful.core old.stateful.register (D.members old.databases) (D.next old.databases) =
+    λ played. HasStood-from w stored old.history.items _ _ _ _ _ _ _ _ _ _ played (λ base stood. stood) in
+    on_err _ still
+
+pub returns-in_err-marks-clause-still : goal.returns-in_err-marks-clause-still
+returns-in_err-marks-clause-still g c =
+    let D = g.A.Databases.DatabaseSet in
+    let w = workings g.A.Block.Block.header g.A.Application.meaning D.kind g.A.Application.runs D.shows in
+    let stored = g.S.BlockStore.stored c.args.store.now in
+    let old = c.args.driven.now in
+    let still : HasPlayed w stored old.history.items old.stateful.failed old.stateful.core old.stateful.register (D.members old.databases) (D.next old.databases) → HasStood w stored old.history.items c.step.new.self.failed c.step.new.self.core c.step.new.self.register (D.members c.step.new.databases) (D.next c.step.new.databases) =
+    λ played. HasStood-from w stored old.history.items _ _ _ _ _ _ _ _ _ _ played (λ base stood. c.in_err-marks.ensures.refused stored base (after_all [] old.history.items) stood) in
+    on_err _ still

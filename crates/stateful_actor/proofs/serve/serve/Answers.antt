@@ -25,7 +25,7 @@ returns-clause-ok g c = record {
 pub returns-in_err-settle-clause-fault : goal.returns-in_err-settle-clause-fault
 returns-in_err-settle-clause-fault g c =
     let p = err_from_is_err_and c.from_residual-in_err-settle.result c.from_residual-in_err-settle.ensures.1 in
-    rw (p.1, p.2) (settled_later _ _ _ _ _ _ _ _ _ c.args.task c.in_err-settle.field-0.0 _ c.in_ok-perform.ensures.ok _ c.in_ok-perform.ensures.later c.in_err-settle.ensures.fault)
+    rw (p.1, p.2) (settled_later _ _ _ _ _ _ _ _ _ c.args.task c.in_err-settle.field-0.0 _ c.in_ok-perform.ensures.ok _ c.in_ok-perform.ensures.later c.in_err-settle.ensures.needed c.in_err-settle.ensures.fault)
 
 pub returns-in_err-settle-clause-states : goal.returns-in_err-settle-clause-states
 returns-in_err-settle-clause-states g c =
