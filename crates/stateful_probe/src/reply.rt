@@ -34,6 +34,83 @@ pub(crate) enum Judgement<C> {
     Good(Finalization<C>),
 }
 
+/// The scheme of an epoch that counts.
+fn counting<S: Scheme>(schemes: &Schemes<S>, minimum_epoch: Epoch, epoch: Epoch) -> bool
+    ensures { result ≡ is_counting schemes.now minimum_epoch epoch }
+{
+    minimum_epoch.0 <= epoch.0 && schemes.at(epoch).is_some()
+}
+
+/// Reads a message. The certificate is read only where the epoch counts.
+fn read_reply<S: Scheme>(
+    alloc: Global,
+    schemes: &Schemes<S>,
+    minimum_epoch: Epoch,
+    input: &mut Bytes,
+) -> Result<Decoded<S::Certificate>, CodecError>
+    ensures { IsReadAs (setup S.Key.cmp S.Key.eq S.certificates S.keys S.certifies schemes.now minimum_epoch) input.old result }
+{
+    if Tag::read(input)? == Tag::Request {
+        return Ok(Decoded::Ignored);
+    }
+    let round = Round::read(input)?;
+    let parent = View(read_u64(input)?);
+    let payload = Digest::read(input)?;
+    if !counting(schemes, minimum_epoch, round.epoch) {
+        return Ok(Decoded::Ignored);
+    }
+    let certificate = S::read_certificate(alloc, input)?;
+    if let Some(byte) = input.as_slice().first() {
+        return Err(CodecError::InvalidEnum(*byte));
+    }
+    Ok(Decoded::Whole(Finalization {
+        round,
+        parent,
+        payload,
+        certificate,
+    }))
+}
+
+/// What the bytes hold.
+fn decode_finalization<S: Scheme>(
+    alloc: Global,
+    schemes: &Schemes<S>,
+    minimum_epoch: Epoch,
+    value: Bytes,
+) -> Result<Decoded<S::Certificate>, OutOfMemory>
+    ensures { IfOk result (IsDecodedAs (setup S.Key.cmp S.Key.eq S.certificates S.keys S.certifies schemes.now minimum_epoch) value) }
+{
+    let mut input = value;
+    match read_reply(alloc, schemes, minimum_epoch, &mut input) {
+        Ok(decoded) => Ok(decoded),
+        Err(CodecError::OutOfMemory) => Err(OutOfMemory),
+        Err(CodecError::EndOfBuffer | CodecError::InvalidEnum(_)) => Ok(Decoded::Malformed),
+    }
+}
+
+/// What a finalization is worth that this peer sent.
+fn verify_finalization<S: Scheme>(
+    schemes: &Schemes<S>,
+    minimum_epoch: Epoch,
+    peer: &S::Key,
+    finalization: Finalization<S::Certificate>,
+) -> Judgement<S::Certificate> {
+    let Some(committee) = schemes.at(minimum_epoch) else {
+        return Judgement::Ignored;
+    };
+    if !committee.participants().contains(peer) {
+        return Judgement::AtFault;
+    }
+    let Some(scheme) = schemes.at(finalization.round.epoch) else {
+        return Judgement::Ignored;
+    };
+    if scheme.verify(&finalization) {
+        Judgement::Good(finalization)
+    } else {
+        Judgement::AtFault
+    }
+}
+
 /// What the bytes of a peer are worth.
 pub(crate) fn judge<S: Scheme>(
     alloc: Global,
@@ -44,5 +121,14 @@ pub(crate) fn judge<S: Scheme>(
 ) -> Result<Judgement<S::Certificate>, OutOfMemory>
     ensures { IfOk result (IsJudgedAs (setup S.Key.cmp S.Key.eq S.certificates S.keys S.certifies schemes.now minimum_epoch) peer.now value) }
 {
-    Err(OutOfMemory)
+    match decode_finalization(alloc, schemes, minimum_epoch, value)? {
+        Decoded::Ignored => Ok(Judgement::Ignored),
+        Decoded::Malformed => Ok(Judgement::AtFault),
+        Decoded::Whole(finalization) => Ok(verify_finalization(
+            schemes,
+            minimum_epoch,
+            peer,
+            finalization,
+        )),
+    }
 }

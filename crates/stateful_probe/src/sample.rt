@@ -71,8 +71,13 @@ impl<K: Ord + Drop, C: Share + Drop> Sample<K, C> {
         ensures err { OnErr result (self.new ≡ self.old) }
 
         // The replies stand by ascending keys, and there is one of a peer at most.
+        ensures ordered { IsStrictlySortedBy K.cmp (keys_of self.new.replies) }
     {
-        Err(OutOfMemory)
+        if self.replies.contains_key(&peer) {
+            return Ok(());
+        }
+        self.replies.insert(peer, finalization)?;
+        Ok(())
     }
 
     /// Drops all replies and the floor.
@@ -97,8 +102,47 @@ impl<K: Ord + Drop, C: Share + Drop> Sample<K, C> {
         ensures ok { IfOk result (λ chosen. self.new ≡ with_floor self.old chosen) }
         ensures err { OnErr result (self.new ≡ self.old) }
     {
-        Err(OutOfMemory)
+        if self.floor.is_some() {
+            return Ok(None);
+        }
+        let Some(highest) = highest_round(&self.replies, committee, &judgeable) else {
+            return Ok(None);
+        };
+        for reply in self.replies.values() {
+            if judgeable(reply) && !highest.is_later_than(reply.round) {
+                let selected = reply.share()?;
+                self.floor = Some(reply.share()?);
+                return Ok(Some(selected));
+            }
+        }
+        Ok(None)
     }
+}
+
+/// The highest round of the replies that can be judged, where there are more of these than participants of a committee of
+/// this size may be faulty.
+fn highest_round<K: Ord, C, F: Fn(&Finalization<C>) -> bool>(
+    replies: &BTreeMap<K, Finalization<C>>,
+    committee: u32,
+    judgeable: &F,
+) -> Option<Round>
+    requires { F.IsAlwaysCallable judgeable.now }
+{
+    let mut count = 0usize;
+    let mut highest: Option<Round> = None;
+    for reply in replies.values() {
+        if judgeable(reply) {
+            count += 1;
+            highest = match highest {
+                Some(before) if !reply.round.is_later_than(before) => Some(before),
+                _ => Some(reply.round),
+            };
+        }
+    }
+    if count <= max_faults(committee) as usize {
+        return None;
+    }
+    highest
 }
 
 #[cfg(test)]

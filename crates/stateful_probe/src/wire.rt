@@ -61,6 +61,52 @@ impl<C> Message<C> {
     pub fn write<S: Scheme<Certificate = C>>(&self, out: &mut Vec<u8>) -> Result<(), OutOfMemory>
         ensures { Writes (message_format S.certificates) self.now result out.old.items out.new.items }
     {
-        Err(OutOfMemory)
+        match self {
+            Message::Request => Tag::Request.write(out),
+            Message::Response(finalization) => {
+                Tag::Response.write(out)?;
+                finalization.write::<S>(out)
+            }
+        }
+    }
+
+    /// Takes a message. Bytes after it are left unread.
+    pub fn read<S: Scheme<Certificate = C>>(
+        alloc: Global,
+        input: &mut Bytes,
+    ) -> Result<Message<C>, CodecError>
+        ensures { Reads (message_format S.certificates) result input.old input.new }
+    {
+        match Tag::read(input)? {
+            Tag::Request => Ok(Message::Request),
+            Tag::Response => Ok(Message::Response(Finalization::read::<S>(alloc, input)?)),
+        }
+    }
+
+    /// How many bytes it has: 1, or 57 and those of the certificate.
+    pub fn encode_size<S: Scheme<Certificate = C>>(&self) -> usize
+        ensures { result ≡ length ((message_format S.certificates).spelling self.now) }
+    {
+        match self {
+            Message::Request => 1,
+            Message::Response(finalization) => 57 + S::certificate_size(&finalization.certificate),
+        }
+    }
+
+    /// How many bytes a message has at most whose finalization holds under a scheme of at most so many participants.
+    pub fn max_encode_size<S: Scheme<Certificate = C>>(participants: u32) -> usize
+        ensures formula { result ≡ 57 + S.max_size participants }
+
+        // No message is longer: a request isn't, and no response whose finalization such a scheme certifies.
+        ensures requests { 1 ≤ result }
+        ensures responses { (scheme : S) (f : Finalization C) → S.certifies scheme f → length (S.keys scheme) ≤ participants → (message_format S.certificates).fits (Message.Response f) → length ((message_format S.certificates).spelling (Message.Response f)) ≤ result }
+    {
+        57 + S::max_certificate_size(participants)
     }
 }
+
+/// In both formats no spelling begins another.
+pub fn no_message_begins_another<S: Scheme>()
+    ensures tags { IsFormat tag_format }
+    ensures messages { IsFormat (message_format S.certificates) }
+{}
