@@ -66,9 +66,7 @@ fn select<S: Scheme>(
     let committee = scheme.participants().len() as u32;
     let judgeable = |f: &Finalization<S::Certificate>| -> bool
         ensures { result ≡ is_some (scheme_in schemes.entry.now f.now.round.epoch) }
-    {
-        schemes.at(f.round.epoch).is_some()
-    };
+    { schemes.at(f.round.epoch).is_some() };
     let Some(floor) = state.sample.select(committee, judgeable)? else {
         return Ok(());
     };
