@@ -5,3 +5,4 @@ pub mod Sent
 pub mod Blame
 pub mod Tickets
 pub mod Laws
+pub mod Stepping

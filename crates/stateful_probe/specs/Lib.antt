@@ -6,3 +6,5 @@ pub mod Judging
 pub mod Probing
 pub mod Laws
 pub mod Mail
+pub mod Serving
+pub mod Selecting

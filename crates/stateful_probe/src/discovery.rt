@@ -1,10 +1,10 @@
 //! Discovery: the participants are asked, and the floor is selected from their replies.
 
-ghost use Rattle.std.specs.Prelude.{◌≡◌, ◌++◌, ◌∷◌, ◌≢◌, [], true, false, Option, Some, None, map, OnOk, OnErr, length};
+ghost use Rattle.std.specs.Prelude.{◌≡◌, ◌++◌, List, [], false, Option, Some, is_some, OnOk, length};
 ghost use Rattle.stateful_types.specs.declared.finalization.Finalization.{Finalization};
-ghost use Rattle.stateful_probe.specs.Setup.{setup, committee};
-ghost use Rattle.stateful_probe.specs.Sampled.{awaits, with_reply};
+ghost use Rattle.stateful_probe.specs.Setup.{setup, scheme_in, committee};
 ghost use Rattle.stateful_probe.specs.Probing.{Steps, asked, restarted, handed_out, is_serving};
+ghost use Rattle.stateful_probe.specs.Selecting.{Chooses};
 ghost use Rattle.stateful_probe.specs.declared.event.Event.TheVariants as events;
 
 use crate::event::Out;
@@ -56,12 +56,17 @@ fn select<S: Scheme>(
     schemes: &Schemes<S>,
     state: &mut State<S::Key, S::Certificate>,
     outs: &mut Vec<Out<S::Key, S::Certificate>>,
-) -> Result<(), OutOfMemory> {
+) -> Result<(), OutOfMemory>
+    ensures chooses { OnOk result ((keys : List S.Key) → committee (setup S.Key.cmp S.Key.eq S.certificates S.keys S.certifies schemes.now state.old.sample.minimum_epoch) ≡ Some keys → Chooses (setup S.Key.cmp S.Key.eq S.certificates S.keys S.certifies schemes.now state.old.sample.minimum_epoch) (length keys) state.old outs.old.items outs.new.items state.new) }
+    ensures minimum { OnOk result (state.new.sample.minimum_epoch ≡ state.old.sample.minimum_epoch) }
+{
     let Some(scheme) = schemes.at(state.sample.minimum_epoch()) else {
         return Ok(());
     };
     let committee = scheme.participants().len() as u32;
-    let judgeable = |f: &Finalization<S::Certificate>| schemes.at(f.round.epoch).is_some();
+    let judgeable = |f: &Finalization<S::Certificate>| -> bool
+        ensures { result ≡ is_some (scheme_in schemes.entry.now f.now.round.epoch) }
+    { schemes.at(f.round.epoch).is_some() };
     let Some(floor) = state.sample.select(committee, judgeable)? else {
         return Ok(());
     };
@@ -78,7 +83,11 @@ pub(crate) fn receive<S: Scheme>(
     peer: S::Key,
     value: Bytes,
     outs: &mut Vec<Out<S::Key, S::Certificate>>,
-) -> Result<(), OutOfMemory> {
+) -> Result<(), OutOfMemory>
+    requires { outs.old.items ≡ [] }
+    ensures received { OnOk result (is_serving state.old ≡ false → (latest : Option (Finalization S.Certificate)) → Steps (setup S.Key.cmp S.Key.eq S.certificates S.keys S.certifies schemes.now state.old.sample.minimum_epoch) latest state.old (events.Received peer value) outs.new.items state.new) }
+    ensures minimum { OnOk result (state.new.sample.minimum_epoch ≡ state.old.sample.minimum_epoch) }
+{
     if !state.sample.awaits(&peer) {
         return Ok(());
     }

@@ -1,6 +1,6 @@
 //! The probe, one event at a time.
 
-ghost use Rattle.std.specs.Prelude.{◌≡◌, ◌≢◌, ◌+◌, ◌-◌, ◌^◌, ◌<◌, ◌↔◌, ℕ, [], All, length, true, false, IfOk, OnOk, IfErr, IsErrOf};
+ghost use Rattle.std.specs.Prelude.{◌≡◌, ◌≢◌, ◌+◌, ◌-◌, ◌^◌, ◌<◌, ◌↔◌, [], Option, All, length, true, false, IfOk, OnOk, IfErr, IsErrOf};
 ghost use Rattle.stateful_types.specs.declared.finalization.Finalization.{Finalization};
 ghost use Rattle.stateful_probe.specs.Setup.{setup};
 ghost use Rattle.stateful_probe.specs.Probing.{Steps, may_come, IsNew, IsExhausting};
@@ -102,7 +102,17 @@ impl<S: Scheme> Probe<S> {
         &mut self,
         event: ProbeEvent<S>,
         latest: &L,
-    ) -> Result<Vec<ProbeOut<S>>, ProbeError> {
+    ) -> Result<Vec<ProbeOut<S>>, ProbeError>
+        ensures steps { IfOk result (λ outs. Steps (setup S.Key.cmp S.Key.eq S.certificates S.keys S.certifies self.old.schemes self.old.state.sample.minimum_epoch) (L.newest latest.now) self.old.state event outs.items self.new.state) }
+        ensures schemes { self.new.schemes ≡ self.old.schemes }
+        ensures minimum { OnOk result (self.new.state.sample.minimum_epoch ≡ self.old.state.sample.minimum_epoch) }
+        ensures works { self.new.failed ≡ self.old.failed }
+
+        // It is refused for want of numbers or memory alone.
+        ensures exhausted { IsErrOf result ProbeError.Exhausted ↔ IsExhausting event }
+        ensures live { IsErrOf result ProbeError.BadEvent → ⊥ }
+        ensures goes_on { IsErrOf result ProbeError.Failed → ⊥ }
+    {
         let mut outs = Vec::new(self.alloc);
         match event {
             Event::Subscribe { ticket } => {
@@ -135,7 +145,12 @@ impl<S: Scheme> Probe<S> {
 
     /// Answers a subscription with the floor, closes it, or lets it wait.
     fn subscribe(&mut self, ticket: u64, outs: &mut Vec<ProbeOut<S>>) -> Result<(), OutOfMemory>
-        requires { ticket < 2 ^ 64 - 1 }
+        requires below { ticket < 2 ^ 64 - 1 }
+        requires none { outs.old.items ≡ [] }
+        ensures steps { OnOk result ((latest : Option (Finalization S.Certificate)) → Steps (setup S.Key.cmp S.Key.eq S.certificates S.keys S.certifies self.old.schemes self.old.state.sample.minimum_epoch) latest self.old.state (events.Subscribe ticket) outs.new.items self.new.state) }
+        ensures schemes { self.new.schemes ≡ self.old.schemes }
+        ensures minimum { OnOk result (self.new.state.sample.minimum_epoch ≡ self.old.state.sample.minimum_epoch) }
+        ensures works { self.new.failed ≡ self.old.failed }
     {
         let serving = self.state.is_serving();
         self.state.next_ticket = ticket + 1;
@@ -159,7 +174,13 @@ impl<S: Scheme> Probe<S> {
     }
 
     /// Begins the round anew where someone waits for a floor.
-    fn retry(&mut self, outs: &mut Vec<ProbeOut<S>>) -> Result<(), OutOfMemory> {
+    fn retry(&mut self, outs: &mut Vec<ProbeOut<S>>) -> Result<(), OutOfMemory>
+        requires { outs.old.items ≡ [] }
+        ensures steps { OnOk result ((latest : Option (Finalization S.Certificate)) → Steps (setup S.Key.cmp S.Key.eq S.certificates S.keys S.certifies self.old.schemes self.old.state.sample.minimum_epoch) latest self.old.state events.Retry outs.new.items self.new.state) }
+        ensures schemes { self.new.schemes ≡ self.old.schemes }
+        ensures minimum { OnOk result (self.new.state.sample.minimum_epoch ≡ self.old.state.sample.minimum_epoch) }
+        ensures works { self.new.failed ≡ self.old.failed }
+    {
         if self.state.sample.floor().is_some() || self.state.subscribers.is_empty() {
             return Ok(());
         }
@@ -167,7 +188,13 @@ impl<S: Scheme> Probe<S> {
     }
 
     /// Closes all that wait.
-    fn stop(&mut self, outs: &mut Vec<ProbeOut<S>>) -> Result<(), OutOfMemory> {
+    fn stop(&mut self, outs: &mut Vec<ProbeOut<S>>) -> Result<(), OutOfMemory>
+        requires { outs.old.items ≡ [] }
+        ensures steps { OnOk result ((latest : Option (Finalization S.Certificate)) → Steps (setup S.Key.cmp S.Key.eq S.certificates S.keys S.certifies self.old.schemes self.old.state.sample.minimum_epoch) latest self.old.state events.Stop outs.new.items self.new.state) }
+        ensures schemes { self.new.schemes ≡ self.old.schemes }
+        ensures minimum { OnOk result (self.new.state.sample.minimum_epoch ≡ self.old.state.sample.minimum_epoch) }
+        ensures works { self.new.failed ≡ self.old.failed }
+    {
         for ticket in self.state.subscribers.as_slice() {
             outs.push(Out::Closed { ticket: *ticket })?;
         }

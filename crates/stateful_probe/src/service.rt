@@ -1,5 +1,13 @@
 //! Service: peers that ask are sent the node's latest finalization.
 
+ghost use Rattle.std.specs.Prelude.{◌≡◌, List, [], true, IfOk, OnOk};
+ghost use Rattle.stateful_types.specs.declared.number.Epoch.{Epoch};
+ghost use Rattle.stateful_probe.specs.Setup.{setup};
+ghost use Rattle.stateful_probe.specs.Probing.{Steps, is_serving};
+ghost use Rattle.stateful_probe.specs.Serving.{IsResponseOf};
+ghost use Rattle.stateful_probe.specs.declared.state.State.{State};
+ghost use Rattle.stateful_probe.specs.declared.event.Event.TheVariants as events;
+
 use crate::event::Out;
 use crate::wire::{Message, Tag};
 use bytes::Bytes;
@@ -10,7 +18,9 @@ use std::alloc::Global;
 fn latest_response<S: Scheme, L: Latest<S::Certificate>>(
     alloc: Global,
     latest: &L,
-) -> Result<Option<Bytes>, OutOfMemory> {
+) -> Result<Option<Bytes>, OutOfMemory>
+    ensures { IfOk result (IsResponseOf S.certificates (L.newest latest.now)) }
+{
     let Some(finalization) = latest.latest()? else {
         return Ok(None);
     };
@@ -26,7 +36,12 @@ pub(crate) fn receive<S: Scheme, L: Latest<S::Certificate>>(
     peer: S::Key,
     value: Bytes,
     outs: &mut Vec<Out<S::Key, S::Certificate>>,
-) -> Result<(), OutOfMemory> {
+) -> Result<(), OutOfMemory>
+    requires { outs.old.items ≡ [] }
+
+    // Whatever probe serves.
+    ensures { OnOk result ((schemes : List (Epoch × S)) (minimum : Epoch) (state : State S.Key S.Certificate) → is_serving state ≡ true → Steps (setup S.Key.cmp S.Key.eq S.certificates S.keys S.certifies schemes minimum) (L.newest latest.now) state (events.Received peer value) outs.new.items state) }
+{
     let mut input = value;
     match Tag::read(&mut input) {
         Ok(Tag::Request) => {
