@@ -1,12 +1,15 @@
 //! Samples of a committee's replies.
 
-ghost use Rattle.std.specs.Prelude.{◌≡◌, ◌∷◌, [], Option, None, Bool, IsTrue, IfOk, OnOk, OnErr, ◌↔◌};
+ghost use Rattle.std.specs.Prelude.{◌≡◌, ◌+◌, ◌≤◌, ◌⊎◌, ◌∷◌, [], None, Some, Bool, IfOk, OnOk, OnErr, IsSome, IfSome, ◌↔◌, length, filter};
+ghost use Rattle.std.specs.BTreeMap.{values};
 ghost use Rattle.std.specs.Option.{option_copied};
 ghost use Rattle.std.specs.Fn.{FnReturnsAt};
 ghost use Rattle.std.specs.List.Sorted.{IsStrictlySortedBy};
 ghost use Rattle.std.specs.Map.{keys_of};
 ghost use Rattle.stateful_types.specs.declared.finalization.Finalization.{Finalization};
-ghost use Rattle.stateful_probe.specs.Sampled.{awaits, with_reply, with_floor, cleared, Selects};
+ghost use Rattle.stateful_types.specs.Round.{IsLater};
+ghost use Rattle.stateful_types.specs.Vote.{max_faults};
+ghost use Rattle.stateful_probe.specs.Sampled.{awaits, with_reply, with_floor, cleared, IsHighestRound, Selects};
 
 use stateful_types::{Epoch, Finalization, OutOfMemory, Round, Share, max_faults};
 use std::alloc::Global;
@@ -73,6 +76,8 @@ impl<K: Ord + Drop, C: Share + Drop> Sample<K, C> {
         // The replies stand by ascending keys, and there is one of a peer at most.
         ensures ordered { IsStrictlySortedBy K.cmp (keys_of self.new.replies) }
     {
+        // The length is read for what it tells the proof: that the keys ascend.
+        let _count = self.replies.len();
         if self.replies.contains_key(&peer) {
             return Ok(());
         }
@@ -127,22 +132,35 @@ fn highest_round<K: Ord, C, F: Fn(&Finalization<C>) -> bool>(
     judgeable: &F,
 ) -> Option<Round>
     requires { F.IsAlwaysCallable judgeable.now }
+
+    // Where the closure always gives the answers of some test.
+    ensures exactly { (judges : Finalization C → Bool) → ((f : Finalization C) (b : Bool) → FnReturnsAt F.Fn judgeable.now f b → b ≡ judges f) → IsSome result ↔ (max_faults committee + 1 ≤ length (filter judges (values replies.now))) }
+    ensures highest { (judges : Finalization C → Bool) → ((f : Finalization C) (b : Bool) → FnReturnsAt F.Fn judgeable.now f b → b ≡ judges f) → IfSome result (IsHighestRound (filter judges (values replies.now))) }
 {
     let mut count = 0usize;
     let mut highest: Option<Round> = None;
     for reply in replies.values() {
         if judgeable(reply) {
             count += 1;
-            highest = match highest {
-                Some(before) if !reply.round.is_later_than(before) => Some(before),
-                _ => Some(reply.round),
-            };
+            highest = Some(latest(highest, reply.round));
         }
     }
     if count <= max_faults(committee) as usize {
         return None;
     }
     highest
+}
+
+/// The later of two rounds, or the second where there is no first.
+fn latest(before: Option<Round>, round: Round) -> Round
+    ensures one { (result ≡ round) ⊎ (before ≡ Some result) }
+    ensures first { IfSome before (λ b. IsLater result b → ⊥) }
+    ensures second { IsLater result round → ⊥ }
+{
+    match before {
+        Some(before) if before.is_later_than(round) => before,
+        _ => round,
+    }
 }
 
 #[cfg(test)]
