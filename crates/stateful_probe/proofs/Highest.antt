@@ -1,16 +1,22 @@
 -- The highest of replies' rounds.
-use Rattle.std.proofs.Common.{◌≡◌, ℕ, ◌+◌, ◌≤◌, ◌<◌, Bool, true, false, cond, Option, Some, None, MatchOption, List, [], ◌∷◌, ◌++◌, length, get_or, map, filter, sym, ap, subst, refl, ◌∙◌, ◌⊎◌, inl, inr, ⊎_elim, arith, append-nil}
+use Rattle.std.proofs.Common.{◌≡◌, ℕ, Bool, true, false, Option, Some, None, MatchOption, List, [], ◌∷◌, ◌++◌, map, filter, sym, ap, subst, refl, ◌∙◌, ◌⊎◌, ⊎_elim, arith, append-nil}
 use Rattle.std.specs.Borrow.{Bor}
-use Rattle.std.specs.List.{All, Any, Contains}
+use Rattle.std.specs.List.{All, Any}
 use Rattle.std.specs.Map.Iter.{deref}
-use Rattle.std.specs.Option.{IfSome}
+use Rattle.std.specs.Option.{IfSome, is_some}
 use Rattle.std.proofs.lemmas.List.{map-append}
-use Rattle.std.proofs.lemmas.List.Elements.{All-nil, All-same, All-push, All-weaker, All-contains, Contains-append_left, filter-append}
+use Rattle.std.proofs.lemmas.List.Elements.{All-head, All-tail, All-nil, All-same, All-push, All-weaker, All-contains, Contains-append_left, filter-append}
+use Rattle.std.proofs.lemmas.Bool.{cases_Bool, true≢false}
 use Rattle.std.proofs.lemmas.List.Quantifiers.{Any-push}
 use Rattle.stateful_types.specs.Round.{IsLater}
 use Rattle.stateful_types.specs.declared.round.Round.{Round}
 use Rattle.stateful_types.specs.declared.finalization.Finalization.{Finalization}
 use Rattle.stateful_probe.specs.Sampled.{IsHighest, IsHighestRound}
+
+-- what isn't there is none
+pub none_unless_some : {X : Type 0} (o : Option X) → is_some o ≡ false → o ≡ None
+none_unless_some None _ = refl
+none_unless_some (Some x) e = absurd (true≢false e)
 
 -- what isn't later than a round isn't later than one that isn't before that
 pub no_later_on : (a b c : Round) → (IsLater a b → ⊥) → (IsLater c a → ⊥) → IsLater c b → ⊥
@@ -55,3 +61,41 @@ module _ {C : Type 0} where
   -- and with one that it doesn't
   pub judged_more_no : (judges : Finalization C → Bool) (xs : List (Bor (Finalization C))) (x : Bor (Finalization C)) → judges x.now ≡ false → filter judges (map deref (xs ++ x ∷ [])) ≡ filter judges (map deref xs)
   judged_more_no judges xs x fails = simp (map-append, filter-append, fails, append-nil)
+
+  -- what holds of each of some elements holds of each of the later ones
+  all_back : (P : Finalization C → Type 0) (xs ys : List (Finalization C)) → All P (xs ++ ys) → All P ys
+  all_back P [] ys h = h
+  all_back P (x ∷ xs) ys h = all_back P xs ys (All-tail P x (xs ++ ys) h)
+
+  -- the first that the test answers and that isn't before the highest round is the highest
+  pub highest_found : (judges : Finalization C → Bool) (front : List (Finalization C)) (f : Finalization C) (back : List (Finalization C)) (top : Round) → IsHighestRound (filter judges (front ++ f ∷ back)) top → judges f ≡ true → (IsLater f.round top → ⊥) → All (λ g. IsLater g.round top) (filter judges front) → IsHighest (filter judges (front ++ f ∷ back)) f
+  highest_found judges front f back top highest passes no_earlier earlier =
+      let place : filter judges (front ++ f ∷ back) ≡ filter judges front ++ f ∷ filter judges back = simp (filter-append, passes) in
+      let bounds = subst (All (λ g. IsLater top g.round → ⊥)) place highest.bounds in
+      let behind = all_back (λ g. IsLater top g.round → ⊥) (filter judges front) (f ∷ filter judges back) bounds in
+      let same = same_round top f.round no_earlier (All-head (λ g. IsLater top g.round → ⊥) f (filter judges back) behind) in
+      record {
+        front = filter judges front;
+        back = filter judges back;
+        place = place;
+        first = subst (λ r. All (λ g. IsLater g.round r) (filter judges front)) same earlier;
+        highest =
+            subst (λ r. All (λ g. IsLater r g.round → ⊥) (filter judges back)) same (All-tail (λ g. IsLater top g.round → ⊥) f (filter judges back) behind);
+      }
+
+  -- one of them has the highest round, so not all are of earlier ones
+  pub highest_reached : (xs : List (Finalization C)) (top : Round) → IsHighestRound xs top → All (λ g. IsLater g.round top) xs → ⊥
+  highest_reached xs top highest earlier =
+      let a = highest.reached in
+      let l : IsLater a.1.round top = All-contains (λ g. IsLater g.round top) xs a.1 earlier (a.0, a.2, a.3) in
+      let e : a.1.round ≡ top = a.4 in
+      let m = subst (λ r. IsLater r top) e l in
+      grind arith
+
+  -- one more that is of an earlier round, where the test answers it
+  pub earlier_more : (judges : Finalization C → Bool) (xs : List (Bor (Finalization C))) (x : Bor (Finalization C)) (top : Round) → (judges x.now ≡ true → IsLater x.now.round top) → All (λ g. IsLater g.round top) (filter judges (map deref xs)) → All (λ g. IsLater g.round top) (filter judges (map deref (xs ++ x ∷ [])))
+  earlier_more judges xs x top earlier so_far =
+      ⊎_elim
+      (λ passes. subst (All (λ g. IsLater g.round top)) (sym (judged_more_yes judges xs x passes)) (All-push (λ g. IsLater g.round top) (filter judges (map deref xs)) x.now so_far (earlier passes)))
+      (λ fails. subst (All (λ g. IsLater g.round top)) (sym (judged_more_no judges xs x fails)) so_far)
+      (cases_Bool (judges x.now))

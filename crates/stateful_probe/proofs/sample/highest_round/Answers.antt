@@ -1,4 +1,4 @@
-use Rattle.std.proofs.Common.{◌≡◌, ◌+◌, ◌∷◌, [], ◌++◌, ◌≤◌, Bool, true, false, length, filter, map, refl, sym, ap, ◌∙◌, arith, subst}
+use Rattle.std.proofs.Common.{length, filter, map, refl, sym, ap, ◌∙◌, arith, subst}
 use Rattle.std.specs.Map.Iter.{deref}
 use Rattle.std.proofs.lemmas.Fn.{says_at}
 use Rattle.std.proofs.lemmas.List.{length_push}
