@@ -1,22 +1,17 @@
 -- The highest of replies' rounds.
-use Rattle.std.proofs.Common.{◌≡◌, ℕ, Bool, true, false, Option, Some, None, MatchOption, List, [], ◌∷◌, ◌++◌, map, filter, sym, ap, subst, refl, ◌∙◌, ◌⊎◌, ⊎_elim, arith, append-nil}
+use Rattle.std.proofs.Common.{◌≡◌, ℕ, Bool, true, false, Option, Some, None, MatchOption, List, [], ◌∷◌, ◌++◌, map, filter, sym, ap, subst, ◌∙◌, ◌⊎◌, ⊎_elim, arith, append-nil}
 use Rattle.std.specs.Borrow.{Bor}
 use Rattle.std.specs.List.{All, Any}
 use Rattle.std.specs.Map.Iter.{deref}
-use Rattle.std.specs.Option.{IfSome, is_some}
+use Rattle.std.specs.Option.{IfSome}
 use Rattle.std.proofs.lemmas.List.{map-append}
 use Rattle.std.proofs.lemmas.List.Elements.{All-head, All-tail, All-nil, All-same, All-push, All-weaker, All-contains, Contains-append_left, filter-append}
-use Rattle.std.proofs.lemmas.Bool.{cases_Bool, true≢false}
+use Rattle.std.proofs.lemmas.Bool.{cases_Bool}
 use Rattle.std.proofs.lemmas.List.Quantifiers.{Any-push}
 use Rattle.stateful_types.specs.Round.{IsLater}
 use Rattle.stateful_types.specs.declared.round.Round.{Round}
 use Rattle.stateful_types.specs.declared.finalization.Finalization.{Finalization}
 use Rattle.stateful_probe.specs.Sampled.{IsHighest, IsHighestRound}
-
--- what isn't there is none
-pub none_unless_some : {X : Type 0} (o : Option X) → is_some o ≡ false → o ≡ None
-none_unless_some None _ = refl
-none_unless_some (Some x) e = absurd (true≢false e)
 
 -- what isn't later than a round isn't later than one that isn't before that
 pub no_later_on : (a b c : Round) → (IsLater a b → ⊥) → (IsLater c a → ⊥) → IsLater c b → ⊥

@@ -9,7 +9,7 @@ ghost use Rattle.std.specs.Map.{keys_of};
 ghost use Rattle.stateful_types.specs.declared.finalization.Finalization.{Finalization};
 ghost use Rattle.stateful_types.specs.Round.{IsLater};
 ghost use Rattle.stateful_types.specs.Vote.{max_faults};
-ghost use Rattle.stateful_probe.specs.Sampled.{awaits, with_reply, with_floor, cleared, IsHighestRound, Selects};
+ghost use Rattle.stateful_probe.specs.Sampled.{awaits, with_reply, with_floor, cleared, IsHighest, IsHighestRound, Selects};
 
 use stateful_types::{Epoch, Finalization, OutOfMemory, Round, Share, max_faults};
 use std::alloc::Global;
@@ -110,18 +110,37 @@ impl<K: Ord + Drop, C: Share + Drop> Sample<K, C> {
         if self.floor.is_some() {
             return Ok(None);
         }
-        let Some(highest) = highest_round(&self.replies, committee, &judgeable) else {
+        let Some(highest) = highest_reply(&self.replies, committee, &judgeable) else {
             return Ok(None);
         };
-        for reply in self.replies.values() {
-            if judgeable(reply) && !highest.is_later_than(reply.round) {
-                let selected = reply.share()?;
-                self.floor = Some(reply.share()?);
-                return Ok(Some(selected));
-            }
-        }
-        Ok(None)
+        let selected = highest.share()?;
+        self.floor = Some(highest.share()?);
+        Ok(Some(selected))
     }
+}
+
+/// The highest reply that can be judged, and of equal rounds the first, where there are more of these than participants of a
+/// committee of this size may be faulty.
+fn highest_reply<'a, K: Ord, C, F: Fn(&Finalization<C>) -> bool>(
+    replies: &'a BTreeMap<K, Finalization<C>>,
+    committee: u32,
+    judgeable: &F,
+) -> Option<&'a Finalization<C>>
+    requires { F.IsAlwaysCallable judgeable.now }
+
+    // Where the closure always gives the answers of some test.
+    ensures exactly { (judges : Finalization C → Bool) → ((f : Finalization C) (b : Bool) → FnReturnsAt F.Fn judgeable.now f b → b ≡ judges f) → IsSome result ↔ (max_faults committee + 1 ≤ length (filter judges (values replies.now))) }
+    ensures highest { (judges : Finalization C → Bool) → ((f : Finalization C) (b : Bool) → FnReturnsAt F.Fn judgeable.now f b → b ≡ judges f) → IfSome result (λ f. IsHighest (filter judges (values replies.now)) f.now) }
+{
+    let Some(highest) = highest_round(replies, committee, judgeable) else {
+        return None;
+    };
+    for reply in replies.values() {
+        if judgeable(reply) && !highest.is_later_than(reply.round) {
+            return Some(reply);
+        }
+    }
+    None
 }
 
 /// The highest round of the replies that can be judged, where there are more of these than participants of a committee of
@@ -252,7 +271,10 @@ mod tests {
         sample.record(2, reply(rt.alloc(), 9))?;
         assert_eq!(rt; view_of(&sample.select(4, |f| f.round.view.0 != 9)?), None);
         sample.record(3, reply(rt.alloc(), 6))?;
-        assert_eq!(rt; view_of(&sample.select(4, |f| f.round.view.0 != 9)?), Some(7));
+        assert_eq!(rt;
+            view_of(&sample.select(4, |f| f.round.view.0 != 9)?),
+            Some(7)
+        );
         Ok(())
     }
 }

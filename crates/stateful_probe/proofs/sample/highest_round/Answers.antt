@@ -16,9 +16,10 @@ loop-reply-preserved-then-judgeable g c = record {
       let said = agrees reply.now c.judgeable.result (says_at g.F.Fn c.judgeable.ensures refl) in
       let so_far = c.loop-reply.invariant.judged judges agrees in
       let more = judged_more_yes judges c.loop-reply.yielded reply (sym said ∙ c.if-judgeable.true) in
-      let before = filter judges (map deref c.loop-reply.yielded) in
-      (omega (arith, ap length more, length_push before reply.now, so_far.0),
-        subst (λ xs. IsHighestRound xs c.latest.result) (sym more) (highest_more before reply.now c.loop-reply.highest c.latest.result so_far.1 c.latest.ensures.one c.latest.ensures.first c.latest.ensures.second));
+      let before = filter judges (map deref c.loop-reply.yielded) in (
+        omega (arith, ap length more, length_push before reply.now, so_far.0),
+        subst (λ xs. IsHighestRound xs c.latest.result) (sym more) (highest_more before reply.now c.loop-reply.highest c.latest.result so_far.1 c.latest.ensures.one c.latest.ensures.first c.latest.ensures.second),
+      );
 }
 
 -- one more that it doesn't answer changes nothing

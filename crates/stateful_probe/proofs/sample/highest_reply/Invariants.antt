@@ -4,7 +4,7 @@ use Rattle.std.specs.List.{All}
 use Rattle.std.specs.Map.Iter.{deref}
 use Rattle.stateful_types.specs.Round.{IsLater}
 use Rattle.stateful_types.specs.declared.finalization.Finalization.{Finalization}
-use Rattle.stateful_probe.proofs.sample.Sample.select.Given as goal
+use Rattle.stateful_probe.proofs.sample.highest_reply.Given as goal
 
 -- the replies so far that the test answers are all of earlier rounds than the highest
 abbrev pub invariant-loop-reply : goal.invariant-loop-reply
