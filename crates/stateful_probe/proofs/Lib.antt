@@ -6,3 +6,4 @@ pub mod Blame
 pub mod Tickets
 pub mod Laws
 pub mod Stepping
+pub mod Highest

@@ -1,11 +1,13 @@
 -- Samples of a committee's replies.
 use Rattle.std.specs.Prelude.{◌≡◌, ℕ, ◌+◌, ◌≤◌, ◌↔◌, Bool, not, ◌&&◌, if◌then◌else◌, is_some, is_none, Option, Some, None, IsSome, IfSome, List, [], ◌∷◌, ◌++◌, All, filter, length}
+use Rattle.std.specs.List.{Any}
 use Rattle.std.specs.Map.{values_of, lookup}
 use Rattle.std.specs.BTreeMap.{is_at, insert_entry}
 use Rattle.std.specs.declared.cmp.Ordering.{Ordering}
 use Rattle.stateful_types.specs.Round.{IsLater}
 use Rattle.stateful_types.specs.Vote.{max_faults}
 use Rattle.stateful_types.specs.declared.number.Epoch.{Epoch}
+use Rattle.stateful_types.specs.declared.round.Round.{Round}
 use Rattle.stateful_types.specs.declared.finalization.Finalization.{Finalization}
 
 -- the lowest epoch that counts, the first reply of each peer since the last reset, by ascending keys, and the floor
@@ -44,6 +46,11 @@ pub record IsHighest {C : Type 0} (among : List (Finalization C)) (f : Finalizat
   pub place : among ≡ front ++ f ∷ back
   pub first : All (λ g. IsLater g.round f.round) front
   pub highest : All (λ g. IsLater f.round g.round → ⊥) back
+
+-- one of them has this round, and none has a later one
+pub record IsHighestRound {C : Type 0} (among : List (Finalization C)) (round : Round) : Type 0 where
+  pub reached : Any (λ f. f.round ≡ round) among
+  pub bounds : All (λ f. IsLater round f.round → ⊥) among
 
 module _ {K C : Type 0} (committee : ℕ) (judges : Finalization C → Bool) where
   -- the recorded replies that can be judged

@@ -1,12 +1,15 @@
 //! Samples of a committee's replies.
 
-ghost use Rattle.std.specs.Prelude.{◌≡◌, ◌∷◌, [], Option, None, Bool, IsTrue, IfOk, OnOk, OnErr, ◌↔◌};
+ghost use Rattle.std.specs.Prelude.{◌≡◌, ◌+◌, ◌≤◌, ◌⊎◌, ◌∷◌, [], None, Some, Bool, IfOk, OnOk, OnErr, IsSome, IfSome, ◌↔◌, length, filter};
+ghost use Rattle.std.specs.BTreeMap.{values};
 ghost use Rattle.std.specs.Option.{option_copied};
 ghost use Rattle.std.specs.Fn.{FnReturnsAt};
 ghost use Rattle.std.specs.List.Sorted.{IsStrictlySortedBy};
 ghost use Rattle.std.specs.Map.{keys_of};
 ghost use Rattle.stateful_types.specs.declared.finalization.Finalization.{Finalization};
-ghost use Rattle.stateful_probe.specs.Sampled.{awaits, with_reply, with_floor, cleared, Selects};
+ghost use Rattle.stateful_types.specs.Round.{IsLater};
+ghost use Rattle.stateful_types.specs.Vote.{max_faults};
+ghost use Rattle.stateful_probe.specs.Sampled.{awaits, with_reply, with_floor, cleared, IsHighest, IsHighestRound, Selects};
 
 use stateful_types::{Epoch, Finalization, OutOfMemory, Round, Share, max_faults};
 use std::alloc::Global;
@@ -73,6 +76,8 @@ impl<K: Ord + Drop, C: Share + Drop> Sample<K, C> {
         // The replies stand by ascending keys, and there is one of a peer at most.
         ensures ordered { IsStrictlySortedBy K.cmp (keys_of self.new.replies) }
     {
+        // The length is read for what it tells the proof: that the keys ascend.
+        let _count = self.replies.len();
         if self.replies.contains_key(&peer) {
             return Ok(());
         }
@@ -105,18 +110,37 @@ impl<K: Ord + Drop, C: Share + Drop> Sample<K, C> {
         if self.floor.is_some() {
             return Ok(None);
         }
-        let Some(highest) = highest_round(&self.replies, committee, &judgeable) else {
+        let Some(highest) = highest_reply(&self.replies, committee, &judgeable) else {
             return Ok(None);
         };
-        for reply in self.replies.values() {
-            if judgeable(reply) && !highest.is_later_than(reply.round) {
-                let selected = reply.share()?;
-                self.floor = Some(reply.share()?);
-                return Ok(Some(selected));
-            }
-        }
-        Ok(None)
+        let selected = highest.share()?;
+        self.floor = Some(highest.share()?);
+        Ok(Some(selected))
     }
+}
+
+/// The highest reply that can be judged, and of equal rounds the first, where there are more of these than participants of a
+/// committee of this size may be faulty.
+fn highest_reply<'a, K: Ord, C, F: Fn(&Finalization<C>) -> bool>(
+    replies: &'a BTreeMap<K, Finalization<C>>,
+    committee: u32,
+    judgeable: &F,
+) -> Option<&'a Finalization<C>>
+    requires { F.IsAlwaysCallable judgeable.now }
+
+    // Where the closure always gives the answers of some test.
+    ensures exactly { (judges : Finalization C → Bool) → ((f : Finalization C) (b : Bool) → FnReturnsAt F.Fn judgeable.now f b → b ≡ judges f) → IsSome result ↔ (max_faults committee + 1 ≤ length (filter judges (values replies.now))) }
+    ensures highest { (judges : Finalization C → Bool) → ((f : Finalization C) (b : Bool) → FnReturnsAt F.Fn judgeable.now f b → b ≡ judges f) → IfSome result (λ f. IsHighest (filter judges (values replies.now)) f.now) }
+{
+    let Some(highest) = highest_round(replies, committee, judgeable) else {
+        return None;
+    };
+    for reply in replies.values() {
+        if judgeable(reply) && !highest.is_later_than(reply.round) {
+            return Some(reply);
+        }
+    }
+    None
 }
 
 /// The highest round of the replies that can be judged, where there are more of these than participants of a committee of
@@ -127,22 +151,35 @@ fn highest_round<K: Ord, C, F: Fn(&Finalization<C>) -> bool>(
     judgeable: &F,
 ) -> Option<Round>
     requires { F.IsAlwaysCallable judgeable.now }
+
+    // Where the closure always gives the answers of some test.
+    ensures exactly { (judges : Finalization C → Bool) → ((f : Finalization C) (b : Bool) → FnReturnsAt F.Fn judgeable.now f b → b ≡ judges f) → IsSome result ↔ (max_faults committee + 1 ≤ length (filter judges (values replies.now))) }
+    ensures highest { (judges : Finalization C → Bool) → ((f : Finalization C) (b : Bool) → FnReturnsAt F.Fn judgeable.now f b → b ≡ judges f) → IfSome result (IsHighestRound (filter judges (values replies.now))) }
 {
     let mut count = 0usize;
     let mut highest: Option<Round> = None;
     for reply in replies.values() {
         if judgeable(reply) {
             count += 1;
-            highest = match highest {
-                Some(before) if !reply.round.is_later_than(before) => Some(before),
-                _ => Some(reply.round),
-            };
+            highest = Some(latest(highest, reply.round));
         }
     }
     if count <= max_faults(committee) as usize {
         return None;
     }
     highest
+}
+
+/// The later of two rounds, or the second where there is no first.
+fn latest(before: Option<Round>, round: Round) -> Round
+    ensures one { (result ≡ round) ⊎ (before ≡ Some result) }
+    ensures first { IfSome before (λ b. IsLater result b → ⊥) }
+    ensures second { IsLater result round → ⊥ }
+{
+    match before {
+        Some(before) if before.is_later_than(round) => before,
+        _ => round,
+    }
 }
 
 #[cfg(test)]
@@ -178,6 +215,66 @@ mod tests {
         sample.record(2, reply(rt.alloc(), 9))?;
         assert_eq!(rt; view_of(&sample.select(4, |_| true)?), Some(9));
         assert_eq!(rt; view_of(&sample.select(4, |_| true)?), None);
+        Ok(())
+    }
+
+    #[test]
+    fn second_reply_of_a_peer_does_not_replace_the_first(rt: HostRuntime) -> Result<(), Fail> {
+        let mut sample: Sample<u64, Items<u32>> = Sample::new(rt.alloc(), Epoch(0));
+        assert_eq!(rt; sample.awaits(&1), true);
+        sample.record(1, reply(rt.alloc(), 7))?;
+        assert_eq!(rt; sample.awaits(&1), false);
+        assert_eq!(rt; sample.awaits(&2), true);
+        sample.record(1, reply(rt.alloc(), 9))?;
+        assert_eq!(rt; view_of(&sample.select(4, |_| true)?), None);
+        assert_eq!(rt; view_of(&sample.select(3, |_| true)?), Some(7));
+        Ok(())
+    }
+
+    #[test]
+    fn floor_is_selected_again_after_a_reset(rt: HostRuntime) -> Result<(), Fail> {
+        let mut sample: Sample<u64, Items<u32>> = Sample::new(rt.alloc(), Epoch(3));
+        sample.record(1, reply(rt.alloc(), 9))?;
+        assert_eq!(rt; view_of(&sample.select(1, |_| true)?), Some(9));
+        assert_eq!(rt; sample.floor().is_some(), true);
+        assert_eq!(rt; sample.awaits(&2), false);
+        sample.reset();
+        assert_eq!(rt; sample.floor().is_none(), true);
+        assert_eq!(rt; sample.awaits(&1), true);
+        assert_eq!(rt; sample.minimum_epoch().0, 3);
+        assert_eq!(rt; view_of(&sample.select(1, |_| true)?), None);
+        sample.record(1, reply(rt.alloc(), 5))?;
+        assert_eq!(rt; view_of(&sample.select(1, |_| true)?), Some(5));
+        Ok(())
+    }
+
+    #[test]
+    fn of_equal_rounds_the_first_by_key_is_the_floor(rt: HostRuntime) -> Result<(), Fail> {
+        let mut sample: Sample<u64, Items<u32>> = Sample::new(rt.alloc(), Epoch(0));
+        for (peer, view) in [(3, 9), (2, 9), (1, 8)] {
+            let mut recorded = reply(rt.alloc(), view);
+            recorded.parent = View(peer);
+            sample.record(peer, recorded)?;
+        }
+        let Some(floor) = sample.select(4, |_| true)? else {
+            panic!(rt; "no floor is selected");
+        };
+        assert_eq!(rt; floor.round.view.0, 9);
+        assert_eq!(rt; floor.parent.0, 2);
+        Ok(())
+    }
+
+    #[test]
+    fn reply_that_cannot_be_judged_does_not_count(rt: HostRuntime) -> Result<(), Fail> {
+        let mut sample: Sample<u64, Items<u32>> = Sample::new(rt.alloc(), Epoch(0));
+        sample.record(1, reply(rt.alloc(), 7))?;
+        sample.record(2, reply(rt.alloc(), 9))?;
+        assert_eq!(rt; view_of(&sample.select(4, |f| f.round.view.0 != 9)?), None);
+        sample.record(3, reply(rt.alloc(), 6))?;
+        assert_eq!(rt;
+            view_of(&sample.select(4, |f| f.round.view.0 != 9)?),
+            Some(7)
+        );
         Ok(())
     }
 }

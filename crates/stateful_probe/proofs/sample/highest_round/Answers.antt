@@ -1,0 +1,36 @@
+use Rattle.std.proofs.Common.{length, filter, map, refl, sym, ap, ◌∙◌, arith, subst}
+use Rattle.std.specs.Map.Iter.{deref}
+use Rattle.std.proofs.lemmas.Fn.{says_at}
+use Rattle.std.proofs.lemmas.List.{length_push}
+use Rattle.stateful_probe.specs.Sampled.{IsHighestRound}
+use Rattle.stateful_probe.proofs.Highest.{IsHighestSoFar, highest_more, judged_more_yes, judged_more_no}
+use Rattle.stateful_probe.proofs.sample.highest_round.Goals as goal
+
+-- one more that the test answers is counted, and the later round is kept
+pub loop-reply-preserved-then-judgeable : goal.loop-reply-preserved-then-judgeable
+loop-reply-preserved-then-judgeable g c = record {
+  below = omega (arith, length_push c.loop-reply.yielded c.in-Some.reply, c.loop-reply.invariant.below);
+  judged =
+      λ judges agrees.
+      let reply = c.in-Some.reply in
+      let said = agrees reply.now c.judgeable.result (says_at g.F.Fn c.judgeable.ensures refl) in
+      let so_far = c.loop-reply.invariant.judged judges agrees in
+      let more = judged_more_yes judges c.loop-reply.yielded reply (sym said ∙ c.if-judgeable.true) in
+      let before = filter judges (map deref c.loop-reply.yielded) in (
+        omega (arith, ap length more, length_push before reply.now, so_far.0),
+        subst (λ xs. IsHighestRound xs c.latest.result) (sym more) (highest_more before reply.now c.loop-reply.highest c.latest.result so_far.1 c.latest.ensures.one c.latest.ensures.first c.latest.ensures.second),
+      );
+}
+
+-- one more that it doesn't answer changes nothing
+pub loop-reply-preserved : goal.loop-reply-preserved
+loop-reply-preserved g c = record {
+  below = omega (arith, length_push c.loop-reply.yielded c.in-Some.reply, c.loop-reply.invariant.below);
+  judged =
+      λ judges agrees.
+      let reply = c.in-Some.reply in
+      let said = agrees reply.now c.judgeable.result (says_at g.F.Fn c.judgeable.ensures refl) in
+      let so_far = c.loop-reply.invariant.judged judges agrees in
+      let same = judged_more_no judges c.loop-reply.yielded reply (sym said ∙ c.if-judgeable.false) in
+      (so_far.0 ∙ ap length (sym same), subst (λ xs. IsHighestSoFar xs c.loop-reply.highest) (sym same) so_far.1);
+}
