@@ -105,11 +105,12 @@ impl<C> Message<C> {
     }
 }
 
-/// How many bytes a response with this finalization has.
+/// How many bytes a response with this finalization has: its tag, three numbers, the payload and the certificate.
 fn response_size<S: Scheme>(finalization: &Finalization<S::Certificate>) -> usize
     ensures { result ≡ length ((message_format S.certificates).spelling (Message.Response finalization.now)) }
 {
-    57 + S::certificate_size(&finalization.certificate)
+    let payload: &[u8] = &finalization.payload.0;
+    25 + payload.len() + S::certificate_size(&finalization.certificate)
 }
 
 /// In both formats no spelling begins another.

@@ -1,4 +1,4 @@
-use Rattle.std.proofs.Common.{[], ◌∷◌, sym, subst}
+use Rattle.std.proofs.Common.{[], ◌∷◌}
 use Rattle.stateful_types.specs.Finalization.{finalization_format}
 use Rattle.stateful_types.proofs.Formats.{met, reads, passed, rest_ok, rest_err}
 use Rattle.stateful_probe.specs.Wire.{message_format}
