@@ -1,10 +1,10 @@
 -- The formats of tags and of messages, by their two cases.
-use Rattle.std.proofs.Common.{◌≡◌, ℕ, ◌^◌, ◌<◌, List, [], ◌∷◌, ◌++◌, length, Ok, Err, Some, drop, refl, sym, ap, subst, ◌∙◌, arith, length-append}
+use Rattle.std.proofs.Common.{◌≡◌, ℕ, ◌<◌, List, [], ◌∷◌, ◌++◌, length, Ok, Err, Some, drop, refl, sym, ap, subst, ◌∙◌, arith, length-append}
 use Rattle.std.specs.List.{slice_get}
 use Rattle.stateful_types.specs.declared.codec.CodecError.{CodecError}
 use Rattle.stateful_types.specs.declared.codec.CodecError.TheVariants.{InvalidEnum, EndOfBuffer, OutOfMemory}
 use Rattle.stateful_types.specs.declared.finalization.Finalization.{Finalization}
-use Rattle.stateful_types.specs.Format.{Format, Begins, EndsInside, IsWrong, IsFormat}
+use Rattle.stateful_types.specs.Format.{Format, Begins, EndsInside, IsFormat}
 use Rattle.stateful_types.specs.FormatLaws.{Rest, Rest-alone}
 use Rattle.stateful_types.specs.Finalization.{finalization_format}
 use Rattle.stateful_types.proofs.Formats.{Met}
