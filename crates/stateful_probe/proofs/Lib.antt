@@ -1,3 +1,4 @@
 pub mod Messages
 pub mod Posting
 pub mod Reading
+pub mod Weighing

@@ -123,17 +123,17 @@ module _ {S K C : Type 0} (u : Setup S K C) where
   counting_not true None s one other e = absurd cc
   counting_not false known s one other e = absurd cc
 
-  pub counts : (epoch : Epoch) → is_counting u.schemes u.minimum epoch ≡ true → (scheme : S) × Counts u epoch scheme
-  counts epoch e = let is = counting_is _ _ e in (is.1.0, record { reached = leb-true u.minimum.0 epoch.0 is.0; known = is.1.1 })
+  counts : (epoch : Epoch) → true ≡ is_counting u.schemes u.minimum epoch → (scheme : S) × Counts u epoch scheme
+  counts epoch e = let is = counting_is _ _ (sym e) in (is.1.0, record { reached = leb-true u.minimum.0 epoch.0 is.0; known = is.1.1 })
 
-  counts_not : (epoch : Epoch) → is_counting u.schemes u.minimum epoch ≡ false → (scheme : S) → Counts u epoch scheme → ⊥
-  counts_not epoch e scheme c = counting_not _ _ scheme (le-leb u.minimum.0 epoch.0 c.reached) c.known e
+  counts_not : (epoch : Epoch) → false ≡ is_counting u.schemes u.minimum epoch → (scheme : S) → Counts u epoch scheme → ⊥
+  counts_not epoch e scheme c = counting_not _ _ scheme (le-leb u.minimum.0 epoch.0 c.reached) c.known (sym e)
 
   -- ---- behind the header
 
   module _ (mid rest : List ℕ) (round : Round) (parent : View) (payload : Digest) (o : Opened mid round parent payload rest) where
     -- the epoch of the header doesn't count
-    pub foreign : is_counting u.schemes u.minimum round.epoch ≡ false → IsForeign u (1 ∷ mid)
+    pub foreign : false ≡ is_counting u.schemes u.minimum round.epoch → IsForeign u (1 ∷ mid)
     foreign none = record {
       round = round;
       header = record { parent = parent; payload = payload; rest = rest; fits = o.fits; is = ap (λ (w : List ℕ). 1 ∷ w) o.is };
@@ -141,7 +141,7 @@ module _ {S K C : Type 0} (u : Setup S K C) where
     }
 
     -- the epoch counts, and behind the header no certificate stands with nothing behind it
-    malformed : is_counting u.schemes u.minimum round.epoch ≡ true → ((certificate : C) → u.certificates.fits certificate → rest ≡ u.certificates.spelling certificate → ⊥) → IsMalformed u (1 ∷ mid)
+    malformed : true ≡ is_counting u.schemes u.minimum round.epoch → ((certificate : C) → u.certificates.fits certificate → rest ≡ u.certificates.spelling certificate → ⊥) → IsMalformed u (1 ∷ mid)
     malformed counted none = record {
       no_request = not_requested mid;
       no_foreign = λ f. let known = counts round.epoch counted in f.foreign known.0 (subst (λ (r : Round). Counts u r.epoch known.0) (o.one f.round f.header).0 known.1);
@@ -149,11 +149,11 @@ module _ {S K C : Type 0} (u : Setup S K C) where
     }
 
     -- no certificate stands there
-    pub uncertain : (error : CodecError) (after : List ℕ) → is_counting u.schemes u.minimum round.epoch ≡ true → Reads u.certificates (Err error) rest after → UnlessMemory {A = C} (Err error) (IsMalformed u (1 ∷ mid))
+    pub uncertain : (error : CodecError) (after : List ℕ) → true ≡ is_counting u.schemes u.minimum round.epoch → Reads u.certificates (Err error) rest after → UnlessMemory {A = C} (Err error) (IsMalformed u (1 ∷ mid))
     uncertain error after counted r = unless_weaker C C error (λ none.
         malformed counted (λ certificate fits e. none certificate [] fits (e ∙ sym (append-nil (u.certificates.spelling certificate))))) (refused u.certificates error rest after r)
 
     -- bytes stand behind the certificate
-    pub followed : (certificate : C) (byte : ℕ) (after : List ℕ) → is_counting u.schemes u.minimum round.epoch ≡ true → Reads u.certificates (Ok certificate) rest after → Some byte ≡ slice_get after 0 → IsMalformed u (1 ∷ mid)
+    pub followed : (certificate : C) (byte : ℕ) (after : List ℕ) → true ≡ is_counting u.schemes u.minimum round.epoch → Reads u.certificates (Ok certificate) rest after → Some byte ≡ slice_get after 0 → IsMalformed u (1 ∷ mid)
     followed certificate byte after counted r more =
         malformed counted (λ other fits e. none_behind certificate other after byte more (r.only (Ok (other, [])) (fits, e ∙ sym (append-nil (u.certificates.spelling other)))))

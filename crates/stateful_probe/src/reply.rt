@@ -1,6 +1,6 @@
 //! What a peer's bytes are, and what they are worth.
 
-ghost use Rattle.std.specs.Prelude.{◌≡◌, ◌∷◌, Result, Ok, Err, IfOk};
+ghost use Rattle.std.specs.Prelude.{◌≡◌, ◌∷◌, ℕ, List, IfOk};
 ghost use Rattle.stateful_probe.specs.Setup.{setup};
 ghost use Rattle.stateful_probe.specs.Judging.{is_counting, IsReadAs, IsDecodedAs, IsJudgedAs};
 
@@ -100,13 +100,15 @@ fn decode_finalization<S: Scheme>(
     }
 }
 
-/// What a finalization is worth that this peer sent.
+/// What a finalization of an epoch that counts is worth, whichever bytes this peer sent it in.
 fn verify_finalization<S: Scheme>(
     schemes: &Schemes<S>,
     minimum_epoch: Epoch,
     peer: &S::Key,
     finalization: Finalization<S::Certificate>,
-) -> Judgement<S::Certificate> {
+) -> Judgement<S::Certificate>
+    ensures { let u = setup S.Key.cmp S.Key.eq S.certificates S.keys S.certifies schemes.now minimum_epoch in (bytes : List ℕ) → IsDecodedAs u bytes (Decoded.Whole finalization) → IsJudgedAs u peer.now bytes result }
+{
     let Some(committee) = schemes.at(minimum_epoch) else {
         return Judgement::Ignored;
     };

@@ -1,4 +1,4 @@
-use Rattle.std.proofs.Common.{inr, sym}
+use Rattle.std.proofs.Common.{inr}
 use Rattle.stateful_types.specs.Number.{u64_format}
 use Rattle.stateful_types.specs.Digest.{digest_format}
 use Rattle.stateful_types.specs.Round.{round_format}
@@ -26,14 +26,14 @@ returns-in_err-payload g c =
 pub returns-then-not-counting : goal.returns-then-not-counting
 returns-then-not-counting g c =
     let header = opened _ _ _ _ _ _ _ c.in_ok-round.ensures c.in_ok-read_u64.ensures c.in_ok-payload.ensures in
-    inr (foreign _ _ _ _ _ _ header (sym c.if-not-counting.ensures))
+    inr (foreign _ _ _ _ _ _ header c.if-not-counting.ensures)
 
 pub returns-in_err-certificate : goal.returns-in_err-certificate
 returns-in_err-certificate g c =
     let header = opened _ _ _ _ _ _ _ c.in_ok-round.ensures c.in_ok-read_u64.ensures c.in_ok-payload.ensures in
-    passed_on _ _ _ _ c.from_residual-in_err-certificate.ensures.1 (uncertain _ _ _ _ _ _ header _ _ (sym c.if-not-counting.ensures) c.in_err-certificate.ensures)
+    passed_on _ _ _ _ c.from_residual-in_err-certificate.ensures.1 (uncertain _ _ _ _ _ _ header _ _ c.if-not-counting.ensures c.in_err-certificate.ensures)
 
 pub returns-in-Some : goal.returns-in-Some
 returns-in-Some g c =
     let header = opened _ _ _ _ _ _ _ c.in_ok-round.ensures c.in_ok-read_u64.ensures c.in_ok-payload.ensures in
-    followed _ _ _ _ _ _ header _ _ _ (sym c.if-not-counting.ensures) c.in_ok-certificate.ensures (rw c.as_slice.ensures at c.in-Some.ensures.value)
+    followed _ _ _ _ _ _ header _ _ _ c.if-not-counting.ensures c.in_ok-certificate.ensures (rw c.as_slice.ensures at c.in-Some.ensures.value)
