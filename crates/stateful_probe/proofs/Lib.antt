@@ -7,3 +7,7 @@ pub mod Tickets
 pub mod Laws
 pub mod Stepping
 pub mod Highest
+pub mod Messages
+pub mod Posting
+pub mod Reading
+pub mod Weighing

@@ -1,10 +1,9 @@
 -- What the functions that read and judge a message answer.
-use Rattle.std.specs.Prelude.{◌≡◌, ◌⊎◌, ℕ, nat_le, Bool, ◌&&◌, is_some, Result, Ok, Err, List}
+use Rattle.std.specs.Prelude.{◌⊎◌, ℕ, nat_le, Bool, ◌&&◌, is_some, Result, Ok, Err, List}
 use Rattle.stateful_types.specs.declared.codec.CodecError.{CodecError}
 use Rattle.stateful_types.specs.declared.codec.CodecError.TheVariants.{OutOfMemory}
 use Rattle.stateful_types.specs.declared.number.Epoch.{Epoch}
-use Rattle.stateful_types.specs.declared.finalization.Finalization.{Finalization}
-use Rattle.stateful_probe.specs.Setup.{Setup, scheme_in, scheme_at, Counts}
+use Rattle.stateful_probe.specs.Setup.{Setup, scheme_in, Counts}
 use Rattle.stateful_probe.specs.Replies.{IsRequest, IsForeign, IsWhole, IsMalformed, IsGood, IsAtFault, IsIgnored}
 use Rattle.stateful_probe.specs.declared.reply.Decoded.{Decoded}
 use Rattle.stateful_probe.specs.declared.reply.Decoded.TheVariants as decoded

@@ -1,6 +1,6 @@
 //! The mailbox of a probe.
 
-ghost use Rattle.std.specs.Prelude.{◌≡◌, ◌+◌, ◌-◌, ◌^◌, ◌≤◌, ◌↔◌, ◌++◌, ◌∷◌, [], IsNone, IfOk, OnOk, OnErr, IsErrOf, option_to_list};
+ghost use Rattle.std.specs.Prelude.{◌≡◌, ◌+◌, ◌-◌, ◌^◌, ◌≤◌, ◌↔◌, ◌++◌, ◌∷◌, [], false, IsNone, IfOk, OnOk, OnErr, IsErrOf, option_to_list};
 ghost use Rattle.stateful_probe.specs.Mail.{waiting};
 ghost use Rattle.stateful_probe.specs.declared.event.Event.TheVariants as events;
 
@@ -28,6 +28,7 @@ impl<K: Drop> Policy for Event<K> {
 pub struct Mailbox<S: Scheme> {
     pub(crate) next_ticket: u64,
     pub(crate) events: Bounded<ProbeEvent<S>, VecDeque<ProbeEvent<S>>>,
+    ghost still_open: { events.closed ≡ false },
 }
 
 impl<S: Scheme> Mailbox<S> {

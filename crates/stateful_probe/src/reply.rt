@@ -1,6 +1,6 @@
 //! What a peer's bytes are, and what they are worth.
 
-ghost use Rattle.std.specs.Prelude.{◌≡◌, Result, Ok, Err, IfOk};
+ghost use Rattle.std.specs.Prelude.{◌≡◌, ◌∷◌, ℕ, List, IfOk};
 ghost use Rattle.stateful_probe.specs.Setup.{setup};
 ghost use Rattle.stateful_probe.specs.Judging.{is_counting, IsReadAs, IsDecodedAs, IsJudgedAs};
 
@@ -41,7 +41,7 @@ fn counting<S: Scheme>(schemes: &Schemes<S>, minimum_epoch: Epoch, epoch: Epoch)
     minimum_epoch.0 <= epoch.0 && schemes.at(epoch).is_some()
 }
 
-/// Reads a message. The certificate is read only where the epoch counts.
+/// Reads a message.
 fn read_reply<S: Scheme>(
     alloc: Global,
     schemes: &Schemes<S>,
@@ -50,9 +50,21 @@ fn read_reply<S: Scheme>(
 ) -> Result<Decoded<S::Certificate>, CodecError>
     ensures { IsReadAs (setup S.Key.cmp S.Key.eq S.certificates S.keys S.certifies schemes.now minimum_epoch) input.old result }
 {
-    if Tag::read(input)? == Tag::Request {
-        return Ok(Decoded::Ignored);
+    match Tag::read(input)? {
+        Tag::Request => Ok(Decoded::Ignored),
+        Tag::Response => read_response(alloc, schemes, minimum_epoch, input),
     }
+}
+
+/// Reads a response behind its tag. The certificate is read only where the epoch counts.
+fn read_response<S: Scheme>(
+    alloc: Global,
+    schemes: &Schemes<S>,
+    minimum_epoch: Epoch,
+    input: &mut Bytes,
+) -> Result<Decoded<S::Certificate>, CodecError>
+    ensures { IsReadAs (setup S.Key.cmp S.Key.eq S.certificates S.keys S.certifies schemes.now minimum_epoch) (1 ∷ input.old) result }
+{
     let round = Round::read(input)?;
     let parent = View(read_u64(input)?);
     let payload = Digest::read(input)?;
@@ -88,13 +100,15 @@ fn decode_finalization<S: Scheme>(
     }
 }
 
-/// What a finalization is worth that this peer sent.
+/// What a finalization of an epoch that counts is worth, whichever bytes this peer sent it in.
 fn verify_finalization<S: Scheme>(
     schemes: &Schemes<S>,
     minimum_epoch: Epoch,
     peer: &S::Key,
     finalization: Finalization<S::Certificate>,
-) -> Judgement<S::Certificate> {
+) -> Judgement<S::Certificate>
+    ensures { let u = setup S.Key.cmp S.Key.eq S.certificates S.keys S.certifies schemes.now minimum_epoch in (bytes : List ℕ) → IsDecodedAs u bytes (Decoded.Whole finalization) → IsJudgedAs u peer.now bytes result }
+{
     let Some(committee) = schemes.at(minimum_epoch) else {
         return Judgement::Ignored;
     };
