@@ -37,7 +37,8 @@ module _ {C : Type 0} where
       (c.0, a.1, c.1, c.2, a.4)
 
   -- one more, and the later of its round and the highest so far
-  pub highest_more : (xs : List (Finalization C)) (f : Finalization C) (before : Option Round) (r : Round) → IsHighestSoFar xs before → (r ≡ f.round) ⊎ (before ≡ Some r) → IfSome before (λ b. IsLater r b → ⊥) → (IsLater r f.round → ⊥) → IsHighestRound (xs ++ f ∷ []) r
+  pub highest_more : (xs : List (Finalization C)) (f : Finalization C) (before : Option Round) (r : Round) → IsHighestSoFar xs before
+      → (r ≡ f.round) ⊎ (before ≡ Some r) → IfSome before (λ b. IsLater r b → ⊥) → (IsLater r f.round → ⊥) → IsHighestRound (xs ++ f ∷ []) r
   highest_more xs f None r none one _ above = record {
     reached = ⊎_elim (λ e. Any-push (λ g. g.round ≡ r) xs f (sym e)) (λ e. absurd cc) one;
     bounds = All-push (λ g. IsLater r g.round → ⊥) xs f (All-same (λ g. IsLater r g.round → ⊥) xs [] none (All-nil (λ g. IsLater r g.round → ⊥))) above;
@@ -50,11 +51,13 @@ module _ {C : Type 0} where
   }
 
   -- the replies so far that a test answers, with one more that it answers
-  pub judged_more_yes : (judges : Finalization C → Bool) (xs : List (Bor (Finalization C))) (x : Bor (Finalization C)) → judges x.now ≡ true → filter judges (map deref (xs ++ x ∷ [])) ≡ filter judges (map deref xs) ++ x.now ∷ []
+  pub judged_more_yes : (judges : Finalization C → Bool) (xs : List (Bor (Finalization C))) (x : Bor (Finalization C)) → judges x.now ≡ true
+      → filter judges (map deref (xs ++ x ∷ [])) ≡ filter judges (map deref xs) ++ x.now ∷ []
   judged_more_yes judges xs x passes = simp (map-append, filter-append, passes)
 
   -- and with one that it doesn't
-  pub judged_more_no : (judges : Finalization C → Bool) (xs : List (Bor (Finalization C))) (x : Bor (Finalization C)) → judges x.now ≡ false → filter judges (map deref (xs ++ x ∷ [])) ≡ filter judges (map deref xs)
+  pub judged_more_no : (judges : Finalization C → Bool) (xs : List (Bor (Finalization C))) (x : Bor (Finalization C)) → judges x.now ≡ false
+      → filter judges (map deref (xs ++ x ∷ [])) ≡ filter judges (map deref xs)
   judged_more_no judges xs x fails = simp (map-append, filter-append, fails, append-nil)
 
   -- what holds of each of some elements holds of each of the later ones
@@ -63,7 +66,9 @@ module _ {C : Type 0} where
   all_back P (x ∷ xs) ys h = all_back P xs ys (All-tail P x (xs ++ ys) h)
 
   -- the first that the test answers and that isn't before the highest round is the highest
-  pub highest_found : (judges : Finalization C → Bool) (front : List (Finalization C)) (f : Finalization C) (back : List (Finalization C)) (top : Round) → IsHighestRound (filter judges (front ++ f ∷ back)) top → judges f ≡ true → (IsLater f.round top → ⊥) → All (λ g. IsLater g.round top) (filter judges front) → IsHighest (filter judges (front ++ f ∷ back)) f
+  pub highest_found : (judges : Finalization C → Bool) (front : List (Finalization C)) (f : Finalization C) (back : List (Finalization C)) (top : Round)
+      → IsHighestRound (filter judges (front ++ f ∷ back)) top → judges f ≡ true → (IsLater f.round top → ⊥)
+      → All (λ g. IsLater g.round top) (filter judges front) → IsHighest (filter judges (front ++ f ∷ back)) f
   highest_found judges front f back top highest passes no_earlier earlier =
       let place : filter judges (front ++ f ∷ back) ≡ filter judges front ++ f ∷ filter judges back = simp (filter-append, passes) in
       let bounds = subst (All (λ g. IsLater top g.round → ⊥)) place highest.bounds in
@@ -88,7 +93,9 @@ module _ {C : Type 0} where
       grind arith
 
   -- one more that is of an earlier round, where the test answers it
-  pub earlier_more : (judges : Finalization C → Bool) (xs : List (Bor (Finalization C))) (x : Bor (Finalization C)) (top : Round) → (judges x.now ≡ true → IsLater x.now.round top) → All (λ g. IsLater g.round top) (filter judges (map deref xs)) → All (λ g. IsLater g.round top) (filter judges (map deref (xs ++ x ∷ [])))
+  pub earlier_more : (judges : Finalization C → Bool) (xs : List (Bor (Finalization C))) (x : Bor (Finalization C)) (top : Round)
+      → (judges x.now ≡ true → IsLater x.now.round top) → All (λ g. IsLater g.round top) (filter judges (map deref xs))
+      → All (λ g. IsLater g.round top) (filter judges (map deref (xs ++ x ∷ [])))
   earlier_more judges xs x top earlier so_far =
       ⊎_elim
       (λ passes. subst (All (λ g. IsLater g.round top)) (sym (judged_more_yes judges xs x passes)) (All-push (λ g. IsLater g.round top) (filter judges (map deref xs)) x.now so_far (earlier passes)))
