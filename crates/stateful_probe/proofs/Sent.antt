@@ -12,7 +12,7 @@ use Rattle.stateful_probe.specs.declared.event.Event.{Event}
 use Rattle.stateful_probe.specs.declared.event.Event.TheVariants.{Received}
 use Rattle.stateful_probe.specs.declared.event.Out.{Out}
 use Rattle.stateful_probe.proofs.Tallies.{gains_from_insert, All-gains}
-use Rattle.stateful_probe.proofs.Trust.{with_reply_is, awaits_parts}
+use Rattle.stateful_probe.proofs.Trust.{with_reply_is, counting_parts}
 
 replies_with_floor : {K C : Type 0} (s : Sampled K C) (chosen : Option (Finalization C)) → (with_floor s chosen).replies ≡ s.replies
 replies_with_floor s None = refl
@@ -26,7 +26,7 @@ module _ {S K C : Type 0} (u : Setup S K C) (P : K × Finalization C → Type 0)
   step_sent latest s e outs next (asks_again unset others) all brought = All-nil P
   step_sent latest s e outs next (not_needed idle waited good nobody) all brought = All-nil P
   step_sent latest s e outs next (recorded {peer = peer} {bytes = bytes} {f = f} {chosen = chosen} idle waited good others known selects) all brought =
-      let new = (awaits_parts u s.sample peer waited).1 in
+      let new = (counting_parts u s.sample peer waited).1 in
       let replies = replies_with_floor (with_reply u.cmp s.sample peer f) chosen ∙ ap (λ sample. sample.replies) (with_reply_is u s.sample peer f new) in
       All-same P next.sample.replies _ replies (All-gains (gains_from_insert u.cmp s.sample.replies peer f new) P (brought peer bytes f refl good) all)
   step_sent latest s e outs next _ all brought = all

@@ -9,7 +9,7 @@ use Rattle.stateful_types.specs.declared.codec.CodecError.TheVariants.{InvalidEn
 use Rattle.stateful_types.specs.declared.number.Epoch.{Epoch}
 use Rattle.stateful_types.specs.declared.finalization.Finalization.{Finalization}
 use Rattle.stateful_probe.specs.Setup.{Setup, committee}
-use Rattle.stateful_probe.specs.Sampled.{Sampled, awaits, has_replied, with_reply}
+use Rattle.stateful_probe.specs.Sampled.{Sampled, still_counts, has_replied, with_reply}
 use Rattle.stateful_probe.specs.Wire.{tag_format}
 use Rattle.stateful_probe.specs.Replies.{IsRequest, IsTagged, IsGood}
 use Rattle.stateful_probe.specs.Serving.{IsResponseOf}
@@ -86,7 +86,7 @@ module _ {S K C : Type 0} (u : Setup S K C) (latest : Option (Finalization C)) (
 
   -- a good reply is recorded, and a floor is chosen if there are enough
   pub recorded_by : (peer : K) (bytes : List ℕ) (f : Finalization C) (sample : Sampled K C) (outs : List (Out K C)) (next : State K C)
-      → u.minimum ≡ s.sample.minimum_epoch → is_serving s ≡ false → awaits u.cmp s.sample peer ≡ true → IsGood u peer bytes f → is_empty s.subscribers ≡ false
+      → u.minimum ≡ s.sample.minimum_epoch → is_serving s ≡ false → still_counts u.cmp s.sample peer ≡ true → IsGood u peer bytes f → is_empty s.subscribers ≡ false
       → sample ≡ with_reply u.cmp s.sample peer f → ChoosesAt sample.minimum_epoch sample outs next
       → Steps u latest s (Received peer bytes) outs next
   recorded_by peer bytes f sample outs next lowest serving awaited good some is chooses =

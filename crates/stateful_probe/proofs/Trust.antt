@@ -11,7 +11,7 @@ use Rattle.stateful_types.specs.Round.{IsLater}
 use Rattle.stateful_types.specs.Vote.{max_faults}
 use Rattle.stateful_types.specs.declared.round.Round.{Round}
 use Rattle.stateful_types.specs.declared.finalization.Finalization.{Finalization}
-use Rattle.stateful_probe.specs.Sampled.{Sampled, has_replied, awaits, with_reply, with_floor, cleared, IsHighest, judged, Selects}
+use Rattle.stateful_probe.specs.Sampled.{Sampled, has_replied, still_counts, with_reply, with_floor, cleared, IsHighest, judged, Selects}
 use Rattle.stateful_probe.specs.Setup.{Setup, committee, is_one_of, is_judgeable, Counts, TakesPart}
 use Rattle.stateful_probe.specs.Replies.{IsGood}
 use Rattle.stateful_probe.specs.Probing.{Steps, answered, closed, begins_round, waits, leaves, attaches, asks_again, rests, unawaited, ignored, blocked, not_needed, recorded, served, passed_over, untagged, stops}
@@ -108,6 +108,7 @@ module _ {S K C : Type 0} (u : Setup S K C) where
       let chosen : IsChosen s.sample.replies f = subst (IsFloorOf s.sample.replies) e sound.floor in
       let here = certified_in s.sample.replies f sound.good chosen in
       record {
+        is_floor = e;
         scheme = here.0;
         counts = here.1;
         certified = here.2;
@@ -130,9 +131,9 @@ module _ {S K C : Type 0} (u : Setup S K C) where
   with_reply_is s peer f new = rw new refl
 
   -- a peer whose reply is awaited hasn't replied, and there is no floor
-  pub awaits_parts : (s : Sampled K C) (peer : K) → awaits u.cmp s peer ≡ true → (s.floor ≡ None) × (has_replied u.cmp s.replies peer ≡ false)
-  awaits_parts s peer awaits =
-      let parts = and_parts (is_none s.floor) (not (has_replied u.cmp s.replies peer)) awaits in
+  pub counting_parts : (s : Sampled K C) (peer : K) → still_counts u.cmp s peer ≡ true → (s.floor ≡ None) × (has_replied u.cmp s.replies peer ≡ false)
+  counting_parts s peer counts =
+      let parts = and_parts (is_none s.floor) (not (has_replied u.cmp s.replies peer)) counts in
       (none_from s.floor parts.0, not-true _ parts.1)
     where
       none_from : (o : Option (Finalization C)) → is_none o ≡ true → o ≡ None
@@ -235,8 +236,8 @@ module _ {S K C : Type 0} (u : Setup S K C) where
         → (f : Finalization C) → s.sample.floor ≡ Some f → next.sample.floor ≡ Some f
     step_keeps latest s e outs next (begins_round unset idle nobody) f is = cc
     step_keeps latest s e outs next (asks_again unset others) f is = cc
-    step_keeps latest s e outs next (not_needed {peer = peer} idle waited good nobody) f is = let unset = (awaits_parts s.sample peer waited).0 in cc
-    step_keeps latest s e outs next (recorded {peer = peer} idle waited good others known selects) f is = let unset = (awaits_parts s.sample peer waited).0 in cc
+    step_keeps latest s e outs next (not_needed {peer = peer} idle waited good nobody) f is = let unset = (counting_parts s.sample peer waited).0 in cc
+    step_keeps latest s e outs next (recorded {peer = peer} idle waited good others known selects) f is = let unset = (counting_parts s.sample peer waited).0 in cc
     step_keeps latest s e outs next _ f is = is
 
     step_sound : (latest : Option (Finalization C)) (s : State K C) (e : Event K) (outs : List (Out K C)) (next : State K C) → Steps u latest s e outs next
@@ -245,7 +246,7 @@ module _ {S K C : Type 0} (u : Setup S K C) where
     step_sound latest s e outs next (asks_again unset others) sound = sound_empty (cleared s.sample) refl refl
     step_sound latest s e outs next (not_needed idle waited good nobody) sound = sound_empty (cleared s.sample) refl refl
     step_sound latest s e outs next (recorded {peer = peer} {bytes = bytes} {f = f} {keys = keys} {chosen = chosen} idle waited good others known selects) sound =
-        let parts = awaits_parts s.sample peer waited in
+        let parts = counting_parts s.sample peer waited in
         sound_chosen (with_reply u.cmp s.sample peer f) keys chosen (sound_more laws s.sample peer f sound parts.0 parts.1 (reply_of peer bytes f good)) known selects
     step_sound latest s e outs next _ sound = sound
 

@@ -52,10 +52,11 @@ module _ {S K C : Type 0} (u : Setup S K C) where
   Runs s [] last = last ≡ s
   Runs s (turn ∷ turns) last = (may_come s turn.event ≡ true) × (next : State K C) × Steps u turn.latest s turn.event turn.outs next × Runs next turns last
 
-  -- A floor that may be trusted as far as no more participants lie than may be faulty: its certificate holds under the
-  -- scheme of its epoch, which counts; it is a recorded reply; and whichever participants lie, if they are no more than
-  -- may be faulty, some other participant's recorded reply is no later than it.
+  -- A floor that may be trusted as far as no more participants lie than may be faulty: it is the one that the probe has; its
+  -- certificate holds under the scheme of its epoch, which counts; it is a recorded reply; and whichever participants lie,
+  -- if they are no more than may be faulty, some other participant's recorded reply is no later than it.
   pub record IsTrusted (s : State K C) (f : Finalization C) : Type 0 where
+    pub is_floor : s.sample.floor ≡ Some f
     pub scheme : S
     pub counts : Counts u f.round.epoch scheme
     pub certified : u.certifies scheme f

@@ -4,7 +4,7 @@ use Rattle.std.specs.List.{list_any}
 use Rattle.stateful_types.specs.declared.number.Epoch.{Epoch}
 use Rattle.stateful_types.specs.declared.finalization.Finalization.{Finalization}
 use Rattle.stateful_probe.specs.Wire.{message_format}
-use Rattle.stateful_probe.specs.Sampled.{Sampled, awaits, with_reply, with_floor, cleared, Selects}
+use Rattle.stateful_probe.specs.Sampled.{Sampled, still_counts, with_reply, with_floor, cleared, Selects}
 use Rattle.stateful_probe.specs.Setup.{Setup, committee, is_judgeable}
 use Rattle.stateful_probe.specs.Replies.{IsRequest, IsTagged, IsGood, IsAtFault, IsIgnored}
 use Rattle.stateful_probe.specs.declared.state.State.{State}
@@ -100,11 +100,11 @@ module _ {S K C : Type 0} (u : Setup S K C) (latest : Option (Finalization C)) w
     rests : (s.sample.floor ≢ None) ⊎ (s.subscribers ≡ []) → Steps s Retry [] s
 
     -- a message while the probe discovers
-    unawaited : {peer : K} {bytes : List ℕ} → is_serving s ≡ false → awaits u.cmp s.sample peer ≡ false → Steps s (Received peer bytes) [] s
-    ignored : {peer : K} {bytes : List ℕ} → is_serving s ≡ false → awaits u.cmp s.sample peer ≡ true → IsIgnored u bytes → Steps s (Received peer bytes) [] s
-    blocked : {peer : K} {bytes : List ℕ} → is_serving s ≡ false → awaits u.cmp s.sample peer ≡ true → IsAtFault u peer bytes → Steps s (Received peer bytes) (Block peer ∷ []) s
-    not_needed : {peer : K} {bytes : List ℕ} {f : Finalization C} → is_serving s ≡ false → awaits u.cmp s.sample peer ≡ true → IsGood u peer bytes f → s.subscribers ≡ [] → Steps s (Received peer bytes) [] (restarted s)
-    recorded : {peer : K} {bytes : List ℕ} {f : Finalization C} {keys : List K} {chosen : Option (Finalization C)} → is_serving s ≡ false → awaits u.cmp s.sample peer ≡ true → IsGood u peer bytes f → s.subscribers ≢ [] → committee u ≡ Some keys
+    unawaited : {peer : K} {bytes : List ℕ} → is_serving s ≡ false → still_counts u.cmp s.sample peer ≡ false → Steps s (Received peer bytes) [] s
+    ignored : {peer : K} {bytes : List ℕ} → is_serving s ≡ false → still_counts u.cmp s.sample peer ≡ true → IsIgnored u bytes → Steps s (Received peer bytes) [] s
+    blocked : {peer : K} {bytes : List ℕ} → is_serving s ≡ false → still_counts u.cmp s.sample peer ≡ true → IsAtFault u peer bytes → Steps s (Received peer bytes) (Block peer ∷ []) s
+    not_needed : {peer : K} {bytes : List ℕ} {f : Finalization C} → is_serving s ≡ false → still_counts u.cmp s.sample peer ≡ true → IsGood u peer bytes f → s.subscribers ≡ [] → Steps s (Received peer bytes) [] (restarted s)
+    recorded : {peer : K} {bytes : List ℕ} {f : Finalization C} {keys : List K} {chosen : Option (Finalization C)} → is_serving s ≡ false → still_counts u.cmp s.sample peer ≡ true → IsGood u peer bytes f → s.subscribers ≢ [] → committee u ≡ Some keys
         → Selects (length keys) (is_judgeable u) (with_reply u.cmp s.sample peer f) chosen
         → Steps s (Received peer bytes) (handed_out s.subscribers chosen) (record s { sample = with_floor (with_reply u.cmp s.sample peer f) chosen; subscribers = left_waiting s.subscribers chosen })
 

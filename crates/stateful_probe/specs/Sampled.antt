@@ -21,9 +21,13 @@ module _ {K C : Type 0} (cmp : K → K → Ordering) where
   abbrev pub has_replied : List (K × Finalization C) → K → Bool
   has_replied replies peer = is_some (lookup (is_at (cmp peer)) replies)
 
-  -- whether a reply of this peer is awaited: no floor is selected, and it hasn't replied
+  -- whether a reply of this peer is awaited: none is recorded
   abbrev pub awaits : Sampled K C → K → Bool
-  awaits s peer = is_none s.floor && not (has_replied s.replies peer)
+  awaits s peer = not (has_replied s.replies peer)
+
+  -- whether a reply of this peer still counts: no floor is selected, and it is awaited
+  abbrev pub still_counts : Sampled K C → K → Bool
+  still_counts s peer = is_none s.floor && awaits s peer
 
   -- the replies with one more, where it is the peer's first
   abbrev pub with_reply : Sampled K C → K → Finalization C → Sampled K C

@@ -88,7 +88,7 @@ pub(crate) fn receive<S: Scheme>(
     ensures received { OnOk result (is_serving state.old ≡ false → (latest : Option (Finalization S.Certificate)) → Steps (setup S.Key.cmp S.Key.eq S.certificates S.keys S.certifies schemes.now state.old.sample.minimum_epoch) latest state.old (events.Received peer value) outs.new.items state.new) }
     ensures minimum { OnOk result (state.new.sample.minimum_epoch ≡ state.old.sample.minimum_epoch) }
 {
-    if !state.sample.awaits(&peer) {
+    if !state.still_counts(&peer) {
         return Ok(());
     }
     match judge(alloc, schemes, state.sample.minimum_epoch(), &peer, value)? {

@@ -30,9 +30,14 @@ pub struct Sample<K: Ord, C> {
 impl<K: Ord, C> Model for Sample<K, C> {
     ghost use Rattle.stateful_probe.specs.Sampled.{Sampled};
 
+    ghost use Rattle.std.specs.List.Sorted.{IsStrictlySortedBy};
+    ghost use Rattle.std.specs.Map.{keys_of};
+
     ghost Value = { Sampled K C };
 
     ghost view = { λ a. record { minimum_epoch = a.minimum_epoch; replies = a.replies.entries; floor = a.floor } };
+
+    ghost invariant = { λ a. IsStrictlySortedBy K.cmp (keys_of a.replies.entries) };
 }
 
 impl<K: Ord + Drop, C: Share + Drop> Sample<K, C> {
@@ -61,11 +66,11 @@ impl<K: Ord + Drop, C: Share + Drop> Sample<K, C> {
         self.floor.as_ref()
     }
 
-    /// Whether a reply of this peer is awaited: no floor is selected, and none of its replies is recorded.
+    /// Whether a reply of this peer is awaited: exactly where none is recorded.
     pub fn awaits(&self, peer: &K) -> bool
         ensures { result ≡ awaits K.cmp self.now peer.now }
     {
-        self.floor.is_none() && !self.replies.contains_key(peer)
+        !self.replies.contains_key(peer)
     }
 
     /// Records a reply, where it is the peer's first since the last reset.
@@ -76,8 +81,6 @@ impl<K: Ord + Drop, C: Share + Drop> Sample<K, C> {
         // The replies stand by ascending keys, and there is one of a peer at most.
         ensures ordered { IsStrictlySortedBy K.cmp (keys_of self.new.replies) }
     {
-        // The length is read for what it tells the proof: that the keys ascend.
-        let _count = self.replies.len();
         if self.replies.contains_key(&peer) {
             return Ok(());
         }
@@ -237,7 +240,8 @@ mod tests {
         sample.record(1, reply(rt.alloc(), 9))?;
         assert_eq!(rt; view_of(&sample.select(1, |_| true)?), Some(9));
         assert_eq!(rt; sample.floor().is_some(), true);
-        assert_eq!(rt; sample.awaits(&2), false);
+        assert_eq!(rt; sample.awaits(&1), false);
+        assert_eq!(rt; sample.awaits(&2), true);
         sample.reset();
         assert_eq!(rt; sample.floor().is_none(), true);
         assert_eq!(rt; sample.awaits(&1), true);

@@ -1,6 +1,7 @@
 //! What a probe keeps.
 
 ghost use Rattle.std.specs.Prelude.{◌≡◌};
+ghost use Rattle.stateful_probe.specs.Sampled.{still_counts};
 ghost use Rattle.stateful_probe.specs.Probing.{is_serving, names_live, may_come};
 
 use crate::event::Event;
@@ -25,6 +26,13 @@ impl<K: Ord + Drop, C: Share + Drop> State<K, C> {
         ensures { result ≡ is_serving self.now }
     {
         self.attached && self.subscribers.is_empty()
+    }
+
+    /// Whether a reply of this peer still counts: no floor is selected, and none of its replies is recorded.
+    pub(crate) fn still_counts(&self, peer: &K) -> bool
+        ensures { result ≡ still_counts K.cmp self.now.sample peer.now }
+    {
+        self.sample.floor().is_none() && self.sample.awaits(peer)
     }
 
     /// Whether the event may come.

@@ -3,8 +3,8 @@ use Rattle.stateful_probe.specs.Probing.{unawaited, ignored, blocked, not_needed
 use Rattle.stateful_probe.proofs.Stepping.{nobody, recorded_by}
 use Rattle.stateful_probe.proofs.discovery.receive.Goals as goal
 
-pub returns-then-not-awaits-clause-received : goal.returns-then-not-awaits-clause-received
-returns-then-not-awaits-clause-received g c = λ serving latest. rw c.requires (unawaited {peer = c.args.peer} {bytes = c.args.value} serving (cc))
+pub returns-then-not-still_counts-clause-received : goal.returns-then-not-still_counts-clause-received
+returns-then-not-still_counts-clause-received g c = λ serving latest. rw c.requires (unawaited {peer = c.args.peer} {bytes = c.args.value} serving (cc))
 
 pub returns-in-Ignored-clause-received : goal.returns-in-Ignored-clause-received
 returns-in-Ignored-clause-received g c = λ serving latest. rw c.requires
