@@ -37,6 +37,7 @@ impl<S: Scheme> Mailbox<S> {
         requires { 1 ≤ capacity }
         ensures first { IfOk result (λ mailbox. mailbox.next_ticket ≡ 0) }
         ensures empty { IfOk result (λ mailbox. waiting mailbox.events ≡ []) }
+        ensures capacity { IfOk result (λ mailbox. mailbox.events.capacity ≡ capacity) }
     {
         Ok(Mailbox {
             next_ticket: 0,

@@ -2,7 +2,7 @@
 
 ghost use Rattle.std.specs.Prelude.{◌≡◌, ◌∷◌, ℕ, List, IfOk};
 ghost use Rattle.stateful_probe.specs.Setup.{setup};
-ghost use Rattle.stateful_probe.specs.Judging.{is_counting, IsReadAs, IsDecodedAs, IsJudgedAs};
+ghost use Rattle.stateful_probe.specs.Judging.{is_counting, LeavesUnread, IsReadAs, IsDecodedAs, IsJudgedAs};
 
 use crate::schemes::Schemes;
 use crate::wire::Tag;
@@ -63,7 +63,8 @@ fn read_response<S: Scheme>(
     minimum_epoch: Epoch,
     input: &mut Bytes,
 ) -> Result<Decoded<S::Certificate>, CodecError>
-    ensures { IsReadAs (setup S.Key.cmp S.Key.eq S.certificates S.keys S.certifies schemes.now minimum_epoch) (1 ∷ input.old) result }
+    ensures read { IsReadAs (setup S.Key.cmp S.Key.eq S.certificates S.keys S.certifies schemes.now minimum_epoch) (1 ∷ input.old) result }
+    ensures unread { LeavesUnread input.old input.new result }
 {
     let round = Round::read(input)?;
     let parent = View(read_u64(input)?);
