@@ -1,10 +1,10 @@
 -- What holds of a probe whatever events come, and whatever peers send.
-use Rattle.std.specs.Prelude.{◌≡◌, ◌≢◌, ℕ, ◌+◌, ◌≤◌, ◌==◌, Bool, true, false, if◌then◌else◌, Option, Some, None, List, [], ◌∷◌, All, Any, Contains, count_by, sum_by, length}
+use Rattle.std.specs.Prelude.{◌≡◌, ℕ, ◌+◌, ◌≤◌, ◌==◌, true, false, if◌then◌else◌, Option, Some, List, [], ◌∷◌, All, Any, Contains, count_by, sum_by, length}
 use Rattle.std.specs.Map.{values_of}
 use Rattle.stateful_types.specs.Round.{IsLater}
 use Rattle.stateful_types.specs.Vote.{max_faults}
 use Rattle.stateful_types.specs.declared.finalization.Finalization.{Finalization}
-use Rattle.stateful_probe.specs.Setup.{Setup, committee, is_one_of, Counts, TakesPart}
+use Rattle.stateful_probe.specs.Setup.{Setup, committee, is_one_of, Counts}
 use Rattle.stateful_probe.specs.Replies.{IsRequest, IsForeign, IsGood}
 use Rattle.stateful_probe.specs.Probing.{Steps, may_come}
 use Rattle.stateful_probe.specs.declared.state.State.{State}

@@ -4,7 +4,7 @@ use Rattle.std.specs.List.{list_any}
 use Rattle.stateful_types.specs.declared.number.Epoch.{Epoch}
 use Rattle.stateful_types.specs.declared.finalization.Finalization.{Finalization}
 use Rattle.stateful_probe.specs.Wire.{message_format}
-use Rattle.stateful_probe.specs.Sampled.{Sampled, still_counts, with_reply, with_floor, cleared, Selects}
+use Rattle.stateful_probe.specs.Sampled.{still_counts, with_reply, with_floor, cleared, Selects}
 use Rattle.stateful_probe.specs.Setup.{Setup, committee, is_judgeable}
 use Rattle.stateful_probe.specs.Replies.{IsRequest, IsTagged, IsGood, IsAtFault, IsIgnored}
 use Rattle.stateful_probe.specs.declared.state.State.{State}
@@ -91,14 +91,11 @@ module _ {S K C : Type 0} (u : Setup S K C) (latest : Option (Finalization C)) w
     closed : {t : ℕ} → s.sample.floor ≡ None → is_serving s ≡ true → Steps s (Subscribe t) (Closed t ∷ []) (numbered s t)
     begins_round : {t : ℕ} → s.sample.floor ≡ None → is_serving s ≡ false → s.subscribers ≡ [] → Steps s (Subscribe t) (asked (committee u)) (record (restarted (numbered s t)) { subscribers = t ∷ [] })
     waits : {t : ℕ} → s.sample.floor ≡ None → s.subscribers ≢ [] → Steps s (Subscribe t) [] (record (numbered s t) { subscribers = s.subscribers ++ t ∷ [] })
-
     leaves : {t : ℕ} → Steps s (Cancel t) [] (record s { subscribers = filter (λ w. not (w == t)) s.subscribers })
     attaches : Steps s Attach [] (record s { attached = true })
-
     -- the round is begun again where someone waits for a floor
     asks_again : s.sample.floor ≡ None → s.subscribers ≢ [] → Steps s Retry (asked (committee u)) (restarted s)
     rests : (s.sample.floor ≢ None) ⊎ (s.subscribers ≡ []) → Steps s Retry [] s
-
     -- a message while the probe discovers
     unawaited : {peer : K} {bytes : List ℕ} → is_serving s ≡ false → still_counts u.cmp s.sample peer ≡ false → Steps s (Received peer bytes) [] s
     ignored : {peer : K} {bytes : List ℕ} → is_serving s ≡ false → still_counts u.cmp s.sample peer ≡ true → IsIgnored u bytes → Steps s (Received peer bytes) [] s
@@ -107,10 +104,8 @@ module _ {S K C : Type 0} (u : Setup S K C) (latest : Option (Finalization C)) w
     recorded : {peer : K} {bytes : List ℕ} {f : Finalization C} {keys : List K} {chosen : Option (Finalization C)} → is_serving s ≡ false → still_counts u.cmp s.sample peer ≡ true → IsGood u peer bytes f → s.subscribers ≢ [] → committee u ≡ Some keys
         → Selects (length keys) (is_judgeable u) (with_reply u.cmp s.sample peer f) chosen
         → Steps s (Received peer bytes) (handed_out s.subscribers chosen) (record s { sample = with_floor (with_reply u.cmp s.sample peer f) chosen; subscribers = left_waiting s.subscribers chosen })
-
     -- a message while it serves
     served : {peer : K} {bytes : List ℕ} {outs : List (Out K C)} → is_serving s ≡ true → IsRequest bytes → Sends peer outs → Steps s (Received peer bytes) outs s
     passed_over : {peer : K} {bytes : List ℕ} → is_serving s ≡ true → IsTagged bytes → Steps s (Received peer bytes) [] s
     untagged : {peer : K} {bytes : List ℕ} → is_serving s ≡ true → (IsRequest bytes → ⊥) → (IsTagged bytes → ⊥) → Steps s (Received peer bytes) (Block peer ∷ []) s
-
     stops : Steps s Stop (map (λ t. Closed t) s.subscribers) (record s { subscribers = []; stopped = true })

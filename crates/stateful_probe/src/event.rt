@@ -29,13 +29,22 @@ pub enum Out<K, C> {
         finalization: Finalization<C>,
     },
     /// The subscription is closed without a floor.
-    Closed { ticket: u64 },
+    Closed {
+        ticket: u64,
+    },
     /// A request is sent to each of these peers.
-    Request { peers: Items<K> },
+    Request {
+        peers: Items<K>,
+    },
     /// These bytes are sent to the peer.
-    Response { peer: K, value: Bytes },
+    Response {
+        peer: K,
+        value: Bytes,
+    },
     /// The peer is blocked.
-    Block { peer: K },
+    Block {
+        peer: K,
+    },
 }
 
 /// What happened, for a probe of a scheme.

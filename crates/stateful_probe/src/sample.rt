@@ -29,7 +29,6 @@ pub struct Sample<K: Ord, C> {
 
 impl<K: Ord, C> Model for Sample<K, C> {
     ghost use Rattle.stateful_probe.specs.Sampled.{Sampled};
-
     ghost use Rattle.std.specs.List.Sorted.{IsStrictlySortedBy};
     ghost use Rattle.std.specs.Map.{keys_of};
 

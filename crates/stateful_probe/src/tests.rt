@@ -4,7 +4,9 @@ ghost use Rattle.std.specs.Prelude.{◌≡◌, ◌^◌, ◌<◌, length, IfOk};
 
 use super::*;
 use bytes::Bytes;
-use stateful_types::{Digest, Epoch, Finalization, Items, MemoryLatest, Round, View, VoteScheme};
+use stateful_types::{
+    CodecError, Digest, Epoch, Finalization, Items, MemoryLatest, Round, View, VoteScheme,
+};
 use std::alloc::{AllocError, Global};
 use std::fmt::Display;
 use std::process::Abort;
@@ -231,7 +233,7 @@ fn discovers_a_floor_in_seven(rt: HostRuntime) -> Result<(), Fail> {
 #[test]
 fn judges_replies(rt: HostRuntime) -> Result<(), Fail> {
     let rows = [
-        // A good reply, of a stranger too few signers.
+        // A good reply; one of a stranger; too few signers, and one that is unknown.
         (Act::Reply(10, 1, 7, 3), ""),
         (Act::Reply(99, 1, 7, 3), "block 99;"),
         (Act::Reply(10, 1, 7, 2), "block 10;"),
@@ -363,4 +365,49 @@ fn fails_when_no_number_is_left(rt: HostRuntime) -> Result<(), Fail> {
         (Act::Subscribe(0), "Failed"),
     ];
     runs(&rt, rt.alloc(), &FOUR, None, &rows)
+}
+
+#[test]
+fn reads_tags(rt: HostRuntime) -> Result<(), Fail> {
+    let alloc = rt.alloc();
+    let mut input = Bytes::copy_from_slice(alloc, &[0, 1, 2])?;
+    assert_eq!(rt; Tag::read(&mut input), Ok(Tag::Request));
+    assert_eq!(rt; Tag::read(&mut input), Ok(Tag::Response));
+    assert_eq!(rt; Tag::read(&mut input), Err(CodecError::InvalidEnum(2)));
+    let mut nothing = Bytes::copy_from_slice(alloc, &[])?;
+    assert_eq!(rt; Tag::read(&mut nothing), Err(CodecError::EndOfBuffer));
+    Ok(())
+}
+
+#[test]
+fn reads_what_it_writes_and_leaves_the_rest(rt: HostRuntime) -> Result<(), Fail> {
+    let mut bytes = response(rt.alloc(), 1, 258, 3)?;
+    let size = bytes.len();
+    bytes.push(9)?;
+    let mut input = Bytes::from_vec(bytes)?;
+    let message: Message<Votes> = Message::read::<VoteScheme>(rt.alloc(), &mut input)?;
+    assert_eq!(rt; message.encode_size::<VoteScheme>(), size);
+    assert_eq!(rt; size, 73);
+    assert_eq!(rt; input.as_slice(), [9].as_slice());
+    assert_eq!(rt; Message::<Votes>::max_encode_size::<VoteScheme>(4), 77);
+    Ok(())
+}
+
+#[test]
+fn mailbox_hands_out_in_order(rt: HostRuntime) -> Result<(), Fail> {
+    let mut mailbox: Mailbox<VoteScheme> = Mailbox::new(rt.alloc(), 1)?;
+    assert_eq!(rt; mailbox.subscribe()?, 0);
+    mailbox.attach()?;
+    assert_eq!(rt; mailbox.subscribe()?, 1);
+    assert_eq!(rt;
+        matches!(&mailbox.take(), Some(Event::Subscribe { ticket: 0 })),
+        true
+    );
+    assert_eq!(rt; matches!(&mailbox.take(), Some(Event::Attach)), true);
+    assert_eq!(rt;
+        matches!(&mailbox.take(), Some(Event::Subscribe { ticket: 1 })),
+        true
+    );
+    assert_eq!(rt; mailbox.take().is_none(), true);
+    Ok(())
 }
