@@ -20,6 +20,6 @@ module _ {K C : Type 0} (P : Out K C → Type 0) where
   handed_all (Some f) waiting each = All-map P (λ t. Floor t f) waiting (λ k d lt. each _ f refl)
 
   pub sent_all : {S : Type 0} (u : Setup S K C) → ((peer : K) (bytes : List ℕ) → P (Response peer bytes)) → (latest : Option (Finalization C)) (peer : K) (outs : List (Out K C))
-      → Sends u latest peer outs → All P outs
+      → Sends u.certificates latest peer outs → All P outs
   sent_all u each None peer outs none = All-same P outs [] none (All-nil P)
   sent_all u each (Some f) peer outs sends = All-same P outs _ sends.1 (one_out _ (each peer _))

@@ -67,7 +67,7 @@ abbrev pub sent : {K C : Type 0} → K → Option (List ℕ) → List (Out K C)
 sent peer None = []
 sent peer (Some value) = Response peer value ∷ []
 
-sends : {S K C : Type 0} (u : Setup S K C) (latest : Option (Finalization C)) (peer : K) (found : Option (List ℕ)) → IsResponseOf u.certificates latest found → Sends u latest peer (sent peer found)
+sends : {S K C : Type 0} (u : Setup S K C) (latest : Option (Finalization C)) (peer : K) (found : Option (List ℕ)) → IsResponseOf u.certificates latest found → Sends u.certificates latest peer (sent peer found)
 sends u None peer found is = rw is refl
 sends u (Some f) peer found is = (is.0, rw is.1 refl)
 

@@ -1,6 +1,7 @@
 -- What a probe does: it discovers a floor, and then serves the node's latest finalization.
 use Rattle.std.specs.Prelude.{◌≡◌, ◌≢◌, ◌⊎◌, ℕ, ◌+◌, ◌-◌, ◌^◌, ◌==◌, nat_le, Bool, true, false, not, ◌&&◌, Option, Some, None, List, [], ◌∷◌, ◌++◌, map, filter, length}
 use Rattle.std.specs.List.{list_any}
+use Rattle.stateful_types.specs.Format.{Format}
 use Rattle.stateful_types.specs.declared.number.Epoch.{Epoch}
 use Rattle.stateful_types.specs.declared.finalization.Finalization.{Finalization}
 use Rattle.stateful_probe.specs.Wire.{message_format}
@@ -75,14 +76,12 @@ module _ {K C : Type 0} where
   asked None = []
   asked (Some keys) = Request keys ∷ []
 
-module _ {S K C : Type 0} (u : Setup S K C) (latest : Option (Finalization C)) where
-  -- the latest finalization is sent to a peer, where there is one
-  abbrev pub Sends : K → List (Out K C) → Type 0
-  Sends peer outs = elim latest as (λ _. Type 0) [
-    | None ↦ outs ≡ []
-    | Some f ↦ (message_format u.certificates).fits (messages.Response f) × (outs ≡ Response peer ((message_format u.certificates).spelling (messages.Response f)) ∷ [])
-  ]
+-- the latest finalization is sent to a peer, where there is one
+abbrev pub Sends : {K C : Type 0} → Format C → Option (Finalization C) → K → List (Out K C) → Type 0
+Sends certificates None peer outs = outs ≡ []
+Sends certificates (Some f) peer outs = (message_format certificates).fits (messages.Response f) × (outs ≡ Response peer ((message_format certificates).spelling (messages.Response f)) ∷ [])
 
+module _ {S K C : Type 0} (u : Setup S K C) (latest : Option (Finalization C)) where
   -- one event, with what is put out and the state behind it
   pub data Steps (s : State K C) : Event K → List (Out K C) → State K C → Type 0 where
     -- a subscription is answered with the floor; without one it is closed while the probe serves, and else it waits, and
@@ -91,7 +90,9 @@ module _ {S K C : Type 0} (u : Setup S K C) (latest : Option (Finalization C)) w
     closed : {t : ℕ} → s.sample.floor ≡ None → is_serving s ≡ true → Steps s (Subscribe t) (Closed t ∷ []) (numbered s t)
     begins_round : {t : ℕ} → s.sample.floor ≡ None → is_serving s ≡ false → s.subscribers ≡ [] → Steps s (Subscribe t) (asked (committee u)) (record (restarted (numbered s t)) { subscribers = t ∷ [] })
     waits : {t : ℕ} → s.sample.floor ≡ None → s.subscribers ≢ [] → Steps s (Subscribe t) [] (record (numbered s t) { subscribers = s.subscribers ++ t ∷ [] })
+    -- a ticket is taken back
     leaves : {t : ℕ} → Steps s (Cancel t) [] (record s { subscribers = filter (λ w. not (w == t)) s.subscribers })
+    -- the node's own finalizations can be served
     attaches : Steps s Attach [] (record s { attached = true })
     -- the round is begun again where someone waits for a floor
     asks_again : s.sample.floor ≡ None → s.subscribers ≢ [] → Steps s Retry (asked (committee u)) (restarted s)
@@ -105,7 +106,8 @@ module _ {S K C : Type 0} (u : Setup S K C) (latest : Option (Finalization C)) w
         → Selects (length keys) (is_judgeable u) (with_reply u.cmp s.sample peer f) chosen
         → Steps s (Received peer bytes) (handed_out s.subscribers chosen) (record s { sample = with_floor (with_reply u.cmp s.sample peer f) chosen; subscribers = left_waiting s.subscribers chosen })
     -- a message while it serves
-    served : {peer : K} {bytes : List ℕ} {outs : List (Out K C)} → is_serving s ≡ true → IsRequest bytes → Sends peer outs → Steps s (Received peer bytes) outs s
+    served : {peer : K} {bytes : List ℕ} {outs : List (Out K C)} → is_serving s ≡ true → IsRequest bytes → Sends u.certificates latest peer outs → Steps s (Received peer bytes) outs s
     passed_over : {peer : K} {bytes : List ℕ} → is_serving s ≡ true → IsTagged bytes → Steps s (Received peer bytes) [] s
     untagged : {peer : K} {bytes : List ℕ} → is_serving s ≡ true → (IsRequest bytes → ⊥) → (IsTagged bytes → ⊥) → Steps s (Received peer bytes) (Block peer ∷ []) s
+    -- all that wait are closed
     stops : Steps s Stop (map (λ t. Closed t) s.subscribers) (record s { subscribers = []; stopped = true })
