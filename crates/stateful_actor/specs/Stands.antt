@@ -61,7 +61,8 @@ module _ {B C I R U : Type 0} (w : Workings B R U) (stored : ℕ → Option (Nam
       pub up : (anchor : Anchor) → core.anchor ≡ Some anchor → IsUp anchor core m next
 
     -- The machine, the databases and the store stand for a past: as long as the machine hasn't failed, or is down, its
-    -- register of live work stands for it, and it works on from it.
+    -- register of live work stands for it, and it works on from it. The past is a history with its prunes without a mark
+    -- and its lists of databases that are live for progress, each at its place.
     abbrev pub Stands : Bool → Core B R H U → Register → w.kind.Members → w.Ids → (ℕ → Option (Named B)) → Type 0
     Stands failed core register m next store =
         ((failed ≡ false) ⊎ (core.anchor ≡ None)) → RegisterStands w.kind.count p register × Works core m next store
