@@ -47,11 +47,11 @@ pub some_same : (x y : Anchor) → Some x ≡ Some y → x ≡ y
 some_same x y e = cc
 
 -- the tables, the databases and their ids, by equations
-pub Works-same : {B C I R U H : Type 0} (w : Workings B R U) (stored : ℕ → Option (Named B)) (base : w.States) (p : Past B C I) (store : ℕ → Option (Named B)) {core new : Core B R H U} {m n : w.kind.Members} {next ids : w.Ids} → core ≡ new → m ≡ n → next ≡ ids → Works w stored base p core m next store → Works w stored base p new n ids store
+pub Works-same : {B C I R U H : Type 0} (w : Workings B R H U) (stored : ℕ → Option (Named B)) (base : w.States) (p : Past B C I) (store : ℕ → Option (Named B)) {core new : Core B R H U} {m n : w.kind.Members} {next ids : w.Ids} → core ≡ new → m ≡ n → next ≡ ids → Works w stored base p core m next store → Works w stored base p new n ids store
 Works-same {B = B} {R = R} {U = U} {H = H} w stored base p store {core} {new} {m} {n} {next} {ids} e f g works =
     subst (λ (c : Core B R H U). Works w stored base p c n ids store) e (subst (λ (x : w.kind.Members). Works w stored base p core x ids store) f (subst (λ (x : w.Ids). Works w stored base p core m x store) g works))
 
-module _ {B C I R U : Type 0} (w : Workings B R U) (laws : Laws w.kind) (stored : ℕ → Option (Named B)) (base : w.States) (q : Past B C I) (ticket : ℕ) (b : Named B) where
+module _ {B C I R U H : Type 0} (w : Workings B R H U) (laws : Laws w.kind) (stored : ℕ → Option (Named B)) (base : w.States) (q : Past B C I) (ticket : ℕ) (b : Named B) where
   abbrev now : Past B C I
   now = Made (Applied b) ∷ Made (Began ticket b) ∷ q
 
@@ -87,7 +87,7 @@ module _ {B C I R U : Type 0} (w : Workings B R U) (laws : Laws w.kind) (stored 
   }
 
   -- the machine is up at the block, with the cut cache
-  module _ {H : Type 0} (core : Core B R H U) (m : w.kind.Members) (next : w.Ids) (anchor : Anchor) (names : TrueNames (setting w stored) q) (met : Met (setting w stored) q b) (idle : IsIdle core) (is_next : IsNext w.header anchor b) (kept : List (Cached U)) (cut : IsCutTo (anchor_by w.header b) core.cache kept) where
+  module _ (core : Core B R H U) (m : w.kind.Members) (next : w.Ids) (anchor : Anchor) (names : TrueNames (setting w stored) q) (met : Met (setting w stored) q b) (idle : IsIdle core) (is_next : IsNext w.header anchor b) (kept : List (Cached U)) (cut : IsCutTo (anchor_by w.header b) core.cache kept) where
     abbrev moved : Core B R H U
     moved = record core { anchor = Some (anchor_by w.header b); cache = kept; durability = record core.durability { applied = w.header.height b.block } }
 
@@ -121,7 +121,7 @@ module _ {B C I R U : Type 0} (w : Workings B R U) (laws : Laws w.kind) (stored 
         }
 
   -- the machine works on behind the two marks
-  module _ {H : Type 0} (store : ℕ → Option (Named B)) (old new : Moment w H) (anchor : Anchor) (names : TrueNames (setting w stored) q) (met : Met (setting w stored) q b) where
+  module _ (store : ℕ → Option (Named B)) (old new : Moment w) (anchor : Anchor) (names : TrueNames (setting w stored) q) (met : Met (setting w stored) q b) where
     pub Works-moved : Works w stored base q old.core old.members old.next store → old.core.anchor ≡ Some anchor → IsIdle old.core → IsNext w.header anchor b → Moves w ticket b old new → Works w stored base now new.core new.members new.next store
     Works-moved works is idle is_next moves =
         let u : IsUp w stored base q anchor old.core old.members old.next = works.up anchor is in

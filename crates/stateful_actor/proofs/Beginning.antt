@@ -71,7 +71,7 @@ live-begun k i n count before e = elim (or-true ((k == n) && nat_lt i count) bef
   | inr old ↦ inr old
 ]
 
-module _ {B C I R U : Type 0} (w : Workings B R U) (laws : Laws w.kind) (stored : ℕ → Option (Named B)) (base : w.States) (p : Past B C I) (k : ℕ) (height : Height) where
+module _ {B C I R U H : Type 0} (w : Workings B R H U) (laws : Laws w.kind) (stored : ℕ → Option (Named B)) (base : w.States) (p : Past B C I) (k : ℕ) (height : Height) where
   abbrev now : Past B C I
   now = Made (BarrierBegun k height) ∷ p
 
@@ -82,7 +82,7 @@ module _ {B C I R U : Type 0} (w : Workings B R U) (laws : Laws w.kind) (stored 
     durable = λ i l. rw (laws.durable_finalized m i) (h.durable i l);
   }
 
-  module _ {H : Type 0} (store : ℕ → Option (Named B)) (old new : Moment w H) (anchor : Anchor) (free : old.core.barrier ≡ None) (begins : BeginsBarrier w old new) (k_is : begins.active.number ≡ k) (height_is : begins.active.height ≡ height) (applied_is : old.core.durability.applied ≡ anchor.height.0) (was : WasApplied w.header old.core.durability.applied p) where
+  module _ (store : ℕ → Option (Named B)) (old new : Moment w) (anchor : Anchor) (free : old.core.barrier ≡ None) (begins : BeginsBarrier w old new) (k_is : begins.active.number ≡ k) (height_is : begins.active.height ≡ height) (applied_is : old.core.durability.applied ≡ anchor.height.0) (was : WasApplied w.header old.core.durability.applied p) where
     abbrev begun : Core B R H U
     begun = record old.core { durability = record old.core.durability { barrier = Some old.core.durability.applied }; barrier = Some begins.active; next_barrier = old.core.next_barrier + 1 }
 

@@ -73,13 +73,13 @@ module _ {B C I S T : Type 0} (s : Setting B S T) where
   Known-kept (kept m k l parent) calm some = inl cc
   Known-kept (stays o m k old l parent) calm some = inr k
 
-module _ {B R U : Type 0} (w : Workings B R U) where
+module _ {B R U H : Type 0} (w : Workings B R H U) where
   -- a chain over fewer known blocks is one over more
   pub Stacked-more : {points : Digest → Point w} {first : Digest} {P Q : Digest → Type 0} {L M : w.States → Named B → w.States → Type 0} {d : Digest} {c : List (Point w)} → Stacked w points P L first d c → ((x : Digest) → P x → Q x) → ((t : w.States) (b : Named B) (u : w.States) → L t b u → M t b u) → Stacked w points Q M first d c
   Stacked-more (here e at) more led = here e at
   Stacked-more (further e at s k ne l) more led = further e at (Stacked-more s more led) (more _ k) ne (led _ _ _ l)
 
-module _ {B C I R U : Type 0} (w : Workings B R U) (stored : ℕ → Option (Named B)) (p : Past B C I) (x : Item B C I) (calm : IsCalm (setting w stored) p x) where
+module _ {B C I R U H : Type 0} (w : Workings B R H U) (stored : ℕ → Option (Named B)) (p : Past B C I) (x : Item B C I) (calm : IsCalm (setting w stored) p x) where
   pub Leads-calm : (t : w.States) (b : Named B) (u : w.States) → Leads w stored p t b u → Leads w stored (x ∷ p) t b u
   Leads-calm t b u l = record {
     met = inr l.met;
@@ -163,7 +163,7 @@ module _ {B C I R U : Type 0} (w : Workings B R U) (stored : ℕ → Option (Nam
   )
 
   -- the machine works on from a longer past
-  module _ {H : Type 0} (base : w.States) (core : Core B R H U) (m : w.kind.Members) (next : w.Ids) where
+  module _ (base : w.States) (core : Core B R H U) (m : w.kind.Members) (next : w.Ids) where
     pub IsUp-quiet : (anchor : Anchor) → IsQuiet p x → IsUp w stored base p anchor core m next → IsUp w stored base (x ∷ p) anchor core m next
     IsUp-quiet anchor quiet u = record {
       first = u.first;

@@ -55,7 +55,7 @@ FaultsTurn-hook run_count hook_count old new front turned app.Failed f was is ro
 FaultsTurn-hook run_count hook_count old new front turned app.OutOfMemory f was is rose of = rw of tt
 
 -- a database doesn't open
-module _ {B R U : Type 0} (w : Workings B R U) (before now : ℕ → ℕ) (floor : Floor) (keep : List ℕ) (store : ℕ → Option (Named B)) (old new : w.kind.Members) where
+module _ {B R U H : Type 0} (w : Workings B R H U) (before now : ℕ → ℕ) (floor : Floor) (keep : List ℕ) (store : ℕ → Option (Named B)) (old new : w.kind.Members) where
   FaultsOpening-why : (i : ℕ) (why : InitError) → FailsToOpen w before now floor keep store old new i why → FaultsOpening w before now floor keep store old new (fault_of_why i why)
   FaultsOpening-why i init.Database fails = fails
   FaultsOpening-why i (init.TargetMismatch expected recovered) fails = fails

@@ -5,7 +5,7 @@ use Rattle.stateful_actor.specs.Workings.{Workings, Point}
 use Rattle.stateful_actor.specs.Starting.{IsOver, databases, batch}
 use Rattle.stateful_actor.specs.declared.cache.Cached.{Cached}
 
-module _ {B R U : Type 0} (w : Workings B R U) (anchor : Digest) (cache : List (Cached U)) (m : w.kind.Members) (old new : w.Ids) (Has More : Point w → List (Point w) → Type 0) (parent : Digest) where
+module _ {B R U H : Type 0} (w : Workings B R H U) (anchor : Digest) (cache : List (Cached U)) (m : w.kind.Members) (old new : w.Ids) (Has More : Point w → List (Point w) → Type 0) (parent : Digest) where
   pub IsOver-weaker : ((q : Point w) (c : List (Point w)) → Has q c → More q c) → IsOver w anchor cache m old new Has parent → IsOver w anchor cache m old new More parent
   IsOver-weaker f (databases is has) = databases is (λ p here drawn. let h = has p here drawn in (f p [] h.0, h.1))
   IsOver-weaker f (batch e other among is has) = batch e other among is (λ p q above older here shown drawn. let h = has p q above older here shown drawn in (f q (above ++ p ∷ []) h.0, h.1))

@@ -23,7 +23,7 @@ pub converted : {T E : Type 0} (P : E → Type 0) (r : Result T E) (e : E) → I
 converted P (Ok x) e made p = tt
 converted P (Err y) e made p = subst P (sym made) p
 
-module _ {B R U : Type 0} (w : Workings B R U) (before now : ℕ → ℕ) (new : w.kind.Members) (e : SetError) where
+module _ {B R U H : Type 0} (w : Workings B R H U) (before now : ℕ → ℕ) (new : w.kind.Members) (e : SetError) where
   -- a set failed at its finalize
   pub fault_finalizing : (number : ℕ) → (e ≡ set.Lost → ⊥) → (e ≡ set.Exhausted → ⊥)
       → ((n : ℕ) (k : DbCall) → e ≡ set.DatabaseFault n k → HasCounted w before now new n k call.Finalize)
@@ -60,7 +60,7 @@ module _ {B R U : Type 0} (w : Workings B R U) (before now : ℕ → ℕ) (new :
       apply (set.DatabaseFault n k) is = fault n k is
       apply set.OutOfMemory is = tt
 
-module _ {B R U : Type 0} (w : Workings B R U) (laws : Laws w.kind) where
+module _ {B R U H : Type 0} (w : Workings B R H U) (laws : Laws w.kind) where
   -- where nothing has changed they hold the states before
   keeps_same : (m : w.kind.Members) → KeepsStates w m m
   keeps_same m p here i = laws.has_state m p i here
@@ -75,12 +75,12 @@ module _ {B R U : Type 0} (w : Workings B R U) (laws : Laws w.kind) where
   leaves_applied root cache batch old mid new is_root applies keeps p here =
       inr (batch, is_root, λ q c shows i. inr (keeps q (ap w.kind.point (applies p q c here shows) ∙ laws.point_applied old p q here) i))
 
-  module _ {H : Type 0} (t : ℕ) (b : Named B) (old moved : Moment w H) (moves : Moves w t b old moved) where
+  module _ (t : ℕ) (b : Named B) (old moved : Moment w) (moves : Moves w t b old moved) where
     -- what was there behind the apply of a finalization was kept
     pub leaves_moved : (new : w.kind.Members) → KeepsStates w moved.members new → LeavesStates w (anchor_by w.header b) old.core.cache old.members new
     leaves_moved new keeps = leaves_applied (anchor_by w.header b) old.core.cache moves.batch old.members moved.members new moves.root moves.members keeps
 
     -- and a barrier has begun since, where none was active
-    pub leaves_begun : (begun : Moment w H) → BeginsIfNone w moved begun → LeavesStates w (anchor_by w.header b) old.core.cache old.members begun.members
+    pub leaves_begun : (begun : Moment w) → BeginsIfNone w moved begun → LeavesStates w (anchor_by w.header b) old.core.cache old.members begun.members
     leaves_begun begun (inl begins) = leaves_moved begun.members (λ p here i. subst (λ (m : w.kind.Members). w.kind.HasState m i p.1) (sym begins.1.members) (laws.state_finalized moved.members i p.1 (laws.has_state moved.members p i here)))
-    leaves_begun begun (inr same) = leaves_moved begun.members (subst (λ (m : Moment w H). KeepsStates w moved.members m.members) (sym same.1) (keeps_same moved.members))
+    leaves_begun begun (inr same) = leaves_moved begun.members (subst (λ (m : Moment w). KeepsStates w moved.members m.members) (sym same.1) (keeps_same moved.members))

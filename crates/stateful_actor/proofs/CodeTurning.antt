@@ -5,12 +5,13 @@ use Rattle.std.specs.Global.{Global}
 use Rattle.std.proofs.lemmas.List.{take-set, drop-set-lt, get_or-set_same}
 use Rattle.stateful_types.specs.declared.anchor.Anchor.{Anchor}
 use Rattle.stateful_types.specs.declared.outcome.Moved.TheVariants.{Done}
+use Rattle.stateful_db.specs.declared.application.Hooked.TheVariants as hooked
 use Rattle.stateful_history.specs.declared.mark.Mark.{Mark}
 use Rattle.stateful_history.specs.declared.mark.Mark.TheVariants.{Ended}
 use Rattle.stateful_history.specs.declared.mark.How.TheVariants.{Hooked}
 use Rattle.stateful_actor.specs.Workings.{Workings}
 use Rattle.stateful_actor.specs.Effects.{with_receipt}
-use Rattle.stateful_actor.specs.Ending.{Turns, Finishes, TurnsRun, TurnsHook}
+use Rattle.stateful_actor.specs.Ending.{Turns, TurnsTo, Finishes, TurnsRun, TurnsHook}
 use Rattle.stateful_actor.specs.declared.tables.Core.{Core}
 use Rattle.stateful_actor.specs.declared.tables.Front.{Front}
 use Rattle.stateful_actor.specs.declared.tables.Live.{Live}
@@ -31,16 +32,18 @@ found_run {B = B} {R = R} runs slice j place live same found is =
 remove-set : {X : Type 0} (xs : List X) (i : ℕ) (y : X) → remove (set xs i y) i ≡ remove xs i
 remove-set xs i y = ap (λ (l : List _). l ++ drop (suc i) (set xs i y)) (take-set xs i y) ∙ ap (λ (l : List _). take i xs ++ l) (drop-set-lt (suc i) xs i y (omega arith))
 
-module _ {B R U H : Type 0} (w : Workings B R U) (old new : Core B R H U) (before now : List (Mark B)) where
+module _ {B R U H : Type 0} (w : Workings B R H U) (old new : Core B R H U) (before now : List (Mark B)) where
   -- the hook has ended
-  pub TurnsHook-ended : {T E : Type 0} (r : Result T E) (left : Option (Front B H)) (front : Front B H) (j : ℕ) → old.front ≡ Some front → front.job ≡ j → left ≡ None
+  pub TurnsHook-ended : {T E : Type 0} (r : Result T E) (m : w.kind.Members) (left : Option (Front B H)) (front : Front B H) (j : ℕ) → old.front ≡ Some front → front.job ≡ j → TurnsTo w m front.hook hooked.Done → left ≡ None
       → OnOk r (new ≡ record old { front = left; durability = with_receipt old.durability (w.header.height front.block.block) front.ticket })
-      → OnOk r (now ≡ before ++ Ended front.job Hooked ∷ []) → OnOk r (TurnsHook w old new before now j)
-  TurnsHook-ended r left front j is job none core marks = on_ok2 r (λ core marks. record {
+      → OnOk r (now ≡ before ++ Ended front.job Hooked ∷ []) → OnOk r (TurnsHook w old new before now m j)
+  TurnsHook-ended r m left front j is job turns none core marks = on_ok2 r (λ core marks. record {
     front = front;
     is = is;
     job_is = job;
-    leaves = inr (
+    left = hooked.Done;
+    turns = turns;
+    leaves = (
       subst (λ (o : Option (Front B H)). new ≡ record old { front = o; durability = with_receipt old.durability (w.header.height front.block.block) front.ticket }) none core,
       subst (λ (k : ℕ). now ≡ before ++ Ended k Hooked ∷ []) job marks,
     );

@@ -41,7 +41,7 @@ Known-back s (is_tip e) tip none = is_tip (sym tip ∙ e)
 Known-back s (kept m k l parent) tip none = cc
 Known-back s (stays o m k old l parent) tip none = k
 
-module _ {B R U : Type 0} (w : Workings B R U) (points : Digest → Point w) (K : Digest → Type 0) (L : w.States → Named B → w.States → Type 0) (first : Digest) where
+module _ {B R U H : Type 0} (w : Workings B R H U) (points : Digest → Point w) (K : Digest → Type 0) (L : w.States → Named B → w.States → Type 0) (first : Digest) where
   -- a chain begins at the point of its digest
   pub Stacked-head : {d : Digest} {z : Point w} {c : List (Point w)} → Stacked w points K L first d (z ∷ c) → z ≡ points d
   Stacked-head (here e is) = is
@@ -86,7 +86,7 @@ module _ {B R U : Type 0} (w : Workings B R U) (points : Digest → Point w) (K 
         (more q.1 x z.1 (subst (λ (v : Named B). L q.1 v z.1) y_is l))
 
 -- a block is applied, which is a child of the anchor
-module _ {B C I R U : Type 0} (w : Workings B R U) (stored : ℕ → Option (Named B)) (q : Past B C I) (points : Digest → Point w) (next : w.Ids) (anchor : Anchor) (cache : List (Cached U)) (old : Caches w stored q points next anchor.digest cache)
+module _ {B C I R U H : Type 0} (w : Workings B R H U) (stored : ℕ → Option (Named B)) (q : Past B C I) (points : Digest → Point w) (next : w.Ids) (anchor : Anchor) (cache : List (Cached U)) (old : Caches w stored q points next anchor.digest cache)
     (names : TrueNames (setting w stored) q) (tip_is : tip_of w.header q ≡ Some anchor) (top : Named B) (top_met : Met (setting w stored) q top) (named : anchor ≡ anchor_by w.header top)
     (ticket : ℕ) (b : Named B) (b_met : Met (setting w stored) q b) where
   abbrev began : Past B C I

@@ -67,7 +67,7 @@ in_table-removed runs None place live at k ne a = Any-remove_by (λ (r : Live _ 
 in_table-removed runs (Some front) place live at k ne (inl e) = inl e
 in_table-removed runs (Some front) place live at k ne (inr a) = inr (Any-remove_by (λ (r : Live _ _). r.job) runs place live at k ne a)
 
-module _ {B C I R U H : Type 0} (w : Workings B R U) (stored : ℕ → Option (Named B)) (base : w.States) (p : Past B C I) (core : Core B R H U) (m : w.kind.Members) (next : w.Ids) (anchor : Anchor) (u : IsUp w stored base p anchor core m next) (place : ℕ) (live : Live B R) (at : slice_get core.runs.items place ≡ Some live) where
+module _ {B C I R U H : Type 0} (w : Workings B R H U) (stored : ℕ → Option (Named B)) (base : w.States) (p : Past B C I) (core : Core B R H U) (m : w.kind.Members) (next : w.Ids) (anchor : Anchor) (u : IsUp w stored base p anchor core m next) (place : ℕ) (live : Live B R) (at : slice_get core.runs.items place ≡ Some live) where
   -- the other jobs stay in the table
   pub in_table-ended : (how : How) (k : ℕ) → live_job k (Made (Ended live.job how) ∷ p) ≡ true → IsInTable (remove core.runs.items place) core.front k
   in_table-ended how k l = let r = live_behind p live.job k how l in in_table-removed core.runs.items core.front place live at k r.0 (u.in_table k r.1)

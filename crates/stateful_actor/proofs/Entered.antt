@@ -34,7 +34,7 @@ use Rattle.stateful_actor.specs.Entering.{OpensAtStored}
 use Rattle.stateful_actor.specs.Tasks.{IsTaskAt, IsDoneFor}
 use Rattle.stateful_actor.specs.Doing.{Does}
 use Rattle.stateful_actor.specs.Effects.{Settles, CompletesBarrier, acknowledged, BeginsBarrier, Flushes}
-use Rattle.stateful_actor.specs.Ending.{TurnsRun, TurnsHook, LeavesRun}
+use Rattle.stateful_actor.specs.Ending.{TurnsRun, TurnsHook, LeavesRun, LeavesHook}
 use Rattle.stateful_actor.specs.Finalizing.{Finalizes, BeginsIfNone, Observes}
 use Rattle.stateful_actor.specs.Restarting.{Reopens, start_height}
 use Rattle.stateful_actor.specs.declared.judge.Judgement.{Judgement}
@@ -60,7 +60,7 @@ no-opening header (Made (Rattle.stateful_history.specs.declared.mark.Mark.TheVar
 no-opening header (item ∷ q) none = no-opening header q none
 
 -- where the machine works on, the databases hold the fold over what was applied
-module _ {B C I R U H : Type 0} (w : Workings B R U) (stored store : ℕ → Option (Named B)) (base : w.States) (q : Past B C I) (core : Core B R H U) (m : w.kind.Members) (next : w.Ids) (works : Works w stored base q core m next store) where
+module _ {B C I R U H : Type 0} (w : Workings B R H U) (stored store : ℕ → Option (Named B)) (base : w.States) (q : Past B C I) (core : Core B R H U) (m : w.kind.Members) (next : w.Ids) (works : Works w stored base q core m next store) where
   holds-at : (anchor : Option Anchor) → core.anchor ≡ anchor → Holds (setting w stored) w.kind base q m
   holds-at None is = rw (no-opening w.header q (sym works.anchor_is ∙ is)) tt
   holds-at (Some anchor) is =
@@ -90,13 +90,13 @@ opens-both (Opened a ∷ xs) ys x y = x
 opens-both (Converged a ∷ xs) ys x y = x
 opens-both (m ∷ xs) ys x y = opens-both xs ys x y
 
-module _ {B R U H : Type 0} (w : Workings B R U) (laws : Laws w.kind) (old new : Moment w H) where
+module _ {B R U H : Type 0} (w : Workings B R H U) (laws : Laws w.kind) (old new : Moment w) where
   -- the marks of a moment behind another are those of that one, and more that open nothing
   abbrev pub More : Type 0
   More = (more : List (Mark B)) × (new.marks ≡ old.marks ++ more) × (opens more ≡ false)
 
   settles-more : Settles w old new → More
-  settles-more (inl same) = ([], ap (λ (x : Moment w H). x.marks) same.1 ∙ sym (append-nil old.marks), refl)
+  settles-more (inl same) = ([], ap (λ (x : Moment w). x.marks) same.1 ∙ sym (append-nil old.marks), refl)
   settles-more (inr up) =
       let all = up.2 in
       let one = done-more all.completed all.done all.completes in
@@ -112,14 +112,14 @@ module _ {B R U H : Type 0} (w : Workings B R U) (laws : Laws w.kind) (old new :
 
       begun-more : (told : Core B R H U) (released : List (Mark B)) → ((told.durability.durable < told.durability.applied) × IsNone told.durability.barrier × BeginsBarrier w (moment w told old.members old.next released) new) ⊎ (new ≡ moment w told old.members old.next released) → (more : List (Mark B)) × (new.marks ≡ released ++ more) × (opens more ≡ false)
       begun-more told released (inl b) = (BarrierBegun b.2.active.number b.2.active.height ∷ [], b.2.marks, refl)
-      begun-more told released (inr same) = ([], ap (λ (x : Moment w H). x.marks) same ∙ sym (append-nil released), refl)
+      begun-more told released (inr same) = ([], ap (λ (x : Moment w). x.marks) same ∙ sym (append-nil released), refl)
 
   -- what a finalization marks opens nothing
-  opens-begins : (before after : Moment w H) → BeginsIfNone w before after → opens after.marks ≡ opens before.marks
+  opens-begins : (before after : Moment w) → BeginsIfNone w before after → opens after.marks ≡ opens before.marks
   opens-begins before after (inl b) = ap (λ (ms : List (Mark B)). opens ms) b.1.marks ∙ opens-push before.marks (BarrierBegun b.1.active.number b.1.active.height) refl
-  opens-begins before after (inr same) = ap (λ (x : Moment w H). opens x.marks) same.1
+  opens-begins before after (inr same) = ap (λ (x : Moment w). opens x.marks) same.1
 
-  opens-observes : (t : ℕ) (b : Named B) (h : HookedIs H) (before after : Moment w H) → Observes w t b h before.core after.core before.marks after.marks → opens after.marks ≡ opens before.marks
+  opens-observes : (t : ℕ) (b : Named B) (h : HookedIs H) (before after : Moment w) → Observes w t b h before.core after.core before.marks after.marks → opens after.marks ≡ opens before.marks
   opens-observes t b hooked.Done before after o = ap (λ (ms : List (Mark B)). opens ms) o.1
   opens-observes t b (hooked.Pending hook) before after o = ap (λ (ms : List (Mark B)). opens ms) o.1 ∙ opens-push before.marks (Started before.core.next_job job.Hook b.digest) refl
 
@@ -138,11 +138,12 @@ module _ {B R U H : Type 0} (w : Workings B R U) (laws : Laws w.kind) (old new :
       by_moved Pending leaves = ap (λ (ms : List (Mark B)). opens ms) leaves.2
       by_moved (Done ended) leaves = ap (λ (ms : List (Mark B)). opens ms) leaves.2.marks ∙ opens-push (old.marks ++ Ended turns.live.job leaves.2.how ∷ []) (Verdict turns.live.ticket leaves.2.valid) refl ∙ opens-push old.marks (Ended turns.live.job leaves.2.how) refl
 
-  opens-hook : (j : ℕ) → TurnsHook w old.core new.core old.marks new.marks j → opens new.marks ≡ opens old.marks
-  opens-hook j turns = elim turns.leaves [
-    | inl on ↦ ap (λ (ms : List (Mark B)). opens ms) on.2
-    | inr done ↦ ap (λ (ms : List (Mark B)). opens ms) done.1 ∙ opens-push old.marks (Ended j how.Hooked) refl
-  ]
+  opens-hook : (j : ℕ) → TurnsHook w old.core new.core old.marks new.marks old.members j → opens new.marks ≡ opens old.marks
+  opens-hook j turns = by_left turns.left turns.leaves
+    where
+      by_left : (left : HookedIs H) → LeavesHook w old.core new.core old.marks new.marks j turns.front left → opens new.marks ≡ opens old.marks
+      by_left (hooked.Pending hook) on = ap (λ (ms : List (Mark B)). opens ms) on.1
+      by_left hooked.Done done = ap (λ (ms : List (Mark B)). opens ms) done.1 ∙ opens-push old.marks (Ended j how.Hooked) refl
 
   -- the task opens the databases
   abbrev pub IsStart : Task B → Type 0
@@ -152,7 +153,7 @@ module _ {B R U H : Type 0} (w : Workings B R U) (laws : Laws w.kind) (old new :
   -- only a start opens anything
   opens-does : (store : ℕ → Option (Named B)) (done : Task B) → Does w store done old new → (IsStart done → ⊥) → opens new.marks ≡ opens old.marks
   opens-does store (task.Answer t valid) does other = ap (λ (ms : List (Mark B)). opens ms) does.0.1 ∙ opens-push old.marks (Verdict t valid) refl
-  opens-does store task.Wait does other = ap (λ (x : Moment w H). opens x.marks) does
+  opens-does store task.Wait does other = ap (λ (x : Moment w). opens x.marks) does
   opens-does store (task.Ask t digest) does other = ap (λ (ms : List (Mark B)). opens ms) does.0.1 ∙ opens-push old.marks (Asked old.core.next_fetch (Some t) digest) refl
   opens-does store (task.Run anchor t b parent) does other = ap (λ (ms : List (Mark B)). opens ms) does.marks ∙ opens-push old.marks (Started old.core.next_job job.Candidate b.digest) refl
   opens-does store (task.Hold t height) does other = ap (λ (ms : List (Mark B)). opens ms) does.0.1
@@ -162,7 +163,7 @@ module _ {B R U H : Type 0} (w : Workings B R U) (laws : Laws w.kind) (old new :
   opens-does store (task.Start floor keep) does other = absurd (other tt)
 
 -- a task of an event that may come, at a past
-module _ {B C I R U H : Type 0} (w : Workings B R U) (laws : Laws w.kind) (stored store : ℕ → Option (Named B)) (base : w.States) (p : Past B C I) (old mid new : Moment w H) (none : old.marks ≡ []) (works : Works w stored base p old.core old.members old.next store) (sound : Sound w.kind old.members w.header old.core) where
+module _ {B C I R U H : Type 0} (w : Workings B R H U) (laws : Laws w.kind) (stored store : ℕ → Option (Named B)) (base : w.States) (p : Past B C I) (old mid new : Moment w) (none : old.marks ≡ []) (works : Works w stored base p old.core old.members old.next store) (sound : Sound w.kind old.members w.header old.core) where
   -- the event names live work, where the machine is up
   is-named : (down live : Bool) → not down && live ≡ true → live ≡ true
   is-named true live e = cc

@@ -63,9 +63,9 @@ finalized-IsQuiet p t b = record {
   flushes = λ count k i live. live;
 }
 
-module _ {B C I R U H : Type 0} (w : Workings B R U) (laws : Laws w.kind) (stored store : ℕ → Option (Named B)) (base : w.States) (q : Past B C I) where
+module _ {B C I R U H : Type 0} (w : Workings B R H U) (laws : Laws w.kind) (stored store : ℕ → Option (Named B)) (base : w.States) (q : Past B C I) where
   -- the finalization has begun, and the block is applied
-  Served-moved : (t : ℕ) (b : Named B) (anchor : Anchor) (old new : Moment w H) → TrueNames (setting w stored) q → Met (setting w stored) q b → old.marks ≡ [] → Works w stored base q old.core old.members old.next store → old.core.anchor ≡ Some anchor → IsIdle old.core → IsNext w.header anchor b → Moves w t b old new → HasServed w stored base q new store
+  Served-moved : (t : ℕ) (b : Named B) (anchor : Anchor) (old new : Moment w) → TrueNames (setting w stored) q → Met (setting w stored) q b → old.marks ≡ [] → Works w stored base q old.core old.members old.next store → old.core.anchor ≡ Some anchor → IsIdle old.core → IsNext w.header anchor b → Moves w t b old new → HasServed w stored base q new store
   Served-moved t b anchor old new names met none works is idle is_next moves =
       let marks : new.marks ≡ Began t b ∷ Applied b ∷ [] = moves.marks ∙ ap (λ (ms : List (Mark B)). (ms ++ Began t b ∷ []) ++ Applied b ∷ []) none in
       record {
@@ -74,7 +74,7 @@ module _ {B C I R U H : Type 0} (w : Workings B R U) (laws : Laws w.kind) (store
       }
 
   -- a barrier begins over the anchor, where none is active
-  pub Served-begun : (anchor : Anchor) (old new : Moment w H) → HasServed w stored base q old store → old.core.anchor ≡ Some anchor → old.core.durability.applied ≡ anchor.height.0 → WasApplied w.header old.core.durability.applied (after q old.marks) → BeginsIfNone w old new → HasServed w stored base q new store
+  pub Served-begun : (anchor : Anchor) (old new : Moment w) → HasServed w stored base q old store → old.core.anchor ≡ Some anchor → old.core.durability.applied ≡ anchor.height.0 → WasApplied w.header old.core.durability.applied (after q old.marks) → BeginsIfNone w old new → HasServed w stored base q new store
   Served-begun anchor old new served is applied was (inr same) = Served-same w stored base q store old new same.1 served
   Served-begun anchor old new served is applied was (inl free) =
       let begins : BeginsBarrier w old new = free.1 in
@@ -82,12 +82,12 @@ module _ {B C I R U H : Type 0} (w : Workings B R U) (laws : Laws w.kind) (store
       (Keeps-push w stored base q old.marks (BarrierBegun begins.active.number begins.active.height) served.keeps tt (λ honest. tt) tt tt)
       (Works-begun w laws stored base (after q old.marks) begins.active.number begins.active.height store old new anchor free.0 begins refl refl applied was served.works is)
 
-  begun-same : (old new : Moment w H) → BeginsIfNone w old new → (new.core.anchor ≡ old.core.anchor) × (new.core.front ≡ old.core.front)
-  begun-same old new (inr same) = (ap (λ (m : Moment w H). m.core.anchor) same.1, ap (λ (m : Moment w H). m.core.front) same.1)
+  begun-same : (old new : Moment w) → BeginsIfNone w old new → (new.core.anchor ≡ old.core.anchor) × (new.core.front ≡ old.core.front)
+  begun-same old new (inr same) = (ap (λ (m : Moment w). m.core.anchor) same.1, ap (λ (m : Moment w). m.core.front) same.1)
   begun-same old new (inl free) = (ap (λ (c : Core B R H U). c.anchor) free.1.core, ap (λ (c : Core B R H U). c.front) free.1.core)
 
   -- the receipt is held, or a hook is in front
-  Served-observed : (t : ℕ) (b : Named B) (anchor : Anchor) (hooked : Hooked H) (old new : Moment w H) → HasServed w stored base q old store → old.core.anchor ≡ Some anchor → old.core.front ≡ None → Observes w t b hooked old.core new.core old.marks new.marks → new.members ≡ old.members → new.next ≡ old.next → HasServed w stored base q new store
+  Served-observed : (t : ℕ) (b : Named B) (anchor : Anchor) (hooked : Hooked H) (old new : Moment w) → HasServed w stored base q old store → old.core.anchor ≡ Some anchor → old.core.front ≡ None → Observes w t b hooked old.core new.core old.marks new.marks → new.members ≡ old.members → new.next ≡ old.next → HasServed w stored base q new store
   Served-observed t b anchor Done old new served is free observes members next = record {
     works = Works-same w stored base (after q new.marks) store (sym observes.0) (sym members) (sym next)
         (subst (λ (ms : List (Mark B)). Works w stored base (after q ms) (record old.core { durability = with_receipt old.core.durability (w.header.height b.block) t }) old.members old.next store) (sym observes.1)
@@ -101,7 +101,7 @@ module _ {B C I R U H : Type 0} (w : Workings B R U) (laws : Laws w.kind) (store
       (Works-fronted w stored base (after q old.marks) old.core old.members old.next store served.works Hook b.digest (record { job = old.core.next_job; ticket = t; block = b; hook = hook }) refl free anchor is))
 
   -- the next block is final
-  Served-next : (t : ℕ) (b : Named B) (anchor : Anchor) (old new : Moment w H) → TrueNames (setting w stored) q → Met (setting w stored) q b → old.marks ≡ [] → Works w stored base q old.core old.members old.next store → old.core.anchor ≡ Some anchor → IsIdle old.core → IsNext w.header anchor b → Finalizes w t b old new → HasServed w stored base q new store
+  Served-next : (t : ℕ) (b : Named B) (anchor : Anchor) (old new : Moment w) → TrueNames (setting w stored) q → Met (setting w stored) q b → old.marks ≡ [] → Works w stored base q old.core old.members old.next store → old.core.anchor ≡ Some anchor → IsIdle old.core → IsNext w.header anchor b → Finalizes w t b old new → HasServed w stored base q new store
   Served-next t b anchor old new names met none works is idle is_next f =
       let moved : HasServed w stored base q f.moved store = Served-moved t b anchor old f.moved names met none works is idle is_next f.moves in
       let marks : f.moved.marks ≡ Began t b ∷ Applied b ∷ [] = f.moves.marks ∙ ap (λ (ms : List (Mark B)). (ms ++ Began t b ∷ []) ++ Applied b ∷ []) none in
@@ -114,7 +114,7 @@ module _ {B C I R U H : Type 0} (w : Workings B R U) (laws : Laws w.kind) (store
       Served-observed t b (anchor_by w.header b) f.hooked f.begun new begun (same.0 ∙ moved_anchor) (same.1 ∙ moved_front ∙ idle.1) f.observes f.members f.next
 
   -- the block is redelivered
-  Served-held : (t height : ℕ) (old new : Moment w H) → old.marks ≡ [] → Works w stored base q old.core old.members old.next store → HoldsReceipt old.core new.core old.marks new.marks t height → KeepsDatabases w store old new → HasServed w stored base q new store
+  Served-held : (t height : ℕ) (old new : Moment w) → old.marks ≡ [] → Works w stored base q old.core old.members old.next store → HoldsReceipt old.core new.core old.marks new.marks t height → KeepsDatabases w store old new → HasServed w stored base q new store
   Served-held t height old new none works holds same =
       let marks : new.marks ≡ [] = holds.1 ∙ none in
       record {
@@ -124,7 +124,7 @@ module _ {B C I R U H : Type 0} (w : Workings B R U) (laws : Laws w.kind) (store
         keeps = subst (λ (ms : List (Mark B)). Keeps w stored base q ms) (sym marks) (Keeps-none w stored base q);
       }
 
-module _ {B C I R U H : Type 0} (w : Workings B R U) (laws : Laws w.kind) (stored store : ℕ → Option (Named B)) (base : w.States) (p : Past B C I) (old new : Moment w H) (none : old.marks ≡ []) (works : Works w stored base p old.core old.members old.next store) where
+module _ {B C I R U H : Type 0} (w : Workings B R H U) (laws : Laws w.kind) (stored store : ℕ → Option (Named B)) (base : w.States) (p : Past B C I) (old new : Moment w) (none : old.marks ≡ []) (works : Works w stored base p old.core old.members old.next store) where
   came : (t : ℕ) (b : Named B) → Works w stored base (Came (Finalized t b) ∷ p) old.core old.members old.next store
   came t b = Works-quiet w stored p (Came (Finalized t b)) (finalized-IsCalm (setting w stored) p t b) base old.core old.members old.next store (finalized-IsQuiet p t b) works
 

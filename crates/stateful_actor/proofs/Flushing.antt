@@ -27,7 +27,7 @@ use Rattle.stateful_actor.proofs.Calm.{IsCalm, IsQuiet, Works-quiet}
 use Rattle.stateful_actor.proofs.Pushing.{Keeps-none}
 use Rattle.stateful_actor.proofs.Advancing.{Works-same}
 
-flushed-IsCalm : {B C I R U : Type 0} (w : Workings B R U) (stored : ℕ → Option (Named B)) (p : Past B C I) (k i : ℕ) → IsCalm (setting w stored) p (Came (Flushed k i Good))
+flushed-IsCalm : {B C I R U H : Type 0} (w : Workings B R H U) (stored : ℕ → Option (Named B)) (p : Past B C I) (k i : ℕ) → IsCalm (setting w stored) p (Came (Flushed k i Good))
 flushed-IsCalm w stored p k i = record { opening = refl; anchor = refl; tip = refl; applied = refl; down = refl; pruned = refl; starts_none = tt; built = λ d b. b; began = λ k n b. b; flushed = λ k i f. inr f }
 
 -- what is still live was live, and is another flush
@@ -75,7 +75,7 @@ open-at (h ∷ hs) zero token e = (h, refl, by_answer h.answer refl, omega arith
     by_answer (Some answer) is = let s : None ≡ Some token = subst (λ (a : Option FlushedIs). elim a [ None ↦ Some h.token | Some answer ↦ None ] ≡ Some token) is e in cc
 open-at (h ∷ hs) (suc n) token e = let r = open-at hs n token e in (r.0, r.1, r.2, omega (arith, r.3))
 
-module _ {B C I R U H : Type 0} (w : Workings B R U) (laws : Laws w.kind) (stored store : ℕ → Option (Named B)) (base : w.States) (p : Past B C I) (old new : Moment w H) (number index : ℕ) (flushes : Flushes w old new number index) where
+module _ {B C I R U H : Type 0} (w : Workings B R H U) (laws : Laws w.kind) (stored store : ℕ → Option (Named B)) (base : w.States) (p : Past B C I) (old new : Moment w) (number index : ℕ) (flushes : Flushes w old new number index) where
   abbrev q : Past B C I
   q = Came (Flushed number index Good) ∷ p
 

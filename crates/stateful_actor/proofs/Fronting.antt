@@ -45,7 +45,7 @@ in_front : {B R H : Type 0} (runs : List (Live B R)) (o : Option (Front B H)) (f
 in_front runs None front j none h = inr h
 in_front runs (Some old) front j none h = cc
 
-module _ {B C I R U H : Type 0} (w : Workings B R U) (stored : ℕ → Option (Named B)) (base : w.States) (p : Past B C I) (core : Core B R H U) (m : w.kind.Members) (next : w.Ids) (store : ℕ → Option (Named B)) (works : Works w stored base p core m next store) where
+module _ {B C I R U H : Type 0} (w : Workings B R H U) (stored : ℕ → Option (Named B)) (base : w.States) (p : Past B C I) (core : Core B R H U) (m : w.kind.Members) (next : w.Ids) (store : ℕ → Option (Named B)) (works : Works w stored base p core m next store) where
   -- receipts are nothing that the past speaks of
   pub Works-covered : (c : Coverage) → c.durable ≡ core.durability.durable → Works w stored base p (record core { durability = c }) m next store
   Works-covered c same = record {

@@ -46,7 +46,7 @@ HasNotFallen-further start before now first then = record {
   databases = λ i. let a = first.databases i in let b = then.databases i in omega arith;
 }
 
-module _ {B C I R U H : Type 0} (w : Workings B R U) (laws : Laws w.kind) (stored : ℕ → Option (Named B)) where
+module _ {B C I R U H : Type 0} (w : Workings B R H U) (laws : Laws w.kind) (stored : ℕ → Option (Named B)) where
   -- a machine that is up stands for a past: the databases hold what was applied
   pub Works-behind : (base : w.States) (p : Past B C I) (event : Event B C I) (core : Core B R H U) (m : w.kind.Members) (next : w.Ids) (store : ℕ → Option (Named B))
       → Works w stored base p core m next store → core.anchor ≢ None → HoldsBehind (setting w stored) w.kind base p event m
@@ -58,7 +58,7 @@ module _ {B C I R U H : Type 0} (w : Workings B R U) (laws : Laws w.kind) (store
   module _ (run_count : R → ℕ) (hook_count : H → ℕ) (history : List (Entry B C I)) (event : Event B C I) (core : Core B R H U) (register : Register) (m : w.kind.Members) (next : w.Ids) (before : Tally)
       (failed : Bool) (works : failed ≡ false) (is_played : HasPlayed w stored history failed core register m next)
       (registered : RegisterStands w.kind.count (after_all [] history) register)
-      (first : Moment w H) (steps : Steps w stored [] first history (moment w core m next [])) where
+      (first : Moment w) (steps : Steps w stored [] first history (moment w core m next [])) where
     played : HasPlayed w stored history false core register m next
     played = subst (λ (f : Bool). HasPlayed w stored history f core register m next) works is_played
 
@@ -88,7 +88,7 @@ module _ {B C I R U H : Type 0} (w : Workings B R U) (laws : Laws w.kind) (store
     Refused-early e is = Refused-from e core m before (memory is) (λ same. refl) (λ base names stood up. Works-behind base (after_all [] history) event core m next stored (stood (inl works)).1 up)
 
   -- counts that have not fallen before
-  pub IsRefused-since : (run_count : R → ℕ) (hook_count : H → ℕ) (first : Moment w H) (history : List (Entry B C I)) (event : Event B C I) (e : StepError) (core : Core B R H U) (m : w.kind.Members) (start before now : Tally)
+  pub IsRefused-since : (run_count : R → ℕ) (hook_count : H → ℕ) (first : Moment w) (history : List (Entry B C I)) (event : Event B C I) (e : StepError) (core : Core B R H U) (m : w.kind.Members) (start before now : Tally)
       → HasNotFallen start before → IsRefused w stored run_count hook_count first history event e core m before now → IsRefused w stored run_count hook_count first history event e core m start now
   IsRefused-since run_count hook_count first history event e core m start before now later refused = record {
     register = refused.register;

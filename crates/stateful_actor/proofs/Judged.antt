@@ -19,7 +19,7 @@ use Rattle.stateful_actor.specs.declared.judge.Judgement.TheVariants.{Valid, Inv
 use Rattle.stateful_actor.specs.declared.tables.Core.{Core}
 use Rattle.stateful_actor.proofs.Placed.{canonical-at, canonical-below, not_anchor, IsCovered-below, Joined-from_chain, unknown-from}
 
-module _ {B C I R U H : Type 0} (w : Workings B R U) (stored store : ℕ → Option (Named B)) (base : w.States) (p : Past B C I) (core : Core B R H U) (m : w.kind.Members) (next : w.Ids) (h : Works w stored base p core m next store) (anchor : Anchor) (u : IsUp w stored base p anchor core m next) (b : Named B) where
+module _ {B C I R U H : Type 0} (w : Workings B R H U) (stored store : ℕ → Option (Named B)) (base : w.States) (p : Past B C I) (core : Core B R H U) (m : w.kind.Members) (next : w.Ids) (h : Works w stored base p core m next store) (anchor : Anchor) (u : IsUp w stored base p anchor core m next) (b : Named B) where
   -- a cached block is joined
   pub Joined-cached : IsIn core.cache b.digest → Joined (setting w stored) base p b.digest
   Joined-cached a =

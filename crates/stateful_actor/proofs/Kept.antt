@@ -30,7 +30,7 @@ use Rattle.stateful_actor.proofs.Placed.{anchor-Known, IsPastTip-later, Joined-f
 use Rattle.stateful_actor.proofs.Ended.{IsRun-at, IsLive-at, in_table-ended}
 
 -- a block that isn't known gets its point
-module _ {B C I R U : Type 0} (w : Workings B R U) (stored : ℕ → Option (Named B)) (p : Past B C I) (points : Digest → Point w) (next : w.Ids) (anchor own : Digest) (unknown : IsUnknown (setting w stored) p own) (pt : Point w) where
+module _ {B C I R U H : Type 0} (w : Workings B R H U) (stored : ℕ → Option (Named B)) (p : Past B C I) (points : Digest → Point w) (next : w.Ids) (anchor own : Digest) (unknown : IsUnknown (setting w stored) p own) (pt : Point w) where
   pub same-where_known : (d : Digest) → Known (setting w stored) p d → with_point points own pt d ≡ points d
   same-where_known d k = with_point-other points own pt d (λ e. unknown (subst (λ (x : Digest). Known (setting w stored) p x) e k))
 
@@ -73,7 +73,7 @@ Any-more P xs y h =
     let c = Contains-append_left xs (y ∷ []) h.1 (h.0, h.2, h.3) in
     (c.0, h.1, c.1, c.2, h.4)
 
-module _ {B C I R U H : Type 0} (w : Workings B R U) (stored : ℕ → Option (Named B)) (base : w.States) (p : Past B C I) (core : Core B R H U) (m : w.kind.Members) (next : w.Ids) (anchor : Anchor) (u : IsUp w stored base p anchor core m next) (place : ℕ) (live : Live B R) (at : slice_get core.runs.items place ≡ Some live)
+module _ {B C I R U H : Type 0} (w : Workings B R H U) (stored : ℕ → Option (Named B)) (base : w.States) (p : Past B C I) (core : Core B R H U) (m : w.kind.Members) (next : w.Ids) (anchor : Anchor) (u : IsUp w stored base p anchor core m next) (place : ℕ) (live : Live B R) (at : slice_get core.runs.items place ≡ Some live)
     (batch : U) (s : w.States)
     (accepted : w.meaning.accept (u.executes.points (w.header.parent live.block.block)).1 live.block.block ≡ true)
     (step : w.meaning.step (u.executes.points (w.header.parent live.block.block)).1 live.block.block ≡ Some s)

@@ -86,7 +86,7 @@ module _ {B C I S T : Type 0} (s : Setting B S T) (base : S) (p : Past B C I) (a
       let same : a.block ≡ b = names a.block b a.met met d in
       ne (ap (λ (x : Named B). height_of s x) (sym same) ∙ ap (λ (x : Anchor). x.height.0) (sym a.named))
 
-module _ {B C I R U : Type 0} (w : Workings B R U) (stored : ℕ → Option (Named B)) (base : w.States) (p : Past B C I) (anchor first : Anchor) (point : Point w) (a : Anchored (setting w stored) base p anchor first point.1) (points : Digest → Point w) (at_anchor : points anchor.digest ≡ point) where
+module _ {B C I R U H : Type 0} (w : Workings B R H U) (stored : ℕ → Option (Named B)) (base : w.States) (p : Past B C I) (anchor first : Anchor) (point : Point w) (a : Anchored (setting w stored) base p anchor first point.1) (points : Digest → Point w) (at_anchor : points anchor.digest ≡ point) where
   -- a known block with a chain is joined
   pub Joined-from_chain : (d : Digest) (at : Point w) (below : List (Point w)) → Known (setting w stored) p d → Chain w stored p points anchor.digest d (at ∷ below) → Joined (setting w stored) base p d
   Joined-from_chain d at below known chain = record {

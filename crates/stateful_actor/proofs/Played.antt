@@ -34,7 +34,7 @@ events-push {B} {C} {I} history longer event marks events adds is =
     ∙ events-append history (record { event = event; marks = marks })
     ∙ ap (λ (l : List (Event B C I)). l ++ event ∷ []) is
 
-module _ {B C I R U : Type 0} (w : Workings B R U) (stored : ℕ → Option (Named B)) where
+module _ {B C I R U H : Type 0} (w : Workings B R H U) (stored : ℕ → Option (Named B)) where
   -- a new machine stands for the empty past
   pub Register-new : (register : Register) → IsBlank register → RegisterStands {B = B} {C = C} {I = I} w.kind.count [] register
   Register-new register blank = record {
@@ -47,7 +47,7 @@ module _ {B C I R U : Type 0} (w : Workings B R U) (stored : ℕ → Option (Nam
     syncs_none = refl;
   }
 
-  Works-new : {H : Type 0} (core : Core B R H U) (m : w.kind.Members) (next : w.Ids) → core.anchor ≡ None → Works {B = B} {C = C} {I = I} w stored w.kind.initial [] core m next stored
+  Works-new : (core : Core B R H U) (m : w.kind.Members) (next : w.Ids) → core.anchor ≡ None → Works {B = B} {C = C} {I = I} w stored w.kind.initial [] core m next stored
   Works-new core m next down = record {
     anchor_is = down;
     down_is = rw down refl;
@@ -57,15 +57,15 @@ module _ {B C I R U : Type 0} (w : Workings B R U) (stored : ℕ → Option (Nam
     up = λ anchor is. absurd cc;
   }
 
-  pub HasPlayed-new : {H : Type 0} (failed : Bool) (core : Core B R H U) (register : Register) (m : w.kind.Members) (next : w.Ids) → IsNew failed core register → HasPlayed {B = B} {C = C} {I = I} w stored [] failed core register m next
+  pub HasPlayed-new : (failed : Bool) (core : Core B R H U) (register : Register) (m : w.kind.Members) (next : w.Ids) → IsNew failed core register → HasPlayed {B = B} {C = C} {I = I} w stored [] failed core register m next
   HasPlayed-new failed core register m next new = λ names. (λ up. (Register-new register new.blank, Works-new core m next new.down), tt)
 
   -- one more step
-  Steps-push : {H : Type 0} (p : Past B C I) (old mid : Moment w H) (history : List (Entry B C I)) (event : Event B C I) (new : Moment w H) → Steps w stored p old history mid → may_come w.kind.count (after_all p history) event ≡ true → IsStep w stored event mid new → Steps w stored p old (history ++ record { event = event; marks = new.marks } ∷ []) (record new { marks = [] })
-  Steps-push p old mid [] event new is may step = (may, new, refl, subst (λ (x : Moment w _). IsStep w stored event x new) is step, refl)
+  Steps-push : (p : Past B C I) (old mid : Moment w) (history : List (Entry B C I)) (event : Event B C I) (new : Moment w) → Steps w stored p old history mid → may_come w.kind.count (after_all p history) event ≡ true → IsStep w stored event mid new → Steps w stored p old (history ++ record { event = event; marks = new.marks } ∷ []) (record new { marks = [] })
+  Steps-push p old mid [] event new is may step = (may, new, refl, subst (λ (x : Moment w). IsStep w stored event x new) is step, refl)
   Steps-push p old mid (x ∷ history) event new steps may step = (steps.0, steps.1, steps.2, steps.3, Steps-push (after_entry p x.event x.marks) (record (steps.1) { marks = [] }) mid history event new steps.4 may step)
 
-  pub Steps-longer : {H : Type 0} (first : Moment w H) (mid : Moment w H) (history longer : List (Entry B C I)) (event : Event B C I) (core : Core B R H U) (m : w.kind.Members) (next : w.Ids)
+  pub Steps-longer : (first : Moment w) (mid : Moment w) (history longer : List (Entry B C I)) (event : Event B C I) (core : Core B R H U) (m : w.kind.Members) (next : w.Ids)
       → Steps w stored [] first history mid → may_come w.kind.count (after_all [] history) event ≡ true → AddsEntry w stored event mid core m next history longer → Steps w stored [] first longer (moment w core m next [])
   Steps-longer first mid history longer event core m next steps may adds =
       subst (λ (h : List (Entry B C I)). Steps w stored [] first h (moment w core m next [])) (sym adds.1) (Steps-push [] first mid history event (moment w core m next adds.0) steps may adds.2)
@@ -84,7 +84,7 @@ module _ {B C I R U : Type 0} (w : Workings B R U) (stored : ℕ → Option (Nam
   Plays-last base p [] Old New old more = more base old
   Plays-last base p (x ∷ history) Old New old more = (old.0, old.1, old.2, old.3, Plays-last old.0 (after_entry p x.event x.marks) history Old New old.4 more)
 
-  module _ {H : Type 0} (history longer : List (Entry B C I)) (entry : Entry B C I) (is : longer ≡ history ++ entry ∷ [])
+  module _ (history longer : List (Entry B C I)) (entry : Entry B C I) (is : longer ≡ history ++ entry ∷ [])
       (failed failing : Bool) (core going : Core B R H U) (register registered : Register) (m n : w.kind.Members) (next other : w.Ids)
       (played : HasPlayed w stored history failed core register m next)
       (takes : (base : w.States) → TrueNames (setting w stored) (after_entry (after_all [] history) entry.event entry.marks) → Stands w stored base (after_all [] history) failed core register m next stored → TakesIn w stored (base_after base entry.marks (w.kind.point n)) (after_all [] history) entry.event entry.marks failing going registered n other stored) where
@@ -106,18 +106,18 @@ module _ {B C I R U : Type 0} (w : Workings B R U) (stored : ℕ → Option (Nam
         (base_after base entry.marks (w.kind.point n), same_base base, t.opened, t.keeps, (t.stands, t.holds))))
 
   -- without what stands
-  pub Plays-holds : {H : Type 0} (history : List (Entry B C I)) (failed : Bool) (core : Core B R H U) (register : Register) (m : w.kind.Members) (next : w.Ids)
+  pub Plays-holds : (history : List (Entry B C I)) (failed : Bool) (core : Core B R H U) (register : Register) (m : w.kind.Members) (next : w.Ids)
       → HasPlayed w stored history failed core register m next → TrueNames (setting w stored) (after_all [] history)
       → Plays w stored w.kind.initial [] history (λ base. Holds (setting w stored) w.kind base (after_all [] history) m)
   Plays-holds history failed core register m next played names = Plays-last w.kind.initial [] history _ _ (played names) (λ base stood. stood.1)
 
-  pub Plays-any : {H : Type 0} (history : List (Entry B C I)) (failed : Bool) (core : Core B R H U) (register : Register) (m : w.kind.Members) (next : w.Ids)
+  pub Plays-any : (history : List (Entry B C I)) (failed : Bool) (core : Core B R H U) (register : Register) (m : w.kind.Members) (next : w.Ids)
       → HasPlayed w stored history failed core register m next → TrueNames (setting w stored) (after_all [] history)
       → Plays w stored w.kind.initial [] history (λ base. Unit {0})
   Plays-any history failed core register m next played names = Plays-last w.kind.initial [] history _ _ (played names) (λ base stood. tt)
 
   -- what stands at the end, and what stands for it then
-  pub HasStood-from : {H : Type 0} (history : List (Entry B C I)) (failed failing : Bool) (core going : Core B R H U) (register registered : Register) (m n : w.kind.Members) (next other : w.Ids)
+  pub HasStood-from : (history : List (Entry B C I)) (failed failing : Bool) (core going : Core B R H U) (register registered : Register) (m n : w.kind.Members) (next other : w.Ids)
       → HasPlayed w stored history failed core register m next
       → ((base : w.States) → Stands w stored base (after_all [] history) failed core register m next stored → Stands w stored base (after_all [] history) failing going registered n other stored)
       → HasStood w stored history failing going registered n other

@@ -41,7 +41,7 @@ with_point-at points d p = if_true p (points d) (same_digest-refl d)
 pub with_point-other : {P : Type 0} (points : Digest → P) (d : Digest) (p : P) (e : Digest) → e ≢ d → with_point points d p e ≡ points e
 with_point-other points d p e ne = if_false p (points e) (same_digest-other d e ne)
 
-module _ {B R U : Type 0} (w : Workings B R U) where
+module _ {B R U H : Type 0} (w : Workings B R H U) where
   -- the databases are in each chain
   pub Stacked-point : {points : Digest → Point w} {P : Digest → Type 0} {L : w.States → Named B → w.States → Type 0} {first d : Digest} {c : List (Point w)} → Stacked w points P L first d c → IsPoint (points first) c
   Stacked-point {points = points} (here e at) = inl (sym (at ∙ ap points e))
@@ -84,7 +84,7 @@ module _ {B R U : Type 0} (w : Workings B R U) where
         let r = Stacked-cut s in
         record { above = r.above; older = r.older; is = r.is; cut = longer _ at q c b e is k ne l r.above r.older r.is r.cut }
 
-module _ {B C I R U : Type 0} (w : Workings B R U) (stored : ℕ → Option (Named B)) (p : Past B C I) (points : Digest → Point w) (anchor : Digest) where
+module _ {B C I R U H : Type 0} (w : Workings B R H U) (stored : ℕ → Option (Named B)) (p : Past B C I) (points : Digest → Point w) (anchor : Digest) where
   -- matching steps lead along a chain
   pub Earns-from_Stacked : (now : w.States) → (points anchor).1 ≡ now → {d : Digest} {at : Point w} {c : List (Point w)} → Chain w stored p points anchor d (at ∷ c) → Earns (setting w stored) p anchor anchor now d at.1
   Earns-from_Stacked now n (here {d = d} {at = at} e is) =

@@ -18,7 +18,7 @@ use Rattle.stateful_actor.specs.Rules.{Keeps}
 use Rattle.stateful_actor.specs.Stands.{Works, HasServed}
 use Rattle.stateful_actor.specs.declared.tables.Core.{Core}
 
-module _ {B C I R U : Type 0} (w : Workings B R U) (stored : ℕ → Option (Named B)) (base : w.States) where
+module _ {B C I R U H : Type 0} (w : Workings B R H U) (stored : ℕ → Option (Named B)) (base : w.States) where
   module _ (p : Past B C I) where
     -- a true verdict
     pub Keeps-true : (t : ℕ) (b : Named B) → verified t p ≡ Some b → Joined (setting w stored) base p b.digest ⊎ IsCanonical (setting w stored) p b → Keeps w stored base p (Verdict t true ∷ [])
@@ -48,14 +48,14 @@ module _ {B C I R U : Type 0} (w : Workings B R U) (stored : ℕ → Option (Nam
     pub Keeps-ended : (j : ℕ) (how : How) (marks : List (Mark B)) → Keeps w stored base (Made (Ended j how) ∷ p) marks → Keeps w stored base p (Ended j how ∷ marks)
     Keeps-ended j how marks k = record { earned = (tt, k.earned); reasons = λ honest. (tt, k.reasons honest); flushed = (tt, k.flushed); durable = (tt, k.durable) }
 
-  module _ {H : Type 0} (p : Past B C I) (store : ℕ → Option (Named B)) where
+  module _ (p : Past B C I) (store : ℕ → Option (Named B)) where
     pub Works-same : (old new : Core B R H U) (m n : w.kind.Members) (before next : w.Ids) → new ≡ old → n ≡ m → next ≡ before → Works w stored base p old m before store → Works w stored base p new n next store
     Works-same old new m n before next e em en h =
         subst (λ (x : Core B R H U). Works w stored base p x n next store) (sym e)
         (subst (λ (x : w.kind.Members). Works w stored base p old x next store) (sym em)
         (subst (λ (x : w.Ids). Works w stored base p old m x store) (sym en) h))
 
-    pub HasServed-from : (new : Moment w H) (marks : List (Mark B)) → new.marks ≡ marks → Works w stored base (after p marks) new.core new.members new.next store → Keeps w stored base p marks → HasServed w stored base p new store
+    pub HasServed-from : (new : Moment w) (marks : List (Mark B)) → new.marks ≡ marks → Works w stored base (after p marks) new.core new.members new.next store → Keeps w stored base p marks → HasServed w stored base p new store
     HasServed-from new marks e works keeps = record {
       works = subst (λ (x : List (Mark B)). Works w stored base (after p x) new.core new.members new.next store) (sym e) works;
       keeps = subst (λ (x : List (Mark B)). Keeps w stored base p x) (sym e) keeps;

@@ -13,7 +13,7 @@ use Rattle.stateful_actor.specs.Moments.{Moment}
 use Rattle.stateful_actor.specs.Rules.{Keeps}
 use Rattle.stateful_actor.specs.Stands.{Works, HasServed}
 
-module _ {B C I R U : Type 0} (w : Workings B R U) (stored : ℕ → Option (Named B)) (base : w.States) (p : Past B C I) where
+module _ {B C I R U H : Type 0} (w : Workings B R H U) (stored : ℕ → Option (Named B)) (base : w.States) (p : Past B C I) where
   pub Keeps-none : Keeps w stored base p []
   Keeps-none = record { earned = tt; reasons = λ honest. tt; flushed = tt; durable = tt }
 
@@ -31,12 +31,12 @@ module _ {B C I R U : Type 0} (w : Workings B R U) (stored : ℕ → Option (Nam
     durable = EachMark-push AcknowledgedIsDurable p marks mark k.durable durable;
   }
 
-module _ {B C I R U H : Type 0} (w : Workings B R U) (stored : ℕ → Option (Named B)) (base : w.States) (q : Past B C I) (store : ℕ → Option (Named B)) where
-  pub Served-same : (old new : Moment w H) → new ≡ old → HasServed w stored base q old store → HasServed w stored base q new store
-  Served-same old new e h = subst (λ (m : Moment w H). HasServed w stored base q m store) (sym e) h
+module _ {B C I R U H : Type 0} (w : Workings B R H U) (stored : ℕ → Option (Named B)) (base : w.States) (q : Past B C I) (store : ℕ → Option (Named B)) where
+  pub Served-same : (old new : Moment w) → new ≡ old → HasServed w stored base q old store → HasServed w stored base q new store
+  Served-same old new e h = subst (λ (m : Moment w). HasServed w stored base q m store) (sym e) h
 
   -- the marks, one more
-  pub Served-push : (old new : Moment w H) (mark : Mark B) → HasServed w stored base q old store → new.marks ≡ old.marks ++ mark ∷ [] → Keeps w stored base q (old.marks ++ mark ∷ []) → Works w stored base (Made mark ∷ after q old.marks) new.core new.members new.next store → HasServed w stored base q new store
+  pub Served-push : (old new : Moment w) (mark : Mark B) → HasServed w stored base q old store → new.marks ≡ old.marks ++ mark ∷ [] → Keeps w stored base q (old.marks ++ mark ∷ []) → Works w stored base (Made mark ∷ after q old.marks) new.core new.members new.next store → HasServed w stored base q new store
   Served-push old new mark served marks keeps works = record {
     works = subst (λ (ms : List (Mark B)). Works w stored base (after q ms) new.core new.members new.next store) (sym marks) (subst (λ (r : Past B C I). Works w stored base r new.core new.members new.next store) (sym (after-push q old.marks mark)) works);
     keeps = subst (λ (ms : List (Mark B)). Keeps w stored base q ms) (sym marks) keeps;

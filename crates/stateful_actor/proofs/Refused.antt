@@ -79,7 +79,7 @@ waiting-open : (barrier : Option Active) (k i : ℕ) → IsWaiting barrier k i �
 waiting-open None k i waits none = waits
 waiting-open (Some active) k i waits none = waits.1 (ap (λ (o : Option FlushToken). option_map (λ (token : FlushToken). token.place) o) (none active refl waits.0))
 
-module _ {B C I R H U : Type 0} (w : Workings B R U) (laws : Laws w.kind) (stored store : ℕ → Option (Named B)) (base : w.States) (p : Past B C I) (core : Core B R H U) (m : w.kind.Members) (next : w.Ids) (works : Works w stored base p core m next store) where
+module _ {B C I R H U : Type 0} (w : Workings B R H U) (laws : Laws w.kind) (stored store : ℕ → Option (Named B)) (base : w.States) (p : Past B C I) (core : Core B R H U) (m : w.kind.Members) (next : w.Ids) (works : Works w stored base p core m next store) where
   module _ (event : Event B C I) where
     -- the databases that kept the states before hold what was applied
     holds-kept : (anchor : Anchor) → core.anchor ≡ Some anchor → (new : w.kind.Members) → KeepsStates w m new → HoldsBehind (setting w stored) w.kind base p event new

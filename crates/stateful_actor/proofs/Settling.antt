@@ -50,7 +50,7 @@ module _ {B C I : Type 0} (header : Header B) where
   WasApplied-anchor (item ∷ q) anchor is some = WasApplied-anchor q anchor is some
 
 -- marks of barriers and receipts
-module _ {B C I R U : Type 0} (w : Workings B R U) (stored : ℕ → Option (Named B)) (q : Past B C I) where
+module _ {B C I R U H : Type 0} (w : Workings B R H U) (stored : ℕ → Option (Named B)) (q : Past B C I) where
   done-IsCalm : (k : ℕ) (height : Height) → IsCalm (setting w stored) q (Made (BarrierDone k height true))
   done-IsCalm k height = record { opening = refl; anchor = refl; tip = refl; applied = refl; down = refl; pruned = refl; starts_none = tt; built = λ d b. b; began = λ k n b. b; flushed = λ k i f. f }
 
@@ -66,7 +66,7 @@ live-other n k true e = (refl, λ same. grind (arith, nat_tests))
 live-other n k false e = absurd (grind (arith, nat_tests))
 
 -- the active barrier is done
-module _ {B C I R U H : Type 0} (w : Workings B R U) (stored store : ℕ → Option (Named B)) (base : w.States) (q : Past B C I) (old new : Core B R H U) (m : w.kind.Members) (next : w.Ids) (before now : List (Mark B)) (done : CompletesBarrier old new before now) where
+module _ {B C I R U H : Type 0} (w : Workings B R H U) (stored store : ℕ → Option (Named B)) (base : w.States) (q : Past B C I) (old new : Core B R H U) (m : w.kind.Members) (next : w.Ids) (before now : List (Mark B)) (done : CompletesBarrier old new before now) where
   abbrev Done : Past B C I
   Done = Made (BarrierDone done.active.number done.active.height true) ∷ q
 
@@ -152,7 +152,7 @@ module _ {B C I R U H : Type 0} (w : Workings B R U) (stored store : ℕ → Opt
   }
 
 -- receipts are acknowledged one after another
-module _ {B C I R U H : Type 0} (w : Workings B R U) (stored store : ℕ → Option (Named B)) (base : w.States) (p : Past B C I) (core : Core B R H U) (m : w.kind.Members) (next : w.Ids) where
+module _ {B C I R U H : Type 0} (w : Workings B R H U) (stored store : ℕ → Option (Named B)) (base : w.States) (p : Past B C I) (core : Core B R H U) (m : w.kind.Members) (next : w.Ids) where
   acknowledged-rule : (q : Past B C I) (n t : ℕ) → n ≤ durable q → (first : Anchor) → opening q ≡ Some first → AcknowledgedIsDurable q (Acknowledged t (record { 0 = n }))
   acknowledged-rule q n t low first opened = subst (λ (o : Option Anchor). MatchOption o (WasRecorded n q) (λ anchor. n ≤ durable q)) (sym opened) low
 
@@ -185,7 +185,7 @@ some-of None ne = absurd (ne refl)
 some-of (Some x) ne = (x, refl)
 
 -- the machine settles
-module _ {B C I R U H : Type 0} (w : Workings B R U) (laws : Laws w.kind) (stored store : ℕ → Option (Named B)) (base : w.States) (p : Past B C I) (old new : Moment w H) where
+module _ {B C I R U H : Type 0} (w : Workings B R H U) (laws : Laws w.kind) (stored store : ℕ → Option (Named B)) (base : w.States) (p : Past B C I) (old new : Moment w) where
   abbrev Completes : Core B R H U → List (Mark B) → Type 0
   Completes completed done = CompletesBarrier old.core completed old.marks done ⊎ ((completed ≡ old.core) × (done ≡ old.marks))
 
@@ -255,11 +255,11 @@ module _ {B C I R U H : Type 0} (w : Workings B R U) (laws : Laws w.kind) (store
 
   opens-begins : (told : Core B R H U) (released : List (Mark B)) → ((told.durability.durable < told.durability.applied) × IsNone told.durability.barrier × BeginsBarrier w (moment w told old.members old.next released) new) ⊎ (new ≡ moment w told old.members old.next released) → opens new.marks ≡ opens released
   opens-begins told released (inl b) = ap (λ (ms : List (Mark B)). opens ms) b.2.marks ∙ opens-push released (BarrierBegun b.2.active.number b.2.active.height) refl
-  opens-begins told released (inr same) = ap (λ (x : Moment w H). opens x.marks) same
+  opens-begins told released (inr same) = ap (λ (x : Moment w). opens x.marks) same
 
   -- nothing is opened meanwhile
   pub opens-settles : Settles w old new → opens new.marks ≡ opens old.marks
-  opens-settles (inl same) = ap (λ (x : Moment w H). opens x.marks) same.1
+  opens-settles (inl same) = ap (λ (x : Moment w). opens x.marks) same.1
   opens-settles (inr up) =
       let all = up.2 in
       opens-begins all.told all.released all.begins

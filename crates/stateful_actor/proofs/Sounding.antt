@@ -27,7 +27,7 @@ use Rattle.stateful_types.specs.declared.outcome.Moved.{Moved}
 use Rattle.stateful_types.specs.declared.outcome.Moved.TheVariants.{Pending, Done}
 use Rattle.stateful_history.specs.declared.mark.Mark.TheVariants.{Ended}
 use Rattle.stateful_history.specs.declared.mark.How.TheVariants.{Hooked}
-use Rattle.stateful_actor.specs.Ending.{TurnsRun, TurnsHook, TurnsJob, LeavesRun}
+use Rattle.stateful_actor.specs.Ending.{TurnsRun, TurnsHook, TurnsJob, LeavesRun, LeavesHook}
 use Rattle.stateful_actor.specs.Restarting.{Reopens}
 use Rattle.stateful_actor.specs.Doing.{IsDoable, Does}
 use Rattle.stateful_actor.specs.declared.task.Task.{Task}
@@ -134,7 +134,7 @@ module _ {Ids S T B H : Type 0} (d : Databases Ids S T) (header : Header B) wher
   Agrees-same m anchor c e x y f g ec ex ef a = rw (ec, ex, ef) a
 
 -- the tokens of a barrier that has begun over all databases
-module _ {B R U H : Type 0} (w : Workings B R U) (laws : Laws w.kind) (old new : Moment w H) (begins : BeginsBarrier w old new) where
+module _ {B R U H : Type 0} (w : Workings B R H U) (laws : Laws w.kind) (old new : Moment w) (begins : BeginsBarrier w old new) where
   begun-here : (p : Point w) → w.kind.point old.members ≡ Some p → w.kind.point new.members ≡ Some p
   begun-here p is = rw begins.members (laws.point_finalized old.members ∙ is)
 
@@ -181,7 +181,7 @@ module _ {B R U H : Type 0} (w : Workings B R U) (laws : Laws w.kind) (old new :
           Recorded-barrier c (Some f) r = r
 
 -- the active barrier's tokens are gone where all its databases were flushed
-module _ {B R U H : Type 0} (w : Workings B R U) (laws : Laws w.kind) (m : w.kind.Members) (old new : Core B R H U) (before now : List (Mark B)) where
+module _ {B R U H : Type 0} (w : Workings B R H U) (laws : Laws w.kind) (m : w.kind.Members) (old new : Core B R H U) (before now : List (Mark B)) where
   module _ (done : CompletesBarrier old new before now) where
     -- a handle with a good answer isn't open
     good-closed : (hs : List Handle) (i : ℕ) → All IsGood hs → option_map (λ (token : FlushToken). token.place) (open_at hs i) ≡ None
@@ -253,7 +253,7 @@ module _ {B R U H : Type 0} (w : Workings B R U) (laws : Laws w.kind) (m : w.kin
           recorded = Recorded-released old.durability told.receipts new.durability.held told.held told.covered H w.header recorded;
         }))
 
-module _ {B R U H : Type 0} (w : Workings B R U) (laws : Laws w.kind) (old new : Moment w H) where
+module _ {B R U H : Type 0} (w : Workings B R H U) (laws : Laws w.kind) (old new : Moment w) where
   pub Sound-completes : old.core.front ≡ None → (completed : Core B R H U) (done : List (Mark B)) → CompletesBarrier old.core completed old.marks done ⊎ ((completed ≡ old.core) × (done ≡ old.marks)) → Sound w.kind old.members w.header old.core → Sound w.kind old.members w.header completed
   Sound-completes none completed done (inl c) s = Sound-completed w laws old.members old.core completed old.marks done c none s
   Sound-completes none completed done (inr same) s = subst (λ (c : Core B R H U). Sound w.kind old.members w.header c) (sym same.0) s
@@ -401,15 +401,15 @@ module _ {B R U H : Type 0} (w : Workings B R U) (laws : Laws w.kind) (old new :
           below = a.below;
           recorded = a.recorded;
         })
-    begun l a (inr same) = subst (λ (x : Moment w H). IsMoved x.members x.core.durability x.core.barrier) (sym same.1) a
+    begun l a (inr same) = subst (λ (x : Moment w). IsMoved x.members x.core.durability x.core.barrier) (sym same.1) a
 
     begun-same-anchor : BeginsIfNone w f.moved f.begun → f.begun.core.anchor ≡ Some (anchor_by w.header b)
     begun-same-anchor (inl x) = begun-anchor w laws f.moved f.begun x.1 ∙ moved-anchor
-    begun-same-anchor (inr same) = ap (λ (x : Moment w H). x.core.anchor) same.1 ∙ moved-anchor
+    begun-same-anchor (inr same) = ap (λ (x : Moment w). x.core.anchor) same.1 ∙ moved-anchor
 
     begun-same-front : BeginsIfNone w f.moved f.begun → f.begun.core.front ≡ old.core.front
     begun-same-front (inl x) = begun-front w laws f.moved f.begun x.1 ∙ moved-front
-    begun-same-front (inr same) = ap (λ (x : Moment w H). x.core.front) same.1 ∙ moved-front
+    begun-same-front (inr same) = ap (λ (x : Moment w). x.core.front) same.1 ∙ moved-front
 
     observed : (anchor : Anchor) → IsMoved f.begun.members f.begun.core.durability f.begun.core.barrier → (h : HookedIs H) → Observes w t b h f.begun.core new.core f.begun.marks new.marks → f.begun.core.front ≡ None → anchor ≡ anchor_by w.header b → Agrees w.kind new.members w.header anchor new.core.durability new.core.barrier new.core.front
     observed anchor a hooked.Done o none is =
@@ -474,19 +474,17 @@ module _ {B R U H : Type 0} (w : Workings B R U) (laws : Laws w.kind) (old new :
     Sound-tables : new.core.anchor ≡ old.core.anchor → new.core.durability ≡ old.core.durability → new.core.barrier ≡ old.core.barrier → new.core.front ≡ old.core.front → Sound w.kind old.members w.header old.core → Sound w.kind new.members w.header new.core
     Sound-tables ea ed eb ef s = Sound-same w.kind w.header old.members new.members old.core new.core same ea ed eb ef s
 
-    Sound-hook : (j : ℕ) → TurnsHook w old.core new.core old.marks new.marks j → Sound w.kind old.members w.header old.core → Sound w.kind new.members w.header new.core
-    Sound-hook j turns s = by_leaves turns.leaves
+    Sound-hook : (j : ℕ) → TurnsHook w old.core new.core old.marks new.marks old.members j → Sound w.kind old.members w.header old.core → Sound w.kind new.members w.header new.core
+    Sound-hook j turns s = by_left turns.left turns.leaves
       where
         recorded-of : (anchor : Anchor) → Agrees w.kind old.members w.header anchor old.core.durability old.core.barrier old.core.front → Recorded w.header old.core.durability (Some turns.front)
         recorded-of anchor a = subst (λ (x : Option (Front B H)). Recorded w.header old.core.durability x) turns.is a.recorded
 
-        by_leaves : ((hook : H) × (new.core ≡ record old.core { front = Some (record turns.front { hook = hook }) }) × (new.marks ≡ old.marks))
-            ⊎ ((new.core ≡ record old.core { front = None; durability = with_receipt old.core.durability (w.header.height turns.front.block.block) turns.front.ticket }) × (new.marks ≡ old.marks ++ Ended j Hooked ∷ []))
-            → Sound w.kind new.members w.header new.core
-        by_leaves (inl on) anchor is =
-            let a : Agrees w.kind old.members w.header anchor old.core.durability old.core.barrier old.core.front = s anchor (sym (ap (λ (c : Core B R H U). c.anchor) on.1) ∙ is) in
+        by_left : (left : HookedIs H) → LeavesHook w old.core new.core old.marks new.marks j turns.front left → Sound w.kind new.members w.header new.core
+        by_left (hooked.Pending hook) on anchor is =
+            let a : Agrees w.kind old.members w.header anchor old.core.durability old.core.barrier old.core.front = s anchor (sym (ap (λ (c : Core B R H U). c.anchor) on.0) ∙ is) in
             subst (λ (m : w.kind.Members). Agrees w.kind m w.header anchor new.core.durability new.core.barrier new.core.front) (sym same)
-            (Agrees-same {B = B} {H = H} w.kind w.header old.members anchor _ _ _ _ _ _ (ap (λ (c : Core B R H U). c.durability) on.1) (ap (λ (c : Core B R H U). c.barrier) on.1) (ap (λ (c : Core B R H U). c.front) on.1) (record {
+            (Agrees-same {B = B} {H = H} w.kind w.header old.members anchor _ _ _ _ _ _ (ap (λ (c : Core B R H U). c.durability) on.0) (ap (λ (c : Core B R H U). c.barrier) on.0) (ap (λ (c : Core B R H U). c.front) on.0) (record {
               point = a.point;
               here = a.here;
               applied = a.applied;
@@ -494,7 +492,7 @@ module _ {B R U H : Type 0} (w : Workings B R U) (laws : Laws w.kind) (old new :
               tokens = a.tokens;
               recorded = recorded-of anchor a;
             }))
-        by_leaves (inr done) anchor is =
+        by_left hooked.Done done anchor is =
             let a : Agrees w.kind old.members w.header anchor old.core.durability old.core.barrier old.core.front = s anchor (sym (ap (λ (c : Core B R H U). c.anchor) done.0) ∙ is) in
             let r : Recorded w.header old.core.durability (Some turns.front) = recorded-of anchor a in
             subst (λ (m : w.kind.Members). Agrees w.kind m w.header anchor new.core.durability new.core.barrier new.core.front) (sym same)
@@ -532,7 +530,7 @@ module _ {B R U H : Type 0} (w : Workings B R U) (laws : Laws w.kind) (old new :
   -- a task was done
   pub Sound-does : (store : ℕ → Option (Named B)) (task : Task B) → IsDoable w.header old.core task → Does w store task old new → Sound w.kind old.members w.header old.core → Sound w.kind new.members w.header new.core
   Sound-does store (task.Answer t valid) may does s = Sound-tables does.1.0 (ap (λ (c : Core B R H U). c.anchor) does.0.0) (ap (λ (c : Core B R H U). c.durability) does.0.0) (ap (λ (c : Core B R H U). c.barrier) does.0.0) (ap (λ (c : Core B R H U). c.front) does.0.0) s
-  Sound-does store task.Wait may does s = subst (λ (x : Moment w H). Sound w.kind x.members w.header x.core) (sym does) s
+  Sound-does store task.Wait may does s = subst (λ (x : Moment w). Sound w.kind x.members w.header x.core) (sym does) s
   Sound-does store (task.Ask t digest) may does s = Sound-tables does.1.0 (ap (λ (c : Core B R H U). c.anchor) does.0.0) (ap (λ (c : Core B R H U). c.durability) does.0.0) (ap (λ (c : Core B R H U). c.barrier) does.0.0) (ap (λ (c : Core B R H U). c.front) does.0.0) s
   Sound-does store (task.Run anchor t b parent) may does s = Sound-tables does.members (ap (λ (c : Core B R H U). c.anchor) does.core) (ap (λ (c : Core B R H U). c.durability) does.core) (ap (λ (c : Core B R H U). c.barrier) does.core) (ap (λ (c : Core B R H U). c.front) does.core) s
   Sound-does store (task.Hold t height) may does s = Sound-held t height.0 does.0 does.1.0 may.1 may.2 s

@@ -54,7 +54,7 @@ AllPairs-one : {X : Type 0} (R : X → X → Type 0) (x : X) → AllPairs R (x �
 AllPairs-one R x i j d l m = absurd (omega arith)
 
 -- more batch ids are drawn
-module _ {B C I R U : Type 0} (w : Workings B R U) (stored : ℕ → Option (Named B)) (p : Past B C I) (points : Digest → Point w) (anchor : Digest) (old new : w.Ids) (keeps : (c : List (Point w)) → w.kind.issued old c → w.kind.issued new c) where
+module _ {B C I R U H : Type 0} (w : Workings B R H U) (stored : ℕ → Option (Named B)) (p : Past B C I) (points : Digest → Point w) (anchor : Digest) (old new : w.Ids) (keeps : (c : List (Point w)) → w.kind.issued old c → w.kind.issued new c) where
   pub Caches-drawn : (cache : List (Cached U)) → Caches w stored p points old anchor cache → Caches w stored p points new anchor cache
   Caches-drawn cache h = record {
     cached = All-weaker (IsCached w stored p points old anchor) (IsCached w stored p points new anchor) (λ e c. record {
@@ -75,7 +75,7 @@ module _ {B C I R U : Type 0} (w : Workings B R U) (stored : ℕ → Option (Nam
     complete = h.complete;
   }
 
-module _ {B C I R U : Type 0} (w : Workings B R U) (laws : Laws w.kind) (stored : ℕ → Option (Named B)) (p : Past B C I) (points : Digest → Point w) (anchor : Digest) (cache : List (Cached U)) (m : w.kind.Members) (old new : w.Ids) where
+module _ {B C I R U H : Type 0} (w : Workings B R H U) (laws : Laws w.kind) (stored : ℕ → Option (Named B)) (p : Past B C I) (points : Digest → Point w) (anchor : Digest) (cache : List (Cached U)) (m : w.kind.Members) (old new : w.Ids) where
   -- a run over the states of its block's parent
   pub RunsOn-over : Caches w stored p points old anchor cache → Known (setting w stored) p anchor → w.kind.point m ≡ Some (points anchor) → w.kind.issued old (points anchor ∷ []) → (run : R) (b : Named B) (parent : Digest) → parent ≡ parent_of (setting w stored) b → IsOver w anchor cache m old new (λ q c. w.runs run Candidate b.block old (q ∷ c)) parent → RunsOn w stored p points new anchor run b
   RunsOn-over caches known at drawn run b parent is (databases e has) =
@@ -105,7 +105,7 @@ module _ {B C I R U : Type 0} (w : Workings B R U) (laws : Laws w.kind) (stored 
         runs = subst (λ (d : Digest). w.runs run Candidate b.block old (points d ∷ r.above ++ points anchor ∷ [])) same both.0;
       }
 
-module _ {B C I R U H : Type 0} (w : Workings B R U) (laws : Laws w.kind) (stored store : ℕ → Option (Named B)) (base : w.States) (p : Past B C I) (old new : Moment w H) (works : Works w stored base p old.core old.members old.next store)
+module _ {B C I R U H : Type 0} (w : Workings B R H U) (laws : Laws w.kind) (stored store : ℕ → Option (Named B)) (base : w.States) (p : Past B C I) (old new : Moment w) (works : Works w stored base p old.core old.members old.next store)
     (anchor : Anchor) (is : old.core.anchor ≡ Some anchor) (idle : IsIdle old.core) (t : ℕ) (b parent : Named B) (starts : StartsRun w anchor.digest t b parent old new)
     (asked : verified t p ≡ Some b) (met : Met (setting w stored) p b) (above : anchor.height.0 < height_of (setting w stored) b) (unknown : IsUnknown (setting w stored) p b.digest) (parent_is : parent.digest ≡ parent_of (setting w stored) b) where
   live : Live B R

@@ -11,7 +11,7 @@ use Rattle.stateful_register.specs.declared.register.Register.{Register}
 use Rattle.stateful_actor.specs.Workings.{Workings}
 use Rattle.stateful_actor.specs.Moments.{Moment, moment}
 use Rattle.stateful_actor.specs.Effects.{Settles, CompletesBarrier, BeginsBarrier}
-use Rattle.stateful_actor.specs.Ending.{TurnsJob, TurnsRun, LeavesRun}
+use Rattle.stateful_actor.specs.Ending.{TurnsJob, TurnsRun, LeavesRun, LeavesHook}
 use Rattle.stateful_actor.specs.Finalizing.{BeginsIfNone, Observes}
 use Rattle.stateful_db.specs.Databases.{Databases}
 use Rattle.stateful_types.specs.Names.{Header, Named}
@@ -23,30 +23,31 @@ use Rattle.stateful_history.specs.declared.event.Event.TheVariants.{Restart}
 use Rattle.stateful_actor.specs.declared.error.StepError.TheVariants.{NotYet}
 use Rattle.stateful_actor.specs.Doing.{IsDoable, Does}
 use Rattle.stateful_actor.specs.declared.tables.Core.{Core}
+use Rattle.stateful_actor.specs.declared.tables.Front.{Front}
 use Rattle.stateful_actor.specs.declared.task.Task.{Task}
 use Rattle.stateful_actor.specs.declared.task.Task.TheVariants as task
 
-module _ {B R U H : Type 0} (w : Workings B R U) (old new : Moment w H) where
+module _ {B R U H : Type 0} (w : Workings B R H U) (old new : Moment w) where
   completed-anchor : (completed : Core B R H U) (done : List (Mark B)) → CompletesBarrier old.core completed old.marks done ⊎ ((completed ≡ old.core) × (done ≡ old.marks)) → completed.anchor ≡ old.core.anchor
   completed-anchor completed done (inl c) = ap (λ (c : Core B R H U). c.anchor) c.core
   completed-anchor completed done (inr same) = ap (λ (c : Core B R H U). c.anchor) same.0
 
   begins-anchor : (told : Core B R H U) (released : List (Mark B)) → ((told.durability.durable < told.durability.applied) × IsNone told.durability.barrier × BeginsBarrier w (moment w told old.members old.next released) new) ⊎ (new ≡ moment w told old.members old.next released) → new.core.anchor ≡ told.anchor
   begins-anchor told released (inl b) = ap (λ (c : Core B R H U). c.anchor) b.2.core
-  begins-anchor told released (inr same) = ap (λ (x : Moment w H). x.core.anchor) same
+  begins-anchor told released (inr same) = ap (λ (x : Moment w). x.core.anchor) same
 
   -- a machine that settles stays at its anchor
   pub settles-anchor : Settles w old new → new.core.anchor ≡ old.core.anchor
-  settles-anchor (inl same) = ap (λ (x : Moment w H). x.core.anchor) same.1
+  settles-anchor (inl same) = ap (λ (x : Moment w). x.core.anchor) same.1
   settles-anchor (inr up) =
       let all = up.2 in
       begins-anchor all.told all.released all.begins ∙ ap (λ (c : Core B R H U). c.anchor) all.acknowledges.core ∙ completed-anchor all.completed all.done all.completes
 
-  begun-anchor : (before after : Moment w H) → BeginsIfNone w before after → after.core.anchor ≡ before.core.anchor
+  begun-anchor : (before after : Moment w) → BeginsIfNone w before after → after.core.anchor ≡ before.core.anchor
   begun-anchor before after (inl b) = ap (λ (c : Core B R H U). c.anchor) b.1.core
-  begun-anchor before after (inr same) = ap (λ (x : Moment w H). x.core.anchor) same.1
+  begun-anchor before after (inr same) = ap (λ (x : Moment w). x.core.anchor) same.1
 
-  observed-anchor : (t : ℕ) (b : Named B) (h : Hooked H) (before after : Moment w H) → Observes w t b h before.core after.core before.marks after.marks → after.core.anchor ≡ before.core.anchor
+  observed-anchor : (t : ℕ) (b : Named B) (h : Hooked H) (before after : Moment w) → Observes w t b h before.core after.core before.marks after.marks → after.core.anchor ≡ before.core.anchor
   observed-anchor t b hooked.Done before after o = ap (λ (c : Core B R H U). c.anchor) o.0
   observed-anchor t b (hooked.Pending hook) before after o = ap (λ (c : Core B R H U). c.anchor) o.0
 
@@ -60,17 +61,18 @@ module _ {B R U H : Type 0} (w : Workings B R U) (old new : Moment w H) where
       by_moved Pending leaves = ap (λ (c : Core B R H U). c.anchor) leaves.0
       by_moved (Done ended) leaves = ap (λ (c : Core B R H U). c.anchor) leaves.0
 
+  hook-anchor : (left : Hooked H) (j : ℕ) (front : Front B H) → LeavesHook w old.core new.core old.marks new.marks j front left → new.core.anchor ≡ old.core.anchor
+  hook-anchor (hooked.Pending hook) j front on = ap (λ (c : Core B R H U). c.anchor) on.0
+  hook-anchor hooked.Done j front done = ap (λ (c : Core B R H U). c.anchor) done.0
+
   job-anchor : (anchor : Anchor) (j : ℕ) → TurnsJob w old.core new.core old.marks new.marks anchor old.members j → new.core.anchor ≡ old.core.anchor
-  job-anchor anchor j (inl turns) = elim turns.leaves [
-    | inl on ↦ ap (λ (c : Core B R H U). c.anchor) on.1
-    | inr done ↦ ap (λ (c : Core B R H U). c.anchor) done.0
-  ]
+  job-anchor anchor j (inl turns) = hook-anchor turns.left j turns.front turns.leaves
   job-anchor anchor j (inr run) = run-anchor anchor j run
 
   -- a machine that has done a task is up
   pub does-up : (store : ℕ → Option (Named B)) (task : Task B) → IsDoable w.header old.core task → Does w store task old new → new.core.anchor ≢ None
   does-up store (task.Answer t valid) may does = stays (ap (λ (c : Core B R H U). c.anchor) does.0.0) may
-  does-up store task.Wait may does = stays (ap (λ (x : Moment w H). x.core.anchor) does) may
+  does-up store task.Wait may does = stays (ap (λ (x : Moment w). x.core.anchor) does) may
   does-up store (task.Ask t digest) may does = stays (ap (λ (c : Core B R H U). c.anchor) does.0.0) may
   does-up store (task.Run anchor t b parent) may does = stays (ap (λ (c : Core B R H U). c.anchor) does.core) (λ none. cc)
   does-up store (task.Hold t height) may does = stays (ap (λ (c : Core B R H U). c.anchor) does.0.0) may.0
@@ -82,7 +84,7 @@ module _ {B R U H : Type 0} (w : Workings B R U) (old new : Moment w H) where
   does-up store (task.Flush number index) may does = stays (ap (λ (c : Core B R H U). c.anchor) does.core) may
   does-up store (task.Start floor keep) may does = let root = ap (λ (c : Core B R H U). c.anchor) does.starts.core in λ none. cc
 
-module _ {B C I R U H : Type 0} (w : Workings B R U) (stored : ℕ → Option (Named B)) (base : w.States) (p : Past B C I) (core : Core B R H U) (m n : w.kind.Members) (next other : w.Ids) (store : ℕ → Option (Named B)) where
+module _ {B C I R U H : Type 0} (w : Workings B R H U) (stored : ℕ → Option (Named B)) (base : w.States) (p : Past B C I) (core : Core B R H U) (m n : w.kind.Members) (next other : w.Ids) (store : ℕ → Option (Named B)) where
   -- what a machine that is down stands for doesn't rest on the databases
   pub Works-down : core.anchor ≡ None → Works w stored base p core m next store → Works w stored base p core n other store
   Works-down none works = record {
@@ -103,7 +105,7 @@ pub still-none : (anchor before : Option Anchor) → (if is_none anchor then bef
 still-none None before none = (refl, none)
 still-none (Some x) before none = cc
 
-module _ {B C I R U H : Type 0} (w : Workings B R U) (stored : ℕ → Option (Named B)) (base : w.States) (p : Past B C I) (store : ℕ → Option (Named B)) (before mid : Core B R H U) (registered register : Register) (m n : w.kind.Members) (next other : w.Ids) (still : Option Anchor)
+module _ {B C I R U H : Type 0} (w : Workings B R H U) (stored : ℕ → Option (Named B)) (base : w.States) (p : Past B C I) (store : ℕ → Option (Named B)) (before mid : Core B R H U) (registered register : Register) (m n : w.kind.Members) (next other : w.Ids) (still : Option Anchor)
     (is : still ≡ (if is_none mid.anchor then before.anchor else mid.anchor))
     (err : before.anchor ≡ None → mid.anchor ≡ None → (mid ≡ before) × (register ≡ registered) × w.kind.Held n) where
   was-down : still ≡ None → (mid.anchor ≡ None) × (before.anchor ≡ None)

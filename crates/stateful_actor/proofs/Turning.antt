@@ -12,6 +12,8 @@ use Rattle.stateful_history.specs.Met.{TrueNames}
 use Rattle.stateful_history.specs.Live.{live_job}
 use Rattle.stateful_history.specs.declared.event.Event.TheVariants as event
 use Rattle.stateful_history.specs.declared.mark.How.{How}
+use Rattle.stateful_db.specs.declared.application.Hooked.{Hooked as HookedIs}
+use Rattle.stateful_db.specs.declared.application.Hooked.TheVariants as hooked
 use Rattle.stateful_history.specs.declared.mark.How.TheVariants.{Kept, Rejected, Mismatched, Missed, Hooked}
 use Rattle.stateful_history.specs.declared.mark.Mark.{Mark}
 use Rattle.stateful_history.specs.declared.mark.Mark.TheVariants.{Ended, Verdict}
@@ -19,7 +21,7 @@ use Rattle.stateful_actor.specs.Workings.{Workings, setting}
 use Rattle.stateful_actor.specs.Moments.{Moment}
 use Rattle.stateful_actor.specs.Running.{RunsOn, IsRun, IsLive, IsInTable}
 use Rattle.stateful_actor.specs.Effects.{with_receipt}
-use Rattle.stateful_actor.specs.Ending.{IsTold, Turns, LeavesRun, TurnsRun, TurnsHook}
+use Rattle.stateful_actor.specs.Ending.{IsTold, Turns, LeavesRun, LeavesHook, TurnsRun, TurnsHook}
 use Rattle.stateful_actor.specs.Rules.{Keeps}
 use Rattle.stateful_actor.specs.Stands.{Works, IsUp, HasServed}
 use Rattle.stateful_actor.specs.Doing.{Does}
@@ -56,7 +58,7 @@ in_table-set runs None place live run at k a = Any-set_by (λ (r : Live _ _). r.
 in_table-set runs (Some front) place live run at k (inl e) = inl e
 in_table-set runs (Some front) place live run at k (inr a) = inr (Any-set_by (λ (r : Live _ _). r.job) runs place live at (record live { run = run }) refl k a)
 
-module _ {B C I R U H : Type 0} (w : Workings B R U) (stored store : ℕ → Option (Named B)) (base : w.States) (p : Past B C I) (old : Core B R H U) (m : w.kind.Members) (next : w.Ids) (anchor : Anchor) (is : old.anchor ≡ Some anchor) (works : Works w stored base p old m next store) where
+module _ {B C I R U H : Type 0} (w : Workings B R H U) (stored store : ℕ → Option (Named B)) (base : w.States) (p : Past B C I) (old : Core B R H U) (m : w.kind.Members) (next : w.Ids) (anchor : Anchor) (is : old.anchor ≡ Some anchor) (works : Works w stored base p old m next store) where
   up : IsUp w stored base p anchor old m next
   up = works.up anchor is
 
@@ -194,24 +196,25 @@ module _ {B C I R U H : Type 0} (w : Workings B R U) (stored store : ℕ → Opt
           };
         })
 
-module _ {B C I R U H : Type 0} (w : Workings B R U) (stored store : ℕ → Option (Named B)) (base : w.States) (p : Past B C I) (old new : Moment w H) (none : old.marks ≡ []) (works : Works w stored base p old.core old.members old.next store) (anchor : Anchor) (is : old.core.anchor ≡ Some anchor) (members : new.members ≡ old.members) (next : new.next ≡ old.next) where
+module _ {B C I R U H : Type 0} (w : Workings B R H U) (stored store : ℕ → Option (Named B)) (base : w.States) (p : Past B C I) (old new : Moment w) (none : old.marks ≡ []) (works : Works w stored base p old.core old.members old.next store) (anchor : Anchor) (is : old.core.anchor ≡ Some anchor) (members : new.members ≡ old.members) (next : new.next ≡ old.next) where
   now-same : new.marks ≡ old.marks → new.marks ≡ []
   now-same e = e ∙ none
 
   -- the hook in front was turned
-  Served-hook : (j : ℕ) → TurnsHook w old.core new.core old.marks new.marks j → HasServed w stored base p new store
-  Served-hook j h = elim h.leaves [
-    | inl goes ↦
-        HasServed-from w stored base p store new [] (now-same goes.2)
-        (Works-same w stored base p store (record old.core { front = Some (record (h.front) { hook = goes.0 }) }) new.core old.members new.members old.next new.next goes.1 members next
-        (Works-hooked w stored store base p old.core old.members old.next anchor is works h.front goes.0 h.is))
-        (Keeps-none w stored base p)
-    | inr gone ↦
-        HasServed-from w stored base p store new (Ended h.front.job Hooked ∷ []) (gone.1 ∙ ap (λ (x : List (Mark B)). x ++ Ended j Hooked ∷ []) none ∙ ap (λ (x : ℕ). Ended x Hooked ∷ []) (sym h.job_is))
-        (Works-same w stored base (Made (Ended h.front.job Hooked) ∷ p) store (record old.core { front = None; durability = with_receipt old.core.durability (w.header.height h.front.block.block) h.front.ticket }) new.core old.members new.members old.next new.next gone.0 members next
-        (Works-unhooked w stored store base p old.core old.members old.next anchor is works h.front (w.header.height h.front.block.block) h.front.ticket h.is))
-        (Keeps-ended w stored base p h.front.job Hooked [] (Keeps-none w stored base (Made (Ended h.front.job Hooked) ∷ p)))
-  ]
+  Served-hook : (j : ℕ) → TurnsHook w old.core new.core old.marks new.marks old.members j → HasServed w stored base p new store
+  Served-hook j h = by_left h.left h.leaves
+    where
+      by_left : (left : HookedIs H) → LeavesHook w old.core new.core old.marks new.marks j h.front left → HasServed w stored base p new store
+      by_left (hooked.Pending hook) goes =
+          HasServed-from w stored base p store new [] (now-same goes.1)
+          (Works-same w stored base p store (record old.core { front = Some (record (h.front) { hook = hook }) }) new.core old.members new.members old.next new.next goes.0 members next
+          (Works-hooked w stored store base p old.core old.members old.next anchor is works h.front hook h.is))
+          (Keeps-none w stored base p)
+      by_left hooked.Done gone =
+          HasServed-from w stored base p store new (Ended h.front.job Hooked ∷ []) (gone.1 ∙ ap (λ (x : List (Mark B)). x ++ Ended j Hooked ∷ []) none ∙ ap (λ (x : ℕ). Ended x Hooked ∷ []) (sym h.job_is))
+          (Works-same w stored base (Made (Ended h.front.job Hooked) ∷ p) store (record old.core { front = None; durability = with_receipt old.core.durability (w.header.height h.front.block.block) h.front.ticket }) new.core old.members new.members old.next new.next gone.0 members next
+          (Works-unhooked w stored store base p old.core old.members old.next anchor is works h.front (w.header.height h.front.block.block) h.front.ticket h.is))
+          (Keeps-ended w stored base p h.front.job Hooked [] (Keeps-none w stored base (Made (Ended h.front.job Hooked) ∷ p)))
 
   module _ (place : ℕ) (live : Live B R) (at : slice_get old.core.runs.items place ≡ Some live) (turned : R) where
     -- the run goes on
@@ -273,7 +276,7 @@ module _ {B C I R U H : Type 0} (w : Workings B R U) (stored store : ℕ → Opt
       go Pending turns leaves = Served-pending h.place h.live h.at h.turned leaves.0 leaves.1 leaves.2 turns
       go (Done ended) turns leaves = by_end h.place h.live h.at h.turned ended leaves.2.how leaves.2.valid leaves.0 leaves.1 turns leaves.2.told leaves.2.valid_is.0 leaves.2.valid_is.1 leaves.2.marks
 
-module _ {B C I R U H : Type 0} (w : Workings B R U) (laws : Laws w.kind) (stored store : ℕ → Option (Named B)) (base : w.States) (p : Past B C I) (old new : Moment w H) (none : old.marks ≡ []) (works : Works w stored base p old.core old.members old.next store) where
+module _ {B C I R U H : Type 0} (w : Workings B R H U) (laws : Laws w.kind) (stored store : ℕ → Option (Named B)) (base : w.States) (p : Past B C I) (old new : Moment w) (none : old.marks ≡ []) (works : Works w stored base p old.core old.members old.next store) where
   Works-came : (j : ℕ) → Works w stored base (Came (event.Turn j) ∷ p) old.core old.members old.next store
   Works-came j = Works-quiet w stored p (Came (event.Turn j)) (turn-IsCalm (setting w stored) p j) base old.core old.members old.next store (turn-IsQuiet p j) works
 

@@ -35,7 +35,7 @@ use Rattle.stateful_actor.proofs.Pushed.{Keeps-true, Keeps-false, Keeps-asked, K
 use Rattle.stateful_actor.proofs.Judged.{earned-of_Valid, reason-of_Invalid, unknown-of_Open}
 use Rattle.stateful_actor.proofs.Starting.{Works-started}
 
-module _ {B C I R U H : Type 0} (w : Workings B R U) (laws : Laws w.kind) (stored store : ℕ → Option (Named B)) (base : w.States) (p : Past B C I) (old new : Moment w H) (none : old.marks ≡ []) (works : Works w stored base p old.core old.members old.next store) where
+module _ {B C I R U H : Type 0} (w : Workings B R H U) (laws : Laws w.kind) (stored store : ℕ → Option (Named B)) (base : w.States) (p : Past B C I) (old new : Moment w) (none : old.marks ≡ []) (works : Works w stored base p old.core old.members old.next store) where
   module _ (anchor : Anchor) (t : ℕ) (ancestry : Ancestry B) (fresh : is_new t p ≡ true) (names : TrueNames (setting w stored) (after (Came (Verify t ancestry) ∷ p) new.marks)) (is : old.core.anchor ≡ Some anchor) where
     came : Past B C I
     came = Came (Verify t ancestry) ∷ p
@@ -84,8 +84,8 @@ module _ {B C I R U H : Type 0} (w : Workings B R U) (laws : Laws w.kind) (store
     -- the request waits
     Served-wait : new ≡ old → HasServed w stored base came new store
     Served-wait e =
-        HasServed-from w stored base came store new [] (ap (λ (x : Moment w H). x.marks) e ∙ none)
-        (Works-same w stored base came store old.core new.core old.members new.members old.next new.next (ap (λ (x : Moment w H). x.core) e) (ap (λ (x : Moment w H). x.members) e) (ap (λ (x : Moment w H). x.next) e) Works-came)
+        HasServed-from w stored base came store new [] (ap (λ (x : Moment w). x.marks) e ∙ none)
+        (Works-same w stored base came store old.core new.core old.members new.members old.next new.next (ap (λ (x : Moment w). x.core) e) (ap (λ (x : Moment w). x.members) e) (ap (λ (x : Moment w). x.next) e) Works-came)
         (Keeps-none w stored base came)
 
     -- its parent is fetched

@@ -24,7 +24,7 @@ abbrev pub InOrder : {U : Type 0} → Digest → List Digest → List (Cached U)
 InOrder anchor earlier [] = Unit {0}
 InOrder anchor earlier (e ∷ es) = ((e.parent ≡ anchor) ⊎ Contains earlier e.parent) × InOrder anchor (earlier ++ e.digest ∷ []) es
 
-module _ {B C I R U : Type 0} (w : Workings B R U) (stored : ℕ → Option (Named B)) (p : Past B C I) (points : Digest → Point w) (next : w.Ids) (anchor : Digest) where
+module _ {B C I R U H : Type 0} (w : Workings B R H U) (stored : ℕ → Option (Named B)) (p : Past B C I) (points : Digest → Point w) (next : w.Ids) (anchor : Digest) where
   -- the entry is of a known block above the anchor, and its batch stands on that block's chain
   pub record IsCached (e : Cached U) : Type 0 where
     pub block : Named B

@@ -18,6 +18,7 @@ use Rattle.stateful_actor.specs.Cut.{IsRootOf}
 use Rattle.stateful_actor.specs.Running.{IsInTable}
 use Rattle.stateful_actor.specs.Restarting.{start_height}
 use Rattle.stateful_actor.specs.Effects.{NeedsBarrier}
+use Rattle.stateful_actor.specs.Finalizing.{IsLeft}
 use Rattle.stateful_actor.specs.Doing.{Does}
 use Rattle.stateful_actor.specs.declared.cache.Cached.{Cached}
 use Rattle.stateful_actor.specs.declared.tables.Active.{Active}
@@ -79,7 +80,7 @@ FaultsObserving hooked job OutOfMemory = Unit {0}
 FaultsObserving (Pending hook) job Exhausted = IsLast job
 FaultsObserving hooked job f = ⊥
 
-module _ {B R U : Type 0} (w : Workings B R U) where
+module _ {B R U H : Type 0} (w : Workings B R H U) where
   -- no batches were made: a database has no batch id left, or isn't here
   abbrev pub FaultsBatches : w.kind.Members → w.Ids → Fault → Type 0
   FaultsBatches m next OutOfMemory = Unit {0}
@@ -131,12 +132,13 @@ module _ {B R U : Type 0} (w : Workings B R U) where
     FaultsBarrier number (DatabaseFault i given) = HasCounted i given call.Finalize
     FaultsBarrier number f = ⊥
 
-    -- the next block isn't final: a number of a barrier or a job was the last one, a database failed at the apply or where
-    -- the barrier begins, or the application's count rose
-    abbrev pub FaultsFinalize : {H : Type 0} → (rose : Type 0) → Core B R H U → w.kind.Members → Fault → Type 0
-    FaultsFinalize rose core m Exhausted = ((core.barrier ≡ None) × IsLast core.next_barrier) ⊎ IsLast core.next_job
-    FaultsFinalize rose core m (DatabaseFault i given) = HasCounted i given call.Apply ⊎ ((core.barrier ≡ None) × HasCounted i given call.Finalize)
-    FaultsFinalize rose core m f = FaultsAdvance rose m f
+    -- The next block isn't final: no number was left for a barrier that was to begin, or for the job of the hook that the
+    -- application has left to do behind the block; a database failed at the apply or where the barrier begins; or the
+    -- application's count rose.
+    abbrev pub FaultsFinalize : (rose : Type 0) → Named B → Core B R H U → w.kind.Members → Fault → Type 0
+    FaultsFinalize rose b core m Exhausted = ((core.barrier ≡ None) × IsLast core.next_barrier) ⊎ (IsLast core.next_job × ((hook : H) × IsLeft w b (Pending hook) new))
+    FaultsFinalize rose b core m (DatabaseFault i given) = HasCounted i given call.Apply ⊎ ((core.barrier ≡ None) × HasCounted i given call.Finalize)
+    FaultsFinalize rose b core m f = FaultsAdvance rose m f
 
     -- a flush wasn't done: the database failed, or this token isn't one of the active barrier's without an answer
     abbrev pub FaultsFlush : Option Active → ℕ → ℕ → Fault → Type 0
@@ -164,12 +166,12 @@ module _ {B R U : Type 0} (w : Workings B R U) where
     FaultsOpening f = ⊥
 
 -- what a fault of a task leaves of the databases of a machine that is up
-abbrev pub LeavesAt : {B R U : Type 0} (w : Workings B R U) → Task B → List (Cached U) → (old new : w.kind.Members) → Type 0
+abbrev pub LeavesAt : {B R U H : Type 0} (w : Workings B R H U) → Task B → List (Cached U) → (old new : w.kind.Members) → Type 0
 LeavesAt w (Finalize ticket b) cache old new = LeavesStates w (anchor_by w.header b) cache old new
 LeavesAt w (Start floor keep) cache old new = Unit {0}
 LeavesAt w task cache old new = KeepsStates w old new
 
-module _ {B R U H : Type 0} (w : Workings B R U) (run_count : R → ℕ) (hook_count : H → ℕ) (store : ℕ → Option (Named B)) (old : Moment w H) (core : Core B R H U) (members : w.kind.Members) (before now : Tally) where
+module _ {B R U H : Type 0} (w : Workings B R H U) (run_count : R → ℕ) (hook_count : H → ℕ) (store : ℕ → Option (Named B)) (old : Moment w) (core : Core B R H U) (members : w.kind.Members) (before now : Tally) where
   -- why a task isn't done
   abbrev pub FaultsAt : Task B → Fault → Type 0
   FaultsAt (Answer ticket valid) f = f ≡ OutOfMemory
@@ -177,7 +179,7 @@ module _ {B R U H : Type 0} (w : Workings B R U) (run_count : R → ℕ) (hook_c
   FaultsAt (Ask ticket digest) f = FaultsDraw old.core.next_fetch f
   FaultsAt (Run anchor ticket b parent) f = FaultsRun w (Rose before.application now.application) old.core.next_job old.members old.next f
   FaultsAt (Hold ticket height) f = f ≡ OutOfMemory
-  FaultsAt (Finalize ticket b) f = FaultsFinalize w before.databases now.databases members (Rose before.application now.application) old.core old.members f
+  FaultsAt (Finalize ticket b) f = FaultsFinalize w before.databases now.databases members (Rose before.application now.application) b old.core old.members f
   FaultsAt (Turn anchor j) f = FaultsTurn run_count hook_count old.core core j f
   FaultsAt (Flush k i) f = FaultsFlush w before.databases now.databases members old.core.barrier k i f
   FaultsAt (Start floor keep) f = FaultsOpening w before.databases now.databases floor keep store old.members members f
@@ -186,4 +188,4 @@ module _ {B R U H : Type 0} (w : Workings B R U) (run_count : R → ℕ) (hook_c
   -- memory ran out
   pub data FaultsIn (done : Task B) (f : Fault) : Type 0 where
     doing : FaultsAt done f → FaultsIn done f
-    settling : (mid : Moment w H) → Does w store done old mid → (f ≡ OutOfMemory) ⊎ NeedsBarrier mid.core → FaultsBarrier w before.databases now.databases members mid.core.next_barrier f → FaultsIn done f
+    settling : (mid : Moment w) → Does w store done old mid → (f ≡ OutOfMemory) ⊎ NeedsBarrier mid.core → FaultsBarrier w before.databases now.databases members mid.core.next_barrier f → FaultsIn done f

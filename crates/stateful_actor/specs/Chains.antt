@@ -10,11 +10,11 @@ use Rattle.stateful_actor.specs.Workings.{Workings, setting, Point}
 
 -- The chain of the block of a digest: its own point, those of the known blocks from it down to the first, which is
 -- where the databases are, and older ones. The points are those of each known block, by its digest.
-pub data Stacked {B R U : Type 0} (w : Workings B R U) (points : Digest → Point w) (IsKnown : Digest → Type 0) (Led : w.States → Named B → w.States → Type 0) (first : Digest) : Digest → List (Point w) → Type 0 where
+pub data Stacked {B R U H : Type 0} (w : Workings B R H U) (points : Digest → Point w) (IsKnown : Digest → Type 0) (Led : w.States → Named B → w.States → Type 0) (first : Digest) : Digest → List (Point w) → Type 0 where
   here : {d : Digest} {at : Point w} {older : List (Point w)} → d ≡ first → at ≡ points d → Stacked w points IsKnown Led first d (at ∷ older)
   further : {d : Digest} {at q : Point w} {c : List (Point w)} {b : Named B} → b.digest ≡ d → at ≡ points d → Stacked w points IsKnown Led first (w.header.parent b.block) (q ∷ c) → IsKnown (w.header.parent b.block) → d ≢ first → Led q.1 b at.1 → Stacked w points IsKnown Led first d (at ∷ q ∷ c)
 
-module _ {B C I R U : Type 0} (w : Workings B R U) (stored : ℕ → Option (Named B)) (p : Past B C I) where
+module _ {B C I R U H : Type 0} (w : Workings B R H U) (stored : ℕ → Option (Named B)) (p : Past B C I) where
   -- a block of the history that leads from states to states: they match, and it is acceptable there, or was built here
   pub record Leads (t : w.States) (b : Named B) (u : w.States) : Type 0 where
     pub met : Met (setting w stored) p b

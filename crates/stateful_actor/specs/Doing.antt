@@ -26,13 +26,13 @@ IsDoable header core (Turn anchor job) = core.anchor ≡ Some anchor
 IsDoable header core (Start floor keep) = core.anchor ≡ None
 IsDoable header core task = core.anchor ≢ None
 
-module _ {B R U H : Type 0} (w : Workings B R U) (store : ℕ → Option (Named B)) where
+module _ {B R U H : Type 0} (w : Workings B R H U) (store : ℕ → Option (Named B)) where
   -- the tables have changed so, with marks, and the databases are as before
-  abbrev pub KeepsDatabases : (old new : Moment w H) → Type 0
+  abbrev pub KeepsDatabases : (old new : Moment w) → Type 0
   KeepsDatabases old new = (new.members ≡ old.members) × (new.next ≡ old.next)
 
   -- what a task does
-  abbrev pub Does : Task B → (old new : Moment w H) → Type 0
+  abbrev pub Does : Task B → (old new : Moment w) → Type 0
   Does (Answer ticket valid) old new = Tells old.core new.core old.marks new.marks ticket valid × KeepsDatabases old new
   Does Wait old new = new ≡ old
   Does (Ask ticket digest) old new = Asks old.core new.core old.marks new.marks ticket digest × KeepsDatabases old new
@@ -44,11 +44,11 @@ module _ {B R U H : Type 0} (w : Workings B R U) (store : ℕ → Option (Named 
   Does (Start floor keep) old new = Reopens w floor store old new
 
   -- a task is done, and then the machine settles
-  pub record Serves (done : Task B) (old new : Moment w H) : Type 0 where
-    pub mid : Moment w H
+  pub record Serves (done : Task B) (old new : Moment w) : Type 0 where
+    pub mid : Moment w
     pub does : Does done old mid
     pub settles : Settles w mid new
 
   -- what an event asks for is done, and then the machine settles
-  abbrev pub IsStep : {C I : Type 0} → Event B C I → (old new : Moment w H) → Type 0
+  abbrev pub IsStep : {C I : Type 0} → Event B C I → (old new : Moment w) → Type 0
   IsStep event old new = (done : Task B) × IsTaskAt w.header old.core store old.core.anchor event done × Serves done old new

@@ -62,7 +62,7 @@ pub record NeedsBarrier {B R H U : Type 0} (core : Core B R H U) : Type 0 where
   pub none_active : IsNone completed.durability.barrier
   pub needed : completed.durability.durable < completed.durability.applied
 
-module _ {B R U H : Type 0} (w : Workings B R U) (old new : Moment w H) where
+module _ {B R U H : Type 0} (w : Workings B R H U) (old new : Moment w) where
   -- a barrier over all that is applied has begun, with the tokens of all databases
   pub record BeginsBarrier : Type 0 where
     pub members : new.members ≡ w.kind.finalized old.members
@@ -87,10 +87,10 @@ module _ {B R U H : Type 0} (w : Workings B R U) (old new : Moment w H) where
     pub core : new.core ≡ record old.core { barrier = Some (record active { barrier = answered active.barrier index Good }) }
     pub marks : new.marks ≡ old.marks
 
-module _ {B R U H : Type 0} (w : Workings B R U) where
+module _ {B R U H : Type 0} (w : Workings B R H U) where
   -- A flushed barrier is completed, the receipts of durable heights are acknowledged, and a barrier begins where something
   -- applied isn't durable and none is active. Then nothing of this is left to be done.
-  pub record SettlesAll (old new : Moment w H) : Type 0 where
+  pub record SettlesAll (old new : Moment w) : Type 0 where
     pub completed : Core B R H U
     pub done : List (Mark B)
     pub told : Core B R H U
@@ -103,5 +103,5 @@ module _ {B R U H : Type 0} (w : Workings B R U) where
     pub none_needed : IsNone new.core.durability.barrier → new.core.durability.applied ≤ new.core.durability.durable
 
   -- while the machine is down or a finalization is in front, nothing of this is done
-  abbrev pub Settles : (old new : Moment w H) → Type 0
+  abbrev pub Settles : (old new : Moment w) → Type 0
   Settles old new = (((old.core.anchor ≡ None) ⊎ (old.core.front ≢ None)) × (new ≡ old)) ⊎ ((old.core.anchor ≢ None) × (old.core.front ≡ None) × SettlesAll old new)

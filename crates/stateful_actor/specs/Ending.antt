@@ -1,5 +1,5 @@
 -- Turns of runs and hooks, and how the end of a candidate run is told.
-use Rattle.std.specs.Prelude.{◌≡◌, ◌≢◌, ◌⊎◌, ◌++◌, ◌∷◌, ◌↔◌, [], ℕ, Bool, true, Option, Some, None, List, slice_get, set, remove}
+use Rattle.std.specs.Prelude.{◌≡◌, ◌≢◌, ◌⊎◌, ◌++◌, ◌∷◌, ◌↔◌, ◌+◌, [], ℕ, Bool, true, Option, Some, None, List, slice_get, set, remove}
 use Rattle.stateful_types.specs.Names.{Named}
 use Rattle.stateful_types.specs.Round.{IsLater}
 use Rattle.stateful_types.specs.declared.anchor.Anchor.{Anchor}
@@ -8,8 +8,11 @@ use Rattle.stateful_types.specs.declared.outcome.Moved.{Moved}
 use Rattle.stateful_types.specs.declared.outcome.Moved.TheVariants.{Pending, Done}
 use Rattle.stateful_db.specs.Chain.{IsPoint}
 use Rattle.stateful_db.specs.Meaning.{outcome, Ends}
+use Rattle.stateful_db.specs.declared.application.Hooked.{Hooked}
+use Rattle.stateful_db.specs.declared.application.Hooked.TheVariants as hooked
 use Rattle.stateful_history.specs.declared.mark.How.{How}
-use Rattle.stateful_history.specs.declared.mark.How.TheVariants.{Kept, Rejected, Mismatched, Missed, Hooked}
+use Rattle.stateful_history.specs.declared.mark.How.TheVariants.{Kept, Rejected, Mismatched, Missed}
+use Rattle.stateful_history.specs.declared.mark.How.TheVariants as how
 use Rattle.stateful_history.specs.declared.mark.Mark.{Mark}
 use Rattle.stateful_history.specs.declared.mark.Mark.TheVariants.{Ended, Verdict}
 use Rattle.stateful_actor.specs.Workings.{Workings, Point}
@@ -20,7 +23,7 @@ use Rattle.stateful_actor.specs.declared.tables.Core.{Core}
 use Rattle.stateful_actor.specs.declared.tables.Front.{Front}
 use Rattle.stateful_actor.specs.declared.tables.Live.{Live}
 
-module _ {B R U : Type 0} (w : Workings B R U) where
+module _ {B R U H : Type 0} (w : Workings B R H U) where
   -- the batch stands on states that the block commits to
   abbrev pub Agrees : Named B → U → Type 0
   Agrees b batch = (p : Point w) (c : List (Point w)) → w.shows batch (p ∷ c) → w.kind.target_of p.1 ≡ w.meaning.targets b.block
@@ -56,7 +59,12 @@ module _ {B R U : Type 0} (w : Workings B R U) where
       (f : Finality) (b : B) (i : w.Ids) (p q : Point w) (c : List (Point w)) → w.runs run f b i (p ∷ c) → w.kind.point m ≡ Some q → IsPoint q (p ∷ c)
       → Ends moved (outcome w.meaning f p.1 b) (λ batch s. w.shows batch ((i, s) ∷ p ∷ c)) (w.runs turned f b i (p ∷ c))
 
-  module _ {H : Type 0} (old new : Core B R H U) (before now : List (Mark B)) where
+  -- A turn of a hook: what it leaves behind a block, whose states the databases hold, is what is left a turn later.
+  abbrev pub TurnsTo : w.kind.Members → H → Hooked H → Type 0
+  TurnsTo m hook left =
+      (b : B) (q : Point w) (n : ℕ) → w.kind.point m ≡ Some q → w.hooks (hooked.Pending hook) b q.1 n → w.hooks left b q.1 (n + 1)
+
+  module _ (old new : Core B R H U) (before now : List (Mark B)) where
     -- a run at this place that goes on is in the table as it is now; one that ended has left it
     abbrev pub LeavesRun : Anchor → ℕ → Live B R → R → Moved (Option U) → Type 0
     LeavesRun anchor place live turned Pending =
@@ -75,15 +83,22 @@ module _ {B R U : Type 0} (w : Workings B R U) where
       pub turns : Turns m live.run turned moved
       pub leaves : LeavesRun anchor place live turned moved
 
-    -- one turn of the hook in front: it goes on, or it has ended and the receipt is held
-    pub record TurnsHook (j : ℕ) : Type 0 where
+    -- a hook that goes on is in front as it is now; where nothing is left, the receipt is held and nothing is in front
+    abbrev pub LeavesHook : ℕ → Front B H → Hooked H → Type 0
+    LeavesHook j front (hooked.Pending hook) = (new ≡ record old { front = Some (record front { hook = hook }) }) × (now ≡ before)
+    LeavesHook j front hooked.Done =
+        (new ≡ record old { front = None; durability = with_receipt old.durability (w.header.height front.block.block) front.ticket })
+        × (now ≡ before ++ Ended j how.Hooked ∷ [])
+
+    -- one turn of the hook in front
+    pub record TurnsHook (m : w.kind.Members) (j : ℕ) : Type 0 where
       pub front : Front B H
       pub is : old.front ≡ Some front
       pub job_is : front.job ≡ j
-      pub leaves :
-          ((hook : H) × (new ≡ record old { front = Some (record front { hook = hook }) }) × (now ≡ before))
-          ⊎ ((new ≡ record old { front = None; durability = with_receipt old.durability (w.header.height front.block.block) front.ticket }) × (now ≡ before ++ Ended j Hooked ∷ []))
+      pub left : Hooked H
+      pub turns : TurnsTo m front.hook left
+      pub leaves : LeavesHook j front left
 
     -- one turn of a live job
     abbrev pub TurnsJob : Anchor → w.kind.Members → ℕ → Type 0
-    TurnsJob anchor m j = TurnsHook j ⊎ TurnsRun anchor m j
+    TurnsJob anchor m j = TurnsHook m j ⊎ TurnsRun anchor m j

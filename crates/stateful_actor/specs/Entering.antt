@@ -19,14 +19,14 @@ use Rattle.stateful_actor.specs.declared.tables.Core.{Core}
 
 -- An opening that is among the marks of an event is at the store's block of the height that the event names, and the
 -- states that the history is based on are such that this block commits to them.
-abbrev pub OpensAtStored : {B C I R U : Type 0} (w : Workings B R U) → (ℕ → Option (Named B)) → w.States → Event B C I → List (Mark B) → Type 0
+abbrev pub OpensAtStored : {B C I R U H : Type 0} (w : Workings B R H U) → (ℕ → Option (Named B)) → w.States → Event B C I → List (Mark B) → Type 0
 OpensAtStored {B} w stored base event marks = (anchor : Anchor) → Contains marks (Opened anchor)
     → (b : Named B) × (stored (opened_height event) ≡ Some b) × (anchor ≡ anchor_by w.header b) × (w.kind.target_of base ≡ w.meaning.targets b.block)
 
-module _ {B C I R U : Type 0} (w : Workings B R U) (stored : ℕ → Option (Named B)) where
+module _ {B C I R U H : Type 0} (w : Workings B R H U) (stored : ℕ → Option (Named B)) where
   -- An event was taken in, and the history is based on these states from then on: the machine stands for the past with
   -- its entry, whose marks keep the rules, and the databases hold the fold over what was applied.
-  pub record TakesIn {H : Type 0} (base : w.States) (p : Past B C I) (event : Event B C I) (marks : List (Mark B)) (failed : Bool) (core : Core B R H U) (register : Register) (m : w.kind.Members) (next : w.Ids) (store : ℕ → Option (Named B)) : Type 0 where
+  pub record TakesIn (base : w.States) (p : Past B C I) (event : Event B C I) (marks : List (Mark B)) (failed : Bool) (core : Core B R H U) (register : Register) (m : w.kind.Members) (next : w.Ids) (store : ℕ → Option (Named B)) : Type 0 where
     pub opened : OpensAtStored w stored base event marks
     pub stands : Stands w stored base (after_entry p event marks) failed core register m next store
     pub keeps : Keeps w stored base (Came event ∷ p) marks

@@ -32,17 +32,23 @@ module _ {B : Type 0} (header : Header B) (anchor : Anchor) (b : Named B) where
   RefusesBlock (ConflictAtAnchor expected given) = (header.height b.block ≡ anchor.height.0) × (expected ≡ anchor.digest) × (given ≡ b.digest) × (given ≢ expected)
   RefusesBlock e = ⊥
 
-module _ {B R U H : Type 0} (w : Workings B R U) where
+module _ {B R U H : Type 0} (w : Workings B R H U) where
   -- a barrier has begun where none was active
-  abbrev pub BeginsIfNone : (old new : Moment w H) → Type 0
+  abbrev pub BeginsIfNone : (old new : Moment w) → Type 0
   BeginsIfNone old new =
       ((old.core.barrier ≡ None) × BeginsBarrier w old new)
       ⊎ ((old.core.barrier ≢ None) × (new ≡ old))
 
-module _ {B R U H : Type 0} (w : Workings B R U) (t : ℕ) (b : Named B) where
+  -- the application has this left to do behind the block, whose states the databases hold
+  pub record IsLeft (b : Named B) (hooked : Hooked H) (m : w.kind.Members) : Type 0 where
+    pub point : Point w
+    pub here : w.kind.point m ≡ Some point
+    pub left : w.hooks hooked b.block point.1 0
+
+module _ {B R U H : Type 0} (w : Workings B R H U) (t : ℕ) (b : Named B) where
   -- The finalization of the block has begun, and the databases have applied the batch that the cache had of it. It is the
   -- anchor, and the cache is cut to its descendants.
-  pub record Moves (old new : Moment w H) : Type 0 where
+  pub record Moves (old new : Moment w) : Type 0 where
     pub batch : U
     pub root : IsRootOf (anchor_by w.header b) old.core.cache batch
     pub cut : IsCutTo (anchor_by w.header b) old.core.cache new.core.cache
@@ -62,12 +68,13 @@ module _ {B R U H : Type 0} (w : Workings B R U) (t : ℕ) (b : Named B) where
       × (now ≡ before ++ Started old.next_job Hook b.digest ∷ [])
 
   -- the next block is final
-  pub record Finalizes (old new : Moment w H) : Type 0 where
-    pub moved : Moment w H
-    pub begun : Moment w H
+  pub record Finalizes (old new : Moment w) : Type 0 where
+    pub moved : Moment w
+    pub begun : Moment w
     pub hooked : Hooked H
     pub moves : Moves old moved
     pub begins : BeginsIfNone w moved begun
+    pub left : IsLeft w b hooked begun.members
     pub observes : Observes hooked begun.core new.core begun.marks new.marks
     pub members : new.members ≡ begun.members
     pub next : new.next ≡ begun.next

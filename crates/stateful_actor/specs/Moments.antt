@@ -4,12 +4,12 @@ use Rattle.stateful_history.specs.declared.mark.Mark.{Mark}
 use Rattle.stateful_actor.specs.Workings.{Workings}
 use Rattle.stateful_actor.specs.declared.tables.Core.{Core}
 
-pub record Moment {B R U : Type 0} (w : Workings B R U) (H : Type 0) : Type 0 where
+pub record Moment {B R H U : Type 0} (w : Workings B R H U) : Type 0 where
   pub core : Core B R H U
   pub members : w.kind.Members
   -- the batch ids that are drawn next
   pub next : w.Ids
   pub marks : List (Mark B)
 
-abbrev pub moment : {B R U H : Type 0} (w : Workings B R U) → Core B R H U → w.kind.Members → w.Ids → List (Mark B) → Moment w H
+abbrev pub moment : {B R U H : Type 0} (w : Workings B R H U) → Core B R H U → w.kind.Members → w.Ids → List (Mark B) → Moment w
 moment w core members next marks = record { core = core; members = members; next = next; marks = marks }

@@ -18,8 +18,8 @@ use Rattle.stateful_actor.specs.declared.error.Fault.{Fault}
 use Rattle.stateful_actor.specs.declared.error.StepError.{StepError}
 use Rattle.stateful_actor.specs.declared.error.StepError.TheVariants.{BadEvent, NotYet, Failed, OutOfMemory}
 
-module _ {B C I R U H : Type 0} (w : Workings B R U) (run_count : R → ℕ) (hook_count : H → ℕ) (store : ℕ → Option (Named B)) (event : Event B C I) where
-  module _ (failed : Bool) (register : Register) (old : Moment w H) (core : Core B R H U) (members : w.kind.Members) (before now : Tally) where
+module _ {B C I R U H : Type 0} (w : Workings B R H U) (run_count : R → ℕ) (hook_count : H → ℕ) (store : ℕ → Option (Named B)) (event : Event B C I) where
+  module _ (failed : Bool) (register : Register) (old : Moment w) (core : Core B R H U) (members : w.kind.Members) (before now : Tally) where
     -- An event is refused where memory ran out; where the machine has failed and the event isn't a restart; where the event
     -- may not come; where the machine has failed while it was up and the event is a restart; where its form isn't done yet or
     -- the anchor speaks against it; and where the task that it asks for isn't done.

@@ -40,7 +40,7 @@ pub record StartsAt {B R H U : Type 0} (anchor : Anchor) (old new : Core B R H U
   pub runs : new.runs.items ≡ []
 
 -- the databases were opened at the store's block of the height that was processed last
-pub record Reopens {B R U H : Type 0} (w : Workings B R U) (floor : Floor) (store : ℕ → Option (Named B)) (old new : Moment w H) : Type 0 where
+pub record Reopens {B R U H : Type 0} (w : Workings B R H U) (floor : Floor) (store : ℕ → Option (Named B)) (old new : Moment w) : Type 0 where
   pub block : Named B
   pub stored : store (start_height floor) ≡ Some block
   pub opening : IsOpening w.kind new.next new.members (w.meaning.targets block.block)

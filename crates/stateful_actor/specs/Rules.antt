@@ -11,7 +11,7 @@ use Rattle.stateful_actor.specs.Workings.{Workings, setting}
 
 -- These marks keep the rules: true verdicts are earned, false ones have their reasons where ancestries are honest, good
 -- barriers were flushed, and only durable heights are acknowledged.
-pub record Keeps {B C I R U : Type 0} (w : Workings B R U) (stored : ℕ → Option (Named B)) (base : w.States) (p : Past B C I) (marks : List (Mark B)) : Type 0 where
+pub record Keeps {B C I R U H : Type 0} (w : Workings B R H U) (stored : ℕ → Option (Named B)) (base : w.States) (p : Past B C I) (marks : List (Mark B)) : Type 0 where
   pub earned : EachMark (TrueIsEarned (setting w stored) base) p marks
   pub reasons : IsHonest (setting w stored) p → EachMark (FalseHasReason (setting w stored) base) p marks
   pub flushed : EachMark (GoodIsFlushed w.header w.kind.count) p marks

@@ -14,7 +14,7 @@ use Rattle.stateful_actor.specs.Chains.{Chain}
 use Rattle.stateful_actor.specs.declared.tables.Live.{Live}
 use Rattle.stateful_actor.specs.declared.tables.Front.{Front}
 
-module _ {B C I R U : Type 0} (w : Workings B R U) (stored : ℕ → Option (Named B)) (p : Past B C I) where
+module _ {B C I R U H : Type 0} (w : Workings B R H U) (stored : ℕ → Option (Named B)) (p : Past B C I) where
   -- what a live run is about
   pub record IsRun (anchor : Anchor) (r : Live B R) : Type 0 where
     pub verified_for : verified r.ticket p ≡ Some r.block

@@ -27,7 +27,7 @@ use Rattle.stateful_actor.specs.declared.tables.Live.{Live}
 abbrev pub Sound : {Ids S T B R H U : Type 0} (d : Databases Ids S T) → d.Members → Header B → Core B R H U → Type 0
 Sound d m header core = (anchor : Anchor) → core.anchor ≡ Some anchor → Agrees d m header anchor core.durability core.barrier core.front
 
-module _ {B C I R U : Type 0} (w : Workings B R U) (stored : ℕ → Option (Named B)) where
+module _ {B C I R U H : Type 0} (w : Workings B R H U) (stored : ℕ → Option (Named B)) where
   -- the cache and the live runs stand, over the points of the known blocks, and no block has two runs
   pub record Executes (p : Past B C I) (point : Point w) (next : w.Ids) (anchor : Digest) (cache : List (Cached U)) (runs : List (Live B R)) : Type 0 where
     pub points : Digest → Point w
@@ -36,7 +36,7 @@ module _ {B C I R U : Type 0} (w : Workings B R U) (stored : ℕ → Option (Nam
     pub running : All (IsLive w stored p points next anchor) runs
     pub apart : AllPairs (λ r q. r.block.digest ≢ q.block.digest) runs
 
-  module _ {H : Type 0} (base : w.States) (p : Past B C I) where
+  module _ (base : w.States) (p : Past B C I) where
     -- the machine is up at this anchor
     pub record IsUp (anchor : Anchor) (core : Core B R H U) (m : w.kind.Members) (next : w.Ids) : Type 0 where
       pub first : Anchor
@@ -68,6 +68,6 @@ module _ {B C I R U : Type 0} (w : Workings B R U) (stored : ℕ → Option (Nam
         ((failed ≡ false) ⊎ (core.anchor ≡ None)) → RegisterStands w.kind.count p register × Works core m next store
 
 -- the marks that were made of an event keep the rules, and the machine works on behind them
-pub record HasServed {B C I R U H : Type 0} (w : Workings B R U) (stored : ℕ → Option (Named B)) (base : w.States) (q : Past B C I) (now : Moment w H) (store : ℕ → Option (Named B)) : Type 0 where
+pub record HasServed {B C I R U H : Type 0} (w : Workings B R H U) (stored : ℕ → Option (Named B)) (base : w.States) (q : Past B C I) (now : Moment w) (store : ℕ → Option (Named B)) : Type 0 where
   pub works : Works w stored base (after q now.marks) now.core now.members now.next store
   pub keeps : Keeps w stored base q now.marks

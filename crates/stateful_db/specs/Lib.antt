@@ -3,6 +3,7 @@ pub mod Disk
 pub mod Member
 pub mod Databases
 pub mod Meaning
+pub mod Hooks
 pub mod Targeted
 pub mod Reopening
 pub mod Handles

@@ -34,12 +34,17 @@ pub enum Hooked<H> {
 /// A run is started for a block on batches that show some states. At each turn at which the databases are at a point
 /// of the batches' chain it goes on, or it ends: with batches that show the states after the block, or with none where
 /// there are no such states or, for a candidate, where the block isn't acceptable. It fails only where its count rises.
+///
+/// Behind a finalized block the application has nothing left to do, or a hook, which is turned to its end while the
+/// databases hold the states after the block. `hooks` is what it tells of that.
 pub trait Application: Faulty + Sized {
-    ghost use Rattle.std.specs.Prelude.{◌≡◌, ℕ, List, ◌∷◌, ◌≤◌, IfOk, IsErrOf, Some};
+    ghost use Rattle.std.specs.Prelude.{◌≡◌, ℕ, List, ◌∷◌, ◌≤◌, ◌+◌, IfOk, IsErrOf, Some};
     ghost use Rattle.stateful_types.specs.Causes.{Rose};
     ghost use Rattle.stateful_types.specs.declared.outcome.Finality.{Finality};
     ghost use Rattle.stateful_db.specs.Chain.{IsPoint};
     ghost use Rattle.stateful_db.specs.Meaning.{Meaning, outcome, Ends};
+    ghost use Rattle.stateful_db.specs.Hooks.{left};
+    ghost use Rattle.stateful_db.specs.declared.application.Hooked.{Hooked};
 
     /// What consensus knows of a block.
     type Context: Rounded + Copy;
@@ -66,6 +71,9 @@ pub trait Application: Faulty + Sized {
 
     /// A run of this block, on fresh batches of these ids over this chain.
     ghost runs: { Self.Run → Finality → Self.Block → Self.Databases.Ids → List (Self.Databases.Ids × Self.Databases.States) → Type 0 };
+
+    /// What is left to do behind this block, on the states after it, once so many turns of its hook were taken.
+    ghost hooks: { Hooked Self.Hook → Self.Block → Self.Databases.States → ℕ → Type 0 };
 
     /// What the block commits to.
     fn sync_targets(block: &Self::Block) -> Targets<Self>
@@ -117,11 +125,13 @@ pub trait Application: Faulty + Sized {
         captured: Self::Captured,
         databases: &Self::Databases,
     ) -> Result<Hooked<Self::Hook>, AppFault>
+        ensures ok { IfOk result (λ hooked. (p : Self.Databases.Ids × Self.Databases.States) → Self.Databases.kind.point (Self.Databases.members databases.now) ≡ Some p → hooks hooked block.now p.1 0) }
         ensures failed { IsErrOf result AppFault.Failed → Rose (Self.count self.old) (Self.count self.new) }
         ensures later { Self.count self.old ≤ Self.count self.new };
 
     /// One turn of a hook.
     fn turn_hook(hook: &mut Self::Hook, databases: &Self::Databases) -> Result<Moved<()>, AppFault>
+        ensures ok { IfOk result (λ moved. (b : Self.Block) (p : Self.Databases.Ids × Self.Databases.States) (n : ℕ) → Self.Databases.kind.point (Self.Databases.members databases.now) ≡ Some p → hooks (Hooked.Pending hook.old) b p.1 n → hooks (left moved hook.new) b p.1 (n + 1)) }
         ensures failed { IsErrOf result AppFault.Failed → Rose (Self.Hook.count hook.old) (Self.Hook.count hook.new) }
         ensures later { Self.Hook.count hook.old ≤ Self.Hook.count hook.new };
 }

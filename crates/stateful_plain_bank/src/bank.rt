@@ -50,13 +50,14 @@ impl Application for Bank {
     ghost use Rattle.stateful_types.specs.declared.outcome.Finality.{Finality};
     ghost use Rattle.stateful_db.specs.Chain.{IsPoint};
     ghost use Rattle.stateful_db.specs.Meaning.{outcome, Ends};
+    ghost use Rattle.stateful_db.specs.Hooks.{left};
     ghost use Rattle.stateful_bank.specs.declared.block.BankBlock.{BankBlock};
     ghost use Rattle.stateful_bank.specs.Balances.{run_turns};
     ghost use Rattle.stateful_bank.specs.BankBlock.{genesis_block};
     ghost use Rattle.stateful_plain.specs.Whole.{Whole, begun, initial, target_of};
     ghost use Rattle.stateful_plain.specs.Shown.{DraftShows, SealShows};
     ghost use Rattle.stateful_plain_bank.specs.Stepped.{bank_meaning};
-    ghost use Rattle.stateful_plain_bank.specs.Hooks.{IsHook, GoesOn};
+    ghost use Rattle.stateful_plain_bank.specs.Hooks.{IsLeft, GoesOn, bank_hooks};
     ghost use Rattle.stateful_plain_bank.specs.Runs.{RunsOn, EachRunAt, IsSealed, Turned, counted};
 
     type Context = Round;
@@ -78,6 +79,8 @@ impl Application for Bank {
     ghost meaning = { bank_meaning };
 
     ghost runs = { RunsOn };
+
+    ghost hooks = { bank_hooks };
 
     /// A block of another number of targets than one commits to the empty state.
     fn sync_targets(block: &BankBlock) -> Target {
@@ -160,7 +163,7 @@ impl Application for Bank {
         _databases: &Held<Plain>,
     ) -> Result<Hooked<BankHook>, AppFault>
         ensures ok { IsOk result }
-        ensures hook { IfOk result (λ hooked. IsHook hooked block.now.slow) }
+        ensures hook { IfOk result (λ hooked. IsLeft hooked block.now.slow 0) }
     {
         Ok(hook_of(block.slow))
     }
@@ -169,6 +172,7 @@ impl Application for Bank {
         ensures ok { IsOk result }
         ensures left { hook.new.left ≡ hook.old.left - 1 }
         ensures goes_on { IfOk result (λ moved. GoesOn moved hook.new.left) }
+        ensures taken { IfOk result (λ moved. (turns taken : ℕ) → IsLeft (Hooked.Pending hook.old) turns taken → IsLeft (left moved hook.new) turns (taken + 1)) }
     {
         Ok(turn_hook(hook))
     }

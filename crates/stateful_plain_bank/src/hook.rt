@@ -1,7 +1,8 @@
 //! Hooks behind finalized blocks.
 
-ghost use Rattle.std.specs.Prelude.{◌≡◌, ◌-◌};
-ghost use Rattle.stateful_plain_bank.specs.Hooks.{IsHook, GoesOn};
+ghost use Rattle.std.specs.Prelude.{◌≡◌, ◌-◌, ◌+◌, ℕ};
+ghost use Rattle.stateful_db.specs.Hooks.{left};
+ghost use Rattle.stateful_plain_bank.specs.Hooks.{IsLeft, GoesOn};
 
 use stateful_db::Hooked;
 use stateful_types::{Faulty, Moved};
@@ -22,7 +23,7 @@ impl Faulty for BankHook {
 
 /// A hook of so many turns.
 pub(crate) fn hook_of(turns: u8) -> Hooked<BankHook>
-    ensures { IsHook result turns }
+    ensures { IsLeft result turns 0 }
 {
     if turns == 0 {
         Hooked::Done
@@ -35,6 +36,7 @@ pub(crate) fn hook_of(turns: u8) -> Hooked<BankHook>
 pub(crate) fn turn_hook(hook: &mut BankHook) -> Moved<()>
     ensures left { hook.new.left ≡ hook.old.left - 1 }
     ensures goes_on { GoesOn result hook.new.left }
+    ensures taken { (turns taken : ℕ) → IsLeft (Hooked.Pending hook.old) turns taken → IsLeft (left result hook.new) turns (taken + 1) }
 {
     hook.left = hook.left.saturating_sub(1);
     if hook.left == 0 {

@@ -12,7 +12,7 @@ use Rattle.stateful_plain.specs.Shown.{SealShows}
 use Rattle.stateful_plain.specs.declared.batch.PlainMerkleized.{PlainMerkleized}
 use Rattle.stateful_plain_bank.specs.Stepped.{bank_meaning}
 use Rattle.stateful_plain_bank.specs.Runs.{RunsOn, run_faults}
-use Rattle.stateful_plain_bank.specs.Hooks.{hook_faults}
+use Rattle.stateful_plain_bank.specs.Hooks.{bank_hooks, hook_faults}
 use Rattle.stateful_plain_bank.specs.declared.hook.BankHook.{BankHook}
 use Rattle.stateful_plain_bank.specs.declared.run.BankRun.{BankRun}
 use Rattle.stateful_history.specs.Past.{after_all}
@@ -40,8 +40,8 @@ use Rattle.stateful_play.specs.Store.{store_of}
 use Rattle.stateful_play.specs.Shown.{entries_of, core_of, member_of, failed_of}
 
 -- the bank over one database that is kept whole, as the definitions of the machine take it
-abbrev pub bank : Workings BankBlock BankRun PlainMerkleized
-bank = workings block_header bank_meaning (single target_of (λ target. target) begun initial) RunsOn SealShows
+abbrev pub bank : Workings BankBlock BankRun BankHook PlainMerkleized
+bank = workings block_header bank_meaning (single target_of (λ target. target) begun initial) RunsOn bank_hooks SealShows
 
 -- All events were taken in; or those before the one of a number, which was refused, and not for want of memory.
 abbrev pub AreTaken : Option Halted → List BankEvent → List BankEvent → Type 0
@@ -59,7 +59,7 @@ module _ (stored : ℕ → Option (Named BankBlock)) where
   KeepRules «end» entries m = TrueNames (setting bank stored) (after_all [] entries) → Plays bank stored initial [] entries (EndsWell «end» entries m)
 
 -- where a play begins: the machine is down, its numbers begin at 0, and the database is closed on an empty medium
-pub record IsFirst (first : Moment bank BankHook) : Type 0 where
+pub record IsFirst (first : Moment bank) : Type 0 where
   pub down : first.core.anchor ≡ None
   pub jobs : first.core.next_job ≡ 0
   pub fetches : first.core.next_fetch ≡ 0
@@ -69,9 +69,9 @@ pub record IsFirst (first : Moment bank BankHook) : Type 0 where
 
 -- each entry is one step of the machine, from the first moment on
 pub record AreSteps (stored : ℕ → Option (Named BankBlock)) (entries : List (Entry BankBlock Round Ask)) : Type 0 where
-  pub first : Moment bank BankHook
+  pub first : Moment bank
   pub begins : IsFirst first
-  pub last : Moment bank BankHook
+  pub last : Moment bank
   pub steps : Steps bank stored [] first entries last
 
 -- The event behind those that were taken in was refused with this error, and the machine says why. The bank itself never
@@ -80,7 +80,7 @@ pub record IsHaltedBy (stored : ℕ → Option (Named BankBlock)) (events : List
   pub event : BankEvent
   pub rest : List BankEvent
   pub behind : events ≡ map (λ entry. entry.event) entries ++ event ∷ rest
-  pub first : Moment bank BankHook
+  pub first : Moment bank
   pub begins : IsFirst first
   pub refused : IsRefused bank stored run_faults hook_faults first entries event halted.error (core_of machine) (member_of d) (tally 0 (λ i. 0)) (tally 0 (failed_of d))
 

@@ -18,7 +18,7 @@ flush-requires-clause-out g c =
 
 pub returns-in_err-flush-clause-fault : goal.returns-in_err-flush-clause-fault
 returns-in_err-flush-clause-fault g c =
-    let w = workings g.A.Block.Block.header g.A.Application.meaning g.A.Databases.DatabaseSet.kind g.A.Application.runs g.A.Databases.DatabaseSet.shows in
+    let w = workings g.A.Block.Block.header g.A.Application.meaning g.A.Databases.DatabaseSet.kind g.A.Application.runs g.A.Application.hooks g.A.Databases.DatabaseSet.shows in
     let before = g.A.Databases.DatabaseSet.counted c.args.databases.now in
     let now = g.A.Databases.DatabaseSet.counted c.flush.new.self in
     let new = g.A.Databases.DatabaseSet.members c.flush.new.self in

@@ -16,14 +16,14 @@ loop-event-init g c = record {
   safe = record { sound = λ up anchor is. let down = c.requires.new.down in absurd cc; held = λ none. c.requires.held };
   store = refl;
   working = c.requires.new.working;
-  registered = rw c.new.ensures.items (Register-new (workings g.A.Block.Block.header g.A.Application.meaning g.A.Databases.DatabaseSet.kind g.A.Application.runs g.A.Databases.DatabaseSet.shows) (g.S.BlockStore.stored c.args.store.now) c.args.stateful.register c.requires.new.blank);
+  registered = rw c.new.ensures.items (Register-new (workings g.A.Block.Block.header g.A.Application.meaning g.A.Databases.DatabaseSet.kind g.A.Application.runs g.A.Application.hooks g.A.Databases.DatabaseSet.shows) (g.S.BlockStore.stored c.args.store.now) c.args.stateful.register c.requires.new.blank);
   later = HasNotFallen-itself _;
 }
 
 pub loop-event-preserved : goal.loop-event-preserved
 loop-event-preserved g c =
     let D = g.A.Databases.DatabaseSet in
-    let w = workings g.A.Block.Block.header g.A.Application.meaning D.kind g.A.Application.runs D.shows in
+    let w = workings g.A.Block.Block.header g.A.Application.meaning D.kind g.A.Application.runs g.A.Application.hooks D.shows in
     let i = c.loop-event.invariant in
     let was = c.loop-event.driven in
     let now = c.enter.new.driven in
@@ -43,7 +43,7 @@ loop-event-preserved g c =
 pub returns-in-Err-clause-refused : goal.returns-in-Err-clause-refused
 returns-in-Err-clause-refused g c =
     let D = g.A.Databases.DatabaseSet in
-    let w = workings g.A.Block.Block.header g.A.Application.meaning D.kind g.A.Application.runs D.shows in
+    let w = workings g.A.Block.Block.header g.A.Application.meaning D.kind g.A.Application.runs g.A.Application.hooks D.shows in
     let i = c.loop-event.invariant in (
       c.in-Some.event,
       c.next.new.self.rest.items,

@@ -11,7 +11,7 @@ use Rattle.stateful_actor.proofs.driving.drive.Given as goal
 abbrev pub invariant-loop-event : goal.invariant-loop-event
 invariant-loop-event g l =
     let D = g.A.Databases.DatabaseSet in
-    let w = workings g.A.Block.Block.header g.A.Application.meaning D.kind g.A.Application.runs D.shows in
+    let w = workings g.A.Block.Block.header g.A.Application.meaning D.kind g.A.Application.runs g.A.Application.hooks D.shows in
     record {
       all : l.yielded ++ l.event-iterator.rest.items ≡ l.fn.events.items;
       events : map (λ entry. entry.event) l.driven.history.items ≡ l.yielded;

@@ -7,7 +7,7 @@ use Rattle.stateful_actor.proofs.finalize.apply.Goals as goal
 
 pub returns-in_err-apply-clause-fault : goal.returns-in_err-apply-clause-fault
 returns-in_err-apply-clause-fault g c =
-    let w = workings g.A.Block.Block.header g.A.Application.meaning g.A.Databases.DatabaseSet.kind g.A.Application.runs g.A.Databases.DatabaseSet.shows in
+    let w = workings g.A.Block.Block.header g.A.Application.meaning g.A.Databases.DatabaseSet.kind g.A.Application.runs g.A.Application.hooks g.A.Databases.DatabaseSet.shows in
     let members = g.A.Databases.DatabaseSet.members c.args.databases.now in
     let before = g.A.Databases.DatabaseSet.counted c.args.databases.now in
     let now = g.A.Databases.DatabaseSet.counted c.apply.new.self in

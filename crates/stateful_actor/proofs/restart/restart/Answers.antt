@@ -24,7 +24,7 @@ returns-clause-ok g c =
 
 pub returns-in_err-init-clause-fault : goal.returns-in_err-init-clause-fault
 returns-in_err-init-clause-fault g c =
-    let w = workings g.A.Block.Block.header g.A.Application.meaning g.A.Databases.DatabaseSet.kind g.A.Application.runs g.A.Databases.DatabaseSet.shows in
+    let w = workings g.A.Block.Block.header g.A.Application.meaning g.A.Databases.DatabaseSet.kind g.A.Application.runs g.A.Application.hooks g.A.Databases.DatabaseSet.shows in
     let members = g.A.Databases.DatabaseSet.members in
     let counted = g.A.Databases.DatabaseSet.counted in
     let e = c.in_err-init.field-0.0 in

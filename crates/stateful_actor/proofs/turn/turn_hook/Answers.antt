@@ -1,4 +1,7 @@
-use Rattle.std.proofs.Common.{◌≡◌, refl, sym, ◌∙◌, ap, inl, Some, Err}
+use Rattle.std.proofs.Common.{◌≡◌, ◌+◌, refl, sym, ◌∙◌, ap, subst, Some, Err}
+use Rattle.stateful_types.specs.declared.outcome.Moved.{Moved}
+use Rattle.stateful_db.specs.Hooks.{left}
+use Rattle.stateful_db.specs.declared.application.Hooked.TheVariants.{Pending}
 use Rattle.stateful_actor.specs.Workings.{workings}
 use Rattle.stateful_actor.specs.declared.tables.Front.{Front}
 use Rattle.stateful_actor.proofs.CodeFaults.{FaultsTurn-hook}
@@ -19,15 +22,17 @@ returns-in-Ok-Pending-clause-ok g c =
       front = c.in-Some.front;
       is = is;
       job_is = of_some (λ (f : Front _ _). f.job ≡ c.args.job) c.args.core.now.front c.in-Some.front is c.requires.hook;
-      leaves = inl (c.turn_hook.new.hook, refl, refl);
+      left = Pending c.turn_hook.new.hook;
+      turns = λ b q n here hooks. subst (λ (m : Moved Unit). g.A.Application.hooks (left m c.turn_hook.new.hook) b q.1 (n + 1)) c.in-Ok-Pending.field-0-is (c.in-Ok-Pending.ensures.ok b q n here hooks);
+      leaves = (refl, refl);
     }
 
 pub returns-in-Ok-Done-clause-ok : goal.returns-in-Ok-Done-clause-ok
 returns-in-Ok-Done-clause-ok g c =
     let is : c.args.core.now.front ≡ Some c.in-Some.front = sym c.take.ensures.value ∙ c.in-Some.is in
     let job : c.in-Some.front.job ≡ c.args.job = of_some (λ (f : Front _ _). f.job ≡ c.args.job) c.args.core.now.front c.in-Some.front is c.requires.hook in
-    let w = workings g.A.Block.Block.header g.A.Application.meaning g.A.Databases.DatabaseSet.kind g.A.Application.runs g.A.Databases.DatabaseSet.shows in
-    TurnsHook-ended w c.args.core.now c.end_hook.new.core _ c.end_hook.new.marks.items c.end_hook.result c.take.new.self c.in-Some.front c.args.job is job c.take.ensures.after c.end_hook.ensures.core c.end_hook.ensures.marks
+    let w = workings g.A.Block.Block.header g.A.Application.meaning g.A.Databases.DatabaseSet.kind g.A.Application.runs g.A.Application.hooks g.A.Databases.DatabaseSet.shows in
+    TurnsHook-ended w c.args.core.now c.end_hook.new.core _ c.end_hook.new.marks.items c.end_hook.result _ c.take.new.self c.in-Some.front c.args.job is job (λ b q n here hooks. subst (λ (m : Moved Unit). g.A.Application.hooks (left m c.turn_hook.new.hook) b q.1 (n + 1)) c.in-Ok-Done.field-0-is (c.in-Ok-Done.ensures.ok b q n here hooks)) c.take.ensures.after c.end_hook.ensures.core c.end_hook.ensures.marks
 
 pub returns-in-Err-clause-fault : goal.returns-in-Err-clause-fault
 returns-in-Err-clause-fault g c =
