@@ -10,7 +10,7 @@ use Rattle.stateful_actor.specs.Workings.{Workings, Point}
 use Rattle.stateful_actor.specs.Moments.{Moment}
 use Rattle.stateful_actor.specs.Barriers.{Agrees}
 use Rattle.stateful_actor.specs.Stands.{Sound}
-use Rattle.stateful_actor.specs.Finalizing.{IsNext, Moves, BeginsIfNone, IsLeft}
+use Rattle.stateful_actor.specs.Finalizing.{IsNext, Moves, BeginsIfNone, IsLeftBehind}
 use Rattle.stateful_actor.specs.Causes.{FaultsObserving, FaultsFinalize}
 use Rattle.stateful_actor.specs.declared.error.Fault.{Fault}
 use Rattle.stateful_actor.specs.declared.error.Fault.TheVariants.{Exhausted, OutOfMemory}
@@ -25,8 +25,8 @@ module _ {B R U H : Type 0} (w : Workings B R H U) (laws : Laws w.kind) where
   begun_point old new (inr same) = ap (λ (x : Moment w). w.kind.point x.members) same.1
 
   -- what the application tells of the states behind the block, where they are here
-  pub IsLeft-observed : (t : ℕ) (b : Named B) (old moved begun : Moment w) (hooked : Hooked H) → Moves w t b old moved → BeginsIfNone w moved begun → ((p : Point w) → w.kind.point begun.members ≡ Some p → w.hooks hooked b.block p.1 0) → IsLeft w b hooked begun.members
-  IsLeft-observed t b old moved begun hooked moves begins tells =
+  pub IsLeftBehind-observed : (t : ℕ) (b : Named B) (old moved begun : Moment w) (hooked : Hooked H) → Moves w t b old moved → BeginsIfNone w moved begun → ((p : Point w) → w.kind.point begun.members ≡ Some p → w.hooks hooked b.block p.1 0) → IsLeftBehind w b hooked begun.members
+  IsLeftBehind-observed t b old moved begun hooked moves begins tells =
       let here = some_of (w.kind.point moved.members) moves.here in
       let still : w.kind.point begun.members ≡ Some here.0 = begun_point moved begun begins ∙ here.1 in
       record { point = here.0; here = still; left = tells here.0 still }
@@ -36,7 +36,7 @@ module _ {B R U H : Type 0} (w : Workings B R H U) (laws : Laws w.kind) where
   begun_job old new (inr same) = ap (λ (x : Moment w). x.core.next_job) same.1
 
   -- where no number is left for the job of a hook, the application has left it to do
-  pub FaultsFinalize-observed : (before now : ℕ → ℕ) (rose : Type 0) (t : ℕ) (b : Named B) (old moved begun : Moment w) (hooked : Hooked H) → Moves w t b old moved → BeginsIfNone w moved begun → IsLeft w b hooked begun.members
+  pub FaultsFinalize-observed : (before now : ℕ → ℕ) (rose : Type 0) (t : ℕ) (b : Named B) (old moved begun : Moment w) (hooked : Hooked H) → Moves w t b old moved → BeginsIfNone w moved begun → IsLeftBehind w b hooked begun.members
       → (f : Fault) → FaultsObserving hooked begun.core.next_job f → FaultsFinalize w before now begun.members rose b old.core old.members f
   FaultsFinalize-observed before now rose t b old moved begun (Pending hook) moves begins left Exhausted last =
       inr (sym (begun_job moved begun begins ∙ ap (λ (c : Core B R H U). c.next_job) moves.core) ∙ last, (hook, left))

@@ -18,7 +18,7 @@ use Rattle.stateful_actor.specs.Cut.{IsRootOf}
 use Rattle.stateful_actor.specs.Running.{IsInTable}
 use Rattle.stateful_actor.specs.Restarting.{start_height}
 use Rattle.stateful_actor.specs.Effects.{NeedsBarrier}
-use Rattle.stateful_actor.specs.Finalizing.{IsLeft}
+use Rattle.stateful_actor.specs.Finalizing.{IsLeftBehind}
 use Rattle.stateful_actor.specs.Doing.{Does}
 use Rattle.stateful_actor.specs.declared.cache.Cached.{Cached}
 use Rattle.stateful_actor.specs.declared.tables.Active.{Active}
@@ -136,7 +136,7 @@ module _ {B R U H : Type 0} (w : Workings B R H U) where
     -- application has left to do behind the block; a database failed at the apply or where the barrier begins; or the
     -- application's count rose.
     abbrev pub FaultsFinalize : (rose : Type 0) → Named B → Core B R H U → w.kind.Members → Fault → Type 0
-    FaultsFinalize rose b core m Exhausted = ((core.barrier ≡ None) × IsLast core.next_barrier) ⊎ (IsLast core.next_job × ((hook : H) × IsLeft w b (Pending hook) new))
+    FaultsFinalize rose b core m Exhausted = ((core.barrier ≡ None) × IsLast core.next_barrier) ⊎ (IsLast core.next_job × ((hook : H) × IsLeftBehind w b (Pending hook) new))
     FaultsFinalize rose b core m (DatabaseFault i given) = HasCounted i given call.Apply ⊎ ((core.barrier ≡ None) × HasCounted i given call.Finalize)
     FaultsFinalize rose b core m f = FaultsAdvance rose m f
 

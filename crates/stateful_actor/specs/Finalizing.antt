@@ -40,7 +40,7 @@ module _ {B R U H : Type 0} (w : Workings B R H U) where
       ⊎ ((old.core.barrier ≢ None) × (new ≡ old))
 
   -- the application has this left to do behind the block, whose states the databases hold
-  pub record IsLeft (b : Named B) (hooked : Hooked H) (m : w.kind.Members) : Type 0 where
+  pub record IsLeftBehind (b : Named B) (hooked : Hooked H) (m : w.kind.Members) : Type 0 where
     pub point : Point w
     pub here : w.kind.point m ≡ Some point
     pub left : w.hooks hooked b.block point.1 0
@@ -74,7 +74,7 @@ module _ {B R U H : Type 0} (w : Workings B R H U) (t : ℕ) (b : Named B) where
     pub hooked : Hooked H
     pub moves : Moves old moved
     pub begins : BeginsIfNone w moved begun
-    pub left : IsLeft w b hooked begun.members
+    pub left : IsLeftBehind w b hooked begun.members
     pub observes : Observes hooked begun.core new.core begun.marks new.marks
     pub members : new.members ≡ begun.members
     pub next : new.next ≡ begun.next

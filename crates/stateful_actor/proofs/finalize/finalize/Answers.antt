@@ -3,7 +3,7 @@ use Rattle.std.proofs.lemmas.Result.{IfErr-weaker}
 use Rattle.stateful_actor.specs.Workings.{workings}
 use Rattle.stateful_actor.specs.Moments.{moment}
 use Rattle.stateful_actor.proofs.CodeResults.{on_ok, on_err}
-use Rattle.stateful_actor.proofs.CodeFinalizing.{above, may_free, may_behind, may_idle, begun_first, begun_height, IsLeft-observed, FaultsFinalize-observed}
+use Rattle.stateful_actor.proofs.CodeFinalizing.{above, may_free, may_behind, may_idle, begun_first, begun_height, IsLeftBehind-observed, FaultsFinalize-observed}
 use Rattle.stateful_actor.proofs.CodeStates.{leaves_moved, leaves_begun}
 use Rattle.stateful_actor.proofs.finalize.finalize.Goals as goal
 
@@ -54,7 +54,7 @@ returns-clause-ok g c =
       hooked = c.in_ok-hooked.hooked;
       moves = c.in_ok-captured.ensures.ok;
       begins = c.in_ok-begin_if_none.ensures.ok;
-      left = IsLeft-observed w g.met.A.Databases.DatabaseSet.laws c.args.ticket c.args.block.now old moved begun c.in_ok-hooked.hooked c.in_ok-captured.ensures.ok c.in_ok-begin_if_none.ensures.ok (λ p here. subst (λ (x : g.row.A-Block.Denot). g.A.Application.hooks c.in_ok-hooked.hooked x p.1 0) c.inner-2.ensures (c.in_ok-hooked.ensures.ok p here));
+      left = IsLeftBehind-observed w g.met.A.Databases.DatabaseSet.laws c.args.ticket c.args.block.now old moved begun c.in_ok-hooked.hooked c.in_ok-captured.ensures.ok c.in_ok-begin_if_none.ensures.ok (λ p here. subst (λ (x : g.row.A-Block.Denot). g.A.Application.hooks c.in_ok-hooked.hooked x p.1 0) c.inner-2.ensures (c.in_ok-hooked.ensures.ok p here));
       observes = observes;
       members = refl;
       next = refl;
@@ -66,7 +66,7 @@ returns-clause-fault g c =
     let old = moment w c.args.core.now (g.A.Databases.DatabaseSet.members c.args.databases.now) (g.A.Databases.DatabaseSet.next c.args.databases.now) c.args.marks.now.items in
     let moved = moment w c.advance.new.core (g.A.Databases.DatabaseSet.members c.advance.new.databases) (g.A.Databases.DatabaseSet.next c.advance.new.databases) c.advance.new.marks.items in
     let begun = moment w c.begin_if_none.new.core (g.A.Databases.DatabaseSet.members c.begin_if_none.new.databases) (g.A.Databases.DatabaseSet.next c.begin_if_none.new.databases) c.begin_if_none.new.marks.items in
-    let left = IsLeft-observed w g.met.A.Databases.DatabaseSet.laws c.args.ticket c.args.block.now old moved begun c.in_ok-hooked.hooked c.in_ok-captured.ensures.ok c.in_ok-begin_if_none.ensures.ok (λ p here. subst (λ (x : g.row.A-Block.Denot). g.A.Application.hooks c.in_ok-hooked.hooked x p.1 0) c.inner-2.ensures (c.in_ok-hooked.ensures.ok p here)) in
+    let left = IsLeftBehind-observed w g.met.A.Databases.DatabaseSet.laws c.args.ticket c.args.block.now old moved begun c.in_ok-hooked.hooked c.in_ok-captured.ensures.ok c.in_ok-begin_if_none.ensures.ok (λ p here. subst (λ (x : g.row.A-Block.Denot). g.A.Application.hooks c.in_ok-hooked.hooked x p.1 0) c.inner-2.ensures (c.in_ok-hooked.ensures.ok p here)) in
     IfErr-weaker c.observe.result _ _ (FaultsFinalize-observed w g.met.A.Databases.DatabaseSet.laws _ _ _ c.args.ticket c.args.block.now old moved begun c.in_ok-hooked.hooked c.in_ok-captured.ensures.ok c.in_ok-begin_if_none.ensures.ok left) c.observe.ensures.fault
 
 pub returns-in_err-begin_if_none-clause-states : goal.returns-in_err-begin_if_none-clause-states
