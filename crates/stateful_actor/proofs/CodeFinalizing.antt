@@ -4,7 +4,7 @@ use Rattle.stateful_types.specs.Names.{Named}
 use Rattle.stateful_types.specs.declared.anchor.Anchor.{Anchor}
 use Rattle.stateful_db.specs.Databases.{Laws}
 use Rattle.stateful_db.specs.declared.application.Hooked.{Hooked}
-use Rattle.stateful_db.specs.declared.application.Hooked.TheVariants.{Done, Pending}
+use Rattle.stateful_db.specs.declared.application.Hooked.TheVariants.{Pending}
 use Rattle.stateful_durability.specs.Durability.{Coverage}
 use Rattle.stateful_actor.specs.Workings.{Workings, Point}
 use Rattle.stateful_actor.specs.Moments.{Moment}

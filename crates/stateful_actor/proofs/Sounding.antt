@@ -25,8 +25,6 @@ use Rattle.stateful_actor.specs.Effects.{with_receipt, BeginsBarrier, CompletesB
 use Rattle.stateful_types.specs.declared.floor.Floor.{Floor}
 use Rattle.stateful_types.specs.declared.outcome.Moved.{Moved}
 use Rattle.stateful_types.specs.declared.outcome.Moved.TheVariants.{Pending, Done}
-use Rattle.stateful_history.specs.declared.mark.Mark.TheVariants.{Ended}
-use Rattle.stateful_history.specs.declared.mark.How.TheVariants.{Hooked}
 use Rattle.stateful_actor.specs.Ending.{TurnsRun, TurnsHook, TurnsJob, LeavesRun, LeavesHook}
 use Rattle.stateful_actor.specs.Restarting.{Reopens}
 use Rattle.stateful_actor.specs.Doing.{IsDoable, Does}
