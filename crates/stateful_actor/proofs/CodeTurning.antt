@@ -16,12 +16,7 @@ use Rattle.stateful_actor.specs.declared.tables.Core.{Core}
 use Rattle.stateful_actor.specs.declared.tables.Front.{Front}
 use Rattle.stateful_actor.specs.declared.tables.Live.{Live}
 use Rattle.stateful_actor.proofs.CodeResults.{on_ok2}
-
--- the element of a place, with what is known of it
-found_at : {X : Type 0} (P : X → Type 0) (xs : List X) (i : ℕ) (x : X) → MatchOption (slice_get xs i) ⊥ P → x ≡ get_or xs i x → (slice_get xs i ≡ Some x) × P x × (i < length xs)
-found_at P [] i x m e = absurd m
-found_at P (y ∷ ys) zero x m e = (ap Some (sym e), subst P (sym e) m, omega arith)
-found_at P (y ∷ ys) (suc i) x m e = let h = found_at P ys i x m e in (h.0, h.1, omega (arith, h.2))
+use Rattle.stateful_actor.proofs.CodeIndex.{found_at}
 
 -- the run of a job, at the place that a search gave
 pub found_run : {B R : Type 0} (runs slice : List (Live B R)) (j place : ℕ) (live : Live B R) → slice ≡ runs → MatchOption (slice_get slice place) ⊥ (λ r. r.job ≡ j) → live ≡ get_or runs place live

@@ -29,6 +29,7 @@ pub mod Halting
 pub mod CodeTests
 pub mod CodeResults
 pub mod CodeFinding
+pub mod CodeIndex
 pub mod CodeJudging
 pub mod CodeCut
 pub mod Releasing

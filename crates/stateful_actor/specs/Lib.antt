@@ -4,6 +4,7 @@ pub mod Chains
 pub mod Numbers
 pub mod Caching
 pub mod Cut
+pub mod Index
 pub mod Running
 pub mod Checkpoints
 pub mod Barriers

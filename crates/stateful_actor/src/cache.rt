@@ -6,6 +6,7 @@ ghost use Rattle.stateful_actor.specs.Cut.{IsCutTo, IsRootOf, GoesOn};
 
 use stateful_types::{Anchor, Digest, OutOfMemory, Round};
 use std::alloc::Global;
+use std::collections::BTreeMap;
 use std::marker::Model;
 
 /// A block whose state is at hand, by its names, with the sealed batch that shows it.
@@ -17,19 +18,23 @@ pub struct Cached<U> {
     pub batch: U,
 }
 
-/// The cached blocks, each behind its parent.
+/// The cached blocks, each behind its parent, with an index by their digests.
 #[derive(Drop)]
 pub struct Cache<U> {
     entries: Vec<Cached<U>>,
+    places: BTreeMap<Digest, usize>,
 }
 
 impl<U> Model for Cache<U> {
     ghost use Rattle.std.specs.Prelude.{List};
+    ghost use Rattle.stateful_actor.specs.Index.{IsIndex};
     ghost use Rattle.stateful_actor.specs.declared.cache.Cached.{Cached};
 
     ghost Value = { List (Cached U) };
 
     ghost view = { λ c. c.entries.items };
+
+    ghost invariant = { λ c. IsIndex c.entries.items c.places };
 }
 
 impl<U: Drop> Cache<U> {
@@ -39,6 +44,7 @@ impl<U: Drop> Cache<U> {
     {
         Cache {
             entries: Vec::new(alloc),
+            places: BTreeMap::new(alloc),
         }
     }
 
@@ -47,12 +53,10 @@ impl<U: Drop> Cache<U> {
         ensures found { IfSome (option_copied result) (λ e. Contains self.now e × (e.digest ≡ digest)) }
         ensures absent { IfNone result (All (λ e. e.digest ≢ digest) self.now) }
     {
-        for entry in &self.entries {
-            if entry.digest.is(digest) {
-                return Some(entry);
-            }
+        match self.places.get(&digest) {
+            Some(place) => Some(&self.entries[*place]),
+            None => None,
         }
-        None
     }
 
     /// Whether there is an entry of this digest.
@@ -67,6 +71,8 @@ impl<U: Drop> Cache<U> {
         ensures ok { OnOk result (self.new ≡ self.old ++ entry ∷ []) }
         ensures err { OnErr result (self.new ≡ self.old) }
     {
+        self.entries.reserve(1)?;
+        self.places.insert(entry.digest, self.entries.len())?;
         self.entries.push(entry)?;
         Ok(())
     }
@@ -92,7 +98,7 @@ impl<U: Drop> Cache<U> {
         ensures kept { IfOk result (λ cut. IsCutTo root self cut.kept) }
         ensures root { IfOk result (λ cut. MatchOption cut.root (All (λ e. e.digest ≢ root.digest) self) (λ batch. IsRootOf root self batch)) }
     {
-        let Cache { entries } = self;
+        let Cache { entries, places: _ } = self;
         let mut cut = Cut {
             root: None,
             kept: Cache::new(alloc),
