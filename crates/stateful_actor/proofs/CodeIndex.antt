@@ -1,5 +1,5 @@
 -- The index of a cache: with an entry more, and what is found by it.
-use Rattle.std.proofs.Common.{◌≡◌, ◌≢◌, ◌<◌, ◌++◌, ◌∷◌, [], ℕ, zero, suc, Bool, true, false, cond, List, Option, Some, None, All, MatchOption, length, get_or, slice_get, refl, sym, ◌∙◌, ap, subst, arith}
+use Rattle.std.proofs.Common.{◌≡◌, ◌≢◌, ◌<◌, ◌++◌, ◌∷◌, [], ℕ, zero, suc, Bool, true, false, cond, List, Some, None, MatchOption, length, get_or, slice_get, refl, sym, ◌∙◌, ap, subst, arith}
 use Rattle.std.specs.Ordering.{is_eq}
 use Rattle.std.specs.BTreeMap.{BTreeMap, get, Updates, IsUnchanged}
 use Rattle.std.specs.Map.{lookup}
@@ -7,7 +7,8 @@ use Rattle.std.proofs.lemmas.Map.Text.{is_eq-slice_cmp}
 use Rattle.std.proofs.lemmas.Slice.Eq.{bytes_eq-Decides}
 use Rattle.std.proofs.lemmas.List.Elements.{All-weaker, All-push}
 use Rattle.stateful_types.specs.declared.digest.Digest.{Digest}
-use Rattle.stateful_actor.specs.Index.{digest_cmp, IsIndex}
+use Rattle.stateful_types.specs.Digest.{digest_cmp}
+use Rattle.stateful_actor.specs.Index.{IsIndex}
 use Rattle.stateful_actor.specs.declared.cache.Cached.{Cached}
 
 same_digest : (a b : Digest) → is_eq (digest_cmp a b) ≡ true → a ≡ b

@@ -1,5 +1,5 @@
 -- What turns of runs and hooks leave.
-use Rattle.std.proofs.Common.{◌≡◌, ◌<◌, ◌++◌, ◌∷◌, [], ℕ, zero, suc, List, Option, Some, None, MatchOption, Vec, Result, OnOk, length, get_or, set, take, drop, slice_get, sym, ◌∙◌, ap, subst, arith}
+use Rattle.std.proofs.Common.{◌≡◌, ◌<◌, ◌++◌, ◌∷◌, [], ℕ, suc, List, Option, Some, None, MatchOption, Vec, Result, OnOk, length, get_or, set, take, drop, slice_get, sym, ◌∙◌, ap, subst, arith}
 use Rattle.std.specs.List.{remove}
 use Rattle.std.specs.Global.{Global}
 use Rattle.std.proofs.lemmas.List.{take-set, drop-set-lt, get_or-set_same}

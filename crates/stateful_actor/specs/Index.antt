@@ -1,15 +1,9 @@
 -- By which index the entries of a cache are found.
 use Rattle.std.specs.Prelude.{◌≡◌, ◌≢◌, ℕ, Some, None, List, All, MatchOption, slice_get}
-use Rattle.std.specs.declared.cmp.Ordering.{Ordering}
-use Rattle.std.specs.Ordering.{nat_cmp}
-use Rattle.std.specs.Cmp.Lexicographic.{slice_cmp}
 use Rattle.std.specs.BTreeMap.{BTreeMap, get}
+use Rattle.stateful_types.specs.Digest.{digest_cmp}
 use Rattle.stateful_types.specs.declared.digest.Digest.{Digest}
 use Rattle.stateful_actor.specs.declared.cache.Cached.{Cached}
-
--- the order of digests, by their bytes
-abbrev pub digest_cmp : Digest → Digest → Ordering
-digest_cmp a b = slice_cmp nat_cmp a.0 b.0
 
 -- the place of a digest is that of an entry of this digest, and the digest of each entry has a place
 pub record IsIndex {U : Type 0} (entries : List (Cached U)) (places : BTreeMap Digest ℕ) : Type 0 where

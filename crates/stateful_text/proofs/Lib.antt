@@ -1,4 +1,5 @@
 pub mod Numbered
+pub mod Index
 pub mod Longer
 pub mod Words
 pub mod Spelled

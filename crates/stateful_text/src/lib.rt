@@ -2,6 +2,7 @@
 //! written where there is no history.
 #![tactic(auto)]
 
+mod label;
 mod line;
 mod mark;
 mod shown;

@@ -1,13 +1,11 @@
 //! Lines, piece by piece. What a text held before stays in front of what is pushed on it.
 
-ghost use Rattle.std.specs.Prelude.{◌≡◌, ◌<◌, ◌++◌, ◌∷◌, [], map, find, OnOk};
-ghost use Rattle.std.specs.Str.{bytes_eq};
-ghost use Rattle.std.specs.Option.{option_copied};
+ghost use Rattle.std.specs.Prelude.{◌≡◌, ◌<◌, ◌++◌, ◌∷◌, [], map, OnOk};
 ghost use Rattle.std.specs.Fmt.{decimal};
 ghost use Rattle.std.specs.Char.{digit_char};
 ghost use Rattle.stateful_text.specs.Line.{hex_of, name_of, field_text, line};
 
-use crate::shown::Label;
+use crate::label::Labels;
 use stateful_types::{Digest, OutOfMemory};
 use std::alloc::Global;
 
@@ -46,18 +44,10 @@ fn push_hex(out: &mut Vec<u8>, bytes: &[u8]) -> Result<(), OutOfMemory>
     Ok(())
 }
 
-fn first_label<'a>(labels: &'a [Label], digest: Digest) -> Option<&'a Label>
-    ensures { option_copied result ≡ find (λ label. bytes_eq label.digest.0 digest.0) labels.now }
-{
-    labels
-        .iter()
-        .find(|label| label.digest.0.as_slice() == digest.0.as_slice())
-}
-
-fn push_name(out: &mut Vec<u8>, labels: &[Label], digest: Digest) -> Result<(), OutOfMemory>
+fn push_name(out: &mut Vec<u8>, labels: &Labels<'_>, digest: Digest) -> Result<(), OutOfMemory>
     ensures { OnOk result (out.new.items ≡ out.old.items ++ name_of labels.now digest) }
 {
-    match first_label(labels, digest) {
+    match labels.first(digest) {
         Some(label) => push(out, label.name.as_slice()),
         None => {
             push(out, b"?")?;
@@ -78,7 +68,7 @@ pub enum Field<'a> {
 #[derive(Clone, Copy)]
 pub struct Lines<'a> {
     pub alloc: Global,
-    pub labels: &'a [Label],
+    pub labels: &'a Labels<'a>,
 }
 
 impl Lines<'_> {

@@ -6,6 +6,7 @@ ghost use Rattle.stateful_text.specs.Transcript.{entry_lines, entries_from, bala
 ghost use Rattle.stateful_text.specs.Transcript.{end_line, ending_of, transcript, usage_line, script_line};
 ghost use Rattle.stateful_text.specs.declared.shown.Shown.TheVariants.{Balances};
 
+use crate::label::Labels;
 use crate::line::{Lines, push, push_number};
 use crate::mark::push_mark;
 use crate::shown::{End, Label, Shown};
@@ -142,7 +143,11 @@ pub fn transcript<B: Block, C, I>(
     ensures { IfOk result (λ text. text.items
         ≡ transcript B.header.height labels.now entries.now databases.now (ending_of end.entry)) }
 {
-    let lines = Lines { alloc, labels };
+    let labels = Labels::new(alloc, labels)?;
+    let lines = Lines {
+        alloc,
+        labels: &labels,
+    };
     let mut text = Vec::new(alloc);
     push_entries(lines, &mut text, entries)?;
     push_databases(lines, &mut text, databases)?;
@@ -164,7 +169,11 @@ pub fn script_line(alloc: Global, number: u64) -> Result<Vec<u8>, OutOfMemory>
     ensures { IfOk result (λ text. text.items ≡ script_line number) }
 {
     let mut text = Vec::new(alloc);
-    let lines = Lines { alloc, labels: &[] };
+    let labels = Labels::new(alloc, &[])?;
+    let lines = Lines {
+        alloc,
+        labels: &labels,
+    };
     lines.number(&mut text, "script", number)?;
     Ok(text)
 }

@@ -3,7 +3,7 @@ use Rattle.std.specs.List.{Contains}
 use Rattle.std.specs.BTreeMap.{get}
 use Rattle.std.proofs.lemmas.List.Elements.{All-weaker}
 use Rattle.stateful_types.specs.declared.digest.Digest.{Digest}
-use Rattle.stateful_actor.specs.Index.{digest_cmp}
+use Rattle.stateful_types.specs.Digest.{digest_cmp}
 use Rattle.stateful_actor.specs.declared.cache.Cached.{Cached}
 use Rattle.stateful_actor.proofs.CodeIndex.{within, found_at}
 use Rattle.stateful_actor.proofs.cache.Cache.find.Goals as goal

@@ -1,6 +1,7 @@
 use Rattle.std.proofs.Common.{◌≡◌, List, ℕ, Some, length, ◌∙◌, sym, subst}
 use Rattle.std.specs.BTreeMap.{Updates}
-use Rattle.stateful_actor.specs.Index.{IsIndex, digest_cmp}
+use Rattle.stateful_types.specs.Digest.{digest_cmp}
+use Rattle.stateful_actor.specs.Index.{IsIndex}
 use Rattle.stateful_actor.specs.declared.cache.Cached.{Cached}
 use Rattle.stateful_actor.proofs.CodeIndex.{IsIndex-push, IsIndex-same}
 use Rattle.stateful_actor.proofs.cache.Cache.insert.Goals as goal
