@@ -51,7 +51,7 @@ module _ {B R U H : Type 0} (w : Workings B R H U) (before mid now : ℕ → ℕ
   pub FaultsBarrier-since : (number : ℕ) (f : Fault) → FaultsBarrier w mid now new number f → FaultsBarrier w before now new number f
   FaultsBarrier-since number OutOfMemory h = tt
   FaultsBarrier-since number Exhausted h = h
-  FaultsBarrier-since number (DatabaseFault i given) h = HasCounted-since i given _ h
+  FaultsBarrier-since number (DatabaseFault i given) h = (HasCounted-since i given _ h.0, h.1)
   FaultsBarrier-since number f h = absurd h
 
 module _ {B R U H : Type 0} (w : Workings B R H U) (run_count : R → ℕ) (hook_count : H → ℕ) (store : ℕ → Option (Named B)) (old : Moment w) (core : Core B R H U) (members : w.kind.Members) (before now : Tally) where

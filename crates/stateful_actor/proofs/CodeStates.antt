@@ -13,6 +13,7 @@ use Rattle.stateful_actor.specs.Workings.{Workings, Point}
 use Rattle.stateful_actor.specs.Moments.{Moment}
 use Rattle.stateful_actor.specs.Cut.{IsRootOf}
 use Rattle.stateful_actor.specs.Finalizing.{Moves, BeginsIfNone}
+use Rattle.stateful_actor.specs.Counters.{IsLast}
 use Rattle.stateful_actor.specs.Errors.{fault_of_set}
 use Rattle.stateful_actor.specs.Causes.{HasCounted, FaultsApply, FaultsBarrier, FaultsFlush, KeepsStates, LeavesStates}
 use Rattle.stateful_actor.specs.declared.cache.Cached.{Cached}
@@ -25,15 +26,15 @@ converted P (Err y) e made p = subst P (sym made) p
 
 module _ {B R U H : Type 0} (w : Workings B R H U) (before now : ℕ → ℕ) (new : w.kind.Members) (e : SetError) where
   -- a set failed at its finalize
-  pub fault_finalizing : (number : ℕ) → (e ≡ set.Lost → ⊥) → (e ≡ set.Exhausted → ⊥)
+  pub fault_finalizing : (number : ℕ) → (IsLast number → ⊥) → (e ≡ set.Lost → ⊥) → (e ≡ set.Exhausted → ⊥)
       → ((n : ℕ) (k : DbCall) → e ≡ set.DatabaseFault n k → HasCounted w before now new n k call.Finalize)
       → FaultsBarrier w before now new number (fault_of_set e)
-  fault_finalizing number lost exhausted fault = barrier e refl
+  fault_finalizing number left lost exhausted fault = barrier e refl
     where
       barrier : (f : SetError) → e ≡ f → FaultsBarrier w before now new number (fault_of_set f)
       barrier set.Lost is = absurd (lost is)
       barrier set.Exhausted is = absurd (exhausted is)
-      barrier (set.DatabaseFault n k) is = fault n k is
+      barrier (set.DatabaseFault n k) is = (fault n k is, left)
       barrier set.OutOfMemory is = tt
 
   -- a set failed at a flush of the database of this number

@@ -1,5 +1,5 @@
 -- Why a task isn't done, and what a fault leaves of the databases.
-use Rattle.std.specs.Prelude.{◌≡◌, ◌<◌, ◌-◌, ◌^◌, ◌⊎◌, ◌∷◌, ℕ, Option, Some, None, List, slice_get}
+use Rattle.std.specs.Prelude.{◌≡◌, ◌<◌, ◌⊎◌, ◌∷◌, ℕ, Option, Some, None, List, slice_get}
 use Rattle.stateful_types.specs.Names.{Named}
 use Rattle.stateful_types.specs.Causes.{Rose}
 use Rattle.stateful_types.specs.Anchor.{anchor_by}
@@ -14,6 +14,7 @@ use Rattle.stateful_db.specs.declared.database.InitError.{InitError}
 use Rattle.stateful_db.specs.declared.database.InitError.TheVariants as init
 use Rattle.stateful_actor.specs.Workings.{Workings, Point}
 use Rattle.stateful_actor.specs.Moments.{Moment}
+use Rattle.stateful_actor.specs.Counters.{IsLast}
 use Rattle.stateful_actor.specs.Cut.{IsRootOf}
 use Rattle.stateful_actor.specs.Running.{IsInTable}
 use Rattle.stateful_actor.specs.Restarting.{start_height}
@@ -37,10 +38,6 @@ pub record Tally : Type 0 where
 
 abbrev pub tally : ℕ → (ℕ → ℕ) → Tally
 tally application databases = record { application = application; databases = databases }
-
--- the number is the last one, and isn't given out
-abbrev pub IsLast : ℕ → Type 0
-IsLast n = n ≡ 2 ^ 64 - 1
 
 -- no number was left to be drawn
 abbrev pub FaultsDraw : ℕ → Fault → Type 0
@@ -88,14 +85,15 @@ module _ {B R U H : Type 0} (w : Workings B R H U) where
   FaultsBatches m next Failed = w.kind.point m ≡ None
   FaultsBatches m next f = ⊥
 
-  -- the application didn't start a run: its count rose, or no batches were made
+  -- the application didn't start a run: its count rose with the batches, or no batches were made
   abbrev pub FaultsProcess : (rose : Type 0) → w.kind.Members → w.Ids → Fault → Type 0
-  FaultsProcess rose m next Application = rose
+  FaultsProcess rose m next Application = rose × (w.kind.Spent next → ⊥)
   FaultsProcess rose m next f = FaultsBatches m next f
 
   -- no run was started: no number was left for its job, or as above
   abbrev pub FaultsRun : (rose : Type 0) → ℕ → w.kind.Members → w.Ids → Fault → Type 0
   FaultsRun rose job m next Exhausted = IsLast job ⊎ w.kind.Spent next
+  FaultsRun rose job m next Application = rose × (w.kind.Spent next → ⊥) × (IsLast job → ⊥)
   FaultsRun rose job m next f = FaultsProcess rose m next f
 
   -- each database that is here has its part of the states before
@@ -125,11 +123,11 @@ module _ {B R U H : Type 0} (w : Workings B R H U) where
     FaultsAdvance rose m Application = rose
     FaultsAdvance rose m f = FaultsApply m f
 
-    -- no barrier has begun: no number was left for it, or a database failed
+    -- no barrier has begun: no number was left for it, or one was, and a database failed
     abbrev pub FaultsBarrier : ℕ → Fault → Type 0
     FaultsBarrier number OutOfMemory = Unit {0}
     FaultsBarrier number Exhausted = IsLast number
-    FaultsBarrier number (DatabaseFault i given) = HasCounted i given call.Finalize
+    FaultsBarrier number (DatabaseFault i given) = HasCounted i given call.Finalize × (IsLast number → ⊥)
     FaultsBarrier number f = ⊥
 
     -- The next block isn't final: no number was left for a barrier that was to begin, or for the job of the hook that the
@@ -137,7 +135,7 @@ module _ {B R U H : Type 0} (w : Workings B R H U) where
     -- application's count rose.
     abbrev pub FaultsFinalize : (rose : Type 0) → Named B → Core B R H U → w.kind.Members → Fault → Type 0
     FaultsFinalize rose b core m Exhausted = ((core.barrier ≡ None) × IsLast core.next_barrier) ⊎ (IsLast core.next_job × ((hook : H) × IsLeftBehind w b (Pending hook) new))
-    FaultsFinalize rose b core m (DatabaseFault i given) = HasCounted i given call.Apply ⊎ ((core.barrier ≡ None) × HasCounted i given call.Finalize)
+    FaultsFinalize rose b core m (DatabaseFault i given) = HasCounted i given call.Apply ⊎ ((core.barrier ≡ None) × HasCounted i given call.Finalize × (IsLast core.next_barrier → ⊥))
     FaultsFinalize rose b core m f = FaultsAdvance rose m f
 
     -- a flush wasn't done: the database failed, or this token isn't one of the active barrier's without an answer

@@ -9,6 +9,7 @@ use Rattle.stateful_history.specs.declared.mark.Mark.{Mark}
 use Rattle.stateful_history.specs.declared.mark.Mark.TheVariants.{Asked, Verdict, BarrierBegun, BarrierDone, Acknowledged}
 use Rattle.stateful_actor.specs.Workings.{Workings}
 use Rattle.stateful_actor.specs.Moments.{Moment, moment}
+use Rattle.stateful_actor.specs.Counters.{IsLast}
 use Rattle.stateful_actor.specs.declared.tables.Active.{Active}
 use Rattle.stateful_actor.specs.declared.tables.Core.{Core}
 
@@ -29,9 +30,9 @@ module _ {B R H U : Type 0} (old new : Core B R H U) (before now : List (Mark B)
   abbrev pub Tells : ℕ → Bool → Type 0
   Tells ticket valid = (new ≡ old) × (now ≡ before ++ Verdict ticket valid ∷ [])
 
-  -- a block is fetched for a request
+  -- a block is fetched for a request, under the next number
   abbrev pub Asks : ℕ → Digest → Type 0
-  Asks ticket digest = (new ≡ record old { next_fetch = old.next_fetch + 1 }) × (now ≡ before ++ Asked old.next_fetch (Some ticket) digest ∷ [])
+  Asks ticket digest = (new ≡ record old { next_fetch = old.next_fetch + 1 }) × (now ≡ before ++ Asked old.next_fetch (Some ticket) digest ∷ []) × (IsLast old.next_fetch → ⊥)
 
   -- the receipt of a redelivered block is held behind the others of its height
   abbrev pub HoldsReceipt : ℕ → ℕ → Type 0
@@ -69,6 +70,7 @@ module _ {B R U H : Type 0} (w : Workings B R H U) (old new : Moment w) where
     pub next : new.next ≡ old.next
     pub active : Active
     pub number : active.number ≡ old.core.next_barrier
+    pub number_left : IsLast old.core.next_barrier → ⊥
     pub height : active.height.0 ≡ old.core.durability.applied
     pub count : length active.barrier ≡ w.kind.count
     pub handles : (i : ℕ) → i < w.kind.count → open_at active.barrier i ≡ Some (record { place = w.kind.place old.members i })

@@ -10,6 +10,7 @@ use Rattle.stateful_history.specs.declared.mark.Mark.TheVariants.{Began, Applied
 use Rattle.stateful_history.specs.declared.mark.JobKind.TheVariants.{Hook}
 use Rattle.stateful_actor.specs.Workings.{Workings, Point}
 use Rattle.stateful_actor.specs.Moments.{Moment}
+use Rattle.stateful_actor.specs.Counters.{IsLast}
 use Rattle.stateful_actor.specs.Cut.{IsCutTo, IsRootOf}
 use Rattle.stateful_actor.specs.Effects.{BeginsBarrier, with_receipt}
 use Rattle.stateful_actor.specs.declared.tables.Core.{Core}
@@ -66,6 +67,7 @@ module _ {B R U H : Type 0} (w : Workings B R H U) (t : ℕ) (b : Named B) where
   Observes (Pending hook) old new before now =
       (new ≡ record old { front = Some (record { job = old.next_job; ticket = t; block = b; hook = hook }); next_job = old.next_job + 1 })
       × (now ≡ before ++ Started old.next_job Hook b.digest ∷ [])
+      × (IsLast old.next_job → ⊥)
 
   -- the next block is final
   pub record Finalizes (old new : Moment w) : Type 0 where

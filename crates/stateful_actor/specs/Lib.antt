@@ -13,6 +13,7 @@ pub mod Stands
 pub mod Restarting
 pub mod Entering
 pub mod Judging
+pub mod Counters
 pub mod Effects
 pub mod Starting
 pub mod Ending

@@ -68,6 +68,7 @@ fn begin<A: Application>(
     requires { IsAtHand anchor cache.now parent.now.digest }
     ensures ok { IfOk result (λ batches. IsOver (workings A.Block.header A.meaning A.Databases.kind A.runs A.hooks A.Databases.shows) anchor.digest cache.now (A.Databases.members databases.old) (A.Databases.next databases.old) (A.Databases.next databases.new) (λ q c. A.Databases.opened batches ((A.Databases.next databases.old, A.Databases.kind.begun q.1) ∷ q ∷ c)) parent.now.digest) }
     ensures members { A.Databases.members databases.new ≡ A.Databases.members databases.old }
+    ensures within { OnOk result (A.Databases.kind.Spent (A.Databases.next databases.old) → ⊥) }
     ensures keeps { (c : List (A.Databases.Ids × A.Databases.States)) → A.Databases.kind.issued (A.Databases.next databases.old) c → A.Databases.kind.issued (A.Databases.next databases.new) c }
     ensures fault { IfErr result (FaultsBatches (workings A.Block.header A.meaning A.Databases.kind A.runs A.hooks A.Databases.shows) (A.Databases.members databases.old) (A.Databases.next databases.old)) }
     ensures counts { (n : ℕ) → A.Databases.counted databases.new n ≡ A.Databases.counted databases.old n }
@@ -110,6 +111,7 @@ fn start<A: Application>(
     requires { IsAtHand anchor core.now.cache parent.digest }
     ensures ok { IfOk result (λ run. IsOver (workings A.Block.header A.meaning A.Databases.kind A.runs A.hooks A.Databases.shows) anchor.digest core.now.cache (A.Databases.members databases.old) (A.Databases.next databases.old) (A.Databases.next databases.new) (λ q c. A.runs run Candidate block.now.block (A.Databases.next databases.old) (q ∷ c)) parent.digest) }
     ensures members { A.Databases.members databases.new ≡ A.Databases.members databases.old }
+    ensures within { OnOk result (A.Databases.kind.Spent (A.Databases.next databases.old) → ⊥) }
     ensures keeps { (c : List (A.Databases.Ids × A.Databases.States)) → A.Databases.kind.issued (A.Databases.next databases.old) c → A.Databases.kind.issued (A.Databases.next databases.new) c }
     ensures fault { IfErr result (FaultsProcess (workings A.Block.header A.meaning A.Databases.kind A.runs A.hooks A.Databases.shows) (Rose (A.count application.old) (A.count application.new)) (A.Databases.members databases.old) (A.Databases.next databases.old)) }
     ensures counts { (n : ℕ) → A.Databases.counted databases.new n ≡ A.Databases.counted databases.old n }

@@ -151,6 +151,7 @@ pub trait ManagedDb: Faulty + Sized + Drop {
     fn draw(&mut self) -> Result<u64, Exhausted>
         ensures id { IfOk result (λ n. (n ≡ next self.old) × (next self.new ≡ next self.old + 1)) }
         ensures exhausted { IfErr result (λ _. (2 ^ 64 - 1 ≤ next self.old) × (next self.new ≡ next self.old)) }
+        ensures within { IfOk result (λ n. n < 2 ^ 64 - 1) }
         ensures standing { standing self.new ≡ standing self.old }
         ensures count { Self.count self.new ≡ Self.count self.old };
 

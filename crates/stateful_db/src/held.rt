@@ -232,6 +232,7 @@ fn begin<D: ManagedDb>(database: &mut D) -> Result<D::Unmerkleized, SetError>
     ensures standing { D.standing database.new ≡ D.standing database.old }
     ensures count { D.count database.new ≡ D.count database.old }
     ensures exhausted { IsErrOf result SetError.Exhausted → 2 ^ 64 - 1 ≤ D.next database.old }
+    ensures within { OnOk result (2 ^ 64 - 1 ≤ D.next database.old → ⊥) }
     ensures lost { IsErrOf result SetError.Lost → ⊥ }
     ensures fault { (n : ℕ) (k : DbCall) → IsErrOf result (SetError.DatabaseFault n k) → ⊥ }
 {
@@ -254,6 +255,7 @@ fn fork<D: ManagedDb>(database: &mut D, parent: &D::Merkleized) -> Result<D::Unm
     ensures standing { D.standing database.new ≡ D.standing database.old }
     ensures count { D.count database.new ≡ D.count database.old }
     ensures exhausted { IsErrOf result SetError.Exhausted → 2 ^ 64 - 1 ≤ D.next database.old }
+    ensures within { OnOk result (2 ^ 64 - 1 ≤ D.next database.old → ⊥) }
     ensures lost { IsErrOf result SetError.Lost → ⊥ }
     ensures fault { (n : ℕ) (k : DbCall) → IsErrOf result (SetError.DatabaseFault n k) → ⊥ }
 {

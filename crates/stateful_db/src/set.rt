@@ -119,6 +119,7 @@ pub trait DatabaseSet: Sized {
         ensures keeps { (c : List (Self.Ids × Self.States)) → kind.issued (next self.old) c → kind.issued (next self.new) c }
         ensures lost { IsErrOf result SetError.Lost ↔ (kind.point (members self.old) ≡ None) }
         ensures exhausted { IsErrOf result SetError.Exhausted → kind.Spent (next self.old) }
+        ensures within { OnOk result (kind.Spent (next self.old) → ⊥) }
         ensures fault { (n : ℕ) (k : DbCall) → IsErrOf result (SetError.DatabaseFault n k) → ⊥ }
         ensures counts { (n : ℕ) → counted self.new n ≡ counted self.old n };
 
@@ -129,6 +130,7 @@ pub trait DatabaseSet: Sized {
         ensures keeps { (c : List (Self.Ids × Self.States)) → kind.issued (next self.old) c → kind.issued (next self.new) c }
         ensures lost { IsErrOf result SetError.Lost ↔ (kind.point (members self.old) ≡ None) }
         ensures exhausted { IsErrOf result SetError.Exhausted → kind.Spent (next self.old) }
+        ensures within { OnOk result (kind.Spent (next self.old) → ⊥) }
         ensures fault { (n : ℕ) (k : DbCall) → IsErrOf result (SetError.DatabaseFault n k) → ⊥ }
         ensures counts { (n : ℕ) → counted self.new n ≡ counted self.old n };
 

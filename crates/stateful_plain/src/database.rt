@@ -138,6 +138,7 @@ impl ManagedDb for Plain {
     fn draw(&mut self) -> Result<u64, Exhausted>
         ensures id { IfOk result (λ n. (n ≡ self.old.medium.next) × (self.new.medium.next ≡ self.old.medium.next + 1)) }
         ensures exhausted { IfErr result (λ _. (2 ^ 64 - 1 ≤ self.old.medium.next) × (self.new.medium.next ≡ self.old.medium.next)) }
+        ensures within { IfOk result (λ n. n < 2 ^ 64 - 1) }
         ensures standing { standing_of self.new ≡ standing_of self.old }
         ensures count { self.new.medium.calls.faults ≡ self.old.medium.calls.faults }
         ensures calls { self.new.medium.calls ≡ self.old.medium.calls }

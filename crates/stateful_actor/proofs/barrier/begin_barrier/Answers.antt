@@ -14,4 +14,4 @@ returns-in_err-barrier-clause-fault g c =
     let e = c.in_err-barrier.field-0.0 in
     let failed = c.in_err-barrier.ensures in
     converted (FaultsBarrier w before now new c.args.core.now.next_barrier) c.from_residual.result (fault_of_set e) c.from_residual.ensures.1
-    (fault_finalizing w before now new e c.args.core.now.next_barrier (λ is. failed.lost (ap Err is)) (λ is. failed.exhausted (ap Err is)) (λ n k is. let f = failed.fault n k (ap Err is) in (f.0, f.1, f.2, f.3)))
+    (fault_finalizing w before now new e c.args.core.now.next_barrier c.if-number.false (λ is. failed.lost (ap Err is)) (λ is. failed.exhausted (ap Err is)) (λ n k is. let f = failed.fault n k (ap Err is) in (f.0, f.1, f.2, f.3)))
