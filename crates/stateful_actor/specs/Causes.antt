@@ -85,16 +85,16 @@ module _ {B R U H : Type 0} (w : Workings B R H U) where
   FaultsBatches m next Failed = w.kind.point m ≡ None
   FaultsBatches m next f = ⊥
 
-  -- the application didn't start a run: its count rose with the batches, or no batches were made
+  -- the application didn't start a run: it had the batches, and its count rose; or no batches were made
   abbrev pub FaultsProcess : (rose : Type 0) → w.kind.Members → w.Ids → Fault → Type 0
   FaultsProcess rose m next Application = rose × (w.kind.Spent next → ⊥)
   FaultsProcess rose m next f = FaultsBatches m next f
 
-  -- no run was started: no number was left for its job, or as above
+  -- no run was started: no number was left for its job; or one was, and as above
   abbrev pub FaultsRun : (rose : Type 0) → ℕ → w.kind.Members → w.Ids → Fault → Type 0
+  FaultsRun rose job m next OutOfMemory = Unit {0}
   FaultsRun rose job m next Exhausted = IsLast job ⊎ w.kind.Spent next
-  FaultsRun rose job m next Application = rose × (w.kind.Spent next → ⊥) × (IsLast job → ⊥)
-  FaultsRun rose job m next f = FaultsProcess rose m next f
+  FaultsRun rose job m next f = FaultsProcess rose m next f × (IsLast job → ⊥)
 
   -- each database that is here has its part of the states before
   abbrev pub KeepsStates : (old new : w.kind.Members) → Type 0
@@ -118,9 +118,9 @@ module _ {B R U H : Type 0} (w : Workings B R H U) where
     FaultsApply m (DatabaseFault i given) = HasCounted i given call.Apply
     FaultsApply m f = ⊥
 
-    -- the finalization didn't move the anchor: the application's count rose, or as above
+    -- the finalization didn't move the anchor: the application's count rose before anything was applied, or as above
     abbrev pub FaultsAdvance : (rose : Type 0) → w.kind.Members → Fault → Type 0
-    FaultsAdvance rose m Application = rose
+    FaultsAdvance rose m Application = rose × (new ≡ m)
     FaultsAdvance rose m f = FaultsApply m f
 
     -- no barrier has begun: no number was left for it, or one was, and a database failed
@@ -132,11 +132,12 @@ module _ {B R U H : Type 0} (w : Workings B R H U) where
 
     -- The next block isn't final: no number was left for a barrier that was to begin, or for the job of the hook that the
     -- application has left to do behind the block; a database failed at the apply or where the barrier begins; or the
-    -- application's count rose.
+    -- application's count rose, before anything was applied or behind a barrier that could begin.
     abbrev pub FaultsFinalize : (rose : Type 0) → Named B → Core B R H U → w.kind.Members → Fault → Type 0
     FaultsFinalize rose b core m Exhausted = ((core.barrier ≡ None) × IsLast core.next_barrier) ⊎ (IsLast core.next_job × ((hook : H) × IsLeftBehind w b (Pending hook) new))
     FaultsFinalize rose b core m (DatabaseFault i given) = HasCounted i given call.Apply ⊎ ((core.barrier ≡ None) × HasCounted i given call.Finalize × (IsLast core.next_barrier → ⊥))
-    FaultsFinalize rose b core m f = FaultsAdvance rose m f
+    FaultsFinalize rose b core m Application = rose × ((new ≡ m) ⊎ (core.barrier ≡ None → IsLast core.next_barrier → ⊥))
+    FaultsFinalize rose b core m f = FaultsApply m f
 
     -- a flush wasn't done: the database failed, or this token isn't one of the active barrier's without an answer
     abbrev pub FaultsFlush : Option Active → ℕ → ℕ → Fault → Type 0
@@ -155,10 +156,11 @@ module _ {B R U H : Type 0} (w : Workings B R H U) where
       pub within : i < w.kind.count
       pub not_opened : w.kind.NotOpened crashed (Some (w.meaning.targets block.block)) i (Rose (before i) (now i)) why new
 
-    -- the store has no block at the height that is to be opened, or a database doesn't open
+    -- the store has no block at the height that is to be opened, and each database is closed as the crash left it; or a
+    -- database doesn't open
     abbrev pub FaultsOpening : Fault → Type 0
     FaultsOpening OutOfMemory = Unit {0}
-    FaultsOpening (MissingBlock height) = (height.0 ≡ start_height floor) × (store height.0 ≡ None)
+    FaultsOpening (MissingBlock height) = (height.0 ≡ start_height floor) × (store height.0 ≡ None) × w.kind.Crashed old keep new
     FaultsOpening (Database i) = FailsToOpen i init.Database
     FaultsOpening (TargetMismatch i expected recovered) = FailsToOpen i (init.TargetMismatch expected recovered)
     FaultsOpening f = ⊥
