@@ -214,7 +214,7 @@ module _ {B C I R U H : Type 0} (w : Workings B R H U) (laws : Laws w.kind) (sto
           opened = λ a found. absurd (opens-none new.marks a opens_none found);
         }
 
-    entered-start : (floor : Floor) (keep : List ℕ) → old.core.anchor ≡ None → Reopens w floor store old mid → Sound w.kind mid.members w.header mid.core → HasEntered (Restart floor keep)
+    entered-start : (floor : Floor) (keep : List ℕ) → old.core.anchor ≡ None → Reopens w floor keep store old mid → Sound w.kind mid.members w.header mid.core → HasEntered (Restart floor keep)
     entered-start floor keep is reopens sound_mid =
         let state : w.States = reopens.opening.at.1 in
         let opens_one : opens new.marks ≡ true = opens-settles w laws stored store base (Came (Restart floor keep) ∷ p) mid new settles ∙ ap (λ (ms : List (Mark B)). opens ms) (reopens.marks ∙ ap (λ (ms : List (Mark B)). ms ++ Opened (anchor_by w.header reopens.block) ∷ []) none) in
@@ -237,5 +237,5 @@ module _ {B C I R U H : Type 0} (w : Workings B R H U) (laws : Laws w.kind) (sto
     -- an event was taken in
     pub Entered : (anchor : Option Anchor) → old.core.anchor ≡ anchor → (event : Event B C I) (done : Task B) → may_come w.kind.count p event ≡ true → TrueNames (setting w stored) (after_entry p event new.marks) → IsTaskAt w.header old.core store anchor event done → Does w store done old mid → Sound w.kind mid.members w.header mid.core → HasEntered event
     Entered (Some anchor) is event done may names asked does sound_mid = entered-up event done anchor is may names asked does sound_mid
-    Entered None is (Restart floor keep) (task.Start f k) may names asked does sound_mid = entered-start floor keep is (subst (λ (x : Floor). Reopens w x store old mid) asked.0 does) sound_mid
+    Entered None is (Restart floor keep) (task.Start f k) may names asked does sound_mid = entered-start floor keep is (subst (λ (l : List ℕ). Reopens w floor l store old mid) asked.1 (subst (λ (x : Floor). Reopens w x k store old mid) asked.0 does)) sound_mid
     Entered None is event other may names asked does sound_mid = absurd asked

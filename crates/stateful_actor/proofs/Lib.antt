@@ -42,3 +42,4 @@ pub mod CodeFinalizing
 pub mod CodeStates
 pub mod CodeCauses
 pub mod Refused
+pub mod Apart

@@ -47,7 +47,7 @@ only-root s (is_tip {tip = tip} e) root at none starts = let same : Some tip ≡
 only-root s (kept m k l parent) root at none starts = cc
 only-root s (stays o m k old l parent) root at none starts = absurd (starts o)
 
-module _ {B C I R U H : Type 0} (w : Workings B R H U) (laws : Laws w.kind) (stored store : ℕ → Option (Named B)) (base : w.States) (p : Past B C I) (old new : Moment w) (floor : Floor) (keep : List ℕ) (is_down : old.core.anchor ≡ None) (opens : Reopens w floor store old new) (works : Works w stored base p old.core old.members old.next store) where
+module _ {B C I R U H : Type 0} (w : Workings B R H U) (laws : Laws w.kind) (stored store : ℕ → Option (Named B)) (base : w.States) (p : Past B C I) (old new : Moment w) (floor : Floor) (keep : List ℕ) (is_down : old.core.anchor ≡ None) (opens : Reopens w floor keep store old new) (works : Works w stored base p old.core old.members old.next store) where
   abbrev root : Anchor
   root = anchor_by w.header opens.block
 

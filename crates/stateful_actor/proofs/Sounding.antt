@@ -511,8 +511,8 @@ module _ {B R U H : Type 0} (w : Workings B R H U) (laws : Laws w.kind) (old new
         by_moved (Done ended) leaves = Sound-tables (ap (λ (c : Core B R H U). c.anchor) leaves.0) (ap (λ (c : Core B R H U). c.durability) leaves.0) (ap (λ (c : Core B R H U). c.barrier) leaves.0) (ap (λ (c : Core B R H U). c.front) leaves.0) s
 
   -- the databases were opened
-  Sound-opened : (floor : Floor) (store : ℕ → Option (Named B)) → Reopens w floor store old new → Sound w.kind new.members w.header new.core
-  Sound-opened floor store o anchor is =
+  Sound-opened : (floor : Floor) (keep : List ℕ) (store : ℕ → Option (Named B)) → Reopens w floor keep store old new → Sound w.kind new.members w.header new.core
+  Sound-opened floor keep store o anchor is =
       let root : Anchor = anchor_by w.header o.block in
       let at : Some anchor ≡ Some root = sym is ∙ ap (λ (c : Core B R H U). c.anchor) o.starts.core in
       let same : anchor ≡ root = cc in
@@ -539,4 +539,4 @@ module _ {B R U H : Type 0} (w : Workings B R H U) (laws : Laws w.kind) (old new
       by_job (inl hook) = Sound-hook does.1.0 j hook s
       by_job (inr run) = Sound-run does.1.0 anchor j run s
   Sound-does store (task.Flush number index) may does s = Sound-flushed number index does s
-  Sound-does store (task.Start floor keep) may does s = Sound-opened floor store does
+  Sound-does store (task.Start floor keep) may does s = Sound-opened floor keep store does

@@ -41,7 +41,7 @@ module _ {B R U H : Type 0} (w : Workings B R H U) (store : ℕ → Option (Name
   Does (Finalize ticket b) old new = Finalizes w ticket b old new
   Does (Turn anchor job) old new = TurnsJob w old.core new.core old.marks new.marks anchor old.members job × KeepsDatabases old new
   Does (Flush number index) old new = Flushes w old new number index
-  Does (Start floor keep) old new = Reopens w floor store old new
+  Does (Start floor keep) old new = Reopens w floor keep store old new
 
   -- a task is done, and then the machine settles
   pub record Serves (done : Task B) (old new : Moment w) : Type 0 where

@@ -1,5 +1,5 @@
 -- Where a restart opens, and what it leaves of the machine.
-use Rattle.std.specs.Prelude.{◌≡◌, ◌++◌, ◌∷◌, ℕ, Option, Some, None, []}
+use Rattle.std.specs.Prelude.{◌≡◌, ◌++◌, ◌∷◌, ℕ, List, Option, Some, None, []}
 use Rattle.stateful_types.specs.Names.{Named}
 use Rattle.stateful_types.specs.Anchor.{anchor_by}
 use Rattle.stateful_types.specs.declared.anchor.Anchor.{Anchor}
@@ -39,10 +39,13 @@ pub record StartsAt {B R H U : Type 0} (anchor : Anchor) (old new : Core B R H U
   }
   pub runs : new.runs.items ≡ []
 
--- the databases were opened at the store's block of the height that was processed last
-pub record Reopens {B R U H : Type 0} (w : Workings B R H U) (floor : Floor) (store : ℕ → Option (Named B)) (old new : Moment w) : Type 0 where
+-- the databases were opened behind a crash, at the store's block of the height that was processed last
+pub record Reopens {B R U H : Type 0} (w : Workings B R H U) (floor : Floor) (keep : List ℕ) (store : ℕ → Option (Named B)) (old new : Moment w) : Type 0 where
   pub block : Named B
   pub stored : store (start_height floor) ≡ Some block
+  pub crashed : w.kind.Members
+  pub is_crashed : w.kind.Crashed old.members keep crashed
+  pub reopened : w.kind.Reopened crashed (Some (w.meaning.targets block.block)) new.members
   pub opening : IsOpening w.kind new.next new.members (w.meaning.targets block.block)
   pub starts : StartsAt (anchor_by w.header block) old.core new.core
   pub marks : new.marks ≡ old.marks ++ Opened (anchor_by w.header block) ∷ []

@@ -52,7 +52,7 @@ module _ {B R H U : Type 0} (header : Header B) (core : Core B R H U) (stored : 
     abbrev pub IsDoneFor : Judgement → Task B → Type 0
     IsDoneFor Valid (task.Answer u valid) = (u ≡ t) × (valid ≡ true)
     IsDoneFor Invalid (task.Answer u valid) = (u ≡ t) × (valid ≡ false)
-    IsDoneFor Waits task.Wait = Unit {0}
+    IsDoneFor Waits task.Wait = IsAtHand anchor core.cache (header.parent ancestry.first.block)
     IsDoneFor Open other = IsAtHand anchor core.cache (header.parent ancestry.first.block) × IsRunOnParent anchor t ancestry (header.parent ancestry.first.block) other
     IsDoneFor judgement other = ⊥
 

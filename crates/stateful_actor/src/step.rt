@@ -127,6 +127,7 @@ impl<A: Application + Drop> Stateful<A> {
         // What the event asks for was done, with these marks. A refusal for the event's form, or by the anchor, has its cause.
         ensures does { IfOk result (λ marks. let w = workings A.Block.header A.meaning A.Databases.kind A.runs A.hooks A.Databases.shows in IsStep w (S.stored store.old) event (moment w self.old.core (A.Databases.members databases.old) (A.Databases.next databases.old) []) (moment w self.new.core (A.Databases.members databases.new) (A.Databases.next databases.new) marks.items)) }
         ensures refuses { IfErr result (λ e. is_refusal e ≡ true → RefusesAt A.Block.header self.old.core (S.stored store.old) self.old.core.anchor event e) }
+        ensures refused_so { (p : Past A.Block A.Context A.Input) (e : StepError) → RegisterStands A.Databases.kind.count p self.old.register → may_come A.Databases.kind.count p event ≡ true → self.old.failed ≡ false → is_refusal e ≡ true → RefusesAt A.Block.header self.old.core (S.stored store.old) self.old.core.anchor event e → IsErrOf result e ⊎ IsErrOf result StepError.OutOfMemory }
 
         // An event that names work that isn't live is refused as such, and no other; then nothing has changed.
         ensures bad { (p : Past A.Block A.Context A.Input) → RegisterStands A.Databases.kind.count p self.old.register → (IsErrOf result StepError.BadEvent ↔ ((may_come A.Databases.kind.count p event ≡ false) × ((self.old.failed ≡ false) ⊎ (is_restart event ≡ true)))) }

@@ -14,10 +14,16 @@ returns-in_err-push-clause-err_held g c =
 
 pub returns-clause-ok : goal.returns-clause-ok
 returns-clause-ok g c =
+    let kind = g.A.Databases.DatabaseSet.kind in
+    let members = g.A.Databases.DatabaseSet.members in
+    let targets : c.sync_targets-targets.result ≡ g.A.Application.meaning.targets c.in-Some.block.block = c.sync_targets-targets.ensures ∙ ap g.A.Application.meaning.targets c.inner.ensures in
     record {
       block = c.in-Some.block;
       stored = ap (g.S.BlockStore.stored c.args.store.now) (sym c.start_of-height.ensures) ∙ sym c.in_ok-block.ensures ∙ c.in-Some.is;
-      opening = c.in_ok-init.ensures.opening c.crash.ensures.shut _ (ap Some (c.sync_targets-targets.ensures ∙ ap g.A.Application.meaning.targets c.inner.ensures));
+      crashed = members c.crash.result;
+      is_crashed = subst (λ m. kind.Crashed m c.args.keep.now (members c.crash.result)) c.take.ensures.taken c.crash.ensures.crashed;
+      reopened = rw (← targets) (c.in_ok-init.ensures.ok c.crash.ensures.shut);
+      opening = c.in_ok-init.ensures.opening c.crash.ensures.shut _ (ap Some targets);
       starts = subst (λ (a : Anchor). StartsAt a c.args.core.now c.start_at.new.core) c.from_block-anchor.ensures c.start_at.ensures;
       marks = c.in_ok-push.ensures.items ∙ ap (λ (a : Anchor). c.args.marks.now.items ++ Opened a ∷ []) c.from_block-anchor.ensures;
     }

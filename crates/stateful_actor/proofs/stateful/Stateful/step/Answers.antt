@@ -1,7 +1,10 @@
-use Rattle.std.proofs.Common.{rules, refl, ◌≡◌, true, sym, ◌∙◌, false, inl, inr, None, ◌≢◌}
+use Rattle.std.proofs.Common.{rules, refl, ◌≡◌, true, sym, ◌∙◌, false, inl, inr, None, ◌≢◌, [], Err, ap}
 use Rattle.stateful_actor.specs.Stepping.{changes_nothing}
 use Rattle.stateful_actor.specs.Refusing.{failed_up}
 use Rattle.stateful_actor.proofs.CodeCauses.{is_true, IsCause-anchor}
+use Rattle.stateful_actor.specs.Workings.{workings}
+use Rattle.stateful_actor.specs.Moments.{moment}
+use Rattle.stateful_actor.proofs.Apart.{refused-not_done, refused-cause}
 use Rattle.stateful_actor.proofs.Refused.{HoldsBehind-same}
 use Rattle.stateful_actor.proofs.Stepping.{restart-refused, Sound-working, Stands-faulted, Held-faulted}
 use Rattle.stateful_actor.proofs.stateful.Stateful.step.Goals.{else-self-via-then-self+else-not-is_restart, else-self-via-else-self, then-not-changes_nothing, else-not-changes_nothing}
@@ -95,3 +98,18 @@ pub returns-clause-behind : goal.returns-clause-behind
 returns-clause-behind g c = λ stored base p names working stands up.
     let stood = stands (inl working) in
     c.in-Err.ensures.behind stored base p names (λ same. stood) up
+
+pub returns-in-Ok-clause-refused_so : goal.returns-in-Ok-clause-refused_so
+returns-in-Ok-clause-refused_so g c = λ p e stands may works is refuses.
+    let w = workings g.A.Block.Block.header g.A.Application.meaning g.A.Databases.DatabaseSet.kind g.A.Application.runs g.A.Application.hooks g.A.Databases.DatabaseSet.shows in
+    let old = moment w c.args.self.now.core (g.A.Databases.DatabaseSet.members c.args.databases.now) (g.A.Databases.DatabaseSet.next c.args.databases.now) [] in
+    absurd (refused-not_done w (g.S.BlockStore.stored c.args.store.now) c.args.event e is old refuses _ c.in-Ok.ensures.does)
+
+pub returns-clause-refused_so : goal.returns-clause-refused_so
+returns-clause-refused_so g c = λ p e stands may works is refuses.
+    let w = workings g.A.Block.Block.header g.A.Application.meaning g.A.Databases.DatabaseSet.kind g.A.Application.runs g.A.Application.hooks g.A.Databases.DatabaseSet.shows in
+    let old = moment w c.args.self.now.core (g.A.Databases.DatabaseSet.members c.args.databases.now) (g.A.Databases.DatabaseSet.next c.args.databases.now) [] in
+    elim (refused-cause w (g.S.BlockStore.stored c.args.store.now) c.args.event e is old refuses _ _ c.args.self.now.failed c.args.self.now.register _ _ _ _ p stands may works c.in-Err.error c.in-Err.ensures.cause) [
+      | inl same ↦ inl (ap Err same)
+      | inr out ↦ inr (ap Err out)
+    ]
