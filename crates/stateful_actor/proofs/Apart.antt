@@ -32,13 +32,13 @@ use Rattle.stateful_actor.specs.declared.error.StepError.TheVariants.{NotYet, Sk
 
 module _ {B U : Type 0} (header : Header B) (anchor : Anchor) (cache : List (Cached U)) (stored : ℕ → Option (Named B)) (b : Named B) where
   -- a block that isn't answered at once isn't cached
-  open-out : (j : Judgement) → IsOpen j → IsJudged header anchor cache stored b j → IsIn cache b.digest → ⊥
+  pub open-out : (j : Judgement) → IsOpen j → IsJudged header anchor cache stored b j → IsIn cache b.digest → ⊥
   open-out Waits is judged = judged.0
   open-out Open is judged = judged.0
   open-out j is judged = absurd is
 
   -- nor is it decided
-  open-decided : (P : Digest → Type 0) (j : Judgement) → IsOpen j → IsJudged header anchor cache stored b j → IsDecided header anchor cache stored b P → ⊥
+  pub open-decided : (P : Digest → Type 0) (j : Judgement) → IsOpen j → IsJudged header anchor cache stored b j → IsDecided header anchor cache stored b P → ⊥
   open-decided P Waits is judged (inl at) = let h = at.0 in let l = judged.1 in omega (arith, h, l)
   open-decided P Waits is judged (inr below) = let s = below.1.1 in let n = judged.2 in cc
   open-decided P Open is judged (inl at) = let h = at.0 in let l = judged.1 in omega (arith, h, l)
@@ -63,7 +63,7 @@ module _ {B : Type 0} (header : Header B) (anchor : Anchor) (b : Named B) where
   refused-next (ConflictAtAnchor expected given) r next = let x = r.0 in let n = next.0 in omega (arith, x, n)
   refused-next e r next = absurd r
 
-  past-next : IsPast header anchor b → IsNext header anchor b → ⊥
+  pub past-next : IsPast header anchor b → IsNext header anchor b → ⊥
   past-next (inl below) next = let n = next.0 in omega (arith, below, n)
   past-next (inr at) next = let h = at.0 in let n = next.0 in omega (arith, h, n)
 

@@ -43,3 +43,4 @@ pub mod CodeStates
 pub mod CodeCauses
 pub mod Refused
 pub mod Apart
+pub mod Asked
