@@ -323,15 +323,11 @@ fn state_marks(alloc: Global, block: &Digested<Letter>) -> Result<Vec<Mark<Lette
 }
 
 #[test]
-fn each_mark_has_its_line(rt: HostRuntime) -> Result<(), Fail> {
+fn each_mark_of_a_request_has_its_line(rt: HostRuntime) -> Result<(), Fail> {
     let alloc = rt.alloc();
     let n = block(alloc, b'n', 20)?;
     let labels = vec![in alloc; label(alloc, b"n1", &n)?]?;
-    let entries = vec![in alloc;
-        entry(Event::Stop, request_marks(alloc, &n)?),
-        entry(Event::Stop, job_marks(alloc, n.digest())?),
-        entry(Event::Stop, state_marks(alloc, &n)?),
-    ]?;
+    let entries = vec![in alloc; entry(Event::Stop, request_marks(alloc, &n)?)]?;
     let text = transcript(alloc, &labels, &entries, &[], End::Done)?;
     assert_eq!(rt;
         text.as_slice(),
@@ -348,7 +344,23 @@ answered 9 stage n1
 declined 10
 databases 11
 dropped 12
-#1
+done
+"
+            .as_slice()
+    );
+    Ok(())
+}
+
+#[test]
+fn each_mark_of_a_job_has_its_line(rt: HostRuntime) -> Result<(), Fail> {
+    let alloc = rt.alloc();
+    let n = block(alloc, b'n', 20)?;
+    let labels = vec![in alloc; label(alloc, b"n1", &n)?]?;
+    let entries = vec![in alloc; entry(Event::Stop, job_marks(alloc, n.digest())?)]?;
+    let text = transcript(alloc, &labels, &entries, &[], End::Done)?;
+    assert_eq!(rt;
+        text.as_slice(),
+        b"#0
 started 4 candidate n1
 started 4 finalized n1
 started 4 build n1
@@ -360,7 +372,23 @@ ended 5 missed
 ended 5 cancelled
 ended 5 nothing
 ended 5 hooked
-#2
+done
+"
+            .as_slice()
+    );
+    Ok(())
+}
+
+#[test]
+fn each_mark_of_the_state_has_its_line(rt: HostRuntime) -> Result<(), Fail> {
+    let alloc = rt.alloc();
+    let n = block(alloc, b'n', 20)?;
+    let labels = vec![in alloc; label(alloc, b"n1", &n)?]?;
+    let entries = vec![in alloc; entry(Event::Stop, state_marks(alloc, &n)?)]?;
+    let text = transcript(alloc, &labels, &entries, &[], End::Done)?;
+    assert_eq!(rt;
+        text.as_slice(),
+        b"#0
 opened 20 n1
 converged 20 n1
 began 13 n1
