@@ -2,11 +2,7 @@
 use Rattle.std.proofs.Common.{◌≡◌, ℕ, ◌+◌, ◌≤◌, List, [], ◌∷◌, inl, inr, ap, sym, true, false, arith, Some, subst}
 use Rattle.std.proofs.lemmas.Bool.Decides.{nat_tests}
 use Rattle.stateful_db.specs.Chain.{has_id, IsPoint, AllBelow}
-use Rattle.stateful_db.specs.SingleLaws.{AllBelow-cut}
-
-pub AllBelow-le : (m n : ℕ) (is : List ℕ) → m ≤ n → AllBelow m is → AllBelow n is
-AllBelow-le m n [] e h = tt
-AllBelow-le m n (i ∷ is) e h = (omega arith, AllBelow-le m n is e h.1)
+use Rattle.stateful_db.specs.MemberLaws.{AllBelow-cut, AllBelow-le}
 
 pub AllBelow-drawn : (m n : ℕ) (is : List ℕ) → n ≡ m + 1 → AllBelow m is → AllBelow n (m ∷ is)
 AllBelow-drawn m n is e h = (omega arith, AllBelow-le m n is (omega arith) h)

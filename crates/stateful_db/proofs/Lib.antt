@@ -1,4 +1,4 @@
 pub mod Chains
 pub mod Handles
 pub mod Openings
-pub mod Tokens
+pub mod OpenHandles

@@ -1,5 +1,6 @@
 -- What a medium keeps, and what a database adds to it.
-use Rattle.std.specs.Prelude.{◌≡◌, ℕ, ◌+◌, ◌-◌, ◌≤◌, List, [], ◌∷◌, ◌++◌, ◌⊎◌, length, take, min, max, Option}
+use Rattle.std.specs.Prelude.{◌≡◌, ℕ, ◌+◌, ◌-◌, ◌<◌, ◌≤◌, List, [], ◌∷◌, ◌++◌, ◌⊎◌, length, take, drop, min, max, slice_get, Some}
+use Rattle.stateful_types.specs.declared.target.Target.{Target}
 
 -- The kept checkpoints, oldest first, with the place of the last durable one. Places count the pruned ones too.
 pub record Disk (S : Type 0) : Type 0 where
@@ -17,13 +18,21 @@ module _ {S : Type 0} where
   abbrev pub place : Disk S → ℕ
   place d = d.pruned + length d.older
 
+  -- the checkpoint at this place is kept, and is this state
+  abbrev pub HasAt : Disk S → ℕ → S → Type 0
+  HasAt d k s = (d.pruned ≤ k) × (slice_get (all d) (k - d.pruned) ≡ Some s)
+
   -- one checkpoint more
   abbrev pub applied : Disk S → S → Disk S
   applied d s = record d { older = all d; newest = s }
 
-  -- durable up to this place
+  -- durable up to this place, or further where it was
   abbrev pub flushed : Disk S → ℕ → Disk S
-  flushed d at = record d { durable = at }
+  flushed d at = record d { durable = max at d.durable }
+
+  -- without so many of the oldest checkpoints
+  abbrev pub cut : Disk S → ℕ → Disk S
+  cut d n = record d { older = drop n d.older; pruned = d.pruned + n }
 
   -- a prefix that contains the durable one
   pub record IsCrash (keep : ℕ) (d e : Disk S) : Type 0 where
@@ -41,16 +50,20 @@ module _ {S : Type 0} where
   abbrev pub IsEither : Disk S → Disk S → Disk S → Type 0
   IsEither old new d = (d ≡ old) ⊎ (d ≡ new)
 
-  -- the durable checkpoint is kept, and the newest isn't older
-  pub record IsSound (d : Disk S) : Type 0 where
-    pub kept : d.pruned ≤ d.durable
-    pub within : d.durable ≤ place d
+-- The durable checkpoint is kept and no newer than the newest one. The range of each checkpoint ends behind that of every
+-- earlier one, and doesn't start before it.
+pub record IsSound {S : Type 0} (range_of : S → Target) (d : Disk S) : Type 0 where
+  pub kept : d.pruned ≤ d.durable
+  pub within : d.durable ≤ place d
+  pub ends : (i j : ℕ) (s t : S) → i < j → slice_get (all d) i ≡ Some s → slice_get (all d) j ≡ Some t → (range_of s).end.0 < (range_of t).end.0
+  pub starts : (i j : ℕ) (s t : S) → i < j → slice_get (all d) i ≡ Some s → slice_get (all d) j ≡ Some t → (range_of s).start.0 ≤ (range_of t).start.0
 
--- an open database: the id of the last applied batch (0 after opening), its disk, and the token that is out
+-- an open database: the id of the last applied batch (0 after opening), its disk, and the places of the tokens that are
+-- out, the oldest first
 pub record Standing (S : Type 0) : Type 0 where
   pub id : ℕ
   pub disk : Disk S
-  pub out : Option ℕ
+  pub out : List ℕ
 
 module _ {S : Type 0} where
   -- the id of the last applied batch, and the state

@@ -1,7 +1,7 @@
 -- How a database opens on its medium, and why it doesn't.
-use Rattle.std.specs.Prelude.{◌≡◌, ◌≢◌, ℕ, ◌==◌, ◌⊎◌, length, Option, Some, None, position, slice_get}
+use Rattle.std.specs.Prelude.{◌≡◌, ◌≢◌, ℕ, ◌+◌, ◌≤◌, ◌==◌, ◌⊎◌, length, [], Option, Some, None, position, slice_get, unwrap_or}
 use Rattle.stateful_types.specs.declared.target.Target.{Target}
-use Rattle.stateful_db.specs.Disk.{Disk, Standing, IsOpened, all}
+use Rattle.stateful_db.specs.Disk.{Disk, Standing, IsOpened, all, cut}
 use Rattle.stateful_db.specs.declared.database.InitError.{InitError}
 use Rattle.stateful_db.specs.declared.database.InitError.TheVariants as error
 
@@ -17,7 +17,7 @@ module _ {S T : Type 0} (target_of : S → T) (targeted : T → Target) where
   -- opened at the kept checkpoint of this number: nothing is applied on it yet, and no token is out
   pub record OpensAt (n : ℕ) (d : Disk S) (s : Standing S) : Type 0 where
     pub id : s.id ≡ 0
-    pub out : s.out ≡ None
+    pub out : s.out ≡ []
     pub disk : IsOpened n d s.disk
 
   -- opened at the checkpoint of the expected target, or at the latest
@@ -40,6 +40,25 @@ module _ {S T : Type 0} (target_of : S → T) (targeted : T → Target) where
   FailsToReopen expected d rose error.Database = rose ⊎ HasNone expected d
   FailsToReopen expected d rose (error.TargetMismatch given recovered) = Differs expected d given recovered
   FailsToReopen expected d rose error.OutOfMemory = Unit {0}
+
+  -- the checkpoints speak against an opening, for this reason
+  abbrev pub Refuses : Option T → Disk S → InitError → Type 0
+  Refuses expected d error.Database = HasNone expected d
+  Refuses expected d (error.TargetMismatch given recovered) = Differs expected d given recovered
+  Refuses expected d error.OutOfMemory = ⊥
+
+  -- a kept durable checkpoint has this target
+  pub record KeepsDurable (t : T) (d : Disk S) : Type 0 where
+    pub number : ℕ
+    pub state : S
+    pub found : with_end t d ≡ Some number
+    pub is : Is_at d number state
+    pub target : target_of state ≡ t
+    pub durable : d.pruned + number ≤ d.durable
+
+  -- without the checkpoints that are older than the one of this target
+  abbrev pub pruned_to : T → Disk S → Disk S
+  pruned_to t d = cut d (unwrap_or (with_end t d) 0)
 
 -- a database that doesn't open for this reason, which may be that its count rose, is lost: it failed, or wanted memory
 abbrev pub Loses : InitError → Type 0 → Type 0

@@ -11,12 +11,12 @@ use thiserror::Error;
 #[derive(Clone, Copy, Debug, PartialEq, Eq, Error)]
 pub enum BatchError {
     /// The database is at no state of the batch's chain.
-    #[error("the database is at no state of the batch's chain")]
+    #[error("StaleRead")]
     StaleRead,
     /// The sealed size would be the last number or more.
-    #[error("no number is left")]
+    #[error("Exhausted")]
     Exhausted,
-    #[error("out of memory")]
+    #[error("OutOfMemory")]
     OutOfMemory,
 }
 
@@ -105,10 +105,20 @@ pub trait Unmerkleized: Sized {
     /// Seals every change. `StaleRead` exactly where the database is at no state of the chain, and behind it
     /// `Exhausted` exactly where the end of the sealed state would be the last number or more.
     fn merkleize(self, db: &Self::Db) -> Result<Self::Merkleized, BatchError>
-        ensures ok { IfOk result (λ m. (c : List (ℕ × Self.State)) → shows self c → IsPoint (at db.now) c → sealed m c) }
-        ensures stale { (c : List (ℕ × Self.State)) → shows self c → (IsErrOf result BatchError.StaleRead ↔ (has_id c (at db.now).0 ≡ false)) }
-        ensures exhausted { (p : ℕ × Self.State) (c : List (ℕ × Self.State)) → shows self (p ∷ c) → IsErrOf result BatchError.Exhausted → 2 ^ 64 - 1 ≤ end_of p.1 }
-        ensures within { IfOk result (λ m. (p : ℕ × Self.State) (c : List (ℕ × Self.State)) → shows self (p ∷ c) → end_of p.1 < 2 ^ 64 - 1) };
+        ensures ok { IfOk result (λ m. (c : List (ℕ × Self.State))
+            → shows self c
+            → IsPoint (at db.now) c
+            → sealed m c) }
+        ensures stale { (c : List (ℕ × Self.State))
+            → shows self c
+            → (IsErrOf result BatchError.StaleRead ↔ (has_id c (at db.now).0 ≡ false)) }
+        ensures exhausted { (p : ℕ × Self.State) (c : List (ℕ × Self.State))
+            → shows self (p ∷ c)
+            → IsErrOf result BatchError.Exhausted
+            → 2 ^ 64 - 1 ≤ end_of p.1 }
+        ensures within { IfOk result (λ m. (p : ℕ × Self.State) (c : List (ℕ × Self.State))
+            → shows self (p ∷ c)
+            → end_of p.1 < 2 ^ 64 - 1) };
 }
 
 /// A sealed batch.
@@ -133,11 +143,16 @@ pub trait Merkleized: Sized {
 
     /// The root of the state that it shows.
     fn root(&self) -> Digest
-        ensures { (p : ℕ × Self.State) (c : List (ℕ × Self.State)) → shows self.now (p ∷ c) → result ≡ root_of p.1 };
+        ensures { (p : ℕ × Self.State) (c : List (ℕ × Self.State))
+            → shows self.now (p ∷ c)
+            → result ≡ root_of p.1 };
 
     /// A child without changes, whose reads see this batch first.
     fn new_batch(&self, id: u64) -> Result<Self::Unmerkleized, OutOfMemory>
-        ensures { IfOk result (λ u. (p : ℕ × Self.State) (c : List (ℕ × Self.State)) → shows self.now (p ∷ c) → p.0 < id → opened u ((id, begun p.1) ∷ p ∷ c)) };
+        ensures { IfOk result (λ u. (p : ℕ × Self.State) (c : List (ℕ × Self.State))
+            → shows self.now (p ∷ c)
+            → p.0 < id
+            → opened u ((id, begun p.1) ∷ p ∷ c)) };
 
     /// An equal batch.
     fn share(&self) -> Result<Self, OutOfMemory>

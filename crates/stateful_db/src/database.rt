@@ -1,9 +1,6 @@
 //! A database, by value.
 
-ghost use Rattle.std.specs.Prelude.{◌≡◌, ℕ, ◌+◌, ◌-◌, ◌^◌, ◌≤◌, ◌<◌, List, ◌∷◌, ◌++◌, [], IfOk, IfErr, OnErr, IsErrOf, Some, None, ◌↔◌, IsTrue, ◌⊎◌};
-ghost use Rattle.stateful_types.specs.Causes.{Rose};
-ghost use Rattle.stateful_db.specs.Chain.{has_id, IsPoint};
-ghost use Rattle.stateful_db.specs.Disk.{Disk, Standing, IsCrash, IsOpened, IsEither, all, place, applied, flushed, point};
+ghost use Rattle.std.specs.Prelude.{◌≡◌};
 
 use crate::batch::{BatchContext, Merkleized, Unmerkleized};
 use stateful_types::{CompactTarget, Faulty, Location, OutOfMemory, Target};
@@ -89,11 +86,11 @@ impl Targeted for CompactTarget {
 /// A database. Its medium is a list of checkpoints, of which those up to a place are durable.
 /// A failed change hands back the medium.
 pub trait ManagedDb: Faulty + Sized + Drop {
-    ghost use Rattle.std.specs.Prelude.{◌≡◌, ◌≢◌, ℕ, ◌+◌, ◌-◌, ◌^◌, ◌≤◌, ◌<◌, List, ◌∷◌, ◌++◌, [], IfOk, IfErr, OnErr, IsErrOf, Some, None, ◌↔◌, IsTrue, ◌⊎◌, All, slice_get};
+    ghost use Rattle.std.specs.Prelude.{◌≡◌, ℕ, ◌+◌, ◌-◌, ◌^◌, ◌≤◌, ◌<◌, List, ◌∷◌, ◌++◌, [], IfOk, IfErr, ◌↔◌, IsTrue, Contains, length};
     ghost use Rattle.stateful_types.specs.Causes.{Rose};
-    ghost use Rattle.stateful_db.specs.Chain.{has_id, IsPoint};
-    ghost use Rattle.stateful_db.specs.Disk.{Disk, Standing, IsCrash, IsOpened, IsEither, all, place, applied, flushed, point};
-    ghost use Rattle.stateful_db.specs.Reopening.{Reopens, FailsToReopen};
+    ghost use Rattle.stateful_db.specs.Disk.{Disk, Standing, IsSound, IsCrash, IsEither, place, applied, flushed, point};
+    ghost use Rattle.stateful_db.specs.Tokens.{without};
+    ghost use Rattle.stateful_db.specs.Reopening.{Reopens, FailsToReopen, KeepsDurable, pruned_to};
 
     /// What a checkpoint is to contracts.
     type State;
@@ -110,7 +107,10 @@ pub trait ManagedDb: Faulty + Sized + Drop {
 
     type Medium: Faulty + Drop;
 
-    /// The database: the id of the last applied batch, its disk, and the token that is out.
+    /// A sync of the database that isn't finished. It has the medium meanwhile.
+    type Pass: Faulty + Drop;
+
+    /// The database: the id of the last applied batch, its disk, and the tokens that are out.
     ghost standing: { Self → Standing Self.State };
 
     /// The state that the seal of a batch without changes gives.
@@ -135,13 +135,16 @@ pub trait ManagedDb: Faulty + Sized + Drop {
         config: &Self::Config,
         expected: Option<Self::SyncTarget>,
     ) -> Result<Self, (Self::Medium, InitError)>
-        ensures ok { IfOk result (λ db. Reopens target_of Self.SyncTarget.targeted expected (disk medium) (standing db)) }
+        ensures ok { IfOk result (λ db.
+            Reopens target_of Self.SyncTarget.targeted expected (disk medium) (standing db)) }
         ensures ok_next { IfOk result (λ db. next db ≡ next_of medium) }
         ensures ok_count { IfOk result (λ db. Self.Medium.count medium ≤ Self.count db) }
         ensures err { IfErr result (λ e. disk e.0 ≡ disk medium) }
         ensures err_next { IfErr result (λ e. next_of e.0 ≡ next_of medium) }
         ensures err_count { IfErr result (λ e. Self.Medium.count medium ≤ Self.Medium.count e.0) }
-        ensures cause { IfErr result (λ e. FailsToReopen target_of Self.SyncTarget.targeted expected (disk medium) (Rose (Self.Medium.count medium) (Self.Medium.count e.0)) e.1) };
+        ensures cause { IfErr result (λ e.
+            FailsToReopen target_of Self.SyncTarget.targeted expected (disk medium)
+            (Rose (Self.Medium.count medium) (Self.Medium.count e.0)) e.1) };
 
     /// The target of an empty medium.
     fn initial_sync_target() -> Self::SyncTarget
@@ -150,63 +153,101 @@ pub trait ManagedDb: Faulty + Sized + Drop {
     /// Draws a batch id.
     fn draw(&mut self) -> Result<u64, Exhausted>
         ensures id { IfOk result (λ n. (n ≡ next self.old) × (next self.new ≡ next self.old + 1)) }
-        ensures exhausted { IfErr result (λ _. (2 ^ 64 - 1 ≤ next self.old) × (next self.new ≡ next self.old)) }
+        ensures exhausted { IfErr result (λ _.
+            (2 ^ 64 - 1 ≤ next self.old) × (next self.new ≡ next self.old)) }
         ensures within { IfOk result (λ n. n < 2 ^ 64 - 1) }
         ensures standing { standing self.new ≡ standing self.old }
         ensures count { Self.count self.new ≡ Self.count self.old };
 
     /// A batch over the applied state.
     fn new_batch(database: BatchContext<'_, Self>) -> Result<Self::Unmerkleized, OutOfMemory>
-        ensures { IfOk result (λ u. (standing database.entry.database.now).id < database.entry.id → Self.Unmerkleized.shows u ((database.entry.id, begun (standing database.entry.database.now).disk.newest) ∷ point (standing database.entry.database.now) ∷ [])) };
+        ensures { let s = standing database.entry.database.now in
+            IfOk result (λ u. s.id < database.entry.id
+            → Self.Unmerkleized.shows u ((database.entry.id, begun s.disk.newest) ∷ point s ∷ [])) };
 
     /// A batch over a sealed one. Its chain is that one's, down to where the database is.
     fn fork(
         database: BatchContext<'_, Self>,
         parent: &Self::Merkleized,
     ) -> Result<Self::Unmerkleized, OutOfMemory>
-        ensures { IfOk result (λ u. (q : ℕ × Self.State) (above older : List (ℕ × Self.State)) → Self.Merkleized.shows parent.now (q ∷ above ++ point (standing database.entry.database.now) ∷ older) → q.0 < database.entry.id → Self.Unmerkleized.shows u ((database.entry.id, begun q.1) ∷ q ∷ above ++ point (standing database.entry.database.now) ∷ [])) };
+        ensures { let p = point (standing database.entry.database.now) in
+            IfOk result (λ u. (q : ℕ × Self.State) (above older : List (ℕ × Self.State))
+            → Self.Merkleized.shows parent.now (q ∷ above ++ p ∷ older)
+            → q.0 < database.entry.id
+            → Self.Unmerkleized.shows u ((database.entry.id, begun q.1) ∷ q ∷ above ++ p ∷ [])) };
 
     /// The target that applying the batch gives.
     fn batch_target(batch: &Self::Merkleized) -> Self::SyncTarget
-        ensures { (p : ℕ × Self.State) (c : List (ℕ × Self.State)) → Self.Merkleized.shows batch.now (p ∷ c) → result ≡ target_of p.1 };
+        ensures { (p : ℕ × Self.State) (c : List (ℕ × Self.State))
+            → Self.Merkleized.shows batch.now (p ∷ c)
+            → result ≡ target_of p.1 };
 
     /// Whether applying the batch gives this target.
     fn matches_sync_target(batch: &Self::Merkleized, target: &Self::SyncTarget) -> bool
-        ensures { (p : ℕ × Self.State) (c : List (ℕ × Self.State)) → Self.Merkleized.shows batch.now (p ∷ c) → (IsTrue result ↔ (target_of p.1 ≡ target.now)) };
+        ensures { (p : ℕ × Self.State) (c : List (ℕ × Self.State))
+            → Self.Merkleized.shows batch.now (p ∷ c)
+            → (IsTrue result ↔ (target_of p.1 ≡ target.now)) };
 
-    /// Adds the state of a batch whose parent is the database's state. Its range ends later than the one before.
+    /// Adds the state of a batch whose parent is the database's state.
     fn apply(self, batch: Self::Merkleized) -> Result<Self, Broken<Self::Medium>>
-        ensures ok { IfOk result (λ db. (p : ℕ × Self.State) (c : List (ℕ × Self.State)) → Self.Merkleized.shows batch (p ∷ point (standing self) ∷ c) → standing db ≡ record (standing self) { id = p.0; disk = applied (standing self).disk p.1 }) }
+        ensures ok { IfOk result (λ db. (p : ℕ × Self.State) (c : List (ℕ × Self.State))
+            → Self.Merkleized.shows batch (p ∷ point (standing self) ∷ c)
+            → standing db ≡ record (standing self) { id = p.0; disk = applied (standing self).disk p.1 }) }
         ensures ok_out { IfOk result (λ db. (standing db).out ≡ (standing self).out) }
         ensures ok_next { IfOk result (λ db. next db ≡ next self) }
         ensures ok_count { IfOk result (λ db. Self.count self ≤ Self.count db) }
-        ensures grows { IfOk result (λ db. (p : ℕ × Self.State) (c : List (ℕ × Self.State)) → Self.Merkleized.shows batch (p ∷ point (standing self) ∷ c) → (Self.SyncTarget.targeted (target_of (standing self).disk.newest)).end.0 < (Self.SyncTarget.targeted (target_of p.1)).end.0) }
-        ensures err { IfErr result (λ b. (p : ℕ × Self.State) (c : List (ℕ × Self.State)) → Self.Merkleized.shows batch (p ∷ point (standing self) ∷ c) → IsEither (standing self).disk (applied (standing self).disk p.1) (disk b.medium)) }
+        ensures err { IfErr result (λ b. (p : ℕ × Self.State) (c : List (ℕ × Self.State))
+            → Self.Merkleized.shows batch (p ∷ point (standing self) ∷ c)
+            → IsEither (standing self).disk (applied (standing self).disk p.1) (disk b.medium)) }
         ensures err_next { IfErr result (λ b. next_of b.medium ≡ next self) }
         ensures err_count { IfErr result (λ b. Self.count self ≤ Self.Medium.count b.medium) }
-        ensures failed { IfErr result (λ b. b.why ≡ Why.Failed → Rose (Self.count self) (Self.Medium.count b.medium)) };
+        ensures failed { IfErr result (λ b.
+            b.why ≡ Why.Failed → Rose (Self.count self) (Self.Medium.count b.medium)) };
 
-    /// Starts persisting all checkpoints applied so far. No token may be out.
+    /// Starts persisting all checkpoints applied so far. At most one token may be out.
     fn finalize(self) -> Result<(Self, FlushToken), Broken<Self::Medium>>
-        requires { (standing self).out ≡ None }
-        ensures ok { IfOk result (λ r. (r.1.place ≡ place (standing self).disk) × (standing r.0 ≡ record (standing self) { out = Some r.1.place })) }
+        requires { length (standing self).out < 2 }
+        ensures ok { IfOk result (λ r. standing r.0
+            ≡ record (standing self) { out = (standing self).out ++ r.1.place ∷ [] }) }
+        ensures ok_place { IfOk result (λ r. r.1.place ≡ place (standing self).disk) }
         ensures ok_next { IfOk result (λ r. next r.0 ≡ next self) }
         ensures ok_count { IfOk result (λ r. Self.count self ≤ Self.count r.0) }
         ensures err { IfErr result (λ b. disk b.medium ≡ (standing self).disk) }
         ensures err_next { IfErr result (λ b. next_of b.medium ≡ next self) }
         ensures err_count { IfErr result (λ b. Self.count self ≤ Self.Medium.count b.medium) }
-        ensures failed { IfErr result (λ b. b.why ≡ Why.Failed → Rose (Self.count self) (Self.Medium.count b.medium)) };
+        ensures failed { IfErr result (λ b.
+            b.why ≡ Why.Failed → Rose (Self.count self) (Self.Medium.count b.medium)) };
 
     /// The checkpoints that the token covers are durable. This token has to be out.
     fn flush(self, token: FlushToken) -> Result<Self, Broken<Self::Medium>>
-        requires { (standing self).out ≡ Some token.place }
-        ensures ok { IfOk result (λ db. standing db ≡ record (standing self) { disk = flushed (standing self).disk token.place; out = None }) }
+        requires { Contains (standing self).out token.place }
+        ensures ok { IfOk result (λ db. standing db ≡ record (standing self) {
+            disk = flushed (standing self).disk token.place;
+            out = without token.place (standing self).out }) }
         ensures ok_next { IfOk result (λ db. next db ≡ next self) }
         ensures ok_count { IfOk result (λ db. Self.count self ≤ Self.count db) }
-        ensures err { IfErr result (λ b. IsEither (standing self).disk (flushed (standing self).disk token.place) (disk b.medium)) }
+        ensures err { IfErr result (λ b.
+            IsEither (standing self).disk (flushed (standing self).disk token.place) (disk b.medium)) }
         ensures err_next { IfErr result (λ b. next_of b.medium ≡ next self) }
         ensures err_count { IfErr result (λ b. Self.count self ≤ Self.Medium.count b.medium) }
-        ensures failed { IfErr result (λ b. b.why ≡ Why.Failed → Rose (Self.count self) (Self.Medium.count b.medium)) };
+        ensures failed { IfErr result (λ b.
+            b.why ≡ Why.Failed → Rose (Self.count self) (Self.Medium.count b.medium)) };
+
+    /// Drops the checkpoints that are older than the target's, and what they alone need. The target's has to be kept and
+    /// durable, and no token may be out.
+    fn prune(self, target: &Self::SyncTarget) -> Result<Self, Broken<Self::Medium>>
+        requires idle { (standing self).out ≡ [] }
+        requires kept { KeepsDurable target_of Self.SyncTarget.targeted target.now (standing self).disk }
+        ensures ok { IfOk result (λ db. standing db ≡ record (standing self) {
+            disk = pruned_to target_of Self.SyncTarget.targeted target.now (standing self).disk }) }
+        ensures ok_next { IfOk result (λ db. next db ≡ next self) }
+        ensures ok_count { IfOk result (λ db. Self.count self ≤ Self.count db) }
+        ensures err { IfErr result (λ b. IsEither (standing self).disk
+            (pruned_to target_of Self.SyncTarget.targeted target.now (standing self).disk) (disk b.medium)) }
+        ensures err_next { IfErr result (λ b. next_of b.medium ≡ next self) }
+        ensures err_count { IfErr result (λ b. Self.count self ≤ Self.Medium.count b.medium) }
+        ensures failed { IfErr result (λ b.
+            b.why ≡ Why.Failed → Rose (Self.count self) (Self.Medium.count b.medium)) };
 
     /// The target of the latest checkpoint.
     fn sync_target(&self) -> Self::SyncTarget
@@ -223,6 +264,11 @@ pub trait ManagedDb: Faulty + Sized + Drop {
         ensures disk { IsCrash keep (disk medium) (disk result) }
         ensures next { next_of result ≡ next_of medium }
         ensures count { Self.Medium.count result ≡ Self.Medium.count medium };
+
+    /// The checkpoints of a medium are in order, and those of a database.
+    ghost sound: { (m : Self.Medium) → IsSound (λ s. Self.SyncTarget.targeted (target_of s)) (disk m) };
+
+    ghost sound_here: { (d : Self) → IsSound (λ s. Self.SyncTarget.targeted (target_of s)) (standing d).disk };
 
     ghost numbered: { (m : Self.Medium) → 0 < next_of m };
 

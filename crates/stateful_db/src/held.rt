@@ -1,9 +1,10 @@
 //! One database, wherever it is.
 
-ghost use Rattle.std.specs.Prelude.{◌≡◌, ℕ, List, ◌∷◌, [], IfOk, IfErr, OnOk, OnErr, IsErrOf, IsTrue, ◌↔◌, Some, ◌<◌, ◌≤◌, ◌+◌, ◌-◌, ◌^◌, ◌++◌};
+ghost use Rattle.std.specs.Prelude.{◌≡◌, ℕ, List, ◌∷◌, [], IfOk, IfErr, OnOk, OnErr, IsErrOf, IsTrue, ◌↔◌, Some, ◌<◌, ◌≤◌, ◌+◌, ◌-◌, ◌^◌, ◌++◌, min};
 ghost use Rattle.stateful_db.specs.Chain.{AllBelow, ids};
 ghost use Rattle.stateful_db.specs.Disk.{point};
 ghost use Rattle.stateful_db.specs.Reopening.{Loses};
+ghost use Rattle.stateful_db.specs.Member.{IsOpenable, member_closed};
 ghost use Rattle.stateful_types.specs.Causes.{Rose};
 ghost use Rattle.stateful_db.specs.declared.database.DbCall.{DbCall};
 
@@ -22,10 +23,31 @@ pub enum Held<D: ManagedDb> {
     Away,
 }
 
+impl<D: ManagedDb> Held<D> {
+    /// Whether it is closed, or lost with its medium: what opening takes.
+    pub(crate) fn is_openable(&self) -> bool
+        ensures { IsTrue result ↔ IsOpenable (⟦<Held<D> as DatabaseSet>⟧.members self.now) }
+    {
+        matches!(self, Held::Closed(_) | Held::Lost(_))
+    }
+
+    /// Closes it where it is here.
+    pub(crate) fn close(&mut self)
+        ensures closed { ⟦<Held<D> as DatabaseSet>⟧.members self.new ≡ member_closed (⟦<Held<D> as DatabaseSet>⟧.members self.old) }
+        ensures next { ⟦<Held<D> as DatabaseSet>⟧.next self.new ≡ ⟦<Held<D> as DatabaseSet>⟧.next self.old }
+        ensures counts { (n : ℕ) → ⟦<Held<D> as DatabaseSet>⟧.counted self.new n ≡ ⟦<Held<D> as DatabaseSet>⟧.counted self.old n }
+    {
+        *self = match mem::replace(self, Held::Away) {
+            Held::Here(database) => Held::Closed(database.close()),
+            other => other,
+        };
+    }
+}
+
 impl<D: ManagedDb> DatabaseSet for Held<D> {
     ghost use Rattle.stateful_db.specs.declared.held.Held.TheVariants.{Here, Closed, Lost, Away};
     ghost use Rattle.stateful_db.specs.Databases.{IsOpening};
-    ghost use Rattle.stateful_db.specs.Member.{at_home, shut, broken, gone, IsShut};
+    ghost use Rattle.stateful_db.specs.Member.{here, closed, lost, away, IsOpenable};
     ghost use Rattle.stateful_db.specs.Single.{single};
     ghost use Rattle.stateful_db.specs.SingleLaws.{single_laws};
 
@@ -41,9 +63,11 @@ impl<D: ManagedDb> DatabaseSet for Held<D> {
 
     type SyncTargets = D::SyncTarget;
 
+    type Passes = D::Pass;
+
     ghost kind = { single D.target_of D.SyncTarget.targeted D.begun D.initial };
 
-    ghost members = { elim [ Here d ↦ at_home (D.standing d) | Closed m ↦ shut (D.disk m) | Lost m ↦ broken (D.disk m) | Away ↦ gone ] };
+    ghost members = { elim [ Here d ↦ here (D.standing d) | Closed m ↦ closed (D.disk m) | Lost m ↦ lost (D.disk m) | Away ↦ away ] };
 
     ghost next = { elim [ Here d ↦ D.next d | Closed m ↦ D.next_of m | Lost m ↦ D.next_of m | Away ↦ 0 ] };
 
@@ -54,6 +78,8 @@ impl<D: ManagedDb> DatabaseSet for Held<D> {
     ghost shows = { D.Merkleized.shows };
 
     ghost laws = { single_laws D.target_of D.SyncTarget.targeted D.begun D.initial };
+
+    ghost sound = { elim [ Here d ↦ D.sound_here d | Closed m ↦ D.sound m | Lost m ↦ D.sound m | Away ↦ tt ] };
 
     fn count() -> usize {
         1
@@ -73,12 +99,22 @@ impl<D: ManagedDb> DatabaseSet for Held<D> {
 
     // The clauses of the trait, which the check can't give this call by itself.
     fn init(&mut self, config: &D::Config, expected: Option<D::SyncTarget>) -> Result<(), SetInit>
-        ensures ok { let set = ⟦<Held<D> as DatabaseSet>⟧ in OnOk result (IsShut (set.members self.old) → set.kind.Reopened (set.members self.old) expected (set.members self.new)) }
-        ensures opening { let set = ⟦<Held<D> as DatabaseSet>⟧ in OnOk result (IsShut (set.members self.old) → (t : D.SyncTarget) → expected ≡ Some t → IsOpening set.kind (set.next self.new) (set.members self.new) t) }
-        ensures cause { let set = ⟦<Held<D> as DatabaseSet>⟧ in IfErr result (λ e. IsShut (set.members self.old) → set.kind.NotOpened (set.members self.old) expected e.index (Rose (set.counted self.old e.index) (set.counted self.new e.index)) e.why (set.members self.new)) }
-        ensures closed { let set = ⟦<Held<D> as DatabaseSet>⟧ in OnErr result (IsShut (set.members self.old) → IsShut (set.members self.new)) }
+        ensures ok { let set = ⟦<Held<D> as DatabaseSet>⟧ in OnOk result (
+            set.kind.Reopened (set.members self.old) expected (set.members self.new)) }
+        ensures opening { let set = ⟦<Held<D> as DatabaseSet>⟧ in OnOk result (
+            IsOpenable (set.members self.old)
+            → (t : D.SyncTarget) → expected ≡ Some t
+            → IsOpening set.kind (set.next self.new) (set.members self.new) t) }
+        ensures cause { let set = ⟦<Held<D> as DatabaseSet>⟧ in IfErr result (λ e.
+            1 < 2 ^ 64
+            → set.kind.NotOpened (set.members self.old) expected e.index
+            (set.counted self.old e.index) (set.counted self.new e.index) e.why (set.members self.new)) }
+        ensures closed { let set = ⟦<Held<D> as DatabaseSet>⟧ in OnErr result (
+            IsOpenable (set.members self.old) → IsOpenable (set.members self.new)) }
         ensures index { IfErr result (λ e. e.index < 1) }
-        ensures later { let set = ⟦<Held<D> as DatabaseSet>⟧ in (n : ℕ) → set.counted self.old n ≤ set.counted self.new n }
+        ensures next { let set = ⟦<Held<D> as DatabaseSet>⟧ in set.next self.new ≡ set.next self.old }
+        ensures later { let set = ⟦<Held<D> as DatabaseSet>⟧ in
+            (n : ℕ) → set.counted self.old n ≤ set.counted self.new n }
     {
         let medium = match mem::replace(self, Held::Away) {
             Held::Closed(medium) | Held::Lost(medium) => medium,
@@ -106,6 +142,10 @@ impl<D: ManagedDb> DatabaseSet for Held<D> {
 
     fn initial_sync_targets() -> D::SyncTarget {
         D::initial_sync_target()
+    }
+
+    fn operations(targets: &D::SyncTarget) -> u64 {
+        targets.target().end.0
     }
 
     #[tactic(auto, using(crate::proofs::Chains::below))]
@@ -192,6 +232,22 @@ impl<D: ManagedDb> DatabaseSet for Held<D> {
                     Ok(())
                 }
                 Err(broken) => Err(lose(self, broken, DbCall::Flush)),
+            },
+            other => {
+                *self = other;
+                Err(SetError::Lost)
+            }
+        }
+    }
+
+    fn prune(&mut self, targets: &D::SyncTarget) -> Result<(), SetError> {
+        match mem::replace(self, Held::Away) {
+            Held::Here(database) => match database.prune(targets) {
+                Ok(database) => {
+                    *self = Held::Here(database);
+                    Ok(())
+                }
+                Err(broken) => Err(lose(self, broken, DbCall::Prune)),
             },
             other => {
                 *self = other;

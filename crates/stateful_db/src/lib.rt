@@ -6,6 +6,8 @@ mod barrier;
 mod batch;
 mod database;
 mod held;
+mod pair;
+mod tokens;
 mod set;
 
 pub use application::{AppFault, Application, Batch, Hooked, OpenBatch, Targets};

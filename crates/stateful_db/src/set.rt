@@ -1,8 +1,5 @@
 //! Sets of databases, which a block changes together.
 
-ghost use Rattle.std.specs.Prelude.{◌≡◌, ℕ, ◌+◌, List, ◌∷◌, [], IfOk, IfErr, OnOk, OnErr, IsErrOf, Some, None, ◌↔◌, is_some, ◌<◌, ◌-◌, ◌^◌, map, ◌++◌};
-ghost use Rattle.stateful_db.specs.Chain.{IsPoint};
-
 use crate::barrier::Barrier;
 use crate::batch::BatchError;
 use crate::database::{DbCall, FlushToken, InitError};
@@ -14,15 +11,15 @@ use thiserror::Error;
 #[derive(Clone, Copy, Debug, PartialEq, Eq, Error)]
 pub enum SetError {
     /// A database isn't here.
-    #[error("a database isn't here")]
+    #[error("Lost")]
     Lost,
     /// A database has no batch id left.
-    #[error("no number is left")]
+    #[error("Exhausted")]
     Exhausted,
     /// The database of this number failed at this call, and is lost with its medium.
-    #[error("database {index} failed at {call:?}")]
+    #[error("DatabaseFault")]
     DatabaseFault { index: usize, call: DbCall },
-    #[error("out of memory")]
+    #[error("OutOfMemory")]
     OutOfMemory,
 }
 
@@ -38,12 +35,15 @@ pub struct SetInit {
 pub struct SetLost;
 
 /// Databases that a block changes together, numbered from 0, left to right.
+///
+/// What a call says of a database's number holds of sets of fewer than 2^64 databases: there each has one.
 pub trait DatabaseSet: Sized {
-    ghost use Rattle.std.specs.Prelude.{◌≡◌, ℕ, ◌+◌, List, ◌∷◌, [], IfOk, IfErr, IfSome, OnOk, OnErr, IsErrOf, IsNone, Option, Some, None, ◌↔◌, is_some, ◌<◌, ◌≤◌, ◌-◌, ◌^◌, map, ◌++◌, ◌⊎◌, IsTrue, EachIndex, slice_get, length};
+    ghost use Rattle.std.specs.Prelude.{◌≡◌, ℕ, ◌+◌, List, ◌∷◌, [], IfOk, IfErr, IfSome, OnOk, OnErr, IsErrOf, IsNone, Option, Some, None, ◌↔◌, is_some, ◌<◌, ◌≤◌, ◌-◌, ◌^◌, map, ◌++◌, ◌⊎◌, IsTrue, Contains, length, min};
     ghost use Rattle.stateful_types.specs.Causes.{Rose};
     ghost use Rattle.stateful_db.specs.Chain.{IsPoint};
-    ghost use Rattle.stateful_db.specs.Databases.{Databases, Laws, IsOpening};
-    ghost use Rattle.stateful_db.specs.Handles.{places_from};
+    ghost use Rattle.stateful_db.specs.Databases.{Databases, IsOpening};
+    ghost use Rattle.stateful_db.specs.Laws.{Laws};
+    ghost use Rattle.stateful_db.specs.Tokens.{each_below};
     ghost use Rattle.stateful_db.specs.Barrier.{unanswered, open_at};
     ghost use Rattle.stateful_db.specs.declared.database.DbCall.{DbCall};
 
@@ -61,6 +61,9 @@ pub trait DatabaseSet: Sized {
 
     /// What a block commits to.
     type SyncTargets: Copy + Eq;
+
+    /// A sync of each database. It has the media meanwhile.
+    type Passes: Drop;
 
     /// What the set means.
     ghost kind: { Databases Self.Ids Self.States Self.SyncTargets };
@@ -80,41 +83,58 @@ pub trait DatabaseSet: Sized {
     /// The same of sealed batches.
     ghost shows: { Self.Merkleized → List (Self.Ids × Self.States) → Type 0 };
 
-    /// How many databases there are.
+    /// How many databases there are, up to the last number.
     fn count() -> usize
-        ensures { result ≡ kind.count };
+        ensures { result ≡ min kind.count (2 ^ 64 - 1) };
 
     /// How often the database of this number has failed.
     fn faults(&self, index: usize) -> u64
         requires within { index < kind.count }
-        requires held { kind.Held (members self.now) }
+        requires held { kind.NoneAway (members self.now) }
         ensures { result ≡ counted self.now index };
 
     /// Whether every database is here.
     fn is_here(&self) -> bool
         ensures { result ≡ is_some (kind.point (members self.now)) };
 
-    /// Opens every closed or lost database, in order, at the expected targets or at the latest ones. Where one
-    /// doesn't open, those that were opened are closed again.
+    /// Opens every closed or lost database, in order, at the expected targets or at the latest ones. Where one doesn't
+    /// open, those that were opened are closed again. The others stay as they are.
     fn init(
         &mut self,
         config: &Self::Config,
         expected: Option<Self::SyncTargets>,
     ) -> Result<(), SetInit>
-        ensures ok { OnOk result (kind.Shut (members self.old) → kind.Reopened (members self.old) expected (members self.new)) }
-        ensures opening { OnOk result (kind.Shut (members self.old) → (t : Self.SyncTargets) → expected ≡ Some t → IsOpening kind (next self.new) (members self.new) t) }
-        ensures cause { IfErr result (λ e. kind.Shut (members self.old) → kind.NotOpened (members self.old) expected e.index (Rose (counted self.old e.index) (counted self.new e.index)) e.why (members self.new)) }
-        ensures closed { OnErr result (kind.Shut (members self.old) → kind.Shut (members self.new)) }
+        ensures ok { OnOk result (kind.Reopened (members self.old) expected (members self.new)) }
+        ensures opening { OnOk result (
+            kind.Openable (members self.old)
+            → (t : Self.SyncTargets) → expected ≡ Some t
+            → IsOpening kind (next self.new) (members self.new) t) }
+        ensures cause { IfErr result (λ e.
+            kind.count < 2 ^ 64
+            → kind.NotOpened (members self.old) expected e.index
+            (counted self.old e.index) (counted self.new e.index) e.why (members self.new)) }
+        ensures closed { OnErr result (kind.Openable (members self.old) → kind.Openable (members self.new)) }
         ensures index { IfErr result (λ e. e.index < kind.count) }
+        ensures next { next self.new ≡ next self.old }
         ensures later { (n : ℕ) → counted self.old n ≤ counted self.new n };
 
     /// The targets of empty media.
     fn initial_sync_targets() -> Self::SyncTargets
         ensures { result ≡ kind.target_of kind.initial };
 
-    /// Batches over the states as they are. Without an `Ok` ids may have been drawn.
+    /// The sum of the ends of the targets' ranges, up to the last number. It takes no memory.
+    fn operations(targets: &Self::SyncTargets) -> u64
+        ensures { result ≡ min (kind.operations targets.now) (2 ^ 64 - 1) };
+
+    /// Batches over the states as they are, for which one id of each database is drawn. Without an `Ok` ids may have been
+    /// drawn. `Lost` exactly where a database isn't here; behind that `Exhausted` where one has no id left.
     fn new_batches(&mut self) -> Result<Self::Unmerkleized, SetError>
-        ensures ok { IfOk result (λ u. (p : Self.Ids × Self.States) → kind.point (members self.old) ≡ Some p → kind.issued (next self.old) (p ∷ []) → opened u ((next self.old, kind.begun p.1) ∷ p ∷ []) × kind.issued (next self.new) ((next self.old, kind.begun p.1) ∷ p ∷ [])) }
+        ensures ok { IfOk result (λ u. (p : Self.Ids × Self.States)
+            → kind.point (members self.old) ≡ Some p
+            → kind.issued (next self.old) (p ∷ [])
+            → opened u ((next self.old, kind.begun p.1) ∷ p ∷ [])
+            × kind.issued (next self.new) ((next self.old, kind.begun p.1) ∷ p ∷ [])) }
+        ensures drawn { OnOk result (next self.new ≡ kind.following (next self.old)) }
         ensures members { members self.new ≡ members self.old }
         ensures keeps { (c : List (Self.Ids × Self.States)) → kind.issued (next self.old) c → kind.issued (next self.new) c }
         ensures lost { IsErrOf result SetError.Lost ↔ (kind.point (members self.old) ≡ None) }
@@ -123,9 +143,16 @@ pub trait DatabaseSet: Sized {
         ensures fault { (n : ℕ) (k : DbCall) → IsErrOf result (SetError.DatabaseFault n k) → ⊥ }
         ensures counts { (n : ℕ) → counted self.new n ≡ counted self.old n };
 
-    /// Children of sealed batches, whose reads see these first. Their chain is cut behind where the databases are.
+    /// Children of sealed batches, whose reads see these first, and for which one id of each database is drawn. Their
+    /// chain is cut behind where the databases are. Refused as `new_batches` is.
     fn fork_batches(&mut self, parent: &Self::Merkleized) -> Result<Self::Unmerkleized, SetError>
-        ensures ok { IfOk result (λ u. (p q : Self.Ids × Self.States) (above older : List (Self.Ids × Self.States)) → kind.point (members self.old) ≡ Some p → shows parent.now (q ∷ above ++ p ∷ older) → kind.issued (next self.old) (q ∷ above ++ p ∷ older) → opened u ((next self.old, kind.begun q.1) ∷ q ∷ above ++ p ∷ []) × kind.issued (next self.new) ((next self.old, kind.begun q.1) ∷ q ∷ above ++ p ∷ [])) }
+        ensures ok { IfOk result (λ u. (p q : Self.Ids × Self.States) (above older : List (Self.Ids × Self.States))
+            → kind.point (members self.old) ≡ Some p
+            → shows parent.now (q ∷ above ++ p ∷ older)
+            → kind.issued (next self.old) (q ∷ above ++ p ∷ older)
+            → opened u ((next self.old, kind.begun q.1) ∷ q ∷ above ++ p ∷ [])
+            × kind.issued (next self.new) ((next self.old, kind.begun q.1) ∷ q ∷ above ++ p ∷ [])) }
+        ensures drawn { OnOk result (next self.new ≡ kind.following (next self.old)) }
         ensures members { members self.new ≡ members self.old }
         ensures keeps { (c : List (Self.Ids × Self.States)) → kind.issued (next self.old) c → kind.issued (next self.new) c }
         ensures lost { IsErrOf result SetError.Lost ↔ (kind.point (members self.old) ≡ None) }
@@ -136,65 +163,123 @@ pub trait DatabaseSet: Sized {
 
     /// Seals each member against its own database. `StaleRead` also where a database isn't here.
     fn seal(&self, batches: Self::Unmerkleized) -> Result<Self::Merkleized, BatchError>
-        ensures ok { IfOk result (λ m. (p : Self.Ids × Self.States) (c : List (Self.Ids × Self.States)) → kind.point (members self.now) ≡ Some p → opened batches c → IsPoint p c → shows m c) }
-        ensures stale { IsErrOf result BatchError.StaleRead → (p : Self.Ids × Self.States) (c : List (Self.Ids × Self.States)) → kind.point (members self.now) ≡ Some p → opened batches c → IsPoint p c → ⊥ }
-        ensures exhausted { (p : Self.Ids × Self.States) (c : List (Self.Ids × Self.States)) → opened batches (p ∷ c) → IsErrOf result BatchError.Exhausted → kind.Full p.1 }
-        ensures within { IfOk result (λ _. (p : Self.Ids × Self.States) (c : List (Self.Ids × Self.States)) → opened batches (p ∷ c) → kind.Full p.1 → ⊥) };
+        ensures ok { IfOk result (λ m. (p : Self.Ids × Self.States) (c : List (Self.Ids × Self.States))
+            → kind.point (members self.now) ≡ Some p
+            → opened batches c
+            → IsPoint p c
+            → shows m c) }
+        ensures stale { IsErrOf result BatchError.StaleRead → (p : Self.Ids × Self.States) (c : List (Self.Ids × Self.States))
+            → kind.point (members self.now) ≡ Some p
+            → opened batches c
+            → IsPoint p c
+            → ⊥ }
+        ensures exhausted { (p : Self.Ids × Self.States) (c : List (Self.Ids × Self.States))
+            → opened batches (p ∷ c)
+            → IsErrOf result BatchError.Exhausted
+            → kind.Full p.1 }
+        ensures within { IfOk result (λ _. (p : Self.Ids × Self.States) (c : List (Self.Ids × Self.States))
+            → opened batches (p ∷ c)
+            → kind.Full p.1
+            → ⊥) };
 
     /// Whether all members match.
     fn matches_sync_targets(batches: &Self::Merkleized, targets: &Self::SyncTargets) -> bool
-        ensures { (p : Self.Ids × Self.States) (c : List (Self.Ids × Self.States)) → shows batches.now (p ∷ c) → (IsTrue result ↔ (kind.target_of p.1 ≡ targets.now)) };
+        ensures { (p : Self.Ids × Self.States) (c : List (Self.Ids × Self.States))
+            → shows batches.now (p ∷ c)
+            → (IsTrue result ↔ (kind.target_of p.1 ≡ targets.now)) };
 
     /// The first member that doesn't match, with its number and the expected and the given target.
     fn mismatch(
         batches: &Self::Merkleized,
         targets: &Self::SyncTargets,
     ) -> Option<(usize, Target, Target)>
-        ensures none { (p : Self.Ids × Self.States) (c : List (Self.Ids × Self.States)) → shows batches.now (p ∷ c) → (IsNone result ↔ (kind.target_of p.1 ≡ targets.now)) }
-        ensures first { IfSome result (λ m. (p : Self.Ids × Self.States) (c : List (Self.Ids × Self.States)) → shows batches.now (p ∷ c) → (kind.Agrees (kind.target_of p.1) targets.now m.0 → ⊥) × ((i : ℕ) → i < m.0 → kind.Agrees (kind.target_of p.1) targets.now i)) }
-        ensures targets { IfSome result (λ m. (p : Self.Ids × Self.States) (c : List (Self.Ids × Self.States)) → shows batches.now (p ∷ c) → (m.1 ≡ kind.target_at targets.now m.0) × (m.2 ≡ kind.target_at (kind.target_of p.1) m.0)) }
+        ensures none { (p : Self.Ids × Self.States) (c : List (Self.Ids × Self.States))
+            → shows batches.now (p ∷ c)
+            → (IsNone result ↔ (kind.target_of p.1 ≡ targets.now)) }
+        ensures first { IfSome result (λ m. (p : Self.Ids × Self.States) (c : List (Self.Ids × Self.States))
+            → kind.count < 2 ^ 64
+            → shows batches.now (p ∷ c)
+            → (kind.Agrees (kind.target_of p.1) targets.now m.0 → ⊥)
+            × ((i : ℕ) → i < m.0 → kind.Agrees (kind.target_of p.1) targets.now i)) }
+        ensures targets { IfSome result (λ m. (p : Self.Ids × Self.States) (c : List (Self.Ids × Self.States))
+            → kind.count < 2 ^ 64
+            → shows batches.now (p ∷ c)
+            → (m.1 ≡ kind.target_at targets.now m.0) × (m.2 ≡ kind.target_at (kind.target_of p.1) m.0)) }
         ensures index { IfSome result (λ m. m.0 < kind.count) };
 
     /// Applies batches whose parents are the databases' states, in order.
     fn apply(&mut self, batches: Self::Merkleized) -> Result<(), SetError>
-        ensures ok { OnOk result ((p q : Self.Ids × Self.States) (c : List (Self.Ids × Self.States)) → kind.point (members self.old) ≡ Some p → shows batches (q ∷ p ∷ c) → members self.new ≡ kind.applied (members self.old) q) }
+        ensures ok { OnOk result ((p q : Self.Ids × Self.States) (c : List (Self.Ids × Self.States))
+            → kind.point (members self.old) ≡ Some p
+            → shows batches (q ∷ p ∷ c)
+            → members self.new ≡ kind.applied (members self.old) q) }
         ensures lost { IsErrOf result SetError.Lost ↔ (kind.point (members self.old) ≡ None) }
         ensures unchanged { IsErrOf result SetError.Lost → members self.new ≡ members self.old }
         ensures exhausted { IsErrOf result SetError.Exhausted → ⊥ }
         ensures here { OnOk result (kind.point (members self.new) ≡ None → ⊥) }
-        ensures tokens { OnOk result ((i : ℕ) → kind.token (members self.new) i ≡ kind.token (members self.old) i) }
+        ensures tokens { OnOk result ((i : ℕ) → kind.tokens (members self.new) i ≡ kind.tokens (members self.old) i) }
         ensures next { next self.new ≡ next self.old }
-        ensures fault { (n : ℕ) (k : DbCall) → IsErrOf result (SetError.DatabaseFault n k) → (k ≡ DbCall.Apply) × (n < kind.count) × Rose (counted self.old n) (counted self.new n) × kind.Lost (members self.new) n × ((p q : Self.Ids × Self.States) (c : List (Self.Ids × Self.States)) → kind.point (members self.old) ≡ Some p → shows batches (q ∷ p ∷ c) → kind.LostApplying (members self.old) q n (members self.new)) }
-        ensures memory { IsErrOf result SetError.OutOfMemory → (p q : Self.Ids × Self.States) (c : List (Self.Ids × Self.States)) → kind.point (members self.old) ≡ Some p → shows batches (q ∷ p ∷ c) → (n : ℕ) × (n < kind.count) × kind.LostApplying (members self.old) q n (members self.new) }
-        ensures err { OnErr result ((p q : Self.Ids × Self.States) (c : List (Self.Ids × Self.States)) → kind.point (members self.old) ≡ Some p → shows batches (q ∷ p ∷ c) → (i : ℕ) → kind.HasState (members self.new) i p.1 ⊎ kind.HasState (members self.new) i q.1) }
+        ensures fault { (n : ℕ) (k : DbCall) → IsErrOf result (SetError.DatabaseFault n k)
+            → kind.count < 2 ^ 64
+            → (k ≡ DbCall.Apply) × (n < kind.count) × Rose (counted self.old n) (counted self.new n)
+            × kind.Lost (members self.new) n
+            × ((p q : Self.Ids × Self.States) (c : List (Self.Ids × Self.States))
+            → kind.point (members self.old) ≡ Some p
+            → shows batches (q ∷ p ∷ c)
+            → kind.LostApplying (members self.old) q n (members self.new)) }
+        ensures memory { IsErrOf result SetError.OutOfMemory
+            → (p q : Self.Ids × Self.States) (c : List (Self.Ids × Self.States))
+            → kind.point (members self.old) ≡ Some p
+            → shows batches (q ∷ p ∷ c)
+            → (n : ℕ) × (n < kind.count) × kind.LostApplying (members self.old) q n (members self.new) }
+        ensures err { OnErr result ((p q : Self.Ids × Self.States) (c : List (Self.Ids × Self.States))
+            → kind.point (members self.old) ≡ Some p
+            → shows batches (q ∷ p ∷ c)
+            → (i : ℕ) → kind.HasState (members self.new) i p.1 ⊎ kind.HasState (members self.new) i q.1) }
         ensures later { (n : ℕ) → counted self.old n ≤ counted self.new n };
 
-    /// Starts persisting all checkpoints, in order. One token for each database is added.
+    /// Starts persisting all checkpoints, in order. One token for each database is added to those that are given.
     fn persist(&mut self, tokens: &mut Items<FlushToken>) -> Result<(), SetError>
-        requires { kind.Idle (members self.old) }
+        requires { kind.HasRoom (members self.old) }
         ensures ok { OnOk result (members self.new ≡ kind.finalized (members self.old)) }
-        ensures tokens { OnOk result (map (λ t. t.place) tokens.new ≡ map (λ t. t.place) tokens.old ++ places_from kind.place (members self.old) 0 kind.count) }
+        ensures tokens { OnOk result (map (λ t. t.place) tokens.new
+            ≡ map (λ t. t.place) tokens.old ++ each_below (kind.place (members self.old)) kind.count) }
         ensures lost { IsErrOf result SetError.Lost → ⊥ }
         ensures exhausted { IsErrOf result SetError.Exhausted → ⊥ }
         ensures next { next self.new ≡ next self.old }
-        ensures fault { (n : ℕ) (k : DbCall) → IsErrOf result (SetError.DatabaseFault n k) → (k ≡ DbCall.Finalize) × (n < kind.count) × Rose (counted self.old n) (counted self.new n) × kind.Lost (members self.new) n × kind.LostFinalizing (members self.old) n (members self.new) }
-        ensures memory { IsErrOf result SetError.OutOfMemory → (n : ℕ) × (n < kind.count) × kind.LostFinalizing (members self.old) n (members self.new) }
-        ensures err { OnErr result ((i : ℕ) (s : Self.States) → kind.HasState (members self.old) i s → kind.HasState (members self.new) i s) }
+        ensures fault { (n : ℕ) (k : DbCall) → IsErrOf result (SetError.DatabaseFault n k)
+            → kind.count < 2 ^ 64
+            → (k ≡ DbCall.Finalize) × (n < kind.count) × Rose (counted self.old n) (counted self.new n)
+            × kind.Lost (members self.new) n × kind.LostFinalizing (members self.old) n (members self.new) }
+        ensures memory { IsErrOf result SetError.OutOfMemory
+            → (n : ℕ) × (n < kind.count) × kind.LostFinalizing (members self.old) n (members self.new) }
+        ensures err { OnErr result ((i : ℕ) (s : Self.States)
+            → kind.HasState (members self.old) i s
+            → kind.HasState (members self.new) i s) }
         ensures later { (n : ℕ) → counted self.old n ≤ counted self.new n };
 
     /// Starts persisting all checkpoints, and makes a barrier of the tokens, which are all open.
     final fn finalize(&mut self, alloc: Global) -> Result<Barrier, SetError>
-        requires { kind.Idle (members self.old) }
+        requires { kind.HasRoom (members self.old) }
         ensures ok { OnOk result (members self.new ≡ kind.finalized (members self.old)) }
-        ensures tokens { IfOk result (λ barrier. barrier ≡ map (λ place. unanswered (record { place = place })) (places_from kind.place (members self.old) 0 kind.count)) }
+        ensures tokens { IfOk result (λ barrier. barrier ≡
+            map (λ place. unanswered (record { place = place })) (each_below (kind.place (members self.old)) kind.count)) }
         ensures count { IfOk result (λ barrier. length barrier ≡ kind.count) }
-        ensures handles { IfOk result (λ barrier. (i : ℕ) → i < kind.count → open_at barrier i ≡ Some (record { place = kind.place (members self.old) i })) }
+        ensures handles { IfOk result (λ barrier. (i : ℕ) → i < kind.count
+            → open_at barrier i ≡ Some (record { place = kind.place (members self.old) i })) }
         ensures lost { IsErrOf result SetError.Lost → ⊥ }
         ensures exhausted { IsErrOf result SetError.Exhausted → ⊥ }
         ensures next { next self.new ≡ next self.old }
-        ensures fault { (n : ℕ) (k : DbCall) → IsErrOf result (SetError.DatabaseFault n k) → (k ≡ DbCall.Finalize) × (n < kind.count) × Rose (counted self.old n) (counted self.new n) × kind.Lost (members self.new) n × kind.LostFinalizing (members self.old) n (members self.new) }
-        ensures memory { IsErrOf result SetError.OutOfMemory → (members self.new ≡ kind.finalized (members self.old)) ⊎ ((n : ℕ) × (n < kind.count) × kind.LostFinalizing (members self.old) n (members self.new)) }
-        ensures err { OnErr result ((i : ℕ) (s : Self.States) → kind.HasState (members self.old) i s → kind.HasState (members self.new) i s) }
+        ensures fault { (n : ℕ) (k : DbCall) → IsErrOf result (SetError.DatabaseFault n k)
+            → kind.count < 2 ^ 64
+            → (k ≡ DbCall.Finalize) × (n < kind.count) × Rose (counted self.old n) (counted self.new n)
+            × kind.Lost (members self.new) n × kind.LostFinalizing (members self.old) n (members self.new) }
+        ensures memory { IsErrOf result SetError.OutOfMemory
+            → (members self.new ≡ kind.finalized (members self.old))
+            ⊎ ((n : ℕ) × (n < kind.count) × kind.LostFinalizing (members self.old) n (members self.new)) }
+        ensures err { OnErr result ((i : ℕ) (s : Self.States)
+            → kind.HasState (members self.old) i s
+            → kind.HasState (members self.new) i s) }
         ensures later { (n : ℕ) → counted self.old n ≤ counted self.new n }
     {
         let mut tokens = Items::new(alloc);
@@ -208,27 +293,55 @@ pub trait DatabaseSet: Sized {
     /// The checkpoints that the token covers are durable at the database of this number, at which it has to be out.
     fn flush(&mut self, index: usize, token: FlushToken) -> Result<(), SetError>
         requires within { index < kind.count }
-        requires out { kind.token (members self.old) index ≡ Some token.place }
+        requires out { Contains (kind.tokens (members self.old) index) token.place }
         ensures ok { OnOk result (members self.new ≡ kind.flushed (members self.old) index token.place) }
         ensures lost { IsErrOf result SetError.Lost → ⊥ }
         ensures exhausted { IsErrOf result SetError.Exhausted → ⊥ }
         ensures next { next self.new ≡ next self.old }
-        ensures fault { (n : ℕ) (k : DbCall) → IsErrOf result (SetError.DatabaseFault n k) → (k ≡ DbCall.Flush) × (n ≡ index) × Rose (counted self.old n) (counted self.new n) × kind.Lost (members self.new) n × kind.LostFlushing (members self.old) n token.place (members self.new) }
-        ensures memory { IsErrOf result SetError.OutOfMemory → kind.LostFlushing (members self.old) index token.place (members self.new) }
-        ensures err { OnErr result ((i : ℕ) (s : Self.States) → kind.HasState (members self.old) i s → kind.HasState (members self.new) i s) }
+        ensures fault { (n : ℕ) (k : DbCall) → IsErrOf result (SetError.DatabaseFault n k)
+            → (k ≡ DbCall.Flush) × (n ≡ index) × Rose (counted self.old n) (counted self.new n)
+            × kind.Lost (members self.new) n
+            × kind.LostFlushing (members self.old) n token.place (members self.new) }
+        ensures memory { IsErrOf result SetError.OutOfMemory
+            → kind.LostFlushing (members self.old) index token.place (members self.new) }
+        ensures err { OnErr result ((i : ℕ) (s : Self.States)
+            → kind.HasState (members self.old) i s
+            → kind.HasState (members self.new) i s) }
         ensures later { (n : ℕ) → counted self.old n ≤ counted self.new n };
 
-    /// The targets of the latest checkpoints.
+    /// Drops the checkpoints that are older than those of the targets, which every database has to keep durably. No token
+    /// may be out.
+    fn prune(&mut self, targets: &Self::SyncTargets) -> Result<(), SetError>
+        requires { kind.Prunable (members self.old) targets.now }
+        ensures ok { OnOk result (members self.new ≡ kind.pruned (members self.old) targets.now) }
+        ensures lost { IsErrOf result SetError.Lost → ⊥ }
+        ensures exhausted { IsErrOf result SetError.Exhausted → ⊥ }
+        ensures next { next self.new ≡ next self.old }
+        ensures fault { (n : ℕ) (k : DbCall) → IsErrOf result (SetError.DatabaseFault n k)
+            → kind.count < 2 ^ 64
+            → (k ≡ DbCall.Prune) × (n < kind.count) × Rose (counted self.old n) (counted self.new n)
+            × kind.Lost (members self.new) n
+            × kind.LostPruning (members self.old) targets.now n (members self.new) }
+        ensures memory { IsErrOf result SetError.OutOfMemory
+            → (n : ℕ) × (n < kind.count) × kind.LostPruning (members self.old) targets.now n (members self.new) }
+        ensures err { OnErr result ((i : ℕ) (s : Self.States)
+            → kind.HasState (members self.old) i s
+            → kind.HasState (members self.new) i s) }
+        ensures later { (n : ℕ) → counted self.old n ≤ counted self.new n };
+
+    /// The targets of the latest checkpoints. Refused exactly where a database isn't here.
     fn committed_targets(&self) -> Result<Self::SyncTargets, SetLost>
-        ensures ok { IfOk result (λ t. (p : Self.Ids × Self.States) → kind.point (members self.now) ≡ Some p → t ≡ kind.target_of p.1) }
+        ensures ok { IfOk result (λ t. (p : Self.Ids × Self.States)
+            → kind.point (members self.now) ≡ Some p
+            → t ≡ kind.target_of p.1) }
         ensures lost { OnErr result (kind.point (members self.now) ≡ None) }
         ensures here { OnOk result (IsNone (kind.point (members self.now)) → ⊥) };
 
     /// What a crash leaves: all closed. `keep` has a number for each database, and where it has none that database
     /// keeps all its checkpoints. No database may be away.
     fn crash(self, keep: &[usize]) -> Self
-        requires { kind.Held (members self) }
-        ensures shut { kind.Shut (members result) }
+        requires { kind.NoneAway (members self) }
+        ensures openable { kind.Openable (members result) }
         ensures crashed { kind.Crashed (members self) keep.now (members result) }
         ensures next { next result ≡ next self }
         ensures counts { (n : ℕ) → counted result n ≡ counted self n };
@@ -240,6 +353,9 @@ pub trait DatabaseSet: Sized {
         ensures counts { (n : ℕ) → counted result n ≡ counted self.old n };
 
     ghost laws: { Laws kind };
+
+    /// Each database's checkpoints are in order.
+    ghost sound: { (s : Self) → kind.Sound (members s) };
 }
 
 #[cfg(test)]
@@ -248,10 +364,10 @@ mod tests {
     use std::test::Fail;
 
     #[test]
-    fn a_fault_is_told_with_its_database_and_its_call(rt: HostRuntime) -> Result<(), Fail> {
+    fn an_error_prints_the_name_of_its_variant(rt: HostRuntime) -> Result<(), Fail> {
         let call = DbCall::Apply;
         let text = SetError::DatabaseFault { index: 3, call }.to_string(rt.alloc())?;
-        assert_eq!(rt; text.as_str(), "database 3 failed at Apply");
+        assert_eq!(rt; text.as_str(), "DatabaseFault");
         Ok(())
     }
 }

@@ -1,8 +1,8 @@
-use Rattle.std.proofs.Common.{◌≡◌, ap, map, ◌∙◌, length, Some, Err, zero-add}
+use Rattle.std.proofs.Common.{◌≡◌, ap, map, ◌∙◌, length, Err}
 use Rattle.stateful_db.specs.declared.set.SetError.TheVariants.{DatabaseFault}
 use Rattle.std.proofs.lemmas.Result.{err_from_is_err_and}
 use Rattle.stateful_db.specs.Barrier.{unanswered, open_at}
-use Rattle.stateful_db.proofs.Tokens.{open_for, map-unanswered, length-open_for, open_at-places_from}
+use Rattle.stateful_db.proofs.OpenHandles.{open_for, map-unanswered, length-open_for, open_at-each_below}
 use Rattle.stateful_db.proofs.set.DatabaseSet.finalize.Goals as goal
 use Rattle.stateful_db.proofs.set.DatabaseSet.finalize.Goals.{In-Ok}
 
@@ -20,9 +20,9 @@ returns-in-Ok-clause-tokens g c =
 pub returns-in-Ok-clause-count : goal.returns-in-Ok-clause-count
 returns-in-Ok-clause-count g c =
     let kind = g.Self.DatabaseSet.kind in
-    ap length (returns-in-Ok-clause-tokens g c) ∙ length-open_for kind.place (g.Self.DatabaseSet.members c.args.self.now) 0 kind.count
+    ap length (returns-in-Ok-clause-tokens g c) ∙ length-open_for (kind.place (g.Self.DatabaseSet.members c.args.self.now)) kind.count
 
 pub returns-in-Ok-clause-handles : goal.returns-in-Ok-clause-handles
 returns-in-Ok-clause-handles g c = λ i within.
     let kind = g.Self.DatabaseSet.kind in
-    ap (λ handles. open_at handles i) (returns-in-Ok-clause-tokens g c) ∙ open_at-places_from kind.place (g.Self.DatabaseSet.members c.args.self.now) 0 kind.count i within ∙ ap (λ j. Some (record { place = kind.place (g.Self.DatabaseSet.members c.args.self.now) j })) (zero-add i)
+    ap (λ handles. open_at handles i) (returns-in-Ok-clause-tokens g c) ∙ open_at-each_below (kind.place (g.Self.DatabaseSet.members c.args.self.now)) kind.count i within
