@@ -2,3 +2,4 @@ pub mod Chains
 pub mod Handles
 pub mod Openings
 pub mod OpenHandles
+pub mod Pairs

@@ -24,6 +24,6 @@ module _ {S T : Type 0} (target_of : S → T) (targeted : T → Target) (begun :
     targets_are = cc;
     drawn = (omega (arith, opens.id), tt);
     idle = opens.out;
-    durable = λ i within. (let first : i ≡ 0 = omega arith in rw first opens.disk.durable);
+    durable = λ i within. opens.disk.durable;
     keeps = λ i within. keeps_newest s;
   }

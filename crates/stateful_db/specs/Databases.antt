@@ -10,7 +10,6 @@ pub record Databases (Ids States Targets : Type 0) : Type 1 where
   pub Members : Type 0
   -- how many there are
   pub count : ℕ
-
   -- where every database is here: of each the id of the last applied batch, and the state
   pub point : Members → Option (Ids × States)
   -- what a block commits to that leads to these states
@@ -25,7 +24,6 @@ pub record Databases (Ids States Targets : Type 0) : Type 1 where
   pub initial : States
   -- the range of a state ends at the last number or behind it
   pub Full : States → Type 0
-
   -- a database has no batch id left
   pub Spent : Ids → Type 0
   -- the next batch ids once one of each database is drawn
@@ -34,7 +32,6 @@ pub record Databases (Ids States Targets : Type 0) : Type 1 where
   pub begun : States → States
   -- the ids of the chain were drawn before these
   pub issued : Ids → List (Ids × States) → Type 0
-
   -- the medium of the database of this number keeps a checkpoint at this place, which is its part of these states
   pub HasAt : Members → ℕ → ℕ → States → Type 0
   -- the checkpoints of the database of this number, from a place on, are its parts of these states, less the pruned ones
@@ -49,7 +46,6 @@ pub record Databases (Ids States Targets : Type 0) : Type 1 where
   pub tokens : Members → ℕ → List ℕ
   -- each database's checkpoints are in order
   pub Sound : Members → Type 0
-
   -- every database is here, and no token is out
   pub Idle : Members → Type 0
   -- every database is here, and at each at most one token is out
@@ -62,7 +58,6 @@ pub record Databases (Ids States Targets : Type 0) : Type 1 where
   pub Lost : Members → ℕ → Type 0
   -- the database of this number has its part of these states, where it is here
   pub HasState : Members → ℕ → States → Type 0
-
   -- each database has one checkpoint more
   pub applied : Members → Ids × States → Members
   -- at each database a token more is out, for all its checkpoints
@@ -73,7 +68,6 @@ pub record Databases (Ids States Targets : Type 0) : Type 1 where
   pub Prunable : Members → Targets → Type 0
   -- each database is without the checkpoints that are older than the one of these targets
   pub pruned : Members → Targets → Members
-
   -- the database of this number is lost by an apply; those before have applied, and those behind are as before
   pub LostApplying : Members → Ids × States → ℕ → Members → Type 0
   -- the database of this number is lost by a finalize; a token more is out at those before, and those behind are as before
@@ -82,7 +76,6 @@ pub record Databases (Ids States Targets : Type 0) : Type 1 where
   pub LostFlushing : Members → ℕ → ℕ → Members → Type 0
   -- the database of this number is lost by a prune; those before are pruned, and those behind are as before
   pub LostPruning : Members → Targets → ℕ → Members → Type 0
-
   -- each database that was closed or lost is open at its checkpoint of these targets, or at its latest; the others are as before
   pub Reopened : Members → Option Targets → Members → Type 0
   -- each database that was closed or lost is closed, at the checkpoint at which it was opened; the others are as before

@@ -5,6 +5,7 @@ pub mod Databases
 pub mod Laws
 pub mod Meaning
 pub mod Hooks
+pub mod Works
 pub mod Targeted
 pub mod Reopening
 pub mod Tokens

@@ -1,5 +1,5 @@
 -- A database of a set, wherever it is.
-use Rattle.std.specs.Prelude.{◌≡◌, ℕ, ◌+◌, ◌-◌, ◌<◌, ◌⊎◌, List, [], ◌∷◌, ◌++◌, drop, length, Option, Some, None}
+use Rattle.std.specs.Prelude.{◌≡◌, ℕ, ◌+◌, ◌-◌, ◌<◌, ◌⊎◌, List, [], ◌∷◌, ◌++◌, drop, length, Bool, true, Option, Some, None}
 use Rattle.stateful_types.specs.Causes.{Rose}
 use Rattle.stateful_types.specs.declared.target.Target.{Target}
 use Rattle.stateful_db.specs.Disk.{Disk, Standing, HasAt, IsSound, IsEither, IsCrash, all, applied, point, place, flushed}
@@ -100,10 +100,10 @@ module _ {S : Type 0} where
   member_flushed (here s) n = here (record s { disk = flushed s.disk n; out = without n s.out })
   member_flushed m n = m
 
-  -- closed where it was here
-  abbrev pub member_closed : Member S → Member S
-  member_closed (here s) = closed s.disk
-  member_closed m = m
+  -- closed, where it was opened and is here
+  abbrev pub member_closed_if : Bool → Member S → Member S
+  member_closed_if true (here s) = closed s.disk
+  member_closed_if opened m = m
 
   -- lost by a failed apply of a batch that shows this state
   abbrev pub IsLostApplying : Member S → S → Member S → Type 0

@@ -79,7 +79,7 @@ module _ {I J S U T V : Type 0} (a : Databases I S T) (b : Databases J U V) wher
     Reclosed = λ m expected k. a.Reclosed m.0 (first_of expected) k.0 × b.Reclosed m.1 (others_of expected) k.1;
     Refuses = λ m expected i why. by_number (a.Refuses m.0 (first_of expected) 0 why) (λ j. b.Refuses m.1 (others_of expected) j why) i;
     NotOpened = λ m expected i before now why k.
-      by_number
+        by_number
         (a.NotOpened m.0 (first_of expected) 0 before now why k.0 × (k.1 ≡ m.1))
         (λ j. a.Reclosed m.0 (first_of expected) k.0 × b.NotOpened m.1 (others_of expected) j before now why k.1)
         i;

@@ -65,9 +65,9 @@ module _ {I J S U T V : Type 0} (a : Databases I S T) (b : Databases J U V) (A :
   targets : TargetLaws (pair a b)
   targets = record {
     agrees_all = λ t u same.
-      let first : t.0 ≡ u.0 = A.targets.agrees_all t.0 u.0 (at_first (a.Agrees t.0 u.0) (same zero (omega arith))) in
-      let others : t.1 ≡ u.1 = B.targets.agrees_all t.1 u.1 (λ i h. same (suc i) (omega arith)) in
-      rw (first, others) refl;
+        let first : t.0 ≡ u.0 = A.targets.agrees_all t.0 u.0 (at_first (a.Agrees t.0 u.0) (same zero (omega arith))) in
+        let others : t.1 ≡ u.1 = B.targets.agrees_all t.1 u.1 (λ i h. same (suc i) (omega arith)) in
+        rw (first, others) refl;
     agrees_same = agrees_same;
   }
 
@@ -110,9 +110,9 @@ module _ {I J S U T V : Type 0} (a : Databases I S T) (b : Databases J U V) (A :
     has_newest = has_newest;
     newest_has = newest_has;
     whole_states = λ m p s is all.
-      let first : p.1.0 ≡ s.0 = A.places.whole_states m.0 (left p) s.0 (left_here m p is) (at_first (λ i. a.HasState m.0 i s.0) (all zero (omega arith))) in
-      let others : p.1.1 ≡ s.1 = B.places.whole_states m.1 (right p) s.1 (right_here m p is) (λ i h. all (suc i) (omega arith)) in
-      rw (first, others) refl;
+        let first : p.1.0 ≡ s.0 = A.places.whole_states m.0 (left p) s.0 (left_here m p is) (at_first (λ i. a.HasState m.0 i s.0) (all zero (omega arith))) in
+        let others : p.1.1 ≡ s.1 = B.places.whole_states m.1 (right p) s.1 (right_here m p is) (λ i h. all (suc i) (omega arith)) in
+        rw (first, others) refl;
     has_kept = has_kept;
     idle_from = λ m p is out. (
       A.places.idle_from m.0 (left p) (left_here m p is) (at_first (λ i. a.tokens m.0 i ≡ []) (out zero (omega arith))),
@@ -182,7 +182,7 @@ module _ {I J S U T V : Type 0} (a : Databases I S T) (b : Databases J U V) (A :
     durable_applied = durable_applied;
     tokens_applied = tokens_applied;
     point_applied = λ m p q is. both_points (a.point (a.applied m.0 (left q))) (b.point (b.applied m.1 (right q))) q
-      (A.apply.point_applied m.0 (left p) (left q) (left_here m p is)) (B.apply.point_applied m.1 (right p) (right q) (right_here m p is));
+        (A.apply.point_applied m.0 (left p) (left q) (left_here m p is)) (B.apply.point_applied m.1 (right p) (right q) (right_here m p is));
     preserves_applied = λ m q. preserves m ((pair a b).applied m q) (A.apply.preserves_applied m.0 (left q)) (B.apply.preserves_applied m.1 (right q));
     preserves_lost_applying = preserves_lost_applying;
   }
@@ -348,8 +348,8 @@ module _ {I J S U T V : Type 0} (a : Databases I S T) (b : Databases J U V) (A :
   prune = record {
     prunable_from = λ m t sound idle kept. (
       A.prune.prunable_from m.0 t.0 sound.0 idle.0
-        (at_first (λ i. (k : ℕ) × (s : S) × a.HasAt m.0 i k s × a.Agrees (a.target_of s) t.0 i × (k ≤ a.durable m.0 i))
-        (let k = kept zero (omega arith) in (k.0, k.1.0, k.2, k.3, k.4))),
+          (at_first (λ i. (k : ℕ) × (s : S) × a.HasAt m.0 i k s × a.Agrees (a.target_of s) t.0 i × (k ≤ a.durable m.0 i))
+          (let k = kept zero (omega arith) in (k.0, k.1.0, k.2, k.3, k.4))),
       B.prune.prunable_from m.1 t.1 sound.1 idle.1 (λ i h. let k = kept (suc i) (omega arith) in (k.0, k.1.1, k.2, k.3, k.4)),
     );
     keeps_pruned = keeps_pruned;

@@ -222,8 +222,9 @@ pub trait ManagedDb: Faulty + Sized + Drop {
     fn flush(self, token: FlushToken) -> Result<Self, Broken<Self::Medium>>
         requires { Contains (standing self).out token.place }
         ensures ok { IfOk result (λ db. standing db ≡ record (standing self) {
-            disk = flushed (standing self).disk token.place;
-            out = without token.place (standing self).out }) }
+          disk = flushed (standing self).disk token.place;
+          out = without token.place (standing self).out;
+        }) }
         ensures ok_next { IfOk result (λ db. next db ≡ next self) }
         ensures ok_count { IfOk result (λ db. Self.count self ≤ Self.count db) }
         ensures err { IfErr result (λ b.
@@ -239,7 +240,8 @@ pub trait ManagedDb: Faulty + Sized + Drop {
         requires idle { (standing self).out ≡ [] }
         requires kept { KeepsDurable target_of Self.SyncTarget.targeted target.now (standing self).disk }
         ensures ok { IfOk result (λ db. standing db ≡ record (standing self) {
-            disk = pruned_to target_of Self.SyncTarget.targeted target.now (standing self).disk }) }
+          disk = pruned_to target_of Self.SyncTarget.targeted target.now (standing self).disk;
+        }) }
         ensures ok_next { IfOk result (λ db. next db ≡ next self) }
         ensures ok_count { IfOk result (λ db. Self.count self ≤ Self.count db) }
         ensures err { IfErr result (λ b. IsEither (standing self).disk

@@ -4,7 +4,7 @@ ghost use Rattle.std.specs.Prelude.{◌≡◌, ℕ, List, ◌∷◌, [], IfOk, I
 ghost use Rattle.stateful_db.specs.Chain.{AllBelow, ids};
 ghost use Rattle.stateful_db.specs.Disk.{point};
 ghost use Rattle.stateful_db.specs.Reopening.{Loses};
-ghost use Rattle.stateful_db.specs.Member.{IsOpenable, member_closed};
+ghost use Rattle.stateful_db.specs.Member.{IsOpenable, member_closed_if};
 ghost use Rattle.stateful_types.specs.Causes.{Rose};
 ghost use Rattle.stateful_db.specs.declared.database.DbCall.{DbCall};
 
@@ -31,16 +31,24 @@ impl<D: ManagedDb> Held<D> {
         matches!(self, Held::Closed(_) | Held::Lost(_))
     }
 
-    /// Closes it where it is here.
-    pub(crate) fn close(&mut self)
-        ensures closed { ⟦<Held<D> as DatabaseSet>⟧.members self.new ≡ member_closed (⟦<Held<D> as DatabaseSet>⟧.members self.old) }
-        ensures next { ⟦<Held<D> as DatabaseSet>⟧.next self.new ≡ ⟦<Held<D> as DatabaseSet>⟧.next self.old }
-        ensures counts { (n : ℕ) → ⟦<Held<D> as DatabaseSet>⟧.counted self.new n ≡ ⟦<Held<D> as DatabaseSet>⟧.counted self.old n }
+    /// Closes it, where it was opened and is here.
+    pub(crate) fn close_if(&mut self, opened: bool)
+        ensures closed { let set = ⟦<Held<D> as DatabaseSet>⟧ in
+            set.members self.new ≡ member_closed_if opened (set.members self.old) }
+        ensures next { let set = ⟦<Held<D> as DatabaseSet>⟧ in set.next self.new ≡ set.next self.old }
+        ensures counts { let set = ⟦<Held<D> as DatabaseSet>⟧ in
+            (n : ℕ) → set.counted self.new n ≡ set.counted self.old n }
     {
-        *self = match mem::replace(self, Held::Away) {
-            Held::Here(database) => Held::Closed(database.close()),
-            other => other,
-        };
+        match mem::replace(self, Held::Away) {
+            Held::Here(database) => {
+                *self = if opened {
+                    Held::Closed(database.close())
+                } else {
+                    Held::Here(database)
+                };
+            }
+            other => *self = other,
+        }
     }
 }
 
@@ -283,7 +291,7 @@ impl<D: ManagedDb> DatabaseSet for Held<D> {
 /// Draws an id and begins a batch over the database's state.
 fn begin<D: ManagedDb>(database: &mut D) -> Result<D::Unmerkleized, SetError>
     ensures ok { IfOk result (λ u. (D.standing database.old).id < D.next database.old → D.Unmerkleized.shows u ((D.next database.old, D.begun (D.standing database.old).disk.newest) ∷ point (D.standing database.old) ∷ [])) }
-    ensures drawn { IfOk result (λ _. D.next database.new ≡ D.next database.old + 1) }
+    ensures drawn { OnOk result (D.next database.new ≡ D.next database.old + 1) }
     ensures next { D.next database.old ≤ D.next database.new }
     ensures standing { D.standing database.new ≡ D.standing database.old }
     ensures count { D.count database.new ≡ D.count database.old }
@@ -306,6 +314,7 @@ fn begin<D: ManagedDb>(database: &mut D) -> Result<D::Unmerkleized, SetError>
 /// Draws an id and begins a batch over a sealed one, whose chain is cut behind where the database is.
 #[tactic(auto, using(crate::proofs::Chains::below))]
 fn fork<D: ManagedDb>(database: &mut D, parent: &D::Merkleized) -> Result<D::Unmerkleized, SetError>
+    ensures drawn { OnOk result (D.next database.new ≡ D.next database.old + 1) }
     ensures ok { IfOk result (λ u. (q : ℕ × D.State) (above older : List (ℕ × D.State)) → D.Merkleized.shows parent.now (q ∷ above ++ point (D.standing database.old) ∷ older) → AllBelow (D.next database.old) (ids (q ∷ above ++ point (D.standing database.old) ∷ older)) → D.Unmerkleized.shows u ((D.next database.old, D.begun q.1) ∷ q ∷ above ++ point (D.standing database.old) ∷ []) × AllBelow (D.next database.new) (ids ((D.next database.old, D.begun q.1) ∷ q ∷ above ++ point (D.standing database.old) ∷ []))) }
     ensures next { D.next database.old ≤ D.next database.new }
     ensures standing { D.standing database.new ≡ D.standing database.old }

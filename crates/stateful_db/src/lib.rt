@@ -7,12 +7,16 @@ mod batch;
 mod database;
 mod held;
 mod pair;
-mod tokens;
 mod set;
+mod tokens;
 
-pub use application::{AppFault, Application, Batch, Hooked, OpenBatch, Targets};
+pub use application::{
+    AppFault, Application, Batch, Hooked, Input, OpenBatch, ProposalKind, Proposed, ProposedBlock,
+    Targets,
+};
 pub use barrier::{Barrier, BarrierPoll, Flushed, Handle};
 pub use batch::{BatchContext, BatchError, Merkleized, Unmerkleized};
 pub use database::{Broken, DbCall, Exhausted, FlushToken, InitError, ManagedDb, Targeted, Why};
 pub use held::Held;
 pub use set::{DatabaseSet, SetError, SetInit, SetLost};
+pub use tokens::Tokens;

@@ -2,7 +2,7 @@
 
 ghost use Rattle.std.specs.Prelude.{◌≡◌, ℕ, ◌^◌, ◌<◌, ◌≤◌, OnOk, OnErr, IfErr, Some};
 ghost use Rattle.stateful_db.specs.Databases.{IsOpening};
-ghost use Rattle.stateful_db.specs.Pair.{behind_first};
+ghost use Rattle.stateful_db.specs.Pair.{behind_first, first_of, others_of};
 
 use crate::batch::BatchError;
 use crate::database::{FlushToken, ManagedDb};
@@ -14,6 +14,7 @@ impl<A: ManagedDb, R: DatabaseSet> DatabaseSet for (Held<A>, R) {
     ghost use Rattle.std.specs.Prelude.{ℕ, map, refl};
     ghost use Rattle.stateful_db.specs.Pair.{left, right, pair, by_number};
     ghost use Rattle.stateful_db.specs.PairLaws.{pair_laws};
+    ghost use Rattle.stateful_db.specs.Member.{MemberIsSound};
     ghost use Rattle.stateful_db.specs.Single.{single};
     ghost use Rattle.stateful_db.specs.SingleLaws.{single_laws};
     ghost use Rattle.stateful_db.specs.declared.held.Held.TheVariants.{Here, Closed, Lost, Away};
@@ -44,14 +45,12 @@ impl<A: ManagedDb, R: DatabaseSet> DatabaseSet for (Held<A>, R) {
 
     ghost shows = { λ m c. A.Merkleized.shows m.0 (map left c) × R.shows m.1 (map right c) };
 
-    ghost laws = {
-        let first = single A.target_of A.SyncTarget.targeted A.begun A.initial in
-        pair_laws first R.kind (single_laws A.target_of A.SyncTarget.targeted A.begun A.initial) R.laws refl
-    };
+    ghost laws = { let first = single A.target_of A.SyncTarget.targeted A.begun A.initial in
+        pair_laws first R.kind (single_laws A.target_of A.SyncTarget.targeted A.begun A.initial) R.laws refl };
 
     ghost sound = { λ s. (
-        elim s.0 [ Here d ↦ A.sound_here d | Closed m ↦ A.sound m | Lost m ↦ A.sound m | Away ↦ tt ],
-        R.sound s.1
+      elim s.0 as (λ h. MemberIsSound A.target_of A.SyncTarget.targeted (⟦<Held<A> as DatabaseSet>⟧.members h)) [ Here d ↦ A.sound_here d | Closed m ↦ A.sound m | Lost m ↦ A.sound m | Away ↦ tt ],
+      R.sound s.1,
     ) };
 
     fn count() -> usize {
@@ -93,21 +92,16 @@ impl<A: ManagedDb, R: DatabaseSet> DatabaseSet for (Held<A>, R) {
         ensures later { let set = ⟦<(Held<A>, R) as DatabaseSet>⟧ in
             (n : ℕ) → set.counted self.old n ≤ set.counted self.new n }
     {
-        let (first, others) = match expected {
-            Some((first, others)) => (Some(first), Some(others)),
-            None => (None, None),
-        };
+        let (first, others) = parts(expected);
         let opens = self.0.is_openable();
         self.0.init(&config.0, first)?;
         match self.1.init(&config.1, others) {
             Ok(()) => Ok(()),
-            Err(SetInit { index, why }) => {
-                if opens {
-                    self.0.close();
-                }
+            Err(refused) => {
+                self.0.close_if(opens);
                 Err(SetInit {
-                    index: index.saturating_add(1),
-                    why,
+                    index: refused.index.saturating_add(1),
+                    why: refused.why,
                 })
             }
         }
@@ -229,6 +223,17 @@ impl<A: ManagedDb, R: DatabaseSet> DatabaseSet for (Held<A>, R) {
 
     fn take(&mut self) -> Self {
         (self.0.take(), self.1.take())
+    }
+}
+
+/// What is expected of the first database, and of the others.
+fn parts<T, U>(expected: Option<(T, U)>) -> (Option<T>, Option<U>)
+    ensures first { result.0 ≡ first_of expected }
+    ensures others { result.1 ≡ others_of expected }
+{
+    match expected {
+        Some((first, others)) => (Some(first), Some(others)),
+        None => (None, None),
     }
 }
 
