@@ -54,6 +54,8 @@ pub record Databases (Ids States Targets : Type 0) : Type 1 where
   pub Openable : Members → Type 0
   -- no database is away
   pub NoneAway : Members → Type 0
+  -- every database is away
+  pub AllAway : Members → Type 0
   -- the database of this number is lost, with its medium
   pub Lost : Members → ℕ → Type 0
   -- the database of this number has its part of these states, where it is here
@@ -83,9 +85,9 @@ pub record Databases (Ids States Targets : Type 0) : Type 1 where
   -- the checkpoints of the database of this number, which is closed or lost, speak against an opening, for this reason
   pub Refuses : Members → Option Targets → ℕ → InitError → Type 0
   -- The database of this number, which was closed or lost, doesn't open at its checkpoint of these targets, or at its
-  -- latest, for this reason, which may be that its count rose, from this to that. It is lost where it failed or wanted memory, and else
-  -- closed as before. Those before that were closed or lost are closed again, each at the checkpoint at which it was
-  -- opened. The others are as before.
+  -- latest, for this reason, which may be that its count rose, from this to that. It is lost where it failed or wanted
+  -- memory, and else closed as before. Those before that were closed or lost are closed again, each at the checkpoint
+  -- at which it was opened. The others are as before.
   pub NotOpened : Members → Option Targets → ℕ → (before now : ℕ) → InitError → Members → Type 0
   -- each database is closed, with its durable checkpoints and as many others as these numbers keep; without a number it keeps all
   pub Crashed : Members → List ℕ → Members → Type 0

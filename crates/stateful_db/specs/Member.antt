@@ -80,6 +80,10 @@ module _ {S : Type 0} where
   IsNotAway away = ⊥
   IsNotAway _ = Unit {0}
 
+  abbrev pub IsAway : Member S → Type 0
+  IsAway away = Unit {0}
+  IsAway _ = ⊥
+
   -- lost with its medium
   abbrev pub IsLost : Member S → Type 0
   IsLost (lost d) = Unit {0}

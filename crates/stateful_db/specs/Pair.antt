@@ -64,6 +64,7 @@ module _ {I J S U T V : Type 0} (a : Databases I S T) (b : Databases J U V) wher
     HasRoom = λ m. a.HasRoom m.0 × b.HasRoom m.1;
     Openable = λ m. a.Openable m.0 × b.Openable m.1;
     NoneAway = λ m. a.NoneAway m.0 × b.NoneAway m.1;
+    AllAway = λ m. a.AllAway m.0 × b.AllAway m.1;
     Lost = λ m. by_number (a.Lost m.0 0) (b.Lost m.1);
     HasState = λ m i s. by_number (a.HasState m.0 0 s.0) (λ j. b.HasState m.1 j s.1) i;
     applied = λ m p. (a.applied m.0 (left p), b.applied m.1 (right p));

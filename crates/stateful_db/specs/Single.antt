@@ -3,7 +3,7 @@ use Rattle.std.specs.Prelude.{◌≡◌, ℕ, ◌+◌, ◌-◌, ◌^◌, ◌≤�
 use Rattle.stateful_types.specs.declared.target.Target.{Target}
 use Rattle.stateful_db.specs.Chain.{AllBelow, ids}
 use Rattle.stateful_db.specs.Databases.{Databases}
-use Rattle.stateful_db.specs.Member.{Member, member_point, MemberHasAt, MemberKeeps, member_first, member_place, member_durable, member_tokens, MemberIsSound, IsIdle, HasRoom, IsOpenable, IsNotAway, IsLost, MemberHas, member_applied, member_finalized, member_flushed, IsPrunable, member_pruned, IsLostApplying, IsLostFinalizing, IsLostFlushing, IsLostPruning, MemberReopened, MemberReclosed, MemberRefuses, MemberNotOpened, MemberCrashed}
+use Rattle.stateful_db.specs.Member.{Member, member_point, MemberHasAt, MemberKeeps, member_first, member_place, member_durable, member_tokens, MemberIsSound, IsIdle, HasRoom, IsOpenable, IsNotAway, IsAway, IsLost, MemberHas, member_applied, member_finalized, member_flushed, IsPrunable, member_pruned, IsLostApplying, IsLostFinalizing, IsLostFlushing, IsLostPruning, MemberReopened, MemberReclosed, MemberRefuses, MemberNotOpened, MemberCrashed}
 
 module _ {S T : Type 0} (target_of : S → T) (targeted : T → Target) (begun : S → S) (initial : S) where
   abbrev pub single : Databases ℕ S T
@@ -32,6 +32,7 @@ module _ {S T : Type 0} (target_of : S → T) (targeted : T → Target) (begun :
     HasRoom = HasRoom;
     Openable = IsOpenable;
     NoneAway = IsNotAway;
+    AllAway = IsAway;
     Lost = λ m i. (i ≡ 0) × IsLost m;
     HasState = λ m i s. MemberHas m s;
     applied = member_applied;

@@ -349,6 +349,7 @@ pub trait DatabaseSet: Sized {
     /// The set. Each member is left away.
     fn take(&mut self) -> Self
         ensures taken { members result ≡ members self.old }
+        ensures left { kind.AllAway (members self.new) }
         ensures next { next result ≡ next self.old }
         ensures counts { (n : ℕ) → counted result n ≡ counted self.old n };
 
