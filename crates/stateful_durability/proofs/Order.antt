@@ -1,17 +1,12 @@
--- What keeps barriers and receipts in order.
-use Rattle.std.proofs.Common.{◌≡◌, ℕ, zero, suc, ◌+◌, ◌-◌, ◌<◌, ◌≤◌, ltb, leb, Option, Some, None, List, [], ◌∷◌, ◌++◌, length, get_or, drop, refl, sym, add-one, ap, ◌∙◌, ⊎_elim, ◌⊎◌, arith, length-append, length-drop}
-use Rattle.std.specs.Prelude.{All, Any, slice_get, unwrap_or}
-use Rattle.std.specs.Option.{ForSome}
-use Rattle.std.specs.List.Sorted.{IsNonDecreasingBy, IsStrictlyIncreasing}
+-- What keeps the receipts in order.
+use Rattle.std.proofs.Common.{◌≡◌, ℕ, ◌+◌, ◌-◌, ◌<◌, ◌≤◌, ltb, leb, List, [], ◌∷◌, ◌++◌, length, get_or, sym, ap, ◌∙◌, ⊎_elim, ◌⊎◌, arith, length-append}
+use Rattle.std.specs.Prelude.{Any}
+use Rattle.std.specs.List.Sorted.{IsNonDecreasingBy}
 use Rattle.std.proofs.lemmas.List.{get_or_append_left, get_or-append-add}
-use Rattle.std.proofs.lemmas.List.Elements.{All-tail, All-cons, All-push, All-drop, filter_passes}
+use Rattle.std.proofs.lemmas.List.Elements.{All-tail, All-cons, All-push, filter_passes}
 use Rattle.std.proofs.lemmas.List.Sorted.{IsNonDecreasingBy-insert, IsNonDecreasingBy-push, IsNonDecreasingBy-drop, All-permutation}
-use Rattle.std.proofs.lemmas.Option.{slice_get_within, get_or_from_slice_get}
 use Rattle.std.proofs.lemmas.Bool.{leb-true, ltb-true}
-use Rattle.stateful_types.specs.declared.number.Height.{Height}
-use Rattle.stateful_durability.specs.declared.durability.Durability.TheInside.{Inside}
-use Rattle.stateful_durability.specs.Shown.{open_barriers, coverage, IsKept}
-use Rattle.stateful_durability.specs.Durability.{Coverage, IsInOrder, after_completion, receipts_up_to, receipts_above, with_duplicate}
+use Rattle.stateful_durability.specs.Durability.{Coverage, IsInOrder, receipts_up_to, receipts_above, with_duplicate}
 use Rattle.stateful_durability.proofs.Receipts.{in_front, with_duplicate_is, with_duplicate_adds}
 
 -- as many in front as are of heights up to one are of no later height
@@ -77,7 +72,7 @@ push_keeps_order c height ticket order last = record {
   applied = All-push (λ receipt. receipt.0 ≤ c.applied) c.held (height, ticket) order.applied (omega arith);
 }
 
--- without the front one,
+-- and without the front one
 pub rest_keeps_order : (c : Coverage) (receipt : ℕ × ℕ) (rest : List (ℕ × ℕ)) → c.held ≡ receipt ∷ rest → IsInOrder c → IsInOrder (record c { held = rest })
 rest_keeps_order c receipt rest front order = record {
   durable = order.durable;
@@ -87,68 +82,3 @@ rest_keeps_order c receipt rest front order = record {
   ascending = IsNonDecreasingBy-drop (λ receipt. receipt.0) 1 (receipt ∷ rest) (rw front at order.ascending);
   applied = All-tail (λ receipt. receipt.0 ≤ c.applied) receipt rest (rw front at order.applied);
 }
-
--- the open barriers ascend from a durable height on, also without the oldest
-without_oldest_ascends : (durable : ℕ) (barriers : List ℕ) → IsStrictlyIncreasing (durable ∷ barriers) → IsStrictlyIncreasing (durable ∷ drop 1 barriers)
-without_oldest_ascends durable [] ascends k within = ascends k within
-without_oldest_ascends durable (oldest ∷ []) ascends k within = absurd (omega arith)
-without_oldest_ascends durable (oldest ∷ next ∷ rest) ascends zero within =
-    let first : durable < oldest = ascends 0 (omega arith) in
-    let second : oldest < next = ascends 1 (omega arith) in
-    omega arith
-without_oldest_ascends durable (oldest ∷ next ∷ rest) ascends (suc k) within =
-    rw (add-one (suc k)) (rw (add-one (suc (suc k))) at (ascends (suc (suc k)) (omega arith)))
-
--- and from the oldest on
-from_oldest_ascends : (durable height : ℕ) (barriers : List ℕ) → slice_get barriers 0 ≡ Some height → IsStrictlyIncreasing (durable ∷ barriers) → IsStrictlyIncreasing (height ∷ drop 1 barriers)
-from_oldest_ascends durable height [] is ascends = cc
-from_oldest_ascends durable height (oldest ∷ rest) is ascends =
-    let same : oldest ≡ height = cc in
-    rw (← same) (λ k within. rw (add-one k) (rw (add-one (suc k)) at (ascends (suc k) (omega arith))))
-
--- its height was applied
-oldest_was_applied : (c : Coverage) (height : ℕ) → IsInOrder c → slice_get c.barriers 0 ≡ Some height → height ≤ c.applied
-oldest_was_applied c height order is =
-    let within = slice_get_within c.barriers 0 height is in
-    rw (get_or_from_slice_get c.barriers 0 height height is) at (order.barriers_applied 0 height within)
-
--- and once the oldest barrier is over
-pub completion_keeps_order : (c : Coverage) (completion : Option Height) → IsInOrder c → ForSome completion (λ height. slice_get c.barriers 0 ≡ Some height.0) → IsInOrder (after_completion c completion)
-completion_keeps_order c None order its = record {
-  durable = order.durable;
-  at_most_two = omega (arith, length-drop 1 c.barriers, order.at_most_two);
-  barriers_ascend = without_oldest_ascends c.durable c.barriers order.barriers_ascend;
-  barriers_applied = All-drop (λ height. height ≤ c.applied) 1 c.barriers order.barriers_applied;
-  ascending = order.ascending;
-  applied = order.applied;
-}
-completion_keeps_order c (Some height) order its = record {
-  durable = oldest_was_applied c height.0 order (its height refl);
-  at_most_two = omega (arith, length-drop 1 c.barriers, order.at_most_two);
-  barriers_ascend = from_oldest_ascends c.durable height.0 c.barriers (its height refl) order.barriers_ascend;
-  barriers_applied = All-drop (λ height. height ≤ c.applied) 1 c.barriers order.barriers_applied;
-  ascending = order.ascending;
-  applied = order.applied;
-}
-
--- what is open without the oldest barrier
-rest_is_open : (oldest newer : Option Height) → (oldest ≡ None → newer ≡ None) → open_barriers newer None ≡ drop 1 (open_barriers oldest newer)
-rest_is_open None None first = refl
-rest_is_open None (Some newer) first = let none = first refl in cc
-rest_is_open (Some oldest) None first = refl
-rest_is_open (Some oldest) (Some newer) first = refl
-
--- the fields are kept then, too
-pub completion_keeps : (a : Inside) (completion oldest newer : Option Height) → IsKept a.oldest a.newer (coverage a.durable a.applied a.oldest a.newer a.held.items) → ForSome completion (λ height. slice_get (open_barriers a.oldest a.newer) 0 ≡ Some height.0) → oldest ≡ a.newer → newer ≡ None → IsKept oldest newer (coverage (unwrap_or completion a.durable) a.applied oldest newer a.held.items)
-completion_keeps a None oldest newer kept its is none = rw (is, none) (record {
-  oldest_first = λ _. refl;
-  in_order = rw (rest_is_open a.oldest a.newer kept.oldest_first) (completion_keeps_order (coverage a.durable a.applied a.oldest a.newer a.held.items) None kept.in_order its);
-})
-completion_keeps a (Some height) oldest newer kept its is none = rw (is, none) (record {
-  oldest_first = λ _. refl;
-  in_order = rw (rest_is_open a.oldest a.newer kept.oldest_first) (completion_keeps_order (coverage a.durable a.applied a.oldest a.newer a.held.items) (Some height) kept.in_order its);
-})
-
--- the front receipt is of no higher height than the others
-pub front_is_lowest : (receipt : ℕ × ℕ) (rest : List (ℕ × ℕ)) → IsNonDecreasingBy (λ r. r.0) (receipt ∷ rest) → All (λ other. receipt.0 ≤ other.0) rest
-front_is_lowest receipt rest ascending k d within = ascending 0 (suc k) d (omega arith) (omega arith)

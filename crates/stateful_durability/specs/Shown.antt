@@ -23,7 +23,7 @@ coverage durable applied oldest newer held = record {
   held = map pair_of held;
 }
 
--- how the fields are kept: a newer barrier is open only beside the oldest, and what they show is in order
-pub record IsKept (oldest newer : Option Height) (shown : Coverage) : Type 0 where
+-- what holds of the fields: a newer barrier is open only beside the oldest, and what they show is in order
+pub record IsSound (oldest newer : Option Height) (shown : Coverage) : Type 0 where
   pub oldest_first : oldest ≡ None → newer ≡ None
   pub in_order : IsInOrder shown

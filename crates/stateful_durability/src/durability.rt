@@ -27,6 +27,7 @@ pub struct Durability {
     // The open barriers. The newer one is there only beside the oldest.
     oldest: Option<Height>,
     newer: Option<Height>,
+
     held: VecDeque<Receipt>,
 }
 
@@ -35,17 +36,19 @@ impl Model for Durability {
 
     ghost Value = { Coverage };
 
-    ghost use Rattle.stateful_durability.specs.Shown.{coverage, IsKept};
+    ghost use Rattle.stateful_durability.specs.Shown.{coverage, IsSound};
 
     ghost view = { λ a. coverage a.durable a.applied a.oldest a.newer a.held.items };
 
-    ghost invariant = { λ a. IsKept a.oldest a.newer (coverage a.durable a.applied a.oldest a.newer a.held.items) };
+    ghost invariant = { λ a. IsSound a.oldest a.newer
+        (coverage a.durable a.applied a.oldest a.newer a.held.items) };
 }
 
 impl Durability {
     /// Starts at a height that is applied and durable, without receipts.
     pub fn new(alloc: Global, height: Height) -> Durability
-        ensures start { result ≡ record { durable = height.0; applied = height.0; barriers = []; held = [] } }
+        ensures start { result
+            ≡ record { durable = height.0; applied = height.0; barriers = []; held = [] } }
         ensures in_order { IsInOrder result }
 
         // Whatever calls follow, a receipt is held until it is released.
@@ -100,8 +103,8 @@ impl Durability {
         height <= self.durable
     }
 
-    /// Whether a barrier has to begin: fewer than two are open, and the last applied height is past that of the newest open
-    /// one, or past the durable height where none is open.
+    /// Whether a barrier has to begin: fewer than two are open, and the last applied height is past that of the newest
+    /// open one, or past the durable height where none is open.
     pub fn needs_barrier(&self) -> bool
         ensures needed { IsTrue result
             ↔ ((length self.now.barriers < 2) × (covered_by_barriers self.now < self.now.applied)) }
@@ -140,11 +143,13 @@ impl Durability {
     /// The oldest open barrier is over. It was good where its height is given, and that height is durable then.
     /// The answer says how many receipts in front are to be released for it.
     pub fn complete(&mut self, completion: Option<Height>) -> usize
-        requires open { self.old.barriers ≢ [] }
-        requires oldest { ForSome completion (λ height. slice_get self.old.barriers 0 ≡ Some height.0) }
+        requires one_open { self.old.barriers ≢ [] }
+        requires oldest { ForSome completion
+            (λ height. slice_get self.old.barriers 0 ≡ Some height.0) }
         ensures after { self.new ≡ after_completion self.old completion }
         ensures later { IfSome completion (λ height. self.old.durable < height.0) }
-        ensures covered { OnSome completion (covered_by_barriers self.new ≡ covered_by_barriers self.old) }
+        ensures covered { OnSome completion
+            (covered_by_barriers self.new ≡ covered_by_barriers self.old) }
         ensures in_order { IsInOrder self.new }
 
         // The receipts of the heights that it covered stand in front, and exactly these are released then.
@@ -155,7 +160,8 @@ impl Durability {
         ensures released { IfSome completion
             (λ height. ReleasesExactly self.new (receipts_up_to height.0 self.old.held)) }
         ensures ascending { IfSome completion
-            (λ height. IsNonDecreasingBy (λ receipt. receipt.0) (receipts_up_to height.0 self.old.held)) }
+            (λ height. let receipts = receipts_up_to height.0 self.old.held in
+            IsNonDecreasingBy (λ receipt. receipt.0) receipts) }
     {
         self.oldest = self.newer.take();
         match completion {
@@ -173,7 +179,8 @@ impl Durability {
         requires first { All (λ receipt. receipt.0 ≢ height.0) self.old.held }
         ensures held { OnOk result
             (self.new ≡ record self.old { held = self.old.held ++ (height.0, ticket) ∷ [] }) }
-        ensures added { OnOk result (IsPermutation ((height.0, ticket) ∷ self.old.held) self.new.held) }
+        ensures added { OnOk result
+            (IsPermutation ((height.0, ticket) ∷ self.old.held) self.new.held) }
         ensures refused { OnErr result (self.new ≡ self.old) }
         ensures in_order { IsInOrder self.new }
     {
@@ -183,10 +190,12 @@ impl Durability {
 
     /// Holds another receipt of a height that is durable or has a receipt, right behind the others of its height.
     pub fn record_duplicate(&mut self, height: Height, ticket: u64) -> Result<(), OutOfMemory>
-        requires { (height.0 ≤ self.old.durable) ⊎ Any (λ receipt. receipt.0 ≡ height.0) self.old.held }
+        requires { (height.0 ≤ self.old.durable)
+            ⊎ Any (λ receipt. receipt.0 ≡ height.0) self.old.held }
         ensures held { OnOk result
             (self.new ≡ record self.old { held = with_duplicate self.old.held height.0 ticket }) }
-        ensures added { OnOk result (IsPermutation ((height.0, ticket) ∷ self.old.held) self.new.held) }
+        ensures added { OnOk result
+            (IsPermutation ((height.0, ticket) ∷ self.old.held) self.new.held) }
         ensures refused { OnErr result (self.new ≡ self.old) }
         ensures in_order { IsInOrder self.new }
     {
@@ -198,12 +207,15 @@ impl Durability {
     /// Takes the front receipt, as its ticket and height, where that height is durable.
     /// None exactly where no receipt of a durable height is held.
     pub fn released(&mut self) -> Option<(u64, Height)>
-        ensures front { IfSome result (λ receipt. Releases self.old self.new (receipt.1.0, receipt.0)) }
+        ensures front { IfSome result
+            (λ receipt. Releases self.old self.new (receipt.1.0, receipt.0)) }
         ensures none { IfNone result (All (λ receipt. self.old.durable < receipt.0) self.old.held) }
         ensures unchanged { IfNone result (self.new ≡ self.old) }
         ensures covered { MatchOption result (covered_receipts self.old ≡ [])
-            (λ receipt. covered_receipts self.old ≡ (receipt.1.0, receipt.0) ∷ covered_receipts self.new) }
-        ensures lowest { IfSome result (λ receipt. All (λ other. receipt.1.0 ≤ other.0) self.new.held) }
+            (λ receipt. covered_receipts self.old
+            ≡ (receipt.1.0, receipt.0) ∷ covered_receipts self.new) }
+        ensures lowest { IfSome result
+            (λ receipt. All (λ other. receipt.1.0 ≤ other.0) self.new.held) }
         ensures in_order { IsInOrder self.new }
     {
         let front = self.held.front()?;

@@ -1,7 +1,7 @@
 use Rattle.std.proofs.Common.{rules, ◌<◌, ap, map}
 use Rattle.stateful_durability.specs.Shown.{coverage, pair_of}
-use Rattle.stateful_durability.proofs.Receipts.{all_behind_later, receipts_up_to_none}
-use Rattle.stateful_durability.proofs.Order.{rest_keeps_order, front_is_lowest}
+use Rattle.stateful_durability.proofs.Receipts.{all_behind_later, receipts_up_to_none, front_is_lowest}
+use Rattle.stateful_durability.proofs.Order.{rest_keeps_order}
 use Rattle.stateful_durability.proofs.durability.Durability.released.Goals as goal
 
 pub returns-then-gt-clause-none : goal.returns-then-gt-clause-none
