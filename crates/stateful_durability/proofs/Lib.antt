@@ -1,3 +1,4 @@
 pub mod Receipts
 pub mod Order
+pub mod Barriers
 pub mod Laws

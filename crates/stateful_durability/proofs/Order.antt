@@ -54,7 +54,9 @@ was_applied c height order known = ⊎_elim
 pub with_duplicate_keeps_order : (c : Coverage) (height ticket : ℕ) → IsInOrder c → (height ≤ c.durable) ⊎ Any (λ receipt. receipt.0 ≡ height) c.held → IsInOrder (record c { held = with_duplicate c.held height ticket })
 with_duplicate_keeps_order c height ticket order known = record {
   durable = order.durable;
-  barrier = order.barrier;
+  at_most_two = order.at_most_two;
+  barriers_ascend = order.barriers_ascend;
+  barriers_applied = order.barriers_applied;
   ascending = with_duplicate_ascends c.held height ticket order.ascending;
   applied = All-permutation (λ receipt. receipt.0 ≤ c.applied) _ _ (with_duplicate_adds c.held height ticket) (All-cons (λ receipt. receipt.0 ≤ c.applied) (height, ticket) c.held (was_applied c height order known) order.applied);
 }
@@ -63,7 +65,9 @@ with_duplicate_keeps_order c height ticket order known = record {
 pub push_keeps_order : (c : Coverage) (height ticket : ℕ) → IsInOrder c → height ≡ c.applied → IsInOrder (record c { held = c.held ++ (height, ticket) ∷ [] })
 push_keeps_order c height ticket order last = record {
   durable = order.durable;
-  barrier = order.barrier;
+  at_most_two = order.at_most_two;
+  barriers_ascend = order.barriers_ascend;
+  barriers_applied = order.barriers_applied;
   ascending = IsNonDecreasingBy-push (λ receipt. receipt.0) c.held (height, ticket) order.ascending (λ d some. rw last (order.applied (length c.held - 1) d (omega arith)));
   applied = All-push (λ receipt. receipt.0 ≤ c.applied) c.held (height, ticket) order.applied (omega arith);
 }
@@ -72,7 +76,9 @@ push_keeps_order c height ticket order last = record {
 pub rest_keeps_order : (c : Coverage) (receipt : ℕ × ℕ) (rest : List (ℕ × ℕ)) → c.held ≡ receipt ∷ rest → IsInOrder c → IsInOrder (record c { held = rest })
 rest_keeps_order c receipt rest front order = record {
   durable = order.durable;
-  barrier = order.barrier;
+  at_most_two = order.at_most_two;
+  barriers_ascend = order.barriers_ascend;
+  barriers_applied = order.barriers_applied;
   ascending = IsNonDecreasingBy-drop (λ receipt. receipt.0) 1 (receipt ∷ rest) (rw front at order.ascending);
   applied = All-tail (λ receipt. receipt.0 ≤ c.applied) receipt rest (rw front at order.applied);
 }

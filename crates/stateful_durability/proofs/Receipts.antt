@@ -106,3 +106,7 @@ all_behind_later height (r ∷ rs) front ascending some is later =
 -- a push onto the fields
 pub push_fields : (items new : List Receipt) (receipt : Receipt) → new ≡ items ++ receipt ∷ [] → map pair_of new ≡ map pair_of items ++ pair_of receipt ∷ []
 push_fields items new receipt is = ap (map pair_of) is ∙ map-append pair_of items (receipt ∷ [])
+
+-- the front receipt is of no higher height than the others
+pub front_is_lowest : (receipt : ℕ × ℕ) (rest : List (ℕ × ℕ)) → IsNonDecreasingBy (λ r. r.0) (receipt ∷ rest) → All (λ other. receipt.0 ≤ other.0) rest
+front_is_lowest receipt rest ascending k d within = ascending 0 (suc k) d (omega arith) (omega arith)

@@ -1,5 +1,5 @@
 -- What becomes of receipts over many calls.
-use Rattle.std.specs.Prelude.{◌≡◌, ℕ, ◌<◌, Option, Some, List, [], ◌∷◌, ◌++◌, All}
+use Rattle.std.specs.Prelude.{◌≡◌, ℕ, ◌<◌, Option, List, [], ◌∷◌, ◌++◌, All}
 use Rattle.std.specs.List.Sorted.{IsPermutation}
 use Rattle.stateful_types.specs.declared.number.Height.{Height}
 use Rattle.stateful_durability.specs.Durability.{Coverage, after_completion, with_duplicate, Releases}
@@ -16,7 +16,7 @@ ReleasesExactly c receipts = (released : List (ℕ × ℕ)) (last : Coverage) �
 -- one call that changed the value, with the receipts that it recorded and those that it released
 pub data Call : Coverage → List (ℕ × ℕ) → List (ℕ × ℕ) → Coverage → Type 0 where
   applies : {c : Coverage} (height : ℕ) → Call c [] [] (record c { applied = height })
-  sets_barrier : {c : Coverage} (height : ℕ) → Call c [] [] (record c { barrier = Some height })
+  sets_barrier : {c : Coverage} (height : ℕ) → Call c [] [] (record c { barriers = c.barriers ++ height ∷ [] })
   completes : {c : Coverage} (completion : Option Height) → Call c [] [] (after_completion c completion)
   records : {c : Coverage} (height ticket : ℕ) → Call c ((height, ticket) ∷ []) [] (record c { held = c.held ++ (height, ticket) ∷ [] })
   records_duplicate : {c : Coverage} (height ticket : ℕ) → Call c ((height, ticket) ∷ []) [] (record c { held = with_duplicate c.held height ticket })

@@ -1,9 +1,9 @@
-//! The durable height, the active barrier and the receipts that wait.
+//! The durable height, the open barriers and the receipts that wait.
 
-ghost use Rattle.std.specs.Prelude.{◌≡◌, ◌≢◌, ◌<◌, ◌≤◌, ◌↔◌, ◌⊎◌, [], ◌∷◌, ◌++◌, length, take, IsTrue, IsNone, IsSome, IfSome, IfNone, IfOk, OnOk, OnErr, MatchOption, All, Any, option_map};
+ghost use Rattle.std.specs.Prelude.{◌≡◌, ◌≢◌, ◌<◌, ◌≤◌, ◌↔◌, ◌⊎◌, [], ◌∷◌, ◌++◌, length, take, slice_get, IsTrue, IfSome, IfNone, IfOk, OnSome, OnOk, OnErr, MatchOption, All, Any, option_map};
 ghost use Rattle.std.specs.Option.{ForSome};
-ghost use Rattle.std.specs.List.Sorted.{IsPermutation};
-ghost use Rattle.stateful_durability.specs.Durability.{receipts_up_to, receipts_above, with_duplicate, covered_receipts, after_completion, IsInOrder, Releases};
+ghost use Rattle.std.specs.List.Sorted.{IsNonDecreasingBy, IsPermutation};
+ghost use Rattle.stateful_durability.specs.Durability.{covered_by_barriers, receipts_up_to, receipts_above, with_duplicate, covered_receipts, after_completion, IsInOrder, Releases};
 ghost use Rattle.stateful_durability.specs.Calls.{ReleasesExactly, KeepsReceipts};
 
 use stateful_types::{Height, OutOfMemory};
@@ -23,26 +23,32 @@ struct Receipt {
 pub struct Durability {
     durable: Height,
     applied: Height,
-    barrier: Option<Height>,
+
+    // The open barriers. The newer one is there only beside the oldest.
+    oldest: Option<Height>,
+    newer: Option<Height>,
+
     held: VecDeque<Receipt>,
 }
 
 impl Model for Durability {
-    ghost use Rattle.stateful_durability.specs.Durability.{Coverage, IsInOrder};
+    ghost use Rattle.stateful_durability.specs.Durability.{Coverage};
 
     ghost Value = { Coverage };
 
-    ghost use Rattle.stateful_durability.specs.Shown.{coverage};
+    ghost use Rattle.stateful_durability.specs.Shown.{coverage, IsSound};
 
-    ghost view = { λ a. coverage a.durable a.applied a.barrier a.held.items };
+    ghost view = { λ a. coverage a.durable a.applied a.oldest a.newer a.held.items };
 
-    ghost invariant = { λ a. IsInOrder (coverage a.durable a.applied a.barrier a.held.items) };
+    ghost invariant = { λ a. IsSound a.oldest a.newer
+        (coverage a.durable a.applied a.oldest a.newer a.held.items) };
 }
 
 impl Durability {
     /// Starts at a height that is applied and durable, without receipts.
     pub fn new(alloc: Global, height: Height) -> Durability
-        ensures start { result ≡ record { durable = height.0; applied = height.0; barrier = None; held = [] } }
+        ensures start { result
+            ≡ record { durable = height.0; applied = height.0; barriers = []; held = [] } }
         ensures in_order { IsInOrder result }
 
         // Whatever calls follow, a receipt is held until it is released.
@@ -51,7 +57,8 @@ impl Durability {
         Durability {
             durable: height,
             applied: height,
-            barrier: None,
+            oldest: None,
+            newer: None,
             held: VecDeque::new(alloc),
         }
     }
@@ -72,12 +79,20 @@ impl Durability {
         self.applied
     }
 
-    /// The height of the active barrier. None exactly where no barrier is active.
-    pub fn barrier_height(&self) -> Option<Height>
-        ensures height { self.now.barrier ≡ option_map (λ height. height.0) result }
+    /// The height of the oldest open barrier, which is the next that completes. None exactly where none is open.
+    pub fn oldest_barrier(&self) -> Option<Height>
+        ensures height { slice_get self.now.barriers 0 ≡ option_map (λ height. height.0) result }
         ensures in_order { IsInOrder self.now }
     {
-        self.barrier
+        self.oldest
+    }
+
+    /// Whether another barrier may begin: fewer than two are open.
+    pub fn is_free(&self) -> bool
+        ensures free { IsTrue result ↔ (length self.now.barriers < 2) }
+        ensures in_order { IsInOrder self.now }
+    {
+        self.newer.is_none()
     }
 
     /// Whether this height is durable.
@@ -88,42 +103,53 @@ impl Durability {
         height <= self.durable
     }
 
-    /// Whether a barrier has to begin: none is active, and the last applied height isn't durable.
+    /// Whether a barrier has to begin: fewer than two are open, and the last applied height is past that of the newest
+    /// open one, or past the durable height where none is open.
     pub fn needs_barrier(&self) -> bool
-        ensures needed { IsTrue result ↔ (IsNone self.now.barrier × (self.now.durable < self.now.applied)) }
+        ensures needed { IsTrue result
+            ↔ ((length self.now.barriers < 2) × (covered_by_barriers self.now < self.now.applied)) }
         ensures in_order { IsInOrder self.now }
     {
-        self.barrier.is_none() && self.durable < self.applied
+        self.is_free() && self.covered_by_barriers() < self.applied
     }
 
     /// A block of this height was applied, which is above all that were applied before.
     pub fn applied(&mut self, height: Height)
         requires { self.old.applied < height.0 }
         ensures applied { self.new ≡ record self.old { applied = height.0 } }
+        ensures no_barrier_yet { covered_by_barriers self.new < height.0 }
         ensures no_receipt_yet { All (λ receipt. receipt.0 < height.0) self.new.held }
         ensures in_order { IsInOrder self.new }
     {
         self.applied = height;
     }
 
-    /// A barrier began over the heights up to this one.
+    /// A barrier began over the heights up to this one, which is the newest open one now.
     pub fn set_barrier(&mut self, height: Height)
-        requires none_active { IsNone self.old.barrier }
-        requires not_durable { self.old.durable < height.0 }
+        requires free { length self.old.barriers < 2 }
+        requires not_covered { covered_by_barriers self.old < height.0 }
         requires was_applied { height.0 ≤ self.old.applied }
-        ensures set { self.new ≡ record self.old { barrier = Some height.0 } }
+        ensures set { self.new ≡ record self.old { barriers = self.old.barriers ++ height.0 ∷ [] } }
+        ensures covered { covered_by_barriers self.new ≡ height.0 }
         ensures in_order { IsInOrder self.new }
     {
-        self.barrier = Some(height);
+        if self.oldest.is_none() {
+            self.oldest = Some(height);
+        } else {
+            self.newer = Some(height);
+        }
     }
 
-    /// The active barrier is over. It was good where its height is given, and that height is durable then.
+    /// The oldest open barrier is over. It was good where its height is given, and that height is durable then.
     /// The answer says how many receipts in front are to be released for it.
     pub fn complete(&mut self, completion: Option<Height>) -> usize
-        requires active { IsSome self.old.barrier }
-        requires its_height { ForSome completion (λ height. self.old.barrier ≡ Some height.0) }
+        requires one_open { self.old.barriers ≢ [] }
+        requires oldest { ForSome completion
+            (λ height. slice_get self.old.barriers 0 ≡ Some height.0) }
         ensures after { self.new ≡ after_completion self.old completion }
         ensures later { IfSome completion (λ height. self.old.durable < height.0) }
+        ensures covered { OnSome completion
+            (covered_by_barriers self.new ≡ covered_by_barriers self.old) }
         ensures in_order { IsInOrder self.new }
 
         // The receipts of the heights that it covered stand in front, and exactly these are released then.
@@ -133,8 +159,11 @@ impl Durability {
             (λ height. take result self.old.held ≡ receipts_up_to height.0 self.old.held) }
         ensures released { IfSome completion
             (λ height. ReleasesExactly self.new (receipts_up_to height.0 self.old.held)) }
+        ensures ascending { IfSome completion
+            (λ height. let receipts = receipts_up_to height.0 self.old.held in
+            IsNonDecreasingBy (λ receipt. receipt.0) receipts) }
     {
-        self.barrier = None;
+        self.oldest = self.newer.take();
         match completion {
             Some(height) => {
                 self.durable = height;
@@ -150,7 +179,8 @@ impl Durability {
         requires first { All (λ receipt. receipt.0 ≢ height.0) self.old.held }
         ensures held { OnOk result
             (self.new ≡ record self.old { held = self.old.held ++ (height.0, ticket) ∷ [] }) }
-        ensures added { OnOk result (IsPermutation ((height.0, ticket) ∷ self.old.held) self.new.held) }
+        ensures added { OnOk result
+            (IsPermutation ((height.0, ticket) ∷ self.old.held) self.new.held) }
         ensures refused { OnErr result (self.new ≡ self.old) }
         ensures in_order { IsInOrder self.new }
     {
@@ -160,10 +190,12 @@ impl Durability {
 
     /// Holds another receipt of a height that is durable or has a receipt, right behind the others of its height.
     pub fn record_duplicate(&mut self, height: Height, ticket: u64) -> Result<(), OutOfMemory>
-        requires { (height.0 ≤ self.old.durable) ⊎ Any (λ receipt. receipt.0 ≡ height.0) self.old.held }
+        requires { (height.0 ≤ self.old.durable)
+            ⊎ Any (λ receipt. receipt.0 ≡ height.0) self.old.held }
         ensures held { OnOk result
             (self.new ≡ record self.old { held = with_duplicate self.old.held height.0 ticket }) }
-        ensures added { OnOk result (IsPermutation ((height.0, ticket) ∷ self.old.held) self.new.held) }
+        ensures added { OnOk result
+            (IsPermutation ((height.0, ticket) ∷ self.old.held) self.new.held) }
         ensures refused { OnErr result (self.new ≡ self.old) }
         ensures in_order { IsInOrder self.new }
     {
@@ -175,11 +207,15 @@ impl Durability {
     /// Takes the front receipt, as its ticket and height, where that height is durable.
     /// None exactly where no receipt of a durable height is held.
     pub fn released(&mut self) -> Option<(u64, Height)>
-        ensures front { IfSome result (λ receipt. Releases self.old self.new (receipt.1.0, receipt.0)) }
+        ensures front { IfSome result
+            (λ receipt. Releases self.old self.new (receipt.1.0, receipt.0)) }
         ensures none { IfNone result (All (λ receipt. self.old.durable < receipt.0) self.old.held) }
         ensures unchanged { IfNone result (self.new ≡ self.old) }
         ensures covered { MatchOption result (covered_receipts self.old ≡ [])
-            (λ receipt. covered_receipts self.old ≡ (receipt.1.0, receipt.0) ∷ covered_receipts self.new) }
+            (λ receipt. covered_receipts self.old
+            ≡ (receipt.1.0, receipt.0) ∷ covered_receipts self.new) }
+        ensures lowest { IfSome result
+            (λ receipt. All (λ other. receipt.1.0 ≤ other.0) self.new.held) }
         ensures in_order { IsInOrder self.new }
     {
         let front = self.held.front()?;
@@ -188,6 +224,13 @@ impl Durability {
         }
         let receipt = self.held.pop_front()?;
         Some((receipt.ticket, receipt.height))
+    }
+
+    // The height that the newest open barrier covers, or else the durable one.
+    fn covered_by_barriers(&self) -> Height
+        ensures { result.0 ≡ covered_by_barriers self.now }
+    {
+        self.newer.or(self.oldest).unwrap_or(self.durable)
     }
 
     // How many receipts are of heights up to this one. They stand in front.
@@ -220,19 +263,18 @@ mod tests {
         Ok(receipts)
     }
 
-    // Blocks at heights 1 and 2, of which the first is delivered twice while its barrier is active.
+    // Blocks at heights 1 and 2, each with a barrier of its own, of which the first is delivered twice.
     #[test]
-    fn acknowledges_behind_barriers(rt: HostRuntime) -> Result<(), Fail> {
+    fn acknowledges_behind_two_barriers(rt: HostRuntime) -> Result<(), Fail> {
         let mut durability = Durability::new(rt.alloc(), Height(0));
-        assert!(rt; !durability.needs_barrier());
         durability.applied(Height(1));
-        assert!(rt; durability.needs_barrier());
         durability.set_barrier(Height(1));
         durability.record(Height(1), 0)?;
         durability.applied(Height(2));
+        durability.set_barrier(Height(2));
         durability.record(Height(2), 1)?;
         durability.record_duplicate(Height(1), 2)?;
-        assert!(rt; !durability.needs_barrier());
+        assert_eq!(rt; durability.oldest_barrier(), Some(Height(1)));
 
         assert_eq!(rt; durability.complete(Some(Height(1))), 2);
         assert_eq!(rt;
@@ -240,15 +282,33 @@ mod tests {
             [(1, 0), (1, 2)].as_slice()
         );
         assert!(rt; durability.covers(Height(1)) && !durability.covers(Height(2)));
-        assert!(rt; durability.needs_barrier());
+        assert_eq!(rt; durability.oldest_barrier(), Some(Height(2)));
 
-        durability.set_barrier(Height(2));
         assert_eq!(rt; durability.complete(Some(Height(2))), 1);
         assert_eq!(rt;
             release_all(rt.alloc(), &mut durability)?.as_slice(),
             [(2, 1)].as_slice()
         );
+        assert_eq!(rt; durability.oldest_barrier(), None);
         Ok(())
+    }
+
+    // A third height waits until one of two barriers is over.
+    #[test]
+    fn two_barriers_are_the_most(rt: HostRuntime) {
+        let mut durability = Durability::new(rt.alloc(), Height(0));
+        assert!(rt; durability.is_free() && !durability.needs_barrier());
+        durability.applied(Height(1));
+        assert!(rt; durability.needs_barrier());
+        durability.set_barrier(Height(1));
+        assert!(rt; durability.is_free() && !durability.needs_barrier());
+        durability.applied(Height(2));
+        assert!(rt; durability.needs_barrier());
+        durability.set_barrier(Height(2));
+        durability.applied(Height(3));
+        assert!(rt; !durability.is_free() && !durability.needs_barrier());
+        durability.complete(Some(Height(1)));
+        assert!(rt; durability.needs_barrier());
     }
 
     #[test]
@@ -258,10 +318,9 @@ mod tests {
         durability.record(Height(5), 0)?;
         durability.record_duplicate(Height(4), 1)?;
         durability.set_barrier(Height(5));
-        assert_eq!(rt; durability.barrier_height(), Some(Height(5)));
 
         assert_eq!(rt; durability.complete(None), 0);
-        assert_eq!(rt; durability.barrier_height(), None);
+        assert_eq!(rt; durability.oldest_barrier(), None);
         assert_eq!(rt; durability.durable_height(), Height(4));
         assert_eq!(rt; durability.applied_height(), Height(5));
         assert_eq!(rt;

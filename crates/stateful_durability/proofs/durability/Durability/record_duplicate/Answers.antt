@@ -8,15 +8,15 @@ use Rattle.stateful_durability.proofs.durability.Durability.record_duplicate.Goa
 -- what is held afterwards
 pub returns-clause-held : goal.returns-clause-held
 returns-clause-held c =
-    let e = with_duplicate_fields c.self.inside.held.items c.insert.new.self.items c.args.height.0 c.args.ticket _ c.self.invariant.ascending (c.count_up_to-place.ensures.count ∙ ap (λ (v : Coverage). length (receipts_up_to c.args.height.0 v.held)) (sym c.self.view_is)) c.in_ok-insert.ensures.items in
-    rw (← c.self.view_is) (ap (λ (held : List (ℕ × ℕ)). record (coverage c.self.inside.durable c.self.inside.applied c.self.inside.barrier c.self.inside.held.items) { held = held }) e)
+    let e = with_duplicate_fields c.self.inside.held.items c.insert.new.self.items c.args.height.0 c.args.ticket _ c.self.invariant.in_order.ascending (c.count_up_to-place.ensures.count ∙ ap (λ (v : Coverage). length (receipts_up_to c.args.height.0 v.held)) (sym c.self.view_is)) c.in_ok-insert.ensures.items in
+    rw (← c.self.view_is) (ap (λ (held : List (ℕ × ℕ)). record (coverage c.self.inside.durable c.self.inside.applied c.self.inside.oldest c.self.inside.newer c.self.inside.held.items) { held = held }) e)
 
 pub returns-clause-in_order : goal.returns-clause-in_order
 returns-clause-in_order c =
-    rw (returns-clause-held c) (with_duplicate_keeps_order c.args.self.now c.args.height.0 c.args.ticket (rw c.self.view_is at c.self.invariant) c.requires)
+    rw (returns-clause-held c) (with_duplicate_keeps_order c.args.self.now c.args.height.0 c.args.ticket (rw c.self.view_is at c.self.invariant.in_order) c.requires)
 
 pub invariant_of-self-2 : goal.invariant_of-self-2
-invariant_of-self-2 c = returns-clause-in_order c
+invariant_of-self-2 c = record { oldest_first = c.self.invariant.oldest_first; in_order = returns-clause-in_order c }
 
 pub returns-clause-added : goal.returns-clause-added
 returns-clause-added c =
