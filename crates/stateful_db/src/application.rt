@@ -204,7 +204,7 @@ pub trait Application: Faulty + Sized {
             → Rose (Self.Build.count build.old) (Self.Build.count build.new) }
         ensures later { Self.Build.count build.old ≤ Self.Build.count build.new };
 
-    /// Reads the states before the block is applied, which leads to these batches. It answers at once.
+    /// Reads the states before the block is applied, which the databases hold. It answers at once.
     fn capture(
         &mut self,
         context: Self::Context,
@@ -212,9 +212,8 @@ pub trait Application: Faulty + Sized {
         batches: &Batch<Self>,
         databases: &Self::Databases,
     ) -> Result<Self::Captured, AppFault>
-        ensures ok { IfOk result (λ captured. (p q : Self.Databases.Ids × Self.Databases.States) (c : List (Self.Databases.Ids × Self.Databases.States))
+        ensures ok { IfOk result (λ captured. (p : Self.Databases.Ids × Self.Databases.States)
             → Self.Databases.kind.point (Self.Databases.members databases.now) ≡ Some p
-            → Self.Databases.shows batches.now (q ∷ p ∷ c)
             → works.captures captured context block.now p.1) }
         ensures notes { OnOk result (notes self.new ≡ notes self.old) }
         ensures failed { IsErrOf result AppFault.Failed
