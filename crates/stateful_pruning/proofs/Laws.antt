@@ -5,7 +5,7 @@ use Rattle.std.proofs.Math.Seq.{drop-nil}
 use Rattle.stateful_pruning.specs.declared.pruning.Prune.{Prune}
 use Rattle.stateful_pruning.specs.Rule.{Entry, Schedule, window, MayPruneTo, IsTarget, MayPrune, IsDue, IsPrune, IsAnswer}
 use Rattle.stateful_pruning.specs.Pruning.{Recorded, with_entry}
-use Rattle.stateful_pruning.specs.Calls.{none, further, AnswersByAll, KeepsWindow}
+use Rattle.stateful_pruning.specs.Calls.{Extends, none, further, AnswersByAll, KeepsWindow}
 use Rattle.stateful_pruning.proofs.Windows.{window-window, window-push}
 
 -- two lists of entries with the same marshal window and the same newest entry
@@ -68,13 +68,26 @@ module _ {T : Type 0} (s : Schedule) where
       ∙ ap (λ (p : Recorded T). with_entry p entry) before
       ∙ ap (λ (kept : List (Entry T)). record { schedule = s; kept = kept }) (window-push s.marshal_window entries entry)
 
+  -- what the rule says of the window it says of all
+  of_all : (entries : List (Entry T)) (answer : Option (Prune T)) → 1 ≤ s.marshal_window → IsAnswer s (window s.marshal_window entries) answer → IsAnswer s entries answer
+  of_all entries answer some is =
+      answer_alike (window s.marshal_window entries) entries answer (record {
+        marshal = window-window s.marshal_window s.marshal_window entries (omega arith);
+        newest = window-window 1 s.marshal_window entries some;
+      }) is
+
   -- so each answer is the rule's over all entries
   pub answers_by_all : 1 ≤ s.marshal_window → AnswersByAll {T = T} (record { schedule = s; kept = [] })
   answers_by_all some entries old new entry answer calls call =
-      let all = entries ++ entry ∷ [] in
-      let kept : new ≡ record { schedule = s; kept = window s.marshal_window all } = keeps_window all new (further calls call) in
-      let alike : IsAlike s (window s.marshal_window all) all = record {
-        marshal = window-window s.marshal_window s.marshal_window all (omega arith);
-        newest = window-window 1 s.marshal_window all some;
-      } in
-      answer_alike (window s.marshal_window all) all answer alike (subst (λ (p : Recorded T). IsAnswer p.schedule p.kept answer) kept call.by_rule)
+      let kept = keeps_window (entries ++ entry ∷ []) new (further calls call) in
+      of_all (entries ++ entry ∷ []) answer some (subst (λ (p : Recorded T). IsAnswer p.schedule p.kept answer) kept call.by_rule)
+
+-- the same of one call
+pub extends : {T : Type 0} (old new : Recorded T) (entry : Entry T) (answer : Option (Prune T)) → 1 ≤ new.schedule.marshal_window → new ≡ with_entry old entry → IsAnswer new.schedule new.kept answer → Extends old new entry answer
+extends {T = T} old new entry answer some recorded by_rule entries were =
+    let schedule : new.schedule ≡ old.schedule = ap (λ (p : Recorded T). p.schedule) recorded in
+    let kept : new.kept ≡ window old.schedule.marshal_window (entries ++ entry ∷ []) =
+    ap (λ (p : Recorded T). p.kept) recorded
+    ∙ ap (λ (kept : List (Entry T)). window old.schedule.marshal_window (kept ++ entry ∷ [])) were
+    ∙ window-push old.schedule.marshal_window entries entry in
+    (kept, of_all old.schedule (entries ++ entry ∷ []) answer (rw schedule at some) (rw (schedule, kept) at by_rule))

@@ -10,6 +10,11 @@ module _ {T : Type 0} where
     pub recorded : new ≡ with_entry old entry
     pub by_rule : IsAnswer new.schedule new.kept answer
 
+  -- Whatever entries they were the last marshal window of, the entries that are kept now are that of these and one more,
+  -- and the answer is the rule's over all of them.
+  abbrev pub Extends : Recorded T → Recorded T → Entry T → Option (Prune T) → Type 0
+  Extends old new entry answer = (entries : List (Entry T)) → old.kept ≡ window old.schedule.marshal_window entries → (new.kept ≡ window old.schedule.marshal_window (entries ++ entry ∷ [])) × IsAnswer old.schedule (entries ++ entry ∷ []) answer
+
   -- calls of `observe`, one after another, and the entries that they recorded; a refused call changes nothing
   pub data Calls (start : Recorded T) : List (Entry T) → Recorded T → Type 0 where
     none : Calls start [] start

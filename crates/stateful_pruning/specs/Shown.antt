@@ -1,7 +1,7 @@
 -- What the fields show.
-use Rattle.std.specs.Prelude.{ℕ, List, map}
+use Rattle.std.specs.Prelude.{map}
 use Rattle.std.specs.Int.NonZero.{non_zero_usize_get}
-use Rattle.std.specs.declared.num.NonZeroUsize.{NonZeroUsize}
+use Rattle.stateful_pruning.specs.declared.pruning.Pruning.TheInside.{Inside}
 use Rattle.stateful_pruning.specs.declared.pruning.Entry.{Entry as Fields}
 use Rattle.stateful_pruning.specs.Rule.{Entry}
 use Rattle.stateful_pruning.specs.Pruning.{Recorded}
@@ -10,15 +10,15 @@ use Rattle.stateful_pruning.specs.Pruning.{Recorded}
 abbrev pub entry_of : {T : Type 0} → Fields T → Entry T
 entry_of fields = record { height = fields.height.0; targets = fields.targets; operations = fields.operations }
 
--- from the interval, the offset, the windows, the operations to retain and the entries
-abbrev pub recorded : {T : Type 0} → NonZeroUsize → ℕ → ℕ → ℕ → ℕ → List (Fields T) → Recorded T
-recorded interval offset marshal_window qmdb_window retained_operations entries = record {
+-- the fields as the schedule and the entries that are kept
+abbrev pub recorded : {T : Type 0} → Inside T → Recorded T
+recorded fields = record {
   schedule = record {
-    interval = non_zero_usize_get interval;
-    offset = offset;
-    marshal_window = marshal_window;
-    qmdb_window = qmdb_window;
-    retained_operations = retained_operations;
+    interval = non_zero_usize_get fields.interval;
+    offset = fields.offset;
+    marshal_window = fields.marshal_window;
+    qmdb_window = fields.qmdb_window;
+    retained_operations = fields.retained_operations;
   };
-  kept = map entry_of entries;
+  kept = map entry_of fields.entries.items;
 }

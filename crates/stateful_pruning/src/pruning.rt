@@ -7,7 +7,7 @@ ghost use Rattle.stateful_pruning.specs.declared.pruning.PruningError.TheVariant
 ghost use Rattle.stateful_pruning.specs.Config.{schedule_of, window_size, IsConsistent, IsInconsistent, FitsWindows, PassesWindows};
 ghost use Rattle.stateful_pruning.specs.Rule.{OnNewest, MayPrune, IsTarget, IsAnswer, KeepsWindows};
 ghost use Rattle.stateful_pruning.specs.Pruning.{IsSound, with_entry};
-ghost use Rattle.stateful_pruning.specs.Calls.{KeepsWindow, AnswersByAll};
+ghost use Rattle.stateful_pruning.specs.Calls.{Extends, KeepsWindow, AnswersByAll};
 ghost use Rattle.stateful_pruning.specs.Shown.{entry_of};
 
 use crate::config::{InvalidPruneConfig, PruneConfig};
@@ -76,9 +76,9 @@ impl<T> Model for Pruning<T> {
 
     ghost use Rattle.stateful_pruning.specs.Shown.{recorded};
 
-    ghost view = { λ a. recorded a.interval a.offset a.marshal_window a.qmdb_window a.retained_operations a.entries.items };
+    ghost view = { recorded };
 
-    ghost invariant = { λ a. IsSound (recorded a.interval a.offset a.marshal_window a.qmdb_window a.retained_operations a.entries.items) };
+    ghost invariant = { λ a. IsSound (recorded a) };
 }
 
 impl<T: Copy> Pruning<T> {
@@ -125,7 +125,8 @@ impl<T: Copy> Pruning<T> {
     }
 
     /// Records a finalized height with its targets and the number of operations up to there, and answers the prune that
-    /// is due by it. Heights come in ascending order, and an entry is newer than those recorded before it.
+    /// is due by it. Heights come in ascending order, and an entry is newer than those recorded before it. It wants memory
+    /// only until a marshal window is recorded.
     pub fn observe(
         &mut self,
         height: Height,
@@ -138,6 +139,8 @@ impl<T: Copy> Pruning<T> {
         ensures only { IfOk result (λ answer. (other : Option (Prune T))
             → IsAnswer self.new.schedule self.new.kept other
             → other ≡ answer) }
+        ensures extends { IfOk result (Extends self.old self.new
+            (record { height = height.0; targets = targets; operations = operations })) }
 
         // Where heights ascend, nothing within the windows is pruned.
         ensures windows { IfOk result (λ answer. IfSome answer (λ prune.

@@ -16,7 +16,7 @@ returns-in_err-most-clause-variant g c =
 pub returns-then-entry-most-clause-target : goal.returns-then-entry-most-clause-target
 returns-then-entry-most-clause-target g c =
     let a = c.self.inside in
-    let p = recorded a.interval a.offset a.marshal_window a.qmdb_window a.retained_operations a.entries.items in
+    let p = recorded a in
     let full = full_from p c.args.operations c.self.invariant (rw (← c.self.view_is) at c.requires.full) (rw (← c.self.view_is) at c.requires.newest) in
     let entry = c.index-entry.result.now in
     let i = c.loop-place.place - 1 in
@@ -50,7 +50,7 @@ loop-place-preserved g c k d from to =
 pub returns-clause-variant : goal.returns-clause-variant
 returns-clause-variant g c =
     let a = c.self.inside in
-    let p = recorded a.interval a.offset a.marshal_window a.qmdb_window a.retained_operations a.entries.items in
+    let p = recorded a in
     let full = full_from p c.args.operations c.self.invariant (rw (← c.self.view_is) at c.requires.full) (rw (← c.self.view_is) at c.requires.newest) in
     let none : MayPrune p.schedule p.kept → ⊥ = none_outside p.schedule p.kept c.args.operations full c.in_ok-most.most (omega (arith, c.in_ok-most.ensures)) (λ k d from to. c.loop-place.invariant k d (omega arith) to) in
     rw (← c.self.view_is) (λ some. absurd (search rules), λ may. absurd (none may))
