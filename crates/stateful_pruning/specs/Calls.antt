@@ -10,8 +10,8 @@ module _ {T : Type 0} where
     pub recorded : new ≡ with_entry old entry
     pub by_rule : IsAnswer new.schedule new.kept answer
 
-  -- Whatever entries they were the last marshal window of, the entries that are kept now are that of these and one more,
-  -- and the answer is the rule's over all of them.
+  -- Where the last marshal window of some entries was kept, that of these and one more is kept now, and the answer is the
+  -- rule's over all of them.
   abbrev pub Extends : Recorded T → Recorded T → Entry T → Option (Prune T) → Type 0
   Extends old new entry answer = (entries : List (Entry T)) → old.kept ≡ window old.schedule.marshal_window entries → (new.kept ≡ window old.schedule.marshal_window (entries ++ entry ∷ [])) × IsAnswer old.schedule (entries ++ entry ∷ []) answer
 

@@ -38,6 +38,7 @@ pub enum PruningError {
     /// A window has more than `usize::MAX` blocks.
     #[error("WindowOverflow")]
     WindowOverflow,
+    /// Never given, since nothing is stored yet.
     #[error("OutOfMemory")]
     OutOfMemory,
 }
