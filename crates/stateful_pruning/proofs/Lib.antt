@@ -1,0 +1,5 @@
+pub mod Windows
+pub mod Laws
+pub mod Target
+pub mod Answer
+pub mod Retained

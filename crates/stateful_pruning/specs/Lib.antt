@@ -1,0 +1,5 @@
+pub mod Config
+pub mod Rule
+pub mod Pruning
+pub mod Calls
+pub mod Shown
