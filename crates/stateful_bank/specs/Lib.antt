@@ -1,4 +1,3 @@
-pub mod Bytes
 pub mod Op
 pub mod Accounts
 pub mod Balances

@@ -5,7 +5,6 @@ mod accounts;
 mod ask;
 mod balances;
 mod block;
-mod bytes;
 mod op;
 
 pub use accounts::{Accounts, do_op, do_ops};
