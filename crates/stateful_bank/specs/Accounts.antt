@@ -42,6 +42,6 @@ module _ (book : Book) where
   begun_ops s [] = 0
   begun_ops s (op ∷ ops) = 1 + option_map_or (λ after. begun_ops after ops) (do_op s op) 0
 
-  -- the turns of a run of these operations: one for each that is begun, and at least one
+  -- the turns of a run or a build of these operations: one for each that is begun, and at least one
   abbrev pub run_turns : book.State → List Op → ℕ
   run_turns s ops = max 1 (begun_ops s ops)

@@ -31,6 +31,6 @@ do_ops entries ops = accounts.do_ops entries_book entries ops
 abbrev pub begun_ops : List (ℕ × ℕ) → List Op → ℕ
 begun_ops entries ops = accounts.begun_ops entries_book entries ops
 
--- the turns of a run of these operations
+-- the turns of a run or a build of these operations
 abbrev pub run_turns : List (ℕ × ℕ) → List Op → ℕ
 run_turns entries ops = accounts.run_turns entries_book entries ops
