@@ -5,24 +5,25 @@ use Rattle.stateful_types.specs.Names.{Header}
 use Rattle.stateful_types.specs.declared.digest.Digest.{Digest}
 use Rattle.stateful_types.specs.declared.round.Round.{Round}
 use Rattle.stateful_types.specs.declared.target.Target.{Target}
-use Rattle.stateful_bank.specs.Bytes.{u32_bytes, u64_bytes}
+use Rattle.stateful_types.specs.Number.{u32_format, height_format, location_format}
+use Rattle.stateful_types.specs.Round.{round_format}
+use Rattle.stateful_types.specs.Digest.{digest_format}
 use Rattle.stateful_bank.specs.declared.op.Op.{Op}
 use Rattle.stateful_bank.specs.declared.block.BankBlock.{BankBlock}
 use Rattle.stateful_bank.specs.Op.{op_bytes}
 
--- its root, then its start and its end, high byte first
+-- its root, then its start and its end
 abbrev pub target_bytes : Target → List ℕ
-target_bytes target = target.root.0 ++ u64_bytes target.start.0 ++ u64_bytes target.«end».0
+target_bytes target = digest_format.spelling target.root ++ location_format.spelling target.start ++ location_format.spelling target.«end»
 
--- height, epoch, view, the parent's digest and the turns of its hook
+-- height, round, the parent's digest and the turns of its hook
 abbrev pub head_bytes : BankBlock → List ℕ
-head_bytes b =
-    u64_bytes b.height.0 ++ u64_bytes b.round.epoch.0 ++ u64_bytes b.round.view.0 ++ b.parent.0 ++ b.slow ∷ []
+head_bytes b = height_format.spelling b.height ++ round_format.spelling b.round ++ digest_format.spelling b.parent ++ b.slow ∷ []
 
 -- the head, and behind it the operations and the targets, each behind their number
 abbrev pub block_bytes : BankBlock → List ℕ
 block_bytes b =
-    head_bytes b ++ u32_bytes (length b.ops) ++ flat_map op_bytes b.ops ++ length b.targets ∷ flat_map target_bytes b.targets
+    head_bytes b ++ u32_format.spelling (length b.ops) ++ flat_map op_bytes b.ops ++ length b.targets ∷ flat_map target_bytes b.targets
 
 abbrev pub block_header : Header BankBlock
 block_header = record { parent = λ b. b.parent; height = λ b. b.height.0; round = λ b. b.round; bytes = block_bytes }

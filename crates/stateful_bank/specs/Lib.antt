@@ -1,4 +1,5 @@
-pub mod Bytes
 pub mod Op
+pub mod Accounts
 pub mod Balances
 pub mod BankBlock
+pub mod Proposal

@@ -1,7 +1,8 @@
 -- Operations on accounts.
 use Rattle.std.specs.Prelude.{ℕ, Bool, List, ◌∷◌, ◌++◌, nat_lt}
 use Rattle.std.specs.List.{list_all}
-use Rattle.stateful_bank.specs.Bytes.{u16_bytes, u64_bytes}
+use Rattle.std.specs.Int.{w16, to_be_bytes}
+use Rattle.stateful_types.specs.Number.{u64_format}
 use Rattle.stateful_bank.specs.declared.op.Op.{Op}
 use Rattle.stateful_bank.specs.declared.op.Op.TheVariants.{Mint, Move}
 
@@ -14,7 +15,11 @@ amount_of (Move from to amount) = amount
 abbrev pub accept : List Op → Bool
 accept ops = list_all (λ op. nat_lt 0 (amount_of op)) ops
 
--- its byte, then its accounts and its amount, high byte first
+-- two bytes, the high one first
+unfoldable pub account_bytes : ℕ → List ℕ
+account_bytes account = to_be_bytes w16 account
+
+-- its byte, then its accounts and its amount
 abbrev pub op_bytes : Op → List ℕ
-op_bytes (Mint account amount) = 0 ∷ u16_bytes account ++ u64_bytes amount
-op_bytes (Move from to amount) = 1 ∷ u16_bytes from ++ u16_bytes to ++ u64_bytes amount
+op_bytes (Mint account amount) = 0 ∷ account_bytes account ++ u64_format.spelling amount
+op_bytes (Move from to amount) = 1 ∷ account_bytes from ++ account_bytes to ++ u64_format.spelling amount

@@ -3,14 +3,15 @@
 ghost use Rattle.std.specs.Prelude.{◌≡◌, ◌++◌, ◌+◌, ◌^◌, ◌<◌, ◌∷◌, [], OnOk, IfOk, length};
 ghost use Rattle.std.specs.Option.{SomeIff};
 ghost use Rattle.std.specs.List.{flat_map};
-ghost use Rattle.stateful_bank.specs.Bytes.{u32_bytes};
+ghost use Rattle.stateful_types.specs.Number.{u32_format};
 ghost use Rattle.stateful_bank.specs.Op.{op_bytes};
 ghost use Rattle.stateful_bank.specs.BankBlock.{block_header, block_bytes, head_bytes, target_bytes, genesis_block, child_block};
 
-use crate::bytes::{write_u32, write_u64};
 use crate::op::Op;
-use stateful_types::{Block, Digest, Epoch, Height, Items, OutOfMemory, Round, Target, View};
-use std::alloc::{AllocError, Global};
+use stateful_types::{
+    Block, Digest, Epoch, Height, Items, OutOfMemory, Round, Target, View, write_u8, write_u32,
+};
+use std::alloc::Global;
 
 /// The most operations of a block that a script names or a build makes.
 pub const MAX_OPS: usize = 16;
@@ -67,15 +68,13 @@ impl BankBlock {
     }
 
     /// Appends all but the operations and the targets.
-    #[tactic(auto, using(std::proofs::Common::append_assoc))]
-    fn write_head(&self, out: &mut Vec<u8>) -> Result<(), AllocError>
+    fn write_head(&self, out: &mut Vec<u8>) -> Result<(), OutOfMemory>
         ensures { OnOk result (out.new.items ≡ out.old.items ++ head_bytes self.now) }
     {
-        write_u64(self.height.0, out)?;
-        write_u64(self.round.epoch.0, out)?;
-        write_u64(self.round.view.0, out)?;
-        out.extend_from_slice(&self.parent.0)?;
-        out.push(self.slow)?;
+        self.height.write(out)?;
+        self.round.write(out)?;
+        self.parent.write(out)?;
+        write_u8(self.slow, out)?;
         Ok(())
     }
 }
@@ -83,7 +82,7 @@ impl BankBlock {
 /// Appends the operations behind their number.
 #[tactic(auto, using(std::proofs::Common::append_assoc))]
 fn write_ops(ops: &[Op], out: &mut Vec<u8>) -> Result<(), OutOfMemory>
-    ensures bytes { OnOk result (out.new.items ≡ out.old.items ++ u32_bytes (length ops.now) ++ flat_map op_bytes ops.now) }
+    ensures bytes { OnOk result (out.new.items ≡ out.old.items ++ u32_format.spelling (length ops.now) ++ flat_map op_bytes ops.now) }
     ensures counted { OnOk result (length ops.now < 2 ^ 32) }
 {
     let Ok(count) = u32::try_from(ops.len()) else {
@@ -105,7 +104,7 @@ fn write_targets(targets: &[Target], out: &mut Vec<u8>) -> Result<(), OutOfMemor
     let Ok(count) = u8::try_from(targets.len()) else {
         return Err(OutOfMemory);
     };
-    out.push(count)?;
+    write_u8(count, out)?;
     for target in targets {
         write_target(target, out)?;
     }
@@ -114,13 +113,12 @@ fn write_targets(targets: &[Target], out: &mut Vec<u8>) -> Result<(), OutOfMemor
 
 /// Appends a root with its range.
 #[tactic(auto, using(std::proofs::Common::append_assoc))]
-fn write_target(target: &Target, out: &mut Vec<u8>) -> Result<(), AllocError>
+fn write_target(target: &Target, out: &mut Vec<u8>) -> Result<(), OutOfMemory>
     ensures { OnOk result (out.new.items ≡ out.old.items ++ target_bytes target.now) }
 {
-    out.extend_from_slice(&target.root.0)?;
-    write_u64(target.start.0, out)?;
-    write_u64(target.end.0, out)?;
-    Ok(())
+    target.root.write(out)?;
+    target.start.write(out)?;
+    target.end.write(out)
 }
 
 impl Block for BankBlock {

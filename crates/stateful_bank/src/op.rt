@@ -1,10 +1,9 @@
 //! Operations on accounts.
 
 ghost use Rattle.std.specs.Prelude.{◌≡◌, ◌++◌, OnOk};
-ghost use Rattle.stateful_bank.specs.Op.{accept, amount_of, op_bytes};
+ghost use Rattle.stateful_bank.specs.Op.{accept, account_bytes, amount_of, op_bytes};
 
-use crate::bytes::{write_u16, write_u64};
-use std::alloc::AllocError;
+use stateful_types::{OutOfMemory, write_u64};
 
 /// What a block does to the balances of accounts.
 #[derive(Clone, Copy, Debug, PartialEq, Eq)]
@@ -27,24 +26,33 @@ impl Op {
 
     /// Appends its bytes.
     #[tactic(auto, using(std::proofs::Common::append_assoc))]
-    pub(crate) fn encode(&self, out: &mut Vec<u8>) -> Result<(), AllocError>
+    pub(crate) fn encode(&self, out: &mut Vec<u8>) -> Result<(), OutOfMemory>
         ensures { OnOk result (out.new.items ≡ out.old.items ++ op_bytes self.now) }
     {
         match self {
             Op::Mint { account, amount } => {
                 out.push(0)?;
-                write_u16(*account, out)?;
+                write_account(*account, out)?;
                 write_u64(*amount, out)?;
             }
             Op::Move { from, to, amount } => {
                 out.push(1)?;
-                write_u16(*from, out)?;
-                write_u16(*to, out)?;
+                write_account(*from, out)?;
+                write_account(*to, out)?;
                 write_u64(*amount, out)?;
             }
         }
         Ok(())
     }
+}
+
+/// Appends an account.
+#[tactic(auto, unfolding(crate::specs::Op::account_bytes))]
+fn write_account(account: u16, out: &mut Vec<u8>) -> Result<(), OutOfMemory>
+    ensures { OnOk result (out.new.items ≡ out.old.items ++ account_bytes account) }
+{
+    out.extend_from_slice(&account.to_be_bytes())?;
+    Ok(())
 }
 
 /// Whether every amount is at least 1.

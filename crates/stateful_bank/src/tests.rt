@@ -1,4 +1,4 @@
-use crate::{Ask, BankBlock, Op, apply_ops, is_acceptable};
+use crate::{Ask, BankBlock, Op, Proposal, apply_ops, is_acceptable, one_is_given};
 use stateful_types::{
     Block, Digest, Digested, Epoch, Handoff, Height, Items, Location, Round, Share, Target, View,
 };
@@ -103,6 +103,26 @@ fn has_no_child_at_the_last_height(rt: HostRuntime) {
     let (ops, targets) = (Items::new(rt.alloc()), Items::new(rt.alloc()));
     let parent = Digest(*PARENT_DIGEST);
     assert!(rt; BankBlock::child(Height(u64::MAX), parent, ROUND, ops, targets).is_none());
+}
+
+#[test]
+fn builds_a_block(rt: HostRuntime) -> Result<(), Fail> {
+    one_is_given::<u64>();
+    let mut ops = Items::new(rt.alloc());
+    ops.push(pay(1, 258, 30))?;
+    ops.push(mint(3, 7))?;
+    let proposal = Proposal {
+        decision: Handoff::Stage(()),
+        height: Height(1),
+        parent: Digest(*PARENT_DIGEST),
+        round: ROUND,
+        ops,
+    };
+    assert!(rt; !proposal.is_declined());
+    let mut block = proposal.into_block(one_target(rt.alloc(), CHILD_ROOT, 3)?);
+    assert_eq!(rt; block.slow, 0);
+    block.slow = 9;
+    check(&rt, block, CHILD_BYTES, CHILD_DIGEST)
 }
 
 const ROUND: Round = Round {

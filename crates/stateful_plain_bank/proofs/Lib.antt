@@ -1,4 +1,4 @@
 pub mod Points
-pub mod Doing
+pub mod Drafting
 pub mod Outcomes
 pub mod Turning

@@ -6,7 +6,7 @@ use Rattle.stateful_db.specs.Chain.{IsPoint, has_id}
 use Rattle.stateful_db.specs.Meaning.{outcome, Ends}
 use Rattle.stateful_bank.specs.declared.op.Op.{Op}
 use Rattle.stateful_bank.specs.declared.block.BankBlock.{BankBlock}
-use Rattle.stateful_bank.specs.Balances.{do_ops, run_turns}
+use Rattle.stateful_bank.specs.Balances.{entries_book, do_ops, run_turns}
 use Rattle.stateful_plain.specs.Whole.{Whole}
 use Rattle.stateful_plain.specs.Shown.{DraftShows, SealShows}
 use Rattle.stateful_plain.specs.declared.batch.PlainUnmerkleized.{PlainUnmerkleized}
@@ -16,7 +16,7 @@ use Rattle.stateful_plain_bank.specs.Drafts.{Becomes}
 use Rattle.stateful_plain_bank.specs.Runs.{IsRun, EachRun, IsRejected}
 use Rattle.stateful_plain_bank.specs.declared.run.BankRun.{BankRun}
 use Rattle.stateful_plain_bank.proofs.Points.{has_point}
-use Rattle.stateful_plain_bank.proofs.Doing.{do_ops-next, do_ops-last, do_ops-refused, turns_refused, turns_last, turns_more}
+use Rattle.stateful_bank.proofs.Doing.{do_ops-next, do_ops-last, do_ops-refused, turns_refused, turns_last, turns_more}
 use Rattle.stateful_plain_bank.proofs.Outcomes.{outcome_refused, outcome_allowed}
 
 -- the same over an equal point
@@ -49,14 +49,14 @@ module _ (run : BankRun) (finality : Finality) (b : BankBlock) (id : ℕ) (p : �
   -- a refused operation leads to no state
   pub refused_outcome : IsNext None batch q.0 ops run.done → outcome bank_meaning finality p.1 b ≡ None
   refused_outcome next =
-      outcome_refused finality p.1 b (do_ops-refused p.1.entries is.entries b.ops run.done is.after (becomes None next))
+      outcome_refused finality p.1 b (do_ops-refused entries_book p.1.entries is.entries b.ops run.done is.after (becomes None next))
 
   pub refused_turns : IsNext None batch q.0 ops run.done → run_turns p.1.entries b.ops ≤ run.done + 1
-  refused_turns next = turns_refused p.1.entries is.entries b.ops run.done is.after is.within (becomes None next)
+  refused_turns next = turns_refused entries_book p.1.entries is.entries b.ops run.done is.after is.within (becomes None next)
 
   pub last_turns : length ops ≤ run.done + 1 → run_turns p.1.entries b.ops ≤ run.done + 1
   last_turns last =
-      turns_last p.1.entries is.entries b.ops run.done is.after is.within (rw ops_of at last)
+      turns_last entries_book p.1.entries is.entries b.ops run.done is.after is.within (rw ops_of at last)
 
   -- what an allowed operation leaves
   allowed : (after : PlainUnmerkleized) (o : Option (List (ℕ × ℕ))) → Becomes (Some after) o (id, record { size = p.1.size + 1; entries = is.entries }) (p ∷ c) → (next : List (ℕ × ℕ)) × (o ≡ Some next) × DraftShows after ((id, record { size = p.1.size + 1; entries = next }) ∷ p ∷ c)
@@ -72,7 +72,7 @@ module _ (run : BankRun) (finality : Finality) (b : BankBlock) (id : ℕ) (p : �
         block_is = ap (λ named. named.block) same_block ∙ is.block_is;
         within = let more_here : run.done + 1 < length b.ops = rw ops_of at more in omega arith;
         entries = left.0;
-        after = ap (λ k. do_ops p.1.entries (take k b.ops)) one_more ∙ do_ops-next p.1.entries is.entries b.ops run.done is.after ∙ left.1;
+        after = ap (λ k. do_ops p.1.entries (take k b.ops)) one_more ∙ do_ops-next entries_book p.1.entries is.entries b.ops run.done is.after ∙ left.1;
         batch = after;
         batch_is = held_now;
         shown = left.2;
@@ -81,7 +81,7 @@ module _ (run : BankRun) (finality : Finality) (b : BankBlock) (id : ℕ) (p : �
   pub more_turns : (after : PlainUnmerkleized) → IsNext (Some after) batch q.0 ops run.done → run.done + 1 < length ops → run.done + 1 < run_turns p.1.entries b.ops
   more_turns after next more =
       let left = allowed after (do_ops is.entries (take 1 (drop run.done b.ops))) (becomes (Some after) next) in
-      turns_more p.1.entries left.0 b.ops run.done (do_ops-next p.1.entries is.entries b.ops run.done is.after ∙ left.1) (rw ops_of at more)
+      turns_more entries_book p.1.entries left.0 b.ops run.done (do_ops-next entries_book p.1.entries is.entries b.ops run.done is.after ∙ left.1) (rw ops_of at more)
 
   -- the batch behind the last operation shows all of them
   last : (after : PlainUnmerkleized) → IsNext (Some after) batch q.0 ops run.done → length ops ≤ run.done + 1 → IsLast after b id p c
@@ -89,7 +89,7 @@ module _ (run : BankRun) (finality : Finality) (b : BankBlock) (id : ℕ) (p : �
       let left = allowed after (do_ops is.entries (take 1 (drop run.done b.ops))) (becomes (Some after) next) in
       record {
         entries = left.0;
-        allowed = do_ops-last p.1.entries is.entries b.ops run.done is.after (rw ops_of at all) ∙ left.1;
+        allowed = do_ops-last entries_book p.1.entries is.entries b.ops run.done is.after (rw ops_of at all) ∙ left.1;
         shown = left.2;
       }
 

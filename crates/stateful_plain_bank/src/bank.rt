@@ -135,10 +135,7 @@ impl Application for Bank {
         ensures later { run.old.faults ≤ run.new.faults }
     {
         match databases {
-            Held::Here(database) => match run.turn(database) {
-                Ok(moved) => Ok(moved),
-                Err(fault) => Err(fault),
-            },
+            Held::Here(database) => Ok(run.turn(database)?),
             _ => Ok(Moved::Done(None)),
         }
     }

@@ -59,10 +59,7 @@ fn do_next(
     ensures { IfOk result (λ after. (p : ℕ × Whole) (c : List (ℕ × Whole)) → DraftShows batch (p ∷ c) → has_id (p ∷ c) (standing_of database.now).id ≡ true → Becomes after (do_ops p.1.entries (take 1 (drop done ops.now))) p c) }
 {
     match ops.get(done) {
-        Some(op) => {
-            let after = do_op(batch, database, op)?;
-            Ok(after)
-        }
+        Some(op) => do_op(batch, database, op),
         None => Ok(Some(batch)),
     }
 }
@@ -147,9 +144,6 @@ impl BankRun {
         if is_rejected(self.finality, ops) {
             return Ok(Moved::Done(None));
         }
-        match seal(batch, database, &mut self.faults) {
-            Ok(sealed) => Ok(Moved::Done(sealed)),
-            Err(fault) => Err(fault),
-        }
+        Ok(Moved::Done(seal(batch, database, &mut self.faults)?))
     }
 }

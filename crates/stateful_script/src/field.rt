@@ -123,9 +123,5 @@ pub fn after_word(word: &[u8], fields: &mut Cursor<'_>) -> Option<()>
     ensures { MatchOption result (after_word word.now (fields_left fields.old) ≡ None)
         (λ _. after_word word.now (fields_left fields.old) ≡ Some (fields_left fields.new)) }
 {
-    if fields.next_field()? == word {
-        Some(())
-    } else {
-        None
-    }
+    (fields.next_field()? == word).then_some(())
 }

@@ -11,12 +11,9 @@ use crate::cursor::Cursor;
 use crate::field::{after_word, name_at, number_at};
 use crate::item::{items_of, ops_among};
 use crate::script::World;
-use stateful_bank::Op;
+use stateful_bank::{MAX_OPS, Op};
 use stateful_types::Items;
 use std::alloc::{AllocError, AllocFailed, Global};
-
-/// The most operations of a block.
-const MAX_OPS: usize = 16;
 
 /// What a line of a script says.
 #[derive(Drop)]
@@ -79,11 +76,7 @@ fn ended<'a>(line: Line<'a>, fields: &mut Cursor<'_>) -> Option<Line<'a>>
 fn world_by(word: &[u8]) -> Option<World>
     ensures { result ≡ world_by word.now }
 {
-    if word == b"plain".as_slice() {
-        Some(World::Plain)
-    } else {
-        None
-    }
+    (word == b"plain".as_slice()).then_some(World::Plain)
 }
 
 #[tactic(auto, unfolding(crate::specs::Lines::world_of))]

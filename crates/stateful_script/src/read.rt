@@ -19,12 +19,6 @@ const MAX_BLOCKS: usize = 1024;
 /// The most event lines.
 const MAX_EVENTS: usize = 65_536;
 
-fn place_among(names: &[Name], name: &str) -> Option<usize>
-    ensures { result ≡ position (λ n. bytes_eq n name.now) names.now }
-{
-    names.iter().position(|n| n.as_str() == name)
-}
-
 // Behind a `LineError` the script is given up: it may be in mid-change.
 impl Script {
     /// What is said before the first line: genesis is named.
@@ -47,20 +41,17 @@ impl Script {
     fn place(&self, name: &str) -> Option<usize>
         ensures { result ≡ place self.now name.now }
     {
-        place_among(self.names.as_slice(), name)
+        self.names
+            .as_slice()
+            .iter()
+            .position(|n| n.as_str() == name)
     }
 
     #[tactic(auto, unfolding(crate::specs::Script::is_free))]
     fn is_free(&self, name: &str) -> bool
         ensures { result ≡ is_free self.now name.now }
     {
-        if self.place(name).is_some() {
-            return false;
-        }
-        if name == "none" {
-            return false;
-        }
-        name != "alone"
+        self.place(name).is_none() && name != "none" && name != "alone"
     }
 
     #[tactic(auto, unfolding(crate::specs::Script::with_world))]
@@ -148,10 +139,7 @@ impl Script {
         ensures { MatchResult result (λ _. read_line self.old text.now ≡ Some self.new)
             (λ e. Refuses e (read_line self.old text.now)) }
     {
-        match line_of(alloc, text) {
-            Ok(line) => self.enter(alloc, line),
-            Err(error) => Err(error),
-        }
+        self.enter(alloc, line_of(alloc, text)?)
     }
 }
 

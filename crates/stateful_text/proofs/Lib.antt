@@ -1,3 +1,4 @@
+pub mod Hex
 pub mod Numbered
 pub mod Index
 pub mod Longer

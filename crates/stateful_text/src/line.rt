@@ -1,8 +1,7 @@
 //! Lines, piece by piece. What a text held before stays in front of what is pushed on it.
 
-ghost use Rattle.std.specs.Prelude.{◌≡◌, ◌<◌, ◌++◌, ◌∷◌, [], map, OnOk};
+ghost use Rattle.std.specs.Prelude.{◌≡◌, ◌++◌, ◌∷◌, [], map, OnOk};
 ghost use Rattle.std.specs.Fmt.{decimal};
-ghost use Rattle.std.specs.Char.{digit_char};
 ghost use Rattle.stateful_text.specs.Line.{hex_of, name_of, field_text, line};
 
 use crate::label::Labels;
@@ -23,35 +22,26 @@ pub fn push_number(alloc: Global, out: &mut Vec<u8>, number: u64) -> Result<(), 
     push(out, digits.as_bytes())
 }
 
-fn hex_digit(value: u8) -> u8
-    requires { value < 16 }
-    ensures { result ≡ digit_char value }
-{
-    if value < 10 {
-        b'0' + value
-    } else {
-        b'a' + (value - 10)
-    }
-}
-
-fn push_hex(out: &mut Vec<u8>, bytes: &[u8]) -> Result<(), OutOfMemory>
+fn push_hex(alloc: Global, out: &mut Vec<u8>, bytes: &[u8]) -> Result<(), OutOfMemory>
     ensures { OnOk result (out.new.items ≡ out.old.items ++ hex_of bytes.now) }
 {
-    for byte in bytes {
-        out.push(hex_digit(*byte / 16))?;
-        out.push(hex_digit(*byte % 16))?;
-    }
-    Ok(())
+    let digits = hex::encode(alloc, bytes)?;
+    push(out, digits.as_bytes())
 }
 
-fn push_name(out: &mut Vec<u8>, labels: &Labels<'_>, digest: Digest) -> Result<(), OutOfMemory>
+fn push_name(
+    alloc: Global,
+    out: &mut Vec<u8>,
+    labels: &Labels<'_>,
+    digest: Digest,
+) -> Result<(), OutOfMemory>
     ensures { OnOk result (out.new.items ≡ out.old.items ++ name_of labels.now digest) }
 {
     match labels.first(digest) {
         Some(label) => push(out, label.name.as_slice()),
         None => {
             push(out, b"?")?;
-            push_hex(out, &digest.0)
+            push_hex(alloc, out, &digest.0)
         }
     }
 }
@@ -78,7 +68,7 @@ impl Lines<'_> {
         match field {
             Field::Word(word) => push(out, word.as_bytes()),
             Field::Number(number) => push_number(self.alloc, out, number),
-            Field::Block(digest) => push_name(out, self.labels, digest),
+            Field::Block(digest) => push_name(self.alloc, out, self.labels, digest),
         }
     }
 

@@ -50,37 +50,38 @@ returns-then-is_rejected-clause-turns c = λ finality b id p below run at.
     let last : length c.as_slice-ops.result.now ≤ run_now.done + 1 = omega arith in
     last_turns run_now finality b id p below run c.in-Some.batch held c.as_slice-ops.result.now ops_are _ at last
 
-pub returns-in-Ok-clause-ok : goal.returns-in-Ok-clause-ok
-returns-in-Ok-clause-ok c = λ finality b id p below run at.
+pub returns-clause-ok : goal.returns-clause-ok
+returns-clause-ok c = λ finality b id p below run at.
     let run_now = c.args.self.now in
     let held = sym c.take.ensures.value ∙ c.in-Some.is in
     let ops_are = c.as_slice-ops.ensures ∙ ap (λ block. block.ops) c.inner.ensures in
     let next = subst (λ after. IsNext after c.in-Some.batch c.args.database.now.id c.as_slice-ops.result.now run_now.done) c.in-Ok-Some.field-0-is c.in-Ok-Some.ensures in
     let last : length c.as_slice-ops.result.now ≤ run_now.done + 1 = omega arith in
     let good : IsRejected run_now.finality c.as_slice-ops.result.now → ⊥ = λ rejected. absurd (false≢true (c.if-is_rejected.ensures.1 rejected)) in
-    last_outcome run_now finality b id p below run c.in-Some.batch held c.as_slice-ops.result.now ops_are _ at c.in-Ok-Some.batch c.in-Ok.sealed _ next last good c.in-Ok.ensures.ok
+    last_outcome run_now finality b id p below run c.in-Some.batch held c.as_slice-ops.result.now ops_are _ at c.in-Ok-Some.batch c.in_ok-seal.field-0 _ next last good c.in_ok-seal.ensures.ok
 
-pub returns-in-Ok-clause-within : goal.returns-in-Ok-clause-within
-returns-in-Ok-clause-within c = λ sealed finality b id p below run at.
+pub returns-clause-within : goal.returns-clause-within
+returns-clause-within c = λ sealed finality b id p below run at.
     let run_now = c.args.self.now in
     let held = sym c.take.ensures.value ∙ c.in-Some.is in
     let ops_are = c.as_slice-ops.ensures ∙ ap (λ block. block.ops) c.inner.ensures in
     let next = subst (λ after. IsNext after c.in-Some.batch c.args.database.now.id c.as_slice-ops.result.now run_now.done) c.in-Ok-Some.field-0-is c.in-Ok-Some.ensures in
     let last : length c.as_slice-ops.result.now ≤ run_now.done + 1 = omega arith in
-    last_within run_now finality b id p below run c.in-Some.batch held c.as_slice-ops.result.now ops_are _ at c.in-Ok-Some.batch next last c.in-Ok.ensures.within
+    last_within run_now finality b id p below run c.in-Some.batch held c.as_slice-ops.result.now ops_are _ at c.in-Ok-Some.batch next last c.in_ok-seal.ensures.within
 
-pub returns-in-Err-seal-clause-exhausted : goal.returns-in-Err-seal-clause-exhausted
-returns-in-Err-seal-clause-exhausted c = λ failed finality b id p below run at.
+pub returns-in_err-seal-clause-exhausted : goal.returns-in_err-seal-clause-exhausted
+returns-in_err-seal-clause-exhausted c = λ failed finality b id p below run at.
     let run_now = c.args.self.now in
     let held = sym c.take.ensures.value ∙ c.in-Some.is in
     let ops_are = c.as_slice-ops.ensures ∙ ap (λ block. block.ops) c.inner.ensures in
     let next = subst (λ after. IsNext after c.in-Some.batch c.args.database.now.id c.as_slice-ops.result.now run_now.done) c.in-Ok-Some.field-0-is c.in-Ok-Some.ensures in
     let last : length c.as_slice-ops.result.now ≤ run_now.done + 1 = omega arith in
-    let fault : c.in-Err-seal.fault ≡ Failed = cc in
-    last_size run_now finality b id p below run c.in-Some.batch held c.as_slice-ops.result.now ops_are _ at c.in-Ok-Some.batch next last (λ r d shown. c.in-Err-seal.ensures.exhausted r d shown (ap Err fault))
+    let fault = rw failed at c.from_residual.ensures.1 in
+    let seal_failed : c.seal.result ≡ Err Failed = c.in_err-seal.was ∙ ap Err (sym fault) in
+    last_size run_now finality b id p below run c.in-Some.batch held c.as_slice-ops.result.now ops_are _ at c.in-Ok-Some.batch next last (λ r d shown. c.seal.ensures.exhausted r d shown seal_failed)
 
-pub returns-in-Ok-clause-turns : goal.returns-in-Ok-clause-turns
-returns-in-Ok-clause-turns c = λ finality b id p below run at.
+pub returns-clause-turns : goal.returns-clause-turns
+returns-clause-turns c = λ finality b id p below run at.
     let run_now = c.args.self.now in
     let held = sym c.take.ensures.value ∙ c.in-Some.is in
     let ops_are = c.as_slice-ops.ensures ∙ ap (λ block. block.ops) c.inner.ensures in
