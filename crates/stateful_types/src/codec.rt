@@ -15,12 +15,12 @@ use thiserror::Error;
 #[derive(Clone, Copy, Debug, PartialEq, Eq, Error)]
 pub enum CodecError {
     /// A byte stands there that no case has.
-    #[error("no case has the byte {0}")]
+    #[error("InvalidEnum")]
     InvalidEnum(u8),
     /// The bytes end inside a value.
-    #[error("the bytes end inside a value")]
+    #[error("EndOfBuffer")]
     EndOfBuffer,
-    #[error("out of memory")]
+    #[error("OutOfMemory")]
     OutOfMemory,
 }
 

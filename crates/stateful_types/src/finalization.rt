@@ -1,6 +1,6 @@
 //! Finalizations: which block is final, and what shows it.
 
-ghost use Rattle.std.specs.Prelude.{◌≡◌, ◌+◌, length};
+ghost use Rattle.std.specs.Prelude.{◌≡◌, ◌+◌, ◌-◌, ◌^◌, ◌<◌, length};
 ghost use Rattle.stateful_types.specs.Format.{Reads, Writes};
 ghost use Rattle.stateful_types.specs.Finalization.{finalization_format};
 
@@ -56,6 +56,7 @@ impl<C> Finalization<C> {
     pub fn encode_size<S: Scheme<Certificate = C>>(&self) -> usize
         ensures formula { result ≡ 56 + length (S.certificates.spelling self.now.certificate) }
         ensures size { result ≡ length ((finalization_format S.certificates).spelling self.now) }
+        ensures limit { result < 2 ^ 64 - 8 }
     {
         56 + S::certificate_size(&self.certificate)
     }

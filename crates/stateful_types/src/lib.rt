@@ -40,7 +40,7 @@ pub use finalization::Finalization;
 pub use floor::Floor;
 pub use items::Items;
 pub use latest::{Latest, MemoryLatest};
-pub use law::no_spelling_begins_another;
+pub use law::{no_spelling_begins_another, requests_are_ordered};
 pub use mailbox::{Bounded, Feedback, Overflow, Policy};
 pub use memory::{MemorySink, MemorySource};
 pub use number::{Epoch, Height, Location, View};

@@ -10,7 +10,7 @@ use crate::digest::Digest;
 use crate::items::Items;
 use crate::operation::Operation;
 use crate::request::Request;
-use crate::share::OutOfMemory;
+use crate::share::{OutOfMemory, Share};
 use bytes::Bytes;
 use std::alloc::Global;
 
@@ -70,6 +70,20 @@ impl<Op: Operation> Response<Op> {
                 Ok(Response::Boundary { before, op })
             }
             tag => Err(CodecError::InvalidEnum(tag)),
+        }
+    }
+}
+
+impl<Op: Share + Drop> Share for Response<Op> {
+    fn share(&self) -> Result<Response<Op>, OutOfMemory> {
+        match self {
+            Response::Operations { operations } => Ok(Response::Operations {
+                operations: operations.share_each()?,
+            }),
+            Response::Boundary { before, op } => Ok(Response::Boundary {
+                before: *before,
+                op: op.share()?,
+            }),
         }
     }
 }

@@ -10,9 +10,9 @@ use thiserror::Error;
 /// Why a piece was not taken.
 #[derive(Clone, Copy, Debug, PartialEq, Eq, Error)]
 pub enum SinkFault {
-    #[error("the sink failed")]
+    #[error("Failed")]
     Failed,
-    #[error("out of memory")]
+    #[error("OutOfMemory")]
     OutOfMemory,
 }
 

@@ -29,11 +29,11 @@ pub trait Source: Faulty {
 /// Why not all was read.
 #[derive(Clone, Copy, Debug, PartialEq, Eq, Error)]
 pub enum ReadError {
-    #[error("the source failed")]
+    #[error("Failed")]
     Failed,
-    #[error("more bytes than are allowed")]
+    #[error("TooLong")]
     TooLong,
-    #[error("out of memory")]
+    #[error("OutOfMemory")]
     OutOfMemory,
 }
 
