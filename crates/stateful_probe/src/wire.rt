@@ -89,7 +89,7 @@ impl<C> Message<C> {
     {
         match self {
             Message::Request => 1,
-            Message::Response(finalization) => response_size::<S>(finalization),
+            Message::Response(finalization) => 1 + finalization.encode_size::<S>(),
         }
     }
 
@@ -103,14 +103,6 @@ impl<C> Message<C> {
     {
         57 + S::max_certificate_size(participants)
     }
-}
-
-/// How many bytes a response with this finalization has: its tag, three numbers, the payload and the certificate.
-fn response_size<S: Scheme>(finalization: &Finalization<S::Certificate>) -> usize
-    ensures { result ≡ length ((message_format S.certificates).spelling (Message.Response finalization.now)) }
-{
-    let payload: &[u8] = &finalization.payload.0;
-    25 + payload.len() + S::certificate_size(&finalization.certificate)
 }
 
 /// In both formats no spelling begins another.

@@ -2,7 +2,7 @@
 //! highest byte first.
 
 ghost use Rattle.std.specs.Prelude.{◌≡◌, drop};
-ghost use Rattle.stateful_types.specs.Format.{Reads, Writes};
+ghost use Rattle.stateful_types.specs.Format.{Reads, Writes, end_of};
 ghost use Rattle.stateful_types.specs.Number.{u8_format, u32_format, u64_format, bytes_format};
 ghost use Rattle.stateful_types.specs.declared.codec.CodecError.TheVariants as errors;
 
@@ -91,6 +91,16 @@ pub fn read_u64(input: &mut Bytes) -> Result<u64, CodecError>
     ensures { Reads u64_format result input.old input.new }
 {
     Ok(u64::from_be_bytes(read_array(input)?))
+}
+
+/// Whether nothing is left behind a whole value. Bytes that are left over are refused at the first of them.
+pub fn end_of(input: &Bytes) -> Result<(), CodecError>
+    ensures { result ≡ end_of input.now }
+{
+    match input.as_slice().first() {
+        Some(byte) => Err(CodecError::InvalidEnum(*byte)),
+        None => Ok(()),
+    }
 }
 
 /// Takes `N` bytes, as they are.

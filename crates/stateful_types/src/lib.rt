@@ -32,7 +32,9 @@ mod vote;
 
 pub use anchor::Anchor;
 pub use block::{Ancestry, Block, Digested};
-pub use codec::{CodecError, read_u8, read_u32, read_u64, write_u8, write_u32, write_u64};
+pub use codec::{
+    CodecError, end_of, read_u8, read_u32, read_u64, write_u8, write_u32, write_u64,
+};
 pub use digest::Digest;
 pub use draw::DrawError;
 pub use fault::{Failed, Faulty};
