@@ -2,6 +2,8 @@ pub mod Format
 pub mod FormatLaws
 pub mod Number
 pub mod FixedLaws
+pub mod Cases
+pub mod CasesLaws
 pub mod Digest
 pub mod Round
 pub mod Names
