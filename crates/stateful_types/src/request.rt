@@ -1,5 +1,6 @@
 //! What a syncing database asks of a server.
 
+ghost use Rattle.std.specs.Prelude.{IsErrOf};
 ghost use Rattle.stateful_types.specs.Format.{Reads, Writes};
 ghost use Rattle.stateful_types.specs.Number.{nonzero_format};
 ghost use Rattle.stateful_types.specs.Request.{request_format};
@@ -50,9 +51,10 @@ impl Request {
         }
     }
 
-    /// Takes a request. A request for no operations is refused at the last byte of that 0.
+    /// Takes a request. A request for no operations is refused at the last byte of that 0. It takes no memory.
     pub fn read(input: &mut Bytes) -> Result<Request, CodecError>
-        ensures { Reads request_format result input.old input.new }
+        ensures reads { Reads request_format result input.old input.new }
+        ensures memory { IsErrOf result CodecError.OutOfMemory → ⊥ }
     {
         match read_u8(input)? {
             0 => {
@@ -77,7 +79,8 @@ impl Request {
 
 /// Takes a number of eight bytes that is not 0. A 0 is refused at its last byte.
 fn read_nonzero(input: &mut Bytes) -> Result<NonZeroU64, CodecError>
-    ensures { Reads nonzero_format result input.old input.new }
+    ensures reads { Reads nonzero_format result input.old input.new }
+    ensures memory { IsErrOf result CodecError.OutOfMemory → ⊥ }
 {
     match NonZeroU64::new(read_u64(input)?) {
         Some(n) => Ok(n),

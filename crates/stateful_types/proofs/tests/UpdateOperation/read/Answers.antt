@@ -35,27 +35,27 @@ update_tag byte b = head b.whole where
 pub returns-in_err-tag : goal.returns-in_err-tag
 returns-in_err-tag c =
     passed update_format update_alone _ _ _ _ c.from_residual.ensures.1
-    (tag_err update_format 1 pair_format to_update Rest-update pair_alone (λ byte b. omega (arith, update_tag byte b)) _ _ _ (met c.in_err-tag.ensures))
+    (tag_err update_format 1 pair_format to_update Rest-update pair_alone (λ byte b. omega (arith, update_tag byte b)) _ _ _ (met c.in_err-tag.ensures.reads))
 
 pub returns-in_err-key-in-1 : goal.returns-in_err-key-in-1
 returns-in_err-key-in-1 c =
     passed update_format update_alone _ _ _ _ c.from_residual-in_err-key-in-1.ensures.1
-    (rest_err update_format (1 ∷ []) pair_format to_update Rest-update _ _ _ _ (tag_is _ 1 _ _ c.in-1.is (met c.in_ok-tag.ensures))
-    (first_err u64_format u64_format u64_alone u64_alone _ _ _ (met c.in_err-key-in-1.ensures)))
+    (rest_err update_format (1 ∷ []) pair_format to_update Rest-update _ _ _ _ (tag_is _ 1 _ _ c.in-1.is (met c.in_ok-tag.ensures.reads))
+    (first_err u64_format u64_format u64_alone u64_alone _ _ _ (met c.in_err-key-in-1.ensures.reads)))
 
 pub returns-in_err-value-in-1 : goal.returns-in_err-value-in-1
 returns-in_err-value-in-1 c =
     passed update_format update_alone _ _ _ _ c.from_residual-in_err-value-in-1.ensures.1
-    (rest_err update_format (1 ∷ []) pair_format to_update Rest-update _ _ _ _ (tag_is _ 1 _ _ c.in-1.is (met c.in_ok-tag.ensures))
-    (second_err u64_format u64_format u64_alone _ _ _ _ _ (met c.in_ok-key-in-1.ensures) (met c.in_err-value-in-1.ensures)))
+    (rest_err update_format (1 ∷ []) pair_format to_update Rest-update _ _ _ _ (tag_is _ 1 _ _ c.in-1.is (met c.in_ok-tag.ensures.reads))
+    (second_err u64_format u64_format u64_alone _ _ _ _ _ (met c.in_ok-key-in-1.ensures.reads) (met c.in_err-value-in-1.ensures.reads)))
 
 pub returns-in_ok-value-in-1 : goal.returns-in_ok-value-in-1
 returns-in_ok-value-in-1 c =
     reads update_format update_alone _ _ _
-    (rest_ok update_format (1 ∷ []) pair_format to_update Rest-update _ _ _ _ (tag_is _ 1 _ _ c.in-1.is (met c.in_ok-tag.ensures))
-    (both_ok u64_format u64_format u64_alone _ _ _ _ _ (met c.in_ok-key-in-1.ensures) (met c.in_ok-value-in-1.ensures)))
+    (rest_ok update_format (1 ∷ []) pair_format to_update Rest-update _ _ _ _ (tag_is _ 1 _ _ c.in-1.is (met c.in_ok-tag.ensures.reads))
+    (both_ok u64_format u64_format u64_alone _ _ _ _ _ (met c.in_ok-key-in-1.ensures.reads) (met c.in_ok-value-in-1.ensures.reads)))
 
 pub returns-in_default : goal.returns-in_default
 returns-in_default c =
     reads update_format update_alone _ _ _
-    (tag_wrong update_format 1 pair_format to_update Rest-update pair_alone _ (λ b. absurd (omega (arith, update_tag _ b))) _ _ (met c.in_ok-tag.ensures))
+    (tag_wrong update_format 1 pair_format to_update Rest-update pair_alone _ (λ b. absurd (omega (arith, update_tag _ b))) _ _ (met c.in_ok-tag.ensures.reads))
