@@ -6,7 +6,7 @@ ghost use Rattle.stateful_types.specs.declared.finalization.Finalization.{Finali
 ghost use Rattle.stateful_probe.specs.Wire.{tag_format, message_format};
 
 use bytes::Bytes;
-use stateful_types::{CodecError, Finalization, OutOfMemory, Scheme, write_u8};
+use stateful_types::{CodecError, Finalization, OutOfMemory, Scheme, read_u8, write_u8};
 use std::alloc::Global;
 
 /// The first byte of a message.
@@ -34,16 +34,11 @@ impl Tag {
         ensures reads { Reads tag_format result input.old input.new }
         ensures memory { IsErrOf result CodecError.OutOfMemory → ⊥ }
     {
-        let Some(byte) = input.as_slice().first() else {
-            return Err(CodecError::EndOfBuffer);
-        };
-        let tag = match *byte {
-            0 => Tag::Request,
-            1 => Tag::Response,
-            other => return Err(CodecError::InvalidEnum(other)),
-        };
-        input.advance(1);
-        Ok(tag)
+        match read_u8(input)? {
+            0 => Ok(Tag::Request),
+            1 => Ok(Tag::Response),
+            other => Err(CodecError::InvalidEnum(other)),
+        }
     }
 }
 

@@ -6,12 +6,16 @@ use Rattle.stateful_types.specs.declared.codec.CodecError.TheVariants.{InvalidEn
 use Rattle.stateful_types.specs.Format.{Format, Begins, EndsInside, Reads}
 use Rattle.stateful_types.specs.FormatLaws.{Rest}
 use Rattle.stateful_types.specs.Number.{u8_format}
-use Rattle.stateful_types.specs.Cases.{IsTagged}
+use Rattle.stateful_types.specs.Cases.{nothing, IsTagged}
 use Rattle.stateful_types.proofs.Formats.{Met, met, reads, passed, rest_ok, rest_err}
 
 -- the bytes behind a first byte that is known
 pub tag_is : {byte tag : ℕ} {before after : List ℕ} → byte ≡ tag → Reads u8_format (Ok byte) before after → before ≡ (tag ∷ []) ++ after
 tag_is {after = after} e r = r.first.1 ∙ ap (λ (b : ℕ). b ∷ after) e
+
+-- a case with nothing behind its byte
+pub nothing_met : {bytes : List ℕ} → Met nothing (Ok tt) bytes bytes
+nothing_met = record { first = (tt, refl); taken = ([], refl) }
 
 -- a format of one byte, which has each byte of a case
 pub record IsHead {H : Type 0} (Tag : ℕ → Type 0) (head : Format H) : Type 0 where

@@ -118,3 +118,43 @@ module _ {A B X : Type 0} {whole : Format X} {tag other : ℕ} {f : Format A} {g
   -- and behind the second
   pub second_case : Rest whole (other ∷ []) g (λ b. into (inr b))
   second_case = named_case cases.names (right_case one two apart other refl (only_case other g))
+
+-- ---- three cases
+
+-- The same of three cases.
+pub record HasThreeCases {A B C X : Type 0} (whole : Format X) (tag : ℕ) (f : Format A) (other : ℕ) (g : Format B) (last : ℕ) (h : Format C) (into : A ⊎ (B ⊎ C) → X) : Type 0 where
+  pub names : Rest whole [] (either (tagged tag f) (two_cases other g last h)) into
+  pub up : tag < other
+  pub further : other < last
+  pub byte : last < 2 ^ 8
+  pub first : IsFormat f
+  pub second : IsFormat g
+  pub third : IsFormat h
+
+module _ {A B C X : Type 0} {whole : Format X} {tag other last : ℕ} {f : Format A} {g : Format B} {h : Format C} {into : A ⊎ (B ⊎ C) → X} (cases : HasThreeCases whole tag f other g last h into) where
+  alone : IsTagged (tagged tag f) (λ n. n ≡ tag)
+  alone = only_tag tag f (let up = cases.up in let further = cases.further in let byte = cases.byte in omega arith) cases.first
+
+  others : HasTwoCases (two_cases other g last h) other g last h (λ s. s)
+  others = record {
+    names = record { fits = λ s fits. fits; spelled = λ s fits. refl; back = λ s bytes fits e. (s, fits, refl) };
+    up = cases.further;
+    byte = cases.byte;
+    first = cases.second;
+    second = cases.third;
+  }
+
+  away : (n : ℕ) → n ≡ tag → (n ≡ other) ⊎ (n ≡ last) → ⊥
+  away n e is = let up = cases.up in let further = cases.further in absurd (omega arith)
+
+  pub three_tags : IsTagged whole (λ n. (n ≡ tag) ⊎ ((n ≡ other) ⊎ (n ≡ last)))
+  three_tags = named_tags cases.names (either_tags alone (two_tags others) away)
+
+  pub first_of_three : Rest whole (tag ∷ []) f (λ a. into (inl a))
+  first_of_three = named_case cases.names (left_case alone (two_tags others) away tag refl (only_case tag f))
+
+  pub second_of_three : Rest whole (other ∷ []) g (λ b. into (inr (inl b)))
+  second_of_three = named_case cases.names (right_case alone (two_tags others) away other (inl refl) (first_case others))
+
+  pub third_of_three : Rest whole (last ∷ []) h (λ c. into (inr (inr c)))
+  third_of_three = named_case cases.names (right_case alone (two_tags others) away last (inr refl) (second_case others))
