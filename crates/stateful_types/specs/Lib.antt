@@ -10,7 +10,6 @@ pub mod Names
 pub mod Causes
 pub mod Handoff
 pub mod Anchor
-pub mod Offers
 pub mod Mailbox
 pub mod Finalization
 pub mod Items

@@ -32,9 +32,7 @@ mod vote;
 
 pub use anchor::Anchor;
 pub use block::{Ancestry, Block, Digested};
-pub use codec::{
-    CodecError, end_of, read_u8, read_u32, read_u64, write_u8, write_u32, write_u64,
-};
+pub use codec::{CodecError, end_of, read_u8, read_u32, read_u64, write_u8, write_u32, write_u64};
 pub use digest::Digest;
 pub use draw::DrawError;
 pub use fault::{Failed, Faulty};
@@ -43,7 +41,7 @@ pub use floor::Floor;
 pub use items::Items;
 pub use latest::{Latest, MemoryLatest};
 pub use law::{no_spelling_begins_another, requests_are_ordered};
-pub use mailbox::{Bounded, Feedback, Overflow, Policy};
+pub use mailbox::{Bounded, Feedback, Overflow, Policy, Predicate};
 pub use memory::{MemorySink, MemorySource};
 pub use number::{Epoch, Height, Location, View};
 pub use operation::Operation;
