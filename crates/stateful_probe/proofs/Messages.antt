@@ -1,15 +1,15 @@
 -- The formats of tags and of messages, by their two cases.
-use Rattle.std.proofs.Common.{◌≡◌, ℕ, ◌<◌, List, [], ◌∷◌, ◌++◌, length, Ok, refl, ap, ◌∙◌, inl, inr, lit<, arith, length-append}
+use Rattle.std.proofs.Common.{◌≡◌, ℕ, List, [], ◌∷◌, ◌++◌, length, Ok, refl, ap, ◌∙◌, inl, inr, lit<, arith, length-append}
 use Rattle.std.specs.Prelude.{◌⊎◌}
 use Rattle.stateful_types.specs.declared.finalization.Finalization.{Finalization}
 use Rattle.stateful_types.specs.Format.{Format, Begins, EndsInside, IsFormat, Reads}
 use Rattle.stateful_types.specs.FormatLaws.{Rest}
-use Rattle.stateful_types.specs.Cases.{nothing, two_cases, IsTagged}
+use Rattle.stateful_types.specs.Cases.{nothing, two_cases, IsTaggedBy}
 use Rattle.stateful_types.specs.CasesLaws.{nothing_alone, HasTwoCases, two_tags, first_case, second_case}
 use Rattle.stateful_types.specs.Finalization.{finalization_format}
 use Rattle.stateful_types.proofs.Tags.{IsHead}
 use Rattle.stateful_types.proofs.Values.{finalization_alone}
-use Rattle.stateful_probe.specs.Wire.{tag_byte, tag_format, message_fits, message_bytes, message_format}
+use Rattle.stateful_probe.specs.Wire.{tag_byte, tag_format, message_fits, message_format}
 use Rattle.stateful_probe.specs.declared.wire.Tag.{Tag}
 use Rattle.stateful_probe.specs.declared.wire.Tag.TheVariants as tags
 use Rattle.stateful_probe.specs.declared.wire.Message.{Message}
@@ -37,7 +37,7 @@ tag_cases = record {
   back tags.Request = (inl tt, tt, refl)
   back tags.Response = (inr tt, tt, refl)
 
-pub tag_tags : IsTagged tag_format (λ n. (n ≡ 0) ⊎ (n ≡ 1))
+pub tag_tags : IsTaggedBy tag_format (λ n. (n ≡ 0) ⊎ (n ≡ 1))
 tag_tags = two_tags tag_cases
 
 pub request_tag : Rest tag_format (0 ∷ []) nothing (λ none. tags.Request)
@@ -89,7 +89,7 @@ module _ {C : Type 0} (certificate : Format C) where
       back Request fits = (inl tt, tt, refl)
       back (Response f) fits = (inr f, fits, refl)
 
-    pub message_tags : IsTagged (message_format certificate) (λ n. (n ≡ 0) ⊎ (n ≡ 1))
+    pub message_tags : IsTaggedBy (message_format certificate) (λ n. (n ≡ 0) ⊎ (n ≡ 1))
     message_tags = two_tags message_cases
 
     pub request_case : Rest (message_format certificate) (0 ∷ []) nothing (λ none. Request)

@@ -1,5 +1,5 @@
 -- In which order a mailbox hands out what it takes, and that it keeps what it doesn't drop.
-use Rattle.std.proofs.Common.{◌≡◌, true, false, List, [], ◌∷◌, ◌++◌, append_assoc, append-nil, ap, subst, ◌∙◌, sym, refl, Bool}
+use Rattle.std.proofs.Common.{◌≡◌, true, false, List, [], ◌∷◌, ◌++◌, append_assoc, append-nil, subst, ◌∙◌, sym, Bool}
 use Rattle.std.specs.Prelude.{cond, not, filter}
 use Rattle.std.specs.List.Sorted.{IsPermutation}
 use Rattle.std.proofs.lemmas.List.Sorted.{IsPermutation-refl, IsPermutation-sym, IsPermutation-trans, IsPermutation-cons, IsPermutation-middle, IsPermutation-append}

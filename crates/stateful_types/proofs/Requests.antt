@@ -11,13 +11,13 @@ use Rattle.stateful_types.specs.declared.codec.CodecError.{CodecError}
 use Rattle.stateful_types.specs.declared.codec.CodecError.TheVariants.{InvalidEnum, EndOfBuffer, OutOfMemory}
 use Rattle.stateful_types.specs.Format.{Format, Begins, EndsInside, IsFormat, Writes}
 use Rattle.stateful_types.specs.Number.{bytes_format, u64_format, nonzero_format, location_format}
-use Rattle.stateful_types.specs.Request.{request_fits, request_bytes, request_format}
+use Rattle.stateful_types.specs.Request.{request_fits, request_format}
 use Rattle.stateful_types.specs.declared.number.Location.{Location}
 use Rattle.stateful_types.specs.declared.request.Request.{Request}
 use Rattle.stateful_types.specs.declared.request.Request.TheVariants.{Operations, Boundary}
 use Rattle.stateful_types.proofs.Formats.{Met}
 use Rattle.stateful_types.specs.FormatLaws.{Rest, both, IsFormat-both}
-use Rattle.stateful_types.specs.Cases.{two_cases, IsTagged}
+use Rattle.stateful_types.specs.Cases.{two_cases, IsTaggedBy}
 use Rattle.stateful_types.specs.CasesLaws.{HasTwoCases, two_tags, first_case, second_case}
 use Rattle.stateful_types.specs.FixedLaws.{IsByte, wide64, u64_alone}
 use Rattle.stateful_types.proofs.Fixed.{All-front, All-behind}
@@ -145,7 +145,7 @@ request_cases = record {
   back (Operations size start max_ops) fits = (inl ((size, start), max_ops), ((fits.0, fits.1), fits.2), refl)
   back (Boundary size start) fits = (inr (size, start), fits, refl)
 
-pub request_tags : IsTagged request_format (λ n. (n ≡ 0) ⊎ (n ≡ 1))
+pub request_tags : IsTaggedBy request_format (λ n. (n ≡ 0) ⊎ (n ≡ 1))
 request_tags = two_tags request_cases
 
 pub operations_case : Rest request_format (0 ∷ []) asked_format (λ p. Operations p.0.0 p.0.1 p.1)

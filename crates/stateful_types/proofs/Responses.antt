@@ -1,22 +1,21 @@
 -- The format of responses, by its two cases, and what a request allows of them.
-use Rattle.std.proofs.Common.{◌≡◌, ℕ, ◌<◌, List, [], ◌∷◌, ◌++◌, Result, Ok, Err, refl, sym, ap, subst, ◌∙◌, inl, inr, lit<, arith}
+use Rattle.std.proofs.Common.{◌≡◌, ℕ, List, [], ◌∷◌, ◌++◌, Result, Ok, Err, refl, sym, ap, subst, ◌∙◌, inl, inr, lit<, arith}
 use Rattle.std.specs.Prelude.{IsErrAnd, ◌⊎◌}
-use Rattle.std.proofs.lemmas.List.Elements.{All-nil}
 use Rattle.stateful_types.specs.declared.codec.CodecError.{CodecError}
 use Rattle.stateful_types.specs.declared.codec.CodecError.TheVariants.{InvalidEnum, EndOfBuffer, OutOfMemory}
 use Rattle.stateful_types.specs.declared.digest.Digest.{Digest}
 use Rattle.stateful_types.specs.declared.request.Request.{Request}
 use Rattle.stateful_types.specs.declared.response.Response.{Response}
 use Rattle.stateful_types.specs.declared.response.Response.TheVariants.{Operations, Boundary}
-use Rattle.stateful_types.specs.Format.{Format, Begins, IsFormat, Reads, UnlessMemory}
+use Rattle.stateful_types.specs.Format.{Format, IsFormat, Reads, UnlessMemory}
 use Rattle.stateful_types.specs.FormatLaws.{Rest, both, IsFormat-both}
-use Rattle.stateful_types.specs.Cases.{two_cases, IsTagged}
+use Rattle.stateful_types.specs.Cases.{two_cases, IsTaggedBy}
 use Rattle.stateful_types.specs.CasesLaws.{HasTwoCases, two_tags, first_case, second_case}
 use Rattle.stateful_types.specs.Number.{u8_format, u32_format}
 use Rattle.stateful_types.specs.Items.{items_format}
 use Rattle.stateful_types.specs.ItemsLaws.{items_alone}
 use Rattle.stateful_types.specs.Digest.{digest_format}
-use Rattle.stateful_types.specs.Response.{response_fits, response_bytes, response_format, Allows, HasTooMany}
+use Rattle.stateful_types.specs.Response.{response_fits, response_format, Allows, HasTooMany}
 use Rattle.stateful_types.proofs.Formats.{Met}
 use Rattle.stateful_types.proofs.Values.{digest_alone}
 
@@ -45,7 +44,7 @@ module _ {Op : Type 0} (op : Format Op) where
       back (Operations operations) fits = (inl operations, fits, refl)
       back (Boundary before operation) fits = (inr (before, operation), fits, refl)
 
-    pub response_tags : IsTagged (response_format op) (λ n. (n ≡ 0) ⊎ (n ≡ 1))
+    pub response_tags : IsTaggedBy (response_format op) (λ n. (n ≡ 0) ⊎ (n ≡ 1))
     response_tags = two_tags response_cases
 
     pub operations_case : Rest (response_format op) (0 ∷ []) (items_format op) (λ operations. Operations operations)

@@ -6,7 +6,7 @@ use Rattle.stateful_types.specs.declared.codec.CodecError.TheVariants.{InvalidEn
 use Rattle.stateful_types.specs.Format.{Format, Begins, EndsInside, Reads}
 use Rattle.stateful_types.specs.FormatLaws.{Rest}
 use Rattle.stateful_types.specs.Number.{u8_format}
-use Rattle.stateful_types.specs.Cases.{nothing, IsTagged}
+use Rattle.stateful_types.specs.Cases.{nothing, IsTaggedBy}
 use Rattle.stateful_types.proofs.Formats.{Met, met, reads, passed, rest_ok, rest_err}
 
 -- the bytes behind a first byte that is known
@@ -26,7 +26,7 @@ inside_byte : (bytes : List ℕ) → EndsInside u8_format bytes → bytes ≡ []
 inside_byte [] inside = refl
 inside_byte (b ∷ bytes) inside = absurd (omega (arith, simp length-append at (ap length inside.begins.whole)))
 
-module _ {X : Type 0} {whole : Format X} {Tag : ℕ → Type 0} (tags : IsTagged whole Tag) where
+module _ {X : Type 0} {whole : Format X} {Tag : ℕ → Type 0} (tags : IsTaggedBy whole Tag) where
   -- nothing is the front of each value
   inside_nothing : EndsInside whole []
   inside_nothing =

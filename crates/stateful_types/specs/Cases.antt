@@ -29,7 +29,7 @@ abbrev pub two_cases : {A B : Type 0} → ℕ → Format A → ℕ → Format B 
 two_cases tag f other g = either (tagged tag f) (tagged other g)
 
 -- a format whose spellings begin with one of these bytes
-pub record IsTagged {X : Type 0} (whole : Format X) (IsTag : ℕ → Type 0) : Type 0 where
+pub record IsTaggedBy {X : Type 0} (whole : Format X) (IsTag : ℕ → Type 0) : Type 0 where
   pub law : IsFormat whole
   pub begins : (x : X) → whole.fits x → (tag : ℕ) × (rest : List ℕ) × IsTag tag × (whole.spelling x ≡ tag ∷ rest)
   pub bytes : (tag : ℕ) → IsTag tag → tag < 2 ^ 8

@@ -4,7 +4,7 @@ use Rattle.std.proofs.lemmas.List.{append-nil}
 use Rattle.std.specs.Prelude.{◌⊎◌}
 use Rattle.stateful_types.specs.Format.{Format, IsFormat}
 use Rattle.stateful_types.specs.FormatLaws.{Rest, Rest-then, Rest-whole, Rest-format}
-use Rattle.stateful_types.specs.Cases.{nothing, tagged, either, either_fits, either_bytes, two_cases, IsTagged}
+use Rattle.stateful_types.specs.Cases.{nothing, tagged, either, either_fits, either_bytes, two_cases, IsTaggedBy}
 
 pub nothing_alone : IsFormat nothing
 nothing_alone = record { some = (tt, tt); alone = λ x y rest _ _ _. refl }
@@ -14,7 +14,7 @@ nothing_alone = record { some = (tt, tt); alone = λ x y rest _ _ _. refl }
 pub only_case : {A : Type 0} (tag : ℕ) (f : Format A) → Rest (tagged tag f) (tag ∷ []) f (λ a. a)
 only_case tag f = record { fits = λ a fits. fits; spelled = λ a fits. refl; back = λ a bytes fits e. (a, fits, refl) }
 
-pub only_tag : {A : Type 0} (tag : ℕ) (f : Format A) → tag < 2 ^ 8 → IsFormat f → IsTagged (tagged tag f) (λ n. n ≡ tag)
+pub only_tag : {A : Type 0} (tag : ℕ) (f : Format A) → tag < 2 ^ 8 → IsFormat f → IsTaggedBy (tagged tag f) (λ n. n ≡ tag)
 only_tag tag f byte law = record {
   law = Rest-whole (tagged tag f) (tag ∷ []) f (λ a. a) (only_case tag f) (λ a fits. (f.spelling a, refl)) law;
   begins = λ a fits. (tag, f.spelling a, refl, refl);
@@ -23,7 +23,7 @@ only_tag tag f byte law = record {
 
 -- ---- the cases of one format or of another
 
-module _ {A B : Type 0} {f : Format A} {g : Format B} {Left Right : ℕ → Type 0} (one : IsTagged f Left) (other : IsTagged g Right) (apart : (n : ℕ) → Left n → Right n → ⊥) where
+module _ {A B : Type 0} {f : Format A} {g : Format B} {Left Right : ℕ → Type 0} (one : IsTaggedBy f Left) (other : IsTaggedBy g Right) (apart : (n : ℕ) → Left n → Right n → ⊥) where
   -- no value of one begins as one of the other
   begin_apart : (a : A) (b : B) (r s : List ℕ) → f.fits a → g.fits b → f.spelling a ++ r ≡ g.spelling b ++ s → ⊥
   begin_apart a b r s fits fits' e =
@@ -47,7 +47,7 @@ module _ {A B : Type 0} {f : Format A} {g : Format B} {Left Right : ℕ → Type
   either_small tag (inl is) = one.bytes tag is
   either_small tag (inr is) = other.bytes tag is
 
-  pub either_tags : IsTagged (either f g) (λ n. Left n ⊎ Right n)
+  pub either_tags : IsTaggedBy (either f g) (λ n. Left n ⊎ Right n)
   either_tags = record {
     law = record { some = (inl one.law.some.0, one.law.some.1); alone = either_alone };
     begins = either_begins;
@@ -74,7 +74,7 @@ module _ {A B : Type 0} {f : Format A} {g : Format B} {Left Right : ℕ → Type
 
 -- ---- a format whose values are those of another, under other names
 
-pub named_tags : {A X : Type 0} {whole : Format X} {f : Format A} {into : A → X} {Tag : ℕ → Type 0} → Rest whole [] f into → IsTagged f Tag → IsTagged whole Tag
+pub named_tags : {A X : Type 0} {whole : Format X} {f : Format A} {into : A → X} {Tag : ℕ → Type 0} → Rest whole [] f into → IsTaggedBy f Tag → IsTaggedBy whole Tag
 named_tags {whole = whole} {f = f} {into = into} names tags = record {
   law = Rest-format whole f into names tags.law;
   begins = λ x fits.
@@ -98,17 +98,17 @@ pub record HasTwoCases {A B X : Type 0} (whole : Format X) (tag : ℕ) (f : Form
   pub second : IsFormat g
 
 module _ {A B X : Type 0} {whole : Format X} {tag other : ℕ} {f : Format A} {g : Format B} {into : A ⊎ B → X} (cases : HasTwoCases whole tag f other g into) where
-  one : IsTagged (tagged tag f) (λ n. n ≡ tag)
+  one : IsTaggedBy (tagged tag f) (λ n. n ≡ tag)
   one = only_tag tag f (let up = cases.up in let byte = cases.byte in omega arith) cases.first
 
-  two : IsTagged (tagged other g) (λ n. n ≡ other)
+  two : IsTaggedBy (tagged other g) (λ n. n ≡ other)
   two = only_tag other g cases.byte cases.second
 
   apart : (n : ℕ) → n ≡ tag → n ≡ other → ⊥
   apart n e e' = let up = cases.up in absurd (omega arith)
 
   -- each value's first byte is one of the two
-  pub two_tags : IsTagged whole (λ n. (n ≡ tag) ⊎ (n ≡ other))
+  pub two_tags : IsTaggedBy whole (λ n. (n ≡ tag) ⊎ (n ≡ other))
   two_tags = named_tags cases.names (either_tags one two apart)
 
   -- what stands behind the first of them
@@ -132,7 +132,7 @@ pub record HasThreeCases {A B C X : Type 0} (whole : Format X) (tag : ℕ) (f : 
   pub third : IsFormat h
 
 module _ {A B C X : Type 0} {whole : Format X} {tag other last : ℕ} {f : Format A} {g : Format B} {h : Format C} {into : A ⊎ (B ⊎ C) → X} (cases : HasThreeCases whole tag f other g last h into) where
-  alone : IsTagged (tagged tag f) (λ n. n ≡ tag)
+  alone : IsTaggedBy (tagged tag f) (λ n. n ≡ tag)
   alone = only_tag tag f (let up = cases.up in let further = cases.further in let byte = cases.byte in omega arith) cases.first
 
   others : HasTwoCases (two_cases other g last h) other g last h (λ s. s)
@@ -147,7 +147,7 @@ module _ {A B C X : Type 0} {whole : Format X} {tag other last : ℕ} {f : Forma
   away : (n : ℕ) → n ≡ tag → (n ≡ other) ⊎ (n ≡ last) → ⊥
   away n e is = let up = cases.up in let further = cases.further in absurd (omega arith)
 
-  pub three_tags : IsTagged whole (λ n. (n ≡ tag) ⊎ ((n ≡ other) ⊎ (n ≡ last)))
+  pub three_tags : IsTaggedBy whole (λ n. (n ≡ tag) ⊎ ((n ≡ other) ⊎ (n ≡ last)))
   three_tags = named_tags cases.names (either_tags alone (two_tags others) away)
 
   pub first_of_three : Rest whole (tag ∷ []) f (λ a. into (inl a))

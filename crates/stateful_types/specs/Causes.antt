@@ -1,10 +1,14 @@
 -- Counts of faults, and what a failed call says of them.
-use Rattle.std.specs.Prelude.{ℕ, ◌+◌, ◌-◌, ◌^◌, ◌≤◌, ◌==◌, min, Bool, List, Result, OnErr}
+use Rattle.std.specs.Prelude.{ℕ, ◌+◌, ◌-◌, ◌^◌, ◌≤◌, ◌==◌, min, Bool, if◌then◌else◌, List, Result, OnErr}
 use Rattle.std.specs.List.{list_any}
 
 -- one more, or the last number that there is
 abbrev pub risen : ℕ → ℕ
 risen count = min (count + 1) (2 ^ 64 - 1)
+
+-- the count behind a call, which rises where the call fails
+abbrev pub risen_if : Bool → ℕ → ℕ
+risen_if fails count = if fails then risen count else count
 
 -- the count rose, or stands at its type's end
 abbrev pub Rose : ℕ → ℕ → Type 0

@@ -10,6 +10,9 @@ pub record Queues (T : Type 0) : Type 0 where
   pub overflow : List T
   pub closed : Bool
 
+abbrev pub queues : {T : Type 0} → ℕ → List T → List T → Bool → Queues T
+queues capacity ready overflow closed = record { capacity = capacity; ready = ready; overflow = overflow; closed = closed }
+
 -- the messages in the order in which they are handed out
 abbrev pub messages : {T : Type 0} → Queues T → List T
 messages q = q.ready ++ q.overflow

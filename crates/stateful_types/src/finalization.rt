@@ -25,7 +25,8 @@ pub struct Finalization<C> {
 impl<C> Finalization<C> {
     /// Appends the round, the parent's view, the payload, and the certificate.
     pub fn write<S: Scheme<Certificate = C>>(&self, out: &mut Vec<u8>) -> Result<(), OutOfMemory>
-        ensures { Writes (finalization_format S.certificates) self.now result out.old.items out.new.items }
+        ensures { Writes (finalization_format S.certificates) self.now result
+            out.old.items out.new.items }
     {
         self.round.write(out)?;
         write_u64(self.parent.0, out)?;

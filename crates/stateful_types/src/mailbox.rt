@@ -2,7 +2,7 @@
 
 ghost use Rattle.std.specs.Prelude.{◌≡◌, ◌↔◌, ◌≤◌, ◌<◌, ◌∷◌, ◌++◌, [], List, IsTrue, IsNone, IsErr, IfOk, OnOk, OnErr, true, false, not, filter};
 ghost use Rattle.std.specs.VecDeque.{deque_capacity, deque_len};
-ghost use Rattle.stateful_types.specs.Mailbox.{Queues, HasRoom, IsBusy, IsFilled, HandsOut, Drops, KeepsOrder, messages};
+ghost use Rattle.stateful_types.specs.Mailbox.{queues, HasRoom, IsBusy, IsFilled, HandsOut, Drops, KeepsOrder, messages};
 
 use crate::share::OutOfMemory;
 use std::alloc::Global;
@@ -66,8 +66,10 @@ pub trait Policy: Sized {
 
     /// Lets one more message wait.
     fn handle(overflow: &mut Self::Overflow, message: Self) -> Result<(), OutOfMemory>
-        ensures ok { OnOk result (Self.Overflow.items overflow.new ≡ kept (Self.Overflow.items overflow.old) message) }
-        ensures err { OnErr result (Self.Overflow.items overflow.new ≡ Self.Overflow.items overflow.old) };
+        ensures ok { OnOk result
+            (Self.Overflow.items overflow.new ≡ kept (Self.Overflow.items overflow.old) message) }
+        ensures err { OnErr result
+            (Self.Overflow.items overflow.new ≡ Self.Overflow.items overflow.old) };
 }
 
 impl<T: Drop> Overflow<T> for VecDeque<T> {
@@ -102,22 +104,24 @@ pub struct Bounded<T, O: Overflow<T>> {
 impl<T, O: Overflow<T>> Model for Bounded<T, O> {
     ghost use Rattle.std.specs.Prelude.{◌≤◌};
     ghost use Rattle.std.specs.VecDeque.{deque_capacity};
-    ghost use Rattle.stateful_types.specs.Mailbox.{Queues, IsFilled};
+    ghost use Rattle.stateful_types.specs.Mailbox.{Queues, queues, IsFilled};
 
     ghost Value = { Queues T };
 
-    ghost view = { λ a. record { capacity = a.capacity; ready = a.ready.items; overflow = O.items a.overflow; closed = a.closed } };
+    ghost view = { λ a. queues a.capacity a.ready.items (O.items a.overflow) a.closed };
 
-    ghost invariant = { λ a. (a.capacity ≤ deque_capacity a.ready) × IsFilled (record { capacity = a.capacity; ready = a.ready.items; overflow = O.items a.overflow; closed = a.closed }) };
+    ghost invariant = { λ a. (a.capacity ≤ deque_capacity a.ready)
+        × IsFilled (queues a.capacity a.ready.items (O.items a.overflow) a.closed) };
 }
 
 impl<T: Policy + Drop> Bounded<T, T::Overflow> {
     /// An empty mailbox, with room for so many ready messages.
     pub fn new(alloc: Global, capacity: usize) -> Result<Bounded<T, T::Overflow>, OutOfMemory>
         requires { 1 ≤ capacity }
-        ensures empty { IfOk result (λ mailbox. mailbox ≡ record { capacity = capacity; ready = []; overflow = []; closed = false }) }
+        ensures empty { IfOk result (λ mailbox. mailbox ≡ queues capacity [] [] false) }
 
-        // Whatever calls follow, messages are handed out in order, if they wait in order.
+        // Whatever calls follow, messages are handed out in order, if they wait in order, and none is lost but those
+        // that were dropped.
         ensures order { IfOk result (λ mailbox. KeepsOrder T.kept mailbox) }
     {
         let ready = VecDeque::with_capacity(alloc, capacity)?;
@@ -137,8 +141,10 @@ impl<T: Policy + Drop> Bounded<T, T::Overflow> {
         ensures refused { IsErr result → IsBusy self.old }
 
         ensures unchanged { (result ≡ Ok Feedback.Closed) → self.new ≡ self.old }
-        ensures ready { (result ≡ Ok Feedback.Ok) → self.new ≡ record self.old { ready = self.old.ready ++ message ∷ [] } }
-        ensures waits { (result ≡ Ok Feedback.Backoff) → self.new ≡ record self.old { overflow = T.kept self.old.overflow message } }
+        ensures ready { (result ≡ Ok Feedback.Ok)
+            → self.new ≡ record self.old { ready = self.old.ready ++ message ∷ [] } }
+        ensures waits { (result ≡ Ok Feedback.Backoff)
+            → self.new ≡ record self.old { overflow = T.kept self.old.overflow message } }
         ensures err { OnErr result (self.new ≡ self.old) }
 
         ensures filled { IsFilled self.new }
@@ -170,7 +176,8 @@ impl<T: Policy + Drop> Bounded<T, T::Overflow> {
     /// there, so that they take no room. Those that are ready stay, whatever they are.
     pub fn retain_waiting<P: Predicate<T>>(&mut self, live: &P)
         ensures kept { self.new.overflow ≡ filter (P.holds live.now) self.old.overflow }
-        ensures dropped { Drops self.old self.new (filter (λ message. not (P.holds live.now message)) self.old.overflow) }
+        ensures dropped { Drops self.old self.new
+            (filter (λ message. not (P.holds live.now message)) self.old.overflow) }
         ensures filled { IsFilled self.new }
     {
         self.overflow.retain(live);
@@ -189,7 +196,8 @@ impl<T: Policy + Drop> Bounded<T, T::Overflow> {
 fn refill<T, O: Overflow<T>>(capacity: usize, ready: &mut VecDeque<T>, overflow: &mut O)
     requires room { capacity ≤ deque_capacity ready.old }
     requires within { deque_len ready.old ≤ capacity }
-    ensures order { ready.new.items ++ O.items overflow.new ≡ ready.old.items ++ O.items overflow.old }
+    ensures order { ready.new.items ++ O.items overflow.new
+        ≡ ready.old.items ++ O.items overflow.old }
     ensures within { deque_len ready.new ≤ capacity }
     ensures filled { deque_len ready.new < capacity → O.items overflow.new ≡ [] }
     ensures room { capacity ≤ deque_capacity ready.new }

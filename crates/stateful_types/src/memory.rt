@@ -1,9 +1,9 @@
 //! A source and a sink in memory, whose failing calls are listed by their numbers, from 0 on.
 
-ghost use Rattle.std.specs.Prelude.{◌≡◌, ◌↔◌, ◌<◌, ◌≤◌, [], length, drop, Some, IsTrue, IsErrOf, IfOk, is_err, if◌then◌else◌};
+ghost use Rattle.std.specs.Prelude.{◌≡◌, ◌↔◌, ◌<◌, ◌≤◌, [], length, drop, Some, IsTrue, IsErrOf, IfOk, is_err};
 ghost use Rattle.std.specs.Io.{ReadsAtMost};
 ghost use Rattle.std.specs.Io.KnownBytes.{ReadConsumes, WriteAppends};
-ghost use Rattle.stateful_types.specs.Causes.{Rose, HasCause, risen, is_listed};
+ghost use Rattle.stateful_types.specs.Causes.{Rose, HasCause, risen, risen_if, is_listed};
 
 use crate::fault::{Failed, Faulty};
 use crate::sink::{Sink, SinkFault};
@@ -57,9 +57,10 @@ impl Source for MemorySource {
 
         // The listed calls fail, and the count rises by one exactly there.
         ensures failing { is_err result ≡ is_listed self.old.failing.items self.old.calls }
-        ensures count { self.new.faults ≡
-            (if is_listed self.old.failing.items self.old.calls then risen self.old.faults else self.old.faults) }
-        ensures calls { (self.new.calls ≡ risen self.old.calls) × (self.new.failing ≡ self.old.failing) }
+        ensures count { self.new.faults
+            ≡ risen_if (is_listed self.old.failing.items self.old.calls) self.old.faults }
+        ensures calls { self.new.calls ≡ risen self.old.calls }
+        ensures same { self.new.failing ≡ self.old.failing }
     {
         let call = self.calls;
         self.calls = self.calls.saturating_add(1);
@@ -121,16 +122,18 @@ impl Sink for MemorySink {
     fn write(&mut self, piece: &[u8]) -> Result<usize, SinkFault>
         ensures bound { IfOk result (λ n. n ≤ length piece.now) }
         ensures some { IfOk result (λ n. 0 < length piece.now → 0 < n) }
-        ensures bytes { WriteAppends (Some self.old.held.items) (Some self.new.held.items) result piece.now }
+        ensures bytes { WriteAppends (Some self.old.held.items) (Some self.new.held.items)
+            result piece.now }
         ensures later { self.old.faults ≤ self.new.faults }
         ensures cause { IsErrOf result SinkFault.Failed → Rose self.old.faults self.new.faults }
 
         // The listed calls fail so, and the count rises by one exactly there: want of memory leaves it.
         ensures failing { IsTrue (is_listed self.old.failing.items self.old.calls)
             ↔ IsErrOf result SinkFault.Failed }
-        ensures count { self.new.faults ≡
-            (if is_listed self.old.failing.items self.old.calls then risen self.old.faults else self.old.faults) }
-        ensures calls { (self.new.calls ≡ risen self.old.calls) × (self.new.failing ≡ self.old.failing) }
+        ensures count { self.new.faults
+            ≡ risen_if (is_listed self.old.failing.items self.old.calls) self.old.faults }
+        ensures calls { self.new.calls ≡ risen self.old.calls }
+        ensures same { self.new.failing ≡ self.old.failing }
     {
         let call = self.calls;
         self.calls = self.calls.saturating_add(1);

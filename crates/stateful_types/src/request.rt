@@ -11,7 +11,8 @@ use crate::share::OutOfMemory;
 use bytes::Bytes;
 use std::num::NonZeroU64;
 
-/// What is asked of a database that has `size` operations. Requests are ordered by their kind, and then by their numbers.
+/// What is asked of a database that has `size` operations. Requests are ordered by their kind, and then by their
+/// numbers.
 #[derive(Clone, Copy, Debug, PartialEq, Eq, PartialOrd, Ord)]
 pub enum Request {
     /// At most `max_ops` operations, from `start` on.

@@ -12,7 +12,7 @@ struct Update {
 }
 
 impl Operation for Update {
-    ghost use Rattle.std.specs.Prelude.{ℕ, List, ◌∷◌, [], ◌++◌, refl};
+    ghost use Rattle.std.specs.Prelude.{◌∷◌, [], ◌++◌, refl};
     ghost use Rattle.stateful_types.specs.declared.tests.Update.{Update};
     ghost use Rattle.stateful_types.specs.Number.{u64_format};
     ghost use Rattle.stateful_types.specs.FixedLaws.{u64_alone};

@@ -1,7 +1,5 @@
-use Rattle.std.proofs.Common.{◌≡◌, true, [], ◌∷◌, arith}
+use Rattle.std.proofs.Common.{◌≡◌, true, arith}
 use Rattle.stateful_types.specs.Digest.{digest_format}
-use Rattle.stateful_types.specs.Items.{items_format}
-use Rattle.stateful_types.specs.Response.{response_format}
 use Rattle.stateful_types.proofs.Formats.{met, taken_then, both_ok, first_err, second_err}
 use Rattle.stateful_types.proofs.Tags.{tag_err, tag_wrong, tag_is, case_ok, case_err}
 use Rattle.stateful_types.proofs.Values.{digest_alone}

@@ -1,10 +1,10 @@
 use Rattle.std.proofs.Common.{◌≡◌, ◌∷◌, [], ◌++◌, ℕ, refl, lit<, arith}
 use Rattle.stateful_types.specs.declared.tests.Update.{Update}
 use Rattle.stateful_types.specs.Format.{Format}
-use Rattle.stateful_types.specs.FormatLaws.{Rest, both}
+use Rattle.stateful_types.specs.FormatLaws.{Rest}
 use Rattle.stateful_types.specs.Number.{u64_format}
 use Rattle.stateful_types.specs.FixedLaws.{u64_alone}
-use Rattle.stateful_types.specs.Cases.{tagged, IsTagged}
+use Rattle.stateful_types.specs.Cases.{tagged, IsTaggedBy}
 use Rattle.stateful_types.specs.CasesLaws.{only_tag, only_case, named_tags, named_case}
 use Rattle.stateful_types.proofs.Formats.{met, both_ok, first_err, second_err}
 use Rattle.stateful_types.proofs.Tags.{tag_err, tag_wrong, tag_is, case_ok, case_err}
@@ -23,7 +23,7 @@ to_update p = record { key = p.0; value = p.1 }
 update_names : Rest update_format [] (tagged 1 pair_format) to_update
 update_names = record { fits = λ p fits. fits; spelled = λ p fits. refl; back = λ u bytes fits e. ((u.key, u.value), fits, refl) }
 
-update_tags : IsTagged update_format (λ n. n ≡ 1)
+update_tags : IsTaggedBy update_format (λ n. n ≡ 1)
 update_tags = named_tags update_names (only_tag 1 pair_format (lit< tt) pair_alone)
 
 update_case : Rest update_format (1 ∷ []) pair_format to_update
