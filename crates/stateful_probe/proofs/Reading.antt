@@ -1,7 +1,6 @@
 -- What the bytes of a message are, by what the readers of its parts answered.
 use Rattle.std.proofs.Common.{◌≡◌, ℕ, Bool, true, false, Option, Some, None, List, [], ◌∷◌, ◌++◌, drop, Result, Ok, Err, refl, sym, ap, subst, ◌∙◌, append_assoc}
 use Rattle.std.specs.Prelude.{IsErrAnd, ◌&&◌, is_some}
-use Rattle.std.specs.List.{slice_get}
 use Rattle.std.proofs.lemmas.Bool.{leb-true, le-leb}
 use Rattle.std.proofs.lemmas.List.{append-nil}
 use Rattle.stateful_types.specs.declared.codec.CodecError.{CodecError}
@@ -11,7 +10,7 @@ use Rattle.stateful_types.specs.declared.number.View.{View}
 use Rattle.stateful_types.specs.declared.digest.Digest.{Digest}
 use Rattle.stateful_types.specs.declared.round.Round.{Round}
 use Rattle.stateful_types.specs.declared.finalization.Finalization.{Finalization}
-use Rattle.stateful_types.specs.Format.{Format, Stands, Reads, UnlessMemory}
+use Rattle.stateful_types.specs.Format.{Format, Stands, Reads, UnlessMemory, end_of}
 use Rattle.stateful_types.specs.Number.{u64_format, view_format}
 use Rattle.stateful_types.specs.Digest.{digest_format}
 use Rattle.stateful_types.specs.Round.{round_format}
@@ -31,6 +30,11 @@ unless_weaker : (A B : Type 0) {P Q : Type 0} (error : CodecError) → (P → Q)
 unless_weaker A B EndOfBuffer h p = h p
 unless_weaker A B (InvalidEnum byte) h p = h p
 unless_weaker A B OutOfMemory h p = tt
+
+whatever : (A : Type 0) {P : Type 0} (error : CodecError) → P → UnlessMemory {A = A} (Err error) P
+whatever A EndOfBuffer p = p
+whatever A (InvalidEnum byte) p = p
+whatever A OutOfMemory p = tt
 
 -- what is refused doesn't stand first, unless memory ran out
 refused : {A : Type 0} (f : Format A) (error : CodecError) (before after : List ℕ) → Reads f (Err error) before after
@@ -74,9 +78,10 @@ opened mid mid' mid'' rest round n payload one two three =
           (ap (λ (p : (Round × ℕ) × Digest). p.0.0) same.0, same.1);
     }
 
-none_behind : {C : Type 0} (x y : C) (after : List ℕ) (byte : ℕ) → Some byte ≡ slice_get after 0 → ◌≡◌ {A = Result (C × List ℕ) CodecError} (Ok (x, after)) (Ok (y, [])) → ⊥
-none_behind x y [] byte more e = absurd cc
-none_behind x y (b ∷ after) byte more e = let same = (same_parts x y (b ∷ after) [] e).1 in absurd cc
+-- where bytes are left over, something is behind the value
+none_behind : {C : Type 0} (x y : C) (after : List ℕ) (error : CodecError) → Err error ≡ end_of after → ◌≡◌ {A = Result (C × List ℕ) CodecError} (Ok (x, after)) (Ok (y, [])) → ⊥
+none_behind x y [] error more e = absurd cc
+none_behind x y (b ∷ after) error more e = let same = (same_parts x y (b ∷ after) [] e).1 in absurd cc
 
 module _ {S K C : Type 0} (u : Setup S K C) where
   -- a whole response has a header
@@ -153,7 +158,8 @@ module _ {S K C : Type 0} (u : Setup S K C) where
     uncertain error after counted r = unless_weaker C C error (λ none.
         malformed counted (λ certificate fits e. none certificate [] fits (e ∙ sym (append-nil (u.certificates.spelling certificate))))) (refused u.certificates error rest after r)
 
-    -- bytes stand behind the certificate
-    pub followed : (certificate : C) (byte : ℕ) (after : List ℕ) → true ≡ is_counting u.schemes u.minimum round.epoch → Reads u.certificates (Ok certificate) rest after → Some byte ≡ slice_get after 0 → IsMalformed u (1 ∷ mid)
-    followed certificate byte after counted r more =
-        malformed counted (λ other fits e. none_behind certificate other after byte more (r.only (Ok (other, [])) (fits, e ∙ sym (append-nil (u.certificates.spelling other)))))
+    -- bytes are left over behind the certificate
+    pub followed : (certificate : C) (error : CodecError) (after : List ℕ) → true ≡ is_counting u.schemes u.minimum round.epoch → Reads u.certificates (Ok certificate) rest after → Err error ≡ end_of after
+        → UnlessMemory {A = C} (Err error) (IsMalformed u (1 ∷ mid))
+    followed certificate error after counted r more =
+        whatever C error (malformed counted (λ other fits e. none_behind certificate other after error more (r.only (Ok (other, [])) (fits, e ∙ sym (append-nil (u.certificates.spelling other))))))

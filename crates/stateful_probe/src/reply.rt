@@ -8,7 +8,7 @@ use crate::schemes::Schemes;
 use crate::wire::Tag;
 use bytes::Bytes;
 use stateful_types::{
-    CodecError, Digest, Epoch, Finalization, OutOfMemory, Round, Scheme, View, read_u64,
+    CodecError, Digest, Epoch, Finalization, OutOfMemory, Round, Scheme, View, end_of, read_u64,
 };
 use std::alloc::Global;
 
@@ -73,9 +73,7 @@ fn read_response<S: Scheme>(
         return Ok(Decoded::Ignored);
     }
     let certificate = S::read_certificate(alloc, input)?;
-    if let Some(byte) = input.as_slice().first() {
-        return Err(CodecError::InvalidEnum(*byte));
-    }
+    end_of(input)?;
     Ok(Decoded::Whole(Finalization {
         round,
         parent,

@@ -1,12 +1,12 @@
 //! What peers send each other.
 
-ghost use Rattle.std.specs.Prelude.{◌≡◌, ◌+◌, ◌^◌, ◌<◌, ◌≤◌, ℕ, List, length, IsErrOf};
+ghost use Rattle.std.specs.Prelude.{◌≡◌, ◌+◌, ◌≤◌, length, IsErrOf};
 ghost use Rattle.stateful_types.specs.Format.{Reads, Writes, IsFormat};
 ghost use Rattle.stateful_types.specs.declared.finalization.Finalization.{Finalization};
 ghost use Rattle.stateful_probe.specs.Wire.{tag_format, message_format};
 
 use bytes::Bytes;
-use stateful_types::{CodecError, Finalization, OutOfMemory, Scheme, write_u8};
+use stateful_types::{CodecError, Finalization, OutOfMemory, Scheme, read_u8, write_u8};
 use std::alloc::Global;
 
 /// The first byte of a message.
@@ -34,16 +34,11 @@ impl Tag {
         ensures reads { Reads tag_format result input.old input.new }
         ensures memory { IsErrOf result CodecError.OutOfMemory → ⊥ }
     {
-        let Some(byte) = input.as_slice().first() else {
-            return Err(CodecError::EndOfBuffer);
-        };
-        let tag = match *byte {
-            0 => Tag::Request,
-            1 => Tag::Response,
-            other => return Err(CodecError::InvalidEnum(other)),
-        };
-        input.advance(1);
-        Ok(tag)
+        match read_u8(input)? {
+            0 => Ok(Tag::Request),
+            1 => Ok(Tag::Response),
+            other => Err(CodecError::InvalidEnum(other)),
+        }
     }
 }
 
@@ -89,7 +84,7 @@ impl<C> Message<C> {
     {
         match self {
             Message::Request => 1,
-            Message::Response(finalization) => response_size::<S>(finalization),
+            Message::Response(finalization) => 1 + finalization.encode_size::<S>(),
         }
     }
 
@@ -103,14 +98,6 @@ impl<C> Message<C> {
     {
         57 + S::max_certificate_size(participants)
     }
-}
-
-/// How many bytes a response with this finalization has: its tag, three numbers, the payload and the certificate.
-fn response_size<S: Scheme>(finalization: &Finalization<S::Certificate>) -> usize
-    ensures { result ≡ length ((message_format S.certificates).spelling (Message.Response finalization.now)) }
-{
-    let payload: &[u8] = &finalization.payload.0;
-    25 + payload.len() + S::certificate_size(&finalization.certificate)
 }
 
 /// In both formats no spelling begins another.

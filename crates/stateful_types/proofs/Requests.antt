@@ -1,5 +1,6 @@
 -- The format of requests, by its two cases.
-use Rattle.std.proofs.Common.{◌≡◌, ℕ, zero, suc, ◌^◌, ◌<◌, List, [], ◌∷◌, ◌++◌, length, replicate, All, Result, Ok, Err, refl, sym, ap, subst, ◌∙◌, append_assoc, arith, length-append}
+use Rattle.std.proofs.Common.{◌≡◌, ℕ, zero, suc, ◌^◌, ◌<◌, List, [], ◌∷◌, ◌++◌, length, replicate, All, Result, Ok, Err, refl, sym, ap, subst, ◌∙◌, append_assoc, inl, inr, lit<, arith, length-append}
+use Rattle.std.specs.Prelude.{◌⊎◌}
 use Rattle.std.specs.Int.{w64, from_be_bytes, to_be_bytes}
 use Rattle.std.specs.Int.NonZero.{non_zero_u64_get}
 use Rattle.std.specs.declared.num.NonZeroU64.{NonZeroU64}
@@ -10,12 +11,14 @@ use Rattle.stateful_types.specs.declared.codec.CodecError.{CodecError}
 use Rattle.stateful_types.specs.declared.codec.CodecError.TheVariants.{InvalidEnum, EndOfBuffer, OutOfMemory}
 use Rattle.stateful_types.specs.Format.{Format, Begins, EndsInside, IsFormat, Writes}
 use Rattle.stateful_types.specs.Number.{bytes_format, u64_format, nonzero_format, location_format}
-use Rattle.stateful_types.specs.Request.{request_fits, request_bytes, request_format}
+use Rattle.stateful_types.specs.Request.{request_fits, request_format}
 use Rattle.stateful_types.specs.declared.number.Location.{Location}
 use Rattle.stateful_types.specs.declared.request.Request.{Request}
 use Rattle.stateful_types.specs.declared.request.Request.TheVariants.{Operations, Boundary}
 use Rattle.stateful_types.proofs.Formats.{Met}
-use Rattle.stateful_types.specs.FormatLaws.{Rest, Rest-alone, both, IsFormat-both}
+use Rattle.stateful_types.specs.FormatLaws.{Rest, both, IsFormat-both}
+use Rattle.stateful_types.specs.Cases.{two_cases, IsTaggedBy}
+use Rattle.stateful_types.specs.CasesLaws.{HasTwoCases, two_tags, first_case, second_case}
 use Rattle.stateful_types.specs.FixedLaws.{IsByte, wide64, u64_alone}
 use Rattle.stateful_types.proofs.Fixed.{All-front, All-behind}
 use Rattle.stateful_types.proofs.Values.{location_alone}
@@ -122,38 +125,31 @@ range_alone = IsFormat-both location_format location_format location_alone locat
 abbrev pub asked_format : Format ((Location × Location) × NonZeroU64)
 asked_format = both range_format nonzero_format
 
-pub asked_alone : IsFormat asked_format
-asked_alone = IsFormat-both range_format nonzero_format range_alone nonzero_alone
+abbrev pub to_request : ((Location × Location) × NonZeroU64) ⊎ (Location × Location) → Request
+to_request (inl p) = Operations p.0.0 p.0.1 p.1
+to_request (inr p) = Boundary p.0 p.1
 
-abbrev pub to_operations : (Location × Location) × NonZeroU64 → Request
-to_operations p = Operations p.0.0 p.0.1 p.1
+pub request_cases : HasTwoCases request_format 0 asked_format 1 range_format to_request
+request_cases = record {
+  names = record {
+    fits = elim [ inl p ↦ λ fits. (fits.0.0, fits.0.1, fits.1) | inr p ↦ λ fits. fits ];
+    spelled = elim [ inl p ↦ λ fits. refl | inr p ↦ λ fits. refl ];
+    back = λ x bytes fits e. back x fits;
+  };
+  up = lit< tt;
+  byte = lit< tt;
+  first = IsFormat-both range_format nonzero_format range_alone nonzero_alone;
+  second = range_alone;
+} where
+  back : (x : Request) → request_fits x → (p : ((Location × Location) × NonZeroU64) ⊎ (Location × Location)) × (two_cases 0 asked_format 1 range_format).fits p × (x ≡ to_request p)
+  back (Operations size start max_ops) fits = (inl ((size, start), max_ops), ((fits.0, fits.1), fits.2), refl)
+  back (Boundary size start) fits = (inr (size, start), fits, refl)
 
-abbrev pub to_boundary : Location × Location → Request
-to_boundary p = Boundary p.0 p.1
+pub request_tags : IsTaggedBy request_format (λ n. (n ≡ 0) ⊎ (n ≡ 1))
+request_tags = two_tags request_cases
 
-pub Rest-operations : Rest request_format (0 ∷ []) asked_format to_operations
-Rest-operations = record { fits = λ p fits. (fits.0.0, fits.0.1, fits.1); spelled = λ p fits. refl; back = back } where
-  back : (x : Request) (bytes : List ℕ) → request_fits x → request_bytes x ≡ 0 ∷ bytes → (p : (Location × Location) × NonZeroU64) × asked_format.fits p × (x ≡ to_operations p)
-  back (Operations size start max_ops) bytes fits e = (((size, start), max_ops), ((fits.0, fits.1), fits.2), refl)
-  back (Boundary size start) bytes fits e = absurd cc
+pub operations_case : Rest request_format (0 ∷ []) asked_format (λ p. Operations p.0.0 p.0.1 p.1)
+operations_case = first_case request_cases
 
-pub Rest-boundary : Rest request_format (1 ∷ []) range_format to_boundary
-Rest-boundary = record { fits = λ p fits. fits; spelled = λ p fits. refl; back = back } where
-  back : (x : Request) (bytes : List ℕ) → request_fits x → request_bytes x ≡ 1 ∷ bytes → (p : Location × Location) × range_format.fits p × (x ≡ to_boundary p)
-  back (Operations size start max_ops) bytes fits e = absurd cc
-  back (Boundary size start) bytes fits e = ((size, start), fits, refl)
-
-pub request_alone : IsFormat request_format
-request_alone = record { some = (to_boundary range_alone.some.0, range_alone.some.1); alone = alone } where
-  alone : (x y : Request) (rest : List ℕ) → request_fits x → request_fits y → request_bytes x ++ rest ≡ request_bytes y → x ≡ y
-  alone (Operations size start max_ops) y rest fits fits' e =
-      Rest-alone request_format (0 ∷ []) asked_format to_operations Rest-operations asked_alone (Operations size start max_ops) y rest (asked_format.spelling ((size, start), max_ops)) fits fits' refl e
-  alone (Boundary size start) y rest fits fits' e =
-      Rest-alone request_format (1 ∷ []) range_format to_boundary Rest-boundary range_alone (Boundary size start) y rest (range_format.spelling (size, start)) fits fits' refl e
-
--- a request's first byte is 0 or 1
-pub request_tags : (byte : ℕ) → Begins request_format (byte ∷ []) → byte < 2
-request_tags byte b = tags byte b.rest b.value b.whole where
-  tags : (byte : ℕ) (rest : List ℕ) (x : Request) → byte ∷ rest ≡ request_bytes x → byte < 2
-  tags byte rest (Operations size start max_ops) e = let same : byte ≡ 0 = cc in omega arith
-  tags byte rest (Boundary size start) e = let same : byte ≡ 1 = cc in omega arith
+pub boundary_case : Rest request_format (1 ∷ []) range_format (λ p. Boundary p.0 p.1)
+boundary_case = second_case request_cases

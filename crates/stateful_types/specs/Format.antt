@@ -47,6 +47,11 @@ UnlessMemory (Err EndOfBuffer) P = P
 UnlessMemory (Err (InvalidEnum byte)) P = P
 UnlessMemory (Err OutOfMemory) P = Unit {0}
 
+-- what is behind a whole value: nothing, or a byte that no case has
+abbrev pub end_of : List ℕ → Result (Unit {0}) CodecError
+end_of [] = Ok tt
+end_of (byte ∷ rest) = Err (InvalidEnum byte)
+
 -- How a format is read. Unless memory ran out the answer is what stands first in the bytes, and whatever stands
 -- first is the answer: so what is spelled is read, whatever follows. In each case some bytes are taken from the front.
 pub record Reads {A : Type 0} (format : Format A) (result : Result A CodecError) (before after : List ℕ) : Type 0 where

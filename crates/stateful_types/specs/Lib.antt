@@ -2,13 +2,14 @@ pub mod Format
 pub mod FormatLaws
 pub mod Number
 pub mod FixedLaws
+pub mod Cases
+pub mod CasesLaws
 pub mod Digest
 pub mod Round
 pub mod Names
 pub mod Causes
 pub mod Handoff
 pub mod Anchor
-pub mod Offers
 pub mod Mailbox
 pub mod Finalization
 pub mod Items

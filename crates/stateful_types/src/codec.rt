@@ -1,8 +1,8 @@
 //! Reading values from the front of some bytes, and writing them behind others. All numbers have a fixed width, the
 //! highest byte first.
 
-ghost use Rattle.std.specs.Prelude.{◌≡◌, drop};
-ghost use Rattle.stateful_types.specs.Format.{Reads, Writes};
+ghost use Rattle.std.specs.Prelude.{◌≡◌, drop, IsErrOf};
+ghost use Rattle.stateful_types.specs.Format.{Reads, Writes, end_of};
 ghost use Rattle.stateful_types.specs.Number.{u8_format, u32_format, u64_format, bytes_format};
 ghost use Rattle.stateful_types.specs.declared.codec.CodecError.TheVariants as errors;
 
@@ -15,12 +15,12 @@ use thiserror::Error;
 #[derive(Clone, Copy, Debug, PartialEq, Eq, Error)]
 pub enum CodecError {
     /// A byte stands there that no case has.
-    #[error("no case has the byte {0}")]
+    #[error("InvalidEnum")]
     InvalidEnum(u8),
     /// The bytes end inside a value.
-    #[error("the bytes end inside a value")]
+    #[error("EndOfBuffer")]
     EndOfBuffer,
-    #[error("out of memory")]
+    #[error("OutOfMemory")]
     OutOfMemory,
 }
 
@@ -72,30 +72,44 @@ pub fn write_u64(n: u64, out: &mut Vec<u8>) -> Result<(), OutOfMemory>
     Ok(())
 }
 
-/// Takes a byte.
+/// Takes a byte. It takes no memory.
 pub fn read_u8(input: &mut Bytes) -> Result<u8, CodecError>
-    ensures { Reads u8_format result input.old input.new }
+    ensures reads { Reads u8_format result input.old input.new }
+    ensures memory { IsErrOf result CodecError.OutOfMemory → ⊥ }
 {
     Ok(u8::from_be_bytes(read_array(input)?))
 }
 
-/// Takes a number of four bytes.
+/// Takes a number of four bytes. It takes no memory.
 pub fn read_u32(input: &mut Bytes) -> Result<u32, CodecError>
-    ensures { Reads u32_format result input.old input.new }
+    ensures reads { Reads u32_format result input.old input.new }
+    ensures memory { IsErrOf result CodecError.OutOfMemory → ⊥ }
 {
     Ok(u32::from_be_bytes(read_array(input)?))
 }
 
-/// Takes a number of eight bytes.
+/// Takes a number of eight bytes. It takes no memory.
 pub fn read_u64(input: &mut Bytes) -> Result<u64, CodecError>
-    ensures { Reads u64_format result input.old input.new }
+    ensures reads { Reads u64_format result input.old input.new }
+    ensures memory { IsErrOf result CodecError.OutOfMemory → ⊥ }
 {
     Ok(u64::from_be_bytes(read_array(input)?))
 }
 
-/// Takes `N` bytes, as they are.
+/// Whether nothing is left behind a whole value. Bytes that are left over are refused at the first of them.
+pub fn end_of(input: &Bytes) -> Result<(), CodecError>
+    ensures { result ≡ end_of input.now }
+{
+    match input.as_slice().first() {
+        Some(byte) => Err(CodecError::InvalidEnum(*byte)),
+        None => Ok(()),
+    }
+}
+
+/// Takes `N` bytes, as they are. It takes no memory.
 pub(crate) fn read_array<const N: usize>(input: &mut Bytes) -> Result<[u8; N], CodecError>
-    ensures { Reads (bytes_format N) result input.old input.new }
+    ensures reads { Reads (bytes_format N) result input.old input.new }
+    ensures memory { IsErrOf result CodecError.OutOfMemory → ⊥ }
 {
     let front = first_bytes(input.as_slice())?;
     input.advance(N);
@@ -104,7 +118,8 @@ pub(crate) fn read_array<const N: usize>(input: &mut Bytes) -> Result<[u8; N], C
 
 /// The first `N` bytes.
 fn first_bytes<const N: usize>(bytes: &[u8]) -> Result<[u8; N], CodecError>
-    ensures { Reads (bytes_format N) result bytes.now (drop N bytes.now) }
+    ensures reads { Reads (bytes_format N) result bytes.now (drop N bytes.now) }
+    ensures memory { IsErrOf result CodecError.OutOfMemory → ⊥ }
 {
     let Some(front) = bytes.first_chunk::<N>() else {
         return Err(CodecError::EndOfBuffer);

@@ -1,6 +1,6 @@
 //! SHA-256 digests.
 
-ghost use Rattle.std.specs.Prelude.{◌≡◌, ◌↔◌, IsTrue};
+ghost use Rattle.std.specs.Prelude.{◌≡◌, ◌↔◌, IsTrue, IsErrOf};
 ghost use Rattle.sha2.specs.Sha256.{sha256};
 ghost use Rattle.stateful_types.specs.Format.{Reads, Writes};
 ghost use Rattle.stateful_types.specs.Digest.{digest_format};
@@ -40,9 +40,10 @@ impl Digest {
         Ok(())
     }
 
-    /// Takes 32 bytes.
+    /// Takes 32 bytes. It takes no memory.
     pub fn read(input: &mut Bytes) -> Result<Digest, CodecError>
-        ensures { Reads digest_format result input.old input.new }
+        ensures reads { Reads digest_format result input.old input.new }
+        ensures memory { IsErrOf result CodecError.OutOfMemory → ⊥ }
     {
         Ok(Digest(read_array(input)?))
     }

@@ -6,7 +6,7 @@ use thiserror::Error;
 
 /// The object failed, and has counted it.
 #[derive(Clone, Copy, Debug, PartialEq, Eq, Error)]
-#[error("the object failed")]
+#[error("Failed")]
 pub struct Failed;
 
 /// What counts its faults. The count never falls, and stays at `u64::MAX`.

@@ -1,6 +1,6 @@
 //! Finalizations: which block is final, and what shows it.
 
-ghost use Rattle.std.specs.Prelude.{◌≡◌, ◌+◌, length};
+ghost use Rattle.std.specs.Prelude.{◌≡◌, ◌+◌, ◌-◌, ◌^◌, ◌<◌, length};
 ghost use Rattle.stateful_types.specs.Format.{Reads, Writes};
 ghost use Rattle.stateful_types.specs.Finalization.{finalization_format};
 
@@ -25,7 +25,8 @@ pub struct Finalization<C> {
 impl<C> Finalization<C> {
     /// Appends the round, the parent's view, the payload, and the certificate.
     pub fn write<S: Scheme<Certificate = C>>(&self, out: &mut Vec<u8>) -> Result<(), OutOfMemory>
-        ensures { Writes (finalization_format S.certificates) self.now result out.old.items out.new.items }
+        ensures { Writes (finalization_format S.certificates) self.now result
+            out.old.items out.new.items }
     {
         self.round.write(out)?;
         write_u64(self.parent.0, out)?;
@@ -56,6 +57,7 @@ impl<C> Finalization<C> {
     pub fn encode_size<S: Scheme<Certificate = C>>(&self) -> usize
         ensures formula { result ≡ 56 + length (S.certificates.spelling self.now.certificate) }
         ensures size { result ≡ length ((finalization_format S.certificates).spelling self.now) }
+        ensures limit { result < 2 ^ 64 - 8 }
     {
         56 + S::certificate_size(&self.certificate)
     }

@@ -1,8 +1,8 @@
 //! Mailboxes of a bounded size, behind which further messages wait by a policy.
 
-ghost use Rattle.std.specs.Prelude.{◌≡◌, ◌↔◌, ◌≤◌, ◌<◌, ◌∷◌, ◌++◌, [], List, IsTrue, IsNone, IsErr, IfOk, OnOk, OnErr, true, false};
+ghost use Rattle.std.specs.Prelude.{◌≡◌, ◌↔◌, ◌≤◌, ◌<◌, ◌∷◌, ◌++◌, [], List, IsTrue, IsNone, IsErr, IfOk, OnOk, OnErr, true, false, not, filter};
 ghost use Rattle.std.specs.VecDeque.{deque_capacity, deque_len};
-ghost use Rattle.stateful_types.specs.Mailbox.{Queues, HasRoom, IsBusy, IsFilled, HandsOut, KeepsOrder, messages};
+ghost use Rattle.stateful_types.specs.Mailbox.{queues, HasRoom, IsBusy, IsFilled, HandsOut, Drops, KeepsOrder, messages};
 
 use crate::share::OutOfMemory;
 use std::alloc::Global;
@@ -17,10 +17,21 @@ pub enum Feedback {
     Closed,
 }
 
+/// A test of values.
+pub trait Predicate<T> {
+    ghost use Rattle.std.specs.Prelude.{◌≡◌, Bool};
+
+    /// Whether it holds of a value.
+    ghost holds: { Self → T → Bool };
+
+    /// Whether it holds of the value.
+    fn holds(&self, value: &T) -> bool
+        ensures { result ≡ holds self.now value.now };
+}
+
 /// Messages that wait behind a full mailbox.
 pub trait Overflow<T>: Sized {
-    ghost use Rattle.std.specs.Prelude.{◌≡◌, ◌↔◌, List, [], IsTrue};
-    ghost use Rattle.stateful_types.specs.Offers.{Offers};
+    ghost use Rattle.std.specs.Prelude.{◌≡◌, ◌↔◌, ◌++◌, List, [], IsTrue, IsNone, filter, option_to_list};
 
     /// Its messages in the order in which they are handed out.
     ghost items: { Self → List T };
@@ -33,10 +44,14 @@ pub trait Overflow<T>: Sized {
     fn is_empty(&self) -> bool
         ensures { IsTrue result ↔ (items self.now ≡ []) };
 
-    /// Offers its messages in their order, until `push` gives one back, which stays in front.
-    fn drain<F: FnMut(T) -> Option<T>>(&mut self, push: &mut F)
-        requires { F.IsAlwaysCallable push.old }
-        ensures { Offers F.step push.old (items self.old) (items self.new) push.new };
+    /// Takes out the first message. None exactly where there is none.
+    fn pop(&mut self) -> Option<T>
+        ensures front { items self.old ≡ option_to_list result ++ items self.new }
+        ensures none { IsNone result ↔ (items self.old ≡ []) };
+
+    /// Keeps the messages of which the predicate holds, in their order, and drops the others.
+    fn retain<P: Predicate<T>>(&mut self, live: &P)
+        ensures { items self.new ≡ filter (P.holds live.now) (items self.old) };
 }
 
 /// How the messages of a type wait behind a full mailbox.
@@ -51,11 +66,13 @@ pub trait Policy: Sized {
 
     /// Lets one more message wait.
     fn handle(overflow: &mut Self::Overflow, message: Self) -> Result<(), OutOfMemory>
-        ensures ok { OnOk result (Self.Overflow.items overflow.new ≡ kept (Self.Overflow.items overflow.old) message) }
-        ensures err { OnErr result (Self.Overflow.items overflow.new ≡ Self.Overflow.items overflow.old) };
+        ensures ok { OnOk result
+            (Self.Overflow.items overflow.new ≡ kept (Self.Overflow.items overflow.old) message) }
+        ensures err { OnErr result
+            (Self.Overflow.items overflow.new ≡ Self.Overflow.items overflow.old) };
 }
 
-impl<T> Overflow<T> for VecDeque<T> {
+impl<T: Drop> Overflow<T> for VecDeque<T> {
     ghost items = { λ q. q.items };
 
     fn empty(alloc: Global) -> VecDeque<T> {
@@ -66,13 +83,12 @@ impl<T> Overflow<T> for VecDeque<T> {
         self.len() == 0
     }
 
-    fn drain<F: FnMut(T) -> Option<T>>(&mut self, push: &mut F) {
-        'offering: while let Some(message) = self.pop_front() {
-            if let Some(refused) = push(message) {
-                self.push_front_reserved(refused);
-                return;
-            }
-        }
+    fn pop(&mut self) -> Option<T> {
+        self.pop_front()
+    }
+
+    fn retain<P: Predicate<T>>(&mut self, live: &P) {
+        self.retain(|message| live.holds(message));
     }
 }
 
@@ -88,22 +104,24 @@ pub struct Bounded<T, O: Overflow<T>> {
 impl<T, O: Overflow<T>> Model for Bounded<T, O> {
     ghost use Rattle.std.specs.Prelude.{◌≤◌};
     ghost use Rattle.std.specs.VecDeque.{deque_capacity};
-    ghost use Rattle.stateful_types.specs.Mailbox.{Queues, IsFilled};
+    ghost use Rattle.stateful_types.specs.Mailbox.{Queues, queues, IsFilled};
 
     ghost Value = { Queues T };
 
-    ghost view = { λ a. record { capacity = a.capacity; ready = a.ready.items; overflow = O.items a.overflow; closed = a.closed } };
+    ghost view = { λ a. queues a.capacity a.ready.items (O.items a.overflow) a.closed };
 
-    ghost invariant = { λ a. (a.capacity ≤ deque_capacity a.ready) × IsFilled (record { capacity = a.capacity; ready = a.ready.items; overflow = O.items a.overflow; closed = a.closed }) };
+    ghost invariant = { λ a. (a.capacity ≤ deque_capacity a.ready)
+        × IsFilled (queues a.capacity a.ready.items (O.items a.overflow) a.closed) };
 }
 
 impl<T: Policy + Drop> Bounded<T, T::Overflow> {
     /// An empty mailbox, with room for so many ready messages.
     pub fn new(alloc: Global, capacity: usize) -> Result<Bounded<T, T::Overflow>, OutOfMemory>
         requires { 1 ≤ capacity }
-        ensures empty { IfOk result (λ mailbox. mailbox ≡ record { capacity = capacity; ready = []; overflow = []; closed = false }) }
+        ensures empty { IfOk result (λ mailbox. mailbox ≡ queues capacity [] [] false) }
 
-        // Whatever calls follow, messages are handed out in order, if they wait in order.
+        // Whatever calls follow, messages are handed out in order, if they wait in order, and none is lost but those
+        // that were dropped.
         ensures order { IfOk result (λ mailbox. KeepsOrder T.kept mailbox) }
     {
         let ready = VecDeque::with_capacity(alloc, capacity)?;
@@ -123,8 +141,10 @@ impl<T: Policy + Drop> Bounded<T, T::Overflow> {
         ensures refused { IsErr result → IsBusy self.old }
 
         ensures unchanged { (result ≡ Ok Feedback.Closed) → self.new ≡ self.old }
-        ensures ready { (result ≡ Ok Feedback.Ok) → self.new ≡ record self.old { ready = self.old.ready ++ message ∷ [] } }
-        ensures waits { (result ≡ Ok Feedback.Backoff) → self.new ≡ record self.old { overflow = T.kept self.old.overflow message } }
+        ensures ready { (result ≡ Ok Feedback.Ok)
+            → self.new ≡ record self.old { ready = self.old.ready ++ message ∷ [] } }
+        ensures waits { (result ≡ Ok Feedback.Backoff)
+            → self.new ≡ record self.old { overflow = T.kept self.old.overflow message } }
         ensures err { OnErr result (self.new ≡ self.old) }
 
         ensures filled { IsFilled self.new }
@@ -152,6 +172,17 @@ impl<T: Policy + Drop> Bounded<T, T::Overflow> {
         Some(message)
     }
 
+    /// Keeps the messages in the overflow of which the predicate holds, in their order, and drops the others that wait
+    /// there, so that they take no room. Those that are ready stay, whatever they are.
+    pub fn retain_waiting<P: Predicate<T>>(&mut self, live: &P)
+        ensures kept { self.new.overflow ≡ filter (P.holds live.now) self.old.overflow }
+        ensures dropped { Drops self.old self.new
+            (filter (λ message. not (P.holds live.now message)) self.old.overflow) }
+        ensures filled { IsFilled self.new }
+    {
+        self.overflow.retain(live);
+    }
+
     /// Refuses later messages. Those that it has stay.
     pub fn close(&mut self)
         ensures closed { self.new ≡ record self.old { closed = true } }
@@ -165,21 +196,18 @@ impl<T: Policy + Drop> Bounded<T, T::Overflow> {
 fn refill<T, O: Overflow<T>>(capacity: usize, ready: &mut VecDeque<T>, overflow: &mut O)
     requires room { capacity ≤ deque_capacity ready.old }
     requires within { deque_len ready.old ≤ capacity }
-    ensures order { ready.new.items ++ O.items overflow.new ≡ ready.old.items ++ O.items overflow.old }
+    ensures order { ready.new.items ++ O.items overflow.new
+        ≡ ready.old.items ++ O.items overflow.old }
     ensures within { deque_len ready.new ≤ capacity }
     ensures filled { deque_len ready.new < capacity → O.items overflow.new ≡ [] }
     ensures room { capacity ≤ deque_capacity ready.new }
 {
-    let mut push = |message: T| {
-        if ready.len() == capacity {
-            return Some(message);
-        }
-        match ready.push_back(message) {
-            Ok(()) => None,
-            Err(refused) => Some(refused.value),
-        }
-    };
-    overflow.drain(&mut push);
+    'refilling: while ready.len() < capacity {
+        let Some(message) = overflow.pop() else {
+            return;
+        };
+        ready.push_back_reserved(message);
+    }
 }
 
 #[cfg(test)]
@@ -202,6 +230,19 @@ mod tests {
         }
     }
 
+    // The note of this number.
+    struct Is(u8);
+
+    impl Predicate<Note> for Is {
+        ghost use Rattle.std.specs.Prelude.{◌==◌};
+
+        ghost holds = { λ number note. note.0 == number.0 };
+
+        fn holds(&self, note: &Note) -> bool {
+            note.0 == self.0
+        }
+    }
+
     #[test]
     fn full_mailbox_lets_messages_wait_in_order(rt: HostRuntime) -> Result<(), Fail> {
         let mut mailbox = Bounded::new(rt.alloc(), 2)?;
@@ -218,6 +259,22 @@ mod tests {
         assert_eq!(rt; mailbox.enqueue(Note(6))?, Feedback::Ok);
         assert_eq!(rt; mailbox.try_recv(), Some(Note(5)));
         assert_eq!(rt; mailbox.try_recv(), Some(Note(6)));
+        assert_eq!(rt; mailbox.try_recv(), None);
+        Ok(())
+    }
+
+    #[test]
+    fn message_that_is_dropped_takes_no_room(rt: HostRuntime) -> Result<(), Fail> {
+        let mut mailbox = Bounded::new(rt.alloc(), 1)?;
+        for note in [1, 2, 3, 4] {
+            mailbox.enqueue(Note(note))?;
+        }
+        mailbox.retain_waiting(&Is(3));
+        assert_eq!(rt; mailbox.try_recv(), Some(Note(1)));
+        mailbox.retain_waiting(&Is(0));
+        assert_eq!(rt; mailbox.try_recv(), Some(Note(3)));
+        assert_eq!(rt; mailbox.enqueue(Note(5))?, Feedback::Ok);
+        assert_eq!(rt; mailbox.try_recv(), Some(Note(5)));
         assert_eq!(rt; mailbox.try_recv(), None);
         Ok(())
     }

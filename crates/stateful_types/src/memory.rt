@@ -1,10 +1,9 @@
 //! A source and a sink in memory, whose failing calls are listed by their numbers, from 0 on.
 
-ghost use Rattle.std.specs.Prelude.{◌==◌, is_err, IsTrue, [], ◌≡◌, ◌↔◌, ℕ, ◌+◌, ◌<◌, ◌≤◌, List, length, drop, Some, Contains, IsErr, IsErrOf, IfOk, min, ◌^◌, ◌-◌};
-ghost use Rattle.std.specs.List.{list_any};
+ghost use Rattle.std.specs.Prelude.{◌≡◌, ◌↔◌, ◌<◌, ◌≤◌, [], length, drop, Some, IsTrue, IsErrOf, IfOk, is_err};
 ghost use Rattle.std.specs.Io.{ReadsAtMost};
 ghost use Rattle.std.specs.Io.KnownBytes.{ReadConsumes, WriteAppends};
-ghost use Rattle.stateful_types.specs.Causes.{Rose, HasCause};
+ghost use Rattle.stateful_types.specs.Causes.{Rose, HasCause, risen, risen_if, is_listed};
 
 use crate::fault::{Failed, Faulty};
 use crate::sink::{Sink, SinkFault};
@@ -52,11 +51,16 @@ impl Source for MemorySource {
 
     fn read(&mut self, buf: &mut [u8]) -> Result<usize, Failed>
         ensures bound { ReadsAtMost result buf.new }
-        ensures bytes { ReadConsumes (Some (drop self.old.at self.old.bytes.items)) (Some (drop self.new.at self.new.bytes.items)) result buf.new }
+        ensures bytes { ReadConsumes (Some (drop self.old.at self.old.bytes.items))
+            (Some (drop self.new.at self.new.bytes.items)) result buf.new }
         ensures cause { HasCause self.old.faults self.new.faults result }
-        ensures failing { is_err result ≡ list_any (λ call. call == self.old.calls) self.old.failing.items }
-        ensures calls { (self.new.calls ≡ min (self.old.calls + 1) (2 ^ 64 - 1)) × (self.new.failing ≡ self.old.failing) }
-        ensures still { IfOk result (λ _. self.new.faults ≡ self.old.faults) }
+
+        // The listed calls fail, and the count rises by one exactly there.
+        ensures failing { is_err result ≡ is_listed self.old.failing.items self.old.calls }
+        ensures count { self.new.faults
+            ≡ risen_if (is_listed self.old.failing.items self.old.calls) self.old.faults }
+        ensures calls { self.new.calls ≡ risen self.old.calls }
+        ensures same { self.new.failing ≡ self.old.failing }
     {
         let call = self.calls;
         self.calls = self.calls.saturating_add(1);
@@ -118,12 +122,18 @@ impl Sink for MemorySink {
     fn write(&mut self, piece: &[u8]) -> Result<usize, SinkFault>
         ensures bound { IfOk result (λ n. n ≤ length piece.now) }
         ensures some { IfOk result (λ n. 0 < length piece.now → 0 < n) }
-        ensures bytes { WriteAppends (Some self.old.held.items) (Some self.new.held.items) result piece.now }
+        ensures bytes { WriteAppends (Some self.old.held.items) (Some self.new.held.items)
+            result piece.now }
         ensures later { self.old.faults ≤ self.new.faults }
         ensures cause { IsErrOf result SinkFault.Failed → Rose self.old.faults self.new.faults }
-        ensures failing { IsTrue (list_any (λ call. call == self.old.calls) self.old.failing.items) ↔ IsErrOf result SinkFault.Failed }
-        ensures calls { (self.new.calls ≡ min (self.old.calls + 1) (2 ^ 64 - 1)) × (self.new.failing ≡ self.old.failing) }
-        ensures still { IfOk result (λ _. self.new.faults ≡ self.old.faults) }
+
+        // The listed calls fail so, and the count rises by one exactly there: want of memory leaves it.
+        ensures failing { IsTrue (is_listed self.old.failing.items self.old.calls)
+            ↔ IsErrOf result SinkFault.Failed }
+        ensures count { self.new.faults
+            ≡ risen_if (is_listed self.old.failing.items self.old.calls) self.old.faults }
+        ensures calls { self.new.calls ≡ risen self.old.calls }
+        ensures same { self.new.failing ≡ self.old.failing }
     {
         let call = self.calls;
         self.calls = self.calls.saturating_add(1);

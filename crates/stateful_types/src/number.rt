@@ -1,6 +1,6 @@
 //! Numbers with names.
 
-ghost use Rattle.std.specs.Prelude.{◌+◌, ◌-◌, ◌^◌, ◌<◌};
+ghost use Rattle.std.specs.Prelude.{◌+◌, ◌-◌, ◌^◌, ◌<◌, IsErrOf};
 ghost use Rattle.std.specs.Option.{SomeIff};
 ghost use Rattle.stateful_types.specs.Format.{Reads, Writes};
 ghost use Rattle.stateful_types.specs.Number.{height_format, location_format};
@@ -53,9 +53,10 @@ impl Height {
         write_u64(self.0, out)
     }
 
-    /// Takes eight bytes.
+    /// Takes eight bytes. It takes no memory.
     pub fn read(input: &mut Bytes) -> Result<Height, CodecError>
-        ensures { Reads height_format result input.old input.new }
+        ensures reads { Reads height_format result input.old input.new }
+        ensures memory { IsErrOf result CodecError.OutOfMemory → ⊥ }
     {
         Ok(Height(read_u64(input)?))
     }
@@ -69,9 +70,10 @@ impl Location {
         write_u64(self.0, out)
     }
 
-    /// Takes eight bytes.
+    /// Takes eight bytes. It takes no memory.
     pub fn read(input: &mut Bytes) -> Result<Location, CodecError>
-        ensures { Reads location_format result input.old input.new }
+        ensures reads { Reads location_format result input.old input.new }
+        ensures memory { IsErrOf result CodecError.OutOfMemory → ⊥ }
     {
         Ok(Location(read_u64(input)?))
     }

@@ -1,5 +1,6 @@
 //! What a syncing database asks of a server.
 
+ghost use Rattle.std.specs.Prelude.{IsErrOf};
 ghost use Rattle.stateful_types.specs.Format.{Reads, Writes};
 ghost use Rattle.stateful_types.specs.Number.{nonzero_format};
 ghost use Rattle.stateful_types.specs.Request.{request_format};
@@ -10,8 +11,9 @@ use crate::share::OutOfMemory;
 use bytes::Bytes;
 use std::num::NonZeroU64;
 
-/// What is asked of a database that has `size` operations.
-#[derive(Clone, Copy, Debug, PartialEq, Eq)]
+/// What is asked of a database that has `size` operations. Requests are ordered by their kind, and then by their
+/// numbers.
+#[derive(Clone, Copy, Debug, PartialEq, Eq, PartialOrd, Ord)]
 pub enum Request {
     /// At most `max_ops` operations, from `start` on.
     Operations {
@@ -50,9 +52,10 @@ impl Request {
         }
     }
 
-    /// Takes a request. A request for no operations is refused at the last byte of that 0.
+    /// Takes a request. A request for no operations is refused at the last byte of that 0. It takes no memory.
     pub fn read(input: &mut Bytes) -> Result<Request, CodecError>
-        ensures { Reads request_format result input.old input.new }
+        ensures reads { Reads request_format result input.old input.new }
+        ensures memory { IsErrOf result CodecError.OutOfMemory → ⊥ }
     {
         match read_u8(input)? {
             0 => {
@@ -77,7 +80,8 @@ impl Request {
 
 /// Takes a number of eight bytes that is not 0. A 0 is refused at its last byte.
 fn read_nonzero(input: &mut Bytes) -> Result<NonZeroU64, CodecError>
-    ensures { Reads nonzero_format result input.old input.new }
+    ensures reads { Reads nonzero_format result input.old input.new }
+    ensures memory { IsErrOf result CodecError.OutOfMemory → ⊥ }
 {
     match NonZeroU64::new(read_u64(input)?) {
         Some(n) => Ok(n),

@@ -10,7 +10,7 @@ use crate::digest::Digest;
 use crate::items::Items;
 use crate::operation::Operation;
 use crate::request::Request;
-use crate::share::OutOfMemory;
+use crate::share::{OutOfMemory, Share};
 use bytes::Bytes;
 use std::alloc::Global;
 
@@ -26,7 +26,8 @@ pub enum Response<Op> {
 impl<Op: Operation> Response<Op> {
     /// Appends byte 0, the number of operations and each of them, or byte 1, the digest and the operation.
     pub fn write(&self, out: &mut Vec<u8>) -> Result<(), OutOfMemory>
-        ensures { Writes (response_format Op.operations) self.now result out.old.items out.new.items }
+        ensures { Writes (response_format Op.operations) self.now result
+            out.old.items out.new.items }
     {
         match self {
             Response::Operations { operations } => {
@@ -51,8 +52,11 @@ impl<Op: Operation> Response<Op> {
     where
         Op: Drop,
         ensures found { IfOk result (λ response. IsAllowed request.now response) }
-        ensures too_many { (count : ℕ) → HasTooMany request.now input.old count → UnlessMemory result (IsErrOf result (CodecError.InvalidEnum (count % 2 ^ 8))) }
-        ensures otherwise { ((count : ℕ) → HasTooMany request.now input.old count → ⊥) → Reads (response_format Op.operations) result input.old input.new }
+        ensures too_many { (count : ℕ)
+            → HasTooMany request.now input.old count
+            → UnlessMemory result (IsErrOf result (CodecError.InvalidEnum (count % 2 ^ 8))) }
+        ensures otherwise { ((count : ℕ) → HasTooMany request.now input.old count → ⊥)
+            → Reads (response_format Op.operations) result input.old input.new }
         ensures taken { (front : List ℕ) × (input.old ≡ front ++ input.new) }
     {
         match read_u8(input)? {
@@ -74,12 +78,27 @@ impl<Op: Operation> Response<Op> {
     }
 }
 
+impl<Op: Share + Drop> Share for Response<Op> {
+    fn share(&self) -> Result<Response<Op>, OutOfMemory> {
+        match self {
+            Response::Operations { operations } => Ok(Response::Operations {
+                operations: operations.share_each()?,
+            }),
+            Response::Boundary { before, op } => Ok(Response::Boundary {
+                before: *before,
+                op: op.share()?,
+            }),
+        }
+    }
+}
+
 /// Appends the number of operations, and each of them.
 fn write_operations<Op: Operation>(
     operations: &Items<Op>,
     out: &mut Vec<u8>,
 ) -> Result<(), OutOfMemory>
-    ensures { Writes (items_format Op.operations) operations.now result out.old.items out.new.items }
+    ensures { Writes (items_format Op.operations) operations.now result
+        out.old.items out.new.items }
 {
     let Ok(count) = u32::try_from(operations.len()) else {
         return Err(OutOfMemory);

@@ -1,6 +1,6 @@
 //! Rounds of consensus, ordered by epoch and then view.
 
-ghost use Rattle.std.specs.Prelude.{◌≡◌, ◌↔◌, IsTrue};
+ghost use Rattle.std.specs.Prelude.{◌≡◌, ◌↔◌, IsTrue, IsErrOf};
 ghost use Rattle.stateful_types.specs.Format.{Reads, Writes};
 ghost use Rattle.stateful_types.specs.Round.{IsLater, round_format};
 
@@ -36,9 +36,10 @@ impl Round {
         write_u64(self.view.0, out)
     }
 
-    /// Takes a round.
+    /// Takes a round. It takes no memory.
     pub fn read(input: &mut Bytes) -> Result<Round, CodecError>
-        ensures { Reads round_format result input.old input.new }
+        ensures reads { Reads round_format result input.old input.new }
+        ensures memory { IsErrOf result CodecError.OutOfMemory → ⊥ }
     {
         let epoch = Epoch(read_u64(input)?);
         let view = View(read_u64(input)?);

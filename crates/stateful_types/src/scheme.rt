@@ -73,7 +73,9 @@ pub trait Scheme {
     ghost lawful: { IsFormat certificates };
 
     /// No certificate that holds is longer.
-    ghost bounded: { (scheme : Self) (finalization : Finalization Self.Certificate) (participants : ℕ) →
-        certifies scheme finalization → length (keys scheme) ≤ participants → participants < 2 ^ 32 →
-        length (certificates.spelling finalization.certificate) ≤ max_size participants };
+    ghost bounded: { (scheme : Self) (finalization : Finalization Self.Certificate) (participants : ℕ)
+        → certifies scheme finalization
+        → length (keys scheme) ≤ participants
+        → participants < 2 ^ 32
+        → length (certificates.spelling finalization.certificate) ≤ max_size participants };
 }

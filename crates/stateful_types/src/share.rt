@@ -7,7 +7,7 @@ use thiserror::Error;
 
 /// Memory ran out. It is the only cause of this refusal.
 #[derive(Clone, Copy, Debug, PartialEq, Eq, Error)]
-#[error("out of memory")]
+#[error("OutOfMemory")]
 pub struct OutOfMemory;
 
 impl From<AllocError> for OutOfMemory {

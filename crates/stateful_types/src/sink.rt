@@ -1,6 +1,6 @@
 //! Where bytes go.
 
-ghost use Rattle.std.specs.Prelude.{◌≡◌, ℕ, ◌+◌, ◌<◌, ◌≤◌, Option, List, length, take, IfOk, OnOk, OnErr, IsErrOf, IfSome};
+ghost use Rattle.std.specs.Prelude.{ℕ, ◌<◌, ◌≤◌, Option, List, length, take, IfOk, OnOk, OnErr, IsErrOf};
 ghost use Rattle.std.specs.Io.KnownBytes.{WriteAppends, Appends};
 ghost use Rattle.stateful_types.specs.Causes.{Rose};
 
@@ -10,15 +10,15 @@ use thiserror::Error;
 /// Why a piece was not taken.
 #[derive(Clone, Copy, Debug, PartialEq, Eq, Error)]
 pub enum SinkFault {
-    #[error("the sink failed")]
+    #[error("Failed")]
     Failed,
-    #[error("out of memory")]
+    #[error("OutOfMemory")]
     OutOfMemory,
 }
 
 /// Where bytes go.
 pub trait Sink: Faulty {
-    ghost use Rattle.std.specs.Prelude.{◌≡◌, ℕ, ◌<◌, ◌≤◌, Option, List, length, IfOk, IsErrOf};
+    ghost use Rattle.std.specs.Prelude.{ℕ, ◌<◌, ◌≤◌, Option, List, length, IfOk, IsErrOf};
     ghost use Rattle.std.specs.Io.KnownBytes.{WriteAppends};
     ghost use Rattle.stateful_types.specs.Causes.{Rose};
 
@@ -31,13 +31,16 @@ pub trait Sink: Faulty {
         ensures some { IfOk result (λ n. 0 < length piece.now → 0 < n) }
         ensures bytes { WriteAppends (held self.old) (held self.new) result piece.now }
         ensures later { Self.count self.old ≤ Self.count self.new }
-        ensures cause { IsErrOf result SinkFault.Failed → Rose (Self.count self.old) (Self.count self.new) };
+        ensures cause { IsErrOf result SinkFault.Failed
+            → Rose (Self.count self.old) (Self.count self.new) };
 }
 
 /// Writes all of a text, or a prefix of it.
 pub fn write_all<K: Sink>(sink: &mut K, text: &[u8]) -> Result<(), SinkFault>
     ensures all { OnOk result (Appends (K.held sink.old) (K.held sink.new) text.now) }
-    ensures prefix { OnErr result ((n : ℕ) × (n ≤ length text.now) × Appends (K.held sink.old) (K.held sink.new) (take n text.now)) }
+    ensures prefix { OnErr result ((n : ℕ)
+        × (n ≤ length text.now)
+        × Appends (K.held sink.old) (K.held sink.new) (take n text.now)) }
     ensures later { K.count sink.old ≤ K.count sink.new }
     ensures cause { IsErrOf result SinkFault.Failed → Rose (K.count sink.old) (K.count sink.new) }
 {

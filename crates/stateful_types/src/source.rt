@@ -1,6 +1,6 @@
 //! Where bytes come from.
 
-ghost use Rattle.std.specs.Prelude.{◌≡◌, ℕ, ◌+◌, ◌<◌, ◌≤◌, Option, List, length, IfOk, IsErrOf, IfSome};
+ghost use Rattle.std.specs.Prelude.{ℕ, ◌<◌, ◌≤◌, Option, List, length, IfOk, IsErrOf, IfSome};
 ghost use Rattle.std.specs.Io.{ReadsAtMost};
 ghost use Rattle.std.specs.Io.KnownBytes.{ReadConsumes, Consumes, IsAtEnd};
 ghost use Rattle.stateful_types.specs.Causes.{Rose, HasCause};
@@ -29,11 +29,11 @@ pub trait Source: Faulty {
 /// Why not all was read.
 #[derive(Clone, Copy, Debug, PartialEq, Eq, Error)]
 pub enum ReadError {
-    #[error("the source failed")]
+    #[error("Failed")]
     Failed,
-    #[error("more bytes than are allowed")]
+    #[error("TooLong")]
     TooLong,
-    #[error("out of memory")]
+    #[error("OutOfMemory")]
     OutOfMemory,
 }
 
@@ -45,10 +45,14 @@ pub fn read_all<S: Source>(
     limit: usize,
     source: &mut S,
 ) -> Result<Vec<u8>, ReadError>
-    ensures all { IfOk result (λ read. Consumes (S.left source.old) (S.left source.new) read.items × IsAtEnd (S.left source.new)) }
+    ensures all { IfOk result (λ read.
+        Consumes (S.left source.old) (S.left source.new) read.items
+        × IsAtEnd (S.left source.new)) }
     ensures within { IfOk result (λ read. length read.items ≤ limit) }
-    ensures long { IsErrOf result ReadError.TooLong → IfSome (S.left source.old) (λ bytes. limit < length bytes) }
-    ensures cause { IsErrOf result ReadError.Failed → Rose (S.count source.old) (S.count source.new) }
+    ensures long { IsErrOf result ReadError.TooLong
+        → IfSome (S.left source.old) (λ bytes. limit < length bytes) }
+    ensures cause { IsErrOf result ReadError.Failed
+        → Rose (S.count source.old) (S.count source.new) }
     ensures later { S.count source.old ≤ S.count source.new }
 {
     let mut bytes = Vec::new(alloc);

@@ -22,7 +22,8 @@ pub trait BlockStore<B> {
 
     /// Drops the blocks below this height.
     fn prune(&mut self, height: Height)
-        ensures { (h : ℕ) → stored self.new h ≡ (if nat_lt h height.0 then None else stored self.old h) };
+        ensures { (h : ℕ)
+            → stored self.new h ≡ (if nat_lt h height.0 then None else stored self.old h) };
 }
 
 /// A store in memory.
@@ -43,8 +44,14 @@ impl<B: Block + Drop> MemoryStore<B> {
 
     /// Keeps this block at its height, in place of the one that was there.
     pub fn insert(&mut self, block: Digested<B>) -> Result<(), OutOfMemory>
-        ensures ok { OnOk result ((h : ℕ) → ⟦<MemoryStore<B> as BlockStore<B>>⟧.stored self.new h ≡ (if h == B.header.height block.block then Some block else ⟦<MemoryStore<B> as BlockStore<B>>⟧.stored self.old h)) }
-        ensures err { OnErr result ((h : ℕ) → ⟦<MemoryStore<B> as BlockStore<B>>⟧.stored self.new h ≡ ⟦<MemoryStore<B> as BlockStore<B>>⟧.stored self.old h) }
+        ensures ok { OnOk result ((h : ℕ)
+            → ⟦<MemoryStore<B> as BlockStore<B>>⟧.stored self.new h
+            ≡ (if h == B.header.height block.block
+            then Some block
+            else ⟦<MemoryStore<B> as BlockStore<B>>⟧.stored self.old h)) }
+        ensures err { OnErr result ((h : ℕ)
+            → ⟦<MemoryStore<B> as BlockStore<B>>⟧.stored self.new h
+            ≡ ⟦<MemoryStore<B> as BlockStore<B>>⟧.stored self.old h) }
     {
         self.blocks.insert(block.height().0, block)?;
         Ok(())

@@ -12,7 +12,7 @@ struct Update {
 }
 
 impl Operation for Update {
-    ghost use Rattle.std.specs.Prelude.{ℕ, List, ◌∷◌, [], ◌++◌, refl};
+    ghost use Rattle.std.specs.Prelude.{◌∷◌, [], ◌++◌, refl};
     ghost use Rattle.stateful_types.specs.declared.tests.Update.{Update};
     ghost use Rattle.stateful_types.specs.Number.{u64_format};
     ghost use Rattle.stateful_types.specs.FixedLaws.{u64_alone};
@@ -44,6 +44,12 @@ impl Operation for Update {
         (record { fits = λ p fits. fits; spelled = λ p fits. refl; back = λ update bytes fits e. ((update.key, update.value), fits, refl) })
         (λ update fits. (u64_format.spelling update.key ++ u64_format.spelling update.value, refl))
         (IsFormat-both u64_format u64_format u64_alone u64_alone) };
+}
+
+impl Share for Update {
+    fn share(&self) -> Result<Update, OutOfMemory> {
+        Ok(*self)
+    }
 }
 
 fn asks_for(max_ops: u64) -> Result<Request, Fail> {
@@ -105,7 +111,7 @@ fn a_response_has_the_number_of_its_operations(rt: HostRuntime) -> Result<(), Fa
     assert_eq!(rt; out.as_slice(), bytes.as_slice());
     let mut input = Bytes::from_static(bytes);
     let read = Response::<Update>::read(rt.alloc(), &mut input, &asks_for(2)?)?;
-    let Response::Operations { operations } = read else {
+    let Response::Operations { operations } = read.share()? else {
         return Err("these are operations".into());
     };
     assert_eq!(rt;
@@ -130,6 +136,7 @@ fn a_boundary_is_byte_1_and_what_stands_there(rt: HostRuntime) -> Result<(), Fai
     assert_eq!(rt; out.as_slice(), bytes.as_slice());
     let mut input = Bytes::from_static(bytes);
     assert_eq!(rt; Request::read(&mut input), Ok(request));
+    assert!(rt; asks_for(2)? < request);
     let response = Response::Boundary {
         before: Digest([55; 32]),
         op: Update { key: 1, value: 100 },
@@ -140,7 +147,7 @@ fn a_boundary_is_byte_1_and_what_stands_there(rt: HostRuntime) -> Result<(), Fai
     assert_eq!(rt; out.as_slice(), bytes.as_slice());
     let mut input = Bytes::from_static(bytes);
     let read = Response::<Update>::read(rt.alloc(), &mut input, &request)?;
-    let Response::Boundary { before, op } = read else {
+    let Response::Boundary { before, op } = read.share()? else {
         return Err("this is a boundary".into());
     };
     assert_eq!(rt; before, Digest([55; 32]));
@@ -259,5 +266,30 @@ fn the_latest_finalization_is_handed_out(rt: HostRuntime) -> Result<(), Fail> {
     let found = latest.latest()?.ok_or("there is one")?;
     assert_eq!(rt; found.payload, Digest([55; 32]));
     assert_eq!(rt; found.certificate.as_slice(), [0, 1].as_slice());
+    Ok(())
+}
+
+#[test]
+fn each_error_prints_the_name_of_its_variant(rt: HostRuntime) -> Result<(), Fail> {
+    let [wrong, short, full] = [
+        CodecError::InvalidEnum(7),
+        CodecError::EndOfBuffer,
+        CodecError::OutOfMemory,
+    ];
+    let text = format!(in rt.alloc(); "{wrong} {short} {full}")?;
+    assert_eq!(rt; text.as_str(), "InvalidEnum EndOfBuffer OutOfMemory");
+    let [failed, long, full] = [
+        ReadError::Failed,
+        ReadError::TooLong,
+        ReadError::OutOfMemory,
+    ];
+    let text = format!(in rt.alloc(); "{failed} {long} {full}")?;
+    assert_eq!(rt; text.as_str(), "Failed TooLong OutOfMemory");
+    let [failed, full] = [SinkFault::Failed, SinkFault::OutOfMemory];
+    let text = format!(in rt.alloc(); "{failed} {full}")?;
+    assert_eq!(rt; text.as_str(), "Failed OutOfMemory");
+    let [last, full] = [DrawError::Exhausted, DrawError::OutOfMemory];
+    let text = format!(in rt.alloc(); "{last} {full} {Failed} {OutOfMemory}")?;
+    assert_eq!(rt; text.as_str(), "Exhausted OutOfMemory Failed OutOfMemory");
     Ok(())
 }

@@ -1,6 +1,6 @@
 //! Certificates of votes: the numbers of those who signed, with no signatures.
 
-ghost use Rattle.std.specs.Prelude.{◌≡◌, ◌<◌, ◌↔◌, IsTrue, All};
+ghost use Rattle.std.specs.Prelude.{◌<◌, ◌↔◌, IsTrue, All};
 ghost use Rattle.std.specs.List.Sorted.{IsStrictlyIncreasing};
 ghost use Rattle.stateful_types.specs.Format.{Reads, Writes};
 ghost use Rattle.stateful_types.specs.Number.{u32_format};
@@ -35,7 +35,8 @@ impl Scheme for VoteScheme {
 
     ghost keys = { λ scheme. scheme.participants };
 
-    ghost certifies = { λ scheme finalization. IsQuorum (length scheme.participants) finalization.certificate };
+    ghost certifies = { λ scheme finalization.
+        IsQuorum (length scheme.participants) finalization.certificate };
 
     ghost max_size = { λ participants. 4 + 4 * participants };
 
@@ -73,7 +74,8 @@ impl Scheme for VoteScheme {
 
     ghost lawful = { items_alone u32_format u32_alone };
 
-    ghost bounded = { λ scheme finalization participants certified few small. votes_bounded certified few };
+    ghost bounded = { λ scheme finalization participants certified few small.
+        votes_bounded certified few };
 }
 
 /// Appends the number of signers, and the number of each.

@@ -2,8 +2,8 @@ use Rattle.stateful_types.specs.Number.{u32_format}
 use Rattle.stateful_types.specs.FixedLaws.{u8_alone, u32_alone, u64_alone}
 use Rattle.stateful_types.specs.ItemsLaws.{items_alone}
 use Rattle.stateful_types.proofs.Values.{height_alone, location_alone, digest_alone, round_alone, finalization_alone}
-use Rattle.stateful_types.proofs.Requests.{request_alone}
-use Rattle.stateful_types.proofs.Responses.{response_alone}
+use Rattle.stateful_types.proofs.Requests.{request_tags}
+use Rattle.stateful_types.proofs.Responses.{response_tags}
 use Rattle.stateful_types.proofs.law.no_spelling_begins_another.Goals as goal
 
 pub returns : goal.returns
@@ -13,6 +13,6 @@ returns g c = record {
   digests = digest_alone;
   votes = items_alone u32_format u32_alone;
   finalizations = finalization_alone g.S.Scheme.certificates g.met.S.Scheme.lawful;
-  requests = request_alone;
-  responses = response_alone g.Op.Operation.operations g.met.Op.Operation.lawful;
+  requests = request_tags.law;
+  responses = (response_tags g.Op.Operation.operations g.met.Op.Operation.lawful).law;
 }

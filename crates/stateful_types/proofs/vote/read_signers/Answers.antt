@@ -11,12 +11,12 @@ pub returns-in_err-read_u32 : goal.returns-in_err-read_u32
 returns-in_err-read_u32 c =
     let l = c.loop.invariant in
     passed (exactly_format c.args.count u32_format) (exactly_alone u32_format u32_alone c.args.count) _ _ _ _ c.from_residual.ensures.1
-    (exactly_err u32_format u32_alone c.loop.signers c.args.count _ _ _ _ (omega arith) l.fits l.read (met c.in_err-read_u32.ensures))
+    (exactly_err u32_format u32_alone c.loop.signers c.args.count _ _ _ _ (omega arith) l.fits l.read (met c.in_err-read_u32.ensures.reads))
 
 pub returns-in_err-push : goal.returns-in_err-push
 returns-in_err-push c =
     passed (exactly_format c.args.count u32_format) (exactly_alone u32_format u32_alone c.args.count) _ _ _ _ c.from_residual-in_err-push.ensures.1
-    (exactly_memory u32_format u32_alone c.loop.signers c.args.count _ _ _ c.loop.invariant.read c.in_ok-read_u32.ensures.taken)
+    (exactly_memory u32_format u32_alone c.loop.signers c.args.count _ _ _ c.loop.invariant.read c.in_ok-read_u32.ensures.reads.taken)
 
 pub returns : goal.returns
 returns c =

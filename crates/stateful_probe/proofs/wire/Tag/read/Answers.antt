@@ -1,16 +1,16 @@
-use Rattle.std.proofs.Common.{refl, arith}
-use Rattle.stateful_types.proofs.Formats.{reads}
-use Rattle.stateful_probe.specs.Wire.{tag_format}
-use Rattle.stateful_probe.proofs.Messages.{tag_alone, tag_ok, tag_wrong}
+use Rattle.std.proofs.Common.{arith}
+use Rattle.stateful_types.proofs.Tags.{nothing_met, tag_err, tag_wrong, tag_is, case_ok}
+use Rattle.stateful_probe.proofs.Messages.{tag_tags, request_tag, response_tag}
 use Rattle.stateful_probe.proofs.wire.Tag.read.Goals as goal
-use Rattle.stateful_probe.proofs.wire.Tag.read.Goals.{in-0, in-1}
 
-pub returns-in_default-byte-clause-reads : goal.returns-in_default-byte-clause-reads
-returns-in_default-byte-clause-reads c = reads tag_format tag_alone _ _ _ (tag_wrong _ _ (λ few. absurd (omega arith)) (rw c.as_slice.ensures at c.in-Some.ensures.value))
+pub returns-in_err-other-clause-reads : goal.returns-in_err-other-clause-reads
+returns-in_err-other-clause-reads c = tag_err tag_tags c.from_residual.ensures.1 c.in_err-other.ensures.reads
 
-pub returns-clause-reads : goal.returns-clause-reads
-returns-clause-reads c =
-    elim c.match-byte.branch [
-      | in-0 w ↦ reads tag_format tag_alone _ _ _ (tag_ok _ _ _ _ _ _ w.tag-is w.in-0.is refl (rw c.as_slice.ensures at c.in-Some.ensures.value) c.advance.ensures)
-      | in-1 w ↦ reads tag_format tag_alone _ _ _ (tag_ok _ _ _ _ _ _ w.tag-is w.in-1.is refl (rw c.as_slice.ensures at c.in-Some.ensures.value) c.advance.ensures)
-    ]
+pub returns-in-0-clause-reads : goal.returns-in-0-clause-reads
+returns-in-0-clause-reads c = case_ok tag_tags request_tag (tag_is c.in-0.is c.in_ok-other.ensures.reads) nothing_met
+
+pub returns-in-1-clause-reads : goal.returns-in-1-clause-reads
+returns-in-1-clause-reads c = case_ok tag_tags response_tag (tag_is c.in-1.is c.in_ok-other.ensures.reads) nothing_met
+
+pub returns-in_default-clause-reads : goal.returns-in_default-clause-reads
+returns-in_default-clause-reads c = tag_wrong tag_tags (λ is. absurd (omega arith)) c.in_ok-other.ensures.reads

@@ -5,8 +5,8 @@ use Rattle.stateful_types.specs.FixedLaws.{bytes_alone}
 use Rattle.stateful_types.proofs.Values.{to_digest, Rest-digest}
 use Rattle.stateful_types.proofs.digest.Digest.read.Goals as goal
 
-pub returns-in_err-read_array : goal.returns-in_err-read_array
-returns-in_err-read_array c = renamed_err digest_format (bytes_format 32) to_digest Rest-digest (bytes_alone 32) _ _ _ _ c.from_residual.ensures.1 (met c.in_err-read_array.ensures)
+pub returns-in_err-read_array-clause-reads : goal.returns-in_err-read_array-clause-reads
+returns-in_err-read_array-clause-reads c = renamed_err digest_format (bytes_format 32) to_digest Rest-digest (bytes_alone 32) _ _ _ _ c.from_residual.ensures.1 (met c.in_err-read_array.ensures.reads)
 
-pub returns : goal.returns
-returns c = renamed digest_format (bytes_format 32) to_digest Rest-digest (bytes_alone 32) _ _ _ (met c.in_ok-read_array.ensures)
+pub returns-clause-reads : goal.returns-clause-reads
+returns-clause-reads c = renamed digest_format (bytes_format 32) to_digest Rest-digest (bytes_alone 32) _ _ _ (met c.in_ok-read_array.ensures.reads)

@@ -15,7 +15,7 @@ returns-in_err-round g c =
     renamed_err (finalization_format certificate) (both proposal_format certificate) to_finalization (Rest-finalization certificate) (IsFormat-both proposal_format certificate proposal_alone alone) _ _ _ _ c.from_residual.ensures.1
     (first_err proposal_format certificate proposal_alone alone _ _ _
     (first_err place_format digest_format place_alone digest_alone _ _ _
-    (first_err round_format u64_format round_alone u64_alone _ _ _ (met c.in_err-round.ensures))))
+    (first_err round_format u64_format round_alone u64_alone _ _ _ (met c.in_err-round.ensures.reads))))
 
 pub returns-in_err-read_u64 : goal.returns-in_err-read_u64
 returns-in_err-read_u64 g c =
@@ -24,7 +24,7 @@ returns-in_err-read_u64 g c =
     renamed_err (finalization_format certificate) (both proposal_format certificate) to_finalization (Rest-finalization certificate) (IsFormat-both proposal_format certificate proposal_alone alone) _ _ _ _ c.from_residual-in_err-read_u64.ensures.1
     (first_err proposal_format certificate proposal_alone alone _ _ _
     (first_err place_format digest_format place_alone digest_alone _ _ _
-    (second_err round_format u64_format round_alone _ _ _ _ _ (met c.in_ok-round.ensures) (met c.in_err-read_u64.ensures))))
+    (second_err round_format u64_format round_alone _ _ _ _ _ (met c.in_ok-round.ensures.reads) (met c.in_err-read_u64.ensures.reads))))
 
 pub returns-in_err-payload : goal.returns-in_err-payload
 returns-in_err-payload g c =
@@ -33,8 +33,8 @@ returns-in_err-payload g c =
     renamed_err (finalization_format certificate) (both proposal_format certificate) to_finalization (Rest-finalization certificate) (IsFormat-both proposal_format certificate proposal_alone alone) _ _ _ _ c.from_residual-in_err-payload.ensures.1
     (first_err proposal_format certificate proposal_alone alone _ _ _
     (second_err place_format digest_format place_alone _ _ _ _ _
-    (both_ok round_format u64_format round_alone _ _ _ _ _ (met c.in_ok-round.ensures) (met c.in_ok-read_u64.ensures))
-    (met c.in_err-payload.ensures)))
+    (both_ok round_format u64_format round_alone _ _ _ _ _ (met c.in_ok-round.ensures.reads) (met c.in_ok-read_u64.ensures.reads))
+    (met c.in_err-payload.ensures.reads)))
 
 pub returns-in_err-certificate : goal.returns-in_err-certificate
 returns-in_err-certificate g c =
@@ -43,8 +43,8 @@ returns-in_err-certificate g c =
     renamed_err (finalization_format certificate) (both proposal_format certificate) to_finalization (Rest-finalization certificate) (IsFormat-both proposal_format certificate proposal_alone alone) _ _ _ _ c.from_residual-in_err-certificate.ensures.1
     (second_err proposal_format certificate proposal_alone _ _ _ _ _
     (both_ok place_format digest_format place_alone _ _ _ _ _
-    (both_ok round_format u64_format round_alone _ _ _ _ _ (met c.in_ok-round.ensures) (met c.in_ok-read_u64.ensures))
-    (met c.in_ok-payload.ensures))
+    (both_ok round_format u64_format round_alone _ _ _ _ _ (met c.in_ok-round.ensures.reads) (met c.in_ok-read_u64.ensures.reads))
+    (met c.in_ok-payload.ensures.reads))
     (met c.in_err-certificate.ensures))
 
 pub returns : goal.returns
@@ -54,6 +54,6 @@ returns g c =
     renamed (finalization_format certificate) (both proposal_format certificate) to_finalization (Rest-finalization certificate) (IsFormat-both proposal_format certificate proposal_alone alone) _ _ _
     (both_ok proposal_format certificate proposal_alone _ _ _ _ _
     (both_ok place_format digest_format place_alone _ _ _ _ _
-    (both_ok round_format u64_format round_alone _ _ _ _ _ (met c.in_ok-round.ensures) (met c.in_ok-read_u64.ensures))
-    (met c.in_ok-payload.ensures))
+    (both_ok round_format u64_format round_alone _ _ _ _ _ (met c.in_ok-round.ensures.reads) (met c.in_ok-read_u64.ensures.reads))
+    (met c.in_ok-payload.ensures.reads))
     (met c.in_ok-certificate.ensures))

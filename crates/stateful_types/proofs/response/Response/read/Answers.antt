@@ -1,105 +1,95 @@
-use Rattle.std.proofs.Common.{◌≡◌, true, [], ◌∷◌, arith}
+use Rattle.std.proofs.Common.{◌≡◌, true, arith}
 use Rattle.stateful_types.specs.Digest.{digest_format}
-use Rattle.stateful_types.specs.Items.{items_format}
-use Rattle.stateful_types.specs.Response.{response_format}
-use Rattle.stateful_types.proofs.Formats.{met, reads, passed, taken_then, rest_ok, rest_err, both_ok, first_err, second_err}
-use Rattle.stateful_types.proofs.Tags.{tag_err, tag_wrong, tag_is}
+use Rattle.stateful_types.proofs.Formats.{met, taken_then, both_ok, first_err, second_err}
+use Rattle.stateful_types.proofs.Tags.{tag_err, tag_wrong, tag_is, case_ok, case_err}
 use Rattle.stateful_types.proofs.Values.{digest_alone}
 use Rattle.stateful_types.proofs.Counted.{count_err, items_met}
-use Rattle.stateful_types.proofs.Responses.{to_operations, to_boundary, boundary_format, Rest-operations, Rest-boundary, response_tags, boundary_alone, response_alone, tag_refused, count_refused, beyond}
+use Rattle.stateful_types.proofs.Responses.{response_tags, operations_case, boundary_case, untagged, uncounted, beyond}
 use Rattle.stateful_types.proofs.response.Response.read.Goals as goal
 
 pub returns-in_err-tag-clause-too_many : goal.returns-in_err-tag-clause-too_many
-returns-in_err-tag-clause-too_many g c = λ count many. tag_refused c.args.request.now count _ _ _ _ _ many c.from_residual.ensures.1 c.in_err-tag.ensures
+returns-in_err-tag-clause-too_many g c = λ count many. untagged c.args.request.now count _ _ _ _ _ many c.from_residual.ensures.1 c.in_err-tag.ensures.reads
 
 pub returns-in_err-tag-clause-otherwise : goal.returns-in_err-tag-clause-otherwise
 returns-in_err-tag-clause-otherwise g c =
     let op = g.Op.Operation.operations in
     let alone = g.met.Op.Operation.lawful in
-    λ _. passed (response_format op) (response_alone op alone) _ _ _ _ c.from_residual.ensures.1
-    (tag_err (response_format op) 1 (boundary_format op) (to_boundary op) (Rest-boundary op) (boundary_alone op alone) (λ byte b. omega (arith, response_tags op byte b)) _ _ _ (met c.in_err-tag.ensures))
+    λ _. tag_err (response_tags op alone) c.from_residual.ensures.1 c.in_err-tag.ensures.reads
 
 pub returns-in_err-count-in-0-clause-too_many : goal.returns-in_err-count-in-0-clause-too_many
 returns-in_err-count-in-0-clause-too_many g c =
-    λ count many. count_refused c.args.request.now count _ _ _ _ _ _ many (tag_is _ 0 _ _ c.in-0.is (met c.in_ok-tag.ensures)) c.from_residual-in_err-count-in-0.ensures.1 c.in_err-count-in-0.ensures
+    λ count many. uncounted c.args.request.now count _ _ _ _ _ _ many (tag_is c.in-0.is c.in_ok-tag.ensures.reads) c.from_residual-in_err-count-in-0.ensures.1 c.in_err-count-in-0.ensures.reads
 
 pub returns-in_err-count-in-0-clause-otherwise : goal.returns-in_err-count-in-0-clause-otherwise
 returns-in_err-count-in-0-clause-otherwise g c =
     let op = g.Op.Operation.operations in
     let alone = g.met.Op.Operation.lawful in
-    λ _. passed (response_format op) (response_alone op alone) _ _ _ _ c.from_residual-in_err-count-in-0.ensures.1
-    (rest_err (response_format op) (0 ∷ []) (items_format op) (to_operations op) (Rest-operations op) _ _ _ _ (tag_is _ 0 _ _ c.in-0.is (met c.in_ok-tag.ensures))
-    (count_err op alone _ _ _ (met c.in_err-count-in-0.ensures)))
+    λ _. case_err (response_tags op alone) (operations_case op alone) c.from_residual-in_err-count-in-0.ensures.1 (tag_is c.in-0.is c.in_ok-tag.ensures.reads)
+    (count_err op alone _ _ _ (met c.in_err-count-in-0.ensures.reads))
 
 pub returns-then-not-allows-clause-otherwise : goal.returns-then-not-allows-clause-otherwise
 returns-then-not-allows-clause-otherwise g c =
-    let tag = tag_is _ 0 _ _ c.in-0.is (met c.in_ok-tag.ensures) in
-    λ none. absurd (none c.in_ok-count-in-0.count (beyond c.args.request.now c.in_ok-count-in-0.count _ _ _ tag (met c.in_ok-count-in-0.ensures) (λ allowed. let never : c.allows.result ≡ true = c.allows.ensures.1 allowed in absurd cc)))
+    let tag = tag_is c.in-0.is c.in_ok-tag.ensures.reads in
+    λ none. absurd (none c.in_ok-count-in-0.count (beyond c.args.request.now c.in_ok-count-in-0.count _ _ _ tag (met c.in_ok-count-in-0.ensures.reads) (λ allowed. let never : c.allows.result ≡ true = c.allows.ensures.1 allowed in absurd cc)))
 
 pub returns-in_err-operations-in-0-clause-otherwise : goal.returns-in_err-operations-in-0-clause-otherwise
 returns-in_err-operations-in-0-clause-otherwise g c =
     let op = g.Op.Operation.operations in
     let alone = g.met.Op.Operation.lawful in
-    λ _. passed (response_format op) (response_alone op alone) _ _ _ _ c.from_residual-in_err-operations-in-0.ensures.1
-    (rest_err (response_format op) (0 ∷ []) (items_format op) (to_operations op) (Rest-operations op) _ _ _ _ (tag_is _ 0 _ _ c.in-0.is (met c.in_ok-tag.ensures))
-    (items_met op alone _ _ _ _ _ (met c.in_ok-count-in-0.ensures) (met c.in_err-operations-in-0.ensures)))
+    λ _. case_err (response_tags op alone) (operations_case op alone) c.from_residual-in_err-operations-in-0.ensures.1 (tag_is c.in-0.is c.in_ok-tag.ensures.reads)
+    (items_met op alone _ _ _ _ _ (met c.in_ok-count-in-0.ensures.reads) (met c.in_err-operations-in-0.ensures))
 
 pub returns-in_err-before-in-1-clause-otherwise : goal.returns-in_err-before-in-1-clause-otherwise
 returns-in_err-before-in-1-clause-otherwise g c =
     let op = g.Op.Operation.operations in
     let alone = g.met.Op.Operation.lawful in
-    λ _. passed (response_format op) (response_alone op alone) _ _ _ _ c.from_residual-in_err-before-in-1.ensures.1
-    (rest_err (response_format op) (1 ∷ []) (boundary_format op) (to_boundary op) (Rest-boundary op) _ _ _ _ (tag_is _ 1 _ _ c.in-1.is (met c.in_ok-tag.ensures))
-    (first_err digest_format op digest_alone alone _ _ _ (met c.in_err-before-in-1.ensures)))
+    λ _. case_err (response_tags op alone) (boundary_case op alone) c.from_residual-in_err-before-in-1.ensures.1 (tag_is c.in-1.is c.in_ok-tag.ensures.reads)
+    (first_err digest_format op digest_alone alone _ _ _ (met c.in_err-before-in-1.ensures.reads))
 
 pub returns-in_err-op-in-1-clause-otherwise : goal.returns-in_err-op-in-1-clause-otherwise
 returns-in_err-op-in-1-clause-otherwise g c =
     let op = g.Op.Operation.operations in
     let alone = g.met.Op.Operation.lawful in
-    λ _. passed (response_format op) (response_alone op alone) _ _ _ _ c.from_residual-in_err-op-in-1.ensures.1
-    (rest_err (response_format op) (1 ∷ []) (boundary_format op) (to_boundary op) (Rest-boundary op) _ _ _ _ (tag_is _ 1 _ _ c.in-1.is (met c.in_ok-tag.ensures))
-    (second_err digest_format op digest_alone _ _ _ _ _ (met c.in_ok-before-in-1.ensures) (met c.in_err-op-in-1.ensures)))
+    λ _. case_err (response_tags op alone) (boundary_case op alone) c.from_residual-in_err-op-in-1.ensures.1 (tag_is c.in-1.is c.in_ok-tag.ensures.reads)
+    (second_err digest_format op digest_alone _ _ _ _ _ (met c.in_ok-before-in-1.ensures.reads) (met c.in_err-op-in-1.ensures))
 
 pub returns-in_ok-operations-in-0-clause-otherwise : goal.returns-in_ok-operations-in-0-clause-otherwise
 returns-in_ok-operations-in-0-clause-otherwise g c =
     let op = g.Op.Operation.operations in
     let alone = g.met.Op.Operation.lawful in
-    λ _. reads (response_format op) (response_alone op alone) _ _ _
-    (rest_ok (response_format op) (0 ∷ []) (items_format op) (to_operations op) (Rest-operations op) _ _ _ _ (tag_is _ 0 _ _ c.in-0.is (met c.in_ok-tag.ensures))
-    (items_met op alone _ _ _ _ _ (met c.in_ok-count-in-0.ensures) (met c.in_ok-operations-in-0.ensures)))
+    λ _. case_ok (response_tags op alone) (operations_case op alone) (tag_is c.in-0.is c.in_ok-tag.ensures.reads)
+    (items_met op alone _ _ _ _ _ (met c.in_ok-count-in-0.ensures.reads) (met c.in_ok-operations-in-0.ensures))
 
 pub returns-in_ok-op-in-1-clause-otherwise : goal.returns-in_ok-op-in-1-clause-otherwise
 returns-in_ok-op-in-1-clause-otherwise g c =
     let op = g.Op.Operation.operations in
     let alone = g.met.Op.Operation.lawful in
-    λ _. reads (response_format op) (response_alone op alone) _ _ _
-    (rest_ok (response_format op) (1 ∷ []) (boundary_format op) (to_boundary op) (Rest-boundary op) _ _ _ _ (tag_is _ 1 _ _ c.in-1.is (met c.in_ok-tag.ensures))
-    (both_ok digest_format op digest_alone _ _ _ _ _ (met c.in_ok-before-in-1.ensures) (met c.in_ok-op-in-1.ensures)))
+    λ _. case_ok (response_tags op alone) (boundary_case op alone) (tag_is c.in-1.is c.in_ok-tag.ensures.reads)
+    (both_ok digest_format op digest_alone _ _ _ _ _ (met c.in_ok-before-in-1.ensures.reads) (met c.in_ok-op-in-1.ensures))
 
 pub returns-in_default-clause-otherwise : goal.returns-in_default-clause-otherwise
 returns-in_default-clause-otherwise g c =
     let op = g.Op.Operation.operations in
     let alone = g.met.Op.Operation.lawful in
-    λ _. reads (response_format op) (response_alone op alone) _ _ _
-    (tag_wrong (response_format op) 1 (boundary_format op) (to_boundary op) (Rest-boundary op) (boundary_alone op alone) _ (λ b. absurd (omega (arith, response_tags op _ b))) _ _ (met c.in_ok-tag.ensures))
+    λ _. tag_wrong (response_tags op alone) (λ is. absurd (omega arith)) c.in_ok-tag.ensures.reads
 
 pub returns-in_err-count-in-0-clause-taken : goal.returns-in_err-count-in-0-clause-taken
-returns-in_err-count-in-0-clause-taken g c = taken_then _ _ _ c.in_ok-tag.ensures.taken c.in_err-count-in-0.ensures.taken
+returns-in_err-count-in-0-clause-taken g c = taken_then _ _ _ c.in_ok-tag.ensures.reads.taken c.in_err-count-in-0.ensures.reads.taken
 
 pub returns-then-not-allows-clause-taken : goal.returns-then-not-allows-clause-taken
-returns-then-not-allows-clause-taken g c = taken_then _ _ _ c.in_ok-tag.ensures.taken c.in_ok-count-in-0.ensures.taken
+returns-then-not-allows-clause-taken g c = taken_then _ _ _ c.in_ok-tag.ensures.reads.taken c.in_ok-count-in-0.ensures.reads.taken
 
 pub returns-in_err-operations-in-0-clause-taken : goal.returns-in_err-operations-in-0-clause-taken
-returns-in_err-operations-in-0-clause-taken g c = taken_then _ _ _ (taken_then _ _ _ c.in_ok-tag.ensures.taken c.in_ok-count-in-0.ensures.taken) c.in_err-operations-in-0.ensures.taken
+returns-in_err-operations-in-0-clause-taken g c = taken_then _ _ _ (taken_then _ _ _ c.in_ok-tag.ensures.reads.taken c.in_ok-count-in-0.ensures.reads.taken) c.in_err-operations-in-0.ensures.taken
 
 pub returns-in_err-before-in-1-clause-taken : goal.returns-in_err-before-in-1-clause-taken
-returns-in_err-before-in-1-clause-taken g c = taken_then _ _ _ c.in_ok-tag.ensures.taken c.in_err-before-in-1.ensures.taken
+returns-in_err-before-in-1-clause-taken g c = taken_then _ _ _ c.in_ok-tag.ensures.reads.taken c.in_err-before-in-1.ensures.reads.taken
 
 pub returns-in_err-op-in-1-clause-taken : goal.returns-in_err-op-in-1-clause-taken
-returns-in_err-op-in-1-clause-taken g c = taken_then _ _ _ (taken_then _ _ _ c.in_ok-tag.ensures.taken c.in_ok-before-in-1.ensures.taken) c.in_err-op-in-1.ensures.taken
+returns-in_err-op-in-1-clause-taken g c = taken_then _ _ _ (taken_then _ _ _ c.in_ok-tag.ensures.reads.taken c.in_ok-before-in-1.ensures.reads.taken) c.in_err-op-in-1.ensures.taken
 
 pub returns-in_ok-operations-in-0-clause-taken : goal.returns-in_ok-operations-in-0-clause-taken
-returns-in_ok-operations-in-0-clause-taken g c = taken_then _ _ _ (taken_then _ _ _ c.in_ok-tag.ensures.taken c.in_ok-count-in-0.ensures.taken) c.in_ok-operations-in-0.ensures.taken
+returns-in_ok-operations-in-0-clause-taken g c = taken_then _ _ _ (taken_then _ _ _ c.in_ok-tag.ensures.reads.taken c.in_ok-count-in-0.ensures.reads.taken) c.in_ok-operations-in-0.ensures.taken
 
 pub returns-in_ok-op-in-1-clause-taken : goal.returns-in_ok-op-in-1-clause-taken
-returns-in_ok-op-in-1-clause-taken g c = taken_then _ _ _ (taken_then _ _ _ c.in_ok-tag.ensures.taken c.in_ok-before-in-1.ensures.taken) c.in_ok-op-in-1.ensures.taken
+returns-in_ok-op-in-1-clause-taken g c = taken_then _ _ _ (taken_then _ _ _ c.in_ok-tag.ensures.reads.taken c.in_ok-before-in-1.ensures.reads.taken) c.in_ok-op-in-1.ensures.taken
