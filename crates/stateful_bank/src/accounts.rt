@@ -18,8 +18,10 @@ pub trait Accounts: Sized + Drop {
     ghost shows: { Self → book.State → Type 0 };
 
     /// What the account has. None exactly where it can't be read.
-    fn balance(&self, account: u16) -> Option<u64>
-        ensures { (s : book.State) → shows self.now s → result ≡ book.balance s account };
+    fn balance(&self, account: u16) -> Result<Option<u64>, OutOfMemory>
+        ensures { IfOk result (λ had. (s : book.State) →
+            shows self.now s →
+            had ≡ book.balance s account) };
 
     /// The same with this balance of the account.
     fn set_balance(self, account: u16, balance: u64) -> Result<Self, OutOfMemory>
@@ -34,7 +36,7 @@ fn withdraw<A: Accounts>(accounts: A, account: u16, amount: u64) -> Result<Optio
         A.shows accounts s →
         Becomes A.shows after (withdrawn A.book s account amount)) }
 {
-    let had = accounts.balance(account);
+    let had = accounts.balance(account)?;
     match had.and_then(|had| had.checked_sub(amount)) {
         Some(left) => Ok(Some(accounts.set_balance(account, left)?)),
         None => Ok(None),
@@ -48,7 +50,7 @@ fn deposit<A: Accounts>(accounts: A, account: u16, amount: u64) -> Result<Option
         A.shows accounts s →
         Becomes A.shows after (deposited A.book s account amount)) }
 {
-    let had = accounts.balance(account);
+    let had = accounts.balance(account)?;
     match had.and_then(|had| had.checked_add(amount)) {
         Some(sum) => Ok(Some(accounts.set_balance(account, sum)?)),
         None => Ok(None),

@@ -17,8 +17,9 @@ impl Accounts for BTreeMap<u64, u64> {
 
     ghost shows = { λ map entries. map.entries ≡ entries };
 
-    fn balance(&self, account: u16) -> Option<u64> {
-        Some(self.get(&u64::from(account)).copied().unwrap_or(0))
+    fn balance(&self, account: u16) -> Result<Option<u64>, OutOfMemory> {
+        let balance = self.get(&u64::from(account)).copied();
+        Ok(Some(balance.unwrap_or(0)))
     }
 
     fn set_balance(self, account: u16, balance: u64) -> Result<BTreeMap<u64, u64>, OutOfMemory> {

@@ -112,7 +112,7 @@ fn write_targets(targets: &[Target], out: &mut Vec<u8>) -> Result<(), OutOfMemor
 }
 
 /// Appends a root with its range.
-#[tactic(auto, using(std::proofs::Common::append_assoc))]
+#[tactic(auto, using(std::proofs::Common::append_assoc), unfolding(crate::specs::BankBlock::target_bytes))]
 fn write_target(target: &Target, out: &mut Vec<u8>) -> Result<(), OutOfMemory>
     ensures { OnOk result (out.new.items ≡ out.old.items ++ target_bytes target.now) }
 {
@@ -142,7 +142,7 @@ impl Block for BankBlock {
     }
 
     /// Appends the block's bytes. More operations or targets than their number can say are refused as want of memory.
-    #[tactic(auto, using(std::proofs::Common::append_assoc))]
+    #[tactic(auto, using(std::proofs::Common::append_assoc), unfolding(crate::specs::BankBlock::block_bytes))]
     fn encode(&self, out: &mut Vec<u8>) -> Result<(), OutOfMemory>
         ensures bytes { OnOk result (out.new.items ≡ out.old.items ++ block_bytes self.now) }
         ensures counted { OnOk result ((length self.now.ops < 2 ^ 32) × (length self.now.targets < 2 ^ 8)) }

@@ -25,7 +25,7 @@ impl Op {
     }
 
     /// Appends its bytes.
-    #[tactic(auto, using(std::proofs::Common::append_assoc))]
+    #[tactic(auto, using(std::proofs::Common::append_assoc), unfolding(crate::specs::Op::op_bytes))]
     pub(crate) fn encode(&self, out: &mut Vec<u8>) -> Result<(), OutOfMemory>
         ensures { OnOk result (out.new.items ≡ out.old.items ++ op_bytes self.now) }
     {

@@ -27,10 +27,10 @@ impl Accounts for Draft<'_> {
     ghost shows = { λ draft. StandsAt draft.batch draft.database.now };
 
     /// None exactly where the database is at no state of the batch's chain.
-    fn balance(&self, account: u16) -> Option<u64> {
+    fn balance(&self, account: u16) -> Result<Option<u64>, OutOfMemory> {
         match self.batch.get(self.database, u64::from(account)) {
-            Ok(amount) => Some(amount.unwrap_or(0)),
-            Err(_) => None,
+            Ok(balance) => Ok(Some(balance.unwrap_or(0))),
+            Err(_) => Ok(None),
         }
     }
 

@@ -93,10 +93,7 @@ fn new_machine(alloc: Global) -> Result<Stateful<Bank>, OutOfMemory>
         max_pending_acks: WINDOW,
         mailbox_size: MAILBOX,
     };
-    match Stateful::new(alloc, config) {
-        Ok(stateful) => Ok(stateful),
-        Err(_) => Err(OutOfMemory),
-    }
+    Stateful::new(alloc, config).map_err(|_| OutOfMemory)
 }
 
 /// A database that is closed, on an empty medium that hasn't failed.
@@ -126,10 +123,7 @@ fn in_plain(driven: Driven<Bank>, end: Option<Halted>) -> Played
 fn wants_memory(error: StepError) -> bool
     ensures { IsTrue result ↔ (error ≡ StepError.OutOfMemory) }
 {
-    match error {
-        StepError::OutOfMemory => true,
-        _ => false,
-    }
+    matches!(error, StepError::OutOfMemory)
 }
 
 /// Plays a script in its world. Where the machine wants memory there is no play.
