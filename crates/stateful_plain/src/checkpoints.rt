@@ -1,6 +1,6 @@
 //! The kept checkpoints of a medium.
 
-ghost use Rattle.std.specs.Prelude.{◌≡◌, ◌==◌, ◌≤◌, ◌<◌, ◌+◌, ◌^◌, [], ◌∷◌, ◌++◌, length, position, take};
+ghost use Rattle.std.specs.Prelude.{◌≡◌, ◌==◌, ◌≤◌, ◌<◌, ◌+◌, ◌^◌, [], ◌∷◌, ◌++◌, length, position, take, OnOk, OnErr};
 ghost use Rattle.stateful_plain.specs.Sizes.{Ascend, Ascend-prop};
 
 use crate::state::PlainState;
@@ -24,8 +24,8 @@ pub(crate) struct Checkpoints {
 }
 
 impl Checkpoints {
-    ghost use Rattle.std.specs.Prelude.{ℕ, ◌≢◌, OnOk, OnErr, IfOk, IfErr, Some, slice_get, IsTrue, ◌↔◌};
-    ghost use Rattle.stateful_db.specs.Disk.{all, place, applied, flushed, IsCrash, IsOpened};
+    ghost use Rattle.std.specs.Prelude.{◌≢◌, IfOk, IfErr, slice_get};
+    ghost use Rattle.stateful_db.specs.Disk.{all, place, applied, flushed, cut, IsCrash, IsOpened};
     ghost use Rattle.stateful_db.specs.Reopening.{with_end, FailsToReopen, KeepsDurable, pruned_to};
     ghost use Rattle.stateful_plain.specs.Whole.{Whole, initial, target_of};
     ghost use Rattle.stateful_plain.specs.Stored.{disk_in, IsNumberOf};
@@ -136,14 +136,7 @@ impl Checkpoints {
         if state.size() <= self.newest.size() {
             return Err(AllocError);
         }
-        let before = mem::replace(&mut self.newest, state);
-        match self.older.push(before) {
-            Ok(()) => Ok(()),
-            Err(refused) => {
-                self.newest = refused.value;
-                Err(AllocError)
-            }
-        }
+        append(&mut self.older, &mut self.newest, state)
     }
 
     /// Those up to this place are durable.
@@ -160,6 +153,15 @@ impl Checkpoints {
         ensures { disk_in self.new ≡ pruned_to target_of (λ t. t) target.now (disk_in self.old) }
     {
         let count = self.number_with_end(target.end).unwrap_or(0);
+        self.drop_first(count);
+    }
+
+    /// Drops so many of the oldest. The durable one stays.
+    fn drop_first(&mut self, count: usize)
+        requires within { count ≤ length (disk_in self.old).older }
+        requires kept { (disk_in self.old).pruned + count ≤ (disk_in self.old).durable }
+        ensures { disk_in self.new ≡ cut (disk_in self.old) count }
+    {
         self.older.drain(..count);
         self.pruned += count as u64;
     }
@@ -181,6 +183,27 @@ fn keep_first(older: &mut Vec<PlainState>, newest: &mut PlainState, count: usize
         older.truncate(count);
         if let Some(state) = older.pop() {
             *newest = state;
+        }
+    }
+}
+
+/// One state more is the newest, and the last one is behind the older ones.
+fn append(
+    older: &mut Vec<PlainState>,
+    newest: &mut PlainState,
+    state: PlainState,
+) -> Result<(), AllocError>
+    ensures ok_older { OnOk result (older.new.items ≡ older.old.items ++ newest.old ∷ []) }
+    ensures ok_newest { OnOk result (newest.new ≡ state) }
+    ensures err_older { OnErr result (older.new.items ≡ older.old.items) }
+    ensures err_newest { OnErr result (newest.new ≡ newest.old) }
+{
+    let last = mem::replace(newest, state);
+    match older.push(last) {
+        Ok(()) => Ok(()),
+        Err(refused) => {
+            *newest = refused.value;
+            Err(AllocError)
         }
     }
 }

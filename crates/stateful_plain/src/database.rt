@@ -221,7 +221,8 @@ impl ManagedDb for Plain {
         Plain::batch_target(batch) == *target
     }
 
-    /// `Failed` exactly where the call is listed as a failing one. A failed apply leaves the checkpoints.
+    /// `Failed` exactly where the call is listed as a failing one. A failed apply leaves the checkpoints. A state that isn't
+    /// greater in size than the newest one, which is of no batch on it, is refused as if memory were wanting.
     fn apply(self, batch: PlainMerkleized) -> Result<Plain, Broken<PlainMedium>>
         ensures ok { IfOk result (λ db. (p : ℕ × Whole) (c : List (ℕ × Whole))
             → SealShows batch (p ∷ point (standing_of self) ∷ c)
