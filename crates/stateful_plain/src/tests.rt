@@ -1,6 +1,6 @@
 //! What no clause says: roots against another program's SHA-256, and calls that succeed.
 
-ghost use Rattle.std.specs.Prelude.{◌≡◌, None};
+mod sets;
 
 use crate::{Plain, PlainMedium, PlainUnmerkleized};
 use stateful_db::{
@@ -46,9 +46,7 @@ fn empty(rt: &impl Abort, alloc: Global, failing: &[(DbCall, u64)]) -> Result<Pl
     Ok(open(rt, medium, None))
 }
 
-fn open(rt: &impl Abort, medium: PlainMedium, expected: Option<Target>) -> Plain
-    ensures { result.out ≡ None }
-{
+fn open(rt: &impl Abort, medium: PlainMedium, expected: Option<Target>) -> Plain {
     Plain::init(medium, &(), expected)
         .ok()
         .expect(rt, "it opens")
@@ -114,16 +112,6 @@ fn opens_at_an_expected_target(rt: HostRuntime) -> Result<(), Fail> {
         .err()
         .expect(&rt, "it was dropped");
     assert_eq!(rt; why, InitError::Database);
-    Ok(())
-}
-
-#[test]
-fn a_crash_keeps_what_is_durable(rt: HostRuntime) -> Result<(), Fail> {
-    let db = open(&rt, with_3(&rt, rt.alloc())?.close(), None);
-    let (db, token) = db.finalize().ok().expect(&rt, "it starts");
-    let db = db.flush(token).ok().expect(&rt, "it ends");
-    let db = open(&rt, Plain::crash(db.close(), 0), None);
-    assert_eq!(rt; db.sync_target(), WITH_3);
     Ok(())
 }
 
