@@ -35,8 +35,12 @@ pub struct PlainMerkleized {
 impl PlainUnmerkleized {
     /// The batch's value at a key. `StaleRead` exactly where the database is at no state of the batch's chain.
     pub fn get(&self, db: &Plain, key: u64) -> Result<Option<u64>, BatchError>
-        ensures value { IfOk result (λ value. (p : ℕ × Whole) (c : List (ℕ × Whole)) → DraftShows self.now (p ∷ c) → value ≡ value_at p.1.entries key) }
-        ensures stale { (c : List (ℕ × Whole)) → DraftShows self.now c → (IsErrOf result BatchError.StaleRead ↔ (has_id c (standing_of db.now).id ≡ false)) }
+        ensures value { IfOk result (λ value. (p : ℕ × Whole) (c : List (ℕ × Whole))
+            → DraftShows self.now (p ∷ c)
+            → value ≡ value_at p.1.entries key) }
+        ensures stale { (c : List (ℕ × Whole))
+            → DraftShows self.now c
+            → (IsErrOf result BatchError.StaleRead ↔ (has_id c (standing_of db.now).id ≡ false)) }
         ensures cause { IfErr result (λ e. e ≡ BatchError.StaleRead) }
     {
         if !stands_on(self.id, self.below.as_slice(), db.id) {
@@ -47,7 +51,9 @@ impl PlainUnmerkleized {
 
     /// The batch with this value at the key, or with none.
     pub fn write(self, key: u64, value: Option<u64>) -> Result<PlainUnmerkleized, OutOfMemory>
-        ensures { IfOk result (λ u. (p : ℕ × Whole) (c : List (ℕ × Whole)) → DraftShows self (p ∷ c) → DraftShows u ((p.0, record { size = p.1.size; entries = put p.1.entries key value }) ∷ c)) }
+        ensures { IfOk result (λ u. (p : ℕ × Whole) (c : List (ℕ × Whole))
+            → DraftShows self (p ∷ c)
+            → DraftShows u ((p.0, record p.1 { entries = put p.1.entries key value }) ∷ c)) }
     {
         let PlainUnmerkleized {
             id,
@@ -73,7 +79,9 @@ impl PlainUnmerkleized {
 
     /// Cuts the chain below the point of this id.
     pub(crate) fn cut(&mut self, id: u64)
-        ensures { (p : ℕ × Whole) (c : List (ℕ × Whole)) → DraftShows self.old (p ∷ c) → DraftShows self.new (p ∷ down_to id c) }
+        ensures { (p : ℕ × Whole) (c : List (ℕ × Whole))
+            → DraftShows self.old (p ∷ c)
+            → DraftShows self.new (p ∷ down_to id c) }
     {
         if let Some(place) = place_of(self.below.as_slice(), id) {
             self.below.truncate(place + 1);
@@ -102,11 +110,23 @@ impl Unmerkleized for PlainUnmerkleized {
 
     /// Takes no memory.
     fn merkleize(self, db: &Plain) -> Result<PlainMerkleized, BatchError>
-        ensures ok { IfOk result (λ m. (c : List (ℕ × Whole)) → DraftShows self c → IsPoint (point (standing_of db.now)) c → SealShows m c) }
-        ensures stale { (c : List (ℕ × Whole)) → DraftShows self c → (IsErrOf result BatchError.StaleRead ↔ (has_id c (standing_of db.now).id ≡ false)) }
-        ensures exhausted { (p : ℕ × Whole) (c : List (ℕ × Whole)) → DraftShows self (p ∷ c) → IsErrOf result BatchError.Exhausted → 2 ^ 64 - 1 ≤ p.1.size }
-        ensures within { IfOk result (λ m. (p : ℕ × Whole) (c : List (ℕ × Whole)) → DraftShows self (p ∷ c) → p.1.size < 2 ^ 64 - 1) }
-        ensures whole { IfOk result (λ m. (c : List (ℕ × Whole)) → DraftShows self c → SealShows m c) }
+        ensures ok { IfOk result (λ m. (c : List (ℕ × Whole))
+            → DraftShows self c
+            → IsPoint (point (standing_of db.now)) c
+            → SealShows m c) }
+        ensures stale { (c : List (ℕ × Whole))
+            → DraftShows self c
+            → (IsErrOf result BatchError.StaleRead ↔ (has_id c (standing_of db.now).id ≡ false)) }
+        ensures exhausted { (p : ℕ × Whole) (c : List (ℕ × Whole))
+            → DraftShows self (p ∷ c)
+            → IsErrOf result BatchError.Exhausted
+            → 2 ^ 64 - 1 ≤ p.1.size }
+        ensures within { IfOk result (λ m. (p : ℕ × Whole) (c : List (ℕ × Whole))
+            → DraftShows self (p ∷ c)
+            → p.1.size < 2 ^ 64 - 1) }
+        ensures whole { IfOk result (λ m. (c : List (ℕ × Whole))
+            → DraftShows self c
+            → SealShows m c) }
         ensures memory { IfErr result (λ e. e ≢ BatchError.OutOfMemory) }
     {
         if !stands_on(self.id, self.below.as_slice(), db.id) {

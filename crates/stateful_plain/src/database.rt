@@ -1,44 +1,45 @@
 //! The database.
 
-ghost use Rattle.std.specs.Prelude.{◌≡◌, ◌≢◌, ℕ, ◌+◌, ◌-◌, ◌^◌, ◌≤◌, ◌<◌, List, ◌∷◌, ◌++◌, [], IfOk, IfErr, IsErrAnd, Some, None, ◌↔◌, ◌⊎◌};
-ghost use Rattle.stateful_types.specs.Causes.{Rose};
-ghost use Rattle.stateful_db.specs.Disk.{IsEither, IsCrash, place, applied, flushed, point};
-ghost use Rattle.stateful_db.specs.Reopening.{Reopens, FailsToReopen, HasNone};
-ghost use Rattle.stateful_plain.specs.Whole.{Whole, begun, initial, target_of};
-ghost use Rattle.stateful_plain.specs.Called.{IsListed, Called};
-ghost use Rattle.stateful_plain.specs.Stored.{disk_of, standing_of};
-ghost use Rattle.stateful_plain.specs.Shown.{DraftShows, SealShows, down_to};
+ghost use Rattle.std.specs.Prelude.{◌≤◌, ◌+◌, ℕ, length, Contains};
 
 use crate::batch::{PlainMerkleized, PlainUnmerkleized};
 use crate::medium::PlainMedium;
+use crate::pass::PlainPass;
 use crate::state::PlainState;
 use stateful_db::{
-    BatchContext, Broken, DbCall, Exhausted, FlushToken, InitError, ManagedDb, Merkleized, Why,
+    BatchContext, Broken, DbCall, Exhausted, FlushToken, InitError, ManagedDb, Merkleized, Tokens,
+    Why,
 };
 use stateful_types::{Digest, Faulty, Location, OutOfMemory, Target};
 use std::collections::BTreeMap;
 use std::ops::Range;
 
-/// A database from numbers to numbers, each of 64 bits: the id of the last applied batch, the place of the token that
-/// is out, and the medium that it was opened on.
+/// A database from numbers to numbers, each of 64 bits: the id of the last applied batch, the tokens that are out, which
+/// name places of kept checkpoints, and the medium that it was opened on.
 #[derive(Drop)]
 pub struct Plain {
     pub(crate) id: u64,
-    pub(crate) out: Option<u64>,
+    pub(crate) out: Tokens,
     pub(crate) medium: PlainMedium,
+    ghost no_later: { (at : ℕ) → Contains out at
+        → at ≤ medium.checkpoints.pruned + length medium.checkpoints.older.items },
 }
 
 impl Plain {
+    ghost use Rattle.std.specs.Prelude.{◌≡◌, ◌-◌};
+    ghost use Rattle.stateful_plain.specs.Stored.{standing_of};
+
     /// The end of the range of the newest state.
     pub fn size(&self) -> u64
         ensures { result ≡ (standing_of self.now).disk.newest.size }
     {
-        self.medium.newest.size()
+        self.newest().size()
     }
 
     /// The range of the newest state: its last location alone.
     pub fn range(&self) -> Range<u64>
-        ensures { let size = (standing_of self.now).disk.newest.size in result ≡ record { start = size - 1; end = size } }
+        ensures { let size = (standing_of self.now).disk.newest.size in
+            result ≡ record { start = size - 1; end = size } }
     {
         let size = self.size();
         size.saturating_sub(1)..size
@@ -48,7 +49,13 @@ impl Plain {
     pub fn entries(&self) -> &BTreeMap<u64, u64>
         ensures { result.now.entries ≡ (standing_of self.now).disk.newest.entries }
     {
-        self.medium.newest.entries()
+        self.newest().entries()
+    }
+
+    fn newest(&self) -> &PlainState
+        ensures { result.now ≡ (standing_of self.now).disk.newest }
+    {
+        &self.medium.checkpoints.newest
     }
 }
 
@@ -61,9 +68,16 @@ impl Faulty for Plain {
 }
 
 impl ManagedDb for Plain {
-    ghost use Rattle.std.specs.Prelude.{◌≡◌, ℕ, ◌<◌, List, ◌∷◌, IfOk, Option, refl};
+    ghost use Rattle.std.specs.Prelude.{◌≡◌, ◌≢◌, ℕ, ◌+◌, ◌-◌, ◌^◌, ◌≤◌, ◌<◌, List, ◌∷◌, ◌++◌, [], IfOk, IfErr, IsErrAnd, Option, ◌↔◌, ◌⊎◌, Contains, length, refl};
+    ghost use Rattle.stateful_types.specs.Causes.{Rose};
+    ghost use Rattle.stateful_db.specs.Disk.{IsEither, IsCrash, place, applied, flushed, point};
+    ghost use Rattle.stateful_db.specs.Reopening.{Reopens, FailsToReopen, HasNone, KeepsDurable, pruned_to};
+    ghost use Rattle.stateful_db.specs.Tokens.{without};
     ghost use Rattle.stateful_plain.specs.Whole.{Whole, begun, initial, target_of};
+    ghost use Rattle.stateful_plain.specs.Called.{IsListed, Called};
     ghost use Rattle.stateful_plain.specs.Stored.{disk_of, standing_of};
+    ghost use Rattle.stateful_plain.specs.Shown.{DraftShows, SealShows, down_to};
+    ghost use Rattle.stateful_plain.specs.Soundness.{sound_checkpoints};
 
     type State = PlainState;
 
@@ -76,6 +90,8 @@ impl ManagedDb for Plain {
     type SyncTarget = Target;
 
     type Medium = PlainMedium;
+
+    type Pass = PlainPass;
 
     ghost standing = { standing_of };
 
@@ -98,7 +114,8 @@ impl ManagedDb for Plain {
         _config: &(),
         expected: Option<Target>,
     ) -> Result<Plain, (PlainMedium, InitError)>
-        ensures ok { IfOk result (λ db. Reopens target_of (λ t. t) expected (disk_of medium) (standing_of db)) }
+        ensures ok { IfOk result (λ db.
+            Reopens target_of (λ t. t) expected (disk_of medium) (standing_of db)) }
         ensures ok_next { IfOk result (λ db. db.medium.next ≡ medium.next) }
         ensures ok_count { IfOk result (λ db. medium.calls.faults ≤ db.medium.calls.faults) }
         ensures ok_called { IfOk result (λ db. Called DbCall.Init medium.calls db.medium.calls) }
@@ -106,23 +123,29 @@ impl ManagedDb for Plain {
         ensures err_next { IfErr result (λ e. e.0.next ≡ medium.next) }
         ensures err_count { IfErr result (λ e. medium.calls.faults ≤ e.0.calls.faults) }
         ensures err_called { IfErr result (λ e. Called DbCall.Init medium.calls e.0.calls) }
-        ensures cause { IfErr result (λ e. FailsToReopen target_of (λ t. t) expected (disk_of medium) (Rose medium.calls.faults e.0.calls.faults) e.1) }
-        ensures listed { IsListed medium.calls DbCall.Init → IsErrAnd result (λ e. e.1 ≡ InitError.Database) }
-        ensures unlisted { IfErr result (λ e. e.1 ≡ InitError.Database → IsListed medium.calls DbCall.Init ⊎ HasNone target_of (λ t. t) expected (disk_of medium)) }
+        ensures cause { IfErr result (λ e.
+            FailsToReopen target_of (λ t. t) expected (disk_of medium)
+            (Rose medium.calls.faults e.0.calls.faults) e.1) }
+        ensures listed { IsListed medium.calls DbCall.Init
+            → IsErrAnd result (λ e. e.1 ≡ InitError.Database) }
+        ensures unlisted { IfErr result (λ e.
+            e.1 ≡ InitError.Database
+            → IsListed medium.calls DbCall.Init
+            ⊎ HasNone target_of (λ t. t) expected (disk_of medium)) }
         ensures memory { IfErr result (λ e. e.1 ≢ InitError.OutOfMemory) }
     {
         let mut medium = medium;
         if medium.fails(DbCall::Init) {
             return Err((medium, InitError::Database));
         }
-        let place = match medium.place_to_open(expected) {
-            Ok(place) => place,
+        let number = match medium.checkpoints.number_to_open(expected) {
+            Ok(number) => number,
             Err(why) => return Err((medium, why)),
         };
-        medium.open_at(place);
+        medium.checkpoints.open_at(number);
         Ok(Plain {
             id: 0,
-            out: None,
+            out: Tokens::new(),
             medium,
         })
     }
@@ -136,8 +159,10 @@ impl ManagedDb for Plain {
     }
 
     fn draw(&mut self) -> Result<u64, Exhausted>
-        ensures id { IfOk result (λ n. (n ≡ self.old.medium.next) × (self.new.medium.next ≡ self.old.medium.next + 1)) }
-        ensures exhausted { IfErr result (λ _. (2 ^ 64 - 1 ≤ self.old.medium.next) × (self.new.medium.next ≡ self.old.medium.next)) }
+        ensures id { IfOk result (λ n.
+            (n ≡ self.old.medium.next) × (self.new.medium.next ≡ self.old.medium.next + 1)) }
+        ensures exhausted { IfErr result (λ _.
+            (2 ^ 64 - 1 ≤ self.old.medium.next) × (self.new.medium.next ≡ self.old.medium.next)) }
         ensures within { IfOk result (λ n. n < 2 ^ 64 - 1) }
         ensures standing { standing_of self.new ≡ standing_of self.old }
         ensures count { self.new.medium.calls.faults ≡ self.old.medium.calls.faults }
@@ -152,10 +177,12 @@ impl ManagedDb for Plain {
     }
 
     fn new_batch(database: BatchContext<'_, Plain>) -> Result<PlainUnmerkleized, OutOfMemory>
-        ensures { IfOk result (λ u. (standing_of database.entry.database.now).id < database.entry.id → DraftShows u ((database.entry.id, begun (standing_of database.entry.database.now).disk.newest) ∷ point (standing_of database.entry.database.now) ∷ [])) }
+        ensures { let s = standing_of database.entry.database.now in
+            IfOk result (λ u. s.id < database.entry.id
+            → DraftShows u ((database.entry.id, begun s.disk.newest) ∷ point s ∷ [])) }
     {
         let (db, id) = database.into_parts();
-        let mut below = Vec::new(*db.medium.older.allocator());
+        let mut below = Vec::new(*db.medium.checkpoints.older.allocator());
         below.push(db.id)?;
         Ok(PlainUnmerkleized {
             id,
@@ -169,8 +196,16 @@ impl ManagedDb for Plain {
         database: BatchContext<'_, Plain>,
         parent: &PlainMerkleized,
     ) -> Result<PlainUnmerkleized, OutOfMemory>
-        ensures chain { IfOk result (λ u. (q : ℕ × Whole) (above older : List (ℕ × Whole)) → SealShows parent.now (q ∷ above ++ point (standing_of database.entry.database.now) ∷ older) → q.0 < database.entry.id → DraftShows u ((database.entry.id, begun q.1) ∷ q ∷ above ++ point (standing_of database.entry.database.now) ∷ [])) }
-        ensures cut { IfOk result (λ u. (q : ℕ × Whole) (c : List (ℕ × Whole)) → SealShows parent.now (q ∷ c) → q.0 < database.entry.id → DraftShows u ((database.entry.id, begun q.1) ∷ down_to (standing_of database.entry.database.now).id (q ∷ c))) }
+        ensures chain { let p = point (standing_of database.entry.database.now) in
+            IfOk result (λ u. (q : ℕ × Whole) (above older : List (ℕ × Whole))
+            → SealShows parent.now (q ∷ above ++ p ∷ older)
+            → q.0 < database.entry.id
+            → DraftShows u ((database.entry.id, begun q.1) ∷ q ∷ above ++ p ∷ [])) }
+        ensures cut { let at = (standing_of database.entry.database.now).id in
+            IfOk result (λ u. (q : ℕ × Whole) (c : List (ℕ × Whole))
+            → SealShows parent.now (q ∷ c)
+            → q.0 < database.entry.id
+            → DraftShows u ((database.entry.id, begun q.1) ∷ down_to at (q ∷ c))) }
     {
         let (db, id) = database.into_parts();
         let mut batch = parent.new_batch(id)?;
@@ -188,18 +223,27 @@ impl ManagedDb for Plain {
 
     /// `Failed` exactly where the call is listed as a failing one. A failed apply leaves the checkpoints.
     fn apply(self, batch: PlainMerkleized) -> Result<Plain, Broken<PlainMedium>>
-        ensures ok { IfOk result (λ db. (p : ℕ × Whole) (c : List (ℕ × Whole)) → SealShows batch (p ∷ point (standing_of self) ∷ c) → standing_of db ≡ record (standing_of self) { id = p.0; disk = applied (standing_of self).disk p.1 }) }
+        ensures ok { IfOk result (λ db. (p : ℕ × Whole) (c : List (ℕ × Whole))
+            → SealShows batch (p ∷ point (standing_of self) ∷ c)
+            → standing_of db
+            ≡ record (standing_of self) { id = p.0; disk = applied (standing_of self).disk p.1 }) }
         ensures ok_out { IfOk result (λ db. (standing_of db).out ≡ (standing_of self).out) }
         ensures ok_next { IfOk result (λ db. db.medium.next ≡ self.medium.next) }
         ensures ok_count { IfOk result (λ db. self.medium.calls.faults ≤ db.medium.calls.faults) }
-        ensures ok_called { IfOk result (λ db. Called DbCall.Apply self.medium.calls db.medium.calls) }
-        ensures grows { IfOk result (λ db. (p : ℕ × Whole) (c : List (ℕ × Whole)) → SealShows batch (p ∷ point (standing_of self) ∷ c) → (target_of (standing_of self).disk.newest).end.0 < (target_of p.1).end.0) }
-        ensures err { IfErr result (λ b. (p : ℕ × Whole) (c : List (ℕ × Whole)) → SealShows batch (p ∷ point (standing_of self) ∷ c) → IsEither (standing_of self).disk (applied (standing_of self).disk p.1) (disk_of b.medium)) }
+        ensures ok_called { IfOk result (λ db.
+            Called DbCall.Apply self.medium.calls db.medium.calls) }
+        ensures err { IfErr result (λ b. (p : ℕ × Whole) (c : List (ℕ × Whole))
+            → SealShows batch (p ∷ point (standing_of self) ∷ c)
+            → IsEither (standing_of self).disk (applied (standing_of self).disk p.1)
+            (disk_of b.medium)) }
         ensures err_next { IfErr result (λ b. b.medium.next ≡ self.medium.next) }
         ensures err_count { IfErr result (λ b. self.medium.calls.faults ≤ b.medium.calls.faults) }
-        ensures err_called { IfErr result (λ b. Called DbCall.Apply self.medium.calls b.medium.calls) }
-        ensures failed { IfErr result (λ b. b.why ≡ Why.Failed → Rose self.medium.calls.faults b.medium.calls.faults) }
-        ensures listed { IsErrAnd result (λ b. b.why ≡ Why.Failed) ↔ IsListed self.medium.calls DbCall.Apply }
+        ensures err_called { IfErr result (λ b.
+            Called DbCall.Apply self.medium.calls b.medium.calls) }
+        ensures failed { IfErr result (λ b.
+            b.why ≡ Why.Failed → Rose self.medium.calls.faults b.medium.calls.faults) }
+        ensures listed { IsErrAnd result (λ b. b.why ≡ Why.Failed)
+            ↔ IsListed self.medium.calls DbCall.Apply }
         ensures kept { IfErr result (λ b. disk_of b.medium ≡ (standing_of self).disk) }
     {
         let Plain {
@@ -214,7 +258,7 @@ impl ManagedDb for Plain {
             });
         }
         let PlainMerkleized { id, state, .. } = batch;
-        match medium.push(state) {
+        match medium.checkpoints.push(state) {
             Ok(()) => Ok(Plain { id, out, medium }),
             Err(_) => Err(Broken {
                 medium,
@@ -225,22 +269,28 @@ impl ManagedDb for Plain {
 
     /// Takes no memory. It fails exactly where the call is listed as a failing one.
     fn finalize(self) -> Result<(Plain, FlushToken), Broken<PlainMedium>>
-        requires { (standing_of self).out ≡ None }
-        ensures ok { IfOk result (λ r. (r.1.place ≡ place (standing_of self).disk) × (standing_of r.0 ≡ record (standing_of self) { out = Some r.1.place })) }
+        requires { length (standing_of self).out < 2 }
+        ensures ok { IfOk result (λ r. standing_of r.0
+            ≡ record (standing_of self) { out = (standing_of self).out ++ r.1.place ∷ [] }) }
+        ensures ok_place { IfOk result (λ r. r.1.place ≡ place (standing_of self).disk) }
         ensures ok_next { IfOk result (λ r. r.0.medium.next ≡ self.medium.next) }
         ensures ok_count { IfOk result (λ r. self.medium.calls.faults ≤ r.0.medium.calls.faults) }
-        ensures ok_called { IfOk result (λ r. Called DbCall.Finalize self.medium.calls r.0.medium.calls) }
+        ensures ok_called { IfOk result (λ r.
+            Called DbCall.Finalize self.medium.calls r.0.medium.calls) }
         ensures err { IfErr result (λ b. disk_of b.medium ≡ (standing_of self).disk) }
         ensures err_next { IfErr result (λ b. b.medium.next ≡ self.medium.next) }
         ensures err_count { IfErr result (λ b. self.medium.calls.faults ≤ b.medium.calls.faults) }
-        ensures err_called { IfErr result (λ b. Called DbCall.Finalize self.medium.calls b.medium.calls) }
-        ensures failed { IfErr result (λ b. b.why ≡ Why.Failed → Rose self.medium.calls.faults b.medium.calls.faults) }
-        ensures listed { IsErrAnd result (λ b. b.why ≡ Why.Failed) ↔ IsListed self.medium.calls DbCall.Finalize }
+        ensures err_called { IfErr result (λ b.
+            Called DbCall.Finalize self.medium.calls b.medium.calls) }
+        ensures failed { IfErr result (λ b.
+            b.why ≡ Why.Failed → Rose self.medium.calls.faults b.medium.calls.faults) }
+        ensures listed { IsErrAnd result (λ b. b.why ≡ Why.Failed)
+            ↔ IsListed self.medium.calls DbCall.Finalize }
         ensures memory { IfErr result (λ b. b.why ≢ Why.OutOfMemory) }
     {
         let Plain {
             id,
-            out: _,
+            mut out,
             mut medium,
         } = self;
         if medium.fails(DbCall::Finalize) {
@@ -249,36 +299,38 @@ impl ManagedDb for Plain {
                 why: Why::Failed,
             });
         }
-        let place = medium.older.len() as u64;
-        Ok((
-            Plain {
-                id,
-                out: Some(place),
-                medium,
-            },
-            FlushToken { place },
-        ))
+        let place = medium.checkpoints.place();
+        out.put(place);
+        Ok((Plain { id, out, medium }, FlushToken { place }))
     }
 
     /// Takes no memory. It fails exactly where the call is listed as a failing one, and leaves the durable place.
     fn flush(self, token: FlushToken) -> Result<Plain, Broken<PlainMedium>>
-        requires { (standing_of self).out ≡ Some token.place }
-        ensures ok { IfOk result (λ db. standing_of db ≡ record (standing_of self) { disk = flushed (standing_of self).disk token.place; out = None }) }
+        requires { Contains (standing_of self).out token.place }
+        ensures ok { IfOk result (λ db. standing_of db ≡ record (standing_of self) {
+          disk = flushed (standing_of self).disk token.place;
+          out = without token.place (standing_of self).out;
+        }) }
         ensures ok_next { IfOk result (λ db. db.medium.next ≡ self.medium.next) }
         ensures ok_count { IfOk result (λ db. self.medium.calls.faults ≤ db.medium.calls.faults) }
-        ensures ok_called { IfOk result (λ db. Called DbCall.Flush self.medium.calls db.medium.calls) }
-        ensures err { IfErr result (λ b. IsEither (standing_of self).disk (flushed (standing_of self).disk token.place) (disk_of b.medium)) }
+        ensures ok_called { IfOk result (λ db.
+            Called DbCall.Flush self.medium.calls db.medium.calls) }
+        ensures err { IfErr result (λ b. IsEither (standing_of self).disk
+            (flushed (standing_of self).disk token.place) (disk_of b.medium)) }
         ensures err_next { IfErr result (λ b. b.medium.next ≡ self.medium.next) }
         ensures err_count { IfErr result (λ b. self.medium.calls.faults ≤ b.medium.calls.faults) }
-        ensures err_called { IfErr result (λ b. Called DbCall.Flush self.medium.calls b.medium.calls) }
-        ensures failed { IfErr result (λ b. b.why ≡ Why.Failed → Rose self.medium.calls.faults b.medium.calls.faults) }
-        ensures listed { IsErrAnd result (λ b. b.why ≡ Why.Failed) ↔ IsListed self.medium.calls DbCall.Flush }
+        ensures err_called { IfErr result (λ b.
+            Called DbCall.Flush self.medium.calls b.medium.calls) }
+        ensures failed { IfErr result (λ b.
+            b.why ≡ Why.Failed → Rose self.medium.calls.faults b.medium.calls.faults) }
+        ensures listed { IsErrAnd result (λ b. b.why ≡ Why.Failed)
+            ↔ IsListed self.medium.calls DbCall.Flush }
         ensures kept { IfErr result (λ b. disk_of b.medium ≡ (standing_of self).disk) }
         ensures memory { IfErr result (λ b. b.why ≢ Why.OutOfMemory) }
     {
         let Plain {
             id,
-            out: _,
+            mut out,
             mut medium,
         } = self;
         if medium.fails(DbCall::Flush) {
@@ -287,16 +339,52 @@ impl ManagedDb for Plain {
                 why: Why::Failed,
             });
         }
-        medium.durable = token.place;
-        Ok(Plain {
+        medium.checkpoints.flush(token.place);
+        out.take(token.place);
+        Ok(Plain { id, out, medium })
+    }
+
+    /// Takes no memory. It fails exactly where the call is listed as a failing one, and leaves the checkpoints.
+    fn prune(self, target: &Target) -> Result<Plain, Broken<PlainMedium>>
+        requires idle { (standing_of self).out ≡ [] }
+        requires kept { KeepsDurable target_of (λ t. t) target.now (standing_of self).disk }
+        ensures ok { IfOk result (λ db. standing_of db ≡ record (standing_of self) {
+          disk = pruned_to target_of (λ t. t) target.now (standing_of self).disk;
+        }) }
+        ensures ok_next { IfOk result (λ db. db.medium.next ≡ self.medium.next) }
+        ensures ok_count { IfOk result (λ db. self.medium.calls.faults ≤ db.medium.calls.faults) }
+        ensures ok_called { IfOk result (λ db.
+            Called DbCall.Prune self.medium.calls db.medium.calls) }
+        ensures err { IfErr result (λ b. IsEither (standing_of self).disk
+            (pruned_to target_of (λ t. t) target.now (standing_of self).disk) (disk_of b.medium)) }
+        ensures err_next { IfErr result (λ b. b.medium.next ≡ self.medium.next) }
+        ensures err_count { IfErr result (λ b. self.medium.calls.faults ≤ b.medium.calls.faults) }
+        ensures err_called { IfErr result (λ b.
+            Called DbCall.Prune self.medium.calls b.medium.calls) }
+        ensures failed { IfErr result (λ b.
+            b.why ≡ Why.Failed → Rose self.medium.calls.faults b.medium.calls.faults) }
+        ensures listed { IsErrAnd result (λ b. b.why ≡ Why.Failed)
+            ↔ IsListed self.medium.calls DbCall.Prune }
+        ensures kept { IfErr result (λ b. disk_of b.medium ≡ (standing_of self).disk) }
+        ensures memory { IfErr result (λ b. b.why ≢ Why.OutOfMemory) }
+    {
+        let Plain {
             id,
-            out: None,
-            medium,
-        })
+            out,
+            mut medium,
+        } = self;
+        if medium.fails(DbCall::Prune) {
+            return Err(Broken {
+                medium,
+                why: Why::Failed,
+            });
+        }
+        medium.checkpoints.prune(target);
+        Ok(Plain { id, out, medium })
     }
 
     fn sync_target(&self) -> Target {
-        self.medium.newest.target()
+        self.newest().target()
     }
 
     fn close(self) -> PlainMedium
@@ -315,9 +403,13 @@ impl ManagedDb for Plain {
         ensures calls { result.calls ≡ medium.calls }
     {
         let mut medium = medium;
-        medium.cut(keep);
+        medium.checkpoints.cut(keep);
         medium
     }
+
+    ghost sound = { λ m. sound_checkpoints m.checkpoints };
+
+    ghost sound_here = { λ d. sound_checkpoints d.medium.checkpoints };
 
     ghost numbered = { λ m. m.numbered };
 

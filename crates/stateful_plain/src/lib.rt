@@ -3,13 +3,16 @@
 
 mod batch;
 mod calls;
+mod checkpoints;
 mod database;
 mod medium;
+mod pass;
 mod state;
 
 pub use batch::{PlainMerkleized, PlainUnmerkleized};
 pub use database::Plain;
 pub use medium::PlainMedium;
+pub use pass::PlainPass;
 pub use state::PlainState;
 
 #[cfg(test)]

@@ -85,7 +85,9 @@ impl PlainState {
 
 /// Adds key and value of each entry to the message.
 fn add_entries(entries: &BTreeMap<u64, u64>, hasher: &mut Sha256)
-    ensures { (m : List ℕ) → Holds256 hasher.old m → Holds256 hasher.new (m ++ entry_bytes entries.now.entries) }
+    ensures { (m : List ℕ)
+        → Holds256 hasher.old m
+        → Holds256 hasher.new (m ++ entry_bytes entries.now.entries) }
 {
     for (key, value) in entries {
         add_entry(*key, *value, hasher);
@@ -93,7 +95,9 @@ fn add_entries(entries: &BTreeMap<u64, u64>, hasher: &mut Sha256)
 }
 
 fn add_entry(key: u64, value: u64, hasher: &mut Sha256)
-    ensures { (m : List ℕ) → Holds256 hasher.old m → Holds256 hasher.new (m ++ pair_bytes key value) }
+    ensures { (m : List ℕ)
+        → Holds256 hasher.old m
+        → Holds256 hasher.new (m ++ pair_bytes key value) }
 {
     hasher.update(&key.to_be_bytes());
     hasher.update(&value.to_be_bytes());

@@ -1,6 +1,6 @@
 //! What no clause says: roots against another program's SHA-256, and calls that succeed.
 
-ghost use Rattle.std.specs.Prelude.{◌≡◌, None};
+ghost use Rattle.std.specs.Prelude.{◌≡◌, []};
 
 use crate::{Plain, PlainMedium, PlainUnmerkleized};
 use stateful_db::{
@@ -47,7 +47,7 @@ fn empty(rt: &impl Abort, alloc: Global, failing: &[(DbCall, u64)]) -> Result<Pl
 }
 
 fn open(rt: &impl Abort, medium: PlainMedium, expected: Option<Target>) -> Plain
-    ensures { result.out ≡ None }
+    ensures { result.out ≡ [] }
 {
     Plain::init(medium, &(), expected)
         .ok()
