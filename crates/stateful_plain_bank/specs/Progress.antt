@@ -15,12 +15,12 @@ pub record Shows (batch : PlainUnmerkleized) (ops : List Op) (id : ℕ) (p : ℕ
   pub after : do_ops p.1.entries ops ≡ Some entries
   pub shown : DraftShows batch ((id, record { size = p.1.size + 1; entries = entries }) ∷ p ∷ c)
 
--- so many of these operations are done, and there are others, or there were none
+-- so many of these operations are done, and there are others, or there are none at all
 pub record HasDone (progress : Progress) (ops : List Op) (id : ℕ) (p : ℕ × Whole) (c : List (ℕ × Whole)) : Type 0 where
   pub within : progress.done < max 1 (length ops)
   pub shows : Shows progress.batch (take progress.done ops) id p c
 
--- one operation more behind so many: it isn't allowed, or there are others, or all are done. The last two of these are told by the turns that all of it takes
+-- one operation more behind so many: it isn't allowed, or there are others, or all are done; with the turns that all take
 abbrev pub Advances : Advanced → ℕ → List Op → ℕ → ℕ × Whole → List (ℕ × Whole) → Type 0
 Advances advanced.Refused done ops id p c = (do_ops p.1.entries ops ≡ None) × (run_turns p.1.entries ops ≡ done + 1)
 Advances (advanced.Further progress) done ops id p c =

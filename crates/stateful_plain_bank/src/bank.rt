@@ -170,7 +170,8 @@ impl Application for Bank {
     ) -> Result<BankBuild, AppFault>
         ensures build { IfOk result (λ build. (i : ℕ) (p : ℕ × Whole) (c : List (ℕ × Whole)) →
             DraftShows batches ((i, begun p.1) ∷ p ∷ c) →
-            IsBuild build (build_of (asked_for ProposalKind.Prepare context ancestry input.upstream) input.provider i p c) 0) }
+            IsBuild build (build_of (asked_for ProposalKind.Prepare context ancestry input.upstream)
+            input.provider i p c) 0) }
         ensures fresh { IfOk result (λ build. build.faults ≡ 0) }
         ensures failed { IsErrOf result AppFault.Failed → ⊥ }
     {
@@ -191,7 +192,8 @@ impl Application for Bank {
     ) -> Result<BankBuild, AppFault>
         ensures build { IfOk result (λ build. (i : ℕ) (p : ℕ × Whole) (c : List (ℕ × Whole)) →
             DraftShows batches ((i, begun p.1) ∷ p ∷ c) →
-            IsBuild build (build_of (asked_for ProposalKind.Propose context ancestry input.upstream) input.provider i p c) 0) }
+            IsBuild build (build_of (asked_for ProposalKind.Propose context ancestry input.upstream)
+            input.provider i p c) 0) }
         ensures fresh { IfOk result (λ build. build.faults ≡ 0) }
         ensures failed { IsErrOf result AppFault.Failed → ⊥ }
     {
@@ -233,9 +235,11 @@ impl Application for Bank {
 
         // It fails exactly where the state would end at the last number, but for want of memory.
         ensures exhausted { let set = ⟦<Held<Plain> as DatabaseSet>⟧ in IsErrOf result AppFault.Failed →
-            EachRunAt run.old (set.kind.point (set.members databases.now)) (λ r n. 2 ^ 64 - 1 ≤ r.at.1.size + 1) }
+            EachRunAt run.old (set.kind.point (set.members databases.now))
+            (λ r n. 2 ^ 64 - 1 ≤ r.at.1.size + 1) }
         ensures within { let set = ⟦<Held<Plain> as DatabaseSet>⟧ in IfOk result (λ moved. IsSealed moved →
-            EachRunAt run.old (set.kind.point (set.members databases.now)) (λ r n. r.at.1.size + 1 < 2 ^ 64 - 1)) }
+            EachRunAt run.old (set.kind.point (set.members databases.now))
+            (λ r n. r.at.1.size + 1 < 2 ^ 64 - 1)) }
         ensures faults { run.new.faults ≡ counted result run.old.faults }
         ensures failed { IsErrOf result AppFault.Failed → Rose run.old.faults run.new.faults }
         ensures later { run.old.faults ≤ run.new.faults }
@@ -259,9 +263,11 @@ impl Application for Bank {
 
         // It fails exactly where the state would end at the last number, but for want of memory.
         ensures exhausted { let set = ⟦<Held<Plain> as DatabaseSet>⟧ in IsErrOf result AppFault.Failed →
-            EachBuildAt build.old (set.kind.point (set.members databases.now)) (λ b n. 2 ^ 64 - 1 ≤ b.at.1.size + 1) }
+            EachBuildAt build.old (set.kind.point (set.members databases.now))
+            (λ b n. 2 ^ 64 - 1 ≤ b.at.1.size + 1) }
         ensures within { let set = ⟦<Held<Plain> as DatabaseSet>⟧ in IfOk result (λ moved. IsBuilt moved →
-            EachBuildAt build.old (set.kind.point (set.members databases.now)) (λ b n. b.at.1.size + 1 < 2 ^ 64 - 1)) }
+            EachBuildAt build.old (set.kind.point (set.members databases.now))
+            (λ b n. b.at.1.size + 1 < 2 ^ 64 - 1)) }
         ensures faults { build.new.faults ≡ counted result build.old.faults }
         ensures failed { IsErrOf result AppFault.Failed → Rose build.old.faults build.new.faults }
         ensures later { build.old.faults ≤ build.new.faults }
