@@ -2,3 +2,6 @@ pub mod Points
 pub mod Drafting
 pub mod Outcomes
 pub mod Turning
+pub mod Running
+pub mod Declining
+pub mod Building

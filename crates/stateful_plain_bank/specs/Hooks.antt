@@ -4,18 +4,12 @@ use Rattle.stateful_types.specs.declared.outcome.Moved.{Moved}
 use Rattle.stateful_types.specs.declared.outcome.Moved.TheVariants as moved
 use Rattle.stateful_db.specs.declared.application.Hooked.{Hooked}
 use Rattle.stateful_db.specs.declared.application.Hooked.TheVariants as hooked
-use Rattle.stateful_bank.specs.declared.block.BankBlock.{BankBlock}
-use Rattle.stateful_plain.specs.Whole.{Whole}
 use Rattle.stateful_plain_bank.specs.declared.hook.BankHook.{BankHook}
 
 -- of so many turns so many were taken: a hook has the others left, and there is none where no turn is left
 abbrev pub IsLeft : Hooked BankHook → ℕ → ℕ → Type 0
 IsLeft hooked.Done turns taken = turns ≡ taken
 IsLeft (hooked.Pending hook) turns taken = (taken + hook.left ≡ turns) × (taken < turns)
-
--- what is left of the hook behind a block, which takes as many turns as the block says
-abbrev pub bank_hooks : Hooked BankHook → BankBlock → Whole → ℕ → Type 0
-bank_hooks hooked b whole taken = IsLeft hooked b.slow taken
 
 -- a turn goes on exactly where others are left
 abbrev pub GoesOn : {T : Type 0} → Moved T → ℕ → Type 0

@@ -1,7 +1,8 @@
 //! Hooks behind finalized blocks.
 
-ghost use Rattle.std.specs.Prelude.{◌≡◌, ◌-◌, ◌+◌, ℕ};
+ghost use Rattle.std.specs.Prelude.{◌≡◌, ◌-◌, ◌+◌, ℕ, Some};
 ghost use Rattle.stateful_db.specs.Hooks.{left};
+ghost use Rattle.stateful_db.specs.Works.{Costs, CostsHook};
 ghost use Rattle.stateful_plain_bank.specs.Hooks.{IsLeft, GoesOn};
 
 use stateful_db::Hooked;
@@ -23,7 +24,8 @@ impl Faulty for BankHook {
 
 /// A hook of so many turns.
 pub(crate) fn hook_of(turns: u8) -> Hooked<BankHook>
-    ensures { IsLeft result turns 0 }
+    ensures hook { IsLeft result turns 0 }
+    ensures cost { CostsHook (Some turns) result }
 {
     if turns == 0 {
         Hooked::Done
@@ -36,7 +38,12 @@ pub(crate) fn hook_of(turns: u8) -> Hooked<BankHook>
 pub(crate) fn turn_hook(hook: &mut BankHook) -> Moved<()>
     ensures left { hook.new.left ≡ hook.old.left - 1 }
     ensures goes_on { GoesOn result hook.new.left }
-    ensures taken { (turns taken : ℕ) → IsLeft (Hooked.Pending hook.old) turns taken → IsLeft (left result hook.new) turns (taken + 1) }
+    ensures taken { (turns taken : ℕ) →
+        IsLeft (Hooked.Pending hook.old) turns taken →
+        IsLeft (left result hook.new) turns (taken + 1) }
+    ensures cost { (turns taken : ℕ) →
+        IsLeft (Hooked.Pending hook.old) turns taken →
+        Costs (Some turns) result taken }
 {
     hook.left = hook.left.saturating_sub(1);
     if hook.left == 0 {

@@ -1,9 +1,11 @@
 use crate::{Bank, step};
-use stateful_bank::{BankBlock, Op};
-use stateful_db::{Application, DatabaseSet, Held, Hooked, Merkleized};
+use stateful_bank::{Ask, BankBlock, Op};
+use stateful_db::{
+    Application, DatabaseSet, Held, Hooked, Input, Merkleized, ProposalKind, Proposed,
+};
 use stateful_plain::{Plain, PlainMedium, PlainMerkleized, PlainState, PlainUnmerkleized};
 use stateful_types::{
-    Ancestry, Digest, Digested, Epoch, Finality, Height, Items, Moved, Round, Target, View,
+    Ancestry, Digest, Digested, Epoch, Finality, Handoff, Height, Items, Moved, Round, Target, View,
 };
 use std::alloc::Global;
 use std::process::Abort;
@@ -89,6 +91,84 @@ fn run(
     }
     assert!(rt; false);
     Ok((None, 0))
+}
+
+/// Builds a block of these operations on genesis, and gives what is handed over and the turns that it takes.
+fn build(
+    rt: &impl Abort,
+    alloc: Global,
+    kind: ProposalKind,
+    decision: Handoff<()>,
+    ops: &[Op],
+) -> Result<(Handoff<Proposed<Bank>>, u64), Fail> {
+    let mut databases = empty(rt, alloc);
+    let mut bank = Bank::new(alloc);
+    let genesis = bank.genesis().ok().expect(rt, "memory");
+    let first = Digested::compute(alloc, genesis).ok().expect(rt, "memory");
+    let rest = Items::new(alloc);
+    let ancestry = Ancestry { first, rest };
+    let batches = databases.new_batches().ok().expect(rt, "it is here");
+    let ops = Items::from_vec(Vec::from_slice(alloc, ops)?);
+    let input = Input {
+        upstream: Ask { decision, ops },
+        provider: (),
+    };
+    let begun = match kind {
+        ProposalKind::Prepare => bank.prepare(ROUND, ancestry, batches, input),
+        ProposalKind::Propose => bank.propose(ROUND, ancestry, batches, input),
+    };
+    let mut build = begun.ok().expect(rt, "memory");
+    for turns in 1..20 {
+        match Bank::turn_build(&mut build, &databases)
+            .ok()
+            .expect(rt, "it goes on")
+        {
+            Moved::Pending => {}
+            Moved::Done(given) => return Ok((given, turns)),
+        }
+    }
+    assert!(rt; false);
+    Ok((Handoff::Wait, 0))
+}
+
+#[test]
+fn builds_a_block(rt: HostRuntime) -> Result<(), Fail> {
+    let alloc = rt.alloc();
+    let ops = [mint(1, 40), mint(1, 60)];
+    let (given, turns) = build(&rt, alloc, ProposalKind::Propose, Handoff::Wait, &ops)?;
+    assert_eq!(rt; turns, 2);
+    match given {
+        Handoff::Vote(built) => {
+            assert_eq!(rt; built.block.parent, Digest(*GENESIS));
+            assert_eq!(rt; built.block.height, Height(1));
+            assert_eq!(rt; built.merkleized.root(), Digest(*ROOTS[0]));
+            let targets = Bank::sync_targets(&built.block);
+            assert!(rt; Held::<Plain>::matches_sync_targets(&built.merkleized, &targets));
+        }
+        _ => assert!(rt; false),
+    }
+    Ok(())
+}
+
+#[test]
+fn declines(rt: HostRuntime) -> Result<(), Fail> {
+    let alloc = rt.alloc();
+    let cases: [(Handoff<()>, &[Op], u64); 4] = [
+        (Handoff::Wait, &[mint(1, 1)], 1),
+        (Handoff::Vote(()), &[], 1),
+        (
+            Handoff::Stage(()),
+            &[mint(1, 1), pay(1, 2, 2), mint(1, 1)],
+            2,
+        ),
+        (Handoff::Stage(()), &[mint(1, 0), mint(1, 1)], 2),
+    ];
+    for (decision, ops, want) in cases {
+        let (given, turns) = build(&rt, alloc, ProposalKind::Prepare, decision, ops)?;
+        assert!(rt; given.is_wait());
+        assert_eq!(rt; turns, want);
+    }
+    Ok(())
 }
 
 #[test]

@@ -1,89 +1,75 @@
-use Rattle.std.proofs.Common.{◌≡◌, ◌+◌, ◌<◌, ◌≤◌, length, Err, sym, ◌∙◌, arith, ap, refl, subst}
+use Rattle.std.proofs.Common.{◌≡◌, Err, sym, ◌∙◌, ap, refl}
 use Rattle.std.proofs.lemmas.Bool.{false≢true}
 use Rattle.stateful_db.specs.declared.application.AppFault.TheVariants.{Failed}
 use Rattle.stateful_plain_bank.specs.Runs.{IsRejected}
-use Rattle.stateful_plain_bank.proofs.Turning.{IsNext, refused_outcome, refused_turns, more_run, more_turns, last_turns, last_outcome, last_size, last_within}
+use Rattle.stateful_plain_bank.proofs.Running.{refused_outcome, refused_cost, further_run, further_cost, complete_cost, complete_outcome, complete_size, complete_within}
 use Rattle.stateful_plain_bank.proofs.run.BankRun.turn.Goals as goal
 
 -- an operation that isn't allowed
-pub returns-in-Ok-None-clause-ok : goal.returns-in-Ok-None-clause-ok
-returns-in-Ok-None-clause-ok c = λ finality b id p below run at.
+pub returns-in-Ok-Refused-clause-ok : goal.returns-in-Ok-Refused-clause-ok
+returns-in-Ok-Refused-clause-ok c = λ r turns is at.
     let run_now = c.args.self.now in
     let held = sym c.take.ensures.value ∙ c.in-Some.is in
     let ops_are = c.as_slice-ops.ensures ∙ ap (λ block. block.ops) c.inner.ensures in
-    let next = subst (λ after. IsNext after c.in-Some.batch c.args.database.now.id c.as_slice-ops.result.now run_now.done) c.in-Ok-None.field-0-is c.in-Ok-None.ensures in
-    refused_outcome run_now finality b id p below run c.in-Some.batch held c.as_slice-ops.result.now ops_are _ at next
+    refused_outcome run_now r turns is c.in-Some.progress held c.as_slice-ops.result.now ops_are _ at _ c.in-Ok-Refused.ensures c.in-Ok-Refused.field-0-is
 
-pub returns-in-Ok-None-clause-turns : goal.returns-in-Ok-None-clause-turns
-returns-in-Ok-None-clause-turns c = λ finality b id p below run at.
+pub returns-in-Ok-Refused-clause-cost : goal.returns-in-Ok-Refused-clause-cost
+returns-in-Ok-Refused-clause-cost c = λ r turns is at.
     let run_now = c.args.self.now in
     let held = sym c.take.ensures.value ∙ c.in-Some.is in
     let ops_are = c.as_slice-ops.ensures ∙ ap (λ block. block.ops) c.inner.ensures in
-    let next = subst (λ after. IsNext after c.in-Some.batch c.args.database.now.id c.as_slice-ops.result.now run_now.done) c.in-Ok-None.field-0-is c.in-Ok-None.ensures in
-    refused_turns run_now finality b id p below run c.in-Some.batch held c.as_slice-ops.result.now ops_are _ at next
+    refused_cost run_now r turns is c.in-Some.progress held c.as_slice-ops.result.now ops_are _ at _ c.in-Ok-Refused.ensures c.in-Ok-Refused.field-0-is
 
 -- an operation that isn't the last
-pub returns-then-saturating_sub-gt1-clause-ok : goal.returns-then-saturating_sub-gt1-clause-ok
-returns-then-saturating_sub-gt1-clause-ok c = λ finality b id p below run at.
+pub returns-in-Ok-Further-clause-ok : goal.returns-in-Ok-Further-clause-ok
+returns-in-Ok-Further-clause-ok c = λ r turns is at.
     let run_now = c.args.self.now in
     let held = sym c.take.ensures.value ∙ c.in-Some.is in
     let ops_are = c.as_slice-ops.ensures ∙ ap (λ block. block.ops) c.inner.ensures in
-    let next = subst (λ after. IsNext after c.in-Some.batch c.args.database.now.id c.as_slice-ops.result.now run_now.done) c.in-Ok-Some.field-0-is c.in-Ok-Some.ensures in
-    let more : run_now.done + 1 < length c.as_slice-ops.result.now = omega arith in
-    more_run run_now finality b id p below run c.in-Some.batch held c.as_slice-ops.result.now ops_are _ at c.in-Ok-Some.batch _ next more refl refl refl refl
+    further_run run_now r turns is c.in-Some.progress held c.as_slice-ops.result.now ops_are _ at _ c.in-Ok-Further.ensures c.in-Ok-Further.progress _ c.in-Ok-Further.field-0-is refl refl refl
 
-pub returns-then-saturating_sub-gt1-clause-turns : goal.returns-then-saturating_sub-gt1-clause-turns
-returns-then-saturating_sub-gt1-clause-turns c = λ finality b id p below run at.
+pub returns-in-Ok-Further-clause-cost : goal.returns-in-Ok-Further-clause-cost
+returns-in-Ok-Further-clause-cost c = λ r turns is at.
     let run_now = c.args.self.now in
     let held = sym c.take.ensures.value ∙ c.in-Some.is in
     let ops_are = c.as_slice-ops.ensures ∙ ap (λ block. block.ops) c.inner.ensures in
-    let next = subst (λ after. IsNext after c.in-Some.batch c.args.database.now.id c.as_slice-ops.result.now run_now.done) c.in-Ok-Some.field-0-is c.in-Ok-Some.ensures in
-    let more : run_now.done + 1 < length c.as_slice-ops.result.now = omega arith in
-    (refl, more_turns run_now finality b id p below run c.in-Some.batch held c.as_slice-ops.result.now ops_are _ at c.in-Ok-Some.batch next more)
+    further_cost run_now r turns is c.in-Some.progress held c.as_slice-ops.result.now ops_are _ at _ c.in-Ok-Further.ensures c.in-Ok-Further.progress c.in-Ok-Further.field-0-is
 
 -- the last operation
-pub returns-then-is_rejected-clause-turns : goal.returns-then-is_rejected-clause-turns
-returns-then-is_rejected-clause-turns c = λ finality b id p below run at.
+pub returns-then-is_rejected-clause-cost : goal.returns-then-is_rejected-clause-cost
+returns-then-is_rejected-clause-cost c = λ r turns is at.
     let run_now = c.args.self.now in
     let held = sym c.take.ensures.value ∙ c.in-Some.is in
     let ops_are = c.as_slice-ops.ensures ∙ ap (λ block. block.ops) c.inner.ensures in
-    let last : length c.as_slice-ops.result.now ≤ run_now.done + 1 = omega arith in
-    last_turns run_now finality b id p below run c.in-Some.batch held c.as_slice-ops.result.now ops_are _ at last
+    complete_cost run_now r turns is c.in-Some.progress held c.as_slice-ops.result.now ops_are _ at _ c.in-Ok-Complete.ensures c.in-Ok-Complete.batch c.in-Ok-Complete.field-0-is
 
-pub returns-clause-ok : goal.returns-clause-ok
-returns-clause-ok c = λ finality b id p below run at.
+pub returns-in_ok-seal-in-Ok-Complete-clause-ok : goal.returns-in_ok-seal-in-Ok-Complete-clause-ok
+returns-in_ok-seal-in-Ok-Complete-clause-ok c = λ r turns is at.
     let run_now = c.args.self.now in
     let held = sym c.take.ensures.value ∙ c.in-Some.is in
     let ops_are = c.as_slice-ops.ensures ∙ ap (λ block. block.ops) c.inner.ensures in
-    let next = subst (λ after. IsNext after c.in-Some.batch c.args.database.now.id c.as_slice-ops.result.now run_now.done) c.in-Ok-Some.field-0-is c.in-Ok-Some.ensures in
-    let last : length c.as_slice-ops.result.now ≤ run_now.done + 1 = omega arith in
     let good : IsRejected run_now.finality c.as_slice-ops.result.now → ⊥ = λ rejected. absurd (false≢true (c.if-is_rejected.ensures.1 rejected)) in
-    last_outcome run_now finality b id p below run c.in-Some.batch held c.as_slice-ops.result.now ops_are _ at c.in-Ok-Some.batch c.in_ok-seal.field-0 _ next last good c.in_ok-seal.ensures.ok
+    complete_outcome run_now r turns is c.in-Some.progress held c.as_slice-ops.result.now ops_are _ at _ c.in-Ok-Complete.ensures c.in-Ok-Complete.batch c.in-Ok-Complete.field-0-is c.in_ok-seal-in-Ok-Complete.field-0 _ good c.in_ok-seal-in-Ok-Complete.ensures.ok
 
-pub returns-clause-within : goal.returns-clause-within
-returns-clause-within c = λ sealed finality b id p below run at.
+pub returns-in_ok-seal-in-Ok-Complete-clause-cost : goal.returns-in_ok-seal-in-Ok-Complete-clause-cost
+returns-in_ok-seal-in-Ok-Complete-clause-cost c = λ r turns is at.
     let run_now = c.args.self.now in
     let held = sym c.take.ensures.value ∙ c.in-Some.is in
     let ops_are = c.as_slice-ops.ensures ∙ ap (λ block. block.ops) c.inner.ensures in
-    let next = subst (λ after. IsNext after c.in-Some.batch c.args.database.now.id c.as_slice-ops.result.now run_now.done) c.in-Ok-Some.field-0-is c.in-Ok-Some.ensures in
-    let last : length c.as_slice-ops.result.now ≤ run_now.done + 1 = omega arith in
-    last_within run_now finality b id p below run c.in-Some.batch held c.as_slice-ops.result.now ops_are _ at c.in-Ok-Some.batch next last c.in_ok-seal.ensures.within
+    complete_cost run_now r turns is c.in-Some.progress held c.as_slice-ops.result.now ops_are _ at _ c.in-Ok-Complete.ensures c.in-Ok-Complete.batch c.in-Ok-Complete.field-0-is
 
-pub returns-in_err-seal-clause-exhausted : goal.returns-in_err-seal-clause-exhausted
-returns-in_err-seal-clause-exhausted c = λ failed finality b id p below run at.
+pub returns-in_ok-seal-in-Ok-Complete-clause-within : goal.returns-in_ok-seal-in-Ok-Complete-clause-within
+returns-in_ok-seal-in-Ok-Complete-clause-within c = λ sealed r turns is at.
     let run_now = c.args.self.now in
     let held = sym c.take.ensures.value ∙ c.in-Some.is in
     let ops_are = c.as_slice-ops.ensures ∙ ap (λ block. block.ops) c.inner.ensures in
-    let next = subst (λ after. IsNext after c.in-Some.batch c.args.database.now.id c.as_slice-ops.result.now run_now.done) c.in-Ok-Some.field-0-is c.in-Ok-Some.ensures in
-    let last : length c.as_slice-ops.result.now ≤ run_now.done + 1 = omega arith in
+    complete_within run_now r turns is c.in-Some.progress held c.as_slice-ops.result.now ops_are _ at _ c.in-Ok-Complete.ensures c.in-Ok-Complete.batch c.in-Ok-Complete.field-0-is c.in_ok-seal-in-Ok-Complete.ensures.within
+
+pub returns-in_err-seal-in-Ok-Complete-clause-exhausted : goal.returns-in_err-seal-in-Ok-Complete-clause-exhausted
+returns-in_err-seal-in-Ok-Complete-clause-exhausted c = λ failed r turns is at.
+    let run_now = c.args.self.now in
+    let held = sym c.take.ensures.value ∙ c.in-Some.is in
+    let ops_are = c.as_slice-ops.ensures ∙ ap (λ block. block.ops) c.inner.ensures in
     let fault = rw failed at c.from_residual.ensures.1 in
-    let seal_failed : c.seal.result ≡ Err Failed = c.in_err-seal.was ∙ ap Err (sym fault) in
-    last_size run_now finality b id p below run c.in-Some.batch held c.as_slice-ops.result.now ops_are _ at c.in-Ok-Some.batch next last (λ r d shown. c.seal.ensures.exhausted r d shown seal_failed)
-
-pub returns-clause-turns : goal.returns-clause-turns
-returns-clause-turns c = λ finality b id p below run at.
-    let run_now = c.args.self.now in
-    let held = sym c.take.ensures.value ∙ c.in-Some.is in
-    let ops_are = c.as_slice-ops.ensures ∙ ap (λ block. block.ops) c.inner.ensures in
-    let last : length c.as_slice-ops.result.now ≤ run_now.done + 1 = omega arith in
-    last_turns run_now finality b id p below run c.in-Some.batch held c.as_slice-ops.result.now ops_are _ at last
+    let seal_failed : c.seal.result ≡ Err Failed = c.in_err-seal-in-Ok-Complete.was ∙ ap Err (sym fault) in
+    complete_size run_now r turns is c.in-Some.progress held c.as_slice-ops.result.now ops_are _ at _ c.in-Ok-Complete.ensures c.in-Ok-Complete.batch c.in-Ok-Complete.field-0-is (λ p d shown. c.seal.ensures.exhausted p d shown seal_failed)

@@ -1,6 +1,6 @@
 use Rattle.std.proofs.Common.{◌∷◌, Err, ap}
 use Rattle.stateful_plain_bank.proofs.Points.{has_point}
-use Rattle.stateful_plain_bank.proofs.run.seal.Goals as goal
+use Rattle.stateful_plain_bank.proofs.progress.seal.Goals as goal
 
 -- a batch that stands on the database isn't stale
 pub returns-in-Err-StaleRead-clause-ok : goal.returns-in-Err-StaleRead-clause-ok

@@ -1,0 +1,13 @@
+use Rattle.std.proofs.Common.{ap, Some, arith}
+use Rattle.stateful_plain_bank.specs.Builds.{proposal_of}
+use Rattle.stateful_plain_bank.proofs.build.BankBuild.new.Goals as goal
+
+pub returns-clause-build : goal.returns-clause-build
+returns-clause-build c = λ b same shown.
+    record {
+      progress = c.begin.result;
+      work_is = ap (λ z. Some (z, c.begin.result)) same;
+      turns_are = c.begin.ensures.done;
+      asked = λ some declined. absurd (omega arith);
+      done = c.begin.ensures.shown (proposal_of b.asked).ops b.own b.at b.below shown;
+    }
