@@ -4,7 +4,7 @@ use Rattle.std.proofs.lemmas.List.Elements.{All-nil, All-same}
 use Rattle.stateful_types.specs.Names.{Named}
 use Rattle.stateful_types.specs.Anchor.{anchor_by}
 use Rattle.stateful_types.specs.declared.anchor.Anchor.{Anchor}
-use Rattle.stateful_db.specs.Databases.{Laws}
+use Rattle.stateful_db.specs.Laws.{Laws}
 use Rattle.stateful_history.specs.Setting.{Setting, step_of}
 use Rattle.stateful_history.specs.Past.{Past, Made}
 use Rattle.stateful_history.specs.Anchors.{applied}
@@ -62,16 +62,16 @@ module _ {B C I R U H : Type 0} (w : Workings B R H U) (laws : Laws w.kind) (sto
         let placed : w.kind.place m i ≡ origin i + length (applied q) = k.newest i l in
         subst (λ (states : List w.States). w.kind.Keeps (w.kind.applied m to) i (origin i) states)
         (sym (prefixes-push (setting w stored) (Some base) (applied q) b from.1 to.1 folded step))
-        (laws.keeps_applied m from to i (origin i) (prefixes (setting w stored) (Some base) (applied q)) l (omega arith) here (k.keeps i l));
-    newest = λ i l. omega (arith, laws.place_applied m from to i l here, k.newest i l, length-push (applied q) b);
-    durable = λ i l. rw (laws.durable_applied m to i) (k.durable i l);
+        (laws.apply.keeps_applied m from to i (origin i) (prefixes (setting w stored) (Some base) (applied q)) l (omega arith) here (k.keeps i l));
+    newest = λ i l. omega (arith, laws.apply.place_applied m from to i l here, k.newest i l, length-push (applied q) b);
+    durable = λ i l. rw (laws.apply.durable_applied m to i) (k.durable i l);
   }
 
   pub ActiveStands-applied : (m : w.kind.Members) (to : Point w) (first : Anchor) (origin : ℕ → ℕ) (active : Option Active) → ActiveStands w.kind w.header q m first origin active → ActiveStands w.kind w.header now (w.kind.applied m to) first origin active
   ActiveStands-applied m to first origin None h = tt
   ActiveStands-applied m to first origin (Some active) h = (
     h.0,
-    λ i handle l is. let old = h.1 i handle l is in record { place = old.place; flushed = λ good. ((old.flushed good).0, rw (laws.durable_applied m to i) (old.flushed good).1) },
+    λ i handle l is. let old = h.1 i handle l is in record { place = old.place; flushed = λ good. ((old.flushed good).0, rw (laws.apply.durable_applied m to i) (old.flushed good).1) },
   )
 
   pub Anchored-applied : (anchor first : Anchor) (from to : w.States) → IsNext w.header anchor b → step_of (setting w stored) from b ≡ Some to → Anchored (setting w stored) base q anchor first from → Anchored (setting w stored) base now (anchor_by w.header b) first to
@@ -99,9 +99,9 @@ module _ {B C I R U H : Type 0} (w : Workings B R H U) (laws : Laws w.kind) (sto
           first = u.first;
           origin = u.origin;
           point = to;
-          here = laws.point_applied m u.point to u.here;
+          here = laws.apply.point_applied m u.point to u.here;
           anchored = Anchored-applied anchor u.first u.point.1 to.1 is_next step u.anchored;
-          drawn = laws.issued_first next to (u.executes.points anchor.digest ∷ shown.rest) shown.drawn;
+          drawn = laws.ids.issued_first next to (u.executes.points anchor.digest ∷ shown.rest) shown.drawn;
           keeping = Keeping-applied m u.point to u.first u.origin u.here u.anchored.folded step u.keeping;
           barriers = record {
             durable_is = u.barriers.durable_is;

@@ -12,7 +12,7 @@ use Rattle.stateful_actor.specs.Judging.{IsDecided, IsJudged}
 use Rattle.stateful_actor.specs.Finalizing.{IsPast, IsNext, RefusesBlock}
 use Rattle.stateful_actor.specs.Tasks.{IsOpen, IsDoneFor, IsVerification, RefusesVerification, IsFinalization, RefusesFinalization, IsTaskAt, RefusesAt}
 use Rattle.stateful_actor.specs.Stepping.{is_refusal}
-use Rattle.stateful_actor.specs.Workings.{Workings}
+use Rattle.stateful_actor.specs.Workings.{Workings, numbered}
 use Rattle.stateful_actor.specs.Moments.{Moment}
 use Rattle.stateful_actor.specs.Doing.{IsStep}
 use Rattle.stateful_actor.specs.Causes.{Tally}
@@ -157,7 +157,7 @@ module _ {B C I R U H : Type 0} (w : Workings B R H U) (store : ℕ → Option (
 
   -- and each cause of another refusal is want of memory
   pub refused-cause : (run_count : R → ℕ) (hook_count : H → ℕ) (failed : Bool) (register : Register) (core : Core B R H U) (members : w.kind.Members) (before now : Tally) (p : Past B C I)
-      → RegisterStands w.kind.count p register → may_come w.kind.count p event ≡ true → failed ≡ false
+      → RegisterStands (numbered w.kind.count) p register → may_come (numbered w.kind.count) p event ≡ true → failed ≡ false
       → (f : StepError) → IsCause w run_count hook_count store event failed register old core members before now f → (f ≡ e) ⊎ (f ≡ OutOfMemory)
   refused-cause run_count hook_count failed register core members before now p stands may works f (memory out) = inr out
   refused-cause run_count hook_count failed register core members before now p stands may works f (failed_before out stopped other) = absurd cc

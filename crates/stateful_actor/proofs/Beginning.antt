@@ -5,7 +5,7 @@ use Rattle.std.proofs.lemmas.Bool.{eqb-true}
 use Rattle.stateful_types.specs.Names.{Named}
 use Rattle.stateful_types.specs.declared.number.Height.{Height}
 use Rattle.stateful_types.specs.declared.anchor.Anchor.{Anchor}
-use Rattle.stateful_db.specs.Databases.{Laws}
+use Rattle.stateful_db.specs.Laws.{Laws}
 use Rattle.stateful_db.specs.Barrier.{still_open}
 use Rattle.stateful_db.specs.declared.barrier.Handle.{Handle}
 use Rattle.stateful_db.specs.declared.barrier.Flushed.{Flushed}
@@ -16,7 +16,7 @@ use Rattle.stateful_history.specs.Past.{Past, Made}
 use Rattle.stateful_history.specs.Live.{live_flush}
 use Rattle.stateful_history.specs.Durable.{WasApplied}
 use Rattle.stateful_history.specs.declared.mark.Mark.TheVariants.{BarrierBegun}
-use Rattle.stateful_actor.specs.Workings.{Workings, setting}
+use Rattle.stateful_actor.specs.Workings.{Workings, setting, numbered}
 use Rattle.stateful_actor.specs.Numbers.{NumbersStand}
 use Rattle.stateful_actor.specs.Checkpoints.{Keeping, Anchored}
 use Rattle.stateful_actor.specs.Barriers.{BarrierStands, IsWaiting}
@@ -71,22 +71,25 @@ live-begun k i n count before e = elim (or-true ((k == n) && nat_lt i count) bef
   | inr old ↦ inr old
 ]
 
+below-count : (count i : ℕ) → i < numbered count → i < count
+below-count count i below = omega (arith, below)
+
 module _ {B C I R U H : Type 0} (w : Workings B R H U) (laws : Laws w.kind) (stored : ℕ → Option (Named B)) (base : w.States) (p : Past B C I) (k : ℕ) (height : Height) where
   abbrev now : Past B C I
   now = Made (BarrierBegun k height) ∷ p
 
   Keeping-finalized : (m : w.kind.Members) (first : Anchor) (origin : ℕ → ℕ) → Keeping (setting w stored) w.kind base p m first origin → Keeping (setting w stored) w.kind base now (w.kind.finalized m) first origin
   Keeping-finalized m first origin h = record {
-    keeps = λ i l. laws.keeps_finalized m i (origin i) _ (h.keeps i l);
-    newest = λ i l. laws.place_finalized m i ∙ h.newest i l;
-    durable = λ i l. rw (laws.durable_finalized m i) (h.durable i l);
+    keeps = λ i l. laws.finalize.keeps_finalized m i (origin i) _ (h.keeps i l);
+    newest = λ i l. laws.finalize.place_finalized m i ∙ h.newest i l;
+    durable = λ i l. rw (laws.finalize.durable_finalized m i) (h.durable i l);
   }
 
   module _ (store : ℕ → Option (Named B)) (old new : Moment w) (anchor : Anchor) (free : old.core.barrier ≡ None) (begins : BeginsBarrier w old new) (k_is : begins.active.number ≡ k) (height_is : begins.active.height ≡ height) (applied_is : old.core.durability.applied ≡ anchor.height.0) (was : WasApplied w.header old.core.durability.applied p) where
     abbrev begun : Core B R H U
     begun = record old.core { durability = record old.core.durability { barrier = Some old.core.durability.applied }; barrier = Some begins.active; next_barrier = old.core.next_barrier + 1 }
 
-    no_flush : (first : Anchor) (origin : ℕ → ℕ) → BarrierStands w.kind w.header p old.members first origin old.core.durability old.core.barrier → (j i : ℕ) → live_flush w.kind.count j i p ≡ true → ⊥
+    no_flush : (first : Anchor) (origin : ℕ → ℕ) → BarrierStands w.kind w.header p old.members first origin old.core.durability old.core.barrier → (j i : ℕ) → live_flush (numbered w.kind.count) j i p ≡ true → ⊥
     no_flush first origin stands j i live = subst (λ (o : Option Active). IsWaiting o j i) free (stands.waiting j i live)
 
     BarrierStands-begun : (first : Anchor) (origin : ℕ → ℕ) (state : w.States) → Anchored (setting w stored) base p anchor first state → Keeping (setting w stored) w.kind base p old.members first origin → BarrierStands w.kind w.header p old.members first origin old.core.durability old.core.barrier → BarrierStands w.kind w.header now (w.kind.finalized old.members) first origin (record old.core.durability { barrier = Some old.core.durability.applied }) (Some begins.active)
@@ -103,8 +106,8 @@ module _ {B C I R U H : Type 0} (w : Workings B R H U) (laws : Laws w.kind) (sto
               flushed = λ good. absurd (token.1 good);
             },
       );
-      waiting = λ j i live. elim (live-begun j i k w.kind.count (live_flush w.kind.count j i p) live) [
-        | inl same ↦ (k_is ∙ sym same.0, λ none. let out = begins.handles i same.1 in cc)
+      waiting = λ j i live. elim (live-begun j i k (numbered w.kind.count) (live_flush (numbered w.kind.count) j i p) live) [
+        | inl same ↦ (k_is ∙ sym same.0, λ none. let out = begins.handles i (below-count w.kind.count i same.1) in cc)
         | inr before ↦ absurd (no_flush first origin stands j i before)
       ];
     }
@@ -116,7 +119,7 @@ module _ {B C I R U H : Type 0} (w : Workings B R H U) (laws : Laws w.kind) (sto
           first = u.first;
           origin = u.origin;
           point = u.point;
-          here = laws.point_finalized old.members ∙ u.here;
+          here = laws.finalize.point_finalized old.members ∙ u.here;
           anchored = Anchored-calm w stored p (Made (BarrierBegun k height)) calm base anchor u.first u.point.1 u.anchored;
           drawn = u.drawn;
           keeping = Keeping-finalized old.members u.first u.origin u.keeping;

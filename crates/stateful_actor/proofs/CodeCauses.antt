@@ -4,7 +4,7 @@ use Rattle.stateful_types.specs.Names.{Named}
 use Rattle.stateful_types.specs.Causes.{Rose}
 use Rattle.stateful_types.specs.Anchor.{anchor_by}
 use Rattle.stateful_types.specs.declared.anchor.Anchor.{Anchor}
-use Rattle.stateful_db.specs.Databases.{Laws}
+use Rattle.stateful_db.specs.Laws.{Laws}
 use Rattle.stateful_db.specs.declared.database.DbCall.{DbCall}
 use Rattle.stateful_history.specs.declared.event.Event.{Event}
 use Rattle.stateful_history.specs.declared.mark.Mark.{Mark}
@@ -45,7 +45,7 @@ Rose-since before mid now l h = min-since before mid _ now l h
 
 module _ {B R U H : Type 0} (w : Workings B R H U) (before mid now : ℕ → ℕ) (new : w.kind.Members) (later : (n : ℕ) → before n ≤ mid n) where
   HasCounted-since : (i : ℕ) (given call : DbCall) → HasCounted w mid now new i given call → HasCounted w before now new i given call
-  HasCounted-since i given call h = (h.0, h.1, Rose-since (before i) (mid i) (now i) (later i) h.2, h.3)
+  HasCounted-since i given call h = λ bound. let counted = h bound in (counted.0, counted.1, Rose-since (before i) (mid i) (now i) (later i) counted.2, counted.3)
 
   -- the fault of a barrier's begin, where other calls came before
   pub FaultsBarrier-since : (number : ℕ) (f : Fault) → FaultsBarrier w mid now new number f → FaultsBarrier w before now new number f
@@ -70,7 +70,7 @@ module _ {B R U H : Type 0} (w : Workings B R H U) (laws : Laws w.kind) where
   settles-point old new (inr up) = by_begins up.2.told up.2.released up.2.begins
     where
       by_begins : (told : Core B R H U) (released : List (Mark B)) → ((told.durability.durable < told.durability.applied) × IsNone told.durability.barrier × BeginsBarrier w (moment w told old.members old.next released) new) ⊎ (new ≡ moment w told old.members old.next released) → w.kind.point new.members ≡ w.kind.point old.members
-      by_begins told released (inl b) = ap (λ (m : w.kind.Members). w.kind.point m) b.2.members ∙ laws.point_finalized old.members
+      by_begins told released (inl b) = ap (λ (m : w.kind.Members). w.kind.point m) b.2.members ∙ laws.finalize.point_finalized old.members
       by_begins told released (inr same) = ap (λ (x : Moment w). w.kind.point x.members) same
 
   module _ (store : ℕ → Option (Named B)) (old mid : Moment w) (new : w.kind.Members) (keeps : KeepsStates w mid.members new) where
@@ -80,7 +80,7 @@ module _ {B R U H : Type 0} (w : Workings B R H U) (laws : Laws w.kind) where
         ap (λ (m : w.kind.Members). w.kind.point m) f.members
         ∙ begun_point w laws f.moved f.begun f.begins
         ∙ ap (λ (m : w.kind.Members). w.kind.point m) (f.moves.members p q c here shows)
-        ∙ laws.point_applied old.members p q here
+        ∙ laws.apply.point_applied old.members p q here
 
     leaves-finalized : (t : ℕ) (b : Named B) → Finalizes w t b old mid → LeavesStates w (anchor_by w.header b) old.core.cache old.members new
     leaves-finalized t b f p here = inr (f.moves.batch, f.moves.root, λ q c shows i. inr (keeps q (finalized-point t b f p q c here shows) i))
@@ -97,13 +97,13 @@ module _ {B R U H : Type 0} (w : Workings B R H U) (laws : Laws w.kind) where
     LeavesAt-does (task.Hold t height) does = same-members does.1.0
     LeavesAt-does (task.Finalize t b) does = leaves-finalized t b does
     LeavesAt-does (task.Turn anchor j) does = same-members does.1.0
-    LeavesAt-does (task.Flush number index) does = KeepsStates-from w old.members mid.members new (ap (λ (m : w.kind.Members). w.kind.point m) does.members ∙ laws.point_flushed old.members index does.token.place) keeps
+    LeavesAt-does (task.Flush number index) does = KeepsStates-from w old.members mid.members new (ap (λ (m : w.kind.Members). w.kind.point m) does.members ∙ laws.flush.point_flushed old.members index does.token.place) keeps
     LeavesAt-does (task.Start floor keep) does = tt
 
   -- what a task that was done and settled leaves is what a fault of it may leave
   pub LeavesAt-serves : (store : ℕ → Option (Named B)) (old new : Moment w) (done : Task B) → Serves w store done old new → LeavesAt w done old.core.cache old.members new.members
   LeavesAt-serves store old new done serves =
-      LeavesAt-does store old serves.mid new.members (λ p here i. laws.has_state new.members p i (settles-point serves.mid new serves.settles ∙ here)) done serves.does
+      LeavesAt-does store old serves.mid new.members (λ p here i. laws.places.has_state new.members p i (settles-point serves.mid new serves.settles ∙ here)) done serves.does
 
 -- a fault has the same cause whatever anchor the machine is given back
 module _ {B R U H : Type 0} (w : Workings B R H U) (run_count : R → ℕ) (hook_count : H → ℕ) (store : ℕ → Option (Named B)) (old : Moment w) (core : Core B R H U) (members : w.kind.Members) (before now : Tally) (still : Option Anchor) where

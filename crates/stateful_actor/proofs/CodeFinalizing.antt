@@ -2,10 +2,10 @@
 use Rattle.std.proofs.Common.{◌≡◌, ◌≢◌, ◌<◌, inl, inr, ℕ, Some, None, All, IsNone, sym, ◌∙◌, ap, subst, arith}
 use Rattle.stateful_types.specs.Names.{Named}
 use Rattle.stateful_types.specs.declared.anchor.Anchor.{Anchor}
-use Rattle.stateful_db.specs.Databases.{Laws}
+use Rattle.stateful_db.specs.Laws.{Laws}
 use Rattle.stateful_db.specs.declared.application.Hooked.{Hooked}
 use Rattle.stateful_db.specs.declared.application.Hooked.TheVariants.{Pending}
-use Rattle.stateful_durability.specs.Durability.{Coverage}
+use Rattle.stateful_actor.specs.OneBarrier.{Coverage}
 use Rattle.stateful_actor.specs.Workings.{Workings, Point}
 use Rattle.stateful_actor.specs.Moments.{Moment}
 use Rattle.stateful_actor.specs.Barriers.{Agrees}
@@ -21,7 +21,7 @@ use Rattle.stateful_actor.proofs.CodeSettling.{held_none, held_idle}
 module _ {B R U H : Type 0} (w : Workings B R H U) (laws : Laws w.kind) where
   -- a barrier that begins leaves the databases at their point
   pub begun_point : (old new : Moment w) → BeginsIfNone w old new → w.kind.point new.members ≡ w.kind.point old.members
-  begun_point old new (inl b) = ap (λ (m : w.kind.Members). w.kind.point m) b.1.members ∙ laws.point_finalized old.members
+  begun_point old new (inl b) = ap (λ (m : w.kind.Members). w.kind.point m) b.1.members ∙ laws.finalize.point_finalized old.members
   begun_point old new (inr same) = ap (λ (x : Moment w). w.kind.point x.members) same.1
 
   -- what the application tells of the states behind the block, where they are here
@@ -77,7 +77,7 @@ module _ {B R U H : Type 0} (w : Workings B R H U) (laws : Laws w.kind) (t : ℕ
     may_idle none =
         let here = some_of (w.kind.point moved.members) moves.here in
         let idle = held_idle w.kind laws old.members w.header old.core up sound (sym barrier_is ∙ none) in
-        laws.idle_from moved.members here.0 here.1 (λ i l. moves.tokens i ∙ laws.token_idle old.members i idle)
+        laws.places.idle_from moved.members here.0 here.1 (λ i l. moves.tokens i ∙ laws.places.tokens_idle old.members i idle)
 
     -- no receipt is of the block's height yet
     moved_first : All (λ receipt. receipt.0 ≢ moved.core.durability.applied) moved.core.durability.held

@@ -3,13 +3,14 @@ use Rattle.std.proofs.Common.{◌≡◌, ◌≢◌, ◌⊎◌, ◌<◌, inl, inr
 use Rattle.std.proofs.lemmas.List.Elements.{All-head, All-tail}
 use Rattle.stateful_types.specs.Names.{Header}
 use Rattle.stateful_types.specs.declared.anchor.Anchor.{Anchor}
-use Rattle.stateful_db.specs.Databases.{Databases, Laws}
+use Rattle.stateful_db.specs.Databases.{Databases}
+use Rattle.stateful_db.specs.Laws.{Laws}
 use Rattle.stateful_db.specs.Barrier.{open_at, IsGood}
 use Rattle.stateful_db.specs.declared.barrier.Handle.{Handle}
 use Rattle.stateful_db.specs.declared.barrier.Flushed.{Flushed}
 use Rattle.stateful_db.specs.declared.database.FlushToken.{FlushToken}
 use Rattle.stateful_history.specs.declared.mark.Mark.{Mark}
-use Rattle.stateful_actor.specs.Barriers.{Agrees, Tokens}
+use Rattle.stateful_actor.specs.Barriers.{Agrees, Tokens, open_places}
 use Rattle.stateful_actor.specs.Stands.{Sound}
 use Rattle.stateful_actor.specs.Effects.{CompletesBarrier, Acknowledges, NeedsBarrier}
 use Rattle.stateful_actor.specs.declared.tables.Active.{Active}
@@ -17,6 +18,11 @@ use Rattle.stateful_actor.specs.declared.tables.Core.{Core}
 use Rattle.stateful_actor.specs.declared.error.Fault.{Fault}
 use Rattle.stateful_actor.specs.declared.error.Fault.TheVariants.{OutOfMemory}
 use Rattle.stateful_actor.proofs.CodeSound.{some_of}
+
+-- a barrier that is open leaves none to be needed
+pub not_free : {X : Type 0} (o : Option ℕ) (n : ℕ) → o ≡ Some n → IsNone o → X
+not_free None n is none = cc
+not_free (Some m) n is none = cc
 
 -- where every flush was good no token is open
 good-open : (handles : List Handle) (i : ℕ) → All IsGood handles → open_at handles i ≡ None
@@ -37,8 +43,8 @@ module _ {Ids S T : Type 0} (d : Databases Ids S T) (m : d.Members) where
   no_barrier height None t none = refl
   no_barrier height (Some a) t none = let h = t.0 in cc
 
-  all_done : (height : Option ℕ) (active : Active) → Tokens d m height (Some active) → All IsGood active.barrier → (i : ℕ) → i < d.count → d.token m i ≡ None
-  all_done height active t good i l = sym (t.2 i l) ∙ ap (λ (o : Option FlushToken). option_map (λ (token : FlushToken). token.place) o) (good-open active.barrier i good)
+  all_done : (height : Option ℕ) (active : Active) → Tokens d m height (Some active) → All IsGood active.barrier → (i : ℕ) → i < d.count → d.tokens m i ≡ []
+  all_done height active t good i l = sym (t.2 i l) ∙ ap open_places (good-open active.barrier i good)
 
 module _ {Ids S T B R H U : Type 0} (d : Databases Ids S T) (laws : Laws d) (m : d.Members) (header : Header B) (old : Core B R H U) (up : old.anchor ≢ None) (sound : Sound d m header old) where
   agrees : (anchor : Anchor) × Agrees d m header anchor old.durability old.barrier old.front
@@ -71,7 +77,7 @@ module _ {Ids S T B R H U : Type 0} (d : Databases Ids S T) (laws : Laws d) (m :
     is_idle : CompletesBarrier old mid before done ⊎ ((mid ≡ old) × (done ≡ before)) → d.Idle m
     is_idle (inl completes) =
         let a = agrees.1 in
-        laws.idle_from m a.point a.here (all_done d m old.durability.barrier completes.active (subst (Tokens d m old.durability.barrier) completes.is a.tokens) completes.good)
+        laws.places.idle_from m a.point a.here (all_done d m old.durability.barrier completes.active (subst (Tokens d m old.durability.barrier) completes.is a.tokens) completes.good)
     is_idle (inr same) = (tokens_none d m old.durability.barrier old.barrier (old_none same.0) agrees.1.tokens).1
 
     -- and no token is out

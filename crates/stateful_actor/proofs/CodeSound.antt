@@ -1,12 +1,12 @@
 -- What the agreement of the machine and the databases says of the tables.
-use Rattle.std.proofs.Common.{◌≡◌, ◌≢◌, ◌<◌, ℕ, zero, suc, Option, Some, None, List, [], ◌∷◌, All, MatchOption, length, option_map, sym, ◌∙◌, ap, subst, refl, arith}
+use Rattle.std.proofs.Common.{◌≡◌, ◌≢◌, ◌<◌, ℕ, zero, suc, Option, Some, None, List, [], ◌∷◌, All, MatchOption, Contains, length, sym, ◌∙◌, ap, subst, refl, arith}
 use Rattle.stateful_types.specs.Names.{Header}
 use Rattle.stateful_types.specs.declared.anchor.Anchor.{Anchor}
 use Rattle.stateful_db.specs.Databases.{Databases}
 use Rattle.stateful_db.specs.Barrier.{open_at}
 use Rattle.stateful_db.specs.declared.barrier.Handle.{Handle}
 use Rattle.stateful_db.specs.declared.database.FlushToken.{FlushToken}
-use Rattle.stateful_actor.specs.Barriers.{Tokens, Recorded}
+use Rattle.stateful_actor.specs.Barriers.{Tokens, Recorded, open_places}
 use Rattle.stateful_actor.specs.Stands.{Sound}
 use Rattle.stateful_actor.specs.declared.tables.Active.{Active}
 use Rattle.stateful_actor.specs.declared.tables.Core.{Core}
@@ -52,5 +52,5 @@ module _ {Ids S T B R H U : Type 0} (d : Databases Ids S T) (m : d.Members) (hea
     pub handle_within : i < d.count
     handle_within = let h = open_at-within active.barrier i token unanswered in omega (arith, h, tokens.1)
 
-    pub handle_out : d.token m i ≡ Some token.place
-    handle_out = sym (tokens.2 i handle_within) ∙ ap (λ (o : Option FlushToken). option_map (λ (t : FlushToken). t.place) o) unanswered
+    pub handle_out : Contains (d.tokens m i) token.place
+    handle_out = subst (λ (places : List ℕ). Contains places token.place) (sym (ap open_places unanswered) ∙ tokens.2 i handle_within) (0, omega arith, refl)

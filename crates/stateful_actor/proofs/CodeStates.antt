@@ -4,7 +4,7 @@ use Rattle.std.specs.Result.{IsErrAnd}
 use Rattle.stateful_types.specs.Names.{Named}
 use Rattle.stateful_types.specs.Anchor.{anchor_by}
 use Rattle.stateful_types.specs.declared.anchor.Anchor.{Anchor}
-use Rattle.stateful_db.specs.Databases.{Laws}
+use Rattle.stateful_db.specs.Laws.{Laws}
 use Rattle.stateful_db.specs.declared.database.DbCall.{DbCall}
 use Rattle.stateful_db.specs.declared.database.DbCall.TheVariants as call
 use Rattle.stateful_db.specs.declared.set.SetError.{SetError}
@@ -64,7 +64,7 @@ module _ {B R U H : Type 0} (w : Workings B R H U) (before now : ℕ → ℕ) (n
 module _ {B R U H : Type 0} (w : Workings B R H U) (laws : Laws w.kind) where
   -- where nothing has changed they hold the states before
   keeps_same : (m : w.kind.Members) → KeepsStates w m m
-  keeps_same m p here i = laws.has_state m p i here
+  keeps_same m p here i = laws.places.has_state m p i here
 
   pub leaves_same : (root : Anchor) (cache : List (Cached U)) (m : w.kind.Members) → LeavesStates w root cache m m
   leaves_same root cache m p here = inl (keeps_same m p here)
@@ -74,7 +74,7 @@ module _ {B R U H : Type 0} (w : Workings B R H U) (laws : Laws w.kind) where
       → ((p q : Point w) (c : List (Point w)) → w.kind.point old ≡ Some p → w.shows batch (q ∷ p ∷ c) → mid ≡ w.kind.applied old q)
       → KeepsStates w mid new → LeavesStates w root cache old new
   leaves_applied root cache batch old mid new is_root applies keeps p here =
-      inr (batch, is_root, λ q c shows i. inr (keeps q (ap w.kind.point (applies p q c here shows) ∙ laws.point_applied old p q here) i))
+      inr (batch, is_root, λ q c shows i. inr (keeps q (ap w.kind.point (applies p q c here shows) ∙ laws.apply.point_applied old p q here) i))
 
   module _ (t : ℕ) (b : Named B) (old moved : Moment w) (moves : Moves w t b old moved) where
     -- what was there behind the apply of a finalization was kept
@@ -83,5 +83,5 @@ module _ {B R U H : Type 0} (w : Workings B R H U) (laws : Laws w.kind) where
 
     -- and a barrier has begun since, where none was active
     pub leaves_begun : (begun : Moment w) → BeginsIfNone w moved begun → LeavesStates w (anchor_by w.header b) old.core.cache old.members begun.members
-    leaves_begun begun (inl begins) = leaves_moved begun.members (λ p here i. subst (λ (m : w.kind.Members). w.kind.HasState m i p.1) (sym begins.1.members) (laws.state_finalized moved.members i p.1 (laws.has_state moved.members p i here)))
+    leaves_begun begun (inl begins) = leaves_moved begun.members (λ p here i. subst (λ (m : w.kind.Members). w.kind.HasState m i p.1) (sym begins.1.members) (laws.finalize.state_finalized moved.members i p.1 (laws.places.has_state moved.members p i here)))
     leaves_begun begun (inr same) = leaves_moved begun.members (subst (λ (m : Moment w). KeepsStates w moved.members m.members) (sym same.1) (keeps_same moved.members))

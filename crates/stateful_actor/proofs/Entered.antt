@@ -5,7 +5,7 @@ use Rattle.std.specs.List.{Contains}
 use Rattle.std.proofs.lemmas.List.{append-nil}
 use Rattle.stateful_types.specs.Names.{Header, Named}
 use Rattle.stateful_types.specs.declared.anchor.Anchor.{Anchor}
-use Rattle.stateful_db.specs.Databases.{Laws}
+use Rattle.stateful_db.specs.Laws.{Laws}
 use Rattle.stateful_db.specs.declared.barrier.Flushed.TheVariants.{Good, Interrupted}
 use Rattle.stateful_history.specs.Past.{Past, Came, Made, after, after_entry}
 use Rattle.stateful_history.specs.Opening.{opening, opens, base_after, is_down}
@@ -27,7 +27,7 @@ use Rattle.stateful_types.specs.declared.outcome.Moved.TheVariants.{Pending, Don
 use Rattle.stateful_db.specs.declared.application.Hooked.{Hooked as HookedIs}
 use Rattle.stateful_db.specs.declared.application.Hooked.TheVariants as hooked
 use Rattle.stateful_history.proofs.Marks.{after-append, TrueNames-before_marks}
-use Rattle.stateful_actor.specs.Workings.{Workings, setting}
+use Rattle.stateful_actor.specs.Workings.{Workings, setting, numbered}
 use Rattle.stateful_actor.specs.Moments.{Moment, moment}
 use Rattle.stateful_actor.specs.Stands.{Sound, Works, HasServed}
 use Rattle.stateful_actor.specs.Entering.{OpensAtStored}
@@ -169,7 +169,7 @@ module _ {B C I R U H : Type 0} (w : Workings B R H U) (laws : Laws w.kind) (sto
   is-named true live e = cc
   is-named false live e = e
 
-  Served-task : (anchor : Anchor) → old.core.anchor ≡ Some anchor → (event : Event B C I) (done : Task B) → may_come w.kind.count p event ≡ true → TrueNames (setting w stored) (after_entry p event mid.marks) → IsTaskAt w.header old.core store (Some anchor) event done → Does w store done old mid → HasServed w stored base (Came event ∷ p) mid store
+  Served-task : (anchor : Anchor) → old.core.anchor ≡ Some anchor → (event : Event B C I) (done : Task B) → may_come (numbered w.kind.count) p event ≡ true → TrueNames (setting w stored) (after_entry p event mid.marks) → IsTaskAt w.header old.core store (Some anchor) event done → Does w store done old mid → HasServed w stored base (Came event ∷ p) mid store
   Served-task anchor is (Verify t ancestry) done may names asked does = Served-verify w laws stored store base p old mid none works anchor t ancestry done (is-named (is_down p) (is_new t p) may) names is asked does
   Served-task anchor is (Finalized t b) done may names asked does = Served-finalized w laws stored store base p old mid none works anchor t b done (is-named (is_down p) (is_new t p) may) names is asked does
   Served-task anchor is (Turn j) (task.Turn a i) may names asked does =
@@ -204,7 +204,7 @@ module _ {B C I R U H : Type 0} (w : Workings B R H U) (laws : Laws w.kind) (sto
         TrueNames-before_marks (setting w stored) (after_entry p event mid.marks) more.0
         (subst (λ (q : Past B C I). TrueNames (setting w stored) q) (after-append (Came event ∷ p) mid.marks more.0) (subst (λ (ms : List (Mark B)). TrueNames (setting w stored) (after_entry p event ms)) more.1 names))
 
-    entered-up : (event : Event B C I) (done : Task B) (anchor : Anchor) → old.core.anchor ≡ Some anchor → may_come w.kind.count p event ≡ true → TrueNames (setting w stored) (after_entry p event new.marks) → IsTaskAt w.header old.core store (Some anchor) event done → Does w store done old mid → Sound w.kind mid.members w.header mid.core → HasEntered event
+    entered-up : (event : Event B C I) (done : Task B) (anchor : Anchor) → old.core.anchor ≡ Some anchor → may_come (numbered w.kind.count) p event ≡ true → TrueNames (setting w stored) (after_entry p event new.marks) → IsTaskAt w.header old.core store (Some anchor) event done → Does w store done old mid → Sound w.kind mid.members w.header mid.core → HasEntered event
     entered-up event done anchor is may names asked does sound_mid =
         let opens_none : opens new.marks ≡ false = opens-settles w laws stored store base (Came event ∷ p) mid new settles ∙ opens-does w laws old mid store done does (starts-not anchor event done asked) ∙ ap (λ (ms : List (Mark B)). opens ms) none in
         let served : HasServed w stored base (Came event ∷ p) mid store = Served-task anchor is event done may (names-mid event names) asked does in
@@ -235,7 +235,7 @@ module _ {B C I R U H : Type 0} (w : Workings B R H U) (laws : Laws w.kind) (sto
             (reopens.block, opened-stored w laws stored store base p old mid floor keep is reopens works, only-first more.0 root a more.2 (subst (λ (ms : List (Mark B)). Contains ms (Opened a)) all found), reopens.opening.targets_are)
 
     -- an event was taken in
-    pub Entered : (anchor : Option Anchor) → old.core.anchor ≡ anchor → (event : Event B C I) (done : Task B) → may_come w.kind.count p event ≡ true → TrueNames (setting w stored) (after_entry p event new.marks) → IsTaskAt w.header old.core store anchor event done → Does w store done old mid → Sound w.kind mid.members w.header mid.core → HasEntered event
+    pub Entered : (anchor : Option Anchor) → old.core.anchor ≡ anchor → (event : Event B C I) (done : Task B) → may_come (numbered w.kind.count) p event ≡ true → TrueNames (setting w stored) (after_entry p event new.marks) → IsTaskAt w.header old.core store anchor event done → Does w store done old mid → Sound w.kind mid.members w.header mid.core → HasEntered event
     Entered (Some anchor) is event done may names asked does sound_mid = entered-up event done anchor is may names asked does sound_mid
     Entered None is (Restart floor keep) (task.Start f k) may names asked does sound_mid = entered-start floor keep is (subst (λ (l : List ℕ). Reopens w floor l store old mid) asked.1 (subst (λ (x : Floor). Reopens w x k store old mid) asked.0 does)) sound_mid
     Entered None is event other may names asked does sound_mid = absurd asked

@@ -1,10 +1,11 @@
 -- What the flush of a database leaves.
 use Rattle.std.proofs.Common.{◌≡◌, ◌⊎◌, inl, inr, ℕ, zero, suc, ◌<◌, ◌≤◌, ◌+◌, ◌-◌, List, [], ◌∷◌, length, Bool, true, false, Option, None, Some, IfSome, refl, sym, ◌∙◌, ap, subst, arith, slice_get, option_map, not, ◌==◌, ◌&&◌}
+use Rattle.std.proofs.Math.Nat.{le-max_left}
 use Rattle.std.proofs.lemmas.Bool.{cases_eq}
 use Rattle.std.proofs.lemmas.Bool.Decides.{nat_tests}
 use Rattle.stateful_types.specs.Names.{Named}
 use Rattle.stateful_types.specs.declared.anchor.Anchor.{Anchor}
-use Rattle.stateful_db.specs.Databases.{Laws}
+use Rattle.stateful_db.specs.Laws.{Laws}
 use Rattle.stateful_db.specs.Barrier.{open_at, answered}
 use Rattle.stateful_db.specs.declared.barrier.Handle.{Handle}
 use Rattle.stateful_db.specs.declared.barrier.Flushed.{Flushed as FlushedIs}
@@ -15,7 +16,7 @@ use Rattle.stateful_history.specs.Live.{live_flush}
 use Rattle.stateful_history.specs.Durable.{durable}
 use Rattle.stateful_history.specs.declared.event.Event.TheVariants.{Flushed}
 use Rattle.stateful_history.specs.declared.mark.Mark.{Mark}
-use Rattle.stateful_actor.specs.Workings.{Workings, setting}
+use Rattle.stateful_actor.specs.Workings.{Workings, setting, numbered}
 use Rattle.stateful_actor.specs.Rules.{Keeps}
 use Rattle.stateful_actor.specs.Moments.{Moment}
 use Rattle.stateful_actor.specs.Checkpoints.{Keeping}
@@ -103,13 +104,13 @@ module _ {B C I R U H : Type 0} (w : Workings B R H U) (laws : Laws w.kind) (sto
     place_is = ap (λ (t : FlushToken). t.place) (sym handle.2) ∙ (begun.1 index handle.0 within handle.1).place
 
     flushed-durable : (i : ℕ) → i < w.kind.count → (i ≡ index) ⊎ (i ≡ index → ⊥) → u.origin i + (durable q - u.first.height.0) ≤ w.kind.durable (w.kind.flushed old.members index flushes.token.place) i
-    flushed-durable i l (inl same) = rw (same, laws.durable_flushed old.members u.point index flushes.token.place within u.here) (omega (arith, place_is, behind.0, u.barriers.durable_is))
-    flushed-durable i l (inr ne) = rw (laws.durable_others old.members index flushes.token.place i ne) (u.keeping.durable i l)
+    flushed-durable i l (inl same) = rw (same, laws.flush.durable_flushed old.members u.point index flushes.token.place within u.here) (omega (arith, place_is, behind.0, u.barriers.durable_is, le-max_left flushes.token.place (w.kind.durable old.members index)))
+    flushed-durable i l (inr ne) = rw (laws.flush.durable_others old.members index flushes.token.place i within l ne) (u.keeping.durable i l)
 
     flushed-keeping : Keeping (setting w stored) w.kind base q (w.kind.flushed old.members index flushes.token.place) u.first u.origin
     flushed-keeping = record {
-      keeps = λ i l. laws.keeps_flushed old.members index flushes.token.place i (u.origin i) _ (u.keeping.keeps i l);
-      newest = λ i l. laws.place_flushed old.members index flushes.token.place i ∙ u.keeping.newest i l;
+      keeps = λ i l. laws.flush.keeps_flushed old.members index flushes.token.place i (u.origin i) _ (u.keeping.keeps i l);
+      newest = λ i l. laws.flush.place_flushed old.members index flushes.token.place i ∙ u.keeping.newest i l;
       durable = λ i l. flushed-durable i l (cases_eq i index);
     }
 
@@ -119,17 +120,17 @@ module _ {B C I R U H : Type 0} (w : Workings B R H U) (laws : Laws w.kind) (sto
           let old_handle = begun.1 index same.1.0 within same.1.1 in
           record {
             place = rw (same.0, same.1.2) old_handle.place;
-            flushed = λ good. rw same.0 (inl (flushes.number_is, refl), rw (laws.durable_flushed old.members u.point index flushes.token.place within u.here) (omega (arith, place_is)));
+            flushed = λ good. rw same.0 (inl (flushes.number_is, refl), rw (laws.flush.durable_flushed old.members u.point index flushes.token.place within u.here) (omega (arith, place_is, le-max_left flushes.token.place (w.kind.durable old.members index))));
           }
       | inr other ↦
           let old_handle = begun.1 i h l other.1 in
           record {
             place = old_handle.place;
-            flushed = λ good. ((old_handle.flushed good).0, rw (laws.durable_others old.members index flushes.token.place i other.0) (old_handle.flushed good).1);
+            flushed = λ good. ((old_handle.flushed good).0, rw (laws.flush.durable_others old.members index flushes.token.place i within l other.0) (old_handle.flushed good).1);
           }
     ]
 
-    flushed-waiting : (k i : ℕ) → (live_flush w.kind.count k i p ≡ true) × ((k ≡ number) × (i ≡ index) → ⊥) → IsWaiting old.core.barrier k i → IsWaiting (Some after_flush) k i
+    flushed-waiting : (k i : ℕ) → (live_flush (numbered w.kind.count) k i p ≡ true) × ((k ≡ number) × (i ≡ index) → ⊥) → IsWaiting old.core.barrier k i → IsWaiting (Some after_flush) k i
     flushed-waiting k i live waits =
         let was : IsWaiting (Some flushes.active) k i = subst (λ (o : Option Active). IsWaiting o k i) flushes.is waits in
         let other : i ≡ index → ⊥ = (λ same. live.1 (sym was.0 ∙ flushes.number_is, same)) in
@@ -140,7 +141,7 @@ module _ {B C I R U H : Type 0} (w : Workings B R H U) (laws : Laws w.kind) (sto
       durable_is = u.barriers.durable_is;
       above = u.barriers.above;
       begun = (begun.0, flushed-handle);
-      waiting = λ k i live. flushed-waiting k i (live-still k number i index (live_flush w.kind.count k i p) live) (u.barriers.waiting k i live);
+      waiting = λ k i live. flushed-waiting k i (live-still k number i index (live_flush (numbered w.kind.count) k i p) live) (u.barriers.waiting k i live);
     }
 
     flushed-up : IsUp w stored base q anchor (record old.core { barrier = Some after_flush }) (w.kind.flushed old.members index flushes.token.place) old.next
@@ -148,7 +149,7 @@ module _ {B C I R U H : Type 0} (w : Workings B R H U) (laws : Laws w.kind) (sto
       first = u.first;
       origin = u.origin;
       point = u.point;
-      here = laws.point_flushed old.members index flushes.token.place ∙ u.here;
+      here = laws.flush.point_flushed old.members index flushes.token.place ∙ u.here;
       anchored = u.anchored;
       drawn = u.drawn;
       keeping = flushed-keeping;

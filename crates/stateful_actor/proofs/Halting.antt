@@ -1,7 +1,7 @@
 -- Histories at whose end an event was refused.
 use Rattle.std.proofs.Common.{◌≡◌, ◌≢◌, ◌++◌, ℕ, Bool, true, false, inl, List, [], ◌∷◌, Option, None, Result, Ok, Err, IsErrAnd, IfErr, refl, sym, ◌∙◌, ap, subst, arith}
 use Rattle.stateful_types.specs.Names.{Named}
-use Rattle.stateful_db.specs.Databases.{Laws}
+use Rattle.stateful_db.specs.Laws.{Laws}
 use Rattle.stateful_history.specs.Past.{Past, Came, after_entry, after_all}
 use Rattle.stateful_history.specs.Met.{TrueNames}
 use Rattle.stateful_history.specs.Holding.{Holds, HoldsBehind}
@@ -10,7 +10,7 @@ use Rattle.stateful_history.specs.declared.entry.Entry.{Entry}
 use Rattle.stateful_history.proofs.Marks.{after_all-push, TrueNames-before}
 use Rattle.stateful_register.specs.Register.{RegisterStands}
 use Rattle.stateful_register.specs.declared.register.Register.{Register}
-use Rattle.stateful_actor.specs.Workings.{Workings, setting}
+use Rattle.stateful_actor.specs.Workings.{Workings, setting, numbered}
 use Rattle.stateful_actor.specs.Moments.{Moment, moment}
 use Rattle.stateful_actor.specs.Stands.{Works, Stands}
 use Rattle.stateful_actor.specs.Causes.{Tally}
@@ -53,11 +53,11 @@ module _ {B C I R U H : Type 0} (w : Workings B R H U) (laws : Laws w.kind) (sto
   Works-behind base p event core m next store works up =
       let found = some_of core.anchor up in
       let is = works.up found.0 found.1 in
-      λ i. inl (record { state = is.point.1; folded = is.anchored.folded; has = laws.has_state m is.point i is.here })
+      λ i. inl (record { state = is.point.1; folded = is.anchored.folded; has = laws.places.has_state m is.point i is.here })
 
   module _ (run_count : R → ℕ) (hook_count : H → ℕ) (history : List (Entry B C I)) (event : Event B C I) (core : Core B R H U) (register : Register) (m : w.kind.Members) (next : w.Ids) (before : Tally)
       (failed : Bool) (works : failed ≡ false) (is_played : HasPlayed w stored history failed core register m next)
-      (registered : RegisterStands w.kind.count (after_all [] history) register)
+      (registered : RegisterStands (numbered w.kind.count) (after_all [] history) register)
       (first : Moment w) (steps : Steps w stored [] first history (moment w core m next [])) where
     played : HasPlayed w stored history false core register m next
     played = subst (λ (f : Bool). HasPlayed w stored history f core register m next) works is_played

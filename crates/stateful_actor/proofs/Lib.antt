@@ -1,6 +1,8 @@
 pub mod Lists
 pub mod Calm
 pub mod Pushing
+pub mod Idle
+pub mod Working
 pub mod Sounding
 pub mod Stepping
 pub mod Doable

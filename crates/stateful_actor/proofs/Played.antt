@@ -12,7 +12,7 @@ use Rattle.stateful_history.specs.declared.mark.Mark.{Mark}
 use Rattle.stateful_history.proofs.Marks.{after_all-push, TrueNames-before_entry}
 use Rattle.stateful_register.specs.Register.{RegisterStands, IsBlank}
 use Rattle.stateful_register.specs.declared.register.Register.{Register}
-use Rattle.stateful_actor.specs.Workings.{Workings, setting}
+use Rattle.stateful_actor.specs.Workings.{Workings, setting, numbered}
 use Rattle.stateful_actor.specs.Moments.{Moment, moment}
 use Rattle.stateful_actor.specs.Doing.{IsStep}
 use Rattle.stateful_actor.specs.Rules.{Keeps}
@@ -36,7 +36,7 @@ events-push {B} {C} {I} history longer event marks events adds is =
 
 module _ {B C I R U H : Type 0} (w : Workings B R H U) (stored : ℕ → Option (Named B)) where
   -- a new machine stands for the empty past
-  pub Register-new : (register : Register) → IsBlank register → RegisterStands {B = B} {C = C} {I = I} w.kind.count [] register
+  pub Register-new : (register : Register) → IsBlank register → RegisterStands {B = B} {C = C} {I = I} (numbered w.kind.count) [] register
   Register-new register blank = record {
     tickets = blank.tickets;
     jobs = blank.jobs;
@@ -61,12 +61,12 @@ module _ {B C I R U H : Type 0} (w : Workings B R H U) (stored : ℕ → Option 
   HasPlayed-new failed core register m next new = λ names. (λ up. (Register-new register new.blank, Works-new core m next new.down), tt)
 
   -- one more step
-  Steps-push : (p : Past B C I) (old mid : Moment w) (history : List (Entry B C I)) (event : Event B C I) (new : Moment w) → Steps w stored p old history mid → may_come w.kind.count (after_all p history) event ≡ true → IsStep w stored event mid new → Steps w stored p old (history ++ record { event = event; marks = new.marks } ∷ []) (record new { marks = [] })
+  Steps-push : (p : Past B C I) (old mid : Moment w) (history : List (Entry B C I)) (event : Event B C I) (new : Moment w) → Steps w stored p old history mid → may_come (numbered w.kind.count) (after_all p history) event ≡ true → IsStep w stored event mid new → Steps w stored p old (history ++ record { event = event; marks = new.marks } ∷ []) (record new { marks = [] })
   Steps-push p old mid [] event new is may step = (may, new, refl, subst (λ (x : Moment w). IsStep w stored event x new) is step, refl)
   Steps-push p old mid (x ∷ history) event new steps may step = (steps.0, steps.1, steps.2, steps.3, Steps-push (after_entry p x.event x.marks) (record (steps.1) { marks = [] }) mid history event new steps.4 may step)
 
   pub Steps-longer : (first : Moment w) (mid : Moment w) (history longer : List (Entry B C I)) (event : Event B C I) (core : Core B R H U) (m : w.kind.Members) (next : w.Ids)
-      → Steps w stored [] first history mid → may_come w.kind.count (after_all [] history) event ≡ true → AddsEntry w stored event mid core m next history longer → Steps w stored [] first longer (moment w core m next [])
+      → Steps w stored [] first history mid → may_come (numbered w.kind.count) (after_all [] history) event ≡ true → AddsEntry w stored event mid core m next history longer → Steps w stored [] first longer (moment w core m next [])
   Steps-longer first mid history longer event core m next steps may adds =
       subst (λ (h : List (Entry B C I)). Steps w stored [] first h (moment w core m next [])) (sym adds.1) (Steps-push [] first mid history event (moment w core m next adds.0) steps may adds.2)
 

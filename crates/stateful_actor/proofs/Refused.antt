@@ -4,7 +4,7 @@ use Rattle.stateful_types.specs.Names.{Header, Named}
 use Rattle.stateful_types.specs.Anchor.{anchor_by}
 use Rattle.stateful_types.specs.declared.anchor.Anchor.{Anchor}
 use Rattle.stateful_types.specs.declared.block.Ancestry.{Ancestry}
-use Rattle.stateful_db.specs.Databases.{Laws}
+use Rattle.stateful_db.specs.Laws.{Laws}
 use Rattle.stateful_db.specs.Barrier.{open_at}
 use Rattle.stateful_db.specs.declared.barrier.Flushed.TheVariants.{Good}
 use Rattle.stateful_db.specs.declared.database.FlushToken.{FlushToken}
@@ -18,7 +18,7 @@ use Rattle.stateful_history.specs.Holding.{HoldsBehind}
 use Rattle.stateful_history.specs.declared.event.Event.{Event}
 use Rattle.stateful_history.specs.declared.event.Event.TheVariants.{Verify, Finalized, Turn, Flushed, Restart}
 use Rattle.stateful_history.specs.declared.mark.Mark.{Mark}
-use Rattle.stateful_actor.specs.Workings.{Workings, setting, Point}
+use Rattle.stateful_actor.specs.Workings.{Workings, setting, Point, numbered}
 use Rattle.stateful_actor.specs.Moments.{moment}
 use Rattle.stateful_actor.specs.Barriers.{IsWaiting}
 use Rattle.stateful_actor.specs.Finalizing.{IsNext}
@@ -89,7 +89,7 @@ module _ {B C I R H U : Type 0} (w : Workings B R H U) (laws : Laws w.kind) (sto
 
     -- databases that are as before hold it
     pub HoldsBehind-same : core.anchor ≢ None → HoldsBehind (setting w stored) w.kind base p event m
-    HoldsBehind-same up = let a = some_of core.anchor up in holds-kept a.0 a.1 m (λ at here i. laws.has_state m at i here)
+    HoldsBehind-same up = let a = some_of core.anchor up in holds-kept a.0 a.1 m (λ at here i. laws.places.has_state m at i here)
 
     module _ (anchor : Anchor) (is : core.anchor ≡ Some anchor) (names : TrueNames (setting w stored) (Came event ∷ p)) (new : w.kind.Members) where
       -- a finalization that failed leaves at each database the states before, or those of the finalized block
@@ -131,18 +131,18 @@ module _ {B C I R H U : Type 0} (w : Workings B R H U) (laws : Laws w.kind) (sto
 
   module _ (run_count : R → ℕ) (hook_count : H → ℕ) (marks : List (Mark B)) (after : Core B R H U) (new : w.kind.Members) (before now : Tally) where
     -- the databases are here, each live job is in a table, and each live flush has its token
-    able-at : (anchor : Anchor) → core.anchor ≡ Some anchor → (event : Event B C I) (done : Task B) → may_come w.kind.count p event ≡ true → IsTaskAt w.header core store (Some anchor) event done → FaultsAt w run_count hook_count store (moment w core m next marks) after new before now done Failed → ⊥
+    able-at : (anchor : Anchor) → core.anchor ≡ Some anchor → (event : Event B C I) (done : Task B) → may_come (numbered w.kind.count) p event ≡ true → IsTaskAt w.header core store (Some anchor) event done → FaultsAt w run_count hook_count store (moment w core m next marks) after new before now done Failed → ⊥
     able-at anchor is event (task.Answer t valid) may asked faults = cc
     able-at anchor is event (task.Run a t b parent) may asked faults = let here = (works.up anchor is).here in cc
     able-at anchor is event (task.Hold t height) may asked faults = cc
     able-at anchor is event (task.Finalize t b) may asked faults = let here = (works.up anchor is).here in cc
     able-at anchor is event (task.Turn a j) may asked faults =
         let event_is : event ≡ Turn j = named C I w.header core store anchor event (task.Turn a j) asked in
-        let live : live_job j p ≡ true = live-named (is_down p) (live_job j p) (subst (λ (e : Event B C I). may_come w.kind.count p e ≡ true) event_is may) in
+        let live : live_job j p ≡ true = live-named (is_down p) (live_job j p) (subst (λ (e : Event B C I). may_come (numbered w.kind.count) p e ≡ true) event_is may) in
         faults ((works.up anchor is).in_table j live)
     able-at anchor is event (task.Flush k i) may asked faults =
         let event_is : event ≡ Flushed k i Good = named C I w.header core store anchor event (task.Flush k i) asked in
-        let live : live_flush w.kind.count k i p ≡ true = live-named (is_down p) (live_flush w.kind.count k i p) (subst (λ (e : Event B C I). may_come w.kind.count p e ≡ true) event_is may) in
+        let live : live_flush (numbered w.kind.count) k i p ≡ true = live-named (is_down p) (live_flush (numbered w.kind.count) k i p) (subst (λ (e : Event B C I). may_come (numbered w.kind.count) p e ≡ true) event_is may) in
         waiting-open core.barrier k i ((works.up anchor is).barriers.waiting k i live) faults
     able-at anchor is event done may asked faults = faults
 
@@ -151,7 +151,7 @@ module _ {B C I R H U : Type 0} (w : Workings B R H U) (laws : Laws w.kind) (sto
     able-down event done asked faults = asked
 
     -- an event that may come isn't refused as failed by a machine that hasn't failed
-    pub IsAble-admitted : (anchor : Option Anchor) → core.anchor ≡ anchor → (event : Event B C I) (done : Task B) → may_come w.kind.count p event ≡ true → IsTaskAt w.header core store anchor event done → FaultsIn w run_count hook_count store (moment w core m next marks) after new before now done Failed → ⊥
+    pub IsAble-admitted : (anchor : Option Anchor) → core.anchor ≡ anchor → (event : Event B C I) (done : Task B) → may_come (numbered w.kind.count) p event ≡ true → IsTaskAt w.header core store anchor event done → FaultsIn w run_count hook_count store (moment w core m next marks) after new before now done Failed → ⊥
     IsAble-admitted anchor is event done may asked (settling mid does needed faults) = faults
     IsAble-admitted None is event done may asked (doing faults) = able-down event done asked faults
     IsAble-admitted (Some anchor) is event done may asked (doing faults) = able-at anchor is event done may asked faults

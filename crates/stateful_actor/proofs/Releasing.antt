@@ -2,7 +2,7 @@
 use Rattle.std.proofs.Common.{◌≡◌, ℕ, ◌≤◌, ◌++◌, List, [], ◌∷◌, map, refl, sym, ◌∙◌, ap, subst, append_assoc}
 use Rattle.std.proofs.lemmas.List.{append-nil}
 use Rattle.std.proofs.lemmas.List.Elements.{All-nil, All-push}
-use Rattle.stateful_durability.specs.Durability.{Coverage, Releases}
+use Rattle.stateful_actor.specs.OneBarrier.{Coverage, Releases}
 use Rattle.stateful_history.specs.declared.mark.Mark.{Mark}
 use Rattle.stateful_actor.specs.Effects.{Acknowledges, acknowledged}
 use Rattle.stateful_actor.specs.declared.tables.Core.{Core}

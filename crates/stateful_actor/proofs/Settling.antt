@@ -9,10 +9,10 @@ use Rattle.stateful_types.specs.Names.{Header, Named}
 use Rattle.stateful_types.specs.Anchor.{anchor_by}
 use Rattle.stateful_types.specs.declared.anchor.Anchor.{Anchor}
 use Rattle.stateful_types.specs.declared.number.Height.{Height}
-use Rattle.stateful_db.specs.Databases.{Laws}
+use Rattle.stateful_db.specs.Laws.{Laws}
 use Rattle.stateful_db.specs.Barrier.{IsGood}
 use Rattle.stateful_db.specs.declared.barrier.Handle.{Handle}
-use Rattle.stateful_durability.specs.Durability.{Coverage}
+use Rattle.stateful_actor.specs.OneBarrier.{Coverage}
 use Rattle.stateful_history.specs.Past.{Past, Came, Made, after}
 use Rattle.stateful_history.specs.Opening.{opening, opens}
 use Rattle.stateful_history.specs.Anchors.{applied, anchor_of}
@@ -22,7 +22,7 @@ use Rattle.stateful_history.specs.declared.event.Event.TheVariants.{Restart}
 use Rattle.stateful_history.specs.declared.mark.Mark.{Mark}
 use Rattle.stateful_history.specs.declared.mark.Mark.TheVariants.{Opened, Converged, Applied, BarrierBegun, BarrierDone, Acknowledged}
 use Rattle.stateful_history.proofs.Marks.{after-push}
-use Rattle.stateful_actor.specs.Workings.{Workings, setting}
+use Rattle.stateful_actor.specs.Workings.{Workings, setting, numbered}
 use Rattle.stateful_actor.specs.Moments.{Moment, moment}
 use Rattle.stateful_actor.specs.Numbers.{NumbersStand}
 use Rattle.stateful_actor.specs.Checkpoints.{Keeping}
@@ -99,7 +99,7 @@ module _ {B C I R U H : Type 0} (w : Workings B R H U) (stored store : ℕ → O
       durable = λ i l. rw done-durable (flushed-at i l).1;
     }
 
-    done-waiting : (k i : ℕ) → (live_flush w.kind.count k i q ≡ true) × (k ≡ done.active.number → ⊥) → IsWaiting None k i
+    done-waiting : (k i : ℕ) → (live_flush (numbered w.kind.count) k i q ≡ true) × (k ≡ done.active.number → ⊥) → IsWaiting None k i
     done-waiting k i live = live.1 (sym (subst (λ (o : Option Active). IsWaiting o k i) done.is (u.barriers.waiting k i live.0)).0)
 
     done-barriers : BarrierStands w.kind w.header Done m u.first u.origin new.durability new.barrier
@@ -107,7 +107,7 @@ module _ {B C I R U H : Type 0} (w : Workings B R H U) (stored store : ℕ → O
       durable_is = sym done-durable;
       above = rw done-durable (omega (arith, u.barriers.above, u.barriers.durable_is));
       begun = tt;
-      waiting = λ k i live. done-waiting k i (live-other k done.active.number (live_flush w.kind.count k i q) live);
+      waiting = λ k i live. done-waiting k i (live-other k done.active.number (live_flush (numbered w.kind.count) k i q) live);
     })
 
     IsUp-done : IsUp w stored base Done anchor new m next

@@ -7,7 +7,8 @@ use Rattle.stateful_types.specs.Names.{Header, Named}
 use Rattle.stateful_types.specs.Anchor.{anchor_by}
 use Rattle.stateful_types.specs.declared.anchor.Anchor.{Anchor}
 use Rattle.stateful_types.specs.declared.number.Height.{Height}
-use Rattle.stateful_db.specs.Databases.{Databases, Laws}
+use Rattle.stateful_db.specs.Databases.{Databases}
+use Rattle.stateful_db.specs.Laws.{Laws}
 use Rattle.stateful_history.specs.declared.mark.Mark.{Mark}
 use Rattle.stateful_db.specs.Barrier.{open_at, answered, IsGood}
 use Rattle.stateful_db.specs.declared.barrier.Handle.{Handle}
@@ -16,10 +17,10 @@ use Rattle.stateful_db.specs.declared.database.FlushToken.{FlushToken}
 use Rattle.stateful_db.specs.declared.barrier.Flushed.TheVariants.{Good}
 use Rattle.stateful_db.specs.declared.application.Hooked.{Hooked as HookedIs}
 use Rattle.stateful_db.specs.declared.application.Hooked.TheVariants as hooked
-use Rattle.stateful_durability.specs.Durability.{Coverage, receipts_up_to, receipts_above, with_duplicate, after_completion}
+use Rattle.stateful_actor.specs.OneBarrier.{Coverage, receipts_up_to, receipts_above, with_duplicate, after_completion}
 use Rattle.stateful_actor.specs.Workings.{Workings, Point}
 use Rattle.stateful_actor.specs.Moments.{Moment, moment}
-use Rattle.stateful_actor.specs.Barriers.{IsBounded, HasReceipt, Tokens, Recorded, Agrees}
+use Rattle.stateful_actor.specs.Barriers.{IsBounded, HasReceipt, Tokens, Recorded, Agrees, open_places}
 use Rattle.stateful_actor.specs.Stands.{Sound}
 use Rattle.stateful_actor.specs.Effects.{with_receipt, BeginsBarrier, CompletesBarrier, Acknowledges, Flushes, SettlesAll, Settles, HoldsReceipt}
 use Rattle.stateful_types.specs.declared.floor.Floor.{Floor}
@@ -34,6 +35,8 @@ use Rattle.stateful_actor.specs.Finalizing.{Finalizes, BeginsIfNone, Observes}
 use Rattle.stateful_actor.specs.declared.tables.Active.{Active}
 use Rattle.stateful_actor.specs.declared.tables.Core.{Core}
 use Rattle.stateful_actor.specs.declared.tables.Front.{Front}
+use Rattle.stateful_db.specs.Tokens.{without}
+use Rattle.stateful_actor.proofs.Idle.{idle_free, idle_none, without-own}
 use Rattle.stateful_actor.proofs.Lists.{Any-left, Any-right, Any-either, Any-both, Any-weaker, Any-filter, Any-here, Any-there, All-behind, none-of-all}
 
 -- a number is at most another, or above it
@@ -134,13 +137,13 @@ module _ {Ids S T B H : Type 0} (d : Databases Ids S T) (header : Header B) wher
 -- the tokens of a barrier that has begun over all databases
 module _ {B R U H : Type 0} (w : Workings B R H U) (laws : Laws w.kind) (old new : Moment w) (begins : BeginsBarrier w old new) where
   begun-here : (p : Point w) → w.kind.point old.members ≡ Some p → w.kind.point new.members ≡ Some p
-  begun-here p is = rw begins.members (laws.point_finalized old.members ∙ is)
+  begun-here p is = rw begins.members (laws.finalize.point_finalized old.members ∙ is)
 
-  begun-tokens : (p : Point w) → w.kind.point old.members ≡ Some p → Tokens w.kind new.members (Some old.core.durability.applied) (Some begins.active)
-  begun-tokens p is = (
+  begun-tokens : (p : Point w) → w.kind.point old.members ≡ Some p → w.kind.Idle old.members → Tokens w.kind new.members (Some old.core.durability.applied) (Some begins.active)
+  begun-tokens p is idle = (
     ap (λ (n : ℕ). Some n) (sym begins.height),
     begins.count,
-    λ i l. rw (begins.handles i l, begins.members) (sym (laws.token_finalized old.members p i l is)),
+    λ i l. rw (begins.handles i l, begins.members) (sym (laws.finalize.tokens_finalized old.members p i l is ∙ ap (λ (places : List ℕ). places ++ w.kind.place old.members i ∷ []) (laws.places.tokens_idle old.members i idle))),
   )
 
   begun-bounded : old.core.durability.durable < old.core.durability.applied → IsBounded old.core.durability → IsBounded (record old.core.durability { barrier = Some old.core.durability.applied })
@@ -159,15 +162,15 @@ module _ {B R U H : Type 0} (w : Workings B R H U) (laws : Laws w.kind) (old new
   begun-anchor = ap (λ (c : Core B R H U). c.anchor) begins.core
 
   -- a barrier has begun: with it the tokens of all databases are out
-  pub Sound-begun : old.core.durability.durable < old.core.durability.applied → Sound w.kind old.members w.header old.core → Sound w.kind new.members w.header new.core
-  Sound-begun l s anchor is =
+  pub Sound-begun : old.core.durability.durable < old.core.durability.applied → IsNone old.core.durability.barrier → Sound w.kind old.members w.header old.core → Sound w.kind new.members w.header new.core
+  Sound-begun l none s anchor is =
       let a : Agrees w.kind old.members w.header anchor old.core.durability old.core.barrier old.core.front = s anchor (sym begun-anchor ∙ is) in
       rw (begun-durability, begun-barrier, begun-front) (record {
         point = a.point;
         here = begun-here a.point a.here;
         applied = a.applied;
         in_order = begun-bounded l a.in_order;
-        tokens = begun-tokens a.point a.here;
+        tokens = begun-tokens a.point a.here (idle_free w.kind old.members old.core.durability.barrier old.core.barrier a.tokens none);
         recorded = begun-recorded a;
       })
     where
@@ -182,17 +185,17 @@ module _ {B R U H : Type 0} (w : Workings B R H U) (laws : Laws w.kind) (old new
 module _ {B R U H : Type 0} (w : Workings B R H U) (laws : Laws w.kind) (m : w.kind.Members) (old new : Core B R H U) (before now : List (Mark B)) where
   module _ (done : CompletesBarrier old new before now) where
     -- a handle with a good answer isn't open
-    good-closed : (hs : List Handle) (i : ℕ) → All IsGood hs → option_map (λ (token : FlushToken). token.place) (open_at hs i) ≡ None
+    good-closed : (hs : List Handle) (i : ℕ) → All IsGood hs → open_places (open_at hs i) ≡ []
     good-closed [] i all = refl
     good-closed (h ∷ hs) zero all = let g : IsGood h = All-head IsGood h hs all in closed h.answer g
       where
-        closed : (a : Option Flushed) → a ≡ Some Good → option_map (λ (token : FlushToken). token.place) (elim a [ None ↦ Some h.token | Some answer ↦ None ]) ≡ None
+        closed : (a : Option Flushed) → a ≡ Some Good → open_places (elim a as (λ o. Option FlushToken) [ None ↦ Some h.token | Some answer ↦ None ]) ≡ []
         closed None e = cc
         closed (Some answer) e = refl
     good-closed (h ∷ hs) (suc i) all = good-closed hs i (All-tail IsGood h hs all)
 
     done-idle : (height : Option ℕ) (p : Point w) → w.kind.point m ≡ Some p → Tokens w.kind m height (Some done.active) → w.kind.Idle m
-    done-idle height p here tokens = laws.idle_from m p here (λ i l. sym (tokens.2 i l) ∙ good-closed done.active.barrier i done.good)
+    done-idle height p here tokens = laws.places.idle_from m p here (λ i l. sym (tokens.2 i l) ∙ good-closed done.active.barrier i done.good)
 
     done-durability : new.durability ≡ after_completion old.durability (Some done.active.height)
     done-durability = ap (λ (c : Core B R H U). c.durability) done.core
@@ -261,7 +264,7 @@ module _ {B R U H : Type 0} (w : Workings B R H U) (laws : Laws w.kind) (old new
   completes-front completed done (inr same) = ap (λ (c : Core B R H U). c.front) same.0
 
   Sound-begins : (told : Core B R H U) (released : List (Mark B)) → ((told.durability.durable < told.durability.applied) × IsNone told.durability.barrier × BeginsBarrier w (moment w told old.members old.next released) new) ⊎ (new ≡ moment w told old.members old.next released) → Sound w.kind old.members w.header told → Sound w.kind new.members w.header new.core
-  Sound-begins told released (inl b) s = Sound-begun w laws (moment w told old.members old.next released) new b.2 b.0 s
+  Sound-begins told released (inl b) s = Sound-begun w laws (moment w told old.members old.next released) new b.2 b.0 b.1 s
   Sound-begins told released (inr same) s = rw same s
 
   Sound-settles_all : old.core.front ≡ None → SettlesAll w old new → Sound w.kind old.members w.header old.core → Sound w.kind new.members w.header new.core
@@ -282,7 +285,7 @@ module _ {B R U H : Type 0} (w : Workings B R H U) (laws : Laws w.kind) (old new
     flushed-length (h ∷ hs) zero = refl
     flushed-length (h ∷ hs) (suc n) = ap (λ (k : ℕ). suc k) (flushed-length hs n)
 
-    flushed-at : (hs : List Handle) (n : ℕ) → option_map (λ (token : FlushToken). token.place) (open_at (answered hs n Good) n) ≡ None
+    flushed-at : (hs : List Handle) (n : ℕ) → open_places (open_at (answered hs n Good) n) ≡ []
     flushed-at [] n = refl
     flushed-at (h ∷ hs) zero = refl
     flushed-at (h ∷ hs) (suc n) = flushed-at hs n
@@ -307,9 +310,16 @@ module _ {B R U H : Type 0} (w : Workings B R H U) (laws : Laws w.kind) (old new
       λ i l. rw flushes.members (at i l (cases_eq i index)),
     )
       where
-        at : (i : ℕ) → i < w.kind.count → (i ≡ index) ⊎ (i ≡ index → ⊥) → option_map (λ (token : FlushToken). token.place) (open_at (answered flushes.active.barrier index Good) i) ≡ w.kind.token (w.kind.flushed old.members index flushes.token.place) i
-        at i l (inl e) = rw e (flushed-at flushes.active.barrier index ∙ sym (laws.token_flushed old.members index flushes.token.place (subst (λ (k : ℕ). k < w.kind.count) e l)))
-        at i l (inr ne) = ap (λ (o : Option FlushToken). option_map (λ (token : FlushToken). token.place) o) (flushed-other flushes.active.barrier index i ne) ∙ tokens.2 i l ∙ sym (laws.token_others old.members index flushes.token.place i ne)
+        within : index < w.kind.count
+        within = omega (arith, flushed-within flushes.active.barrier index flushes.token flushes.unanswered, tokens.1)
+
+        -- its token was the one that is out
+        out : w.kind.tokens old.members index ≡ flushes.token.place ∷ []
+        out = sym (tokens.2 index within) ∙ ap open_places flushes.unanswered
+
+        at : (i : ℕ) → i < w.kind.count → (i ≡ index) ⊎ (i ≡ index → ⊥) → open_places (open_at (answered flushes.active.barrier index Good) i) ≡ w.kind.tokens (w.kind.flushed old.members index flushes.token.place) i
+        at i l (inl e) = rw e (flushed-at flushes.active.barrier index ∙ sym (laws.flush.tokens_flushed old.members index flushes.token.place within ∙ ap (λ (places : List ℕ). without flushes.token.place places) out ∙ without-own flushes.token.place))
+        at i l (inr ne) = ap open_places (flushed-other flushes.active.barrier index i ne) ∙ tokens.2 i l ∙ sym (laws.flush.tokens_others old.members index flushes.token.place i within l ne)
 
     flushed-durability : new.core.durability ≡ old.core.durability
     flushed-durability = ap (λ (c : Core B R H U). c.durability) flushes.core
@@ -329,7 +339,7 @@ module _ {B R U H : Type 0} (w : Workings B R H U) (laws : Laws w.kind) (old new
         let tokens : Tokens w.kind old.members old.core.durability.barrier (Some flushes.active) = subst (λ (o : Option Active). Tokens w.kind old.members old.core.durability.barrier o) flushes.is a.tokens in
         Agrees-same {B = B} {H = H} w.kind w.header new.members anchor _ _ _ _ _ _ flushed-durability flushed-barrier flushed-front (record {
           point = a.point;
-          here = subst (λ (m : w.kind.Members). w.kind.point m ≡ Some a.point) (sym flushes.members) (laws.point_flushed old.members index flushes.token.place ∙ a.here);
+          here = subst (λ (m : w.kind.Members). w.kind.point m ≡ Some a.point) (sym flushes.members) (laws.flush.point_flushed old.members index flushes.token.place ∙ a.here);
           applied = a.applied;
           in_order = a.in_order;
           tokens = flushed-tokens old.core.durability.barrier tokens;
@@ -356,7 +366,7 @@ module _ {B R U H : Type 0} (w : Workings B R H U) (laws : Laws w.kind) (old new
 
     -- the same tokens are out
     moved-tokens : (height : Option ℕ) (active : Option Active) (p : Point w) → w.kind.point f.moved.members ≡ Some p → Tokens w.kind old.members height active → Tokens w.kind f.moved.members height active
-    moved-tokens height None p here tokens = (tokens.0, laws.idle_from f.moved.members p here (λ i l. f.moves.tokens i ∙ laws.token_idle old.members i tokens.1))
+    moved-tokens height None p here tokens = (tokens.0, laws.places.idle_from f.moved.members p here (λ i l. f.moves.tokens i ∙ laws.places.tokens_idle old.members i tokens.1))
     moved-tokens height (Some active) p here tokens = (tokens.0, tokens.1, λ i l. tokens.2 i l ∙ sym (f.moves.tokens i))
 
     -- the block is applied, and its receipt is to come
@@ -395,7 +405,7 @@ module _ {B R U H : Type 0} (w : Workings B R H U) (laws : Laws w.kind) (old new
           here = begun-here w laws f.moved f.begun x.1 a.point a.here;
           applied = a.applied;
           in_order = begun-bounded w laws f.moved f.begun x.1 l a.in_order;
-          tokens = begun-tokens w laws f.moved f.begun x.1 a.point a.here;
+          tokens = begun-tokens w laws f.moved f.begun x.1 a.point a.here (idle_none w.kind f.moved.members f.moved.core.durability.barrier f.moved.core.barrier x.0 a.tokens);
           below = a.below;
           recorded = a.recorded;
         })

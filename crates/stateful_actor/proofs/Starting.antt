@@ -6,7 +6,7 @@ use Rattle.stateful_types.specs.Names.{Named}
 use Rattle.stateful_types.specs.declared.digest.Digest.{Digest}
 use Rattle.stateful_types.specs.declared.anchor.Anchor.{Anchor}
 use Rattle.stateful_types.specs.declared.outcome.Finality.TheVariants.{Candidate}
-use Rattle.stateful_db.specs.Databases.{Laws}
+use Rattle.stateful_db.specs.Laws.{Laws}
 use Rattle.stateful_history.specs.Setting.{parent_of, height_of}
 use Rattle.stateful_history.specs.Past.{Past, Item, Made}
 use Rattle.stateful_history.specs.Asked.{verified, started}
@@ -87,7 +87,7 @@ module _ {B C I R U H : Type 0} (w : Workings B R H U) (laws : Laws w.kind) (sto
         below = [];
         chain = here same refl;
         own = old;
-        drawn = λ t. laws.issued_other new old (w.kind.begun (points anchor).1) t _ (subst (λ (x : Point w). w.kind.issued new ((old, w.kind.begun (points anchor).1) ∷ x ∷ [])) top both.1);
+        drawn = λ t. laws.ids.issued_other new old (w.kind.begun (points anchor).1) t _ (subst (λ (x : Point w). w.kind.issued new ((old, w.kind.begun (points anchor).1) ∷ x ∷ [])) top both.1);
         runs = subst (λ (x : Point w). w.runs run Candidate b.block old (x ∷ [])) top both.0;
       }
   RunsOn-over caches known at drawn run b parent is (batch e ne contains found has) =
@@ -101,7 +101,7 @@ module _ {B C I R U H : Type 0} (w : Workings B R H U) (laws : Laws w.kind) (sto
         below = r.above ++ points anchor ∷ [];
         chain = subst (λ (d : Digest). Chain w stored p points anchor d (points d ∷ r.above ++ points anchor ∷ [])) same r.cut;
         own = old;
-        drawn = λ t. laws.issued_other new old (w.kind.begun (points e.digest).1) t _ (subst (λ (d : Digest). w.kind.issued new ((old, w.kind.begun (points e.digest).1) ∷ points d ∷ r.above ++ points anchor ∷ [])) same both.1);
+        drawn = λ t. laws.ids.issued_other new old (w.kind.begun (points e.digest).1) t _ (subst (λ (d : Digest). w.kind.issued new ((old, w.kind.begun (points e.digest).1) ∷ points d ∷ r.above ++ points anchor ∷ [])) same both.1);
         runs = subst (λ (d : Digest). w.runs run Candidate b.block old (points d ∷ r.above ++ points anchor ∷ [])) same both.0;
       }
 

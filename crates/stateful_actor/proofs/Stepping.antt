@@ -107,7 +107,7 @@ still-none (Some x) before none = cc
 
 module _ {B C I R U H : Type 0} (w : Workings B R H U) (stored : ℕ → Option (Named B)) (base : w.States) (p : Past B C I) (store : ℕ → Option (Named B)) (before mid : Core B R H U) (registered register : Register) (m n : w.kind.Members) (next other : w.Ids) (still : Option Anchor)
     (is : still ≡ (if is_none mid.anchor then before.anchor else mid.anchor))
-    (err : before.anchor ≡ None → mid.anchor ≡ None → (mid ≡ before) × (register ≡ registered) × w.kind.Held n) where
+    (err : before.anchor ≡ None → mid.anchor ≡ None → (mid ≡ before) × (register ≡ registered) × w.kind.NoneAway n) where
   was-down : still ≡ None → (mid.anchor ≡ None) × (before.anchor ≡ None)
   was-down none = still-none mid.anchor before.anchor (sym is ∙ none)
 

@@ -5,7 +5,7 @@ use Rattle.stateful_types.specs.Names.{Named}
 use Rattle.stateful_types.specs.declared.anchor.Anchor.{Anchor}
 use Rattle.stateful_types.specs.declared.outcome.Moved.{Moved}
 use Rattle.stateful_types.specs.declared.outcome.Moved.TheVariants.{Pending, Done}
-use Rattle.stateful_db.specs.Databases.{Laws}
+use Rattle.stateful_db.specs.Laws.{Laws}
 use Rattle.stateful_history.specs.Past.{Past, Came, Made, after}
 use Rattle.stateful_history.specs.Asked.{verified, kept_by}
 use Rattle.stateful_history.specs.Met.{TrueNames}

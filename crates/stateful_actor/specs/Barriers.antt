@@ -1,12 +1,14 @@
 -- The active barrier stands for a past and agrees with the databases.
-use Rattle.std.specs.Prelude.{◌≡◌, ◌≤◌, ◌<◌, ◌+◌, ◌-◌, ℕ, true, Option, Some, None, All, Any, length, slice_get, option_map, IfSome}
+use Rattle.std.specs.Prelude.{◌≡◌, ◌≤◌, ◌<◌, ◌+◌, ◌-◌, ℕ, true, Option, Some, None, List, [], ◌∷◌, All, Any, length, slice_get, option_map, IfSome}
 use Rattle.stateful_types.specs.Names.{Header}
 use Rattle.stateful_types.specs.declared.anchor.Anchor.{Anchor}
 use Rattle.stateful_db.specs.Databases.{Databases}
 use Rattle.stateful_db.specs.Barrier.{open_at}
 use Rattle.stateful_db.specs.declared.barrier.Handle.{Handle}
+use Rattle.stateful_db.specs.declared.database.FlushToken.{FlushToken}
 use Rattle.stateful_db.specs.declared.barrier.Flushed.TheVariants.{Good}
-use Rattle.stateful_durability.specs.Durability.{Coverage}
+use Rattle.stateful_actor.specs.OneBarrier.{Coverage}
+use Rattle.stateful_actor.specs.Workings.{numbered}
 use Rattle.stateful_history.specs.Past.{Past}
 use Rattle.stateful_history.specs.Live.{live_flush}
 use Rattle.stateful_history.specs.Durable.{durable, BeganOver, WasFlushed}
@@ -23,13 +25,18 @@ pub record IsBounded (c : Coverage) : Type 0 where
 abbrev pub HasReceipt : Coverage → ℕ → Type 0
 HasReceipt c n = Any (λ receipt. receipt.0 ≡ n) c.held
 
+-- the place of an open token
+abbrev pub open_places : Option FlushToken → List ℕ
+open_places None = []
+open_places (Some token) = token.place ∷ []
+
 -- Which tokens are out at the databases: none without a barrier, else those of the barrier that have no answer.
 abbrev pub Tokens : {Ids S T : Type 0} (d : Databases Ids S T) → d.Members → Option ℕ → Option Active → Type 0
 Tokens d m height None = (height ≡ None) × d.Idle m
 Tokens d m height (Some active) =
     (height ≡ Some active.height.0)
     × (length active.barrier ≡ d.count)
-    × ((i : ℕ) → i < d.count → option_map (λ token. token.place) (open_at active.barrier i) ≡ d.token m i)
+    × ((i : ℕ) → i < d.count → open_places (open_at active.barrier i) ≡ d.tokens m i)
 
 -- each applied height that isn't durable has a receipt, but for that of the finalization in front
 abbrev pub Recorded : {B H : Type 0} → Header B → Coverage → Option (Front B H) → Type 0
@@ -70,4 +77,4 @@ pub record BarrierStands {B C I Ids S T : Type 0} (d : Databases Ids S T) (heade
   pub durable_is : c.durable ≡ durable p
   pub above : first.height.0 ≤ durable p
   pub begun : ActiveStands d header p m first origin active
-  pub waiting : (k i : ℕ) → live_flush d.count k i p ≡ true → IsWaiting active k i
+  pub waiting : (k i : ℕ) → live_flush (numbered d.count) k i p ≡ true → IsWaiting active k i

@@ -1,5 +1,5 @@
 -- Why a task isn't done, and what a fault leaves of the databases.
-use Rattle.std.specs.Prelude.{◌≡◌, ◌<◌, ◌⊎◌, ◌∷◌, ℕ, Option, Some, None, List, slice_get}
+use Rattle.std.specs.Prelude.{◌≡◌, ◌<◌, ◌⊎◌, ◌∷◌, ◌^◌, ℕ, Option, Some, None, List, slice_get}
 use Rattle.stateful_types.specs.Names.{Named}
 use Rattle.stateful_types.specs.Causes.{Rose}
 use Rattle.stateful_types.specs.Anchor.{anchor_by}
@@ -107,9 +107,9 @@ module _ {B R U H : Type 0} (w : Workings B R H U) where
       ⊎ ((batch : U) × IsRootOf root cache batch × ((q : Point w) (c : List (Point w)) → w.shows batch (q ∷ p ∷ c) → (i : ℕ) → w.kind.HasState new i p.1 ⊎ w.kind.HasState new i q.1))
 
   module _ (before now : ℕ → ℕ) (new : w.kind.Members) where
-    -- the database of this number failed at this call, has counted it, and is lost with its medium
+    -- of fewer than 2^64 databases: the one of this number failed at this call, has counted it, and is lost with its medium
     abbrev pub HasCounted : ℕ → DbCall → DbCall → Type 0
-    HasCounted i given call = (given ≡ call) × (i < w.kind.count) × Rose (before i) (now i) × w.kind.Lost new i
+    HasCounted i given call = w.kind.count < 2 ^ 64 → (given ≡ call) × (i < w.kind.count) × Rose (before i) (now i) × w.kind.Lost new i
 
     -- a database failed at the apply, or isn't here
     abbrev pub FaultsApply : w.kind.Members → Fault → Type 0
@@ -154,7 +154,7 @@ module _ {B R U H : Type 0} (w : Workings B R H U) where
       pub block : Named B
       pub stored : store (start_height floor) ≡ Some block
       pub within : i < w.kind.count
-      pub not_opened : w.kind.NotOpened crashed (Some (w.meaning.targets block.block)) i (Rose (before i) (now i)) why new
+      pub not_opened : w.kind.count < 2 ^ 64 → w.kind.NotOpened crashed (Some (w.meaning.targets block.block)) i (before i) (now i) why new
 
     -- the store has no block at the height that is to be opened, and each database is closed as the crash left it; or a
     -- database doesn't open

@@ -11,7 +11,7 @@ use Rattle.stateful_history.specs.declared.mark.Mark.{Mark}
 use Rattle.stateful_history.specs.declared.entry.Entry.{Entry}
 use Rattle.stateful_register.specs.Register.{RegisterStands}
 use Rattle.stateful_register.specs.declared.register.Register.{Register}
-use Rattle.stateful_actor.specs.Workings.{Workings, setting}
+use Rattle.stateful_actor.specs.Workings.{Workings, setting, numbered}
 use Rattle.stateful_actor.specs.Moments.{Moment, moment}
 use Rattle.stateful_actor.specs.Stands.{Stands}
 use Rattle.stateful_actor.specs.Doing.{IsStep}
@@ -34,7 +34,7 @@ AddsEntry {B = B} w store event before core m next old new =
 abbrev pub Steps : {B C I R U H : Type 0} (w : Workings B R H U) → (ℕ → Option (Named B)) → Past B C I → Moment w → List (Entry B C I) → Moment w → Type 0
 Steps w store p old [] last = last ≡ old
 Steps {H = H} w store p old (entry ∷ entries) last =
-    (may_come w.kind.count p entry.event ≡ true)
+    (may_come (numbered w.kind.count) p entry.event ≡ true)
     × (new : Moment w)
     × (new.marks ≡ entry.marks)
     × IsStep w store entry.event old new
@@ -74,6 +74,6 @@ module _ {B C I R U H : Type 0} (w : Workings B R H U) (stored : ℕ → Option 
     pub steps : Steps w stored [] first history old
     pub before : Tally
     pub later : HasNotFallen start before
-    pub registered : RegisterStands w.kind.count (after_all [] history) register
+    pub registered : RegisterStands (numbered w.kind.count) (after_all [] history) register
     pub cause : IsCause w run_count hook_count stored event false register old core m before now e
     pub held : TrueNames (setting w stored) (Came event ∷ after_all [] history) → Plays w stored w.kind.initial [] history (λ base. IsBehind base (after_all [] history) event e register old m)

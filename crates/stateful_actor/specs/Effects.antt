@@ -4,7 +4,7 @@ use Rattle.stateful_types.specs.declared.digest.Digest.{Digest}
 use Rattle.stateful_db.specs.Barrier.{open_at, answered, IsGood}
 use Rattle.stateful_db.specs.declared.barrier.Flushed.TheVariants.{Good}
 use Rattle.stateful_db.specs.declared.database.FlushToken.{FlushToken}
-use Rattle.stateful_durability.specs.Durability.{Coverage, after_completion, with_duplicate}
+use Rattle.stateful_actor.specs.OneBarrier.{Coverage, after_completion, with_duplicate}
 use Rattle.stateful_history.specs.declared.mark.Mark.{Mark}
 use Rattle.stateful_history.specs.declared.mark.Mark.TheVariants.{Asked, Verdict, BarrierBegun, BarrierDone, Acknowledged}
 use Rattle.stateful_actor.specs.Workings.{Workings}

@@ -55,7 +55,7 @@ module _ {B R U H : Type 0} (w : Workings B R H U) (t : ℕ) (b : Named B) where
     pub cut : IsCutTo (anchor_by w.header b) old.core.cache new.core.cache
     pub members : (p q : Point w) (c : List (Point w)) → w.kind.point old.members ≡ Some p → w.shows batch (q ∷ p ∷ c) → new.members ≡ w.kind.applied old.members q
     pub here : w.kind.point new.members ≡ None → ⊥
-    pub tokens : (i : ℕ) → w.kind.token new.members i ≡ w.kind.token old.members i
+    pub tokens : (i : ℕ) → w.kind.tokens new.members i ≡ w.kind.tokens old.members i
     pub next : new.next ≡ old.next
     pub core : new.core ≡ record old.core { anchor = Some (anchor_by w.header b); cache = new.core.cache; durability = record old.core.durability { applied = w.header.height b.block } }
     pub marks : new.marks ≡ (old.marks ++ Began t b ∷ []) ++ Applied b ∷ []

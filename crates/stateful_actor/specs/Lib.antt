@@ -1,3 +1,4 @@
+pub mod OneBarrier
 pub mod Workings
 pub mod Moments
 pub mod Chains

@@ -6,7 +6,7 @@ use Rattle.stateful_history.specs.Live.{may_come}
 use Rattle.stateful_history.specs.declared.event.Event.{Event}
 use Rattle.stateful_register.specs.Register.{RegisterStands}
 use Rattle.stateful_register.specs.declared.register.Register.{Register}
-use Rattle.stateful_actor.specs.Workings.{Workings}
+use Rattle.stateful_actor.specs.Workings.{Workings, numbered}
 use Rattle.stateful_actor.specs.Moments.{Moment}
 use Rattle.stateful_actor.specs.Tasks.{IsTaskAt, RefusesAt}
 use Rattle.stateful_actor.specs.Errors.{error_of}
@@ -26,7 +26,7 @@ module _ {B C I R U H : Type 0} (w : Workings B R H U) (run_count : R → ℕ) (
     pub data IsCause (e : StepError) : Type 0 where
       memory : e ≡ OutOfMemory → IsCause e
       failed_before : e ≡ Failed → failed ≡ true → is_restart event ≡ false → IsCause e
-      unlawful : e ≡ BadEvent → ((p : Past B C I) → RegisterStands w.kind.count p register → may_come w.kind.count p event ≡ false) → IsCause e
+      unlawful : e ≡ BadEvent → ((p : Past B C I) → RegisterStands (numbered w.kind.count) p register → may_come (numbered w.kind.count) p event ≡ false) → IsCause e
       failed_up : e ≡ NotYet → failed ≡ true → old.core.anchor ≢ None → is_restart event ≡ true → IsCause e
       refused : is_refusal e ≡ true → RefusesAt w.header old.core store old.core.anchor event e → IsCause e
       fault : (f : Fault) → e ≡ error_of f → (done : Task B) → IsTaskAt w.header old.core store old.core.anchor event done → FaultsIn w run_count hook_count store old core members before now done f → IsCause e

@@ -11,7 +11,7 @@ use Rattle.stateful_history.specs.Canonical.{pruned_below}
 use Rattle.stateful_history.specs.Live.{live_job}
 use Rattle.stateful_register.specs.Register.{RegisterStands}
 use Rattle.stateful_register.specs.declared.register.Register.{Register}
-use Rattle.stateful_actor.specs.Workings.{Workings, setting, Point}
+use Rattle.stateful_actor.specs.Workings.{Workings, setting, Point, numbered}
 use Rattle.stateful_actor.specs.Numbers.{NumbersStand}
 use Rattle.stateful_actor.specs.Caching.{Caches}
 use Rattle.stateful_actor.specs.Running.{IsRun, IsLive, IsInTable}
@@ -65,7 +65,7 @@ module _ {B C I R U H : Type 0} (w : Workings B R H U) (stored : ℕ → Option 
     -- and its lists of databases that are live for progress, each at its place.
     abbrev pub Stands : Bool → Core B R H U → Register → w.kind.Members → w.Ids → (ℕ → Option (Named B)) → Type 0
     Stands failed core register m next store =
-        ((failed ≡ false) ⊎ (core.anchor ≡ None)) → RegisterStands w.kind.count p register × Works core m next store
+        ((failed ≡ false) ⊎ (core.anchor ≡ None)) → RegisterStands (numbered w.kind.count) p register × Works core m next store
 
 -- the marks that were made of an event keep the rules, and the machine works on behind them
 pub record HasServed {B C I R U H : Type 0} (w : Workings B R H U) (stored : ℕ → Option (Named B)) (base : w.States) (q : Past B C I) (now : Moment w) (store : ℕ → Option (Named B)) : Type 0 where

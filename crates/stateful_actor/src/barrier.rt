@@ -27,10 +27,10 @@ pub(crate) fn begin_barrier<A: Application>(
     requires free { IsNone core.old.durability.barrier }
     requires behind { core.old.durability.durable < core.old.durability.applied }
     requires idle { A.Databases.kind.Idle (A.Databases.members databases.old) }
-    ensures ok { OnOk result (let w = workings A.Block.header A.meaning A.Databases.kind A.runs A.hooks A.Databases.shows in BeginsBarrier w (moment w core.old (A.Databases.members databases.old) (A.Databases.next databases.old) marks.old.items) (moment w core.new (A.Databases.members databases.new) (A.Databases.next databases.new) marks.new.items)) }
+    ensures ok { OnOk result (let w = workings A.Block.header A.works A.Databases.kind A.Databases.shows in BeginsBarrier w (moment w core.old (A.Databases.members databases.old) (A.Databases.next databases.old) marks.old.items) (moment w core.new (A.Databases.members databases.new) (A.Databases.next databases.new) marks.new.items)) }
     ensures anchor { core.new.anchor ≡ core.old.anchor }
-    ensures fault { IfErr result (FaultsBarrier (workings A.Block.header A.meaning A.Databases.kind A.runs A.hooks A.Databases.shows) (A.Databases.counted databases.old) (A.Databases.counted databases.new) (A.Databases.members databases.new) core.old.next_barrier) }
-    ensures states { OnErr result (KeepsStates (workings A.Block.header A.meaning A.Databases.kind A.runs A.hooks A.Databases.shows) (A.Databases.members databases.old) (A.Databases.members databases.new)) }
+    ensures fault { IfErr result (FaultsBarrier (workings A.Block.header A.works A.Databases.kind A.Databases.shows) (A.Databases.counted databases.old) (A.Databases.counted databases.new) (A.Databases.members databases.new) core.old.next_barrier) }
+    ensures states { OnErr result (KeepsStates (workings A.Block.header A.works A.Databases.kind A.Databases.shows) (A.Databases.members databases.old) (A.Databases.members databases.new)) }
     ensures later { (n : ℕ) → A.Databases.counted databases.old n ≤ A.Databases.counted databases.new n }
 {
     let number = core.next_barrier;
@@ -125,11 +125,11 @@ pub(crate) fn settle<A: Application>(
     requires up { core.old.anchor ≢ None }
     requires idle { core.old.front ≡ None }
     requires sound { Sound A.Databases.kind (A.Databases.members databases.old) A.Block.header core.old }
-    ensures ok { OnOk result (let w = workings A.Block.header A.meaning A.Databases.kind A.runs A.hooks A.Databases.shows in SettlesAll w (moment w core.old (A.Databases.members databases.old) (A.Databases.next databases.old) marks.old.items) (moment w core.new (A.Databases.members databases.new) (A.Databases.next databases.new) marks.new.items)) }
+    ensures ok { OnOk result (let w = workings A.Block.header A.works A.Databases.kind A.Databases.shows in SettlesAll w (moment w core.old (A.Databases.members databases.old) (A.Databases.next databases.old) marks.old.items) (moment w core.new (A.Databases.members databases.new) (A.Databases.next databases.new) marks.new.items)) }
     ensures anchor { core.new.anchor ≡ core.old.anchor }
-    ensures fault { IfErr result (FaultsBarrier (workings A.Block.header A.meaning A.Databases.kind A.runs A.hooks A.Databases.shows) (A.Databases.counted databases.old) (A.Databases.counted databases.new) (A.Databases.members databases.new) core.old.next_barrier) }
+    ensures fault { IfErr result (FaultsBarrier (workings A.Block.header A.works A.Databases.kind A.Databases.shows) (A.Databases.counted databases.old) (A.Databases.counted databases.new) (A.Databases.members databases.new) core.old.next_barrier) }
     ensures needed { IfErr result (λ f. (f ≡ Fault.OutOfMemory) ⊎ NeedsBarrier core.old) }
-    ensures states { OnErr result (KeepsStates (workings A.Block.header A.meaning A.Databases.kind A.runs A.hooks A.Databases.shows) (A.Databases.members databases.old) (A.Databases.members databases.new)) }
+    ensures states { OnErr result (KeepsStates (workings A.Block.header A.works A.Databases.kind A.Databases.shows) (A.Databases.members databases.old) (A.Databases.members databases.new)) }
     ensures later { (n : ℕ) → A.Databases.counted databases.old n ≤ A.Databases.counted databases.new n }
 {
     complete::<A>(core, marks)?;
@@ -178,9 +178,9 @@ pub(crate) fn flush<A: Application>(
 ) -> Result<(), Fault>
     requires up { core.old.anchor ≢ None }
     requires sound { Sound A.Databases.kind (A.Databases.members databases.old) A.Block.header core.old }
-    ensures ok { OnOk result (let w = workings A.Block.header A.meaning A.Databases.kind A.runs A.hooks A.Databases.shows in Flushes w (moment w core.old (A.Databases.members databases.old) (A.Databases.next databases.old) marks.now.items) (moment w core.new (A.Databases.members databases.new) (A.Databases.next databases.new) marks.now.items) number index) }
-    ensures fault { IfErr result (FaultsFlush (workings A.Block.header A.meaning A.Databases.kind A.runs A.hooks A.Databases.shows) (A.Databases.counted databases.old) (A.Databases.counted databases.new) (A.Databases.members databases.new) core.old.barrier number index) }
-    ensures states { OnErr result (KeepsStates (workings A.Block.header A.meaning A.Databases.kind A.runs A.hooks A.Databases.shows) (A.Databases.members databases.old) (A.Databases.members databases.new)) }
+    ensures ok { OnOk result (let w = workings A.Block.header A.works A.Databases.kind A.Databases.shows in Flushes w (moment w core.old (A.Databases.members databases.old) (A.Databases.next databases.old) marks.now.items) (moment w core.new (A.Databases.members databases.new) (A.Databases.next databases.new) marks.now.items) number index) }
+    ensures fault { IfErr result (FaultsFlush (workings A.Block.header A.works A.Databases.kind A.Databases.shows) (A.Databases.counted databases.old) (A.Databases.counted databases.new) (A.Databases.members databases.new) core.old.barrier number index) }
+    ensures states { OnErr result (KeepsStates (workings A.Block.header A.works A.Databases.kind A.Databases.shows) (A.Databases.members databases.old) (A.Databases.members databases.new)) }
     ensures later { (n : ℕ) → A.Databases.counted databases.old n ≤ A.Databases.counted databases.new n }
 {
     let Some(token) = open_token(&core.barrier, number, index) else {

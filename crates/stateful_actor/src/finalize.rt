@@ -106,10 +106,10 @@ fn apply<A: Application>(
     requires { core.old.durability.applied < A.Block.header.height block.now.block }
     ensures members { OnOk result ((p q : A.Databases.Ids × A.Databases.States) (c : List (A.Databases.Ids × A.Databases.States)) → A.Databases.kind.point (A.Databases.members databases.old) ≡ Some p → A.Databases.shows batch (q ∷ p ∷ c) → A.Databases.members databases.new ≡ A.Databases.kind.applied (A.Databases.members databases.old) q) }
     ensures here { OnOk result (A.Databases.kind.point (A.Databases.members databases.new) ≡ None → ⊥) }
-    ensures tokens { OnOk result ((i : ℕ) → A.Databases.kind.token (A.Databases.members databases.new) i ≡ A.Databases.kind.token (A.Databases.members databases.old) i) }
+    ensures tokens { OnOk result ((i : ℕ) → A.Databases.kind.tokens (A.Databases.members databases.new) i ≡ A.Databases.kind.tokens (A.Databases.members databases.old) i) }
     ensures next { A.Databases.next databases.new ≡ A.Databases.next databases.old }
     ensures core { OnOk result (core.new ≡ record core.old { anchor = Some (anchor_by A.Block.header block.now); durability = record core.old.durability { applied = A.Block.header.height block.now.block } }) }
-    ensures fault { IfErr result (FaultsApply (workings A.Block.header A.meaning A.Databases.kind A.runs A.hooks A.Databases.shows) (A.Databases.counted databases.old) (A.Databases.counted databases.new) (A.Databases.members databases.new) (A.Databases.members databases.old)) }
+    ensures fault { IfErr result (FaultsApply (workings A.Block.header A.works A.Databases.kind A.Databases.shows) (A.Databases.counted databases.old) (A.Databases.counted databases.new) (A.Databases.members databases.new) (A.Databases.members databases.old)) }
     ensures states { (p q : A.Databases.Ids × A.Databases.States) (c : List (A.Databases.Ids × A.Databases.States)) → A.Databases.kind.point (A.Databases.members databases.old) ≡ Some p → A.Databases.shows batch (q ∷ p ∷ c) → (i : ℕ) → A.Databases.kind.HasState (A.Databases.members databases.new) i p.1 ⊎ A.Databases.kind.HasState (A.Databases.members databases.new) i q.1 }
     ensures later { (n : ℕ) → A.Databases.counted databases.old n ≤ A.Databases.counted databases.new n }
 {
@@ -127,14 +127,18 @@ fn advance<A: Application>(
     core: &mut CoreOf<A>,
     databases: &mut A::Databases,
     ticket: u64,
+    context: A::Context,
     block: &Digested<A::Block>,
     marks: &mut Vec<Mark<A::Block>>,
 ) -> Result<A::Captured, Fault>
     requires cached { IsIn core.old.cache block.now.digest }
     requires above { core.old.durability.applied < A.Block.header.height block.now.block }
-    ensures ok { OnOk result (let w = workings A.Block.header A.meaning A.Databases.kind A.runs A.hooks A.Databases.shows in Moves w ticket block.now (moment w core.old (A.Databases.members databases.old) (A.Databases.next databases.old) marks.old.items) (moment w core.new (A.Databases.members databases.new) (A.Databases.next databases.new) marks.new.items)) }
-    ensures fault { IfErr result (FaultsAdvance (workings A.Block.header A.meaning A.Databases.kind A.runs A.hooks A.Databases.shows) (A.Databases.counted databases.old) (A.Databases.counted databases.new) (A.Databases.members databases.new) (Rose (A.count application.old) (A.count application.new)) (A.Databases.members databases.old)) }
-    ensures states { OnErr result (LeavesStates (workings A.Block.header A.meaning A.Databases.kind A.runs A.hooks A.Databases.shows) (anchor_by A.Block.header block.now) core.old.cache (A.Databases.members databases.old) (A.Databases.members databases.new)) }
+    ensures captured { IfOk result (λ captured. (p : A.Databases.Ids × A.Databases.States)
+        → A.Databases.kind.point (A.Databases.members databases.old) ≡ Some p
+        → A.works.captures captured context block.now.block p.1) }
+    ensures ok { OnOk result (let w = workings A.Block.header A.works A.Databases.kind A.Databases.shows in Moves w ticket block.now (moment w core.old (A.Databases.members databases.old) (A.Databases.next databases.old) marks.old.items) (moment w core.new (A.Databases.members databases.new) (A.Databases.next databases.new) marks.new.items)) }
+    ensures fault { IfErr result (FaultsAdvance (workings A.Block.header A.works A.Databases.kind A.Databases.shows) (A.Databases.counted databases.old) (A.Databases.counted databases.new) (A.Databases.members databases.new) (Rose (A.count application.old) (A.count application.new)) (A.Databases.members databases.old)) }
+    ensures states { OnErr result (LeavesStates (workings A.Block.header A.works A.Databases.kind A.Databases.shows) (anchor_by A.Block.header block.now) core.old.cache (A.Databases.members databases.old) (A.Databases.members databases.new)) }
     ensures later { (n : ℕ) → A.Databases.counted databases.old n ≤ A.Databases.counted databases.new n }
     ensures application { A.count application.old ≤ A.count application.new }
 {
@@ -143,7 +147,7 @@ fn advance<A: Application>(
         block: block.share()?,
     })?;
     let batch = cut::<A>(core, block)?;
-    let captured = application.capture(block.inner().context(), block.inner(), &batch, databases)?;
+    let captured = application.capture(context, block.inner(), &batch, databases)?;
     apply::<A>(core, databases, block, batch)?;
     marks.push(Mark::Applied {
         block: block.share()?,
@@ -160,10 +164,10 @@ fn begin_if_none<A: Application>(
     requires free { core.old.barrier ≡ None → IsNone core.old.durability.barrier }
     requires behind { core.old.barrier ≡ None → core.old.durability.durable < core.old.durability.applied }
     requires idle { core.old.barrier ≡ None → A.Databases.kind.Idle (A.Databases.members databases.old) }
-    ensures ok { OnOk result (let w = workings A.Block.header A.meaning A.Databases.kind A.runs A.hooks A.Databases.shows in BeginsIfNone w (moment w core.old (A.Databases.members databases.old) (A.Databases.next databases.old) marks.old.items) (moment w core.new (A.Databases.members databases.new) (A.Databases.next databases.new) marks.new.items)) }
-    ensures fault { IfErr result (FaultsBarrier (workings A.Block.header A.meaning A.Databases.kind A.runs A.hooks A.Databases.shows) (A.Databases.counted databases.old) (A.Databases.counted databases.new) (A.Databases.members databases.new) core.old.next_barrier) }
+    ensures ok { OnOk result (let w = workings A.Block.header A.works A.Databases.kind A.Databases.shows in BeginsIfNone w (moment w core.old (A.Databases.members databases.old) (A.Databases.next databases.old) marks.old.items) (moment w core.new (A.Databases.members databases.new) (A.Databases.next databases.new) marks.new.items)) }
+    ensures fault { IfErr result (FaultsBarrier (workings A.Block.header A.works A.Databases.kind A.Databases.shows) (A.Databases.counted databases.old) (A.Databases.counted databases.new) (A.Databases.members databases.new) core.old.next_barrier) }
     ensures none { OnErr result (core.old.barrier ≡ None) }
-    ensures states { OnErr result (KeepsStates (workings A.Block.header A.meaning A.Databases.kind A.runs A.hooks A.Databases.shows) (A.Databases.members databases.old) (A.Databases.members databases.new)) }
+    ensures states { OnErr result (KeepsStates (workings A.Block.header A.works A.Databases.kind A.Databases.shows) (A.Databases.members databases.old) (A.Databases.members databases.new)) }
     ensures later { (n : ℕ) → A.Databases.counted databases.old n ≤ A.Databases.counted databases.new n }
 {
     if core.barrier.is_none() {
@@ -183,7 +187,7 @@ fn observe<A: Application>(
 ) -> Result<(), Fault>
     requires height { A.Block.header.height block.now.block ≡ core.old.durability.applied }
     requires first { All (λ receipt. receipt.0 ≢ core.old.durability.applied) core.old.durability.held }
-    ensures ok { OnOk result (Observes (workings A.Block.header A.meaning A.Databases.kind A.runs A.hooks A.Databases.shows) ticket block.now hooked core.old core.new marks.old.items marks.new.items) }
+    ensures ok { OnOk result (Observes (workings A.Block.header A.works A.Databases.kind A.Databases.shows) ticket block.now hooked core.old core.new marks.old.items marks.new.items) }
     ensures fault { IfErr result (FaultsObserving hooked core.old.next_job) }
 {
     match hooked {
@@ -226,19 +230,15 @@ pub(crate) fn finalize<A: Application>(
     requires next { (anchor : Anchor) × (core.old.anchor ≡ Some anchor) × IsNext A.Block.header anchor block.now }
     requires idle { core.old.front ≡ None }
     requires cached { IsIn core.old.cache block.now.digest }
-    ensures ok { OnOk result (let w = workings A.Block.header A.meaning A.Databases.kind A.runs A.hooks A.Databases.shows in Finalizes w ticket block.now (moment w core.old (A.Databases.members databases.old) (A.Databases.next databases.old) marks.old.items) (moment w core.new (A.Databases.members databases.new) (A.Databases.next databases.new) marks.new.items)) }
-    ensures fault { IfErr result (FaultsFinalize (workings A.Block.header A.meaning A.Databases.kind A.runs A.hooks A.Databases.shows) (A.Databases.counted databases.old) (A.Databases.counted databases.new) (A.Databases.members databases.new) (Rose (A.count application.old) (A.count application.new)) block.now core.old (A.Databases.members databases.old)) }
-    ensures states { OnErr result (LeavesStates (workings A.Block.header A.meaning A.Databases.kind A.runs A.hooks A.Databases.shows) (anchor_by A.Block.header block.now) core.old.cache (A.Databases.members databases.old) (A.Databases.members databases.new)) }
+    ensures ok { OnOk result (let w = workings A.Block.header A.works A.Databases.kind A.Databases.shows in Finalizes w ticket block.now (moment w core.old (A.Databases.members databases.old) (A.Databases.next databases.old) marks.old.items) (moment w core.new (A.Databases.members databases.new) (A.Databases.next databases.new) marks.new.items)) }
+    ensures fault { IfErr result (FaultsFinalize (workings A.Block.header A.works A.Databases.kind A.Databases.shows) (A.Databases.counted databases.old) (A.Databases.counted databases.new) (A.Databases.members databases.new) (Rose (A.count application.old) (A.count application.new)) block.now core.old (A.Databases.members databases.old)) }
+    ensures states { OnErr result (LeavesStates (workings A.Block.header A.works A.Databases.kind A.Databases.shows) (anchor_by A.Block.header block.now) core.old.cache (A.Databases.members databases.old) (A.Databases.members databases.new)) }
     ensures later { (n : ℕ) → A.Databases.counted databases.old n ≤ A.Databases.counted databases.new n }
     ensures application { A.count application.old ≤ A.count application.new }
 {
-    let captured = advance(application, core, databases, ticket, block, marks)?;
+    let context = block.inner().context();
+    let captured = advance(application, core, databases, ticket, context, block, marks)?;
     begin_if_none::<A>(core, databases, marks)?;
-    let hooked = application.finalized(
-        block.inner().context(),
-        block.inner(),
-        captured,
-        databases,
-    )?;
+    let hooked = application.finalized(context, block.inner(), captured, databases)?;
     observe::<A>(core, ticket, block, hooked, marks)
 }

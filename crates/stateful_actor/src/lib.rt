@@ -10,6 +10,7 @@ mod driving;
 mod error;
 mod finalize;
 mod judge;
+mod one_barrier;
 mod restart;
 mod serve;
 mod stateful;

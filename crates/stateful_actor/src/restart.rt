@@ -8,9 +8,9 @@ ghost use Rattle.stateful_actor.specs.Restarting.{start_height, StartsAt, Reopen
 
 use crate::cache::Cache;
 use crate::error::Fault;
+use crate::one_barrier::OneBarrier;
 use crate::stateful::CoreOf;
 use stateful_db::{Application, DatabaseSet};
-use stateful_durability::Durability;
 use stateful_history::Mark;
 use stateful_types::{Anchor, BlockStore, Floor, Height};
 
@@ -31,7 +31,7 @@ fn start_at<A: Application>(core: &mut CoreOf<A>, anchor: Anchor)
     core.cache = Cache::new(core.alloc);
     core.runs = Vec::new(core.alloc);
     core.front = None;
-    core.durability = Durability::new(core.alloc, anchor.height);
+    core.durability = OneBarrier::new(core.alloc, anchor.height);
     core.barrier = None;
     core.anchor = Some(anchor);
 }
@@ -46,11 +46,11 @@ pub(crate) fn restart<A: Application, S: BlockStore<A::Block>>(
     keep: &[usize],
     marks: &mut Vec<Mark<A::Block>>,
 ) -> Result<(), Fault>
-    requires { A.Databases.kind.Held (A.Databases.members databases.old) }
-    ensures ok { OnOk result (let w = workings A.Block.header A.meaning A.Databases.kind A.runs A.hooks A.Databases.shows in Reopens w floor.now keep.now (S.stored store.now) (moment w core.old (A.Databases.members databases.old) (A.Databases.next databases.old) marks.old.items) (moment w core.new (A.Databases.members databases.new) (A.Databases.next databases.new) marks.new.items)) }
+    requires { A.Databases.kind.NoneAway (A.Databases.members databases.old) }
+    ensures ok { OnOk result (let w = workings A.Block.header A.works A.Databases.kind A.Databases.shows in Reopens w floor.now keep.now (S.stored store.now) (moment w core.old (A.Databases.members databases.old) (A.Databases.next databases.old) marks.old.items) (moment w core.new (A.Databases.members databases.new) (A.Databases.next databases.new) marks.new.items)) }
     ensures err_core { OnErr result (core.new ≡ core.old) }
-    ensures err_held { OnErr result (A.Databases.kind.Held (A.Databases.members databases.new)) }
-    ensures fault { IfErr result (FaultsOpening (workings A.Block.header A.meaning A.Databases.kind A.runs A.hooks A.Databases.shows) (A.Databases.counted databases.old) (A.Databases.counted databases.new) floor.now keep.now (S.stored store.now) (A.Databases.members databases.old) (A.Databases.members databases.new)) }
+    ensures err_held { OnErr result (A.Databases.kind.NoneAway (A.Databases.members databases.new)) }
+    ensures fault { IfErr result (FaultsOpening (workings A.Block.header A.works A.Databases.kind A.Databases.shows) (A.Databases.counted databases.old) (A.Databases.counted databases.new) floor.now keep.now (S.stored store.now) (A.Databases.members databases.old) (A.Databases.members databases.new)) }
     ensures later { (n : ℕ) → A.Databases.counted databases.old n ≤ A.Databases.counted databases.new n }
 {
     *databases = databases.take().crash(keep);

@@ -30,11 +30,11 @@ fn perform<A: Application + Drop, S: BlockStore<A::Block>>(
 ) -> Result<(), Fault>
     requires doable { IsDoable A.Block.header core.old task }
     requires sound { Sound A.Databases.kind (A.Databases.members databases.old) A.Block.header core.old }
-    requires held { core.old.anchor ≡ None → A.Databases.kind.Held (A.Databases.members databases.old) }
-    ensures ok { OnOk result (let w = workings A.Block.header A.meaning A.Databases.kind A.runs A.hooks A.Databases.shows in Does w (S.stored store.now) task (moment w core.old (A.Databases.members databases.old) (A.Databases.next databases.old) marks.old.items) (moment w core.new (A.Databases.members databases.new) (A.Databases.next databases.new) marks.new.items)) }
-    ensures err { OnErr result (core.old.anchor ≡ None → (core.new ≡ core.old) × A.Databases.kind.Held (A.Databases.members databases.new)) }
-    ensures fault { IfErr result (let w = workings A.Block.header A.meaning A.Databases.kind A.runs A.hooks A.Databases.shows in FaultsAt w A.Run.count A.Hook.count (S.stored store.now) (moment w core.old (A.Databases.members databases.old) (A.Databases.next databases.old) marks.old.items) core.new (A.Databases.members databases.new) (tally (A.count config.old.application) (A.Databases.counted databases.old)) (tally (A.count config.new.application) (A.Databases.counted databases.new)) task) }
-    ensures states { OnErr result (core.old.anchor ≢ None → LeavesAt (workings A.Block.header A.meaning A.Databases.kind A.runs A.hooks A.Databases.shows) task core.old.cache (A.Databases.members databases.old) (A.Databases.members databases.new)) }
+    requires held { core.old.anchor ≡ None → A.Databases.kind.NoneAway (A.Databases.members databases.old) }
+    ensures ok { OnOk result (let w = workings A.Block.header A.works A.Databases.kind A.Databases.shows in Does w (S.stored store.now) task (moment w core.old (A.Databases.members databases.old) (A.Databases.next databases.old) marks.old.items) (moment w core.new (A.Databases.members databases.new) (A.Databases.next databases.new) marks.new.items)) }
+    ensures err { OnErr result (core.old.anchor ≡ None → (core.new ≡ core.old) × A.Databases.kind.NoneAway (A.Databases.members databases.new)) }
+    ensures fault { IfErr result (let w = workings A.Block.header A.works A.Databases.kind A.Databases.shows in FaultsAt w A.Run.count A.Hook.count (S.stored store.now) (moment w core.old (A.Databases.members databases.old) (A.Databases.next databases.old) marks.old.items) core.new (A.Databases.members databases.new) (tally (A.count config.old.application) (A.Databases.counted databases.old)) (tally (A.count config.new.application) (A.Databases.counted databases.new)) task) }
+    ensures states { OnErr result (core.old.anchor ≢ None → LeavesAt (workings A.Block.header A.works A.Databases.kind A.Databases.shows) task core.old.cache (A.Databases.members databases.old) (A.Databases.members databases.new)) }
     ensures later { (n : ℕ) → A.Databases.counted databases.old n ≤ A.Databases.counted databases.new n }
     ensures application { A.count config.old.application ≤ A.count config.new.application }
 {
@@ -92,11 +92,11 @@ pub(crate) fn serve<A: Application + Drop, S: BlockStore<A::Block>>(
 ) -> Result<(), Fault>
     requires doable { IsDoable A.Block.header core.old task }
     requires sound { Sound A.Databases.kind (A.Databases.members databases.old) A.Block.header core.old }
-    requires held { core.old.anchor ≡ None → A.Databases.kind.Held (A.Databases.members databases.old) }
-    ensures ok { OnOk result (let w = workings A.Block.header A.meaning A.Databases.kind A.runs A.hooks A.Databases.shows in Serves w (S.stored store.now) task (moment w core.old (A.Databases.members databases.old) (A.Databases.next databases.old) marks.old.items) (moment w core.new (A.Databases.members databases.new) (A.Databases.next databases.new) marks.new.items)) }
-    ensures err { OnErr result (core.old.anchor ≡ None → core.new.anchor ≡ None → (core.new ≡ core.old) × A.Databases.kind.Held (A.Databases.members databases.new)) }
-    ensures fault { IfErr result (let w = workings A.Block.header A.meaning A.Databases.kind A.runs A.hooks A.Databases.shows in FaultsIn w A.Run.count A.Hook.count (S.stored store.now) (moment w core.old (A.Databases.members databases.old) (A.Databases.next databases.old) marks.old.items) core.new (A.Databases.members databases.new) (tally (A.count config.old.application) (A.Databases.counted databases.old)) (tally (A.count config.new.application) (A.Databases.counted databases.new)) task) }
-    ensures states { OnErr result (core.old.anchor ≢ None → LeavesAt (workings A.Block.header A.meaning A.Databases.kind A.runs A.hooks A.Databases.shows) task core.old.cache (A.Databases.members databases.old) (A.Databases.members databases.new)) }
+    requires held { core.old.anchor ≡ None → A.Databases.kind.NoneAway (A.Databases.members databases.old) }
+    ensures ok { OnOk result (let w = workings A.Block.header A.works A.Databases.kind A.Databases.shows in Serves w (S.stored store.now) task (moment w core.old (A.Databases.members databases.old) (A.Databases.next databases.old) marks.old.items) (moment w core.new (A.Databases.members databases.new) (A.Databases.next databases.new) marks.new.items)) }
+    ensures err { OnErr result (core.old.anchor ≡ None → core.new.anchor ≡ None → (core.new ≡ core.old) × A.Databases.kind.NoneAway (A.Databases.members databases.new)) }
+    ensures fault { IfErr result (let w = workings A.Block.header A.works A.Databases.kind A.Databases.shows in FaultsIn w A.Run.count A.Hook.count (S.stored store.now) (moment w core.old (A.Databases.members databases.old) (A.Databases.next databases.old) marks.old.items) core.new (A.Databases.members databases.new) (tally (A.count config.old.application) (A.Databases.counted databases.old)) (tally (A.count config.new.application) (A.Databases.counted databases.new)) task) }
+    ensures states { OnErr result (core.old.anchor ≢ None → LeavesAt (workings A.Block.header A.works A.Databases.kind A.Databases.shows) task core.old.cache (A.Databases.members databases.old) (A.Databases.members databases.new)) }
     ensures later { (n : ℕ) → A.Databases.counted databases.old n ≤ A.Databases.counted databases.new n }
     ensures application { A.count config.old.application ≤ A.count config.new.application }
 {

@@ -4,9 +4,9 @@ ghost use Rattle.std.specs.Prelude.{◌≡◌, IfOk};
 ghost use Rattle.stateful_actor.specs.Stepping.{IsNew};
 
 use crate::cache::Cache;
+use crate::one_barrier::OneBarrier;
 use crate::tables::Core;
 use stateful_db::{Application, Batch, DatabaseSet};
-use stateful_durability::Durability;
 use stateful_register::Register;
 use stateful_types::Height;
 use std::alloc::Global;
@@ -61,7 +61,7 @@ impl<A: Application + Drop> Stateful<A> {
                 cache: Cache::new(alloc),
                 runs: Vec::new(alloc),
                 front: None,
-                durability: Durability::new(alloc, Height(0)),
+                durability: OneBarrier::new(alloc, Height(0)),
                 barrier: None,
                 next_job: 0,
                 next_fetch: 0,

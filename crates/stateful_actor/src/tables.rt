@@ -1,8 +1,8 @@
 //! The tables of the machine.
 
 use crate::cache::Cache;
+use crate::one_barrier::OneBarrier;
 use stateful_db::Barrier;
-use stateful_durability::Durability;
 use stateful_types::{Anchor, Digested, Height};
 use std::alloc::Global;
 
@@ -40,7 +40,7 @@ pub struct Core<B, R, H, U> {
     pub cache: Cache<U>,
     pub runs: Vec<Live<B, R>>,
     pub front: Option<Front<B, H>>,
-    pub durability: Durability,
+    pub durability: OneBarrier,
     pub barrier: Option<Active>,
     pub next_job: u64,
     pub next_fetch: u64,

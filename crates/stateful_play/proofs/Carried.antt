@@ -3,7 +3,7 @@ use Rattle.std.proofs.Common.{◌≡◌, ℕ, List, [], Option, None, IfSome, Ve
 use Rattle.std.proofs.Math.Path.{fun_ext}
 use Rattle.stateful_types.specs.Names.{Named}
 use Rattle.stateful_types.specs.declared.round.Round.{Round}
-use Rattle.stateful_db.specs.Member.{Member, shut}
+use Rattle.stateful_db.specs.Member.{Member, closed}
 use Rattle.stateful_bank.specs.declared.ask.Ask.{Ask}
 use Rattle.stateful_bank.specs.declared.block.BankBlock.{BankBlock}
 use Rattle.stateful_plain.specs.Whole.{Whole, initial}
@@ -36,7 +36,7 @@ in_plain entries machine databases «end» = record { world = world.Plain; histo
 -- a play begins with a new machine and an empty database
 pub begins_new : (core : Core BankBlock BankRun BankHook PlainMerkleized) (members : Member Whole) (ids : ℕ)
     → core.anchor ≡ None → core.next_job ≡ 0 → core.next_fetch ≡ 0 → core.next_barrier ≡ 0
-    → members ≡ shut (record { older = []; newest = initial; pruned = 0; durable = 0 }) → ids ≡ 1
+    → members ≡ closed (record { older = []; newest = initial; pruned = 0; durable = 0 }) → ids ≡ 1
     → IsFirst (moment bank core members ids [])
 begins_new core members ids down jobs fetches barriers empty batches = record {
   down = down;

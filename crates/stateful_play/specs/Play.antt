@@ -2,7 +2,7 @@
 use Rattle.std.specs.Prelude.{◌≡◌, ◌≢◌, ◌<◌, ℕ, List, [], ◌∷◌, ◌++◌, Option, Some, None, IfSome, length, map, take}
 use Rattle.stateful_types.specs.Names.{Named}
 use Rattle.stateful_types.specs.declared.round.Round.{Round}
-use Rattle.stateful_db.specs.Member.{Member, shut}
+use Rattle.stateful_db.specs.Member.{Member, closed}
 use Rattle.stateful_db.specs.Single.{single}
 use Rattle.stateful_bank.specs.BankBlock.{block_header}
 use Rattle.stateful_bank.specs.declared.ask.Ask.{Ask}
@@ -10,9 +10,9 @@ use Rattle.stateful_bank.specs.declared.block.BankBlock.{BankBlock}
 use Rattle.stateful_plain.specs.Whole.{Whole, begun, initial, target_of}
 use Rattle.stateful_plain.specs.Shown.{SealShows}
 use Rattle.stateful_plain.specs.declared.batch.PlainMerkleized.{PlainMerkleized}
-use Rattle.stateful_plain_bank.specs.Stepped.{bank_meaning}
-use Rattle.stateful_plain_bank.specs.Runs.{RunsOn, run_faults}
-use Rattle.stateful_plain_bank.specs.Hooks.{bank_hooks, hook_faults}
+use Rattle.stateful_plain_bank.specs.Works.{bank_works}
+use Rattle.stateful_plain_bank.specs.Runs.{run_faults}
+use Rattle.stateful_plain_bank.specs.Hooks.{hook_faults}
 use Rattle.stateful_plain_bank.specs.declared.hook.BankHook.{BankHook}
 use Rattle.stateful_plain_bank.specs.declared.run.BankRun.{BankRun}
 use Rattle.stateful_history.specs.Past.{after_all}
@@ -41,7 +41,7 @@ use Rattle.stateful_play.specs.Shown.{entries_of, core_of, member_of, failed_of}
 
 -- the bank over one database that is kept whole, as the definitions of the machine take it
 abbrev pub bank : Workings BankBlock BankRun BankHook PlainMerkleized
-bank = workings block_header bank_meaning (single target_of (λ target. target) begun initial) RunsOn bank_hooks SealShows
+bank = workings block_header bank_works (single target_of (λ target. target) begun initial) SealShows
 
 -- All events were taken in; or those before the one of a number, which was refused, and not for want of memory.
 abbrev pub AreTaken : Option Halted → List BankEvent → List BankEvent → Type 0
@@ -64,7 +64,7 @@ pub record IsFirst (first : Moment bank) : Type 0 where
   pub jobs : first.core.next_job ≡ 0
   pub fetches : first.core.next_fetch ≡ 0
   pub barriers : first.core.next_barrier ≡ 0
-  pub members : first.members ≡ shut (record { older = []; newest = initial; pruned = 0; durable = 0 })
+  pub members : first.members ≡ closed (record { older = []; newest = initial; pruned = 0; durable = 0 })
   pub batches : first.next ≡ 1
 
 -- each entry is one step of the machine, from the first moment on

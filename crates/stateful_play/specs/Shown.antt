@@ -1,7 +1,7 @@
 -- What a transcript shows of a play.
 use Rattle.std.specs.Prelude.{ℕ, ◌-◌, List, [], ◌∷◌, Option, Some, None, codes}
 use Rattle.stateful_types.specs.declared.round.Round.{Round}
-use Rattle.stateful_db.specs.Member.{Member, at_home, shut, broken, gone}
+use Rattle.stateful_db.specs.Member.{Member, here, closed, lost, away}
 use Rattle.stateful_db.specs.declared.held.Held.TheVariants as held
 use Rattle.stateful_bank.specs.declared.ask.Ask.{Ask}
 use Rattle.stateful_bank.specs.declared.block.BankBlock.{BankBlock}
@@ -34,10 +34,10 @@ entries_of (history.Plain entries) = entries.items
 -- the database of a play, wherever it is
 abbrev pub member_of : Databases → Member Whole
 member_of (databases.Plain d) = elim d [
-  | held.Here db ↦ at_home (standing_of db)
-  | held.Closed medium ↦ shut (disk_of medium)
-  | held.Lost medium ↦ broken (disk_of medium)
-  | held.Away ↦ gone
+  | held.Here db ↦ here (standing_of db)
+  | held.Closed medium ↦ closed (disk_of medium)
+  | held.Lost medium ↦ lost (disk_of medium)
+  | held.Away ↦ away
 ]
 
 -- how often the database has failed
@@ -55,10 +55,10 @@ core_of (machine.Plain stateful) = stateful.core
 
 -- the range and the balances of the newest state, or where the database is
 abbrev pub shown_of : Member Whole → Shown
-shown_of (at_home s) = Balances (s.disk.newest.size - 1) s.disk.newest.size s.disk.newest.entries
-shown_of (shut disk) = Closed
-shown_of (broken disk) = Lost
-shown_of gone = Away
+shown_of (here s) = Balances (s.disk.newest.size - 1) s.disk.newest.size s.disk.newest.entries
+shown_of (closed disk) = Closed
+shown_of (lost disk) = Lost
+shown_of away = Away
 
 -- the name of an error
 abbrev pub error_name : StepError → List ℕ

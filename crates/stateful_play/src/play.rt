@@ -1,7 +1,7 @@
 //! A script's play.
 
 ghost use Rattle.std.specs.Prelude.{◌≡◌, ◌↔◌, ℕ, [], IfOk, IsTrue, length};
-ghost use Rattle.stateful_db.specs.Member.{shut};
+ghost use Rattle.stateful_db.specs.Member.{closed as closed_member};
 ghost use Rattle.stateful_plain.specs.Whole.{initial};
 ghost use Rattle.stateful_script.specs.Laws.{IsPlan};
 ghost use Rattle.stateful_actor.specs.Stepping.{IsNew};
@@ -98,8 +98,8 @@ fn new_machine(alloc: Global) -> Result<Stateful<Bank>, OutOfMemory>
 
 /// A database that is closed, on an empty medium that hasn't failed.
 fn closed(alloc: Global) -> Held<Plain>
-    ensures held { ⟦<Held<Plain> as DatabaseSet>⟧.kind.Held (⟦<Held<Plain> as DatabaseSet>⟧.members result) }
-    ensures empty { ⟦<Held<Plain> as DatabaseSet>⟧.members result ≡ shut (record { older = []; newest = initial; pruned = 0; durable = 0 }) }
+    ensures none_away { ⟦<Held<Plain> as DatabaseSet>⟧.kind.NoneAway (⟦<Held<Plain> as DatabaseSet>⟧.members result) }
+    ensures empty { ⟦<Held<Plain> as DatabaseSet>⟧.members result ≡ closed_member (record { older = []; newest = initial; pruned = 0; durable = 0 }) }
     ensures batches { ⟦<Held<Plain> as DatabaseSet>⟧.next result ≡ 1 }
     ensures counts { (i : ℕ) → ⟦<Held<Plain> as DatabaseSet>⟧.counted result i ≡ 0 }
 {

@@ -1,6 +1,6 @@
 use Rattle.std.proofs.Common.{◌<◌, arith, inl, inr, refl, ap, subst, IsNone, Some}
 use Rattle.stateful_actor.proofs.CodeResults.{on_ok}
-use Rattle.stateful_actor.proofs.CodeSettling.{held_none, held_some, none_active, none_out, needed-or}
+use Rattle.stateful_actor.proofs.CodeSettling.{held_none, held_some, none_active, none_out, needed-or, not_free}
 use Rattle.stateful_actor.proofs.barrier.settle.Goals as goal
 
 pub complete-requires-clause-none : goal.complete-requires-clause-none
@@ -28,7 +28,7 @@ returns-then-needs_barrier-clause-ok g c =
       begins = inl (needed.1, needed.0, begins);
       none_flushed = c.in_ok-complete.ensures.unflushed;
       none_durable = c.in_ok-release.ensures.all;
-      none_needed = λ free. let e : IsNone (Some c.release.new.core.durability.applied) = subst IsNone (ap (λ core. core.durability.barrier) begins.core) free in cc;
+      none_needed = λ free. not_free _ c.release.new.core.durability.applied (ap (λ core. core.durability.barrier) begins.core) free;
     }) c.begin_barrier.ensures.ok
 
 pub returns-else-needs_barrier-clause-ok : goal.returns-else-needs_barrier-clause-ok

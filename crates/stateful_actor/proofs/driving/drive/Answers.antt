@@ -1,7 +1,11 @@
-use Rattle.std.proofs.Common.{sym, ◌∙◌, refl, subst, []}
+use Rattle.std.proofs.Common.{sym, ◌∙◌, refl, subst, ap, ℕ, Option, []}
+use Rattle.stateful_history.specs.Past.{after_all}
+use Rattle.stateful_register.specs.Register.{RegisterStands}
+use Rattle.stateful_actor.specs.Causes.{tally}
+use Rattle.stateful_actor.specs.Driving.{Steps, HasPlayed, HasStood, IsRefused}
 use Rattle.stateful_actor.proofs.CodeCut.{one_over, none_over}
-use Rattle.stateful_actor.specs.Workings.{workings}
-use Rattle.stateful_actor.specs.Moments.{moment}
+use Rattle.stateful_actor.specs.Workings.{workings, numbered}
+use Rattle.stateful_actor.specs.Moments.{Moment, moment}
 use Rattle.stateful_actor.specs.Doing.{IsStep}
 use Rattle.stateful_actor.proofs.Halting.{HasNotFallen-itself, HasNotFallen-further, IsRefused-since, event_at}
 use Rattle.stateful_actor.proofs.Played.{Register-new, HasPlayed-new, Plays-any, Plays-holds, HasStood-from, Steps-longer, events-push}
@@ -16,14 +20,14 @@ loop-event-init g c = record {
   safe = record { sound = λ up anchor is. let down = c.requires.new.down in absurd cc; held = λ none. c.requires.held };
   store = refl;
   working = c.requires.new.working;
-  registered = rw c.new.ensures.items (Register-new (workings g.A.Block.Block.header g.A.Application.meaning g.A.Databases.DatabaseSet.kind g.A.Application.runs g.A.Application.hooks g.A.Databases.DatabaseSet.shows) (g.S.BlockStore.stored c.args.store.now) c.args.stateful.register c.requires.new.blank);
+  registered = rw c.new.ensures.items (Register-new (workings g.A.Block.Block.header g.A.Application.works g.A.Databases.DatabaseSet.kind g.A.Databases.DatabaseSet.shows) (g.S.BlockStore.stored c.args.store.now) c.args.stateful.register c.requires.new.blank);
   later = HasNotFallen-itself _;
 }
 
 pub loop-event-preserved : goal.loop-event-preserved
 loop-event-preserved g c =
     let D = g.A.Databases.DatabaseSet in
-    let w = workings g.A.Block.Block.header g.A.Application.meaning D.kind g.A.Application.runs g.A.Application.hooks D.shows in
+    let w = workings g.A.Block.Block.header g.A.Application.works D.kind D.shows in
     let i = c.loop-event.invariant in
     let was = c.loop-event.driven in
     let now = c.enter.new.driven in
@@ -32,7 +36,7 @@ loop-event-preserved g c =
       events = events-push c.loop-event.driven.history.items _ c.in-Some.event c.in-Ok.ensures.ok.0 _ c.in-Ok.ensures.ok.1 i.events;
       steps = Steps-longer w (g.S.BlockStore.stored c.args.store.now) _ (moment w was.stateful.core (D.members was.databases) (D.next was.databases) []) was.history.items now.history.items c.in-Some.event now.stateful.core (D.members now.databases) (D.next now.databases) i.steps (c.in-Ok.ensures.may i.registered)
           (c.in-Ok.ensures.ok.0, c.in-Ok.ensures.ok.1, subst (λ store. IsStep w (g.S.BlockStore.stored store) c.in-Some.event (moment w was.stateful.core (D.members was.databases) (D.next was.databases) []) (moment w now.stateful.core (D.members now.databases) (D.next now.databases) c.in-Ok.ensures.ok.0)) i.store c.in-Ok.ensures.ok.2);
-      played = (rw i.store at c.in-Ok.ensures.played) i.played;
+      played = subst (λ stored. HasPlayed w stored was.history.items was.stateful.failed was.stateful.core was.stateful.register (D.members was.databases) (D.next was.databases) → HasPlayed w stored now.history.items now.stateful.failed now.stateful.core now.stateful.register (D.members now.databases) (D.next now.databases)) (ap g.S.BlockStore.stored i.store) c.in-Ok.ensures.played i.played;
       safe = c.in-Ok.ensures.safe;
       store = c.in-Ok.ensures.store ∙ i.store;
       working = c.in-Ok.ensures.works;
@@ -43,13 +47,15 @@ loop-event-preserved g c =
 pub returns-in-Err-clause-refused : goal.returns-in-Err-clause-refused
 returns-in-Err-clause-refused g c =
     let D = g.A.Databases.DatabaseSet in
-    let w = workings g.A.Block.Block.header g.A.Application.meaning D.kind g.A.Application.runs g.A.Application.hooks D.shows in
-    let i = c.loop-event.invariant in (
+    let w = workings g.A.Block.Block.header g.A.Application.works D.kind D.shows in
+    let i = c.loop-event.invariant in
+    let was = c.loop-event.driven in
+    let now = c.enter.new.driven in (
       c.in-Some.event,
       c.next.new.self.rest.items,
       rw c.in-Err.ensures.err (event_at c.loop-event.yielded _ _ _ _ _ i.all c.in-Some.ensures.steps.0 i.events),
       rw c.in-Err.ensures.err (IsRefused-since w g.met.A.Databases.DatabaseSet.laws (g.S.BlockStore.stored c.args.store.now) g.A.Run.Faulty.count g.A.Hook.Faulty.count _ c.loop-event.driven.history.items c.in-Some.event _ _ _ _ _ _ i.later
-          ((rw i.store at c.in-Err.ensures.refused) _ i.steps i.played i.registered)),
+          (subst (λ stored. (first : Moment w) → Steps w stored [] first was.history.items (moment w was.stateful.core (D.members was.databases) (D.next was.databases) []) → HasPlayed w stored was.history.items was.stateful.failed was.stateful.core was.stateful.register (D.members was.databases) (D.next was.databases) → RegisterStands (numbered D.kind.count) (after_all [] was.history.items) was.stateful.register → IsRefused w stored g.A.Run.Faulty.count g.A.Hook.Faulty.count first was.history.items c.in-Some.event c.in-Err.error now.stateful.core (D.members now.databases) (tally (g.A.Faulty.count was.stateful.config.application) (D.counted was.databases)) (tally (g.A.Faulty.count now.stateful.config.application) (D.counted now.databases))) (ap g.S.BlockStore.stored i.store) c.in-Err.ensures.refused _ i.steps i.played i.registered)),
     )
 
 pub returns-in-Err-clause-played : goal.returns-in-Err-clause-played
@@ -65,4 +71,10 @@ pub returns-clause-stands : goal.returns-clause-stands
 returns-clause-stands g c = HasStood-from _ _ _ _ _ _ _ _ _ _ _ _ _ c.loop-event.invariant.played (λ base stood. stood)
 
 pub returns-in-Err-clause-still_stands : goal.returns-in-Err-clause-still_stands
-returns-in-Err-clause-still_stands g c = rw c.in-Err.ensures.err ((rw c.loop-event.invariant.store at c.in-Err.ensures.still) c.loop-event.invariant.played)
+returns-in-Err-clause-still_stands g c =
+    let D = g.A.Databases.DatabaseSet in
+    let w = workings g.A.Block.Block.header g.A.Application.works D.kind D.shows in
+    let i = c.loop-event.invariant in
+    let was = c.loop-event.driven in
+    let now = c.enter.new.driven in
+    rw c.in-Err.ensures.err (subst (λ stored. HasPlayed w stored was.history.items was.stateful.failed was.stateful.core was.stateful.register (D.members was.databases) (D.next was.databases) → HasStood w stored was.history.items now.stateful.failed now.stateful.core now.stateful.register (D.members now.databases) (D.next now.databases)) (ap g.S.BlockStore.stored i.store) c.in-Err.ensures.still i.played)

@@ -1,7 +1,7 @@
 use Rattle.std.proofs.Common.{◌≡◌, ◌++◌, false, [], map}
 use Rattle.stateful_history.specs.Past.{after_all}
 use Rattle.stateful_register.specs.Register.{RegisterStands}
-use Rattle.stateful_actor.specs.Workings.{workings}
+use Rattle.stateful_actor.specs.Workings.{workings, numbered}
 use Rattle.stateful_actor.specs.Moments.{moment}
 use Rattle.stateful_actor.specs.Causes.{tally}
 use Rattle.stateful_actor.specs.Stepping.{IsSafe}
@@ -11,7 +11,7 @@ use Rattle.stateful_actor.proofs.driving.drive.Given as goal
 abbrev pub invariant-loop-event : goal.invariant-loop-event
 invariant-loop-event g l =
     let D = g.A.Databases.DatabaseSet in
-    let w = workings g.A.Block.Block.header g.A.Application.meaning D.kind g.A.Application.runs g.A.Application.hooks D.shows in
+    let w = workings g.A.Block.Block.header g.A.Application.works D.kind D.shows in
     record {
       all : l.yielded ++ l.event-iterator.rest.items ≡ l.fn.events.items;
       events : map (λ entry. entry.event) l.driven.history.items ≡ l.yielded;
@@ -20,6 +20,6 @@ invariant-loop-event g l =
       safe : IsSafe D.kind (D.members l.driven.databases) g.A.Block.Block.header l.driven.stateful.failed l.driven.stateful.core;
       store : l.store ≡ l.fn.store;
       working : l.driven.stateful.failed ≡ false;
-      registered : RegisterStands D.kind.count (after_all [] l.driven.history.items) l.driven.stateful.register;
+      registered : RegisterStands (numbered D.kind.count) (after_all [] l.driven.history.items) l.driven.stateful.register;
       later : HasNotFallen (tally (g.A.Faulty.count l.fn.stateful.config.application) (D.counted l.fn.databases)) (tally (g.A.Faulty.count l.driven.stateful.config.application) (D.counted l.driven.databases));
     }

@@ -19,7 +19,7 @@ returns-clause-played g c = λ played.
 pub returns-in_err-reserve-clause-refused : goal.returns-in_err-reserve-clause-refused
 returns-in_err-reserve-clause-refused g c =
     let D = g.A.Databases.DatabaseSet in
-    let w = workings g.A.Block.Block.header g.A.Application.meaning D.kind g.A.Application.runs g.A.Application.hooks D.shows in
+    let w = workings g.A.Block.Block.header g.A.Application.works D.kind D.shows in
     let old = c.args.driven.now in
     let counts = tally (g.A.Faulty.count old.stateful.config.application) (D.counted old.databases) in
     err_to c.from_residual.result _ _ c.from_residual.ensures.1 (λ e is first steps played registered. Refused-early w g.met.A.Databases.DatabaseSet.laws (g.S.BlockStore.stored c.args.store.now) g.A.Run.Faulty.count g.A.Hook.Faulty.count old.history.items c.args.event old.stateful.core old.stateful.register (D.members old.databases) (D.next old.databases) counts old.stateful.failed c.requires.working played registered first steps e is)
@@ -27,7 +27,7 @@ returns-in_err-reserve-clause-refused g c =
 pub returns-in_err-kept-clause-refused : goal.returns-in_err-kept-clause-refused
 returns-in_err-kept-clause-refused g c =
     let D = g.A.Databases.DatabaseSet in
-    let w = workings g.A.Block.Block.header g.A.Application.meaning D.kind g.A.Application.runs g.A.Application.hooks D.shows in
+    let w = workings g.A.Block.Block.header g.A.Application.works D.kind D.shows in
     let old = c.args.driven.now in
     let counts = tally (g.A.Faulty.count old.stateful.config.application) (D.counted old.databases) in
     err_to c.from_residual-in_err-kept.result _ _ c.from_residual-in_err-kept.ensures.1 (λ e is first steps played registered. Refused-early w g.met.A.Databases.DatabaseSet.laws (g.S.BlockStore.stored c.args.store.now) g.A.Run.Faulty.count g.A.Hook.Faulty.count old.history.items c.args.event old.stateful.core old.stateful.register (D.members old.databases) (D.next old.databases) counts old.stateful.failed c.requires.working played registered first steps e is)
@@ -35,7 +35,7 @@ returns-in_err-kept-clause-refused g c =
 pub returns-in_err-marks-clause-refused : goal.returns-in_err-marks-clause-refused
 returns-in_err-marks-clause-refused g c =
     let D = g.A.Databases.DatabaseSet in
-    let w = workings g.A.Block.Block.header g.A.Application.meaning D.kind g.A.Application.runs g.A.Application.hooks D.shows in
+    let w = workings g.A.Block.Block.header g.A.Application.works D.kind D.shows in
     let old = c.args.driven.now in
     let counts = tally (g.A.Faulty.count old.stateful.config.application) (D.counted old.databases) in
     err_to c.from_residual-in_err-marks.result _ _ c.from_residual-in_err-marks.ensures.1 (λ e is first steps played registered.
@@ -54,7 +54,7 @@ returns-clause-register g c = λ registered.
 pub returns-in_err-reserve-clause-still : goal.returns-in_err-reserve-clause-still
 returns-in_err-reserve-clause-still g c =
     let D = g.A.Databases.DatabaseSet in
-    let w = workings g.A.Block.Block.header g.A.Application.meaning D.kind g.A.Application.runs g.A.Application.hooks D.shows in
+    let w = workings g.A.Block.Block.header g.A.Application.works D.kind D.shows in
     let stored = g.S.BlockStore.stored c.args.store.now in
     let old = c.args.driven.now in
     let still : HasPlayed w stored old.history.items old.stateful.failed old.stateful.core old.stateful.register (D.members old.databases) (D.next old.databases) → HasStood w stored old.history.items old.stateful.failed old.stateful.core old.stateful.register (D.members old.databases) (D.next old.databases) =
@@ -64,7 +64,7 @@ returns-in_err-reserve-clause-still g c =
 pub returns-in_err-kept-clause-still : goal.returns-in_err-kept-clause-still
 returns-in_err-kept-clause-still g c =
     let D = g.A.Databases.DatabaseSet in
-    let w = workings g.A.Block.Block.header g.A.Application.meaning D.kind g.A.Application.runs g.A.Application.hooks D.shows in
+    let w = workings g.A.Block.Block.header g.A.Application.works D.kind D.shows in
     let stored = g.S.BlockStore.stored c.args.store.now in
     let old = c.args.driven.now in
     let still : HasPlayed w stored old.history.items old.stateful.failed old.stateful.core old.stateful.register (D.members old.databases) (D.next old.databases) → HasStood w stored old.history.items old.stateful.failed old.stateful.core old.stateful.register (D.members old.databases) (D.next old.databases) =
@@ -74,7 +74,7 @@ returns-in_err-kept-clause-still g c =
 pub returns-in_err-marks-clause-still : goal.returns-in_err-marks-clause-still
 returns-in_err-marks-clause-still g c =
     let D = g.A.Databases.DatabaseSet in
-    let w = workings g.A.Block.Block.header g.A.Application.meaning D.kind g.A.Application.runs g.A.Application.hooks D.shows in
+    let w = workings g.A.Block.Block.header g.A.Application.works D.kind D.shows in
     let stored = g.S.BlockStore.stored c.args.store.now in
     let old = c.args.driven.now in
     let still : HasPlayed w stored old.history.items old.stateful.failed old.stateful.core old.stateful.register (D.members old.databases) (D.next old.databases) → HasStood w stored old.history.items c.step.new.self.failed c.step.new.self.core c.step.new.self.register (D.members c.step.new.databases) (D.next c.step.new.databases) =

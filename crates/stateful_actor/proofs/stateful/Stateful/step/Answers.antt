@@ -101,13 +101,13 @@ returns-clause-behind g c = λ stored base p names working stands up.
 
 pub returns-in-Ok-clause-refused_so : goal.returns-in-Ok-clause-refused_so
 returns-in-Ok-clause-refused_so g c = λ p e stands may works is refuses.
-    let w = workings g.A.Block.Block.header g.A.Application.meaning g.A.Databases.DatabaseSet.kind g.A.Application.runs g.A.Application.hooks g.A.Databases.DatabaseSet.shows in
+    let w = workings g.A.Block.Block.header g.A.Application.works g.A.Databases.DatabaseSet.kind g.A.Databases.DatabaseSet.shows in
     let old = moment w c.args.self.now.core (g.A.Databases.DatabaseSet.members c.args.databases.now) (g.A.Databases.DatabaseSet.next c.args.databases.now) [] in
     absurd (refused-not_done w (g.S.BlockStore.stored c.args.store.now) c.args.event e is old refuses _ c.in-Ok.ensures.does)
 
 pub returns-clause-refused_so : goal.returns-clause-refused_so
 returns-clause-refused_so g c = λ p e stands may works is refuses.
-    let w = workings g.A.Block.Block.header g.A.Application.meaning g.A.Databases.DatabaseSet.kind g.A.Application.runs g.A.Application.hooks g.A.Databases.DatabaseSet.shows in
+    let w = workings g.A.Block.Block.header g.A.Application.works g.A.Databases.DatabaseSet.kind g.A.Databases.DatabaseSet.shows in
     let old = moment w c.args.self.now.core (g.A.Databases.DatabaseSet.members c.args.databases.now) (g.A.Databases.DatabaseSet.next c.args.databases.now) [] in
     elim (refused-cause w (g.S.BlockStore.stored c.args.store.now) c.args.event e is old refuses _ _ c.args.self.now.failed c.args.self.now.register _ _ _ _ p stands may works c.in-Err.error c.in-Err.ensures.cause) [
       | inl same ↦ inl (ap Err same)
