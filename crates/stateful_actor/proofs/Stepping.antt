@@ -124,8 +124,8 @@ module _ {B C I R U H : Type 0} (w : Workings B R H U) (stored : ℕ → Option 
       rw (core, same.1) (stood.0, Works-down w stored base p before m n next other store down.1 stood.1)
 
 -- no database of a machine is away that met a fault and is down still
-pub Held-faulted : {X Y Z : Type 0} (before mid still : Option Anchor) → still ≡ (if is_none mid then before else mid) → (before ≡ None → mid ≡ None → X × Y × Z) → still ≡ None → Z
-Held-faulted before mid still is err none = let down = still-none mid before (sym is ∙ none) in (err down.1 down.0).2
+pub NoneAway-faulted : {X Y Z : Type 0} (before mid still : Option Anchor) → still ≡ (if is_none mid then before else mid) → (before ≡ None → mid ≡ None → X × Y × Z) → still ≡ None → Z
+NoneAway-faulted before mid still is err none = let down = still-none mid before (sym is ∙ none) in (err down.1 down.0).2
 
 -- a restart of a machine that is up isn't done yet
 pub restart-refused : {B C I R U H : Type 0} (header : Header B) (core : Core B R H U) (stored : ℕ → Option (Named B)) (anchor : Option Anchor) (event : Event B C I) → anchor ≢ None → is_restart event ≡ true → RefusesAt header core stored anchor event NotYet

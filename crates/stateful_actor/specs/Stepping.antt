@@ -14,7 +14,7 @@ use Rattle.stateful_actor.specs.declared.error.StepError.TheVariants.{BadEvent, 
 -- as long as it hasn't failed, the machine agrees with the databases; while it is down, no database is away
 pub record IsSafe {Ids S T B R H U : Type 0} (d : Databases Ids S T) (m : d.Members) (header : Header B) (failed : Bool) (core : Core B R H U) : Type 0 where
   pub sound : failed ≡ false → Sound d m header core
-  pub held : core.anchor ≡ None → d.NoneAway m
+  pub none_away : core.anchor ≡ None → d.NoneAway m
 
 -- a machine that has taken nothing in, whose numbers begin at 0
 pub record IsNew {B R H U : Type 0} (failed : Bool) (core : Core B R H U) (register : Register) : Type 0 where

@@ -27,11 +27,21 @@ pub(crate) fn begin_barrier<A: Application>(
     requires free { IsNone core.old.durability.barrier }
     requires behind { core.old.durability.durable < core.old.durability.applied }
     requires idle { A.Databases.kind.Idle (A.Databases.members databases.old) }
-    ensures ok { OnOk result (let w = workings A.Block.header A.works A.Databases.kind A.Databases.shows in BeginsBarrier w (moment w core.old (A.Databases.members databases.old) (A.Databases.next databases.old) marks.old.items) (moment w core.new (A.Databases.members databases.new) (A.Databases.next databases.new) marks.new.items)) }
+    ensures ok { OnOk result (let w = workings A.Block.header A.works A.Databases.kind
+        A.Databases.shows in
+        BeginsBarrier w (moment w core.old (A.Databases.members databases.old)
+        (A.Databases.next databases.old) marks.old.items) (moment w core.new
+        (A.Databases.members databases.new) (A.Databases.next databases.new) marks.new.items)) }
     ensures anchor { core.new.anchor ≡ core.old.anchor }
-    ensures fault { IfErr result (FaultsBarrier (workings A.Block.header A.works A.Databases.kind A.Databases.shows) (A.Databases.counted databases.old) (A.Databases.counted databases.new) (A.Databases.members databases.new) core.old.next_barrier) }
-    ensures states { OnErr result (KeepsStates (workings A.Block.header A.works A.Databases.kind A.Databases.shows) (A.Databases.members databases.old) (A.Databases.members databases.new)) }
-    ensures later { (n : ℕ) → A.Databases.counted databases.old n ≤ A.Databases.counted databases.new n }
+    ensures fault { IfErr result (FaultsBarrier
+        (workings A.Block.header A.works A.Databases.kind A.Databases.shows)
+        (A.Databases.counted databases.old) (A.Databases.counted databases.new)
+        (A.Databases.members databases.new) core.old.next_barrier) }
+    ensures states { OnErr result (KeepsStates
+        (workings A.Block.header A.works A.Databases.kind A.Databases.shows)
+        (A.Databases.members databases.old) (A.Databases.members databases.new)) }
+    ensures later { (n : ℕ)
+        → A.Databases.counted databases.old n ≤ A.Databases.counted databases.new n }
 {
     let number = core.next_barrier;
     if number == u64::MAX {
@@ -55,7 +65,10 @@ pub(crate) fn begin_barrier<A: Application>(
 
 /// The active barrier, where each of its databases was flushed.
 fn flushed_barrier(barrier: &Option<Active>) -> Option<(u64, Height)>
-    ensures found { IfSome result (λ found. (active : Active) × (barrier.now ≡ Some active) × (found ≡ (active.number, active.height)) × All IsGood active.barrier) }
+    ensures found { IfSome result (λ found. (active : Active)
+        × (barrier.now ≡ Some active)
+        × (found ≡ (active.number, active.height))
+        × All IsGood active.barrier) }
     ensures absent { IfNone result (HasUnflushed barrier.now) }
 {
     match barrier {
@@ -73,8 +86,10 @@ fn complete<A: Application>(
     marks: &mut Vec<Mark<A::Block>>,
 ) -> Result<(), Fault>
     requires none { core.old.barrier ≡ None → IsNone core.old.durability.barrier }
-    requires some { IfSome core.old.barrier (λ active. core.old.durability.barrier ≡ Some active.height.0) }
-    ensures ok { OnOk result (CompletesBarrier core.old core.new marks.old.items marks.new.items ⊎ ((core.new ≡ core.old) × (marks.new.items ≡ marks.old.items))) }
+    requires some { IfSome core.old.barrier (λ active. core.old.durability.barrier
+        ≡ Some active.height.0) }
+    ensures ok { OnOk result (CompletesBarrier core.old core.new marks.old.items marks.new.items
+        ⊎ ((core.new ≡ core.old) × (marks.new.items ≡ marks.old.items))) }
     ensures unflushed { OnOk result (HasUnflushed core.new.barrier) }
     ensures anchor { core.new.anchor ≡ core.old.anchor }
     ensures memory { IfErr result (λ f. f ≡ Fault.OutOfMemory) }
@@ -98,7 +113,8 @@ fn release<A: Application>(
     marks: &mut Vec<Mark<A::Block>>,
 ) -> Result<(), Fault>
     ensures ok { OnOk result (Acknowledges core.old core.new marks.old.items marks.new.items) }
-    ensures all { OnOk result (All (λ receipt. core.new.durability.durable < receipt.0) core.new.durability.held) }
+    ensures all { OnOk result (All (λ receipt. core.new.durability.durable < receipt.0)
+        core.new.durability.held) }
     ensures anchor { core.new.anchor ≡ core.old.anchor }
     ensures memory { IfErr result (λ f. f ≡ Fault.OutOfMemory) }
 {
@@ -109,7 +125,7 @@ fn release<A: Application>(
 }
 
 /// Whether there is nothing to settle: the machine is down, or a finalization is in front.
-pub(crate) fn is_held<A: Application>(core: &CoreOf<A>) -> bool
+pub(crate) fn nothing_settles<A: Application>(core: &CoreOf<A>) -> bool
     ensures { IsTrue result ↔ ((core.now.anchor ≡ None) ⊎ (core.now.front ≢ None)) }
 {
     core.anchor.is_none() || core.front.is_some()
@@ -124,13 +140,24 @@ pub(crate) fn settle<A: Application>(
 ) -> Result<(), Fault>
     requires up { core.old.anchor ≢ None }
     requires idle { core.old.front ≡ None }
-    requires sound { Sound A.Databases.kind (A.Databases.members databases.old) A.Block.header core.old }
-    ensures ok { OnOk result (let w = workings A.Block.header A.works A.Databases.kind A.Databases.shows in SettlesAll w (moment w core.old (A.Databases.members databases.old) (A.Databases.next databases.old) marks.old.items) (moment w core.new (A.Databases.members databases.new) (A.Databases.next databases.new) marks.new.items)) }
+    requires sound { Sound A.Databases.kind (A.Databases.members databases.old) A.Block.header
+        core.old }
+    ensures ok { OnOk result (let w = workings A.Block.header A.works A.Databases.kind
+        A.Databases.shows in
+        SettlesAll w (moment w core.old (A.Databases.members databases.old)
+        (A.Databases.next databases.old) marks.old.items) (moment w core.new
+        (A.Databases.members databases.new) (A.Databases.next databases.new) marks.new.items)) }
     ensures anchor { core.new.anchor ≡ core.old.anchor }
-    ensures fault { IfErr result (FaultsBarrier (workings A.Block.header A.works A.Databases.kind A.Databases.shows) (A.Databases.counted databases.old) (A.Databases.counted databases.new) (A.Databases.members databases.new) core.old.next_barrier) }
+    ensures fault { IfErr result (FaultsBarrier
+        (workings A.Block.header A.works A.Databases.kind A.Databases.shows)
+        (A.Databases.counted databases.old) (A.Databases.counted databases.new)
+        (A.Databases.members databases.new) core.old.next_barrier) }
     ensures needed { IfErr result (λ f. (f ≡ Fault.OutOfMemory) ⊎ NeedsBarrier core.old) }
-    ensures states { OnErr result (KeepsStates (workings A.Block.header A.works A.Databases.kind A.Databases.shows) (A.Databases.members databases.old) (A.Databases.members databases.new)) }
-    ensures later { (n : ℕ) → A.Databases.counted databases.old n ≤ A.Databases.counted databases.new n }
+    ensures states { OnErr result (KeepsStates
+        (workings A.Block.header A.works A.Databases.kind A.Databases.shows)
+        (A.Databases.members databases.old) (A.Databases.members databases.new)) }
+    ensures later { (n : ℕ)
+        → A.Databases.counted databases.old n ≤ A.Databases.counted databases.new n }
 {
     complete::<A>(core, marks)?;
     release::<A>(core, marks)?;
@@ -143,8 +170,14 @@ pub(crate) fn settle<A: Application>(
 
 /// The token of a database of the active barrier, where the barrier has this number and the database isn't flushed yet.
 fn open_token(barrier: &Option<Active>, number: u64, index: usize) -> Option<FlushToken>
-    ensures found { IfSome result (λ token. (active : Active) × (barrier.now ≡ Some active) × (active.number ≡ number) × (open_at active.barrier index ≡ Some token)) }
-    ensures absent { IfNone result ((active : Active) → barrier.now ≡ Some active → active.number ≡ number → open_at active.barrier index ≡ None) }
+    ensures found { IfSome result (λ token. (active : Active)
+        × (barrier.now ≡ Some active)
+        × (active.number ≡ number)
+        × (open_at active.barrier index ≡ Some token)) }
+    ensures absent { IfNone result ((active : Active)
+        → barrier.now ≡ Some active
+        → active.number ≡ number
+        → open_at active.barrier index ≡ None) }
 {
     match barrier {
         Some(active) => {
@@ -177,11 +210,23 @@ pub(crate) fn flush<A: Application>(
     marks: &Vec<Mark<A::Block>>,
 ) -> Result<(), Fault>
     requires up { core.old.anchor ≢ None }
-    requires sound { Sound A.Databases.kind (A.Databases.members databases.old) A.Block.header core.old }
-    ensures ok { OnOk result (let w = workings A.Block.header A.works A.Databases.kind A.Databases.shows in Flushes w (moment w core.old (A.Databases.members databases.old) (A.Databases.next databases.old) marks.now.items) (moment w core.new (A.Databases.members databases.new) (A.Databases.next databases.new) marks.now.items) number index) }
-    ensures fault { IfErr result (FaultsFlush (workings A.Block.header A.works A.Databases.kind A.Databases.shows) (A.Databases.counted databases.old) (A.Databases.counted databases.new) (A.Databases.members databases.new) core.old.barrier number index) }
-    ensures states { OnErr result (KeepsStates (workings A.Block.header A.works A.Databases.kind A.Databases.shows) (A.Databases.members databases.old) (A.Databases.members databases.new)) }
-    ensures later { (n : ℕ) → A.Databases.counted databases.old n ≤ A.Databases.counted databases.new n }
+    requires sound { Sound A.Databases.kind (A.Databases.members databases.old) A.Block.header
+        core.old }
+    ensures ok { OnOk result (let w = workings A.Block.header A.works A.Databases.kind
+        A.Databases.shows in
+        Flushes w (moment w core.old (A.Databases.members databases.old)
+        (A.Databases.next databases.old) marks.now.items) (moment w core.new
+        (A.Databases.members databases.new) (A.Databases.next databases.new) marks.now.items) number
+        index) }
+    ensures fault { IfErr result (FaultsFlush
+        (workings A.Block.header A.works A.Databases.kind A.Databases.shows)
+        (A.Databases.counted databases.old) (A.Databases.counted databases.new)
+        (A.Databases.members databases.new) core.old.barrier number index) }
+    ensures states { OnErr result (KeepsStates
+        (workings A.Block.header A.works A.Databases.kind A.Databases.shows)
+        (A.Databases.members databases.old) (A.Databases.members databases.new)) }
+    ensures later { (n : ℕ)
+        → A.Databases.counted databases.old n ≤ A.Databases.counted databases.new n }
 {
     let Some(token) = open_token(&core.barrier, number, index) else {
         return Err(Fault::Failed);

@@ -50,7 +50,8 @@ impl<U: Drop> Cache<U> {
 
     /// The entry of this digest.
     pub fn find(&self, digest: Digest) -> Option<&Cached<U>>
-        ensures found { IfSome (option_copied result) (λ e. Contains self.now e × (e.digest ≡ digest)) }
+        ensures found { IfSome (option_copied result) (λ e. Contains self.now e
+            × (e.digest ≡ digest)) }
         ensures absent { IfNone result (All (λ e. e.digest ≢ digest) self.now) }
     {
         match self.places.get(&digest) {
@@ -96,7 +97,8 @@ impl<U: Drop> Cache<U> {
     /// Keeps the root's descendants of later rounds, and takes the root's batch out.
     pub fn cut(self, alloc: Global, root: Anchor) -> Result<Cut<U>, OutOfMemory>
         ensures kept { IfOk result (λ cut. IsCutTo root self cut.kept) }
-        ensures root { IfOk result (λ cut. MatchOption cut.root (All (λ e. e.digest ≢ root.digest) self) (λ batch. IsRootOf root self batch)) }
+        ensures root { IfOk result (λ cut. MatchOption cut.root
+            (All (λ e. e.digest ≢ root.digest) self) (λ batch. IsRootOf root self batch)) }
     {
         let Cache { entries, places: _ } = self;
         let mut cut = Cut {

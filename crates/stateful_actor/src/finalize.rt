@@ -71,7 +71,8 @@ pub(crate) fn hold<A: Application>(
     marks: &Vec<Mark<A::Block>>,
 ) -> Result<(), Fault>
     requires { (height.0 ≤ core.old.durability.durable) ⊎ HasReceipt core.old.durability height.0 }
-    ensures ok { OnOk result (HoldsReceipt core.old core.new marks.now.items marks.now.items ticket height.0) }
+    ensures ok { OnOk result (HoldsReceipt core.old core.new marks.now.items marks.now.items ticket
+        height.0) }
     ensures memory { IfErr result (λ f. f ≡ Fault.OutOfMemory) }
 {
     core.durability.record_duplicate(height, ticket)?;
@@ -81,8 +82,10 @@ pub(crate) fn hold<A: Application>(
 /// Cuts the cache to the descendants of a cached block, and takes its batch out.
 fn cut<A: Application>(core: &mut CoreOf<A>, block: &Digested<A::Block>) -> Result<Batch<A>, Fault>
     requires { IsIn core.old.cache block.now.digest }
-    ensures kept { OnOk result (IsCutTo (anchor_by A.Block.header block.now) core.old.cache core.new.cache) }
-    ensures root { IfOk result (λ batch. IsRootOf (anchor_by A.Block.header block.now) core.old.cache batch) }
+    ensures kept { OnOk result (IsCutTo (anchor_by A.Block.header block.now) core.old.cache
+        core.new.cache) }
+    ensures root { IfOk result (λ batch. IsRootOf (anchor_by A.Block.header block.now)
+        core.old.cache batch) }
     ensures rest { OnOk result (core.new ≡ record core.old { cache = core.new.cache }) }
     ensures memory { IfErr result (λ f. f ≡ Fault.OutOfMemory) }
 {
@@ -104,14 +107,37 @@ fn apply<A: Application>(
     batch: Batch<A>,
 ) -> Result<(), Fault>
     requires { core.old.durability.applied < A.Block.header.height block.now.block }
-    ensures members { OnOk result ((p q : A.Databases.Ids × A.Databases.States) (c : List (A.Databases.Ids × A.Databases.States)) → A.Databases.kind.point (A.Databases.members databases.old) ≡ Some p → A.Databases.shows batch (q ∷ p ∷ c) → A.Databases.members databases.new ≡ A.Databases.kind.applied (A.Databases.members databases.old) q) }
-    ensures here { OnOk result (A.Databases.kind.point (A.Databases.members databases.new) ≡ None → ⊥) }
-    ensures tokens { OnOk result ((i : ℕ) → A.Databases.kind.tokens (A.Databases.members databases.new) i ≡ A.Databases.kind.tokens (A.Databases.members databases.old) i) }
+    ensures members { OnOk result ((p q : A.Databases.Ids × A.Databases.States)
+        (c : List (A.Databases.Ids × A.Databases.States))
+        → A.Databases.kind.point (A.Databases.members databases.old) ≡ Some p
+        → A.Databases.shows batch (q ∷ p ∷ c)
+        → A.Databases.members databases.new
+        ≡ A.Databases.kind.applied (A.Databases.members databases.old) q) }
+    ensures here { OnOk result (A.Databases.kind.point (A.Databases.members databases.new) ≡ None
+        → ⊥) }
+    ensures tokens { OnOk result ((i : ℕ)
+        → A.Databases.kind.tokens (A.Databases.members databases.new) i
+        ≡ A.Databases.kind.tokens (A.Databases.members databases.old) i) }
     ensures next { A.Databases.next databases.new ≡ A.Databases.next databases.old }
-    ensures core { OnOk result (core.new ≡ record core.old { anchor = Some (anchor_by A.Block.header block.now); durability = record core.old.durability { applied = A.Block.header.height block.now.block } }) }
-    ensures fault { IfErr result (FaultsApply (workings A.Block.header A.works A.Databases.kind A.Databases.shows) (A.Databases.counted databases.old) (A.Databases.counted databases.new) (A.Databases.members databases.new) (A.Databases.members databases.old)) }
-    ensures states { (p q : A.Databases.Ids × A.Databases.States) (c : List (A.Databases.Ids × A.Databases.States)) → A.Databases.kind.point (A.Databases.members databases.old) ≡ Some p → A.Databases.shows batch (q ∷ p ∷ c) → (i : ℕ) → A.Databases.kind.HasState (A.Databases.members databases.new) i p.1 ⊎ A.Databases.kind.HasState (A.Databases.members databases.new) i q.1 }
-    ensures later { (n : ℕ) → A.Databases.counted databases.old n ≤ A.Databases.counted databases.new n }
+    ensures core { OnOk result (core.new
+        ≡ record core.old {
+          anchor = Some (anchor_by A.Block.header block.now);
+          durability = record core.old.durability
+              { applied = A.Block.header.height block.now.block };
+        }) }
+    ensures fault { IfErr result (FaultsApply
+        (workings A.Block.header A.works A.Databases.kind A.Databases.shows)
+        (A.Databases.counted databases.old) (A.Databases.counted databases.new)
+        (A.Databases.members databases.new) (A.Databases.members databases.old)) }
+    ensures states { (p q : A.Databases.Ids × A.Databases.States) (c : List
+        (A.Databases.Ids × A.Databases.States))
+        → A.Databases.kind.point (A.Databases.members databases.old) ≡ Some p
+        → A.Databases.shows batch (q ∷ p ∷ c)
+        → (i : ℕ)
+        → A.Databases.kind.HasState (A.Databases.members databases.new) i p.1
+        ⊎ A.Databases.kind.HasState (A.Databases.members databases.new) i q.1 }
+    ensures later { (n : ℕ)
+        → A.Databases.counted databases.old n ≤ A.Databases.counted databases.new n }
 {
     let root = Anchor::from_block(block);
     databases.apply(batch)?;
@@ -136,10 +162,23 @@ fn advance<A: Application>(
     ensures captured { IfOk result (λ captured. (p : A.Databases.Ids × A.Databases.States)
         → A.Databases.kind.point (A.Databases.members databases.old) ≡ Some p
         → A.works.captures captured context block.now.block p.1) }
-    ensures ok { OnOk result (let w = workings A.Block.header A.works A.Databases.kind A.Databases.shows in Moves w ticket block.now (moment w core.old (A.Databases.members databases.old) (A.Databases.next databases.old) marks.old.items) (moment w core.new (A.Databases.members databases.new) (A.Databases.next databases.new) marks.new.items)) }
-    ensures fault { IfErr result (FaultsAdvance (workings A.Block.header A.works A.Databases.kind A.Databases.shows) (A.Databases.counted databases.old) (A.Databases.counted databases.new) (A.Databases.members databases.new) (Rose (A.count application.old) (A.count application.new)) (A.Databases.members databases.old)) }
-    ensures states { OnErr result (LeavesStates (workings A.Block.header A.works A.Databases.kind A.Databases.shows) (anchor_by A.Block.header block.now) core.old.cache (A.Databases.members databases.old) (A.Databases.members databases.new)) }
-    ensures later { (n : ℕ) → A.Databases.counted databases.old n ≤ A.Databases.counted databases.new n }
+    ensures ok { OnOk result (let w = workings A.Block.header A.works A.Databases.kind
+        A.Databases.shows in
+        Moves w ticket block.now (moment w core.old (A.Databases.members databases.old)
+        (A.Databases.next databases.old) marks.old.items) (moment w core.new
+        (A.Databases.members databases.new) (A.Databases.next databases.new) marks.new.items)) }
+    ensures fault { IfErr result (FaultsAdvance
+        (workings A.Block.header A.works A.Databases.kind A.Databases.shows)
+        (A.Databases.counted databases.old) (A.Databases.counted databases.new)
+        (A.Databases.members databases.new)
+        (Rose (A.count application.old) (A.count application.new))
+        (A.Databases.members databases.old)) }
+    ensures states { OnErr result (LeavesStates
+        (workings A.Block.header A.works A.Databases.kind A.Databases.shows)
+        (anchor_by A.Block.header block.now) core.old.cache (A.Databases.members databases.old)
+        (A.Databases.members databases.new)) }
+    ensures later { (n : ℕ)
+        → A.Databases.counted databases.old n ≤ A.Databases.counted databases.new n }
     ensures application { A.count application.old ≤ A.count application.new }
 {
     marks.push(Mark::Began {
@@ -162,13 +201,25 @@ fn begin_if_none<A: Application>(
     marks: &mut Vec<Mark<A::Block>>,
 ) -> Result<(), Fault>
     requires free { core.old.barrier ≡ None → IsNone core.old.durability.barrier }
-    requires behind { core.old.barrier ≡ None → core.old.durability.durable < core.old.durability.applied }
-    requires idle { core.old.barrier ≡ None → A.Databases.kind.Idle (A.Databases.members databases.old) }
-    ensures ok { OnOk result (let w = workings A.Block.header A.works A.Databases.kind A.Databases.shows in BeginsIfNone w (moment w core.old (A.Databases.members databases.old) (A.Databases.next databases.old) marks.old.items) (moment w core.new (A.Databases.members databases.new) (A.Databases.next databases.new) marks.new.items)) }
-    ensures fault { IfErr result (FaultsBarrier (workings A.Block.header A.works A.Databases.kind A.Databases.shows) (A.Databases.counted databases.old) (A.Databases.counted databases.new) (A.Databases.members databases.new) core.old.next_barrier) }
+    requires behind { core.old.barrier ≡ None
+        → core.old.durability.durable < core.old.durability.applied }
+    requires idle { core.old.barrier ≡ None
+        → A.Databases.kind.Idle (A.Databases.members databases.old) }
+    ensures ok { OnOk result (let w = workings A.Block.header A.works A.Databases.kind
+        A.Databases.shows in
+        BeginsIfNone w (moment w core.old (A.Databases.members databases.old)
+        (A.Databases.next databases.old) marks.old.items) (moment w core.new
+        (A.Databases.members databases.new) (A.Databases.next databases.new) marks.new.items)) }
+    ensures fault { IfErr result (FaultsBarrier
+        (workings A.Block.header A.works A.Databases.kind A.Databases.shows)
+        (A.Databases.counted databases.old) (A.Databases.counted databases.new)
+        (A.Databases.members databases.new) core.old.next_barrier) }
     ensures none { OnErr result (core.old.barrier ≡ None) }
-    ensures states { OnErr result (KeepsStates (workings A.Block.header A.works A.Databases.kind A.Databases.shows) (A.Databases.members databases.old) (A.Databases.members databases.new)) }
-    ensures later { (n : ℕ) → A.Databases.counted databases.old n ≤ A.Databases.counted databases.new n }
+    ensures states { OnErr result (KeepsStates
+        (workings A.Block.header A.works A.Databases.kind A.Databases.shows)
+        (A.Databases.members databases.old) (A.Databases.members databases.new)) }
+    ensures later { (n : ℕ)
+        → A.Databases.counted databases.old n ≤ A.Databases.counted databases.new n }
 {
     if core.barrier.is_none() {
         begin_barrier::<A>(core, databases, marks)
@@ -186,8 +237,11 @@ fn observe<A: Application>(
     marks: &mut Vec<Mark<A::Block>>,
 ) -> Result<(), Fault>
     requires height { A.Block.header.height block.now.block ≡ core.old.durability.applied }
-    requires first { All (λ receipt. receipt.0 ≢ core.old.durability.applied) core.old.durability.held }
-    ensures ok { OnOk result (Observes (workings A.Block.header A.works A.Databases.kind A.Databases.shows) ticket block.now hooked core.old core.new marks.old.items marks.new.items) }
+    requires first { All (λ receipt. receipt.0 ≢ core.old.durability.applied)
+        core.old.durability.held }
+    ensures ok { OnOk result (Observes
+        (workings A.Block.header A.works A.Databases.kind A.Databases.shows) ticket block.now hooked
+        core.old core.new marks.old.items marks.new.items) }
     ensures fault { IfErr result (FaultsObserving hooked core.old.next_job) }
 {
     match hooked {
@@ -226,14 +280,30 @@ pub(crate) fn finalize<A: Application>(
     block: &Digested<A::Block>,
     marks: &mut Vec<Mark<A::Block>>,
 ) -> Result<(), Fault>
-    requires sound { Sound A.Databases.kind (A.Databases.members databases.old) A.Block.header core.old }
-    requires next { (anchor : Anchor) × (core.old.anchor ≡ Some anchor) × IsNext A.Block.header anchor block.now }
+    requires sound { Sound A.Databases.kind (A.Databases.members databases.old) A.Block.header
+        core.old }
+    requires next { (anchor : Anchor)
+        × (core.old.anchor ≡ Some anchor)
+        × IsNext A.Block.header anchor block.now }
     requires idle { core.old.front ≡ None }
     requires cached { IsIn core.old.cache block.now.digest }
-    ensures ok { OnOk result (let w = workings A.Block.header A.works A.Databases.kind A.Databases.shows in Finalizes w ticket block.now (moment w core.old (A.Databases.members databases.old) (A.Databases.next databases.old) marks.old.items) (moment w core.new (A.Databases.members databases.new) (A.Databases.next databases.new) marks.new.items)) }
-    ensures fault { IfErr result (FaultsFinalize (workings A.Block.header A.works A.Databases.kind A.Databases.shows) (A.Databases.counted databases.old) (A.Databases.counted databases.new) (A.Databases.members databases.new) (Rose (A.count application.old) (A.count application.new)) block.now core.old (A.Databases.members databases.old)) }
-    ensures states { OnErr result (LeavesStates (workings A.Block.header A.works A.Databases.kind A.Databases.shows) (anchor_by A.Block.header block.now) core.old.cache (A.Databases.members databases.old) (A.Databases.members databases.new)) }
-    ensures later { (n : ℕ) → A.Databases.counted databases.old n ≤ A.Databases.counted databases.new n }
+    ensures ok { OnOk result (let w = workings A.Block.header A.works A.Databases.kind
+        A.Databases.shows in
+        Finalizes w ticket block.now (moment w core.old (A.Databases.members databases.old)
+        (A.Databases.next databases.old) marks.old.items) (moment w core.new
+        (A.Databases.members databases.new) (A.Databases.next databases.new) marks.new.items)) }
+    ensures fault { IfErr result (FaultsFinalize
+        (workings A.Block.header A.works A.Databases.kind A.Databases.shows)
+        (A.Databases.counted databases.old) (A.Databases.counted databases.new)
+        (A.Databases.members databases.new)
+        (Rose (A.count application.old) (A.count application.new)) block.now core.old
+        (A.Databases.members databases.old)) }
+    ensures states { OnErr result (LeavesStates
+        (workings A.Block.header A.works A.Databases.kind A.Databases.shows)
+        (anchor_by A.Block.header block.now) core.old.cache (A.Databases.members databases.old)
+        (A.Databases.members databases.new)) }
+    ensures later { (n : ℕ)
+        → A.Databases.counted databases.old n ≤ A.Databases.counted databases.new n }
     ensures application { A.count application.old ≤ A.count application.new }
 {
     let context = block.inner().context();

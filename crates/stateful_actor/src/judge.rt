@@ -38,7 +38,8 @@ pub(crate) fn judge<B: Block + Drop, U: Drop, S: BlockStore<B>>(
     store: &S,
     block: &Digested<B>,
 ) -> Result<Judgement, OutOfMemory>
-    ensures { IfOk result (λ judgement. IsJudged B.header anchor cache.now (S.stored store.now) block.now judgement) }
+    ensures { IfOk result (λ judgement. IsJudged B.header anchor cache.now (S.stored store.now)
+        block.now judgement) }
 {
     if cache.has(block.digest()) {
         return Ok(Judgement::Valid);

@@ -30,7 +30,8 @@ impl Model for OneBarrier {
 impl OneBarrier {
     /// Starts at a height that is applied and durable, without receipts.
     pub(crate) fn new(alloc: Global, height: Height) -> OneBarrier
-        ensures { result ≡ record { durable = height.0; applied = height.0; barrier = None; held = [] } }
+        ensures { result
+            ≡ record { durable = height.0; applied = height.0; barrier = None; held = [] } }
     {
         OneBarrier {
             durability: Durability::new(alloc, height),
@@ -46,7 +47,8 @@ impl OneBarrier {
 
     /// Whether a barrier has to begin: none is open, and the last applied height isn't durable.
     pub(crate) fn needs_barrier(&self) -> bool
-        ensures needed { IsTrue result ↔ (IsNone self.now.barrier × (self.now.durable < self.now.applied)) }
+        ensures needed { IsTrue result
+            ↔ (IsNone self.now.barrier × (self.now.durable < self.now.applied)) }
     {
         self.durability.oldest_barrier().is_none() && self.durability.needs_barrier()
     }

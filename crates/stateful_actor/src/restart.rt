@@ -47,11 +47,22 @@ pub(crate) fn restart<A: Application, S: BlockStore<A::Block>>(
     marks: &mut Vec<Mark<A::Block>>,
 ) -> Result<(), Fault>
     requires { A.Databases.kind.NoneAway (A.Databases.members databases.old) }
-    ensures ok { OnOk result (let w = workings A.Block.header A.works A.Databases.kind A.Databases.shows in Reopens w floor.now keep.now (S.stored store.now) (moment w core.old (A.Databases.members databases.old) (A.Databases.next databases.old) marks.old.items) (moment w core.new (A.Databases.members databases.new) (A.Databases.next databases.new) marks.new.items)) }
+    ensures ok { OnOk result (let w = workings A.Block.header A.works A.Databases.kind
+        A.Databases.shows in
+        Reopens w floor.now keep.now (S.stored store.now) (moment w core.old
+        (A.Databases.members databases.old) (A.Databases.next databases.old) marks.old.items)
+        (moment w core.new (A.Databases.members databases.new) (A.Databases.next databases.new)
+        marks.new.items)) }
     ensures err_core { OnErr result (core.new ≡ core.old) }
-    ensures err_held { OnErr result (A.Databases.kind.NoneAway (A.Databases.members databases.new)) }
-    ensures fault { IfErr result (FaultsOpening (workings A.Block.header A.works A.Databases.kind A.Databases.shows) (A.Databases.counted databases.old) (A.Databases.counted databases.new) floor.now keep.now (S.stored store.now) (A.Databases.members databases.old) (A.Databases.members databases.new)) }
-    ensures later { (n : ℕ) → A.Databases.counted databases.old n ≤ A.Databases.counted databases.new n }
+    ensures err_none_away { OnErr result (A.Databases.kind.NoneAway (A.Databases.members
+        databases.new)) }
+    ensures fault { IfErr result (FaultsOpening
+        (workings A.Block.header A.works A.Databases.kind A.Databases.shows)
+        (A.Databases.counted databases.old) (A.Databases.counted databases.new) floor.now keep.now
+        (S.stored store.now) (A.Databases.members databases.old)
+        (A.Databases.members databases.new)) }
+    ensures later { (n : ℕ)
+        → A.Databases.counted databases.old n ≤ A.Databases.counted databases.new n }
 {
     *databases = databases.take().crash(keep);
     let height = start_of(floor);

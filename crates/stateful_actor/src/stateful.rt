@@ -50,7 +50,8 @@ pub struct Stateful<A: Application + Drop> {
 impl<A: Application + Drop> Stateful<A> {
     /// A machine that is down, of this configuration.
     pub fn new(alloc: Global, config: Config<A>) -> Result<Stateful<A>, NewError>
-        ensures new { IfOk result (λ stateful. IsNew stateful.failed stateful.core stateful.register) }
+        ensures new { IfOk result (λ stateful. IsNew stateful.failed stateful.core
+            stateful.register) }
         ensures config { IfOk result (λ stateful. stateful.config ≡ config) }
     {
         Ok(Stateful {

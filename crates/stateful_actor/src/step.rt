@@ -69,23 +69,77 @@ impl<A: Application + Drop> Stateful<A> {
         store: &S,
         event: &Event<A::Block, A::Context, A::Input>,
     ) -> Result<Vec<Mark<A::Block>>, StepError>
-        requires sound { Sound A.Databases.kind (A.Databases.members databases.old) A.Block.header self.old.core }
-        requires held { self.old.core.anchor ≡ None → A.Databases.kind.NoneAway (A.Databases.members databases.old) }
-        ensures takes { IfOk result (λ marks. (stored : ℕ → Option (Named A.Block)) (base : A.Databases.States) (p : Past A.Block A.Context A.Input) → let w = workings A.Block.header A.works A.Databases.kind A.Databases.shows in TrueNames (setting w stored) (after_entry p event.now marks.items) → may_come (numbered A.Databases.kind.count) p event.now ≡ true → Stands w stored base p false self.old.core self.old.register (A.Databases.members databases.old) (A.Databases.next databases.old) (S.stored store.now) → TakesIn w stored (base_after base marks.items (A.Databases.kind.point (A.Databases.members databases.new))) p event.now marks.items false self.new.core self.new.register (A.Databases.members databases.new) (A.Databases.next databases.new) (S.stored store.now)) }
-        ensures register { IfOk result (λ marks. (p : Past A.Block A.Context A.Input) → RegisterStands (numbered A.Databases.kind.count) p self.old.register → RegisterStands (numbered A.Databases.kind.count) (after_entry p event.now marks.items) self.new.register) }
-        ensures sound { OnOk result (Sound A.Databases.kind (A.Databases.members databases.new) A.Block.header self.new.core) }
-        ensures does { IfOk result (λ marks. let w = workings A.Block.header A.works A.Databases.kind A.Databases.shows in IsStep w (S.stored store.now) event.now (moment w self.old.core (A.Databases.members databases.old) (A.Databases.next databases.old) []) (moment w self.new.core (A.Databases.members databases.new) (A.Databases.next databases.new) marks.items)) }
-        ensures refuses { IfErr result (λ e. is_refusal e ≡ true → RefusesAt A.Block.header self.old.core (S.stored store.now) self.old.core.anchor event.now e) }
+        requires sound { Sound A.Databases.kind (A.Databases.members databases.old) A.Block.header
+            self.old.core }
+        requires none_away { self.old.core.anchor ≡ None
+            → A.Databases.kind.NoneAway (A.Databases.members databases.old) }
+        ensures takes { IfOk result (λ marks. (stored : ℕ → Option (Named A.Block))
+            (base : A.Databases.States) (p : Past A.Block A.Context A.Input)
+            → let w = workings A.Block.header A.works A.Databases.kind A.Databases.shows in
+            TrueNames (setting w stored) (after_entry p event.now marks.items)
+            → may_come (numbered A.Databases.kind.count) p event.now ≡ true
+            → Stands w stored base p false self.old.core self.old.register
+            (A.Databases.members databases.old) (A.Databases.next databases.old)
+            (S.stored store.now)
+            → TakesIn w stored (base_after base marks.items (A.Databases.kind.point
+            (A.Databases.members databases.new))) p event.now marks.items false
+            self.new.core self.new.register (A.Databases.members databases.new)
+            (A.Databases.next databases.new) (S.stored store.now)) }
+        ensures register { IfOk result (λ marks. (p : Past A.Block A.Context A.Input)
+            → RegisterStands (numbered A.Databases.kind.count) p self.old.register
+            → RegisterStands (numbered A.Databases.kind.count) (after_entry p event.now marks.items)
+            self.new.register) }
+        ensures sound { OnOk result (Sound A.Databases.kind (A.Databases.members databases.new)
+            A.Block.header self.new.core) }
+        ensures does { IfOk result (λ marks. let w = workings A.Block.header A.works
+            A.Databases.kind A.Databases.shows in
+            IsStep w (S.stored store.now) event.now (moment w self.old.core
+            (A.Databases.members databases.old) (A.Databases.next databases.old) []) (moment w
+            self.new.core (A.Databases.members databases.new) (A.Databases.next databases.new)
+            marks.items)) }
+        ensures refuses { IfErr result (λ e. is_refusal e ≡ true
+            → RefusesAt A.Block.header self.old.core (S.stored store.now) self.old.core.anchor
+            event.now e) }
         ensures up { OnOk result (self.new.core.anchor ≢ None) }
-        ensures unchanged { IfErr result (λ e. changes_nothing e ≡ true → (self.new ≡ self.old) × (databases.new ≡ databases.old)) }
+        ensures unchanged { IfErr result (λ e. changes_nothing e ≡ true
+            → (self.new ≡ self.old) × (databases.new ≡ databases.old)) }
         ensures bad { IsErrOf result StepError.BadEvent → ⊥ }
-        ensures err { OnErr result (self.old.core.anchor ≡ None → self.new.core.anchor ≡ None → (self.new.core ≡ self.old.core) × (self.new.register ≡ self.old.register) × A.Databases.kind.NoneAway (A.Databases.members databases.new)) }
+        ensures err { OnErr result (self.old.core.anchor ≡ None
+            → self.new.core.anchor ≡ None
+            → (self.new.core ≡ self.old.core)
+            × (self.new.register ≡ self.old.register)
+            × A.Databases.kind.NoneAway (A.Databases.members databases.new)) }
         ensures failed { self.new.failed ≡ self.old.failed }
-        ensures cause { IfErr result (let w = workings A.Block.header A.works A.Databases.kind A.Databases.shows in IsCause w A.Run.count A.Hook.count (S.stored store.now) event.now self.old.failed self.old.register (moment w self.old.core (A.Databases.members databases.old) (A.Databases.next databases.old) []) self.new.core (A.Databases.members databases.new) (tally (A.count self.old.config.application) (A.Databases.counted databases.old)) (tally (A.count self.new.config.application) (A.Databases.counted databases.new))) }
-        ensures able { IsErrOf result StepError.Failed → (stored : ℕ → Option (Named A.Block)) (base : A.Databases.States) (p : Past A.Block A.Context A.Input) → let w = workings A.Block.header A.works A.Databases.kind A.Databases.shows in may_come (numbered A.Databases.kind.count) p event.now ≡ true → Stands w stored base p false self.old.core self.old.register (A.Databases.members databases.old) (A.Databases.next databases.old) (S.stored store.now) → ⊥ }
-        ensures behind { OnErr result ((stored : ℕ → Option (Named A.Block)) (base : A.Databases.States) (p : Past A.Block A.Context A.Input) → let w = workings A.Block.header A.works A.Databases.kind A.Databases.shows in TrueNames (setting w stored) (Came event.now ∷ p) → Stands w stored base p false self.old.core self.old.register (A.Databases.members databases.old) (A.Databases.next databases.old) (S.stored store.now) → self.old.core.anchor ≢ None → HoldsBehind (setting w stored) w.kind base p event.now (A.Databases.members databases.new)) }
-        ensures later { (n : ℕ) → A.Databases.counted databases.old n ≤ A.Databases.counted databases.new n }
-        ensures application { A.count self.old.config.application ≤ A.count self.new.config.application }
+        ensures cause { IfErr result (let w = workings A.Block.header A.works A.Databases.kind
+            A.Databases.shows in
+            IsCause w A.Run.count A.Hook.count (S.stored store.now) event.now self.old.failed
+            self.old.register (moment w self.old.core (A.Databases.members databases.old)
+            (A.Databases.next databases.old) []) self.new.core (A.Databases.members databases.new)
+            (tally (A.count self.old.config.application) (A.Databases.counted databases.old))
+            (tally (A.count self.new.config.application) (A.Databases.counted databases.new))) }
+        ensures able { IsErrOf result StepError.Failed
+            → (stored : ℕ → Option (Named A.Block)) (base : A.Databases.States)
+            (p : Past A.Block A.Context A.Input)
+            → let w = workings A.Block.header A.works A.Databases.kind A.Databases.shows in
+            may_come (numbered A.Databases.kind.count) p event.now ≡ true
+            → Stands w stored base p false self.old.core self.old.register
+            (A.Databases.members databases.old) (A.Databases.next databases.old)
+            (S.stored store.now)
+            → ⊥ }
+        ensures behind { OnErr result ((stored : ℕ → Option (Named A.Block))
+            (base : A.Databases.States) (p : Past A.Block A.Context A.Input)
+            → let w = workings A.Block.header A.works A.Databases.kind A.Databases.shows in
+            TrueNames (setting w stored) (Came event.now ∷ p)
+            → Stands w stored base p false self.old.core self.old.register
+            (A.Databases.members databases.old) (A.Databases.next databases.old)
+            (S.stored store.now)
+            → self.old.core.anchor ≢ None
+            → HoldsBehind (setting w stored) w.kind base p event.now
+            (A.Databases.members databases.new)) }
+        ensures later { (n : ℕ)
+            → A.Databases.counted databases.old n ≤ A.Databases.counted databases.new n }
+        ensures application { A.count self.old.config.application ≤ A.count
+            self.new.config.application }
     {
         let task = admit::<A, S>(&self.core, store, event)?;
         let mut marks = Vec::new(self.core.alloc);
@@ -114,42 +168,113 @@ impl<A: Application + Drop> Stateful<A> {
         store: &mut S,
         event: Event<A::Block, A::Context, A::Input>,
     ) -> Result<Vec<Mark<A::Block>>, StepError>
-        requires { IsSafe A.Databases.kind (A.Databases.members databases.old) A.Block.header self.old.failed self.old.core }
+        requires { IsSafe A.Databases.kind (A.Databases.members databases.old) A.Block.header
+            self.old.failed self.old.core }
 
         // Whatever machine, databases and store stood for: they stand for it with the entry added, its marks keep the rules,
         // and the databases hold the fold over what was applied.
-        ensures takes { IfOk result (λ marks. (stored : ℕ → Option (Named A.Block)) (base : A.Databases.States) (p : Past A.Block A.Context A.Input) → let w = workings A.Block.header A.works A.Databases.kind A.Databases.shows in TrueNames (setting w stored) (after_entry p event marks.items) → Stands w stored base p self.old.failed self.old.core self.old.register (A.Databases.members databases.old) (A.Databases.next databases.old) (S.stored store.old) → TakesIn w stored (base_after base marks.items (A.Databases.kind.point (A.Databases.members databases.new))) p event marks.items self.new.failed self.new.core self.new.register (A.Databases.members databases.new) (A.Databases.next databases.new) (S.stored store.old)) }
-        ensures refused { IfErr result (λ e. (stored : ℕ → Option (Named A.Block)) (base : A.Databases.States) (p : Past A.Block A.Context A.Input) → let w = workings A.Block.header A.works A.Databases.kind A.Databases.shows in Stands w stored base p self.old.failed self.old.core self.old.register (A.Databases.members databases.old) (A.Databases.next databases.old) (S.stored store.old) → Stands w stored base p self.new.failed self.new.core self.new.register (A.Databases.members databases.new) (A.Databases.next databases.new) (S.stored store.old)) }
-        ensures register { IfOk result (λ marks. (p : Past A.Block A.Context A.Input) → RegisterStands (numbered A.Databases.kind.count) p self.old.register → RegisterStands (numbered A.Databases.kind.count) (after_entry p event marks.items) self.new.register) }
-        ensures safe { IsSafe A.Databases.kind (A.Databases.members databases.new) A.Block.header self.new.failed self.new.core }
+        ensures takes { IfOk result (λ marks. (stored : ℕ → Option (Named A.Block))
+            (base : A.Databases.States) (p : Past A.Block A.Context A.Input)
+            → let w = workings A.Block.header A.works A.Databases.kind A.Databases.shows in
+            TrueNames (setting w stored) (after_entry p event marks.items)
+            → Stands w stored base p self.old.failed self.old.core self.old.register
+            (A.Databases.members databases.old) (A.Databases.next databases.old)
+            (S.stored store.old)
+            → TakesIn w stored (base_after base marks.items (A.Databases.kind.point
+            (A.Databases.members databases.new))) p event marks.items self.new.failed
+            self.new.core self.new.register (A.Databases.members databases.new)
+            (A.Databases.next databases.new) (S.stored store.old)) }
+        ensures refused { IfErr result (λ e. (stored : ℕ → Option (Named A.Block))
+            (base : A.Databases.States) (p : Past A.Block A.Context A.Input)
+            → let w = workings A.Block.header A.works A.Databases.kind A.Databases.shows in
+            Stands w stored base p self.old.failed self.old.core self.old.register
+            (A.Databases.members databases.old) (A.Databases.next databases.old)
+            (S.stored store.old)
+            → Stands w stored base p self.new.failed self.new.core self.new.register
+            (A.Databases.members databases.new) (A.Databases.next databases.new)
+            (S.stored store.old)) }
+        ensures register { IfOk result (λ marks. (p : Past A.Block A.Context A.Input)
+            → RegisterStands (numbered A.Databases.kind.count) p self.old.register
+            → RegisterStands (numbered A.Databases.kind.count) (after_entry p event marks.items)
+            self.new.register) }
+        ensures safe { IsSafe A.Databases.kind (A.Databases.members databases.new) A.Block.header
+            self.new.failed self.new.core }
         ensures store { store.new ≡ store.old }
 
         // What the event asks for was done, with these marks. A refusal for the event's form, or by the anchor, has its cause.
-        ensures does { IfOk result (λ marks. let w = workings A.Block.header A.works A.Databases.kind A.Databases.shows in IsStep w (S.stored store.old) event (moment w self.old.core (A.Databases.members databases.old) (A.Databases.next databases.old) []) (moment w self.new.core (A.Databases.members databases.new) (A.Databases.next databases.new) marks.items)) }
-        ensures refuses { IfErr result (λ e. is_refusal e ≡ true → RefusesAt A.Block.header self.old.core (S.stored store.old) self.old.core.anchor event e) }
-        ensures refused_so { (p : Past A.Block A.Context A.Input) (e : StepError) → RegisterStands (numbered A.Databases.kind.count) p self.old.register → may_come (numbered A.Databases.kind.count) p event ≡ true → self.old.failed ≡ false → is_refusal e ≡ true → RefusesAt A.Block.header self.old.core (S.stored store.old) self.old.core.anchor event e → IsErrOf result e ⊎ IsErrOf result StepError.OutOfMemory }
+        ensures does { IfOk result (λ marks. let w = workings A.Block.header A.works
+            A.Databases.kind A.Databases.shows in
+            IsStep w (S.stored store.old) event (moment w self.old.core
+            (A.Databases.members databases.old) (A.Databases.next databases.old) []) (moment w
+            self.new.core (A.Databases.members databases.new) (A.Databases.next databases.new)
+            marks.items)) }
+        ensures refuses { IfErr result (λ e. is_refusal e ≡ true
+            → RefusesAt A.Block.header self.old.core (S.stored store.old) self.old.core.anchor event
+            e) }
+        ensures refused_so { (p : Past A.Block A.Context A.Input) (e : StepError)
+            → RegisterStands (numbered A.Databases.kind.count) p self.old.register
+            → may_come (numbered A.Databases.kind.count) p event ≡ true
+            → self.old.failed ≡ false
+            → is_refusal e ≡ true
+            → RefusesAt A.Block.header self.old.core (S.stored store.old) self.old.core.anchor event
+            e
+            → IsErrOf result e ⊎ IsErrOf result StepError.OutOfMemory }
 
         // An event that names work that isn't live is refused as such, and no other; then nothing has changed.
-        ensures bad { (p : Past A.Block A.Context A.Input) → RegisterStands (numbered A.Databases.kind.count) p self.old.register → (IsErrOf result StepError.BadEvent ↔ ((may_come (numbered A.Databases.kind.count) p event ≡ false) × ((self.old.failed ≡ false) ⊎ (is_restart event ≡ true)))) }
-        ensures unchanged { IfErr result (λ e. changes_nothing e ≡ true → (self.new ≡ self.old) × (databases.new ≡ databases.old)) }
+        ensures bad { (p : Past A.Block A.Context A.Input)
+            → RegisterStands (numbered A.Databases.kind.count) p self.old.register
+            → (IsErrOf result StepError.BadEvent
+            ↔ ((may_come (numbered A.Databases.kind.count) p event ≡ false)
+            × ((self.old.failed ≡ false) ⊎ (is_restart event ≡ true)))) }
+        ensures unchanged { IfErr result (λ e. changes_nothing e ≡ true
+            → (self.new ≡ self.old) × (databases.new ≡ databases.old)) }
 
         // After any other error each event but a restart is refused as failed.
-        ensures failed { self.old.failed ≡ true → is_restart event ≡ false → IsErrOf result StepError.Failed }
+        ensures failed { self.old.failed ≡ true
+            → is_restart event ≡ false
+            → IsErrOf result StepError.Failed }
         ensures fails { IfErr result (λ e. changes_nothing e ≡ false → self.new.failed ≡ true) }
         ensures works { OnOk result (self.new.failed ≡ false) }
 
         // Every refusal has its cause. `Failed` comes only from a machine that had failed before.
-        ensures cause { IfErr result (let w = workings A.Block.header A.works A.Databases.kind A.Databases.shows in IsCause w A.Run.count A.Hook.count (S.stored store.old) event self.old.failed self.old.register (moment w self.old.core (A.Databases.members databases.old) (A.Databases.next databases.old) []) self.new.core (A.Databases.members databases.new) (tally (A.count self.old.config.application) (A.Databases.counted databases.old)) (tally (A.count self.new.config.application) (A.Databases.counted databases.new))) }
-        ensures able { IsErrOf result StepError.Failed → (stored : ℕ → Option (Named A.Block)) (base : A.Databases.States) (p : Past A.Block A.Context A.Input) → let w = workings A.Block.header A.works A.Databases.kind A.Databases.shows in Stands w stored base p self.old.failed self.old.core self.old.register (A.Databases.members databases.old) (A.Databases.next databases.old) (S.stored store.old) → self.old.failed ≡ true }
+        ensures cause { IfErr result (let w = workings A.Block.header A.works A.Databases.kind
+            A.Databases.shows in
+            IsCause w A.Run.count A.Hook.count (S.stored store.old) event self.old.failed
+            self.old.register (moment w self.old.core (A.Databases.members databases.old)
+            (A.Databases.next databases.old) []) self.new.core (A.Databases.members databases.new)
+            (tally (A.count self.old.config.application) (A.Databases.counted databases.old))
+            (tally (A.count self.new.config.application) (A.Databases.counted databases.new))) }
+        ensures able { IsErrOf result StepError.Failed
+            → (stored : ℕ → Option (Named A.Block)) (base : A.Databases.States)
+            (p : Past A.Block A.Context A.Input)
+            → let w = workings A.Block.header A.works A.Databases.kind A.Databases.shows in
+            Stands w stored base p self.old.failed self.old.core self.old.register
+            (A.Databases.members databases.old) (A.Databases.next databases.old)
+            (S.stored store.old)
+            → self.old.failed ≡ true }
 
         // Behind a refusal of a machine that was up each database that is here holds what was applied, or that and the block that
         // the event finalizes.
-        ensures behind { OnErr result ((stored : ℕ → Option (Named A.Block)) (base : A.Databases.States) (p : Past A.Block A.Context A.Input) → let w = workings A.Block.header A.works A.Databases.kind A.Databases.shows in TrueNames (setting w stored) (Came event ∷ p) → self.old.failed ≡ false → Stands w stored base p self.old.failed self.old.core self.old.register (A.Databases.members databases.old) (A.Databases.next databases.old) (S.stored store.old) → self.old.core.anchor ≢ None → HoldsBehind (setting w stored) w.kind base p event (A.Databases.members databases.new)) }
-        ensures idle { self.old.failed ≡ true → is_restart event ≡ false → (self.new ≡ self.old) × (databases.new ≡ databases.old) }
+        ensures behind { OnErr result ((stored : ℕ → Option (Named A.Block))
+            (base : A.Databases.States) (p : Past A.Block A.Context A.Input)
+            → let w = workings A.Block.header A.works A.Databases.kind A.Databases.shows in
+            TrueNames (setting w stored) (Came event ∷ p)
+            → self.old.failed ≡ false
+            → Stands w stored base p self.old.failed self.old.core self.old.register
+            (A.Databases.members databases.old) (A.Databases.next databases.old)
+            (S.stored store.old)
+            → self.old.core.anchor ≢ None
+            → HoldsBehind (setting w stored) w.kind base p event (A.Databases.members
+            databases.new)) }
+        ensures idle { self.old.failed ≡ true
+            → is_restart event ≡ false
+            → (self.new ≡ self.old) × (databases.new ≡ databases.old) }
 
         // Counts of faults never fall.
-        ensures later { (n : ℕ) → A.Databases.counted databases.old n ≤ A.Databases.counted databases.new n }
-        ensures application { A.count self.old.config.application ≤ A.count self.new.config.application }
+        ensures later { (n : ℕ)
+            → A.Databases.counted databases.old n ≤ A.Databases.counted databases.new n }
+        ensures application { A.count self.old.config.application ≤ A.count
+            self.new.config.application }
     {
         if self.failed && !is_restart(&event) {
             return Err(StepError::Failed);

@@ -108,8 +108,10 @@ fn admit_verify<A: Application, S: BlockStore<A::Block>>(
     ticket: u64,
     ancestry: &Ancestry<A::Block>,
 ) -> Result<Task<A::Block>, StepError>
-    ensures ok { IfOk result (IsVerification A.Block.header core.now (S.stored store.now) anchor ticket ancestry.now) }
-    ensures err { IfErr result (RefusesVerification A.Block.header core.now (S.stored store.now) anchor ticket ancestry.now) }
+    ensures ok { IfOk result (IsVerification A.Block.header core.now (S.stored store.now) anchor
+        ticket ancestry.now) }
+    ensures err { IfErr result (RefusesVerification A.Block.header core.now (S.stored store.now)
+        anchor ticket ancestry.now) }
 {
     if !is_idle::<A>(core) {
         return Err(StepError::NotYet);
@@ -141,7 +143,8 @@ fn admit_finalize<A: Application>(
     block: &Digested<A::Block>,
 ) -> Result<Task<A::Block>, StepError>
     ensures ok { IfOk result (IsFinalization A.Block.header core.now anchor ticket block.now) }
-    ensures err { IfErr result (RefusesFinalization A.Block.header core.now anchor ticket block.now) }
+    ensures err { IfErr result (RefusesFinalization A.Block.header core.now anchor ticket
+        block.now) }
 {
     let redelivered = is_redelivered(anchor, block)?;
     if !is_idle::<A>(core) {
@@ -169,8 +172,10 @@ pub(crate) fn admit<A: Application, S: BlockStore<A::Block>>(
     store: &S,
     event: &Event<A::Block, A::Context, A::Input>,
 ) -> Result<Task<A::Block>, StepError>
-    ensures ok { IfOk result (IsTaskAt A.Block.header core.now (S.stored store.now) core.now.anchor event.now) }
-    ensures err { IfErr result (RefusesAt A.Block.header core.now (S.stored store.now) core.now.anchor event.now) }
+    ensures ok { IfOk result (IsTaskAt A.Block.header core.now (S.stored store.now) core.now.anchor
+        event.now) }
+    ensures err { IfErr result (RefusesAt A.Block.header core.now (S.stored store.now)
+        core.now.anchor event.now) }
 {
     match (event, core.anchor) {
         (Event::Restart { floor, keep }, None) => Ok(Task::Start {

@@ -40,7 +40,10 @@ fn keep<A: Application>(
     block: &Digested<A::Block>,
     batch: Batch<A>,
 ) -> Result<How, Fault>
-    ensures told { IfOk result (λ how. Agrees (workings A.Block.header A.works A.Databases.kind A.Databases.shows) block.now batch → IsTold (workings A.Block.header A.works A.Databases.kind A.Databases.shows) anchor block.now (Some batch) core.old.cache how core.new.cache) }
+    ensures told { IfOk result (λ how. Agrees
+        (workings A.Block.header A.works A.Databases.kind A.Databases.shows) block.now batch
+        → IsTold (workings A.Block.header A.works A.Databases.kind A.Databases.shows) anchor
+        block.now (Some batch) core.old.cache how core.new.cache) }
     ensures rest { OnOk result (core.new ≡ record core.old { cache = core.new.cache }) }
     ensures memory { IfErr result (λ f. f ≡ Fault.OutOfMemory) }
 {
@@ -64,7 +67,9 @@ fn end<A: Application>(
     block: &Digested<A::Block>,
     ended: Option<Batch<A>>,
 ) -> Result<How, Fault>
-    ensures told { IfOk result (λ how. IsTold (workings A.Block.header A.works A.Databases.kind A.Databases.shows) anchor block.now ended core.old.cache how core.new.cache) }
+    ensures told { IfOk result (λ how. IsTold
+        (workings A.Block.header A.works A.Databases.kind A.Databases.shows) anchor block.now ended
+        core.old.cache how core.new.cache) }
     ensures rest { OnOk result (core.new ≡ record core.old { cache = core.new.cache }) }
     ensures memory { IfErr result (λ f. f ≡ Fault.OutOfMemory) }
 {
@@ -86,7 +91,9 @@ fn finish<A: Application>(
     ended: Option<Batch<A>>,
     marks: &mut Vec<Mark<A::Block>>,
 ) -> Result<(), Fault>
-    ensures ok { OnOk result (Finishes (workings A.Block.header A.works A.Databases.kind A.Databases.shows) anchor live ended core.old.cache core.new.cache marks.old.items marks.new.items) }
+    ensures ok { OnOk result (Finishes
+        (workings A.Block.header A.works A.Databases.kind A.Databases.shows) anchor live ended
+        core.old.cache core.new.cache marks.old.items marks.new.items) }
     ensures rest { OnOk result (core.new ≡ record core.old { cache = core.new.cache }) }
     ensures memory { IfErr result (λ f. f ≡ Fault.OutOfMemory) }
 {
@@ -113,8 +120,13 @@ fn end_hook<A: Application>(
     marks: &mut Vec<Mark<A::Block>>,
 ) -> Result<(), Fault>
     requires height { A.Block.header.height front.block.block ≡ core.old.durability.applied }
-    requires first { All (λ receipt. receipt.0 ≢ core.old.durability.applied) core.old.durability.held }
-    ensures core { OnOk result (core.new ≡ record core.old { durability = with_receipt core.old.durability (A.Block.header.height front.block.block) front.ticket }) }
+    requires first { All (λ receipt. receipt.0 ≢ core.old.durability.applied)
+        core.old.durability.held }
+    ensures core { OnOk result (core.new
+        ≡ record core.old {
+          durability = with_receipt core.old.durability
+              (A.Block.header.height front.block.block) front.ticket;
+        }) }
     ensures marks { OnOk result (marks.new.items ≡ marks.old.items ++ Ended front.job Hooked ∷ []) }
     ensures memory { IfErr result (λ f. f ≡ Fault.OutOfMemory) }
 {
@@ -135,9 +147,12 @@ fn turn_hook<A: Application>(
     marks: &mut Vec<Mark<A::Block>>,
 ) -> Result<(), Fault>
     requires up { core.old.anchor ≡ Some anchor }
-    requires sound { Sound A.Databases.kind (A.Databases.members databases.now) A.Block.header core.old }
+    requires sound { Sound A.Databases.kind (A.Databases.members databases.now) A.Block.header
+        core.old }
     requires hook { MatchOption core.old.front ⊥ (λ front. front.job ≡ job) }
-    ensures ok { OnOk result (TurnsHook (workings A.Block.header A.works A.Databases.kind A.Databases.shows) core.old core.new marks.old.items marks.new.items (A.Databases.members databases.now) job) }
+    ensures ok { OnOk result (TurnsHook
+        (workings A.Block.header A.works A.Databases.kind A.Databases.shows) core.old core.new
+        marks.old.items marks.new.items (A.Databases.members databases.now) job) }
     ensures fault { IfErr result (FaultsTurn A.Run.count A.Hook.count core.old core.new job) }
 {
     let Some(mut front) = core.front.take() else {
@@ -164,10 +179,15 @@ fn turn_run<A: Application>(
     job: u64,
     marks: &mut Vec<Mark<A::Block>>,
 ) -> Result<(), Fault>
-    ensures ok { OnOk result (TurnsRun (workings A.Block.header A.works A.Databases.kind A.Databases.shows) core.old core.new marks.old.items marks.new.items anchor (A.Databases.members databases.now) job) }
-    ensures application { IsErrOf result Fault.Application → RunFailed A.Run.count core.old.runs.items core.new.runs.items job }
+    ensures ok { OnOk result (TurnsRun
+        (workings A.Block.header A.works A.Databases.kind A.Databases.shows) core.old core.new
+        marks.old.items marks.new.items anchor (A.Databases.members databases.now) job) }
+    ensures application { IsErrOf result Fault.Application
+        → RunFailed A.Run.count core.old.runs.items core.new.runs.items job }
     ensures failed { IsErrOf result Fault.Failed → All (λ r. r.job ≢ job) core.old.runs.items }
-    ensures fault { IfErr result (λ f. (f ≡ Fault.OutOfMemory) ⊎ (f ≡ Fault.Application) ⊎ (f ≡ Fault.Failed)) }
+    ensures fault { IfErr result (λ f. (f ≡ Fault.OutOfMemory)
+        ⊎ (f ≡ Fault.Application)
+        ⊎ (f ≡ Fault.Failed)) }
 {
     let Some(i) = find_job(core.runs.as_slice(), job) else {
         return Err(Fault::Failed);
@@ -191,8 +211,11 @@ pub(crate) fn turn<A: Application>(
     marks: &mut Vec<Mark<A::Block>>,
 ) -> Result<(), Fault>
     requires up { core.old.anchor ≡ Some anchor }
-    requires sound { Sound A.Databases.kind (A.Databases.members databases.now) A.Block.header core.old }
-    ensures ok { OnOk result (TurnsJob (workings A.Block.header A.works A.Databases.kind A.Databases.shows) core.old core.new marks.old.items marks.new.items anchor (A.Databases.members databases.now) job) }
+    requires sound { Sound A.Databases.kind (A.Databases.members databases.now) A.Block.header
+        core.old }
+    ensures ok { OnOk result (TurnsJob
+        (workings A.Block.header A.works A.Databases.kind A.Databases.shows) core.old core.new
+        marks.old.items marks.new.items anchor (A.Databases.members databases.now) job) }
     ensures fault { IfErr result (FaultsTurn A.Run.count A.Hook.count core.old core.new job) }
 {
     if is_hook(&core.front, job) {

@@ -42,7 +42,8 @@ pub(crate) fn ask<A: Application>(
     digest: Digest,
     marks: &mut Vec<Mark<A::Block>>,
 ) -> Result<(), Fault>
-    ensures ok { OnOk result (Asks core.old core.new marks.old.items marks.new.items ticket digest) }
+    ensures ok { OnOk result (Asks core.old core.new marks.old.items marks.new.items ticket
+        digest) }
     ensures fault { IfErr result (FaultsDraw core.old.next_fetch) }
 {
     let fetch = core.next_fetch;
@@ -66,12 +67,21 @@ fn begin<A: Application>(
     parent: &Digested<A::Block>,
 ) -> Result<OpenBatch<A>, Fault>
     requires { IsAtHand anchor cache.now parent.now.digest }
-    ensures ok { IfOk result (λ batches. IsOver (workings A.Block.header A.works A.Databases.kind A.Databases.shows) anchor.digest cache.now (A.Databases.members databases.old) (A.Databases.next databases.old) (A.Databases.next databases.new) (λ q c. A.Databases.opened batches ((A.Databases.next databases.old, A.Databases.kind.begun q.1) ∷ q ∷ c)) parent.now.digest) }
+    ensures ok { IfOk result (λ batches. IsOver
+        (workings A.Block.header A.works A.Databases.kind A.Databases.shows) anchor.digest cache.now
+        (A.Databases.members databases.old) (A.Databases.next databases.old)
+        (A.Databases.next databases.new) (λ q c. A.Databases.opened batches
+        ((A.Databases.next databases.old, A.Databases.kind.begun q.1) ∷ q ∷ c)) parent.now.digest) }
     ensures members { A.Databases.members databases.new ≡ A.Databases.members databases.old }
     ensures within { OnOk result (A.Databases.kind.Spent (A.Databases.next databases.old) → ⊥) }
-    ensures keeps { (c : List (A.Databases.Ids × A.Databases.States)) → A.Databases.kind.issued (A.Databases.next databases.old) c → A.Databases.kind.issued (A.Databases.next databases.new) c }
-    ensures fault { IfErr result (FaultsBatches (workings A.Block.header A.works A.Databases.kind A.Databases.shows) (A.Databases.members databases.old) (A.Databases.next databases.old)) }
-    ensures counts { (n : ℕ) → A.Databases.counted databases.new n ≡ A.Databases.counted databases.old n }
+    ensures keeps { (c : List (A.Databases.Ids × A.Databases.States))
+        → A.Databases.kind.issued (A.Databases.next databases.old) c
+        → A.Databases.kind.issued (A.Databases.next databases.new) c }
+    ensures fault { IfErr result (FaultsBatches
+        (workings A.Block.header A.works A.Databases.kind A.Databases.shows)
+        (A.Databases.members databases.old) (A.Databases.next databases.old)) }
+    ensures counts { (n : ℕ)
+        → A.Databases.counted databases.new n ≡ A.Databases.counted databases.old n }
 {
     let parent = parent.digest();
     if parent.is(anchor.digest) {
@@ -109,12 +119,22 @@ fn start<A: Application>(
     parent: Digested<A::Block>,
 ) -> Result<A::Run, Fault>
     requires { IsAtHand anchor core.now.cache parent.digest }
-    ensures ok { IfOk result (λ run. IsOver (workings A.Block.header A.works A.Databases.kind A.Databases.shows) anchor.digest core.now.cache (A.Databases.members databases.old) (A.Databases.next databases.old) (A.Databases.next databases.new) (λ q c. IsRunOf A.works run Candidate block.now.block (A.Databases.next databases.old) (q ∷ c)) parent.digest) }
+    ensures ok { IfOk result (λ run. IsOver
+        (workings A.Block.header A.works A.Databases.kind A.Databases.shows) anchor.digest
+        core.now.cache (A.Databases.members databases.old) (A.Databases.next databases.old)
+        (A.Databases.next databases.new) (λ q c. IsRunOf A.works run Candidate block.now.block
+        (A.Databases.next databases.old) (q ∷ c)) parent.digest) }
     ensures members { A.Databases.members databases.new ≡ A.Databases.members databases.old }
     ensures within { OnOk result (A.Databases.kind.Spent (A.Databases.next databases.old) → ⊥) }
-    ensures keeps { (c : List (A.Databases.Ids × A.Databases.States)) → A.Databases.kind.issued (A.Databases.next databases.old) c → A.Databases.kind.issued (A.Databases.next databases.new) c }
-    ensures fault { IfErr result (FaultsProcess (workings A.Block.header A.works A.Databases.kind A.Databases.shows) (Rose (A.count application.old) (A.count application.new)) (A.Databases.members databases.old) (A.Databases.next databases.old)) }
-    ensures counts { (n : ℕ) → A.Databases.counted databases.new n ≡ A.Databases.counted databases.old n }
+    ensures keeps { (c : List (A.Databases.Ids × A.Databases.States))
+        → A.Databases.kind.issued (A.Databases.next databases.old) c
+        → A.Databases.kind.issued (A.Databases.next databases.new) c }
+    ensures fault { IfErr result (FaultsProcess
+        (workings A.Block.header A.works A.Databases.kind A.Databases.shows)
+        (Rose (A.count application.old) (A.count application.new))
+        (A.Databases.members databases.old) (A.Databases.next databases.old)) }
+    ensures counts { (n : ℕ)
+        → A.Databases.counted databases.new n ≡ A.Databases.counted databases.old n }
     ensures application { A.count application.old ≤ A.count application.new }
 {
     let batches = begin::<A>(anchor, &core.cache, databases, &parent)?;
@@ -135,10 +155,19 @@ pub(crate) fn run<A: Application>(
     marks: &mut Vec<Mark<A::Block>>,
 ) -> Result<(), Fault>
     requires { IsAtHand anchor core.old.cache parent.digest }
-    ensures ok { OnOk result (let w = workings A.Block.header A.works A.Databases.kind A.Databases.shows in StartsRun w anchor.digest ticket block parent (moment w core.old (A.Databases.members databases.old) (A.Databases.next databases.old) marks.old.items) (moment w core.new (A.Databases.members databases.new) (A.Databases.next databases.new) marks.new.items)) }
+    ensures ok { OnOk result (let w = workings A.Block.header A.works A.Databases.kind
+        A.Databases.shows in
+        StartsRun w anchor.digest ticket block parent (moment w core.old
+        (A.Databases.members databases.old) (A.Databases.next databases.old) marks.old.items)
+        (moment w core.new (A.Databases.members databases.new) (A.Databases.next databases.new)
+        marks.new.items)) }
     ensures members { A.Databases.members databases.new ≡ A.Databases.members databases.old }
-    ensures fault { IfErr result (FaultsRun (workings A.Block.header A.works A.Databases.kind A.Databases.shows) (Rose (A.count application.old) (A.count application.new)) core.old.next_job (A.Databases.members databases.old) (A.Databases.next databases.old)) }
-    ensures counts { (n : ℕ) → A.Databases.counted databases.new n ≡ A.Databases.counted databases.old n }
+    ensures fault { IfErr result (FaultsRun
+        (workings A.Block.header A.works A.Databases.kind A.Databases.shows)
+        (Rose (A.count application.old) (A.count application.new)) core.old.next_job
+        (A.Databases.members databases.old) (A.Databases.next databases.old)) }
+    ensures counts { (n : ℕ)
+        → A.Databases.counted databases.new n ≡ A.Databases.counted databases.old n }
     ensures application { A.count application.old ≤ A.count application.new }
 {
     let job = core.next_job;

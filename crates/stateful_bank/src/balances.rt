@@ -38,7 +38,8 @@ pub fn apply_ops(
     entries: &BTreeMap<u64, u64>,
     ops: &[Op],
 ) -> Result<Option<BTreeMap<u64, u64>>, OutOfMemory>
-    ensures { IfOk result (λ after. option_map (λ map. map.entries) after ≡ do_ops entries.now.entries ops.now) }
+    ensures { IfOk result (λ after. option_map (λ map. map.entries) after
+        ≡ do_ops entries.now.entries ops.now) }
 {
     do_ops(entries.clone()?, ops)
 }

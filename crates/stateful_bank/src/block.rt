@@ -55,7 +55,8 @@ impl BankBlock {
         ops: Items<Op>,
         targets: Items<Target>,
     ) -> Option<BankBlock>
-        ensures { SomeIff result (height.0 + 1 < 2 ^ 64) (child_block height.0 parent round ops targets) }
+        ensures { SomeIff result (height.0 + 1 < 2 ^ 64) (child_block height.0 parent round ops
+            targets) }
     {
         Some(BankBlock {
             height: height.next()?,
@@ -82,7 +83,8 @@ impl BankBlock {
 /// Appends the operations behind their number.
 #[tactic(auto, using(std::proofs::Common::append_assoc))]
 fn write_ops(ops: &[Op], out: &mut Vec<u8>) -> Result<(), OutOfMemory>
-    ensures bytes { OnOk result (out.new.items ≡ out.old.items ++ u32_format.spelling (length ops.now) ++ flat_map op_bytes ops.now) }
+    ensures bytes { OnOk result (out.new.items
+        ≡ out.old.items ++ u32_format.spelling (length ops.now) ++ flat_map op_bytes ops.now) }
     ensures counted { OnOk result (length ops.now < 2 ^ 32) }
 {
     let Ok(count) = u32::try_from(ops.len()) else {
@@ -98,7 +100,8 @@ fn write_ops(ops: &[Op], out: &mut Vec<u8>) -> Result<(), OutOfMemory>
 /// Appends the targets behind their number.
 #[tactic(auto, using(std::proofs::Common::append_assoc))]
 fn write_targets(targets: &[Target], out: &mut Vec<u8>) -> Result<(), OutOfMemory>
-    ensures bytes { OnOk result (out.new.items ≡ out.old.items ++ length targets.now ∷ flat_map target_bytes targets.now) }
+    ensures bytes { OnOk result (out.new.items
+        ≡ out.old.items ++ length targets.now ∷ flat_map target_bytes targets.now) }
     ensures counted { OnOk result (length targets.now < 2 ^ 8) }
 {
     let Ok(count) = u8::try_from(targets.len()) else {
@@ -145,7 +148,8 @@ impl Block for BankBlock {
     #[tactic(auto, using(std::proofs::Common::append_assoc), unfolding(crate::specs::BankBlock::block_bytes))]
     fn encode(&self, out: &mut Vec<u8>) -> Result<(), OutOfMemory>
         ensures bytes { OnOk result (out.new.items ≡ out.old.items ++ block_bytes self.now) }
-        ensures counted { OnOk result ((length self.now.ops < 2 ^ 32) × (length self.now.targets < 2 ^ 8)) }
+        ensures counted { OnOk result ((length self.now.ops < 2 ^ 32)
+            × (length self.now.targets < 2 ^ 8)) }
     {
         self.write_head(out)?;
         write_ops(self.ops.as_slice(), out)?;

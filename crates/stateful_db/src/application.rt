@@ -124,9 +124,13 @@ pub trait Application: Faulty + Sized {
         batches: OpenBatch<Self>,
         input: Input<Self::Input, Self::Provider>,
     ) -> Result<Self::Build, AppFault>
-        ensures ok { IfOk result (λ b. (i : Self.Databases.Ids) (p : Self.Databases.Ids × Self.Databases.States) (c : List (Self.Databases.Ids × Self.Databases.States))
+        ensures ok { IfOk result (λ b. (i : Self.Databases.Ids)
+            (p : Self.Databases.Ids × Self.Databases.States)
+            (c : List (Self.Databases.Ids × Self.Databases.States))
             → Self.Databases.opened batches ((i, Self.Databases.kind.begun p.1) ∷ p ∷ c)
-            → works.building b (build_of (asked_for ProposalKind.Prepare context ancestry input.upstream) input.provider i p c) 0) }
+            → works.building b (build_of
+            (asked_for ProposalKind.Prepare context ancestry input.upstream) input.provider i p
+            c) 0) }
         ensures notes { OnOk result (notes self.new ≡ notes self.old) }
         ensures failed { IsErrOf result AppFault.Failed
             → Rose (Self.count self.old) (Self.count self.new) × (notes self.new ≡ notes self.old) }
@@ -140,9 +144,13 @@ pub trait Application: Faulty + Sized {
         batches: OpenBatch<Self>,
         input: Input<Self::Input, Self::Provider>,
     ) -> Result<Self::Build, AppFault>
-        ensures ok { IfOk result (λ b. (i : Self.Databases.Ids) (p : Self.Databases.Ids × Self.Databases.States) (c : List (Self.Databases.Ids × Self.Databases.States))
+        ensures ok { IfOk result (λ b. (i : Self.Databases.Ids)
+            (p : Self.Databases.Ids × Self.Databases.States)
+            (c : List (Self.Databases.Ids × Self.Databases.States))
             → Self.Databases.opened batches ((i, Self.Databases.kind.begun p.1) ∷ p ∷ c)
-            → works.building b (build_of (asked_for ProposalKind.Propose context ancestry input.upstream) input.provider i p c) 0) }
+            → works.building b (build_of
+            (asked_for ProposalKind.Propose context ancestry input.upstream) input.provider i p
+            c) 0) }
         ensures notes { OnOk result (notes self.new ≡ notes self.old) }
         ensures failed { IsErrOf result AppFault.Failed
             → Rose (Self.count self.old) (Self.count self.new) × (notes self.new ≡ notes self.old) }
@@ -156,7 +164,9 @@ pub trait Application: Faulty + Sized {
         batches: OpenBatch<Self>,
         finality: Finality,
     ) -> Result<Self::Run, AppFault>
-        ensures ok { IfOk result (λ r. (i : Self.Databases.Ids) (p : Self.Databases.Ids × Self.Databases.States) (c : List (Self.Databases.Ids × Self.Databases.States))
+        ensures ok { IfOk result (λ r. (i : Self.Databases.Ids)
+            (p : Self.Databases.Ids × Self.Databases.States)
+            (c : List (Self.Databases.Ids × Self.Databases.States))
             → Self.Databases.opened batches ((i, Self.Databases.kind.begun p.1) ∷ p ∷ c)
             → works.runs r (run_of finality context ancestry i p c) 0) }
         ensures notes { OnOk result (notes self.new ≡ notes self.old) }
@@ -169,13 +179,15 @@ pub trait Application: Faulty + Sized {
         run: &mut Self::Run,
         databases: &Self::Databases,
     ) -> Result<Moved<Option<Batch<Self>>>, AppFault>
-        ensures ok { IfOk result (λ moved. (r : RunOf Self.Block Self.Context Self.Databases.Ids Self.Databases.States) (n : ℕ) (q : Self.Databases.Ids × Self.Databases.States)
+        ensures ok { IfOk result (λ moved. (r : RunOf Self.Block Self.Context Self.Databases.Ids
+            Self.Databases.States) (n : ℕ) (q : Self.Databases.Ids × Self.Databases.States)
             → works.runs run.old r n
             → Self.Databases.kind.point (Self.Databases.members databases.now) ≡ Some q
             → IsPoint q (r.at ∷ r.below)
             → Ends moved (outcome works.meaning r.finality r.at.1 (block_of r))
             (λ m s. Self.Databases.shows m (run_chain r s)) (works.runs run.new r (n + 1))) }
-        ensures cost { IfOk result (λ moved. (r : RunOf Self.Block Self.Context Self.Databases.Ids Self.Databases.States) (n : ℕ) (q : Self.Databases.Ids × Self.Databases.States)
+        ensures cost { IfOk result (λ moved. (r : RunOf Self.Block Self.Context Self.Databases.Ids
+            Self.Databases.States) (n : ℕ) (q : Self.Databases.Ids × Self.Databases.States)
             → works.runs run.old r n
             → Self.Databases.kind.point (Self.Databases.members databases.now) ≡ Some q
             → IsPoint q (r.at ∷ r.below)
@@ -190,12 +202,16 @@ pub trait Application: Faulty + Sized {
         build: &mut Self::Build,
         databases: &Self::Databases,
     ) -> Result<Moved<Handoff<Proposed<Self>>>, AppFault>
-        ensures ok { IfOk result (λ moved. (b : BuildOf Self.Block Self.Context Self.Input Self.Provider Self.Databases.Ids Self.Databases.States) (n : ℕ) (q : Self.Databases.Ids × Self.Databases.States)
+        ensures ok { IfOk result (λ moved. (b : BuildOf Self.Block Self.Context Self.Input
+            Self.Provider Self.Databases.Ids Self.Databases.States) (n : ℕ)
+            (q : Self.Databases.Ids × Self.Databases.States)
             → works.building build.old b n
             → Self.Databases.kind.point (Self.Databases.members databases.now) ≡ Some q
             → IsPoint q (b.at ∷ b.below)
             → BuildEnds works moved Self.Databases.shows b (works.building build.new b (n + 1))) }
-        ensures cost { IfOk result (λ moved. (b : BuildOf Self.Block Self.Context Self.Input Self.Provider Self.Databases.Ids Self.Databases.States) (n : ℕ) (q : Self.Databases.Ids × Self.Databases.States)
+        ensures cost { IfOk result (λ moved. (b : BuildOf Self.Block Self.Context Self.Input
+            Self.Provider Self.Databases.Ids Self.Databases.States) (n : ℕ)
+            (q : Self.Databases.Ids × Self.Databases.States)
             → works.building build.old b n
             → Self.Databases.kind.point (Self.Databases.members databases.now) ≡ Some q
             → IsPoint q (b.at ∷ b.below)
@@ -228,7 +244,8 @@ pub trait Application: Faulty + Sized {
         captured: Self::Captured,
         databases: &Self::Databases,
     ) -> Result<Hooked<Self::Hook>, AppFault>
-        ensures ok { IfOk result (λ hooked. (before : Self.Databases.States) (p : Self.Databases.Ids × Self.Databases.States)
+        ensures ok { IfOk result (λ hooked. (before : Self.Databases.States)
+            (p : Self.Databases.Ids × Self.Databases.States)
             → works.captures captured context block.now before
             → Self.Databases.kind.point (Self.Databases.members databases.now) ≡ Some p
             → works.hooks hooked (hook_of context block.now before p.1) 0) }
@@ -238,17 +255,20 @@ pub trait Application: Faulty + Sized {
         ensures notes { OnOk result (notes self.new ≡ works.noted (notes self.old) block.now) }
         ensures failed { IsErrOf result AppFault.Failed
             → Rose (Self.count self.old) (Self.count self.new)
-            × ((notes self.new ≡ notes self.old) ⊎ (notes self.new ≡ works.noted (notes self.old) block.now)) }
+            × ((notes self.new ≡ notes self.old)
+            ⊎ (notes self.new ≡ works.noted (notes self.old) block.now)) }
         ensures later { Self.count self.old ≤ Self.count self.new };
 
     /// One turn of a hook.
     fn turn_hook(hook: &mut Self::Hook, databases: &Self::Databases) -> Result<Moved<()>, AppFault>
-        ensures ok { IfOk result (λ moved. (h : HookOf Self.Block Self.Context Self.Databases.States) (n : ℕ) (p : Self.Databases.Ids × Self.Databases.States)
+        ensures ok { IfOk result (λ moved. (h : HookOf Self.Block Self.Context
+            Self.Databases.States) (n : ℕ) (p : Self.Databases.Ids × Self.Databases.States)
             → works.hooks (Hooked.Pending hook.old) h n
             → Self.Databases.kind.point (Self.Databases.members databases.now) ≡ Some p
             → p.1 ≡ h.after
             → works.hooks (left moved hook.new) h (n + 1)) }
-        ensures cost { IfOk result (λ moved. (h : HookOf Self.Block Self.Context Self.Databases.States) (n : ℕ) (p : Self.Databases.Ids × Self.Databases.States)
+        ensures cost { IfOk result (λ moved. (h : HookOf Self.Block Self.Context
+            Self.Databases.States) (n : ℕ) (p : Self.Databases.Ids × Self.Databases.States)
             → works.hooks (Hooked.Pending hook.old) h n
             → Self.Databases.kind.point (Self.Databases.members databases.now) ≡ Some p
             → p.1 ≡ h.after

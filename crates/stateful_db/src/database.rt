@@ -163,7 +163,8 @@ pub trait ManagedDb: Faulty + Sized + Drop {
     fn new_batch(database: BatchContext<'_, Self>) -> Result<Self::Unmerkleized, OutOfMemory>
         ensures { let s = standing database.entry.database.now in
             IfOk result (λ u. s.id < database.entry.id
-            → Self.Unmerkleized.shows u ((database.entry.id, begun s.disk.newest) ∷ point s ∷ [])) };
+            → Self.Unmerkleized.shows u ((database.entry.id, begun s.disk.newest) ∷ point s ∷
+            [])) };
 
     /// A batch over a sealed one. Its chain is that one's, down to where the database is.
     fn fork(
@@ -192,7 +193,8 @@ pub trait ManagedDb: Faulty + Sized + Drop {
     fn apply(self, batch: Self::Merkleized) -> Result<Self, Broken<Self::Medium>>
         ensures ok { IfOk result (λ db. (p : ℕ × Self.State) (c : List (ℕ × Self.State))
             → Self.Merkleized.shows batch (p ∷ point (standing self) ∷ c)
-            → standing db ≡ record (standing self) { id = p.0; disk = applied (standing self).disk p.1 }) }
+            → standing db
+            ≡ record (standing self) { id = p.0; disk = applied (standing self).disk p.1 }) }
         ensures ok_out { IfOk result (λ db. (standing db).out ≡ (standing self).out) }
         ensures ok_next { IfOk result (λ db. next db ≡ next self) }
         ensures ok_count { IfOk result (λ db. Self.count self ≤ Self.count db) }
@@ -227,8 +229,8 @@ pub trait ManagedDb: Faulty + Sized + Drop {
         }) }
         ensures ok_next { IfOk result (λ db. next db ≡ next self) }
         ensures ok_count { IfOk result (λ db. Self.count self ≤ Self.count db) }
-        ensures err { IfErr result (λ b.
-            IsEither (standing self).disk (flushed (standing self).disk token.place) (disk b.medium)) }
+        ensures err { IfErr result (λ b. IsEither (standing self).disk
+            (flushed (standing self).disk token.place) (disk b.medium)) }
         ensures err_next { IfErr result (λ b. next_of b.medium ≡ next self) }
         ensures err_count { IfErr result (λ b. Self.count self ≤ Self.Medium.count b.medium) }
         ensures failed { IfErr result (λ b.
@@ -238,14 +240,16 @@ pub trait ManagedDb: Faulty + Sized + Drop {
     /// durable, and no token may be out.
     fn prune(self, target: &Self::SyncTarget) -> Result<Self, Broken<Self::Medium>>
         requires idle { (standing self).out ≡ [] }
-        requires kept { KeepsDurable target_of Self.SyncTarget.targeted target.now (standing self).disk }
+        requires kept { KeepsDurable target_of Self.SyncTarget.targeted target.now
+            (standing self).disk }
         ensures ok { IfOk result (λ db. standing db ≡ record (standing self) {
           disk = pruned_to target_of Self.SyncTarget.targeted target.now (standing self).disk;
         }) }
         ensures ok_next { IfOk result (λ db. next db ≡ next self) }
         ensures ok_count { IfOk result (λ db. Self.count self ≤ Self.count db) }
         ensures err { IfErr result (λ b. IsEither (standing self).disk
-            (pruned_to target_of Self.SyncTarget.targeted target.now (standing self).disk) (disk b.medium)) }
+            (pruned_to target_of Self.SyncTarget.targeted target.now (standing self).disk)
+            (disk b.medium)) }
         ensures err_next { IfErr result (λ b. next_of b.medium ≡ next self) }
         ensures err_count { IfErr result (λ b. Self.count self ≤ Self.Medium.count b.medium) }
         ensures failed { IfErr result (λ b.

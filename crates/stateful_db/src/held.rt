@@ -35,7 +35,8 @@ impl<D: ManagedDb> Held<D> {
     pub(crate) fn close_if(&mut self, opened: bool)
         ensures closed { let set = ⟦<Held<D> as DatabaseSet>⟧ in
             set.members self.new ≡ member_closed_if opened (set.members self.old) }
-        ensures next { let set = ⟦<Held<D> as DatabaseSet>⟧ in set.next self.new ≡ set.next self.old }
+        ensures next { let set = ⟦<Held<D> as DatabaseSet>⟧ in
+            set.next self.new ≡ set.next self.old }
         ensures counts { let set = ⟦<Held<D> as DatabaseSet>⟧ in
             (n : ℕ) → set.counted self.new n ≡ set.counted self.old n }
     {
@@ -113,14 +114,16 @@ impl<D: ManagedDb> DatabaseSet for Held<D> {
             IsOpenable (set.members self.old)
             → (t : D.SyncTarget) → expected ≡ Some t
             → IsOpening set.kind (set.next self.new) (set.members self.new) t) }
-        ensures cause { let set = ⟦<Held<D> as DatabaseSet>⟧ in IfErr result (λ e.
-            1 < 2 ^ 64
+        ensures cause { let set = ⟦<Held<D> as DatabaseSet>⟧ in
+            IfErr result (λ e. 1 < 2 ^ 64
             → set.kind.NotOpened (set.members self.old) expected e.index
-            (set.counted self.old e.index) (set.counted self.new e.index) e.why (set.members self.new)) }
+            (set.counted self.old e.index) (set.counted self.new e.index) e.why
+            (set.members self.new)) }
         ensures closed { let set = ⟦<Held<D> as DatabaseSet>⟧ in OnErr result (
             IsOpenable (set.members self.old) → IsOpenable (set.members self.new)) }
         ensures index { IfErr result (λ e. e.index < 1) }
-        ensures next { let set = ⟦<Held<D> as DatabaseSet>⟧ in set.next self.new ≡ set.next self.old }
+        ensures next { let set = ⟦<Held<D> as DatabaseSet>⟧ in
+            set.next self.new ≡ set.next self.old }
         ensures later { let set = ⟦<Held<D> as DatabaseSet>⟧ in
             (n : ℕ) → set.counted self.old n ≤ set.counted self.new n }
     {
@@ -315,7 +318,14 @@ fn begin<D: ManagedDb>(database: &mut D) -> Result<D::Unmerkleized, SetError>
 #[tactic(auto, using(crate::proofs::Chains::below))]
 fn fork<D: ManagedDb>(database: &mut D, parent: &D::Merkleized) -> Result<D::Unmerkleized, SetError>
     ensures drawn { OnOk result (D.next database.new ≡ D.next database.old + 1) }
-    ensures ok { IfOk result (λ u. (q : ℕ × D.State) (above older : List (ℕ × D.State)) → D.Merkleized.shows parent.now (q ∷ above ++ point (D.standing database.old) ∷ older) → AllBelow (D.next database.old) (ids (q ∷ above ++ point (D.standing database.old) ∷ older)) → D.Unmerkleized.shows u ((D.next database.old, D.begun q.1) ∷ q ∷ above ++ point (D.standing database.old) ∷ []) × AllBelow (D.next database.new) (ids ((D.next database.old, D.begun q.1) ∷ q ∷ above ++ point (D.standing database.old) ∷ []))) }
+    ensures ok { IfOk result (λ u. (q : ℕ × D.State) (above older : List (ℕ × D.State))
+        → D.Merkleized.shows parent.now (q ∷ above ++ point (D.standing database.old) ∷ older)
+        → AllBelow (D.next database.old) (ids (q ∷ above ++ point (D.standing database.old) ∷
+        older))
+        → D.Unmerkleized.shows u ((D.next database.old, D.begun q.1) ∷ q ∷ above ++ point
+        (D.standing database.old) ∷ [])
+        × AllBelow (D.next database.new) (ids ((D.next database.old, D.begun q.1) ∷ q ∷ above ++
+        point (D.standing database.old) ∷ []))) }
     ensures next { D.next database.old ≤ D.next database.new }
     ensures standing { D.standing database.new ≡ D.standing database.old }
     ensures count { D.count database.new ≡ D.count database.old }
@@ -338,7 +348,9 @@ fn fork<D: ManagedDb>(database: &mut D, parent: &D::Merkleized) -> Result<D::Unm
 /// The database is lost with its medium. What the set answers that failed so at this call.
 fn lose<D: ManagedDb>(held: &mut Held<D>, broken: Broken<D::Medium>, call: DbCall) -> SetError
     ensures lost { held.new ≡ Held.Lost broken.medium }
-    ensures fault { (n : ℕ) (k : DbCall) → result ≡ SetError.DatabaseFault n k → (n ≡ 0) × (k ≡ call) × (broken.why ≡ Why.Failed) }
+    ensures fault { (n : ℕ) (k : DbCall)
+        → result ≡ SetError.DatabaseFault n k
+        → (n ≡ 0) × (k ≡ call) × (broken.why ≡ Why.Failed) }
     ensures failed { broken.why ≡ Why.Failed → result ≡ SetError.DatabaseFault 0 call }
     ensures memory { broken.why ≡ Why.OutOfMemory → result ≡ SetError.OutOfMemory }
 {

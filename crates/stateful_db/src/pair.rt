@@ -81,14 +81,17 @@ impl<A: ManagedDb, R: DatabaseSet> DatabaseSet for (Held<A>, R) {
             set.kind.Openable (set.members self.old)
             → (t : A.SyncTarget × R.SyncTargets) → expected ≡ Some t
             → IsOpening set.kind (set.next self.new) (set.members self.new) t) }
-        ensures cause { let set = ⟦<(Held<A>, R) as DatabaseSet>⟧ in IfErr result (λ e.
-            set.kind.count < 2 ^ 64
+        ensures cause { let set = ⟦<(Held<A>, R) as DatabaseSet>⟧ in
+            IfErr result (λ e. set.kind.count < 2 ^ 64
             → set.kind.NotOpened (set.members self.old) expected e.index
-            (set.counted self.old e.index) (set.counted self.new e.index) e.why (set.members self.new)) }
+            (set.counted self.old e.index) (set.counted self.new e.index) e.why
+            (set.members self.new)) }
         ensures closed { let set = ⟦<(Held<A>, R) as DatabaseSet>⟧ in OnErr result (
             set.kind.Openable (set.members self.old) → set.kind.Openable (set.members self.new)) }
-        ensures index { let set = ⟦<(Held<A>, R) as DatabaseSet>⟧ in IfErr result (λ e. e.index < set.kind.count) }
-        ensures next { let set = ⟦<(Held<A>, R) as DatabaseSet>⟧ in set.next self.new ≡ set.next self.old }
+        ensures index { let set = ⟦<(Held<A>, R) as DatabaseSet>⟧ in
+            IfErr result (λ e. e.index < set.kind.count) }
+        ensures next { let set = ⟦<(Held<A>, R) as DatabaseSet>⟧ in
+            set.next self.new ≡ set.next self.old }
         ensures later { let set = ⟦<(Held<A>, R) as DatabaseSet>⟧ in
             (n : ℕ) → set.counted self.old n ≤ set.counted self.new n }
     {

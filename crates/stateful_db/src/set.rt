@@ -90,7 +90,7 @@ pub trait DatabaseSet: Sized {
     /// How often the database of this number has failed.
     fn faults(&self, index: usize) -> u64
         requires within { index < kind.count }
-        requires held { kind.NoneAway (members self.now) }
+        requires none_away { kind.NoneAway (members self.now) }
         ensures { result ≡ counted self.now index };
 
     /// Whether every database is here.
@@ -113,7 +113,8 @@ pub trait DatabaseSet: Sized {
             kind.count < 2 ^ 64
             → kind.NotOpened (members self.old) expected e.index
             (counted self.old e.index) (counted self.new e.index) e.why (members self.new)) }
-        ensures closed { OnErr result (kind.Openable (members self.old) → kind.Openable (members self.new)) }
+        ensures closed { OnErr result (kind.Openable (members self.old)
+            → kind.Openable (members self.new)) }
         ensures index { IfErr result (λ e. e.index < kind.count) }
         ensures next { next self.new ≡ next self.old }
         ensures later { (n : ℕ) → counted self.old n ≤ counted self.new n };
@@ -136,7 +137,9 @@ pub trait DatabaseSet: Sized {
             × kind.issued (next self.new) ((next self.old, kind.begun p.1) ∷ p ∷ [])) }
         ensures drawn { OnOk result (next self.new ≡ kind.following (next self.old)) }
         ensures members { members self.new ≡ members self.old }
-        ensures keeps { (c : List (Self.Ids × Self.States)) → kind.issued (next self.old) c → kind.issued (next self.new) c }
+        ensures keeps { (c : List (Self.Ids × Self.States))
+            → kind.issued (next self.old) c
+            → kind.issued (next self.new) c }
         ensures lost { IsErrOf result SetError.Lost ↔ (kind.point (members self.old) ≡ None) }
         ensures exhausted { IsErrOf result SetError.Exhausted → kind.Spent (next self.old) }
         ensures within { OnOk result (kind.Spent (next self.old) → ⊥) }
@@ -146,15 +149,19 @@ pub trait DatabaseSet: Sized {
     /// Children of sealed batches, whose reads see these first, and for which one id of each database is drawn. Their
     /// chain is cut behind where the databases are. Refused as `new_batches` is.
     fn fork_batches(&mut self, parent: &Self::Merkleized) -> Result<Self::Unmerkleized, SetError>
-        ensures ok { IfOk result (λ u. (p q : Self.Ids × Self.States) (above older : List (Self.Ids × Self.States))
+        ensures ok { IfOk result (λ u. (p q : Self.Ids × Self.States) (above older : List
+            (Self.Ids × Self.States))
             → kind.point (members self.old) ≡ Some p
             → shows parent.now (q ∷ above ++ p ∷ older)
             → kind.issued (next self.old) (q ∷ above ++ p ∷ older)
             → opened u ((next self.old, kind.begun q.1) ∷ q ∷ above ++ p ∷ [])
-            × kind.issued (next self.new) ((next self.old, kind.begun q.1) ∷ q ∷ above ++ p ∷ [])) }
+            × kind.issued (next self.new) ((next self.old, kind.begun q.1) ∷ q ∷ above ++ p ∷
+            [])) }
         ensures drawn { OnOk result (next self.new ≡ kind.following (next self.old)) }
         ensures members { members self.new ≡ members self.old }
-        ensures keeps { (c : List (Self.Ids × Self.States)) → kind.issued (next self.old) c → kind.issued (next self.new) c }
+        ensures keeps { (c : List (Self.Ids × Self.States))
+            → kind.issued (next self.old) c
+            → kind.issued (next self.new) c }
         ensures lost { IsErrOf result SetError.Lost ↔ (kind.point (members self.old) ≡ None) }
         ensures exhausted { IsErrOf result SetError.Exhausted → kind.Spent (next self.old) }
         ensures within { OnOk result (kind.Spent (next self.old) → ⊥) }
@@ -163,12 +170,14 @@ pub trait DatabaseSet: Sized {
 
     /// Seals each member against its own database. `StaleRead` also where a database isn't here.
     fn seal(&self, batches: Self::Unmerkleized) -> Result<Self::Merkleized, BatchError>
-        ensures ok { IfOk result (λ m. (p : Self.Ids × Self.States) (c : List (Self.Ids × Self.States))
+        ensures ok { IfOk result (λ m. (p : Self.Ids × Self.States) (c : List
+            (Self.Ids × Self.States))
             → kind.point (members self.now) ≡ Some p
             → opened batches c
             → IsPoint p c
             → shows m c) }
-        ensures stale { IsErrOf result BatchError.StaleRead → (p : Self.Ids × Self.States) (c : List (Self.Ids × Self.States))
+        ensures stale { IsErrOf result BatchError.StaleRead
+            → (p : Self.Ids × Self.States) (c : List (Self.Ids × Self.States))
             → kind.point (members self.now) ≡ Some p
             → opened batches c
             → IsPoint p c
@@ -177,7 +186,8 @@ pub trait DatabaseSet: Sized {
             → opened batches (p ∷ c)
             → IsErrOf result BatchError.Exhausted
             → kind.Full p.1 }
-        ensures within { IfOk result (λ _. (p : Self.Ids × Self.States) (c : List (Self.Ids × Self.States))
+        ensures within { IfOk result (λ _. (p : Self.Ids × Self.States)
+            (c : List (Self.Ids × Self.States))
             → opened batches (p ∷ c)
             → kind.Full p.1
             → ⊥) };
@@ -196,15 +206,18 @@ pub trait DatabaseSet: Sized {
         ensures none { (p : Self.Ids × Self.States) (c : List (Self.Ids × Self.States))
             → shows batches.now (p ∷ c)
             → (IsNone result ↔ (kind.target_of p.1 ≡ targets.now)) }
-        ensures first { IfSome result (λ m. (p : Self.Ids × Self.States) (c : List (Self.Ids × Self.States))
+        ensures first { IfSome result (λ m. (p : Self.Ids × Self.States)
+            (c : List (Self.Ids × Self.States))
             → kind.count < 2 ^ 64
             → shows batches.now (p ∷ c)
             → (kind.Agrees (kind.target_of p.1) targets.now m.0 → ⊥)
             × ((i : ℕ) → i < m.0 → kind.Agrees (kind.target_of p.1) targets.now i)) }
-        ensures targets { IfSome result (λ m. (p : Self.Ids × Self.States) (c : List (Self.Ids × Self.States))
+        ensures targets { IfSome result (λ m. (p : Self.Ids × Self.States)
+            (c : List (Self.Ids × Self.States))
             → kind.count < 2 ^ 64
             → shows batches.now (p ∷ c)
-            → (m.1 ≡ kind.target_at targets.now m.0) × (m.2 ≡ kind.target_at (kind.target_of p.1) m.0)) }
+            → (m.1 ≡ kind.target_at targets.now m.0)
+            × (m.2 ≡ kind.target_at (kind.target_of p.1) m.0)) }
         ensures index { IfSome result (λ m. m.0 < kind.count) };
 
     /// Applies batches whose parents are the databases' states, in order.
@@ -217,7 +230,8 @@ pub trait DatabaseSet: Sized {
         ensures unchanged { IsErrOf result SetError.Lost → members self.new ≡ members self.old }
         ensures exhausted { IsErrOf result SetError.Exhausted → ⊥ }
         ensures here { OnOk result (kind.point (members self.new) ≡ None → ⊥) }
-        ensures tokens { OnOk result ((i : ℕ) → kind.tokens (members self.new) i ≡ kind.tokens (members self.old) i) }
+        ensures tokens { OnOk result ((i : ℕ)
+            → kind.tokens (members self.new) i ≡ kind.tokens (members self.old) i) }
         ensures next { next self.new ≡ next self.old }
         ensures fault { (n : ℕ) (k : DbCall) → IsErrOf result (SetError.DatabaseFault n k)
             → kind.count < 2 ^ 64
@@ -231,11 +245,15 @@ pub trait DatabaseSet: Sized {
             → (p q : Self.Ids × Self.States) (c : List (Self.Ids × Self.States))
             → kind.point (members self.old) ≡ Some p
             → shows batches (q ∷ p ∷ c)
-            → (n : ℕ) × (n < kind.count) × kind.LostApplying (members self.old) q n (members self.new) }
-        ensures err { OnErr result ((p q : Self.Ids × Self.States) (c : List (Self.Ids × Self.States))
+            → (n : ℕ)
+            × (n < kind.count)
+            × kind.LostApplying (members self.old) q n (members self.new) }
+        ensures err { OnErr result ((p q : Self.Ids × Self.States) (c : List
+            (Self.Ids × Self.States))
             → kind.point (members self.old) ≡ Some p
             → shows batches (q ∷ p ∷ c)
-            → (i : ℕ) → kind.HasState (members self.new) i p.1 ⊎ kind.HasState (members self.new) i q.1) }
+            → (i : ℕ)
+            → kind.HasState (members self.new) i p.1 ⊎ kind.HasState (members self.new) i q.1) }
         ensures later { (n : ℕ) → counted self.old n ≤ counted self.new n };
 
     /// Starts persisting all checkpoints, in order. One token for each database is added to those that are given.
@@ -243,16 +261,23 @@ pub trait DatabaseSet: Sized {
         requires { kind.HasRoom (members self.old) }
         ensures ok { OnOk result (members self.new ≡ kind.finalized (members self.old)) }
         ensures tokens { OnOk result (map (λ t. t.place) tokens.new
-            ≡ map (λ t. t.place) tokens.old ++ each_below (kind.place (members self.old)) kind.count) }
+            ≡ map (λ t. t.place) tokens.old ++ each_below (kind.place (members self.old))
+            kind.count) }
         ensures lost { IsErrOf result SetError.Lost → ⊥ }
         ensures exhausted { IsErrOf result SetError.Exhausted → ⊥ }
         ensures next { next self.new ≡ next self.old }
-        ensures fault { (n : ℕ) (k : DbCall) → IsErrOf result (SetError.DatabaseFault n k)
+        ensures fault { (n : ℕ) (k : DbCall)
+            → IsErrOf result (SetError.DatabaseFault n k)
             → kind.count < 2 ^ 64
-            → (k ≡ DbCall.Finalize) × (n < kind.count) × Rose (counted self.old n) (counted self.new n)
-            × kind.Lost (members self.new) n × kind.LostFinalizing (members self.old) n (members self.new) }
+            → (k ≡ DbCall.Finalize)
+            × (n < kind.count)
+            × Rose (counted self.old n) (counted self.new n)
+            × kind.Lost (members self.new) n
+            × kind.LostFinalizing (members self.old) n (members self.new) }
         ensures memory { IsErrOf result SetError.OutOfMemory
-            → (n : ℕ) × (n < kind.count) × kind.LostFinalizing (members self.old) n (members self.new) }
+            → (n : ℕ)
+            × (n < kind.count)
+            × kind.LostFinalizing (members self.old) n (members self.new) }
         ensures err { OnErr result ((i : ℕ) (s : Self.States)
             → kind.HasState (members self.old) i s
             → kind.HasState (members self.new) i s) }
@@ -262,21 +287,28 @@ pub trait DatabaseSet: Sized {
     final fn finalize(&mut self, alloc: Global) -> Result<Barrier, SetError>
         requires { kind.HasRoom (members self.old) }
         ensures ok { OnOk result (members self.new ≡ kind.finalized (members self.old)) }
-        ensures tokens { IfOk result (λ barrier. barrier ≡
-            map (λ place. unanswered (record { place = place })) (each_below (kind.place (members self.old)) kind.count)) }
+        ensures tokens { IfOk result (λ barrier. barrier
+            ≡ map (λ place. unanswered (record { place = place })) (each_below
+            (kind.place (members self.old)) kind.count)) }
         ensures count { IfOk result (λ barrier. length barrier ≡ kind.count) }
         ensures handles { IfOk result (λ barrier. (i : ℕ) → i < kind.count
             → open_at barrier i ≡ Some (record { place = kind.place (members self.old) i })) }
         ensures lost { IsErrOf result SetError.Lost → ⊥ }
         ensures exhausted { IsErrOf result SetError.Exhausted → ⊥ }
         ensures next { next self.new ≡ next self.old }
-        ensures fault { (n : ℕ) (k : DbCall) → IsErrOf result (SetError.DatabaseFault n k)
+        ensures fault { (n : ℕ) (k : DbCall)
+            → IsErrOf result (SetError.DatabaseFault n k)
             → kind.count < 2 ^ 64
-            → (k ≡ DbCall.Finalize) × (n < kind.count) × Rose (counted self.old n) (counted self.new n)
-            × kind.Lost (members self.new) n × kind.LostFinalizing (members self.old) n (members self.new) }
+            → (k ≡ DbCall.Finalize)
+            × (n < kind.count)
+            × Rose (counted self.old n) (counted self.new n)
+            × kind.Lost (members self.new) n
+            × kind.LostFinalizing (members self.old) n (members self.new) }
         ensures memory { IsErrOf result SetError.OutOfMemory
             → (members self.new ≡ kind.finalized (members self.old))
-            ⊎ ((n : ℕ) × (n < kind.count) × kind.LostFinalizing (members self.old) n (members self.new)) }
+            ⊎ ((n : ℕ)
+            × (n < kind.count)
+            × kind.LostFinalizing (members self.old) n (members self.new)) }
         ensures err { OnErr result ((i : ℕ) (s : Self.States)
             → kind.HasState (members self.old) i s
             → kind.HasState (members self.new) i s) }
@@ -294,7 +326,8 @@ pub trait DatabaseSet: Sized {
     fn flush(&mut self, index: usize, token: FlushToken) -> Result<(), SetError>
         requires within { index < kind.count }
         requires out { Contains (kind.tokens (members self.old) index) token.place }
-        ensures ok { OnOk result (members self.new ≡ kind.flushed (members self.old) index token.place) }
+        ensures ok { OnOk result (members self.new
+            ≡ kind.flushed (members self.old) index token.place) }
         ensures lost { IsErrOf result SetError.Lost → ⊥ }
         ensures exhausted { IsErrOf result SetError.Exhausted → ⊥ }
         ensures next { next self.new ≡ next self.old }
@@ -323,7 +356,9 @@ pub trait DatabaseSet: Sized {
             × kind.Lost (members self.new) n
             × kind.LostPruning (members self.old) targets.now n (members self.new) }
         ensures memory { IsErrOf result SetError.OutOfMemory
-            → (n : ℕ) × (n < kind.count) × kind.LostPruning (members self.old) targets.now n (members self.new) }
+            → (n : ℕ)
+            × (n < kind.count)
+            × kind.LostPruning (members self.old) targets.now n (members self.new) }
         ensures err { OnErr result ((i : ℕ) (s : Self.States)
             → kind.HasState (members self.old) i s
             → kind.HasState (members self.new) i s) }

@@ -234,11 +234,13 @@ impl Application for Bank {
             Costs (Some (run_turns r.at.1.entries (block_of r).ops)) moved n)) }
 
         // It fails exactly where the state would end at the last number, but for want of memory.
-        ensures exhausted { let set = ⟦<Held<Plain> as DatabaseSet>⟧ in IsErrOf result AppFault.Failed →
-            EachRunAt run.old (set.kind.point (set.members databases.now))
+        ensures exhausted { let set = ⟦<Held<Plain> as DatabaseSet>⟧ in
+            IsErrOf result AppFault.Failed
+            → EachRunAt run.old (set.kind.point (set.members databases.now))
             (λ r n. 2 ^ 64 - 1 ≤ r.at.1.size + 1) }
-        ensures within { let set = ⟦<Held<Plain> as DatabaseSet>⟧ in IfOk result (λ moved. IsSealed moved →
-            EachRunAt run.old (set.kind.point (set.members databases.now))
+        ensures within { let set = ⟦<Held<Plain> as DatabaseSet>⟧ in
+            IfOk result (λ moved. IsSealed moved
+            → EachRunAt run.old (set.kind.point (set.members databases.now))
             (λ r n. r.at.1.size + 1 < 2 ^ 64 - 1)) }
         ensures faults { run.new.faults ≡ counted result run.old.faults }
         ensures failed { IsErrOf result AppFault.Failed → Rose run.old.faults run.new.faults }
@@ -262,11 +264,13 @@ impl Application for Bank {
             Costs (Some (build_turns (proposal_of b.asked) b.at.1)) moved n)) }
 
         // It fails exactly where the state would end at the last number, but for want of memory.
-        ensures exhausted { let set = ⟦<Held<Plain> as DatabaseSet>⟧ in IsErrOf result AppFault.Failed →
-            EachBuildAt build.old (set.kind.point (set.members databases.now))
+        ensures exhausted { let set = ⟦<Held<Plain> as DatabaseSet>⟧ in
+            IsErrOf result AppFault.Failed
+            → EachBuildAt build.old (set.kind.point (set.members databases.now))
             (λ b n. 2 ^ 64 - 1 ≤ b.at.1.size + 1) }
-        ensures within { let set = ⟦<Held<Plain> as DatabaseSet>⟧ in IfOk result (λ moved. IsBuilt moved →
-            EachBuildAt build.old (set.kind.point (set.members databases.now))
+        ensures within { let set = ⟦<Held<Plain> as DatabaseSet>⟧ in
+            IfOk result (λ moved. IsBuilt moved
+            → EachBuildAt build.old (set.kind.point (set.members databases.now))
             (λ b n. b.at.1.size + 1 < 2 ^ 64 - 1)) }
         ensures faults { build.new.faults ≡ counted result build.old.faults }
         ensures failed { IsErrOf result AppFault.Failed → Rose build.old.faults build.new.faults }

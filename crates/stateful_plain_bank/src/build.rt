@@ -115,16 +115,18 @@ impl BankBuild {
 
     /// One turn. A build that has ended, or whose batch is stale, ends with nothing.
     pub(crate) fn turn(&mut self, database: &Plain) -> Result<Moved<Handoff<Built>>, AppFault>
-        ensures ok { IfOk result (λ moved. EachBuild self.old (point (standing_of database.now)) (λ b n.
-            BuildEnds bank_works moved SealShows b (IsBuild self.new b (n + 1)))) }
-        ensures cost { IfOk result (λ moved. EachBuild self.old (point (standing_of database.now)) (λ b n.
-            Costs (Some (build_turns (proposal_of b.asked) b.at.1)) moved n)) }
+        ensures ok { IfOk result (λ moved. EachBuild self.old (point (standing_of database.now))
+            (λ b n. BuildEnds bank_works moved SealShows b (IsBuild self.new b (n + 1)))) }
+        ensures cost { IfOk result (λ moved. EachBuild self.old (point (standing_of database.now))
+            (λ b n. Costs (Some (build_turns (proposal_of b.asked) b.at.1)) moved n)) }
 
         // It fails exactly where the state would end at the last number, but for want of memory.
-        ensures exhausted { IsErrOf result AppFault.Failed →
-            EachBuild self.old (point (standing_of database.now)) (λ b n. 2 ^ 64 - 1 ≤ b.at.1.size + 1) }
-        ensures within { IfOk result (λ moved. IsBuilt moved →
-            EachBuild self.old (point (standing_of database.now)) (λ b n. b.at.1.size + 1 < 2 ^ 64 - 1)) }
+        ensures exhausted { IsErrOf result AppFault.Failed
+            → EachBuild self.old (point (standing_of database.now)) (λ b n. 2 ^ 64 - 1 ≤ b.at.1.size
+            + 1) }
+        ensures within { IfOk result (λ moved. IsBuilt moved
+            → EachBuild self.old (point (standing_of database.now)) (λ b n. b.at.1.size + 1 < 2 ^ 64
+            - 1)) }
         ensures faults { self.new.faults ≡ counted result self.old.faults }
         ensures later { self.old.faults ≤ self.new.faults }
     {

@@ -73,17 +73,19 @@ impl BankRun {
         &mut self,
         database: &Plain,
     ) -> Result<Moved<Option<PlainMerkleized>>, AppFault>
-        ensures ok { IfOk result (λ moved. EachRun self.old (point (standing_of database.now)) (λ r n.
-            Ends moved (outcome bank_meaning r.finality r.at.1 (block_of r))
+        ensures ok { IfOk result (λ moved. EachRun self.old (point (standing_of database.now))
+            (λ r n. Ends moved (outcome bank_meaning r.finality r.at.1 (block_of r))
             (λ m s. SealShows m (run_chain r s)) (IsRun self.new r (n + 1)))) }
-        ensures cost { IfOk result (λ moved. EachRun self.old (point (standing_of database.now)) (λ r n.
-            Costs (Some (run_turns r.at.1.entries (block_of r).ops)) moved n)) }
+        ensures cost { IfOk result (λ moved. EachRun self.old (point (standing_of database.now))
+            (λ r n. Costs (Some (run_turns r.at.1.entries (block_of r).ops)) moved n)) }
 
         // It fails exactly where the state would end at the last number, but for want of memory.
-        ensures exhausted { IsErrOf result AppFault.Failed →
-            EachRun self.old (point (standing_of database.now)) (λ r n. 2 ^ 64 - 1 ≤ r.at.1.size + 1) }
-        ensures within { IfOk result (λ moved. IsSealed moved →
-            EachRun self.old (point (standing_of database.now)) (λ r n. r.at.1.size + 1 < 2 ^ 64 - 1)) }
+        ensures exhausted { IsErrOf result AppFault.Failed
+            → EachRun self.old (point (standing_of database.now)) (λ r n. 2 ^ 64 - 1 ≤ r.at.1.size +
+            1) }
+        ensures within { IfOk result (λ moved. IsSealed moved
+            → EachRun self.old (point (standing_of database.now)) (λ r n. r.at.1.size + 1 < 2 ^ 64 -
+            1)) }
         ensures faults { self.new.faults ≡ counted result self.old.faults }
         ensures later { self.old.faults ≤ self.new.faults }
     {

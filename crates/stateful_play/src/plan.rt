@@ -88,7 +88,8 @@ fn child(alloc: Global, parent: &Planned, block: &PlannedBlock) -> Result<Planne
 
 /// Genesis, and the block of each line.
 pub fn plan(alloc: Global, blocks: &[PlannedBlock]) -> Result<Vec<Planned>, OutOfMemory>
-    requires { EachIndex blocks.now (λ i. (d : PlannedBlock) → (slice_index_or blocks.now i d).parent ≤ i) }
+    requires { EachIndex blocks.now (λ i. (d : PlannedBlock)
+        → (slice_index_or blocks.now i d).parent ≤ i) }
     ensures made { IfOk result (λ made. ArePlanned blocks.now made.items) }
     ensures one_each { IfOk result (λ made. length made.items ≡ length blocks.now + 1) }
     ensures genesis { IfOk result (λ made. slice_get made.items 0 ≡ Some genesis) }

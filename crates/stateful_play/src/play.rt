@@ -62,7 +62,8 @@ pub struct Told {
 
 /// A name with the digest of its block.
 fn label(alloc: Global, name: &Name, made: &Planned) -> Result<Label, OutOfMemory>
-    ensures { IfOk result (λ label. label ≡ record { name = name.now; digest = made.now.block.digest }) }
+    ensures { IfOk result (λ label. label
+        ≡ record { name = name.now; digest = made.now.block.digest }) }
 {
     Ok(Label {
         name: Items::from_vec(name.as_str().as_bytes().to_vec(alloc)?),
@@ -99,7 +100,8 @@ fn new_machine(alloc: Global) -> Result<Stateful<Bank>, OutOfMemory>
 /// A database that is closed, on an empty medium that hasn't failed.
 fn closed(alloc: Global) -> Held<Plain>
     ensures none_away { ⟦<Held<Plain> as DatabaseSet>⟧.kind.NoneAway (⟦<Held<Plain> as DatabaseSet>⟧.members result) }
-    ensures empty { ⟦<Held<Plain> as DatabaseSet>⟧.members result ≡ closed_member (record { older = []; newest = initial; pruned = 0; durable = 0 }) }
+    ensures empty { ⟦<Held<Plain> as DatabaseSet>⟧.members result
+        ≡ closed_member (record { older = []; newest = initial; pruned = 0; durable = 0 }) }
     ensures batches { ⟦<Held<Plain> as DatabaseSet>⟧.next result ≡ 1 }
     ensures counts { (i : ℕ) → ⟦<Held<Plain> as DatabaseSet>⟧.counted result i ≡ 0 }
 {
@@ -108,7 +110,14 @@ fn closed(alloc: Global) -> Held<Plain>
 
 /// What came of the events, and the refused one if one was.
 fn in_plain(driven: Driven<Bank>, end: Option<Halted>) -> Played
-    ensures { result ≡ record { world = World.Plain; history = History.Plain driven.history; machine = Machine.Plain driven.stateful; databases = Databases.Plain driven.databases; end = end } }
+    ensures { result
+        ≡ record {
+          world = World.Plain;
+          history = History.Plain driven.history;
+          machine = Machine.Plain driven.stateful;
+          databases = Databases.Plain driven.databases;
+          end = end;
+        } }
 {
     Played {
         world: World::Plain,

@@ -15,7 +15,10 @@ use std::alloc::Global;
 
 /// Keeps a block at its height, where none is kept there.
 fn keep(store: &mut MemoryStore<BankBlock>, block: &Digested<BankBlock>) -> Result<(), OutOfMemory>
-    ensures { let stored = ⟦<MemoryStore<BankBlock> as BlockStore<BankBlock>>⟧.stored in OnOk result ((blocks : List (Named BankBlock)) → Keeps (stored store.old) blocks → Keeps (stored store.new) (blocks ++ block.now ∷ [])) }
+    ensures { let stored = ⟦<MemoryStore<BankBlock> as BlockStore<BankBlock>>⟧.stored in
+        OnOk result ((blocks : List (Named BankBlock))
+        → Keeps (stored store.old) blocks
+        → Keeps (stored store.new) (blocks ++ block.now ∷ [])) }
 {
     if store.at(block.height())?.is_some() {
         return Ok(());
@@ -31,7 +34,10 @@ fn keep_finalized(
     event: &PlannedEvent,
 ) -> Result<(), OutOfMemory>
     requires { IsNamedBelow (length planned.now) event.now }
-    ensures { let stored = ⟦<MemoryStore<BankBlock> as BlockStore<BankBlock>>⟧.stored in OnOk result ((blocks : List (Named BankBlock)) → Keeps (stored store.old) blocks → Keeps (stored store.new) (blocks ++ finalized planned.now (event.now ∷ []))) }
+    ensures { let stored = ⟦<MemoryStore<BankBlock> as BlockStore<BankBlock>>⟧.stored in
+        OnOk result ((blocks : List (Named BankBlock))
+        → Keeps (stored store.old) blocks
+        → Keeps (stored store.new) (blocks ++ finalized planned.now (event.now ∷ []))) }
 {
     match event {
         PlannedEvent::Finalize(place) => keep(store, &planned[*place].block),
@@ -48,7 +54,9 @@ pub fn store_of(
 ) -> Result<MemoryStore<BankBlock>, OutOfMemory>
     requires genesis { slice_get planned.now 0 ≡ Some genesis }
     requires named { All (IsNamedBelow (length planned.now)) script.now }
-    ensures { IfOk result (λ store. (h : ℕ) → ⟦<MemoryStore<BankBlock> as BlockStore<BankBlock>>⟧.stored store h ≡ store_of planned.now script.now h) }
+    ensures { IfOk result (λ store. (h : ℕ)
+        → ⟦<MemoryStore<BankBlock> as BlockStore<BankBlock>>⟧.stored store h
+        ≡ store_of planned.now script.now h) }
 {
     let mut store = MemoryStore::new(alloc);
     keep(&mut store, &planned[0].block)?;

@@ -60,7 +60,8 @@ fn balances(alloc: Global, entries: &BTreeMap<u64, u64>) -> Result<Items<(u64, u
 
 /// What is written of a database of balances.
 fn shown(alloc: Global, database: &Held<Plain>) -> Result<Shown, OutOfMemory>
-    ensures { IfOk result (λ shown. shown ≡ shown_of (⟦<Held<Plain> as DatabaseSet>⟧.members database.now)) }
+    ensures { IfOk result (λ shown. shown
+        ≡ shown_of (⟦<Held<Plain> as DatabaseSet>⟧.members database.now)) }
 {
     match database {
         Held::Here(database) => {

@@ -49,9 +49,11 @@ fn asks_play(words: &[String]) -> bool
 
 /// Reads a script from a source.
 fn load<S: Source>(alloc: Global, source: &mut S) -> Result<Script, Stop>
-    ensures found { IfOk result (λ script. IsLoaded (S.left source.old) (S.left source.new) script) }
+    ensures found { IfOk result (λ script. IsLoaded (S.left source.old) (S.left source.new)
+        script) }
     ensures plan { IfOk result (λ script. IsPlan script) }
-    ensures stopped { IfErr result (λ stop. Stops (S.left source.old) (S.left source.new) (Rose (S.count source.old) (S.count source.new)) stop) }
+    ensures stopped { IfErr result (λ stop. Stops (S.left source.old) (S.left source.new)
+        (Rose (S.count source.old) (S.count source.new)) stop) }
 {
     let bytes = match read_all(alloc, LIMIT, source) {
         Ok(bytes) => bytes,
@@ -79,7 +81,8 @@ fn alone(status: Status) -> Outcome
 /// Writes a text that stands in the place of a transcript, and has this status.
 fn put<K: Sink>(sink: &mut K, text: &[u8], status: Status) -> Outcome
     ensures none { IsNone result.played }
-    ensures status { Writes (Rose (K.count sink.old) (K.count sink.new)) (K.held sink.old) (K.held sink.new) text.now status result.status }
+    ensures status { Writes (Rose (K.count sink.old) (K.count sink.new)) (K.held sink.old)
+        (K.held sink.new) text.now status result.status }
 {
     match write_all(sink, text) {
         Ok(()) => alone(status),
@@ -106,8 +109,11 @@ fn outcome_of(played: Played) -> Outcome
 
 /// Writes the transcript of a play. Where memory runs out nothing is told of it.
 fn tell<K: Sink>(alloc: Global, sink: &mut K, told: Told) -> Outcome
-    ensures status { Writes (Rose (K.count sink.old) (K.count sink.new)) (K.held sink.old) (K.held sink.new) (text_of told.labels.items told.played) (status_by told.played.end) result.status }
-    ensures played { ((result.status ≡ Status.NoMemory) × IsNone result.played) ⊎ ((result.status ≢ Status.NoMemory) × (result.played ≡ Some told.played)) }
+    ensures status { Writes (Rose (K.count sink.old) (K.count sink.new)) (K.held sink.old)
+        (K.held sink.new) (text_of told.labels.items told.played) (status_by told.played.end)
+        result.status }
+    ensures played { ((result.status ≡ Status.NoMemory) × IsNone result.played)
+        ⊎ ((result.status ≢ Status.NoMemory) × (result.played ≡ Some told.played)) }
 {
     let text = match text_of(alloc, &told) {
         Ok(text) => text,
@@ -126,7 +132,8 @@ fn tell<K: Sink>(alloc: Global, sink: &mut K, told: Told) -> Outcome
 /// Answers words that aren't the one word `play`.
 fn refuse_words<K: Sink>(alloc: Global, sink: &mut K) -> Outcome
     ensures none { IsNone result.played }
-    ensures status { Writes (Rose (K.count sink.old) (K.count sink.new)) (K.held sink.old) (K.held sink.new) usage_line Status.Usage result.status }
+    ensures status { Writes (Rose (K.count sink.old) (K.count sink.new)) (K.held sink.old)
+        (K.held sink.new) usage_line Status.Usage result.status }
 {
     match usage_line(alloc) {
         Ok(text) => put(sink, text.as_slice(), Status::Usage),
@@ -137,7 +144,8 @@ fn refuse_words<K: Sink>(alloc: Global, sink: &mut K) -> Outcome
 /// Answers a script of which no rule reads this line.
 fn refuse_line<K: Sink>(alloc: Global, sink: &mut K, line: u64) -> Outcome
     ensures none { IsNone result.played }
-    ensures status { Writes (Rose (K.count sink.old) (K.count sink.new)) (K.held sink.old) (K.held sink.new) (script_line line) (Status.Script line) result.status }
+    ensures status { Writes (Rose (K.count sink.old) (K.count sink.new)) (K.held sink.old)
+        (K.held sink.new) (script_line line) (Status.Script line) result.status }
 {
     match script_line(alloc, line) {
         Ok(text) => put(sink, text.as_slice(), Status::Script { line }),
@@ -153,31 +161,72 @@ pub fn run<S: Source, K: Sink>(
     sink: &mut K,
 ) -> Outcome
     // The script was played to its end, and its transcript is written.
-    ensures done { result.status ≡ Status.Done → (asks_play words.now ≡ true) × IsSomeAnd result.played (λ p. IsNone p.end × ((text : List ℕ) × IsPlayed (S.left source.old) (S.left source.new) p text × Appends (K.held sink.old) (K.held sink.new) text)) }
+    ensures done { result.status ≡ Status.Done
+        → (asks_play words.now ≡ true)
+        × IsSomeAnd result.played (λ p. IsNone p.end
+        × ((text : List ℕ)
+        × IsPlayed (S.left source.old) (S.left source.new) p text
+        × Appends (K.held sink.old) (K.held sink.new) text)) }
 
     // The event of this number was refused. The transcript, whose last line names the error, is written.
-    ensures halted { (at : ℕ) → result.status ≡ Status.Halted at → (asks_play words.now ≡ true) × IsSomeAnd result.played (λ p. IsHaltedAt p.end at × ((text : List ℕ) × IsPlayed (S.left source.old) (S.left source.new) p text × Appends (K.held sink.old) (K.held sink.new) text)) }
+    ensures halted { (at : ℕ)
+        → result.status ≡ Status.Halted at
+        → (asks_play words.now ≡ true)
+        × IsSomeAnd result.played (λ p. IsHaltedAt p.end at
+        × ((text : List ℕ)
+        × IsPlayed (S.left source.old) (S.left source.new) p text
+        × Appends (K.held sink.old) (K.held sink.new) text)) }
 
     // The words aren't the one word `play`. The usage line is written.
-    ensures usage { result.status ≡ Status.Usage → (asks_play words.now ≡ false) × IsNone result.played × Appends (K.held sink.old) (K.held sink.new) usage_line }
+    ensures usage { result.status ≡ Status.Usage
+        → (asks_play words.now ≡ false)
+        × IsNone result.played
+        × Appends (K.held sink.old) (K.held sink.new) usage_line }
     ensures other_words { asks_play words.now ≡ false → IsOrCut Status.Usage result.status }
 
     // All bytes were read, and this is the first line that no rule reads; or it is line 0, and there were more than 16 MiB.
     // The line's number is written.
-    ensures script { (line : ℕ) → result.status ≡ Status.Script line → (asks_play words.now ≡ true) × IsNone result.played × IsUnread (S.left source.old) (S.left source.new) line × Appends (K.held sink.old) (K.held sink.new) (script_line line) }
-    ensures refused { (bytes : List ℕ) (line : ℕ) → asks_play words.now ≡ true → S.left source.old ≡ Some bytes → IsRefused bytes line → IsOrCut (Status.Script line) result.status ⊎ (result.status ≡ Status.ReadFault) }
+    ensures script { (line : ℕ)
+        → result.status ≡ Status.Script line
+        → (asks_play words.now ≡ true)
+        × IsNone result.played
+        × IsUnread (S.left source.old) (S.left source.new) line
+        × Appends (K.held sink.old) (K.held sink.new) (script_line line) }
+    ensures refused { (bytes : List ℕ) (line : ℕ)
+        → asks_play words.now ≡ true
+        → S.left source.old ≡ Some bytes
+        → IsRefused bytes line
+        → IsOrCut (Status.Script line) result.status ⊎ (result.status ≡ Status.ReadFault) }
 
     // Bytes that are a script are played.
-    ensures played { (bytes : List ℕ) → asks_play words.now ≡ true → S.left source.old ≡ Some bytes → IsScript bytes → IsSome result.played ⊎ (result.status ≡ Status.ReadFault) ⊎ (result.status ≡ Status.NoMemory) }
+    ensures played { (bytes : List ℕ)
+        → asks_play words.now ≡ true
+        → S.left source.old ≡ Some bytes
+        → IsScript bytes
+        → IsSome result.played
+        ⊎ (result.status ≡ Status.ReadFault)
+        ⊎ (result.status ≡ Status.NoMemory) }
 
     // The source failed. Nothing is written.
-    ensures read_fault { result.status ≡ Status.ReadFault → (asks_play words.now ≡ true) × IsNone result.played × Rose (S.count source.old) (S.count source.new) × Appends (K.held sink.old) (K.held sink.new) [] }
+    ensures read_fault { result.status ≡ Status.ReadFault
+        → (asks_play words.now ≡ true)
+        × IsNone result.played
+        × Rose (S.count source.old) (S.count source.new)
+        × Appends (K.held sink.old) (K.held sink.new) [] }
 
     // The sink failed. A prefix of the text is written.
-    ensures write_fault { result.status ≡ Status.WriteFault → Rose (K.count sink.old) (K.count sink.new) × ((text : List ℕ) × AsksFor (S.left source.old) (S.left source.new) (asks_play words.now) result.played text × HoldsPrefix (K.held sink.old) (K.held sink.new) text) }
+    ensures write_fault { result.status ≡ Status.WriteFault
+        → Rose (K.count sink.old) (K.count sink.new)
+        × ((text : List ℕ)
+        × AsksFor (S.left source.old) (S.left source.new) (asks_play words.now)
+        result.played text
+        × HoldsPrefix (K.held sink.old) (K.held sink.new) text) }
 
     // Memory ran out. Nothing is written, or a prefix of the text.
-    ensures memory { result.status ≡ Status.NoMemory → IsNone result.played × HoldsPart (S.left source.old) (S.left source.new) (asks_play words.now) (K.held sink.old) (K.held sink.new) }
+    ensures memory { result.status ≡ Status.NoMemory
+        → IsNone result.played
+        × HoldsPart (S.left source.old) (S.left source.new) (asks_play words.now)
+        (K.held sink.old) (K.held sink.new) }
 {
     if !asks_play(words) {
         return refuse_words(alloc, sink);

@@ -23,7 +23,9 @@ pub(crate) fn request_latest<S: Scheme>(
     outs: &mut Vec<Out<S::Key, S::Certificate>>,
 ) -> Result<(), OutOfMemory>
     ensures restarted { OnOk result (state.new ≡ restarted state.old) }
-    ensures asked { OnOk result (outs.new.items ≡ outs.old.items ++ asked (committee (setup S.Key.cmp S.Key.eq S.certificates S.keys S.certifies schemes.now state.old.sample.minimum_epoch))) }
+    ensures asked { OnOk result (outs.new.items
+        ≡ outs.old.items ++ asked (committee (setup S.Key.cmp S.Key.eq S.certificates S.keys
+        S.certifies schemes.now state.old.sample.minimum_epoch))) }
 {
     state.sample.reset();
     let Some(scheme) = schemes.at(state.sample.minimum_epoch()) else {
@@ -40,7 +42,8 @@ fn hand_out<K: Drop, C: Share + Drop>(
     waiting: &[u64],
     outs: &mut Vec<Out<K, C>>,
 ) -> Result<(), OutOfMemory>
-    ensures { OnOk result (outs.new.items ≡ outs.old.items ++ handed_out waiting.now (Some floor.now)) }
+    ensures { OnOk result (outs.new.items
+        ≡ outs.old.items ++ handed_out waiting.now (Some floor.now)) }
 {
     for ticket in waiting {
         outs.push(Out::Floor {
@@ -57,8 +60,15 @@ fn select<S: Scheme>(
     state: &mut State<S::Key, S::Certificate>,
     outs: &mut Vec<Out<S::Key, S::Certificate>>,
 ) -> Result<(), OutOfMemory>
-    ensures chooses { OnOk result ((keys : List S.Key) → committee (setup S.Key.cmp S.Key.eq S.certificates S.keys S.certifies schemes.now state.old.sample.minimum_epoch) ≡ Some keys → Chooses (setup S.Key.cmp S.Key.eq S.certificates S.keys S.certifies schemes.now state.old.sample.minimum_epoch) (length keys) state.old outs.old.items outs.new.items state.new) }
-    ensures minimum { OnOk result (state.new.sample.minimum_epoch ≡ state.old.sample.minimum_epoch) }
+    ensures chooses { OnOk result ((keys : List S.Key)
+        → committee (setup S.Key.cmp S.Key.eq S.certificates S.keys S.certifies schemes.now
+        state.old.sample.minimum_epoch)
+        ≡ Some keys
+        → Chooses (setup S.Key.cmp S.Key.eq S.certificates S.keys S.certifies schemes.now
+        state.old.sample.minimum_epoch) (length keys) state.old outs.old.items outs.new.items
+        state.new) }
+    ensures minimum { OnOk result (state.new.sample.minimum_epoch
+        ≡ state.old.sample.minimum_epoch) }
 {
     let Some(scheme) = schemes.at(state.sample.minimum_epoch()) else {
         return Ok(());
@@ -85,8 +95,13 @@ pub(crate) fn receive<S: Scheme>(
     outs: &mut Vec<Out<S::Key, S::Certificate>>,
 ) -> Result<(), OutOfMemory>
     requires { outs.old.items ≡ [] }
-    ensures received { OnOk result (is_serving state.old ≡ false → (latest : Option (Finalization S.Certificate)) → Steps (setup S.Key.cmp S.Key.eq S.certificates S.keys S.certifies schemes.now state.old.sample.minimum_epoch) latest state.old (events.Received peer value) outs.new.items state.new) }
-    ensures minimum { OnOk result (state.new.sample.minimum_epoch ≡ state.old.sample.minimum_epoch) }
+    ensures received { OnOk result (is_serving state.old ≡ false
+        → (latest : Option (Finalization S.Certificate))
+        → Steps (setup S.Key.cmp S.Key.eq S.certificates S.keys S.certifies schemes.now
+        state.old.sample.minimum_epoch) latest state.old (events.Received peer value)
+        outs.new.items state.new) }
+    ensures minimum { OnOk result (state.new.sample.minimum_epoch
+        ≡ state.old.sample.minimum_epoch) }
 {
     if !state.still_counts(&peer) {
         return Ok(());

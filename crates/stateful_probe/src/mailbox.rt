@@ -47,9 +47,12 @@ impl<S: Scheme> Mailbox<S> {
 
     /// Subscribes to the floor, and answers the ticket.
     pub fn subscribe(&mut self) -> Result<u64, DrawError>
-        ensures drawn { IfOk result (λ ticket. (ticket ≡ self.old.next_ticket) × (self.new.next_ticket ≡ ticket + 1)) }
-        ensures sent { IfOk result (λ ticket. waiting self.new.events ≡ waiting self.old.events ++ events.Subscribe ticket ∷ []) }
-        ensures exhausted { IsErrOf result DrawError.Exhausted ↔ (self.old.next_ticket ≡ 2 ^ 64 - 1) }
+        ensures drawn { IfOk result (λ ticket. (ticket ≡ self.old.next_ticket)
+            × (self.new.next_ticket ≡ ticket + 1)) }
+        ensures sent { IfOk result (λ ticket. waiting self.new.events
+            ≡ waiting self.old.events ++ events.Subscribe ticket ∷ []) }
+        ensures exhausted { IsErrOf result DrawError.Exhausted
+            ↔ (self.old.next_ticket ≡ 2 ^ 64 - 1) }
         ensures err { OnErr result (self.new ≡ self.old) }
     {
         let ticket = self.next_ticket;
@@ -63,7 +66,8 @@ impl<S: Scheme> Mailbox<S> {
 
     /// Tells that the node's own finalizations can be served.
     pub fn attach(&mut self) -> Result<(), OutOfMemory>
-        ensures sent { OnOk result (waiting self.new.events ≡ waiting self.old.events ++ events.Attach ∷ []) }
+        ensures sent { OnOk result (waiting self.new.events
+            ≡ waiting self.old.events ++ events.Attach ∷ []) }
         ensures number { self.new.next_ticket ≡ self.old.next_ticket }
         ensures err { OnErr result (self.new ≡ self.old) }
     {

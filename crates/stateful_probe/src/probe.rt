@@ -44,7 +44,8 @@ impl<S: Scheme> Probe<S> {
         ensures works { IfOk result (λ probe. probe.failed ≡ false) }
 
         // Whatever calls of `step` follow.
-        ensures laws { IfOk result (λ probe. KeepsLaws (setup S.Key.cmp S.Key.eq S.certificates S.keys S.certifies config.schemes config.minimum_epoch) probe.state) }
+        ensures laws { IfOk result (λ probe. KeepsLaws (setup S.Key.cmp S.Key.eq S.certificates
+            S.keys S.certifies config.schemes config.minimum_epoch) probe.state) }
     {
         Ok(Probe {
             alloc,
@@ -67,15 +68,24 @@ impl<S: Scheme> Probe<S> {
         latest: &L,
     ) -> Result<Vec<ProbeOut<S>>, ProbeError>
         // What is put out, and the state behind the event, are those of the rules.
-        ensures steps { IfOk result (λ outs. Steps (setup S.Key.cmp S.Key.eq S.certificates S.keys S.certifies self.old.schemes self.old.state.sample.minimum_epoch) (L.newest latest.now) self.old.state event outs.items self.new.state) }
-        ensures came { OnOk result ((may_come self.old.state event ≡ true) × (self.old.failed ≡ false) × (self.new.failed ≡ false)) }
+        ensures steps { IfOk result (λ outs. Steps (setup S.Key.cmp S.Key.eq S.certificates S.keys
+            S.certifies self.old.schemes self.old.state.sample.minimum_epoch) (L.newest latest.now)
+            self.old.state event outs.items self.new.state) }
+        ensures came { OnOk result ((may_come self.old.state event ≡ true)
+            × (self.old.failed ≡ false)
+            × (self.new.failed ≡ false)) }
         ensures schemes { self.new.schemes ≡ self.old.schemes }
-        ensures minimum { OnOk result (self.new.state.sample.minimum_epoch ≡ self.old.state.sample.minimum_epoch) }
+        ensures minimum { OnOk result (self.new.state.sample.minimum_epoch
+            ≡ self.old.state.sample.minimum_epoch) }
 
         // Each refusal has its cause; want of memory has none.
         ensures failed { IsErrOf result ProbeError.Failed ↔ (self.old.failed ≡ true) }
-        ensures bad { IsErrOf result ProbeError.BadEvent ↔ ((self.old.failed ≡ false) × (may_come self.old.state event ≡ false)) }
-        ensures exhausted { IsErrOf result ProbeError.Exhausted ↔ ((self.old.failed ≡ false) × (may_come self.old.state event ≡ true) × IsExhausting event) }
+        ensures bad { IsErrOf result ProbeError.BadEvent
+            ↔ ((self.old.failed ≡ false) × (may_come self.old.state event ≡ false)) }
+        ensures exhausted { IsErrOf result ProbeError.Exhausted
+            ↔ ((self.old.failed ≡ false)
+            × (may_come self.old.state event ≡ true)
+            × IsExhausting event) }
 
         // What a refusal leaves.
         ensures idle { IsErrOf result ProbeError.Failed → self.new ≡ self.old }
@@ -103,9 +113,12 @@ impl<S: Scheme> Probe<S> {
         event: ProbeEvent<S>,
         latest: &L,
     ) -> Result<Vec<ProbeOut<S>>, ProbeError>
-        ensures steps { IfOk result (λ outs. Steps (setup S.Key.cmp S.Key.eq S.certificates S.keys S.certifies self.old.schemes self.old.state.sample.minimum_epoch) (L.newest latest.now) self.old.state event outs.items self.new.state) }
+        ensures steps { IfOk result (λ outs. Steps (setup S.Key.cmp S.Key.eq S.certificates S.keys
+            S.certifies self.old.schemes self.old.state.sample.minimum_epoch) (L.newest latest.now)
+            self.old.state event outs.items self.new.state) }
         ensures schemes { self.new.schemes ≡ self.old.schemes }
-        ensures minimum { OnOk result (self.new.state.sample.minimum_epoch ≡ self.old.state.sample.minimum_epoch) }
+        ensures minimum { OnOk result (self.new.state.sample.minimum_epoch
+            ≡ self.old.state.sample.minimum_epoch) }
         ensures works { self.new.failed ≡ self.old.failed }
 
         // It is refused for want of numbers or memory alone.
@@ -147,9 +160,13 @@ impl<S: Scheme> Probe<S> {
     fn subscribe(&mut self, ticket: u64, outs: &mut Vec<ProbeOut<S>>) -> Result<(), OutOfMemory>
         requires below { ticket < 2 ^ 64 - 1 }
         requires none { outs.old.items ≡ [] }
-        ensures steps { OnOk result ((latest : Option (Finalization S.Certificate)) → Steps (setup S.Key.cmp S.Key.eq S.certificates S.keys S.certifies self.old.schemes self.old.state.sample.minimum_epoch) latest self.old.state (events.Subscribe ticket) outs.new.items self.new.state) }
+        ensures steps { OnOk result ((latest : Option (Finalization S.Certificate))
+            → Steps (setup S.Key.cmp S.Key.eq S.certificates S.keys S.certifies self.old.schemes
+            self.old.state.sample.minimum_epoch) latest self.old.state (events.Subscribe ticket)
+            outs.new.items self.new.state) }
         ensures schemes { self.new.schemes ≡ self.old.schemes }
-        ensures minimum { OnOk result (self.new.state.sample.minimum_epoch ≡ self.old.state.sample.minimum_epoch) }
+        ensures minimum { OnOk result (self.new.state.sample.minimum_epoch
+            ≡ self.old.state.sample.minimum_epoch) }
         ensures works { self.new.failed ≡ self.old.failed }
     {
         let serving = self.state.is_serving();
@@ -176,9 +193,13 @@ impl<S: Scheme> Probe<S> {
     /// Begins the round anew where someone waits for a floor.
     fn retry(&mut self, outs: &mut Vec<ProbeOut<S>>) -> Result<(), OutOfMemory>
         requires { outs.old.items ≡ [] }
-        ensures steps { OnOk result ((latest : Option (Finalization S.Certificate)) → Steps (setup S.Key.cmp S.Key.eq S.certificates S.keys S.certifies self.old.schemes self.old.state.sample.minimum_epoch) latest self.old.state events.Retry outs.new.items self.new.state) }
+        ensures steps { OnOk result ((latest : Option (Finalization S.Certificate))
+            → Steps (setup S.Key.cmp S.Key.eq S.certificates S.keys S.certifies self.old.schemes
+            self.old.state.sample.minimum_epoch) latest self.old.state events.Retry
+            outs.new.items self.new.state) }
         ensures schemes { self.new.schemes ≡ self.old.schemes }
-        ensures minimum { OnOk result (self.new.state.sample.minimum_epoch ≡ self.old.state.sample.minimum_epoch) }
+        ensures minimum { OnOk result (self.new.state.sample.minimum_epoch
+            ≡ self.old.state.sample.minimum_epoch) }
         ensures works { self.new.failed ≡ self.old.failed }
     {
         if self.state.sample.floor().is_some() || self.state.subscribers.is_empty() {
@@ -190,9 +211,13 @@ impl<S: Scheme> Probe<S> {
     /// Closes all that wait.
     fn stop(&mut self, outs: &mut Vec<ProbeOut<S>>) -> Result<(), OutOfMemory>
         requires { outs.old.items ≡ [] }
-        ensures steps { OnOk result ((latest : Option (Finalization S.Certificate)) → Steps (setup S.Key.cmp S.Key.eq S.certificates S.keys S.certifies self.old.schemes self.old.state.sample.minimum_epoch) latest self.old.state events.Stop outs.new.items self.new.state) }
+        ensures steps { OnOk result ((latest : Option (Finalization S.Certificate))
+            → Steps (setup S.Key.cmp S.Key.eq S.certificates S.keys S.certifies self.old.schemes
+            self.old.state.sample.minimum_epoch) latest self.old.state events.Stop
+            outs.new.items self.new.state) }
         ensures schemes { self.new.schemes ≡ self.old.schemes }
-        ensures minimum { OnOk result (self.new.state.sample.minimum_epoch ≡ self.old.state.sample.minimum_epoch) }
+        ensures minimum { OnOk result (self.new.state.sample.minimum_epoch
+            ≡ self.old.state.sample.minimum_epoch) }
         ensures works { self.new.failed ≡ self.old.failed }
     {
         for ticket in self.state.subscribers.as_slice() {

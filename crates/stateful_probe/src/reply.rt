@@ -48,7 +48,9 @@ fn read_reply<S: Scheme>(
     minimum_epoch: Epoch,
     input: &mut Bytes,
 ) -> Result<Decoded<S::Certificate>, CodecError>
-    ensures { IsReadAs (setup S.Key.cmp S.Key.eq S.certificates S.keys S.certifies schemes.now minimum_epoch) input.old result }
+    ensures { IsReadAs
+        (setup S.Key.cmp S.Key.eq S.certificates S.keys S.certifies schemes.now minimum_epoch)
+        input.old result }
 {
     match Tag::read(input)? {
         Tag::Request => Ok(Decoded::Ignored),
@@ -63,7 +65,9 @@ fn read_response<S: Scheme>(
     minimum_epoch: Epoch,
     input: &mut Bytes,
 ) -> Result<Decoded<S::Certificate>, CodecError>
-    ensures read { IsReadAs (setup S.Key.cmp S.Key.eq S.certificates S.keys S.certifies schemes.now minimum_epoch) (1 ∷ input.old) result }
+    ensures read { IsReadAs
+        (setup S.Key.cmp S.Key.eq S.certificates S.keys S.certifies schemes.now minimum_epoch)
+        (1 ∷ input.old) result }
     ensures unread { LeavesUnread input.old input.new result }
 {
     let round = Round::read(input)?;
@@ -89,7 +93,9 @@ fn decode_finalization<S: Scheme>(
     minimum_epoch: Epoch,
     value: Bytes,
 ) -> Result<Decoded<S::Certificate>, OutOfMemory>
-    ensures { IfOk result (IsDecodedAs (setup S.Key.cmp S.Key.eq S.certificates S.keys S.certifies schemes.now minimum_epoch) value) }
+    ensures { IfOk result (IsDecodedAs
+        (setup S.Key.cmp S.Key.eq S.certificates S.keys S.certifies schemes.now minimum_epoch)
+        value) }
 {
     let mut input = value;
     match read_reply(alloc, schemes, minimum_epoch, &mut input) {
@@ -106,7 +112,11 @@ fn verify_finalization<S: Scheme>(
     peer: &S::Key,
     finalization: Finalization<S::Certificate>,
 ) -> Judgement<S::Certificate>
-    ensures { let u = setup S.Key.cmp S.Key.eq S.certificates S.keys S.certifies schemes.now minimum_epoch in (bytes : List ℕ) → IsDecodedAs u bytes (Decoded.Whole finalization) → IsJudgedAs u peer.now bytes result }
+    ensures { let u = setup S.Key.cmp S.Key.eq S.certificates S.keys S.certifies schemes.now
+        minimum_epoch in
+        (bytes : List ℕ)
+        → IsDecodedAs u bytes (Decoded.Whole finalization)
+        → IsJudgedAs u peer.now bytes result }
 {
     let Some(committee) = schemes.at(minimum_epoch) else {
         return Judgement::Ignored;
@@ -132,7 +142,9 @@ pub(crate) fn judge<S: Scheme>(
     peer: &S::Key,
     value: Bytes,
 ) -> Result<Judgement<S::Certificate>, OutOfMemory>
-    ensures { IfOk result (IsJudgedAs (setup S.Key.cmp S.Key.eq S.certificates S.keys S.certifies schemes.now minimum_epoch) peer.now value) }
+    ensures { IfOk result (IsJudgedAs
+        (setup S.Key.cmp S.Key.eq S.certificates S.keys S.certifies schemes.now minimum_epoch)
+        peer.now value) }
 {
     match decode_finalization(alloc, schemes, minimum_epoch, value)? {
         Decoded::Ignored => Ok(Judgement::Ignored),

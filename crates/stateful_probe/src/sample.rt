@@ -105,7 +105,9 @@ impl<K: Ord + Drop, C: Share + Drop> Sample<K, C> {
         requires { F.IsAlwaysCallable judgeable }
 
         // Where the closure always gives the answers of some test, as one does that only looks at the reply.
-        ensures selects { IfOk result (λ chosen. (judges : Finalization C → Bool) → ((f : Finalization C) (b : Bool) → FnReturnsAt F.Fn judgeable f b → b ≡ judges f) → Selects committee judges self.old chosen) }
+        ensures selects { IfOk result (λ chosen. (judges : Finalization C → Bool)
+            → ((f : Finalization C) (b : Bool) → FnReturnsAt F.Fn judgeable f b → b ≡ judges f)
+            → Selects committee judges self.old chosen) }
         ensures ok { IfOk result (λ chosen. self.new ≡ with_floor self.old chosen) }
         ensures err { OnErr result (self.new ≡ self.old) }
     {
@@ -131,8 +133,12 @@ fn highest_reply<'a, K: Ord, C, F: Fn(&Finalization<C>) -> bool>(
     requires { F.IsAlwaysCallable judgeable.now }
 
     // Where the closure always gives the answers of some test.
-    ensures exactly { (judges : Finalization C → Bool) → ((f : Finalization C) (b : Bool) → FnReturnsAt F.Fn judgeable.now f b → b ≡ judges f) → IsSome result ↔ (max_faults committee + 1 ≤ length (filter judges (values replies.now))) }
-    ensures highest { (judges : Finalization C → Bool) → ((f : Finalization C) (b : Bool) → FnReturnsAt F.Fn judgeable.now f b → b ≡ judges f) → IfSome result (λ f. IsHighest (filter judges (values replies.now)) f.now) }
+    ensures exactly { (judges : Finalization C → Bool)
+        → ((f : Finalization C) (b : Bool) → FnReturnsAt F.Fn judgeable.now f b → b ≡ judges f)
+        → IsSome result ↔ (max_faults committee + 1 ≤ length (filter judges (values replies.now))) }
+    ensures highest { (judges : Finalization C → Bool)
+        → ((f : Finalization C) (b : Bool) → FnReturnsAt F.Fn judgeable.now f b → b ≡ judges f)
+        → IfSome result (λ f. IsHighest (filter judges (values replies.now)) f.now) }
 {
     let Some(highest) = highest_round(replies, committee, judgeable) else {
         return None;
@@ -155,8 +161,12 @@ fn highest_round<K: Ord, C, F: Fn(&Finalization<C>) -> bool>(
     requires { F.IsAlwaysCallable judgeable.now }
 
     // Where the closure always gives the answers of some test.
-    ensures exactly { (judges : Finalization C → Bool) → ((f : Finalization C) (b : Bool) → FnReturnsAt F.Fn judgeable.now f b → b ≡ judges f) → IsSome result ↔ (max_faults committee + 1 ≤ length (filter judges (values replies.now))) }
-    ensures highest { (judges : Finalization C → Bool) → ((f : Finalization C) (b : Bool) → FnReturnsAt F.Fn judgeable.now f b → b ≡ judges f) → IfSome result (IsHighestRound (filter judges (values replies.now))) }
+    ensures exactly { (judges : Finalization C → Bool)
+        → ((f : Finalization C) (b : Bool) → FnReturnsAt F.Fn judgeable.now f b → b ≡ judges f)
+        → IsSome result ↔ (max_faults committee + 1 ≤ length (filter judges (values replies.now))) }
+    ensures highest { (judges : Finalization C → Bool)
+        → ((f : Finalization C) (b : Bool) → FnReturnsAt F.Fn judgeable.now f b → b ≡ judges f)
+        → IfSome result (IsHighestRound (filter judges (values replies.now))) }
 {
     let mut count = 0usize;
     let mut highest: Option<Round> = None;

@@ -40,7 +40,11 @@ pub(crate) fn receive<S: Scheme, L: Latest<S::Certificate>>(
     requires { outs.old.items ≡ [] }
 
     // Whatever probe serves.
-    ensures { OnOk result ((schemes : List (Epoch × S)) (minimum : Epoch) (state : State S.Key S.Certificate) → is_serving state ≡ true → Steps (setup S.Key.cmp S.Key.eq S.certificates S.keys S.certifies schemes minimum) (L.newest latest.now) state (events.Received peer value) outs.new.items state) }
+    ensures { OnOk result ((schemes : List (Epoch × S)) (minimum : Epoch)
+        (state : State S.Key S.Certificate)
+        → is_serving state ≡ true
+        → Steps (setup S.Key.cmp S.Key.eq S.certificates S.keys S.certifies schemes minimum)
+        (L.newest latest.now) state (events.Received peer value) outs.new.items state) }
 {
     let mut input = value;
     match Tag::read(&mut input) {

@@ -54,7 +54,8 @@ pub enum Message<C> {
 impl<C> Message<C> {
     /// Appends byte 0, or byte 1 and the finalization.
     pub fn write<S: Scheme<Certificate = C>>(&self, out: &mut Vec<u8>) -> Result<(), OutOfMemory>
-        ensures { Writes (message_format S.certificates) self.now result out.old.items out.new.items }
+        ensures { Writes (message_format S.certificates) self.now result out.old.items
+            out.new.items }
     {
         match self {
             Message::Request => Tag::Request.write(out),
@@ -94,7 +95,11 @@ impl<C> Message<C> {
 
         // No message is longer: a request isn't, and no response whose finalization such a scheme certifies.
         ensures requests { 1 ≤ result }
-        ensures responses { (scheme : S) (f : Finalization C) → S.certifies scheme f → length (S.keys scheme) ≤ participants → (message_format S.certificates).fits (Message.Response f) → length ((message_format S.certificates).spelling (Message.Response f)) ≤ result }
+        ensures responses { (scheme : S) (f : Finalization C)
+            → S.certifies scheme f
+            → length (S.keys scheme) ≤ participants
+            → (message_format S.certificates).fits (Message.Response f)
+            → length ((message_format S.certificates).spelling (Message.Response f)) ≤ result }
     {
         57 + S::max_certificate_size(participants)
     }

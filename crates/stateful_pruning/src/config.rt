@@ -28,7 +28,8 @@ impl PruneConfig {
     /// Refused exactly where marshal retains fewer blocks than QMDB. It takes no memory.
     pub fn assert_valid(self) -> Result<(), InvalidPruneConfig>
         ensures valid { IsOk result ↔ (self.retained_qmdb_blocks ≤ self.retained_marshal_blocks) }
-        ensures refused { IsErr result ↔ (self.retained_marshal_blocks < self.retained_qmdb_blocks) }
+        ensures refused { IsErr result
+            ↔ (self.retained_marshal_blocks < self.retained_qmdb_blocks) }
     {
         if self.retained_marshal_blocks < self.retained_qmdb_blocks {
             return Err(InvalidPruneConfig);

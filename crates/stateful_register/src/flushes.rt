@@ -37,7 +37,9 @@ impl Flushes {
 
     /// Lets this barrier wait for so many databases.
     pub(crate) fn begin(&mut self, barrier: u64, count: usize) -> Result<(), OutOfMemory>
-        ensures ok { OnOk result ((k i : ℕ) → is_waiting self.new k i ≡ (if k == barrier then nat_lt i count else is_waiting self.old k i)) }
+        ensures ok { OnOk result ((k i : ℕ)
+            → is_waiting self.new k i
+            ≡ (if k == barrier then nat_lt i count else is_waiting self.old k i)) }
         ensures err { OnErr result ((k i : ℕ) → is_waiting self.new k i ≡ is_waiting self.old k i) }
     {
         let waiting = vec![in self.alloc; true; count]?;
@@ -47,7 +49,9 @@ impl Flushes {
 
     /// The barrier waits for this database no more.
     pub(crate) fn flush(&mut self, barrier: u64, database: usize)
-        ensures { (k i : ℕ) → is_waiting self.new k i ≡ not ((k == barrier) && (i == database)) && is_waiting self.old k i }
+        ensures { (k i : ℕ)
+            → is_waiting self.new k i
+            ≡ not ((k == barrier) && (i == database)) && is_waiting self.old k i }
     {
         if let Some(waiting) = self.barriers.get_mut(&barrier) {
             if let Some(waits) = waiting.get_mut(database) {
@@ -58,7 +62,8 @@ impl Flushes {
 
     /// The barrier waits for nothing more.
     pub(crate) fn end(&mut self, barrier: u64)
-        ensures { (k i : ℕ) → is_waiting self.new k i ≡ not (k == barrier) && is_waiting self.old k i }
+        ensures { (k i : ℕ)
+            → is_waiting self.new k i ≡ not (k == barrier) && is_waiting self.old k i }
     {
         self.barriers.remove(&barrier);
     }

@@ -45,7 +45,9 @@ impl Register {
     /// live work and a new ticket alone.
     #[tactic(auto, using(crate::proofs::Changes::other_may_come))]
     pub fn allows<B, C, I>(&self, event: &Event<B, C, I>) -> bool
-        ensures { (count : ℕ) (p : Past B C I) → RegisterStands count p self.now → result ≡ may_come count p event.now }
+        ensures { (count : ℕ) (p : Past B C I)
+            → RegisterStands count p self.now
+            → result ≡ may_come count p event.now }
     {
         match event {
             Event::Restart { .. } => true,
@@ -55,7 +57,9 @@ impl Register {
 
     /// Whether the event names live work and a new ticket alone.
     fn names_live<B, C, I>(&self, event: &Event<B, C, I>) -> bool
-        ensures { (count : ℕ) (p : Past B C I) → RegisterStands count p self.now → result ≡ names_live count p event.now }
+        ensures { (count : ℕ) (p : Past B C I)
+            → RegisterStands count p self.now
+            → result ≡ names_live count p event.now }
     {
         match event {
             Event::Verify { ticket, .. }
@@ -145,8 +149,12 @@ impl Register {
         event: &Event<B, C, I>,
         marks: &[Mark<B>],
     ) -> Result<(), OutOfMemory>
-        ensures ok { OnOk result ((p : Past B C I) → RegisterStands count p self.old → RegisterStands count (after_entry p event.now marks.now) self.new) }
-        ensures err { OnErr result ((p : Past B C I) → RegisterStands count p self.old → StandsWithin count p event.now marks.now self.new) }
+        ensures ok { OnOk result ((p : Past B C I)
+            → RegisterStands count p self.old
+            → RegisterStands count (after_entry p event.now marks.now) self.new) }
+        ensures err { OnErr result ((p : Past B C I)
+            → RegisterStands count p self.old
+            → StandsWithin count p event.now marks.now self.new) }
     {
         self.apply(count, Change::by_event(event))?;
         for mark in marks {

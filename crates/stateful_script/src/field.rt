@@ -77,7 +77,8 @@ fn is_name(field: &[u8]) -> bool
 
 /// The field as text, where it is a name: a letter a to z, and up to 15 letters a to z or digits.
 fn name(field: &[u8]) -> Option<&str>
-    ensures { MatchOption result (is_name field.now ≡ false) (λ name. (is_name field.now ≡ true) × (name.now ≡ field.now)) }
+    ensures { MatchOption result (is_name field.now ≡ false) (λ name. (is_name field.now ≡ true)
+        × (name.now ≡ field.now)) }
 {
     if !is_name(field) {
         return None;

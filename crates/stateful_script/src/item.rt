@@ -67,7 +67,8 @@ fn item_by(word: &[u8], fields: &mut Cursor<'_>) -> Option<Item>
 
 /// Reads items up to the end of the line. None where something else stands there.
 pub fn items_of(alloc: Global, fields: &mut Cursor<'_>) -> Result<Option<Vec<Item>>, AllocError>
-    ensures { IfOk result (λ found. option_map (λ items. items.items) found ≡ items_of (fields_left fields.old)) }
+    ensures { IfOk result (λ found. option_map (λ items. items.items) found
+        ≡ items_of (fields_left fields.old)) }
 {
     let mut items = Vec::new(alloc);
     'items: while let Some(word) = fields.next_field() {

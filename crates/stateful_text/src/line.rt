@@ -63,7 +63,8 @@ pub struct Lines<'a> {
 
 impl Lines<'_> {
     fn push_field(self, out: &mut Vec<u8>, field: Field<'_>) -> Result<(), OutOfMemory>
-        ensures { OnOk result (out.new.items ≡ out.old.items ++ field_text self.entry.labels.now field.entry) }
+        ensures { OnOk result (out.new.items
+            ≡ out.old.items ++ field_text self.entry.labels.now field.entry) }
     {
         match field {
             Field::Word(word) => push(out, word.as_bytes()),

@@ -120,6 +120,9 @@ trait Fixture: DatabaseSet + Drop {
 
     fn config() -> Self::Config;
 
+    /// Expects this target of the database of this number.
+    fn expect(targets: &mut Self::SyncTargets, database: usize, target: Target);
+
     /// Adds the row of each database.
     fn add_rows(&self, rows: &mut Vec<Row>) -> Result<(), AllocError>;
 
@@ -144,6 +147,12 @@ impl Fixture for Held<Plain> {
     }
 
     fn config() {}
+
+    fn expect(targets: &mut Target, database: usize, target: Target) {
+        if database == 0 {
+            *targets = target;
+        }
+    }
 
     fn add_rows(&self, rows: &mut Vec<Row>) -> Result<(), AllocError> {
         let row = match self {
@@ -181,6 +190,13 @@ impl<R: Fixture> Fixture for (Held<Plain>, R) {
 
     fn config() -> ((), R::Config) {
         ((), R::config())
+    }
+
+    fn expect(targets: &mut (Target, R::SyncTargets), database: usize, target: Target) {
+        match database.checked_sub(1) {
+            Some(behind) => R::expect(&mut targets.1, behind, target),
+            None => targets.0 = target,
+        }
     }
 
     fn add_rows(&self, rows: &mut Vec<Row>) -> Result<(), AllocError> {
@@ -310,6 +326,35 @@ fn inits<S: Fixture>(rt: &impl Abort, alloc: Global, database: usize) -> Result<
         bare(At::Closed, 2, 0),
     ];
     check(rt, alloc, &set, database, rows)
+}
+
+/// A database that holds another target than is expected of it stays closed, and those before it are closed again.
+fn expects<S: Fixture>(rt: &impl Abort, alloc: Global, database: usize) -> Result<(), Fail> {
+    let set: S = grown(rt, alloc, &[])?;
+    let other = Target {
+        root: EMPTY.root,
+        ..SECOND
+    };
+    let mut expected = set.committed_targets()?;
+    S::expect(&mut expected, database, other);
+    let mut set = crashed(rt, set, &[]);
+    let why = InitError::TargetMismatch {
+        expected: other,
+        recovered: SECOND,
+    };
+    let refused = SetInit {
+        index: database,
+        why,
+    };
+    assert_eq!(rt; set.init(&S::config(), Some(expected)), Err(refused));
+    let closed = bare(At::Closed, 2, 0);
+    check(
+        rt,
+        alloc,
+        &set,
+        database,
+        [bare(At::Closed, 2, 1), closed, closed],
+    )
 }
 
 /// A set without the database that failed at an apply refuses what needs it, and an opening opens that one alone.
@@ -452,6 +497,7 @@ fn takes<S: Fixture>(rt: &impl Abort, alloc: Global) -> Result<(), Fail> {
 fn every_call<S: Fixture>(rt: &impl Abort, alloc: Global) -> Result<(), Fail> {
     for database in 0..S::count() {
         inits::<S>(rt, alloc, database)?;
+        expects::<S>(rt, alloc, database)?;
         applies::<S>(rt, alloc, database)?;
         mismatches::<S>(rt, alloc, database)?;
         flushes::<S>(rt, alloc, database)?;

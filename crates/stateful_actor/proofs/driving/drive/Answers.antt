@@ -17,7 +17,7 @@ loop-event-init g c = record {
   events = rw c.new.ensures.items refl;
   steps = rw c.new.ensures.items refl;
   played = rw c.new.ensures.items (HasPlayed-new _ _ c.args.stateful.failed c.args.stateful.core c.args.stateful.register _ _ c.requires.new);
-  safe = record { sound = λ up anchor is. let down = c.requires.new.down in absurd cc; held = λ none. c.requires.held };
+  safe = record { sound = λ up anchor is. let down = c.requires.new.down in absurd cc; none_away = λ none. c.requires.none_away };
   store = refl;
   working = c.requires.new.working;
   registered = rw c.new.ensures.items (Register-new (workings g.A.Block.Block.header g.A.Application.works g.A.Databases.DatabaseSet.kind g.A.Databases.DatabaseSet.shows) (g.S.BlockStore.stored c.args.store.now) c.args.stateful.register c.requires.new.blank);

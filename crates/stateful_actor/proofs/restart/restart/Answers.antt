@@ -7,8 +7,8 @@ use Rattle.stateful_actor.proofs.CodeFaults.{FaultsOpening-init}
 use Rattle.stateful_actor.proofs.CodeResults.{on_err}
 use Rattle.stateful_actor.proofs.restart.restart.Goals as goal
 
-pub returns-in_err-push-clause-err_held : goal.returns-in_err-push-clause-err_held
-returns-in_err-push-clause-err_held g c =
+pub returns-in_err-push-clause-err_none_away : goal.returns-in_err-push-clause-err_none_away
+returns-in_err-push-clause-err_none_away g c =
     let opening = c.in_ok-init.ensures.opening c.crash.ensures.openable c.sync_targets-targets.result refl in
     on_err (c.from_residual-in_err-push.result) (g.met.A.Databases.DatabaseSet.laws.places.away_here _ opening.at opening.here)
 

@@ -8,16 +8,16 @@ use Rattle.stateful_actor.proofs.serve.serve.Goals as goal
 pub settle-requires-clause-sound : goal.settle-requires-clause-sound
 settle-requires-clause-sound g c = Sound-does _ g.met.A.Databases.DatabaseSet.laws _ _ _ c.args.task c.requires.doable c.in_ok-perform.ensures.ok c.requires.sound
 
-pub returns-then-is_held-clause-ok : goal.returns-then-is_held-clause-ok
-returns-then-is_held-clause-ok g c = record { mid = _; does = c.in_ok-perform.ensures.ok; settles = inl (c.is_held.ensures.0 c.if-is_held.true, refl) }
+pub returns-then-nothing_settles-clause-ok : goal.returns-then-nothing_settles-clause-ok
+returns-then-nothing_settles-clause-ok g c = record { mid = _; does = c.in_ok-perform.ensures.ok; settles = inl (c.nothing_settles.ensures.0 c.if-nothing_settles.true, refl) }
 
 pub returns-clause-ok : goal.returns-clause-ok
 returns-clause-ok g c = record {
   mid = _;
   does = c.in_ok-perform.ensures.ok;
   settles = inr (
-    (λ down. let held = c.is_held.ensures.1 (inl down) in let free = c.if-is_held.false in cc),
-    none_of c.perform.new.core.front (λ some. let held = c.is_held.ensures.1 (inr some) in let free = c.if-is_held.false in cc),
+    (λ down. let idle = c.nothing_settles.ensures.1 (inl down) in let free = c.if-nothing_settles.false in cc),
+    none_of c.perform.new.core.front (λ some. let idle = c.nothing_settles.ensures.1 (inr some) in let free = c.if-nothing_settles.false in cc),
     c.in_ok-settle.ensures.ok,
   );
 }

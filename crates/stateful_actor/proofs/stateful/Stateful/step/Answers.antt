@@ -6,7 +6,7 @@ use Rattle.stateful_actor.specs.Workings.{workings}
 use Rattle.stateful_actor.specs.Moments.{moment}
 use Rattle.stateful_actor.proofs.Apart.{refused-not_done, refused-cause}
 use Rattle.stateful_actor.proofs.Refused.{HoldsBehind-same}
-use Rattle.stateful_actor.proofs.Stepping.{restart-refused, Sound-working, Stands-faulted, Held-faulted}
+use Rattle.stateful_actor.proofs.Stepping.{restart-refused, Sound-working, Stands-faulted, NoneAway-faulted}
 use Rattle.stateful_actor.proofs.stateful.Stateful.step.Goals.{else-self-via-then-self+else-not-is_restart, else-self-via-else-self, then-not-changes_nothing, else-not-changes_nothing}
 use Rattle.stateful_actor.proofs.stateful.Stateful.step.Goals as goal
 
@@ -35,7 +35,7 @@ pub returns-clause-safe : goal.returns-clause-safe
 returns-clause-safe g c = elim c.if-not-changes_nothing.branch [
   | then-not-changes_nothing w ↦ rw w.self-is (record {
     sound = λ e. cc;
-    held = λ none. Held-faulted _ _ _ w.still_up-self.ensures c.in-Err.ensures.err none;
+    none_away = λ none. NoneAway-faulted _ _ _ w.still_up-self.ensures c.in-Err.ensures.err none;
   })
   | else-not-changes_nothing w ↦
       let nothing : changes_nothing c.in-Err.error ≡ true = search rules in
