@@ -1,7 +1,7 @@
 -- Durable heights, and the rules on barriers and acknowledgements.
-use Rattle.std.specs.Prelude.{◌≡◌, ℕ, ◌≤◌, ◌<◌, ◌⊎◌, Bool, true, false, max, Option, Some, None, [], ◌∷◌, MatchOption}
-use Rattle.stateful_types.specs.Names.{Header, Named}
-use Rattle.stateful_history.specs.Past.{Past, Item, Came, Made}
+use Rattle.std.specs.Prelude.{◌≡◌, ℕ, ◌≤◌, ◌<◌, ◌⊎◌, true, max, [], ◌∷◌, MatchOption}
+use Rattle.stateful_types.specs.Names.{Header}
+use Rattle.stateful_history.specs.Past.{Past, Came, Made}
 use Rattle.stateful_history.specs.Opening.{opening}
 use Rattle.stateful_history.specs.declared.event.Event.TheVariants.{Flushed, Restart}
 use Rattle.stateful_history.specs.declared.mark.Mark.{Mark}

@@ -1,10 +1,9 @@
 -- What consensus and the block store are trusted with.
-use Rattle.std.specs.Prelude.{◌≡◌, ◌⊎◌, Option, Some, None, List, [], ◌∷◌}
+use Rattle.std.specs.Prelude.{◌≡◌, List, [], ◌∷◌}
 use Rattle.stateful_types.specs.Names.{Named}
-use Rattle.stateful_types.specs.declared.digest.Digest.{Digest}
 use Rattle.stateful_types.specs.declared.block.Ancestry.{Ancestry}
 use Rattle.stateful_history.specs.Setting.{Setting, parent_of}
-use Rattle.stateful_history.specs.Past.{Past, Item, Came, Made}
+use Rattle.stateful_history.specs.Past.{Past, Came}
 use Rattle.stateful_history.specs.declared.event.Event.TheVariants.{Verify, Prepare, Propose}
 
 module _ {B S T : Type 0} (s : Setting B S T) where

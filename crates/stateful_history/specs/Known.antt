@@ -1,5 +1,5 @@
 -- The blocks that are known at a place: those whose states are at hand.
-use Rattle.std.specs.Prelude.{◌≡◌, Option, Some, None, List, ◌∷◌, MatchOption}
+use Rattle.std.specs.Prelude.{◌≡◌, Some, ◌∷◌, MatchOption}
 use Rattle.stateful_types.specs.Names.{Named}
 use Rattle.stateful_types.specs.Round.{IsLater}
 use Rattle.stateful_types.specs.declared.digest.Digest.{Digest}

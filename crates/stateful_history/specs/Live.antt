@@ -1,7 +1,7 @@
 -- What is live at a place, and which events may come there.
-use Rattle.std.specs.Prelude.{◌≡◌, ℕ, ◌+◌, Bool, true, false, not, nat_lt, ◌==◌, ◌&&◌, ◌||◌, max, if◌then◌else◌, Option, Some, None, List, [], ◌∷◌}
+use Rattle.std.specs.Prelude.{ℕ, ◌+◌, Bool, true, false, not, nat_lt, ◌==◌, ◌&&◌, ◌||◌, max, if◌then◌else◌, Option, Some, None, List, [], ◌∷◌}
 use Rattle.std.specs.List.{list_any}
-use Rattle.stateful_history.specs.Past.{Past, Item, Came, Made, Seeking}
+use Rattle.stateful_history.specs.Past.{Past, Came, Made, Seeking}
 use Rattle.stateful_history.specs.Opening.{is_down}
 use Rattle.stateful_history.specs.declared.ticket.Ticket.{Ticket}
 use Rattle.stateful_history.specs.declared.ticket.Ticket.TheVariants.{Request, Receipt}

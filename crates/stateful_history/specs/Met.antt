@@ -1,5 +1,5 @@
 -- The blocks of a history.
-use Rattle.std.specs.Prelude.{◌≡◌, ℕ, ◌⊎◌, Option, Some, None, List, [], ◌∷◌, Contains, MatchOption}
+use Rattle.std.specs.Prelude.{◌≡◌, ℕ, ◌⊎◌, Some, [], ◌∷◌, Contains}
 use Rattle.stateful_types.specs.Names.{Named}
 use Rattle.stateful_types.specs.declared.block.Ancestry.{Ancestry}
 use Rattle.stateful_history.specs.Setting.{Setting}

@@ -1,16 +1,19 @@
 -- The past at a place: the events and the marks before it, the newest first.
-use Rattle.std.specs.Prelude.{ℕ, List, [], ◌∷◌}
+use Rattle.std.specs.Prelude.{ℕ, Option, Some, None, List, [], ◌∷◌}
 use Rattle.stateful_types.specs.declared.number.Height.{Height}
 use Rattle.stateful_history.specs.declared.event.Event.{Event}
 use Rattle.stateful_history.specs.declared.mark.Mark.{Mark}
 use Rattle.stateful_history.specs.declared.entry.Entry.{Entry}
 
--- An event came, or a mark was made. Two further items tell what no entry does: an event that was refused had pruned
--- the store below this height before, without a mark; and from here on these databases are live for progress.
+-- An event came, or a mark was made. Further items tell what no entry does. An event that was refused had pruned the
+-- store below this height before, without a mark; it had pruned databases, some at least, to the block of this height;
+-- it was a restart at this height. And from here on these databases are live for progress.
 pub data Item (B C I : Type 0) : Type 0 where
   Came : Event B C I → Item B C I
   Made : Mark B → Item B C I
   Unmarked : Height → Item B C I
+  Cut : Height → Item B C I
+  Tried : Height → Item B C I
   Seeking : List ℕ → Item B C I
 
 abbrev pub Past : Type 0 → Type 0 → Type 0 → Type 0
@@ -42,3 +45,20 @@ module _ {B C I : Type 0} where
   EachEntry Rule p (entry ∷ entries) =
       EachMark Rule (Came entry.event ∷ p) entry.marks
       × EachEntry Rule (after_entry p entry.event entry.marks) entries
+
+  -- the rule holds of each of these marks, at its place and with the mark behind it
+  abbrev pub EachNext : (Past B C I → Mark B → Option (Mark B) → Type 0) → Past B C I → List (Mark B) → Type 0
+  EachNext Rule p [] = Unit {0}
+  EachNext Rule p (mark ∷ []) = Rule p mark None
+  EachNext Rule p (mark ∷ next ∷ marks) = Rule p mark (Some next) × EachNext Rule (Made mark ∷ p) (next ∷ marks)
+
+  -- the event of the entry at this place
+  abbrev pub event_of : Past B C I → Option (Event B C I)
+  event_of [] = None
+  event_of (Came event ∷ p) = Some event
+  event_of (item ∷ p) = event_of p
+
+  -- the mark before this place, where one stands in the same entry
+  abbrev pub last_mark : Past B C I → Option (Mark B)
+  last_mark (Made mark ∷ p) = Some mark
+  last_mark p = None
