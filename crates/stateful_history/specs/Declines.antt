@@ -11,7 +11,7 @@ use Rattle.stateful_history.specs.Known.{IsUnknown}
 use Rattle.stateful_history.specs.States.{HasState}
 use Rattle.stateful_history.specs.Reasons.{Missing, IsCovered, FailsOnKnown}
 use Rattle.stateful_history.specs.Requests.{Proposal, asked_by, proposed}
-use Rattle.stateful_history.specs.Fetches.{asked_for}
+use Rattle.stateful_history.specs.Asked.{asked_for}
 use Rattle.stateful_history.specs.Jobs.{job_of, started_for}
 use Rattle.stateful_history.specs.Stops.{IsStopped}
 use Rattle.stateful_history.specs.declared.event.Event.{Event}

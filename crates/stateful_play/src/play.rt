@@ -7,6 +7,7 @@ ghost use Rattle.stateful_script.specs.Laws.{IsPlan};
 ghost use Rattle.stateful_actor.specs.Stepping.{IsNew};
 ghost use Rattle.stateful_play.specs.Plan.{labels_of};
 ghost use Rattle.stateful_play.specs.Play.{IsPlayOf};
+ghost use Rattle.stateful_play.specs.Shown.{listed_in};
 
 use crate::event::{WINDOW, events};
 use crate::plan::{Planned, plan};
@@ -97,12 +98,13 @@ fn new_machine(alloc: Global) -> Result<Stateful<Bank>, OutOfMemory>
     Stateful::new(alloc, config).map_err(|_| OutOfMemory)
 }
 
-/// A database that is closed, on an empty medium that hasn't failed.
-fn closed(alloc: Global) -> Held<Plain>
+/// A database that is closed, on an empty medium that hasn't failed. No call on it is to fail: a script lists none.
+fn empty_database(alloc: Global) -> Held<Plain>
     ensures none_away { ⟦<Held<Plain> as DatabaseSet>⟧.kind.NoneAway (⟦<Held<Plain> as DatabaseSet>⟧.members result) }
     ensures empty { ⟦<Held<Plain> as DatabaseSet>⟧.members result
         ≡ closed_member (record { older = []; newest = initial; pruned = 0; durable = 0 }) }
     ensures batches { ⟦<Held<Plain> as DatabaseSet>⟧.next result ≡ 1 }
+    ensures listed { listed_in result ≡ [] }
     ensures counts { (i : ℕ) → ⟦<Held<Plain> as DatabaseSet>⟧.counted result i ≡ 0 }
 {
     Held::Closed(PlainMedium::empty(alloc, Vec::new(alloc)))
@@ -145,7 +147,7 @@ pub fn play(alloc: Global, script: &Script) -> Result<Told, OutOfMemory>
     let mut store = store_of(alloc, planned.as_slice(), script.events.as_slice())?;
     let events = events(alloc, planned.as_slice(), script.events.as_slice())?;
     let stateful = new_machine(alloc)?;
-    match drive(alloc, stateful, closed(alloc), &mut store, events) {
+    match drive(alloc, stateful, empty_database(alloc), &mut store, events) {
         Ok(driven) => Ok(Told {
             labels,
             played: in_plain(driven, None),

@@ -14,7 +14,10 @@ use stateful_types::{BlockStore, Digested, MemoryStore, OutOfMemory, Share};
 use std::alloc::Global;
 
 /// Keeps a block at its height, where none is kept there.
-fn keep(store: &mut MemoryStore<BankBlock>, block: &Digested<BankBlock>) -> Result<(), OutOfMemory>
+fn store_block(
+    store: &mut MemoryStore<BankBlock>,
+    block: &Digested<BankBlock>,
+) -> Result<(), OutOfMemory>
     ensures { let stored = ⟦<MemoryStore<BankBlock> as BlockStore<BankBlock>>⟧.stored in
         OnOk result ((blocks : List (Named BankBlock))
         → Keeps (stored store.old) blocks
@@ -28,7 +31,7 @@ fn keep(store: &mut MemoryStore<BankBlock>, block: &Digested<BankBlock>) -> Resu
 }
 
 /// Keeps the block that an event finalizes, if it does, at its height, where none is kept there.
-fn keep_finalized(
+fn store_finalized(
     store: &mut MemoryStore<BankBlock>,
     planned: &[Planned],
     event: &PlannedEvent,
@@ -40,7 +43,7 @@ fn keep_finalized(
         → Keeps (stored store.new) (blocks ++ finalized planned.now (event.now ∷ []))) }
 {
     match event {
-        PlannedEvent::Finalize(place) => keep(store, &planned[*place].block),
+        PlannedEvent::Finalize(place) => store_block(store, &planned[*place].block),
         PlannedEvent::Verify(_) | PlannedEvent::Turn(_) | PlannedEvent::Flushed { .. } => Ok(()),
     }
 }
@@ -59,9 +62,9 @@ pub fn store_of(
         ≡ store_of planned.now script.now h) }
 {
     let mut store = MemoryStore::new(alloc);
-    keep(&mut store, &planned[0].block)?;
+    store_block(&mut store, &planned[0].block)?;
     for event in script {
-        keep_finalized(&mut store, planned, event)?;
+        store_finalized(&mut store, planned, event)?;
     }
     Ok(store)
 }

@@ -69,7 +69,7 @@ fn load<S: Source>(alloc: Global, source: &mut S) -> Result<Script, Stop>
 }
 
 /// A run without a play.
-fn alone(status: Status) -> Outcome
+fn without_play(status: Status) -> Outcome
     ensures { result ≡ record { status = status; played = None } }
 {
     Outcome {
@@ -85,9 +85,9 @@ fn put<K: Sink>(sink: &mut K, text: &[u8], status: Status) -> Outcome
         (K.held sink.new) text.now status result.status }
 {
     match write_all(sink, text) {
-        Ok(()) => alone(status),
-        Err(SinkFault::Failed) => alone(Status::WriteFault),
-        Err(SinkFault::OutOfMemory) => alone(Status::NoMemory),
+        Ok(()) => without_play(status),
+        Err(SinkFault::Failed) => without_play(Status::WriteFault),
+        Err(SinkFault::OutOfMemory) => without_play(Status::NoMemory),
     }
 }
 
@@ -117,7 +117,7 @@ fn tell<K: Sink>(alloc: Global, sink: &mut K, told: Told) -> Outcome
 {
     let text = match text_of(alloc, &told) {
         Ok(text) => text,
-        Err(OutOfMemory) => return alone(Status::NoMemory),
+        Err(OutOfMemory) => return without_play(Status::NoMemory),
     };
     match write_all(sink, text.as_slice()) {
         Ok(()) => outcome_of(told.played),
@@ -125,7 +125,7 @@ fn tell<K: Sink>(alloc: Global, sink: &mut K, told: Told) -> Outcome
             status: Status::WriteFault,
             played: Some(told.played),
         },
-        Err(SinkFault::OutOfMemory) => alone(Status::NoMemory),
+        Err(SinkFault::OutOfMemory) => without_play(Status::NoMemory),
     }
 }
 
@@ -136,8 +136,8 @@ fn refuse_words<K: Sink>(alloc: Global, sink: &mut K) -> Outcome
         (K.held sink.new) usage_line Status.Usage result.status }
 {
     match usage_line(alloc) {
-        Ok(text) => put(sink, text.as_slice(), Status::Usage),
-        Err(OutOfMemory) => alone(Status::NoMemory),
+        Ok(text) => write_text(sink, text.as_slice(), Status::Usage),
+        Err(OutOfMemory) => without_play(Status::NoMemory),
     }
 }
 
@@ -148,8 +148,8 @@ fn refuse_line<K: Sink>(alloc: Global, sink: &mut K, line: u64) -> Outcome
         (K.held sink.new) (script_line line) (Status.Script line) result.status }
 {
     match script_line(alloc, line) {
-        Ok(text) => put(sink, text.as_slice(), Status::Script { line }),
-        Err(OutOfMemory) => alone(Status::NoMemory),
+        Ok(text) => write_text(sink, text.as_slice(), Status::Script { line }),
+        Err(OutOfMemory) => without_play(Status::NoMemory),
     }
 }
 
@@ -233,12 +233,12 @@ pub fn run<S: Source, K: Sink>(
     }
     let script = match load(alloc, source) {
         Ok(script) => script,
-        Err(Stop::ReadFault) => return alone(Status::ReadFault),
+        Err(Stop::ReadFault) => return without_play(Status::ReadFault),
         Err(Stop::Refused(line)) => return refuse_line(alloc, sink, line),
-        Err(Stop::NoMemory) => return alone(Status::NoMemory),
+        Err(Stop::NoMemory) => return without_play(Status::NoMemory),
     };
     match play(alloc, &script) {
-        Ok(told) => tell(alloc, sink, told),
-        Err(OutOfMemory) => alone(Status::NoMemory),
+        Ok(told) => write_transcript(alloc, sink, told),
+        Err(OutOfMemory) => without_play(Status::NoMemory),
     }
 }

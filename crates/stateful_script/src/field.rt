@@ -91,7 +91,7 @@ fn name(field: &[u8]) -> Option<&str>
 
 /// Reads a number.
 #[tactic(auto, unfolding(crate::specs::Fields::number_at))]
-pub fn number_at(fields: &mut Cursor<'_>) -> Option<u64>
+pub fn next_number(fields: &mut Cursor<'_>) -> Option<u64>
     ensures read { MatchOption result (number_at (fields_left fields.old) ≡ None)
         (λ n. number_at (fields_left fields.old) ≡ Some (n, fields_left fields.new)) }
     ensures shorter { length (fields_left fields.new) ≤ length (fields_left fields.old) }
@@ -101,7 +101,7 @@ pub fn number_at(fields: &mut Cursor<'_>) -> Option<u64>
 
 /// Reads an account.
 #[tactic(auto, unfolding(crate::specs::Fields::account_at))]
-pub fn account_at(fields: &mut Cursor<'_>) -> Option<u16>
+pub fn next_account(fields: &mut Cursor<'_>) -> Option<u16>
     ensures read { MatchOption result (account_at (fields_left fields.old) ≡ None)
         (λ n. account_at (fields_left fields.old) ≡ Some (n, fields_left fields.new)) }
     ensures shorter { length (fields_left fields.new) ≤ length (fields_left fields.old) }
@@ -111,7 +111,7 @@ pub fn account_at(fields: &mut Cursor<'_>) -> Option<u16>
 
 /// Reads a name.
 #[tactic(auto, unfolding(crate::specs::Fields::name_at))]
-pub fn name_at<'a>(fields: &mut Cursor<'a>) -> Option<&'a str>
+pub fn next_name<'a>(fields: &mut Cursor<'a>) -> Option<&'a str>
     ensures { MatchOption result (name_at (fields_left fields.old) ≡ None)
         (λ name. name_at (fields_left fields.old) ≡ Some (name.now, fields_left fields.new)) }
 {

@@ -5,7 +5,7 @@ ghost use Rattle.stateful_script.specs.BlockItems.{mint_at, move_at, item_by, it
 ghost use Rattle.stateful_script.specs.Cursor.{fields_left};
 
 use crate::cursor::Cursor;
-use crate::field::{account_at, number_at};
+use crate::field::{next_account, next_number};
 use stateful_bank::Op;
 use std::alloc::{AllocError, Global};
 
@@ -27,52 +27,52 @@ impl Item {
 }
 
 #[tactic(auto, unfolding(crate::specs::BlockItems::mint_at))]
-fn mint_at(fields: &mut Cursor<'_>) -> Option<Item>
+fn parse_mint(fields: &mut Cursor<'_>) -> Option<Item>
     ensures item { MatchOption result (mint_at (fields_left fields.old) ≡ None)
         (λ item. mint_at (fields_left fields.old) ≡ Some (item, fields_left fields.new)) }
     ensures shorter { length (fields_left fields.new) ≤ length (fields_left fields.old) }
 {
-    let account = account_at(fields)?;
-    let amount = number_at(fields)?;
+    let account = next_account(fields)?;
+    let amount = next_number(fields)?;
     Some(Item::Op(Op::Mint { account, amount }))
 }
 
 #[tactic(auto, unfolding(crate::specs::BlockItems::move_at))]
-fn move_at(fields: &mut Cursor<'_>) -> Option<Item>
+fn parse_move(fields: &mut Cursor<'_>) -> Option<Item>
     ensures item { MatchOption result (move_at (fields_left fields.old) ≡ None)
         (λ item. move_at (fields_left fields.old) ≡ Some (item, fields_left fields.new)) }
     ensures shorter { length (fields_left fields.new) ≤ length (fields_left fields.old) }
 {
-    let from = account_at(fields)?;
-    let to = account_at(fields)?;
-    let amount = number_at(fields)?;
+    let from = next_account(fields)?;
+    let to = next_account(fields)?;
+    let amount = next_number(fields)?;
     Some(Item::Op(Op::Move { from, to, amount }))
 }
 
 /// Reads an item behind its first word.
 #[tactic(auto, unfolding(crate::specs::BlockItems::item_by))]
-fn item_by(word: &[u8], fields: &mut Cursor<'_>) -> Option<Item>
+fn parse_item(word: &[u8], fields: &mut Cursor<'_>) -> Option<Item>
     ensures item { MatchOption result (item_by word.now (fields_left fields.old) ≡ None)
         (λ item. item_by word.now (fields_left fields.old) ≡ Some (item, fields_left fields.new)) }
     ensures shorter { length (fields_left fields.new) ≤ length (fields_left fields.old) }
 {
     if word == b"mint".as_slice() {
-        mint_at(fields)
+        parse_mint(fields)
     } else if word == b"move".as_slice() {
-        move_at(fields)
+        parse_move(fields)
     } else {
         None
     }
 }
 
 /// Reads items up to the end of the line. None where something else stands there.
-pub fn items_of(alloc: Global, fields: &mut Cursor<'_>) -> Result<Option<Vec<Item>>, AllocError>
+pub fn parse_items(alloc: Global, fields: &mut Cursor<'_>) -> Result<Option<Vec<Item>>, AllocError>
     ensures { IfOk result (λ found. option_map (λ items. items.items) found
         ≡ items_of (fields_left fields.old)) }
 {
     let mut items = Vec::new(alloc);
     'items: while let Some(word) = fields.next_field() {
-        match item_by(word, fields) {
+        match parse_item(word, fields) {
             Some(item) => items.push(item)?,
             None => return Ok(None),
         }

@@ -8,8 +8,8 @@ ghost use Rattle.stateful_script.specs.Lines.{Form, ended, world_by, world_of, b
 ghost use Rattle.stateful_script.specs.declared.line.LineError.TheVariants.{OutOfMemory};
 
 use crate::cursor::Cursor;
-use crate::field::{after_word, name_at, number_at};
-use crate::item::{items_of, ops_among};
+use crate::field::{after_word, next_name, next_number};
+use crate::item::{ops_among, parse_items};
 use crate::script::World;
 use stateful_bank::{MAX_OPS, Op};
 use stateful_types::Items;
@@ -80,7 +80,7 @@ fn world_by(word: &[u8]) -> Option<World>
 }
 
 #[tactic(auto, unfolding(crate::specs::Lines::world_of))]
-fn world_of<'a>(fields: &mut Cursor<'a>) -> Option<Line<'a>>
+fn parse_world<'a>(fields: &mut Cursor<'a>) -> Option<Line<'a>>
     ensures { MatchOption result (world_of (fields_left fields.old) ≡ None)
         (λ read. world_of (fields_left fields.old) ≡ Some (seen read)) }
 {
@@ -89,15 +89,15 @@ fn world_of<'a>(fields: &mut Cursor<'a>) -> Option<Line<'a>>
 }
 
 #[tactic(auto, unfolding(crate::specs::Lines::block_of))]
-fn block_of<'a>(alloc: Global, fields: &mut Cursor<'a>) -> Result<Line<'a>, LineError>
+fn parse_block<'a>(alloc: Global, fields: &mut Cursor<'a>) -> Result<Line<'a>, LineError>
     ensures { Gives seen result (block_of (fields_left fields.old)) }
 {
-    let name = name_at(fields).ok_or(LineError::Refused)?;
+    let name = next_name(fields).ok_or(LineError::Refused)?;
     after_word(b"on", fields).ok_or(LineError::Refused)?;
-    let parent = name_at(fields).ok_or(LineError::Refused)?;
+    let parent = next_name(fields).ok_or(LineError::Refused)?;
     after_word(b"view", fields).ok_or(LineError::Refused)?;
-    let view = number_at(fields).ok_or(LineError::Refused)?;
-    let items = items_of(alloc, fields)?.ok_or(LineError::Refused)?;
+    let view = next_number(fields).ok_or(LineError::Refused)?;
+    let items = parse_items(alloc, fields)?.ok_or(LineError::Refused)?;
     let ops = ops_among(alloc, &items)?;
     if ops.len() > MAX_OPS {
         return Err(LineError::Refused);
@@ -111,59 +111,63 @@ fn block_of<'a>(alloc: Global, fields: &mut Cursor<'a>) -> Result<Line<'a>, Line
 }
 
 #[tactic(auto, unfolding(crate::specs::Lines::verify_of))]
-fn verify_of<'a>(fields: &mut Cursor<'a>) -> Option<Line<'a>>
+fn parse_verify<'a>(fields: &mut Cursor<'a>) -> Option<Line<'a>>
     ensures { MatchOption result (verify_of (fields_left fields.old) ≡ None)
         (λ read. verify_of (fields_left fields.old) ≡ Some (seen read)) }
 {
-    let name = name_at(fields)?;
+    let name = next_name(fields)?;
     ended(Line::Verify(name), fields)
 }
 
 #[tactic(auto, unfolding(crate::specs::Lines::turn_of))]
-fn turn_of<'a>(fields: &mut Cursor<'a>) -> Option<Line<'a>>
+fn parse_turn<'a>(fields: &mut Cursor<'a>) -> Option<Line<'a>>
     ensures { MatchOption result (turn_of (fields_left fields.old) ≡ None)
         (λ read. turn_of (fields_left fields.old) ≡ Some (seen read)) }
 {
-    let job = number_at(fields)?;
+    let job = next_number(fields)?;
     ended(Line::Turn(job), fields)
 }
 
 #[tactic(auto, unfolding(crate::specs::Lines::finalize_of))]
-fn finalize_of<'a>(fields: &mut Cursor<'a>) -> Option<Line<'a>>
+fn parse_finalize<'a>(fields: &mut Cursor<'a>) -> Option<Line<'a>>
     ensures { MatchOption result (finalize_of (fields_left fields.old) ≡ None)
         (λ read. finalize_of (fields_left fields.old) ≡ Some (seen read)) }
 {
-    let name = name_at(fields)?;
+    let name = next_name(fields)?;
     ended(Line::Finalize(name), fields)
 }
 
 #[tactic(auto, unfolding(crate::specs::Lines::flushed_of))]
-fn flushed_of<'a>(fields: &mut Cursor<'a>) -> Option<Line<'a>>
+fn parse_flushed<'a>(fields: &mut Cursor<'a>) -> Option<Line<'a>>
     ensures { MatchOption result (flushed_of (fields_left fields.old) ≡ None)
         (λ read. flushed_of (fields_left fields.old) ≡ Some (seen read)) }
 {
-    let barrier = number_at(fields)?;
-    let database = number_at(fields)?;
+    let barrier = next_number(fields)?;
+    let database = next_number(fields)?;
     ended(Line::Flushed { barrier, database }, fields)
 }
 
 /// Reads a line behind its first word.
 #[tactic(auto, unfolding(crate::specs::Lines::form_by))]
-fn form_by<'a>(alloc: Global, word: &[u8], fields: &mut Cursor<'a>) -> Result<Line<'a>, LineError>
+fn parse_form<'a>(
+    alloc: Global,
+    word: &[u8],
+    fields: &mut Cursor<'a>,
+) -> Result<Line<'a>, LineError>
     ensures { Gives seen result (form_by word.now (fields_left fields.old)) }
 {
     if word == b"world".as_slice() {
-        world_of(fields).ok_or(LineError::Refused)
+        parse_world(fields).ok_or(LineError::Refused)
     } else if word == b"block".as_slice() {
-        block_of(alloc, fields)
+        parse_block(alloc, fields)
     } else if word == b"verify".as_slice() {
-        verify_of(fields).ok_or(LineError::Refused)
+        parse_verify(fields).ok_or(LineError::Refused)
     } else if word == b"turn".as_slice() {
-        turn_of(fields).ok_or(LineError::Refused)
+        parse_turn(fields).ok_or(LineError::Refused)
     } else if word == b"finalize".as_slice() {
-        finalize_of(fields).ok_or(LineError::Refused)
+        parse_finalize(fields).ok_or(LineError::Refused)
     } else if word == b"flushed".as_slice() {
-        flushed_of(fields).ok_or(LineError::Refused)
+        parse_flushed(fields).ok_or(LineError::Refused)
     } else {
         Err(LineError::Refused)
     }
@@ -177,7 +181,7 @@ fn all_ascii(line: &[u8]) -> bool
 
 /// Reads a line, without its LF. It is refused exactly where no form is its own.
 #[tactic(auto, unfolding(crate::specs::Lines::form_of, crate::specs::Lines::form_of_fields))]
-pub fn line_of(alloc: Global, line: &[u8]) -> Result<Line<'_>, LineError>
+pub fn parse_line(alloc: Global, line: &[u8]) -> Result<Line<'_>, LineError>
     ensures { Gives seen result (form_of line.now) }
 {
     if !all_ascii(line) {
@@ -188,7 +192,7 @@ pub fn line_of(alloc: Global, line: &[u8]) -> Result<Line<'_>, LineError>
     }
     let mut fields = Cursor::new(line);
     match fields.next_field() {
-        Some(word) => form_by(alloc, word, &mut fields),
+        Some(word) => parse_form(alloc, word, &mut fields),
         None => Err(LineError::Refused),
     }
 }

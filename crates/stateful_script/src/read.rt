@@ -7,7 +7,7 @@ ghost use Rattle.stateful_script.specs.Script.{at_start, place, is_free, with_wo
 ghost use Rattle.stateful_script.specs.Laws.{IsPlan};
 
 use crate::cursor::cut;
-use crate::line::{Line, LineError, line_of};
+use crate::line::{Line, LineError, parse_line};
 use crate::name::Name;
 use crate::script::{PlannedBlock, PlannedEvent, Script, ScriptError, World};
 use stateful_types::{Items, View};
@@ -101,7 +101,7 @@ impl Script {
 
     /// Takes in what a line says.
     #[tactic(auto, unfolding(crate::specs::Script::enter))]
-    fn enter(&mut self, alloc: Global, line: Line<'_>) -> Result<(), LineError>
+    fn record_line(&mut self, alloc: Global, line: Line<'_>) -> Result<(), LineError>
         ensures { MatchResult result (λ _. enter self.old (seen line.entry) ≡ Some self.new)
             (λ e. Refuses e (enter self.old (seen line.entry))) }
     {
@@ -139,7 +139,7 @@ impl Script {
         ensures { MatchResult result (λ _. read_line self.old text.now ≡ Some self.new)
             (λ e. Refuses e (read_line self.old text.now)) }
     {
-        self.enter(alloc, line_of(alloc, text)?)
+        self.record_line(alloc, parse_line(alloc, text)?)
     }
 }
 

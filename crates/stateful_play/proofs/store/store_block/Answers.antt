@@ -2,7 +2,7 @@ use Rattle.std.proofs.Common.{true, false}
 use Rattle.std.specs.Ordering.{nat_cmp}
 use Rattle.std.specs.BTreeMap.{get}
 use Rattle.stateful_play.proofs.Kept.{found_at, kept_already, kept_first}
-use Rattle.stateful_play.proofs.store.keep.Goals as goal
+use Rattle.stateful_play.proofs.store.store_block.Goals as goal
 
 pub returns-then-is_some : goal.returns-then-is_some
 returns-then-is_some c =
