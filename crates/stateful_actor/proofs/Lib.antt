@@ -30,10 +30,6 @@ pub mod Played
 pub mod Halting
 pub mod CodeTests
 pub mod CodeResults
-pub mod CodeFinding
-pub mod CodeIndex
-pub mod CodeJudging
-pub mod CodeCut
 pub mod Releasing
 pub mod CodeSound
 pub mod CodeFaults

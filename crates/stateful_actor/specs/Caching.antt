@@ -9,20 +9,8 @@ use Rattle.stateful_history.specs.Met.{Met}
 use Rattle.stateful_history.specs.Known.{Known, IsPastTip}
 use Rattle.stateful_actor.specs.Workings.{Workings, setting, Point}
 use Rattle.stateful_actor.specs.Chains.{Chain}
-use Rattle.stateful_actor.specs.declared.cache.Cached.{Cached}
-
--- an entry of this digest is cached
-abbrev pub IsIn : {U : Type 0} → List (Cached U) → Digest → Type 0
-IsIn cache digest = Any (λ e. e.digest ≡ digest) cache
-
--- the digest is the anchor's, or that of a cached block
-abbrev pub IsAtHand : {U : Type 0} → Anchor → List (Cached U) → Digest → Type 0
-IsAtHand anchor cache digest = (digest ≡ anchor.digest) ⊎ IsIn cache digest
-
--- the parent of each entry is the anchor, or the block of an entry before it
-abbrev pub InOrder : {U : Type 0} → Digest → List Digest → List (Cached U) → Type 0
-InOrder anchor earlier [] = Unit {0}
-InOrder anchor earlier (e ∷ es) = ((e.parent ≡ anchor) ⊎ Contains earlier e.parent) × InOrder anchor (earlier ++ e.digest ∷ []) es
+use Rattle.stateful_exec.specs.declared.cache.Cached.{Cached}
+use Rattle.stateful_exec.specs.Cache.{IsIn, InOrder}
 
 module _ {B C I R U H : Type 0} (w : Workings B R H U) (stored : ℕ → Option (Named B)) (p : Past B C I) (points : Digest → Point w) (next : w.Ids) (anchor : Digest) where
   -- the entry is of a known block above the anchor, and its batch stands on that block's chain

@@ -4,8 +4,6 @@ pub mod Moments
 pub mod Chains
 pub mod Numbers
 pub mod Caching
-pub mod Cut
-pub mod Index
 pub mod Running
 pub mod Checkpoints
 pub mod Barriers
@@ -13,7 +11,6 @@ pub mod Rules
 pub mod Stands
 pub mod Restarting
 pub mod Entering
-pub mod Judging
 pub mod Counters
 pub mod Effects
 pub mod Starting

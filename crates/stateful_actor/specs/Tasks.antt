@@ -7,11 +7,11 @@ use Rattle.stateful_types.specs.declared.block.Ancestry.{Ancestry}
 use Rattle.stateful_db.specs.declared.barrier.Flushed.TheVariants.{Good}
 use Rattle.stateful_history.specs.declared.event.Event.{Event}
 use Rattle.stateful_history.specs.declared.event.Event.TheVariants.{Verify, Finalized, Turn, Flushed, Restart}
-use Rattle.stateful_actor.specs.Caching.{IsIn, IsAtHand}
-use Rattle.stateful_actor.specs.Judging.{IsJudged}
+use Rattle.stateful_exec.specs.Cache.{IsIn, IsAtHand}
+use Rattle.stateful_exec.specs.Judgement.{IsJudged, IsOpen}
 use Rattle.stateful_actor.specs.Finalizing.{IsPast, IsNext, RefusesBlock}
-use Rattle.stateful_actor.specs.declared.judge.Judgement.{Judgement}
-use Rattle.stateful_actor.specs.declared.judge.Judgement.TheVariants.{Valid, Invalid, Waits, Open}
+use Rattle.stateful_exec.specs.declared.judgement.Judgement.{Judgement}
+use Rattle.stateful_exec.specs.declared.judgement.Judgement.TheVariants.{Valid, Invalid, Waits, Open}
 use Rattle.stateful_actor.specs.declared.tables.Core.{Core}
 use Rattle.stateful_actor.specs.declared.task.Task.{Task}
 use Rattle.stateful_actor.specs.declared.task.Task.TheVariants as task
@@ -21,13 +21,6 @@ use Rattle.stateful_actor.specs.declared.error.StepError.TheVariants.{NotYet, Ou
 -- no job is live
 abbrev pub IsIdle : {B R H U : Type 0} → Core B R H U → Type 0
 IsIdle core = (core.runs.items ≡ []) × (core.front ≡ None)
-
--- the block isn't answered at once
-abbrev pub IsOpen : Judgement → Type 0
-IsOpen Valid = ⊥
-IsOpen Invalid = ⊥
-IsOpen Waits = Unit {0}
-IsOpen Open = Unit {0}
 
 -- the next block of the ancestry is this one
 abbrev pub IsFollowedBy : {B : Type 0} → List (Named B) → Named B → Type 0

@@ -8,19 +8,19 @@ ghost use Rattle.stateful_history.specs.declared.mark.Mark.TheVariants.{Began, A
 ghost use Rattle.stateful_actor.specs.Workings.{workings};
 ghost use Rattle.stateful_actor.specs.Moments.{moment};
 ghost use Rattle.stateful_actor.specs.Barriers.{HasReceipt};
-ghost use Rattle.stateful_actor.specs.Caching.{IsIn};
-ghost use Rattle.stateful_actor.specs.Cut.{IsCutTo, IsRootOf};
+ghost use Rattle.stateful_exec.specs.Cache.{IsIn};
+ghost use Rattle.stateful_exec.specs.Cut.{IsCutTo, IsRootOf};
 ghost use Rattle.stateful_actor.specs.Stands.{Sound};
 ghost use Rattle.stateful_actor.specs.Effects.{HoldsReceipt};
 ghost use Rattle.stateful_actor.specs.Causes.{FaultsApply, FaultsAdvance, FaultsBarrier, FaultsObserving, FaultsFinalize, KeepsStates, LeavesStates};
 ghost use Rattle.stateful_actor.specs.Finalizing.{IsNext, IsPast, RefusesBlock, Moves, BeginsIfNone, Observes, Finalizes};
 
 use crate::barrier::begin_barrier;
-use crate::cache::{Cache, Cut};
 use crate::error::{Fault, StepError};
 use crate::stateful::CoreOf;
 use crate::tables::Front;
 use stateful_db::{Application, Batch, DatabaseSet, Hooked};
+use stateful_exec::{Cache, Cut};
 use stateful_history::{JobKind, Mark};
 use stateful_types::{Anchor, Block, Digested, Height, Share};
 use std::mem;

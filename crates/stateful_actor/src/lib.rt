@@ -5,11 +5,9 @@
 #![tactic(auto)]
 
 mod barrier;
-mod cache;
 mod driving;
 mod error;
 mod finalize;
-mod judge;
 mod one_barrier;
 mod restart;
 mod serve;
@@ -21,7 +19,6 @@ mod turn;
 mod verify;
 
 pub use crate::tables::{Active, Core, Front, Live};
-pub use cache::{Cache, Cached};
 pub use driving::{Driven, Halt, Halted, drive};
 pub use error::StepError;
 pub use stateful::{Config, Stateful};

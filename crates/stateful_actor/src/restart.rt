@@ -6,11 +6,11 @@ ghost use Rattle.stateful_actor.specs.Moments.{moment};
 ghost use Rattle.stateful_actor.specs.Causes.{FaultsOpening};
 ghost use Rattle.stateful_actor.specs.Restarting.{start_height, StartsAt, Reopens};
 
-use crate::cache::Cache;
 use crate::error::Fault;
 use crate::one_barrier::OneBarrier;
 use crate::stateful::CoreOf;
 use stateful_db::{Application, DatabaseSet};
+use stateful_exec::Cache;
 use stateful_history::Mark;
 use stateful_types::{Anchor, BlockStore, Floor, Height};
 

@@ -3,11 +3,11 @@
 ghost use Rattle.std.specs.Prelude.{◌≡◌, IfOk};
 ghost use Rattle.stateful_actor.specs.Stepping.{IsNew};
 
-use crate::cache::Cache;
 use crate::one_barrier::OneBarrier;
 use crate::tables::Core;
 use stateful_db::{Application, Batch, DatabaseSet};
 use stateful_register::Register;
+use stateful_exec::Cache;
 use stateful_types::Height;
 use std::alloc::Global;
 use thiserror::Error;

@@ -9,13 +9,12 @@ ghost use Rattle.stateful_actor.specs.Effects.{with_receipt};
 ghost use Rattle.stateful_actor.specs.Causes.{RunFailed, FaultsTurn};
 ghost use Rattle.stateful_actor.specs.Ending.{IsTold, Agrees, Finishes, TurnsRun, TurnsHook, TurnsJob};
 
-use crate::cache::Cached;
 use crate::error::Fault;
-use crate::judge::knows;
 use crate::stateful::CoreOf;
 use crate::tables::{Front, Live};
 use crate::verify::answer;
 use stateful_db::{Application, Batch, DatabaseSet};
+use stateful_exec::{Cached, knows};
 use stateful_history::{How, Mark};
 use stateful_types::{Anchor, Digested, Moved};
 

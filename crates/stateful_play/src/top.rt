@@ -79,7 +79,7 @@ fn without_play(status: Status) -> Outcome
 }
 
 /// Writes a text that stands in the place of a transcript, and has this status.
-fn put<K: Sink>(sink: &mut K, text: &[u8], status: Status) -> Outcome
+fn write_text<K: Sink>(sink: &mut K, text: &[u8], status: Status) -> Outcome
     ensures none { IsNone result.played }
     ensures status { Writes (Rose (K.count sink.old) (K.count sink.new)) (K.held sink.old)
         (K.held sink.new) text.now status result.status }
@@ -108,7 +108,7 @@ fn outcome_of(played: Played) -> Outcome
 }
 
 /// Writes the transcript of a play. Where memory runs out nothing is told of it.
-fn tell<K: Sink>(alloc: Global, sink: &mut K, told: Told) -> Outcome
+fn write_transcript<K: Sink>(alloc: Global, sink: &mut K, told: Told) -> Outcome
     ensures status { Writes (Rose (K.count sink.old) (K.count sink.new)) (K.held sink.old)
         (K.held sink.new) (text_of told.labels.items told.played) (status_by told.played.end)
         result.status }

@@ -3,10 +3,10 @@ use Rattle.std.specs.Prelude.{◌≡◌, ◌≢◌, ◌<◌, ◌⊎◌, ℕ, Opt
 use Rattle.stateful_types.specs.Names.{Header, Named}
 use Rattle.stateful_types.specs.declared.digest.Digest.{Digest}
 use Rattle.stateful_types.specs.declared.anchor.Anchor.{Anchor}
-use Rattle.stateful_actor.specs.Caching.{IsIn}
-use Rattle.stateful_actor.specs.declared.cache.Cached.{Cached}
-use Rattle.stateful_actor.specs.declared.judge.Judgement.{Judgement}
-use Rattle.stateful_actor.specs.declared.judge.Judgement.TheVariants.{Valid, Invalid, Waits, Open}
+use Rattle.stateful_exec.specs.Cache.{IsIn}
+use Rattle.stateful_exec.specs.declared.cache.Cached.{Cached}
+use Rattle.stateful_exec.specs.declared.judgement.Judgement.{Judgement}
+use Rattle.stateful_exec.specs.declared.judgement.Judgement.TheVariants.{Valid, Invalid, Waits, Open}
 
 module _ {B U : Type 0} (header : Header B) (anchor : Anchor) (cache : List (Cached U)) (stored : ℕ → Option (Named B)) (b : Named B) where
   -- no higher than the anchor, and decided by the anchor at its height and by the store below
@@ -20,3 +20,10 @@ module _ {B U : Type 0} (header : Header B) (anchor : Anchor) (cache : List (Cac
   IsJudged Invalid = (IsIn cache b.digest → ⊥) × IsDecided (λ d. d ≢ b.digest)
   IsJudged Waits = (IsIn cache b.digest → ⊥) × (header.height b.block < anchor.height.0) × (stored (header.height b.block) ≡ None)
   IsJudged Open = (IsIn cache b.digest → ⊥) × (anchor.height.0 < header.height b.block)
+
+-- the block isn't answered at once
+abbrev pub IsOpen : Judgement → Type 0
+IsOpen Valid = ⊥
+IsOpen Invalid = ⊥
+IsOpen Waits = Unit {0}
+IsOpen Open = Unit {0}

@@ -1,16 +1,16 @@
 //! How a block is judged without a run of it.
 
 ghost use Rattle.std.specs.Prelude.{◌≡◌, ◌≢◌, IfOk, IfErr, IsTrue, ◌↔◌};
-ghost use Rattle.stateful_actor.specs.Caching.{IsAtHand};
-ghost use Rattle.stateful_actor.specs.Judging.{IsJudged};
-ghost use Rattle.stateful_actor.specs.Tasks.{IsOpen};
+ghost use Rattle.stateful_exec.specs.Cache.{IsAtHand};
+ghost use Rattle.stateful_exec.specs.Judgement.{IsJudged};
+ghost use Rattle.stateful_exec.specs.Judgement.{IsOpen};
 
 use crate::cache::Cache;
 use stateful_types::{Anchor, Block, BlockStore, Digest, Digested, OutOfMemory};
 
 /// How a block is judged without a run of it.
 #[derive(Clone, Copy, Debug, PartialEq, Eq)]
-pub(crate) enum Judgement {
+pub enum Judgement {
     Valid,
     Invalid,
     /// Its height is below the anchor's, and the store has no block there.
@@ -21,7 +21,7 @@ pub(crate) enum Judgement {
 
 impl Judgement {
     /// Whether it isn't answered at once.
-    pub(crate) fn is_open(self) -> bool
+    pub fn is_open(self) -> bool
         ensures { IsTrue result ↔ IsOpen self }
     {
         match self {
@@ -32,7 +32,7 @@ impl Judgement {
 }
 
 /// Judges a block by the cache, at the anchor's height by the anchor, and below it by the store.
-pub(crate) fn judge<B: Block + Drop, U: Drop, S: BlockStore<B>>(
+pub fn judge<B: Block + Drop, U: Drop, S: BlockStore<B>>(
     anchor: Anchor,
     cache: &Cache<U>,
     store: &S,
@@ -70,7 +70,7 @@ fn agreed(finalized: Digest, digest: Digest) -> Judgement
 }
 
 /// Whether the block of a digest is known: it is the anchor, or cached.
-pub(crate) fn knows<U: Drop>(anchor: Anchor, cache: &Cache<U>, digest: Digest) -> bool
+pub fn knows<U: Drop>(anchor: Anchor, cache: &Cache<U>, digest: Digest) -> bool
     ensures { IsTrue result ↔ IsAtHand anchor cache.now digest }
 {
     digest.is(anchor.digest) || cache.has(digest)

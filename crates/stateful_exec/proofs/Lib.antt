@@ -1,0 +1,4 @@
+pub mod Found
+pub mod Indexed
+pub mod Cutting
+pub mod Judged
