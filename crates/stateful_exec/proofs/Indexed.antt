@@ -9,10 +9,8 @@ use Rattle.std.proofs.lemmas.List.Elements.{All-weaker, All-push}
 use Rattle.stateful_types.specs.declared.digest.Digest.{Digest}
 use Rattle.stateful_types.specs.Digest.{digest_cmp}
 use Rattle.stateful_exec.specs.Index.{IsIndex}
+use Rattle.stateful_exec.proofs.Digests.{same_digest}
 use Rattle.stateful_exec.specs.declared.cache.Cached.{Cached}
-
-same_digest : (a b : Digest) → is_eq (digest_cmp a b) ≡ true → a ≡ b
-same_digest a b e = ap (λ (bs : List ℕ). record { 0 = bs }) ((bytes_eq-Decides a.0 b.0).0 (sym (is_eq-slice_cmp a.0 b.0) ∙ e))
 
 module _ {X : Type 0} where
   -- the element of a place, with what is known of it

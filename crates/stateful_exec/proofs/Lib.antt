@@ -1,4 +1,5 @@
 pub mod Found
+pub mod Digests
 pub mod Indexed
 pub mod Cutting
 pub mod Judged

@@ -2,3 +2,4 @@ pub mod Cache
 pub mod Index
 pub mod Cut
 pub mod Judgement
+pub mod Boundary

@@ -1,0 +1,88 @@
+//! How runs cross a finalization: which end before it, which go on, and which are given up.
+
+ghost use Rattle.std.specs.Prelude.{◌≡◌, ◌≢◌, ◌↔◌, true, OnOk, OnErr};
+ghost use Rattle.stateful_types.specs.Round.{IsLater};
+ghost use Rattle.stateful_exec.specs.Boundary.{step_by, Completes, IsRetained};
+
+use stateful_types::{Block, Digest, Digested, OutOfMemory, Round};
+use std::collections::BTreeSet;
+use std::marker::Model;
+
+/// What a run is of, by the names of its block.
+#[derive(Clone, Copy, Debug, PartialEq, Eq)]
+pub struct ExecutionStep {
+    pub digest: Digest,
+    pub parent: Digest,
+    pub round: Round,
+}
+
+impl ExecutionStep {
+    /// The step of a block.
+    pub fn of<B: Block>(block: &Digested<B>) -> ExecutionStep
+        ensures { result ≡ step_by B.header block.now }
+    {
+        ExecutionStep {
+            digest: block.digest(),
+            parent: block.parent(),
+            round: block.round(),
+        }
+    }
+}
+
+/// What becomes of a step where a block is finalized.
+#[derive(Clone, Copy, Debug, PartialEq, Eq)]
+pub enum Disposition {
+    /// It descends from the finalized block, and goes on.
+    Retain,
+    /// It is of the finalized block, which waits for its end.
+    Join,
+    /// It ends before the finalization, and its requests become invalid.
+    Reject,
+}
+
+/// The blocks whose states stay valid once one block is applied: that block, and those that were found to descend from
+/// it in later rounds.
+#[derive(Drop)]
+pub struct FinalizationBoundary {
+    digest: Digest,
+    round: Round,
+    compatible: BTreeSet<Digest>,
+}
+
+impl Model for FinalizationBoundary {
+    ghost use Rattle.stateful_exec.specs.Boundary.{Boundary};
+    ghost use Rattle.std.specs.BTreeSet.{keys};
+
+    ghost Value = { Boundary };
+
+    ghost view = { λ b. record { digest = b.digest; round = b.round; compatible = keys b.compatible } };
+}
+
+impl FinalizationBoundary {
+    /// `Join` exactly for the finalized digest; `Retain` exactly for a later round on a compatible parent, where it isn't
+    /// of that digest; else `Reject`.
+    pub fn disposition(&self, step: &ExecutionStep) -> Disposition
+        ensures join { (result ≡ Disposition.Join) ↔ (step.now.digest ≡ self.now.digest) }
+        ensures retain { (result ≡ Disposition.Retain) ↔ IsRetained self.now step.now }
+    {
+        if step.digest.is(self.digest) {
+            return Disposition::Join;
+        }
+        let later = step.round.is_later_than(self.round);
+        if later && self.compatible.contains(&step.parent) {
+            Disposition::Retain
+        } else {
+            Disposition::Reject
+        }
+    }
+
+    /// A step that goes on has ended: its block is compatible from now on.
+    pub fn completed(&mut self, step: &ExecutionStep) -> Result<(), OutOfMemory>
+        requires { IsRetained self.old step.now }
+        ensures ok { OnOk result (Completes step.now.digest self.old self.new) }
+        ensures err { OnErr result (self.new ≡ self.old) }
+    {
+        self.compatible.insert(step.digest)?;
+        Ok(())
+    }
+}
