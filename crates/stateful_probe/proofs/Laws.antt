@@ -2,7 +2,7 @@
 use Rattle.std.proofs.Common.{◌≡◌, ◌+◌, [], count_by, ◌==◌, refl, ap, ◌∙◌, arith}
 use Rattle.stateful_types.specs.Format.{IsFormat}
 use Rattle.stateful_probe.specs.Setup.{Setup}
-use Rattle.stateful_probe.specs.Probing.{IsNew}
+use Rattle.stateful_probe.specs.Probe.{IsNew}
 use Rattle.stateful_probe.specs.Laws.{KeepsLaws, asked_count}
 use Rattle.stateful_probe.specs.declared.state.State.{State}
 use Rattle.stateful_probe.proofs.Trust.{AreKeys, sound_empty, floors_trusted}

@@ -1,5 +1,7 @@
 pub mod Tallies
 pub mod Outs
+pub mod Known
+pub mod Runs
 pub mod Trust
 pub mod Sent
 pub mod Blame
@@ -10,4 +12,5 @@ pub mod Highest
 pub mod Messages
 pub mod Posting
 pub mod Reading
+pub mod Hopeless
 pub mod Weighing

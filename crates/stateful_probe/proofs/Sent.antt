@@ -2,10 +2,10 @@
 use Rattle.std.proofs.Common.{◌≡◌, ℕ, suc, Option, Some, None, List, [], ◌∷◌, All, Any, refl, sym, ap, subst, ◌∙◌, arith}
 use Rattle.std.proofs.lemmas.List.Elements.{All-nil, All-same}
 use Rattle.stateful_types.specs.declared.finalization.Finalization.{Finalization}
-use Rattle.stateful_probe.specs.Sampled.{Sampled, with_reply, with_floor}
+use Rattle.stateful_probe.specs.Sample.{Sampled, with_reply, with_floor}
 use Rattle.stateful_probe.specs.Setup.{Setup}
-use Rattle.stateful_probe.specs.Replies.{IsGood}
-use Rattle.stateful_probe.specs.Probing.{Steps, begins_round, asks_again, not_needed, recorded}
+use Rattle.stateful_probe.specs.Reply.{IsGood}
+use Rattle.stateful_probe.specs.Probe.{Steps, begins_round, asks_again, not_needed, recorded}
 use Rattle.stateful_probe.specs.Laws.{Turn, Runs, Brought}
 use Rattle.stateful_probe.specs.declared.state.State.{State}
 use Rattle.stateful_probe.specs.declared.event.Event.{Event}
@@ -34,8 +34,8 @@ module _ {S K C : Type 0} (u : Setup S K C) (P : K × Finalization C → Type 0)
   run_sent : (turns : List (Turn K C)) (s last : State K C) → Runs u s turns last → All P s.sample.replies → ((reply : K × Finalization C) → Any (Brought u reply) turns → P reply) → All P last.sample.replies
   run_sent [] s last runs all brought = subst (λ w. All P w.sample.replies) (sym runs) all
   run_sent (turn ∷ turns) s last runs all brought =
-      run_sent turns runs.1 last runs.3
-      (step_sent turn.latest s turn.event turn.outs runs.1 runs.2 all (λ peer bytes f is good. brought (peer, f) (0, turn, omega arith, refl, (bytes, is, good))))
+      run_sent turns runs.2 last runs.4
+      (step_sent turn.latest s turn.event turn.outs runs.2 runs.3 all (λ peer bytes f is good. brought (peer, f) (0, turn, omega arith, refl, (bytes, is, good))))
       (λ reply any. brought reply (suc any.0, any.1, omega (arith, any.2), any.3, any.4))
 
 pub replies_sent : {S K C : Type 0} (u : Setup S K C) (turns : List (Turn K C)) (s last : State K C) → s.sample.replies ≡ [] → Runs u s turns last → All (λ reply. Any (Brought u reply) turns) last.sample.replies

@@ -9,12 +9,12 @@ use Rattle.stateful_types.specs.declared.codec.CodecError.TheVariants.{InvalidEn
 use Rattle.stateful_types.specs.declared.number.Epoch.{Epoch}
 use Rattle.stateful_types.specs.declared.finalization.Finalization.{Finalization}
 use Rattle.stateful_probe.specs.Setup.{Setup, committee}
-use Rattle.stateful_probe.specs.Sampled.{Sampled, still_counts, has_replied, with_reply}
+use Rattle.stateful_probe.specs.Sample.{Sampled, still_counts, has_replied, with_reply}
 use Rattle.stateful_probe.specs.Wire.{tag_format}
-use Rattle.stateful_probe.specs.Replies.{IsRequest, IsTagged, IsGood}
-use Rattle.stateful_probe.specs.Serving.{IsResponseOf}
-use Rattle.stateful_probe.specs.Probing.{is_empty, is_serving, numbered, restarted, asked, Sends, Steps, begins_round, waits, recorded, served}
-use Rattle.stateful_probe.specs.Selecting.{Chooses}
+use Rattle.stateful_probe.specs.Reply.{IsRequest, IsTagged, IsGood}
+use Rattle.stateful_probe.specs.Service.{IsResponseOf}
+use Rattle.stateful_probe.specs.Probe.{is_empty, is_serving, numbered, restarted, asked, Sends, Steps, begins_round, waits, recorded, served}
+use Rattle.stateful_probe.specs.Discovery.{Chooses}
 use Rattle.stateful_probe.specs.declared.state.State.{State}
 use Rattle.stateful_probe.specs.declared.event.Event.TheVariants.{Subscribe, Received}
 use Rattle.stateful_probe.specs.declared.event.Out.{Out}

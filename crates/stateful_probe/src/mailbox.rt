@@ -1,7 +1,7 @@
 //! The mailbox of a probe.
 
 ghost use Rattle.std.specs.Prelude.{◌≡◌, ◌+◌, ◌-◌, ◌^◌, ◌≤◌, ◌↔◌, ◌++◌, ◌∷◌, [], false, IsNone, IfOk, OnOk, OnErr, IsErrOf, option_to_list};
-ghost use Rattle.stateful_probe.specs.Mail.{waiting};
+ghost use Rattle.stateful_probe.specs.Mailbox.{waiting};
 ghost use Rattle.stateful_probe.specs.declared.event.Event.TheVariants as events;
 
 use crate::event::{Event, ProbeEvent};

@@ -3,7 +3,7 @@
 ghost use Rattle.std.specs.Prelude.{◌≡◌, ◌≢◌, ◌+◌, ◌-◌, ◌^◌, ◌<◌, ◌↔◌, [], Option, All, length, true, false, IfOk, OnOk, IfErr, IsErrOf};
 ghost use Rattle.stateful_types.specs.declared.finalization.Finalization.{Finalization};
 ghost use Rattle.stateful_probe.specs.Setup.{setup};
-ghost use Rattle.stateful_probe.specs.Probing.{Steps, may_come, IsNew, IsExhausting};
+ghost use Rattle.stateful_probe.specs.Probe.{Steps, may_come, IsNew, IsExhausting};
 ghost use Rattle.stateful_probe.specs.Laws.{KeepsLaws};
 ghost use Rattle.stateful_probe.specs.declared.event.Event.TheVariants as events;
 
@@ -38,20 +38,23 @@ pub struct Probe<S: Scheme> {
 impl<S: Scheme> Probe<S> {
     /// A probe that has asked nobody, and whom nobody has asked. Each scheme has fewer than 2^32 participants.
     pub fn new(alloc: Global, config: Config<S>) -> Result<Probe<S>, OutOfMemory>
+    where
+        S: Drop,
         requires { All (λ known. length (S.keys known.1) < 2 ^ 32) config.schemes }
-        ensures schemes { IfOk result (λ probe. probe.schemes ≡ config.schemes) }
+        ensures config { IfOk result (λ probe. probe.schemes ≡ config) }
         ensures new { IfOk result (λ probe. IsNew config.minimum_epoch probe.state) }
         ensures works { IfOk result (λ probe. probe.failed ≡ false) }
 
         // Whatever calls of `step` follow.
-        ensures laws { IfOk result (λ probe. KeepsLaws (setup S.Key.cmp S.Key.eq S.certificates
-            S.keys S.certifies config.schemes config.minimum_epoch) probe.state) }
+        ensures laws { IfOk result (λ probe. KeepsLaws
+            (setup S.Key.cmp S.Key.eq S.certificates S.keys S.certifies config) probe.state) }
     {
+        let minimum_epoch = config.minimum_epoch;
         Ok(Probe {
             alloc,
-            schemes: Schemes::new(config.schemes),
+            schemes: Schemes::new(alloc, config)?,
             state: State {
-                sample: Sample::new(alloc, config.minimum_epoch),
+                sample: Sample::new(alloc, minimum_epoch),
                 subscribers: Subscribers::new(alloc),
                 attached: false,
                 next_ticket: 0,
@@ -68,15 +71,13 @@ impl<S: Scheme> Probe<S> {
         latest: &L,
     ) -> Result<Vec<ProbeOut<S>>, ProbeError>
         // What is put out, and the state behind the event, are those of the rules.
-        ensures steps { IfOk result (λ outs. Steps (setup S.Key.cmp S.Key.eq S.certificates S.keys
-            S.certifies self.old.schemes self.old.state.sample.minimum_epoch) (L.newest latest.now)
-            self.old.state event outs.items self.new.state) }
+        ensures steps { IfOk result (λ outs. Steps
+            (setup S.Key.cmp S.Key.eq S.certificates S.keys S.certifies self.old.schemes)
+            (L.newest latest.now) self.old.state event outs.items self.new.state) }
         ensures came { OnOk result ((may_come self.old.state event ≡ true)
             × (self.old.failed ≡ false)
             × (self.new.failed ≡ false)) }
-        ensures schemes { self.new.schemes ≡ self.old.schemes }
-        ensures minimum { OnOk result (self.new.state.sample.minimum_epoch
-            ≡ self.old.state.sample.minimum_epoch) }
+        ensures config { self.new.schemes ≡ self.old.schemes }
 
         // Each refusal has its cause; want of memory has none.
         ensures failed { IsErrOf result ProbeError.Failed ↔ (self.old.failed ≡ true) }
@@ -98,7 +99,7 @@ impl<S: Scheme> Probe<S> {
         if !self.state.allows(&event) {
             return Err(ProbeError::BadEvent);
         }
-        match self.take(event, latest) {
+        match self.handle(event, latest) {
             Ok(outs) => Ok(outs),
             Err(error) => {
                 self.failed = true;
@@ -107,18 +108,16 @@ impl<S: Scheme> Probe<S> {
         }
     }
 
-    /// What is done for an event that may come.
-    fn take<L: Latest<S::Certificate>>(
+    /// Does what an event that may come asks for.
+    fn handle<L: Latest<S::Certificate>>(
         &mut self,
         event: ProbeEvent<S>,
         latest: &L,
     ) -> Result<Vec<ProbeOut<S>>, ProbeError>
-        ensures steps { IfOk result (λ outs. Steps (setup S.Key.cmp S.Key.eq S.certificates S.keys
-            S.certifies self.old.schemes self.old.state.sample.minimum_epoch) (L.newest latest.now)
-            self.old.state event outs.items self.new.state) }
-        ensures schemes { self.new.schemes ≡ self.old.schemes }
-        ensures minimum { OnOk result (self.new.state.sample.minimum_epoch
-            ≡ self.old.state.sample.minimum_epoch) }
+        ensures steps { IfOk result (λ outs. Steps
+            (setup S.Key.cmp S.Key.eq S.certificates S.keys S.certifies self.old.schemes)
+            (L.newest latest.now) self.old.state event outs.items self.new.state) }
+        ensures config { self.new.schemes ≡ self.old.schemes }
         ensures works { self.new.failed ≡ self.old.failed }
 
         // It is refused for want of numbers or memory alone.
@@ -161,12 +160,9 @@ impl<S: Scheme> Probe<S> {
         requires below { ticket < 2 ^ 64 - 1 }
         requires none { outs.old.items ≡ [] }
         ensures steps { OnOk result ((latest : Option (Finalization S.Certificate))
-            → Steps (setup S.Key.cmp S.Key.eq S.certificates S.keys S.certifies self.old.schemes
-            self.old.state.sample.minimum_epoch) latest self.old.state (events.Subscribe ticket)
-            outs.new.items self.new.state) }
-        ensures schemes { self.new.schemes ≡ self.old.schemes }
-        ensures minimum { OnOk result (self.new.state.sample.minimum_epoch
-            ≡ self.old.state.sample.minimum_epoch) }
+            → Steps (setup S.Key.cmp S.Key.eq S.certificates S.keys S.certifies self.old.schemes)
+                latest self.old.state (events.Subscribe ticket) outs.new.items self.new.state) }
+        ensures config { self.new.schemes ≡ self.old.schemes }
         ensures works { self.new.failed ≡ self.old.failed }
     {
         let serving = self.state.is_serving();
@@ -194,12 +190,9 @@ impl<S: Scheme> Probe<S> {
     fn retry(&mut self, outs: &mut Vec<ProbeOut<S>>) -> Result<(), OutOfMemory>
         requires { outs.old.items ≡ [] }
         ensures steps { OnOk result ((latest : Option (Finalization S.Certificate))
-            → Steps (setup S.Key.cmp S.Key.eq S.certificates S.keys S.certifies self.old.schemes
-            self.old.state.sample.minimum_epoch) latest self.old.state events.Retry
-            outs.new.items self.new.state) }
-        ensures schemes { self.new.schemes ≡ self.old.schemes }
-        ensures minimum { OnOk result (self.new.state.sample.minimum_epoch
-            ≡ self.old.state.sample.minimum_epoch) }
+            → Steps (setup S.Key.cmp S.Key.eq S.certificates S.keys S.certifies self.old.schemes)
+                latest self.old.state events.Retry outs.new.items self.new.state) }
+        ensures config { self.new.schemes ≡ self.old.schemes }
         ensures works { self.new.failed ≡ self.old.failed }
     {
         if self.state.sample.floor().is_some() || self.state.subscribers.is_empty() {
@@ -212,12 +205,9 @@ impl<S: Scheme> Probe<S> {
     fn stop(&mut self, outs: &mut Vec<ProbeOut<S>>) -> Result<(), OutOfMemory>
         requires { outs.old.items ≡ [] }
         ensures steps { OnOk result ((latest : Option (Finalization S.Certificate))
-            → Steps (setup S.Key.cmp S.Key.eq S.certificates S.keys S.certifies self.old.schemes
-            self.old.state.sample.minimum_epoch) latest self.old.state events.Stop
-            outs.new.items self.new.state) }
-        ensures schemes { self.new.schemes ≡ self.old.schemes }
-        ensures minimum { OnOk result (self.new.state.sample.minimum_epoch
-            ≡ self.old.state.sample.minimum_epoch) }
+            → Steps (setup S.Key.cmp S.Key.eq S.certificates S.keys S.certifies self.old.schemes)
+                latest self.old.state events.Stop outs.new.items self.new.state) }
+        ensures config { self.new.schemes ≡ self.old.schemes }
         ensures works { self.new.failed ≡ self.old.failed }
     {
         for ticket in self.state.subscribers.as_slice() {

@@ -9,7 +9,7 @@ ghost use Rattle.std.specs.Map.{keys_of};
 ghost use Rattle.stateful_types.specs.declared.finalization.Finalization.{Finalization};
 ghost use Rattle.stateful_types.specs.Round.{IsLater};
 ghost use Rattle.stateful_types.specs.Vote.{max_faults};
-ghost use Rattle.stateful_probe.specs.Sampled.{awaits, with_reply, with_floor, cleared, IsHighest, IsHighestRound, Selects};
+ghost use Rattle.stateful_probe.specs.Sample.{awaits, with_reply, with_floor, cleared, IsHighest, IsHighestRound, Selects};
 
 use stateful_types::{Epoch, Finalization, OutOfMemory, Round, Share, max_faults};
 use std::alloc::Global;
@@ -28,7 +28,7 @@ pub struct Sample<K: Ord, C> {
 }
 
 impl<K: Ord, C> Model for Sample<K, C> {
-    ghost use Rattle.stateful_probe.specs.Sampled.{Sampled};
+    ghost use Rattle.stateful_probe.specs.Sample.{Sampled};
     ghost use Rattle.std.specs.List.Sorted.{IsStrictlySortedBy};
     ghost use Rattle.std.specs.Map.{keys_of};
 
@@ -168,22 +168,26 @@ fn highest_round<K: Ord, C, F: Fn(&Finalization<C>) -> bool>(
         → ((f : Finalization C) (b : Bool) → FnReturnsAt F.Fn judgeable.now f b → b ≡ judges f)
         → IfSome result (IsHighestRound (filter judges (values replies.now))) }
 {
+    let faulty = max_faults(committee) as usize;
+    if replies.len() <= faulty {
+        return None;
+    }
     let mut count = 0usize;
     let mut highest: Option<Round> = None;
     for reply in replies.values() {
         if judgeable(reply) {
             count += 1;
-            highest = Some(latest(highest, reply.round));
+            highest = Some(later_round(highest, reply.round));
         }
     }
-    if count <= max_faults(committee) as usize {
+    if count <= faulty {
         return None;
     }
     highest
 }
 
 /// The later of two rounds, or the second where there is no first.
-fn latest(before: Option<Round>, round: Round) -> Round
+fn later_round(before: Option<Round>, round: Round) -> Round
     ensures one { (result ≡ round) ⊎ (before ≡ Some result) }
     ensures first { IfSome before (λ b. IsLater result b → ⊥) }
     ensures second { IsLater result round → ⊥ }

@@ -1,5 +1,5 @@
 use Rattle.std.proofs.Common.{refl}
-use Rattle.stateful_probe.specs.Probing.{unawaited, ignored, blocked, not_needed}
+use Rattle.stateful_probe.specs.Probe.{unawaited, ignored, blocked, not_needed}
 use Rattle.stateful_probe.proofs.Stepping.{nobody, recorded_by}
 use Rattle.stateful_probe.proofs.discovery.receive.Goals as goal
 

@@ -2,7 +2,7 @@ use Rattle.std.proofs.Common.{length, filter, map, refl, sym, ap, ◌∙◌, ari
 use Rattle.std.specs.Map.Iter.{deref}
 use Rattle.std.proofs.lemmas.Fn.{says_at}
 use Rattle.std.proofs.lemmas.List.{length_push}
-use Rattle.stateful_probe.specs.Sampled.{IsHighestRound}
+use Rattle.stateful_probe.specs.Sample.{IsHighestRound}
 use Rattle.stateful_probe.proofs.Highest.{IsHighestSoFar, highest_more, judged_more_yes, judged_more_no}
 use Rattle.stateful_probe.proofs.sample.highest_round.Goals as goal
 

@@ -1,5 +1,5 @@
 use Rattle.std.proofs.Common.{inl, inr}
-use Rattle.stateful_probe.specs.Probing.{asks_again, rests}
+use Rattle.stateful_probe.specs.Probe.{asks_again, rests}
 use Rattle.stateful_probe.proofs.Stepping.{nobody, someone, found_some, found_none, on_ok}
 use Rattle.stateful_probe.proofs.probe.Probe.retry.Goals as goal
 use Rattle.stateful_probe.proofs.probe.Probe.retry.Goals.{then-is_some-via-then-is_some, then-is_some-via-else-is_some+then-is_empty}

@@ -1,6 +1,6 @@
 use Rattle.std.proofs.Common.{◌≡◌, ◌∙◌, take}
 use Rattle.std.proofs.lemmas.List.{take_all}
-use Rattle.stateful_probe.specs.Probing.{stops}
+use Rattle.stateful_probe.specs.Probe.{stops}
 use Rattle.stateful_probe.proofs.probe.Probe.stop.Goals as goal
 
 pub returns-clause-steps : goal.returns-clause-steps

@@ -1,5 +1,5 @@
 use Rattle.std.proofs.Common.{◌≡◌, ◌∙◌, Some, None, refl, sym, ap}
-use Rattle.stateful_probe.specs.Probing.{answered, closed}
+use Rattle.stateful_probe.specs.Probe.{answered, closed}
 use Rattle.stateful_probe.proofs.Stepping.{begins_by, waits_by}
 use Rattle.stateful_probe.proofs.probe.Probe.subscribe.Goals as goal
 use Rattle.stateful_probe.proofs.probe.Probe.subscribe.Goals.{then-is_empty+in_ok-request_latest, else-is_empty}

@@ -1,7 +1,7 @@
 use Rattle.std.proofs.Common.{◌≡◌, Some, rules}
 use Rattle.std.specs.Option.{is_some}
 use Rattle.stateful_probe.specs.Setup.{scheme_in}
-use Rattle.stateful_probe.proofs.discovery.select.Goals as goal
+use Rattle.stateful_probe.proofs.discovery.select_floor.Goals as goal
 
 pub returns-clause-chooses : goal.returns-clause-chooses
 returns-clause-chooses g c = λ keys known.

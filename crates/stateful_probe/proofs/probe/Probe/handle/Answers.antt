@@ -1,6 +1,6 @@
-use Rattle.stateful_probe.specs.Probing.{leaves, attaches}
-use Rattle.stateful_probe.proofs.probe.Probe.take.Goals as goal
-use Rattle.stateful_probe.proofs.probe.Probe.take.Goals.{in-Subscribe+else-ticket+in_ok-subscribe-in-Subscribe, in-Cancel, in-Attach, in-Received+then-is_serving+in_ok-receive-in-Received, in-Received+else-is_serving+in_ok-receive-in-Received-2, in-Retry+in_ok-retry-in-Retry, in-Stop+in_ok-stop-in-Stop}
+use Rattle.stateful_probe.specs.Probe.{leaves, attaches}
+use Rattle.stateful_probe.proofs.probe.Probe.handle.Goals as goal
+use Rattle.stateful_probe.proofs.probe.Probe.handle.Goals.{in-Subscribe+else-ticket+in_ok-subscribe-in-Subscribe, in-Cancel, in-Attach, in-Received+then-is_serving+in_ok-receive-in-Received, in-Received+else-is_serving+in_ok-receive-in-Received-2, in-Retry+in_ok-retry-in-Retry, in-Stop+in_ok-stop-in-Stop}
 
 pub returns-clause-steps : goal.returns-clause-steps
 returns-clause-steps g c = elim c.match-event.branch [

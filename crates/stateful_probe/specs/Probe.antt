@@ -5,9 +5,9 @@ use Rattle.stateful_types.specs.Format.{Format}
 use Rattle.stateful_types.specs.declared.number.Epoch.{Epoch}
 use Rattle.stateful_types.specs.declared.finalization.Finalization.{Finalization}
 use Rattle.stateful_probe.specs.Wire.{message_format}
-use Rattle.stateful_probe.specs.Sampled.{still_counts, with_reply, with_floor, cleared, Selects}
+use Rattle.stateful_probe.specs.Sample.{still_counts, with_reply, with_floor, cleared, Selects}
 use Rattle.stateful_probe.specs.Setup.{Setup, committee, is_judgeable}
-use Rattle.stateful_probe.specs.Replies.{IsRequest, IsTagged, IsGood, IsAtFault, IsIgnored}
+use Rattle.stateful_probe.specs.Reply.{IsRequest, IsTagged, IsGood, IsAtFault, IsIgnored}
 use Rattle.stateful_probe.specs.declared.state.State.{State}
 use Rattle.stateful_probe.specs.declared.event.Event.{Event}
 use Rattle.stateful_probe.specs.declared.event.Event.TheVariants.{Subscribe, Cancel, Attach, Received, Retry, Stop}

@@ -1,9 +1,9 @@
 -- What a selection of the floor changes.
 use Rattle.std.specs.Prelude.{◌≡◌, ℕ, Option, List, ◌++◌}
 use Rattle.stateful_types.specs.declared.finalization.Finalization.{Finalization}
-use Rattle.stateful_probe.specs.Sampled.{with_floor, Selects}
+use Rattle.stateful_probe.specs.Sample.{with_floor, Selects}
 use Rattle.stateful_probe.specs.Setup.{Setup, is_judgeable}
-use Rattle.stateful_probe.specs.Probing.{left_waiting, handed_out}
+use Rattle.stateful_probe.specs.Probe.{left_waiting, handed_out}
 use Rattle.stateful_probe.specs.declared.state.State.{State}
 use Rattle.stateful_probe.specs.declared.event.Out.{Out}
 

@@ -1,0 +1,13 @@
+-- What is known of an option, and of an error.
+use Rattle.std.proofs.Common.{◌≡◌, Option, Some, Result, Ok, Err, sym, ◌∙◌}
+use Rattle.std.specs.Prelude.{IfErr}
+use Rattle.std.proofs.lemmas.Option.{same_Some}
+
+-- an option holds one value at most
+pub one_value : {A : Type 0} (o : Option A) (a b : A) → o ≡ Some a → o ≡ Some b → a ≡ b
+one_value o a b e e' = same_Some a b (sym e ∙ e')
+
+-- what holds whatever the error is
+pub if_any_err : {T E P : Type 0} (result : Result T E) → P → IfErr result (λ e. P)
+if_any_err (Ok x) p = tt
+if_any_err (Err e) p = p
