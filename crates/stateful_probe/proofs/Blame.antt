@@ -4,7 +4,8 @@ use Rattle.std.proofs.lemmas.List.Elements.{All-nil, All-map, All-contains}
 use Rattle.stateful_types.specs.declared.round.Round.{Round}
 use Rattle.stateful_types.specs.declared.finalization.Finalization.{Finalization}
 use Rattle.stateful_probe.specs.Setup.{Setup, committee, is_one_of, scheme_at, Counts}
-use Rattle.stateful_probe.specs.Reply.{IsRequest, IsTagged, IsHeader, HasHeader, IsForeign, IsCounted, IsWhole, IsGood, IsAtFault, malformed, outsider, uncertified, IsIgnored, request, foreign, unjudged}
+use Rattle.stateful_probe.specs.Reply.{IsRequest, IsTagged, IsHeader, HasHeader, IsForeign, IsCounted, IsMalformed, IsGood, IsAtFault, malformed, outsider, uncertified, IsIgnored}
+use Rattle.stateful_probe.specs.Reply as replies
 use Rattle.stateful_probe.specs.Probe.{Steps, asked, answered, closed, begins_round, asks_again, blocked, recorded, served, untagged, stops}
 use Rattle.stateful_probe.specs.Laws.{Turn, Runs, IsToBlame, while_discovering, without_tag, IsClosing, by_stop, while_serving}
 use Rattle.stateful_probe.specs.declared.state.State.{State}
@@ -41,15 +42,18 @@ module _ {S K C : Type 0} (u : Setup S K C) where
 
   -- nor is it ignored where it is known who takes part
   not_ignored : (bytes : List ℕ) (scheme : S) (keys : List K) → IsCounted u bytes scheme → committee u ≡ Some keys → IsIgnored u bytes → ⊥
-  not_ignored bytes scheme keys counted known (request r) = untagged_request bytes _ counted.header.tagged r
-  not_ignored bytes scheme keys counted known (foreign f) = not_foreign bytes scheme counted f
-  not_ignored bytes scheme keys counted known (unjudged f whole none) = cc
+  not_ignored bytes scheme keys counted known (replies.IsIgnored.request r) = untagged_request bytes _ counted.header.tagged r
+  not_ignored bytes scheme keys counted known (replies.IsIgnored.foreign f) = not_foreign bytes scheme counted f
+  not_ignored bytes scheme keys counted known (replies.IsIgnored.unjudged f whole none) = cc
 
   -- what is at fault is neither ignored nor good
+  malformed_not_ignored : (bytes : List ℕ) → IsMalformed u bytes → IsIgnored u bytes → ⊥
+  malformed_not_ignored bytes bad (replies.IsIgnored.request r) = bad.no_request r
+  malformed_not_ignored bytes bad (replies.IsIgnored.foreign f) = bad.no_foreign f
+  malformed_not_ignored bytes bad (replies.IsIgnored.unjudged f whole none) = bad.no_whole f whole
+
   pub fault_not_ignored : (peer : K) (bytes : List ℕ) → IsAtFault u peer bytes → IsIgnored u bytes → ⊥
-  fault_not_ignored peer bytes (malformed bad) (request r) = bad.no_request r
-  fault_not_ignored peer bytes (malformed bad) (foreign f) = bad.no_foreign f
-  fault_not_ignored peer bytes (malformed bad) (unjudged f whole none) = bad.no_whole f whole
+  fault_not_ignored peer bytes (malformed bad) = malformed_not_ignored bytes bad
   fault_not_ignored peer bytes (outsider scheme keys counted known none) = not_ignored bytes scheme keys counted known
   fault_not_ignored peer bytes (uncertified scheme keys counted known none) = not_ignored bytes scheme keys counted known
 

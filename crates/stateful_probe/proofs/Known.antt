@@ -1,7 +1,13 @@
--- What is known of an option, and of an error.
-use Rattle.std.proofs.Common.{◌≡◌, Option, Some, Result, Ok, Err, sym, ◌∙◌}
+-- What is known of keys, of an option and of an error.
+use Rattle.std.proofs.Common.{◌≡◌, Bool, true, Ordering, is_eq, Option, Some, Result, Ok, Err, sym, ◌∙◌}
+use Rattle.std.specs.Cmp.{IsEquivalence}
 use Rattle.std.specs.Prelude.{IfErr}
 use Rattle.std.proofs.lemmas.Option.{same_Some}
+
+-- which keys are the same, by their order
+pub record AreKeys {K : Type 0} (eq : K → K → Bool) (cmp : K → K → Ordering) : Type 0 where
+  pub same : IsEquivalence eq
+  pub agrees : (x y : K) → eq x y ≡ is_eq (cmp x y)
 
 -- an option holds one value at most
 pub one_value : {A : Type 0} (o : Option A) (a b : A) → o ≡ Some a → o ≡ Some b → a ≡ b

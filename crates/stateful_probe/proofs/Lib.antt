@@ -7,10 +7,13 @@ pub mod Sent
 pub mod Blame
 pub mod Tickets
 pub mod Laws
+pub mod Enough
+pub mod Requests
 pub mod Stepping
 pub mod Highest
 pub mod Messages
 pub mod Posting
 pub mod Reading
 pub mod Hopeless
+pub mod Members
 pub mod Weighing

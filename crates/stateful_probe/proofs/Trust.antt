@@ -1,6 +1,5 @@
 -- That a floor may be trusted: what holds of the recorded replies, and that no event drops a floor.
 use Rattle.std.proofs.Common.{◌≡◌, ℕ, ◌+◌, ◌≤◌, Bool, true, false, not, cond, Ordering, is_some, is_none, Option, Some, None, List, [], ◌∷◌, ◌++◌, length, All, Contains, count_by, is_eq, refl, sym, ap, subst, ◌∙◌, inl, inr, arith}
-use Rattle.std.specs.Cmp.{IsEquivalence}
 use Rattle.std.specs.Map.{values_of}
 use Rattle.std.specs.BTreeMap.{insert_entry}
 use Rattle.std.proofs.lemmas.Bool.{and_parts, not-true}
@@ -19,14 +18,9 @@ use Rattle.stateful_probe.specs.declared.state.State.{State}
 use Rattle.stateful_probe.specs.declared.event.Event.{Event}
 use Rattle.stateful_probe.specs.declared.event.Out.{Out}
 use Rattle.stateful_probe.specs.declared.event.Out.TheVariants.{Floor, Closed, Request, Response, Block}
-use Rattle.stateful_probe.proofs.Known.{one_value}
+use Rattle.stateful_probe.proofs.Known.{AreKeys, one_value}
 use Rattle.stateful_probe.proofs.Outs.{one_out, asked_all, handed_all, sent_all}
 use Rattle.stateful_probe.proofs.Tallies.{filter_all, All-from_map, count_none, gains_from_insert, All-gains, count_by_gains, no_liar}
-
--- which keys are the same, by their order
-pub record AreKeys {K : Type 0} (eq : K → K → Bool) (cmp : K → K → Ordering) : Type 0 where
-  pub same : IsEquivalence eq
-  pub agrees : (x y : K) → eq x y ≡ is_eq (cmp x y)
 
 -- of two rounds at most one is the later one
 not_both : (a b : Round) → IsLater a b → IsLater b a → ⊥

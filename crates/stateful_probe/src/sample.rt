@@ -96,13 +96,15 @@ impl<K: Ord + Drop, C: Share + Drop> Sample<K, C> {
     }
 
     /// Selects the floor once more replies can be judged than participants of a committee of this size may be faulty: the
-    /// highest of these. It answers the floor when it is selected, and none at any other time.
+    /// highest of these. It answers the floor when it is selected, and none at any other time. Replies are looked at only
+    /// where so many are recorded, so the closure has to be callable only there.
     pub fn select<F: Fn(&Finalization<C>) -> bool>(
         &mut self,
         committee: u32,
         judgeable: F,
     ) -> Result<Option<Finalization<C>>, OutOfMemory>
-        requires { F.IsAlwaysCallable judgeable }
+        requires { max_faults committee + 1 ≤ length self.old.replies
+            → F.IsAlwaysCallable judgeable }
 
         // Where the closure always gives the answers of some test, as one does that only looks at the reply.
         ensures selects { IfOk result (λ chosen. (judges : Finalization C → Bool)
@@ -130,7 +132,8 @@ fn highest_reply<'a, K: Ord, C, F: Fn(&Finalization<C>) -> bool>(
     committee: u32,
     judgeable: &F,
 ) -> Option<&'a Finalization<C>>
-    requires { F.IsAlwaysCallable judgeable.now }
+    requires { max_faults committee + 1 ≤ length (values replies.now)
+        → F.IsAlwaysCallable judgeable.now }
 
     // Where the closure always gives the answers of some test.
     ensures exactly { (judges : Finalization C → Bool)
@@ -158,7 +161,10 @@ fn highest_round<K: Ord, C, F: Fn(&Finalization<C>) -> bool>(
     committee: u32,
     judgeable: &F,
 ) -> Option<Round>
-    requires { F.IsAlwaysCallable judgeable.now }
+    requires { max_faults committee + 1 ≤ length (values replies.now)
+        → F.IsAlwaysCallable judgeable.now }
+
+    ensures enough { IsSome result → max_faults committee + 1 ≤ length (values replies.now) }
 
     // Where the closure always gives the answers of some test.
     ensures exactly { (judges : Finalization C → Bool)

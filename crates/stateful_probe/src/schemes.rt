@@ -2,8 +2,8 @@
 
 ghost use Rattle.std.specs.Prelude.{◌≡◌, ◌^◌, ◌<◌, Option, Some, IfSome, IfOk, All, length};
 ghost use Rattle.std.specs.Option.{option_copied};
-ghost use Rattle.std.specs.BTreeSet.{contains};
-ghost use Rattle.stateful_probe.specs.Setup.{setup, scheme_in, membership, is_one_of};
+ghost use Rattle.std.specs.BTreeSet.{IsFromIterResult};
+ghost use Rattle.stateful_probe.specs.Setup.{setup, scheme_in, membership};
 ghost use Rattle.stateful_probe.specs.Judgement.{IsCountedScheme};
 
 use crate::probe::Config;
@@ -105,8 +105,7 @@ fn scheme_in<'a, S: Scheme>(schemes: &'a [(Epoch, S)], epoch: Epoch) -> Option<&
 
 /// The set of these keys.
 fn set_of<K: Ord + Copy>(alloc: Global, keys: &[K]) -> Result<BTreeSet<K>, OutOfMemory>
-    ensures { IfOk result (λ set. (peer : K)
-        → contains K.cmp set peer ≡ is_one_of K.eq keys.now peer) }
+    ensures { IfOk result (IsFromIterResult K.cmp keys.now) }
 {
     Ok(keys.iter().copied().collect(alloc)?)
 }

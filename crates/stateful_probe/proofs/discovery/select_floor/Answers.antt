@@ -3,12 +3,11 @@ use Rattle.std.specs.Option.{is_some}
 use Rattle.stateful_probe.specs.Setup.{scheme_in}
 use Rattle.stateful_probe.proofs.discovery.select_floor.Goals as goal
 
-pub returns-clause-chooses : goal.returns-clause-chooses
-returns-clause-chooses g c = λ keys known.
-    let found = rw c.minimum_epoch.ensures at c.in-Some.ensures.found in
-    let participants = rw (← found) at known in
+pub returns : goal.returns
+returns g c = λ keys known.
+    let participants = rw (← c.in-Some.ensures.found) at known in
     let same : c.participants.result.now ≡ keys = cc in
-    let selects = (rw c.in-Some-2.is at c.in_ok-floor.ensures.selects) (λ f. is_some (scheme_in c.args.schemes.now f.round.epoch)) (λ f b h. search rules) in
+    let selects = (rw c.in-Some-2.is at c.in_ok-floor.ensures.selects) (λ f. is_some (scheme_in c.args.schemes.now.schemes f.round.epoch)) (λ f b h. search rules) in
     record {
       chosen = Some c.in-Some-2.floor;
       selects = rw same at selects;
