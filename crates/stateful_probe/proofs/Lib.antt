@@ -12,7 +12,6 @@ pub mod Requests
 pub mod Stepping
 pub mod Highest
 pub mod Messages
-pub mod Posting
 pub mod Reading
 pub mod Hopeless
 pub mod Members

@@ -8,6 +8,7 @@ use Rattle.stateful_probe.specs.Wire.{message_format}
 use Rattle.stateful_probe.specs.Sample.{still_counts, with_reply, with_floor, cleared, Selects}
 use Rattle.stateful_probe.specs.Setup.{Setup, committee, is_judgeable}
 use Rattle.stateful_probe.specs.Reply.{IsRequest, IsTagged, IsGood, IsAtFault, IsIgnored}
+use Rattle.stateful_probe.specs.declared.probe.Config.{Config}
 use Rattle.stateful_probe.specs.declared.state.State.{State}
 use Rattle.stateful_probe.specs.declared.event.Event.{Event}
 use Rattle.stateful_probe.specs.declared.event.Event.TheVariants.{Subscribe, Cancel, Attach, Received, Retry, Stop}
@@ -29,6 +30,12 @@ abbrev pub IsExhausting : {K : Type 0} → Event K → Type 0
 IsExhausting (Subscribe t) = t ≡ 2 ^ 64 - 1
 IsExhausting event = ⊥
 
+-- a probe: what it was set up with, what it keeps, and whether it has failed
+pub record Probed (S K C : Type 0) : Type 0 where
+  pub config : Config S
+  pub state : State K C
+  pub failed : Bool
+
 module _ {K C : Type 0} where
   -- the probe serves: it is attached, and nobody waits for a floor
   abbrev pub is_serving : State K C → Bool
@@ -48,7 +55,7 @@ module _ {K C : Type 0} where
   abbrev pub may_come : State K C → Event K → Bool
   may_come s event = not s.stopped && names_live s event
 
-  -- a probe that has taken nothing in
+  -- what a new probe keeps
   pub record IsNew (minimum : Epoch) (s : State K C) : Type 0 where
     pub minimum_is : s.sample.minimum_epoch ≡ minimum
     pub no_replies : s.sample.replies ≡ []

@@ -1,10 +1,11 @@
 //! Discovery: the participants are asked, and the floor is selected from their replies.
 
-ghost use Rattle.std.specs.Prelude.{◌≡◌, ◌++◌, List, [], false, Option, Some, is_some, OnOk, length};
+ghost use Rattle.std.specs.Prelude.{◌≡◌, ◌<◌, ◌-◌, ◌^◌, ◌++◌, List, [], false, Option, Some, is_some, OnOk, length};
 ghost use Rattle.stateful_types.specs.declared.finalization.Finalization.{Finalization};
 ghost use Rattle.stateful_probe.specs.Setup.{setup, scheme_in, committee};
 ghost use Rattle.stateful_probe.specs.Probe.{Steps, asked, restarted, handed_out, is_serving};
 ghost use Rattle.stateful_probe.specs.Discovery.{Chooses};
+ghost use Rattle.stateful_probe.specs.declared.probe.Config.{Config};
 ghost use Rattle.stateful_probe.specs.declared.event.Event.TheVariants as events;
 
 use crate::event::Out;
@@ -116,5 +117,78 @@ pub(crate) fn receive<S: Scheme>(
             }
         }
     }
+    Ok(())
+}
+
+/// Answers a subscription with the floor, closes it, or lets it wait.
+pub(crate) fn subscribe<S: Scheme>(
+    alloc: Global,
+    schemes: &Schemes<S>,
+    state: &mut State<S::Key, S::Certificate>,
+    ticket: u64,
+    outs: &mut Vec<Out<S::Key, S::Certificate>>,
+) -> Result<(), OutOfMemory>
+    requires below { ticket < 2 ^ 64 - 1 }
+    requires none { outs.old.items ≡ [] }
+    ensures { OnOk result ((latest : Option (Finalization S.Certificate))
+        → Steps (setup S.Key.cmp S.Key.eq S.certificates S.keys S.certifies schemes.now)
+            latest state.old (events.Subscribe ticket) outs.new.items state.new) }
+{
+    let serving = state.is_serving();
+    state.next_ticket = ticket + 1;
+    if let Some(floor) = state.sample.floor() {
+        let finalization = floor.share()?;
+        outs.push(Out::Floor {
+            ticket,
+            finalization,
+        })?;
+        return Ok(());
+    }
+    if serving {
+        outs.push(Out::Closed { ticket })?;
+        return Ok(());
+    }
+    if state.subscribers.is_empty() {
+        request_latest(alloc, schemes, state, outs)?;
+    }
+    state.subscribers.push(ticket)?;
+    Ok(())
+}
+
+/// Begins the round anew where someone waits for a floor.
+pub(crate) fn retry<S: Scheme>(
+    alloc: Global,
+    schemes: &Schemes<S>,
+    state: &mut State<S::Key, S::Certificate>,
+    outs: &mut Vec<Out<S::Key, S::Certificate>>,
+) -> Result<(), OutOfMemory>
+    requires { outs.old.items ≡ [] }
+    ensures { OnOk result ((latest : Option (Finalization S.Certificate))
+        → Steps (setup S.Key.cmp S.Key.eq S.certificates S.keys S.certifies schemes.now)
+            latest state.old events.Retry outs.new.items state.new) }
+{
+    if state.sample.floor().is_some() || state.subscribers.is_empty() {
+        return Ok(());
+    }
+    request_latest(alloc, schemes, state, outs)
+}
+
+/// Closes all that wait.
+pub(crate) fn stop<S: Scheme>(
+    state: &mut State<S::Key, S::Certificate>,
+    outs: &mut Vec<Out<S::Key, S::Certificate>>,
+) -> Result<(), OutOfMemory>
+    requires { outs.old.items ≡ [] }
+
+    // Whatever probe is stopped.
+    ensures { OnOk result ((config : Config S) (latest : Option (Finalization S.Certificate))
+        → Steps (setup S.Key.cmp S.Key.eq S.certificates S.keys S.certifies config)
+            latest state.old events.Stop outs.new.items state.new) }
+{
+    for ticket in state.subscribers.as_slice() {
+        outs.push(Out::Closed { ticket: *ticket })?;
+    }
+    state.subscribers.clear();
+    state.stopped = true;
     Ok(())
 }
