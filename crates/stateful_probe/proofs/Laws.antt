@@ -25,8 +25,8 @@ module _ {S K C : Type 0} (u : Setup S K C) where
       let sound = sound_empty u first.sample new.no_replies new.no_floor in
       let told = told_all u keys turns first last new.no_replies new.no_floor new.nobody runs in
       let few = kept u (λ s. IsSound u s.sample × IsFew u s.sample)
-          (λ latest s e outs next step here. (step_sound u keys latest s e outs next step here.0, step_few u keys latest s e outs next step here.0 here.1))
-          turns first last runs (sound, λ none. rw new.no_replies (omega arith)) in
+      (λ latest s e outs next step here. (step_sound u keys latest s e outs next step here.0, step_few u keys latest s e outs next step here.0 here.1))
+      turns first last runs (sound, λ none. rw new.no_replies (omega arith)) in
       record {
         handed = floors_handed u keys turns first last sound runs;
         trusted = floor_trusted u keys turns first last sound runs;

@@ -122,25 +122,38 @@ module _ {S K C : Type 0} (u : Setup S K C) where
   -- Whatever events came since the probe was made:
   pub record Lawful (turns : List (Turn K C)) (last : State K C) : Type 0 where
     -- each floor that was handed out is the one that the probe has, which may be trusted
-    pub handed : All (λ turn. (t : ℕ) (f : Finalization C) → Contains turn.outs (Floor t f) → last.sample.floor ≡ Some f) turns
+    pub handed : All (λ turn. (t : ℕ) (f : Finalization C)
+        → Contains turn.outs (Floor t f)
+        → last.sample.floor ≡ Some f) turns
     pub trusted : (f : Finalization C) → last.sample.floor ≡ Some f → IsTrusted last f
     -- each recorded reply is one that its peer sent since the last request
-    pub sent : All (λ reply. (request : LastRequest turns) × Any (Brought reply) request.since) last.sample.replies
+    pub sent : All (λ reply. (request : LastRequest turns) × Any (Brought reply) request.since)
+        last.sample.replies
     -- without a floor no more replies are recorded than participants may be faulty
     pub few : last.sample.floor ≡ None → length last.sample.replies ≤ tolerated u
     -- as long as someone waits, whoever has sent a good reply since the last request has one recorded
-    pub heard : (request : LastRequest turns) → last.subscribers ≢ []
-        → All (λ turn. (peer : K) (f : Finalization C) → Brought (peer, f) turn → has_replied u.cmp last.sample.replies peer ≡ true) request.since
+    pub heard : (request : LastRequest turns)
+        → last.subscribers ≢ []
+        → All (λ turn. (peer : K) (f : Finalization C)
+        → Brought (peer, f) turn
+        → has_replied u.cmp last.sample.replies peer ≡ true) request.since
     -- nobody was asked but the participants of the lowest epoch
-    pub asked : All (λ turn. (peers : List K) → Contains turn.outs (Request peers) → committee u ≡ Some peers) turns
+    pub asked : All (λ turn. (peers : List K)
+        → Contains turn.outs (Request peers)
+        → committee u ≡ Some peers) turns
     -- no peer was blocked but for what it had just sent
-    pub blocked : All (λ turn. (peer : K) → Contains turn.outs (Block peer) → IsToBlame turn.before turn.event peer) turns
+    pub blocked : All (λ turn. (peer : K)
+        → Contains turn.outs (Block peer)
+        → IsToBlame turn.before turn.event peer) turns
     -- a ticket was given once at most, and was answered, was taken back, or waits
     pub once : (t : ℕ) → asked_count t turns ≤ 1
     pub none_forgotten : (t : ℕ)
-        → answered_count t turns + cancelled_count t turns + count_by (λ w. w == t) last.subscribers ≡ asked_count t turns
+        → answered_count t turns + cancelled_count t turns + count_by (λ w. w == t) last.subscribers
+        ≡ asked_count t turns
     -- none was closed but by a stop, or while the probe served without a floor
-    pub closed : All (λ turn. (t : ℕ) → Contains turn.outs (Closed t) → IsClosing turn.before turn.event t) turns
+    pub closed : All (λ turn. (t : ℕ)
+        → Contains turn.outs (Closed t)
+        → IsClosing turn.before turn.event t) turns
     -- where there is a floor nobody waits
     pub idle : (f : Finalization C) → last.sample.floor ≡ Some f → last.subscribers ≡ []
     -- after a stop nobody waits, and no event may come
@@ -148,4 +161,6 @@ module _ {S K C : Type 0} (u : Setup S K C) where
         → (last.subscribers ≡ []) × ((event : Event K) → may_come last event ≡ false)
 
   abbrev pub KeepsLaws : State K C → Type 0
-  KeepsLaws first = (turns : List (Turn K C)) (last : State K C) → Runs first turns last → Lawful turns last
+  KeepsLaws first = (turns : List (Turn K C)) (last : State K C)
+      → Runs first turns last
+      → Lawful turns last

@@ -20,9 +20,11 @@ abbrev pub IsTagged : List ℕ → Type 0
 IsTagged bytes = (rest : List ℕ) × (bytes ≡ 1 ∷ rest)
 
 -- what stands before the certificate of a response: the round, the view of the parent and the payload
-pub record IsHeader (round : Round) (parent : View) (payload : Digest) (bytes rest : List ℕ) : Type 0 where
+pub record IsHeader (round : Round) (parent : View) (payload : Digest)
+    (bytes rest : List ℕ) : Type 0 where
   pub fits : round_format.fits round × view_format.fits parent × digest_format.fits payload
-  pub is : bytes ≡ round_format.spelling round ++ (view_format.spelling parent ++ (digest_format.spelling payload ++ rest))
+  pub is : bytes ≡ round_format.spelling round
+      ++ (view_format.spelling parent ++ (digest_format.spelling payload ++ rest))
 
 -- they begin as a response of this round: behind the tag stands a header
 pub record HasHeader (bytes : List ℕ) (round : Round) : Type 0 where
@@ -48,7 +50,8 @@ module _ {S K C : Type 0} (u : Setup S K C) where
 
   -- they are a response with this finalization, and nothing follows
   abbrev pub IsWhole : List ℕ → Finalization C → Type 0
-  IsWhole bytes f = (message_format u.certificates).fits (Response f) × (bytes ≡ (message_format u.certificates).spelling (Response f))
+  IsWhole bytes f = (message_format u.certificates).fits (Response f)
+      × (bytes ≡ (message_format u.certificates).spelling (Response f))
 
   -- they don't decode: they are no request, no response of an epoch that doesn't count, and no whole response
   pub record IsMalformed (bytes : List ℕ) : Type 0 where

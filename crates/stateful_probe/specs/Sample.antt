@@ -31,7 +31,10 @@ module _ {K C : Type 0} (cmp : K → K → Ordering) where
 
   -- the replies with one more, where it is the peer's first
   abbrev pub with_reply : Sampled K C → K → Finalization C → Sampled K C
-  with_reply s peer f = if has_replied s.replies peer then s else record s { replies = insert_entry cmp s.replies peer f }
+  with_reply s peer f =
+      if has_replied s.replies peer
+      then s
+      else record s { replies = insert_entry cmp s.replies peer f }
 
 module _ {K C : Type 0} where
   -- without replies and without a floor
@@ -64,5 +67,6 @@ module _ {K C : Type 0} (committee : ℕ) (judges : Finalization C → Bool) whe
   -- A floor is chosen exactly where none was selected and more replies can be judged than participants may be faulty; it is
   -- the highest of these.
   pub record Selects (s : Sampled K C) (chosen : Option (Finalization C)) : Type 0 where
-    pub exactly : IsSome chosen ↔ ((s.floor ≡ None) × (max_faults committee + 1 ≤ length (judged s)))
+    pub exactly : IsSome chosen
+        ↔ ((s.floor ≡ None) × (max_faults committee + 1 ≤ length (judged s)))
     pub highest : IfSome chosen (IsHighest (judged s))

@@ -70,7 +70,7 @@ fn select_floor<S: Scheme>(
         → committee (setup S.Key.cmp S.Key.eq S.certificates S.keys S.certifies schemes.now)
         ≡ Some keys
         → Chooses (setup S.Key.cmp S.Key.eq S.certificates S.keys S.certifies schemes.now)
-            (length keys) state.old outs.old.items outs.new.items state.new) }
+        (length keys) state.old outs.old.items outs.new.items state.new) }
 {
     let Some(scheme) = schemes.lowest() else {
         return Ok(());
@@ -100,7 +100,7 @@ pub(crate) fn receive<S: Scheme>(
     ensures { OnOk result (is_serving state.old ≡ false
         → (latest : Option (Finalization S.Certificate))
         → Steps (setup S.Key.cmp S.Key.eq S.certificates S.keys S.certifies schemes.now)
-            latest state.old (events.Received peer value) outs.new.items state.new) }
+        latest state.old (events.Received peer value) outs.new.items state.new) }
 {
     if !state.still_counts(&peer) {
         return Ok(());
@@ -132,7 +132,7 @@ pub(crate) fn subscribe<S: Scheme>(
     requires none { outs.old.items ≡ [] }
     ensures { OnOk result ((latest : Option (Finalization S.Certificate))
         → Steps (setup S.Key.cmp S.Key.eq S.certificates S.keys S.certifies schemes.now)
-            latest state.old (events.Subscribe ticket) outs.new.items state.new) }
+        latest state.old (events.Subscribe ticket) outs.new.items state.new) }
 {
     let serving = state.is_serving();
     state.next_ticket = ticket + 1;
@@ -165,7 +165,7 @@ pub(crate) fn retry<S: Scheme>(
     requires { outs.old.items ≡ [] }
     ensures { OnOk result ((latest : Option (Finalization S.Certificate))
         → Steps (setup S.Key.cmp S.Key.eq S.certificates S.keys S.certifies schemes.now)
-            latest state.old events.Retry outs.new.items state.new) }
+        latest state.old events.Retry outs.new.items state.new) }
 {
     if state.sample.floor().is_some() || state.subscribers.is_empty() {
         return Ok(());
@@ -183,7 +183,7 @@ pub(crate) fn stop<S: Scheme>(
     // Whatever probe is stopped.
     ensures { OnOk result ((config : Config S) (latest : Option (Finalization S.Certificate))
         → Steps (setup S.Key.cmp S.Key.eq S.certificates S.keys S.certifies config)
-            latest state.old events.Stop outs.new.items state.new) }
+        latest state.old events.Stop outs.new.items state.new) }
 {
     for ticket in state.subscribers.as_slice() {
         outs.push(Out::Closed { ticket: *ticket })?;

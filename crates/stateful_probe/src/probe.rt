@@ -5,14 +5,13 @@ ghost use Rattle.stateful_probe.specs.Setup.{setup};
 ghost use Rattle.stateful_probe.specs.Probe.{Steps, may_come, IsNew, IsExhausting};
 ghost use Rattle.stateful_probe.specs.Laws.{KeepsLaws};
 
-use crate::discovery;
 use crate::error::ProbeError;
 use crate::event::{Event, ProbeEvent, ProbeOut};
 use crate::sample::Sample;
 use crate::schemes::Schemes;
-use crate::service;
 use crate::state::State;
 use crate::subscribers::Subscribers;
+use crate::{discovery, service};
 use stateful_types::{Epoch, Items, Latest, OutOfMemory, Scheme};
 use std::alloc::Global;
 use std::marker::Model;

@@ -41,9 +41,11 @@ pub(crate) enum Judgement<C> {
 fn is_hopeless<S: Scheme>(schemes: &Schemes<S>, scheme: &S, peer: &S::Key, size: usize) -> bool
     requires { length (S.keys scheme.now) < 2 ^ 32 }
     ensures { (epoch : Epoch)
-        → Counts (setup S.Key.cmp S.Key.eq S.certificates S.keys S.certifies schemes.now) epoch scheme.now
-        → IsTrue result ↔ IsHopeless (setup S.Key.cmp S.Key.eq S.certificates S.keys S.certifies schemes.now)
-            S.max_size peer.now epoch size }
+        → Counts (setup S.Key.cmp S.Key.eq S.certificates S.keys S.certifies schemes.now) epoch
+        scheme.now
+        → IsTrue result
+        ↔ IsHopeless (setup S.Key.cmp S.Key.eq S.certificates S.keys S.certifies schemes.now)
+        S.max_size peer.now epoch size }
 {
     match schemes.membership(peer) {
         Some(true) => S::max_certificate_size(scheme.participants().len() as u32) < size,
@@ -91,7 +93,7 @@ fn read_response<S: Scheme>(
         peer.now (1 ∷ input.old) result }
     ensures unread { (round : Round) (header : HasHeader (1 ∷ input.old) round)
         → IsHopeless (setup S.Key.cmp S.Key.eq S.certificates S.keys S.certifies schemes.now)
-            S.max_size peer.now round.epoch (length header.rest)
+        S.max_size peer.now round.epoch (length header.rest)
         → input.new ≡ header.rest }
 {
     let (round, parent, payload) = read_header(input)?;

@@ -34,7 +34,11 @@ impl<K: Ord, C> Model for Sample<K, C> {
 
     ghost Value = { Sampled K C };
 
-    ghost view = { λ a. record { minimum_epoch = a.minimum_epoch; replies = a.replies.entries; floor = a.floor } };
+    ghost view = { λ a. record {
+      minimum_epoch = a.minimum_epoch;
+      replies = a.replies.entries;
+      floor = a.floor;
+    } };
 
     ghost invariant = { λ a. IsStrictlySortedBy K.cmp (keys_of a.replies.entries) };
 }
@@ -208,6 +212,7 @@ fn later_round(before: Option<Round>, round: Round) -> Round
 mod tests {
     use super::*;
     use stateful_types::{Digest, Items, View};
+    use std::cell::Cell;
     use std::test::Fail;
 
     fn reply(alloc: Global, view: u64) -> Finalization<Items<u32>> {
@@ -284,6 +289,22 @@ mod tests {
         };
         assert_eq!(rt; floor.round.view.0, 9);
         assert_eq!(rt; floor.parent.0, 2);
+        Ok(())
+    }
+
+    #[test]
+    fn no_reply_is_looked_at_while_too_few_are_recorded(rt: HostRuntime) -> Result<(), Fail> {
+        let mut sample: Sample<u64, Items<u32>> = Sample::new(rt.alloc(), Epoch(0));
+        let looked = Cell::new(false);
+        sample.record(1, reply(rt.alloc(), 7))?;
+        let look = |_: &Finalization<Items<u32>>| {
+            looked.set(true);
+            true
+        };
+        assert_eq!(rt; sample.select(4, look)?.is_none(), true);
+        assert_eq!(rt; looked.get(), false);
+        assert_eq!(rt; sample.select(1, look)?.is_some(), true);
+        assert_eq!(rt; looked.get(), true);
         Ok(())
     }
 

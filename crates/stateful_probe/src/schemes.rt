@@ -31,7 +31,8 @@ impl<S: Scheme> Model for Schemes<S> {
     ghost view = { λ a. a.config };
 
     ghost invariant = { λ a. All (λ known. length (S.keys known.1) < 2 ^ 32) a.config.schemes
-        × AreMembers (setup S.Key.cmp S.Key.eq S.certificates S.keys S.certifies a.config) a.members };
+        × AreMembers (setup S.Key.cmp S.Key.eq S.certificates S.keys S.certifies a.config)
+        a.members };
 }
 
 impl<S: Scheme> Schemes<S> {

@@ -43,7 +43,7 @@ pub(crate) fn receive<S: Scheme, L: Latest<S::Certificate>>(
     ensures { OnOk result ((config : Config S) (state : State S.Key S.Certificate)
         → is_serving state ≡ true
         → Steps (setup S.Key.cmp S.Key.eq S.certificates S.keys S.certifies config)
-            (L.newest latest.now) state (events.Received peer value) outs.new.items state) }
+        (L.newest latest.now) state (events.Received peer value) outs.new.items state) }
 {
     let mut input = value;
     match Tag::read(&mut input) {
