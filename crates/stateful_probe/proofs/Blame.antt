@@ -1,5 +1,5 @@
 -- That a peer is blocked for nothing but a bad message, and a subscription closed by nothing but a stop or in service.
-use Rattle.std.proofs.Common.{◌≡◌, ℕ, true, false, Option, Some, None, List, [], ◌∷◌, All, Contains, refl, sym, ap, subst, ◌∙◌}
+use Rattle.std.proofs.Common.{◌≡◌, ℕ, true, false, Option, Some, None, List, ◌∷◌, All, Contains, refl, sym, ap, subst, ◌∙◌}
 use Rattle.std.proofs.lemmas.List.Elements.{All-nil, All-map, All-contains}
 use Rattle.stateful_types.specs.declared.round.Round.{Round}
 use Rattle.stateful_types.specs.declared.finalization.Finalization.{Finalization}
@@ -10,11 +10,10 @@ use Rattle.stateful_probe.specs.Probe.{Steps, asked, answered, closed, begins_ro
 use Rattle.stateful_probe.specs.Laws.{Turn, Runs, IsToBlame, while_discovering, without_tag, IsClosing, by_stop, while_serving}
 use Rattle.stateful_probe.specs.declared.state.State.{State}
 use Rattle.stateful_probe.specs.declared.event.Event.{Event}
-use Rattle.stateful_probe.specs.declared.event.Event.TheVariants.{Received}
 use Rattle.stateful_probe.specs.declared.event.Out.{Out}
 use Rattle.stateful_probe.specs.declared.event.Out.TheVariants.{Floor, Closed, Request, Response, Block}
 use Rattle.stateful_probe.proofs.Known.{one_value}
-use Rattle.stateful_probe.proofs.Outs.{one_out, asked_all, handed_all, sent_all}
+use Rattle.stateful_probe.proofs.Outs.{one_out, handed_all, sent_all}
 use Rattle.stateful_probe.proofs.Reading.{whole_header, one_header}
 use Rattle.stateful_probe.proofs.Runs.{each}
 

@@ -1,6 +1,5 @@
 -- That without a floor no more replies are recorded than may be faulty, and that with one nobody waits.
-use Rattle.std.proofs.Common.{◌≡◌, ℕ, ◌+◌, ◌≤◌, Bool, true, false, not, Option, Some, None, List, [], length, All, filter, ◌==◌, refl, ap, ◌∙◌, arith}
-use Rattle.std.specs.Map.{values_of}
+use Rattle.std.proofs.Common.{◌≡◌, ℕ, ◌≤◌, Bool, true, false, not, Option, Some, None, List, [], length, All, filter, ◌==◌, refl, ap, ◌∙◌, arith}
 use Rattle.std.proofs.lemmas.Bool.{leb-true, leb-false}
 use Rattle.std.proofs.lemmas.List.{length-map}
 use Rattle.std.proofs.Math.Dec.{leb}
@@ -8,7 +7,7 @@ use Rattle.stateful_types.specs.Vote.{max_faults}
 use Rattle.stateful_types.specs.declared.finalization.Finalization.{Finalization}
 use Rattle.stateful_probe.specs.Sample.{Sampled, with_reply, with_floor, judged, Selects}
 use Rattle.stateful_probe.specs.Setup.{Setup, committee, tolerated, faults_of, is_judgeable}
-use Rattle.stateful_probe.specs.Probe.{Steps, left_waiting, answered, closed, begins_round, waits, leaves, asks_again, not_needed, recorded, stops}
+use Rattle.stateful_probe.specs.Probe.{Steps, left_waiting, begins_round, waits, leaves, asks_again, not_needed, recorded, stops}
 use Rattle.stateful_probe.specs.declared.state.State.{State}
 use Rattle.stateful_probe.specs.declared.event.Event.{Event}
 use Rattle.stateful_probe.specs.declared.event.Out.{Out}

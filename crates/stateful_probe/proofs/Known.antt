@@ -1,5 +1,5 @@
 -- What is known of keys, of an option and of an error.
-use Rattle.std.proofs.Common.{◌≡◌, Bool, true, Ordering, is_eq, Option, Some, Result, Ok, Err, sym, ◌∙◌}
+use Rattle.std.proofs.Common.{◌≡◌, Bool, Ordering, is_eq, Option, Some, Result, Ok, Err, sym, ◌∙◌}
 use Rattle.std.specs.Cmp.{IsEquivalence}
 use Rattle.std.specs.Prelude.{IfErr}
 use Rattle.std.proofs.lemmas.Option.{same_Some}

@@ -1,7 +1,6 @@
 -- That a new probe keeps the laws, whatever events come.
-use Rattle.std.proofs.Common.{◌≡◌, ◌+◌, true, [], count_by, ◌==◌, All, refl, ap, ◌∙◌, arith}
+use Rattle.std.proofs.Common.{◌≡◌, ◌+◌, true, [], count_by, ◌==◌, refl, ap, ◌∙◌, arith}
 use Rattle.std.proofs.lemmas.List.Elements.{All-weaker}
-use Rattle.stateful_types.specs.Format.{IsFormat}
 use Rattle.stateful_probe.specs.Setup.{Setup}
 use Rattle.stateful_probe.specs.Sample.{has_replied}
 use Rattle.stateful_probe.specs.Probe.{IsNew}

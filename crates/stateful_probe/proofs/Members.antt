@@ -1,8 +1,8 @@
 -- That the set of the participants can be looked up in their place.
-use Rattle.std.proofs.Common.{◌≡◌, Some, None, Option, List, is_eq, sym, ap, ◌∙◌}
+use Rattle.std.proofs.Common.{◌≡◌, Some, None, is_eq, sym, ap, ◌∙◌}
 use Rattle.std.specs.Prelude.{option_map}
 use Rattle.std.specs.List.{list_any}
-use Rattle.std.specs.BTreeSet.{BTreeSet, contains, IsFromIterResult}
+use Rattle.std.specs.BTreeSet.{BTreeSet, IsFromIterResult}
 use Rattle.stateful_probe.specs.Setup.{Setup, scheme_in, is_one_of}
 use Rattle.stateful_probe.specs.Schemes.{AreMembers}
 use Rattle.stateful_probe.proofs.Known.{AreKeys}

@@ -18,7 +18,7 @@ use Rattle.stateful_types.proofs.Formats.{Met, met, reads, both_ok, stands_alone
 use Rattle.stateful_types.proofs.Values.{round_alone, place_format, place_alone, proposal_format, proposal_alone}
 use Rattle.stateful_probe.proofs.Known.{one_value}
 use Rattle.stateful_probe.specs.Wire.{tag_format}
-use Rattle.stateful_probe.specs.Setup.{Setup, committee, is_one_of, membership, scheme_at, Counts}
+use Rattle.stateful_probe.specs.Setup.{Setup, committee, is_one_of, scheme_at, Counts}
 use Rattle.stateful_probe.specs.Reply.{IsRequest, IsHeader, HasHeader, IsForeign, IsCounted, IsWhole, IsMalformed, IsAtFault, outsider, uncertified}
 use Rattle.stateful_probe.specs.Judgement.{IsCountedScheme, IsHopeless, IsReadAs}
 use Rattle.stateful_probe.specs.Judgement as judging

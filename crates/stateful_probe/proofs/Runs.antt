@@ -1,5 +1,5 @@
 -- What holds over many events, by what holds of each.
-use Rattle.std.proofs.Common.{◌≡◌, true, Option, List, [], ◌∷◌, All, sym, subst}
+use Rattle.std.proofs.Common.{Option, List, [], ◌∷◌, All, sym, subst}
 use Rattle.std.proofs.lemmas.List.Elements.{All-nil, All-cons}
 use Rattle.stateful_types.specs.declared.finalization.Finalization.{Finalization}
 use Rattle.stateful_probe.specs.Setup.{Setup}

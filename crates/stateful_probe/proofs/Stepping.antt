@@ -1,5 +1,5 @@
 -- One event of a probe, from what its code answered.
-use Rattle.std.proofs.Common.{◌≡◌, ◌≢◌, ℕ, true, false, Option, Some, None, Result, Ok, Err, List, [], ◌∷◌, ◌++◌, length, refl, sym, subst, ◌∙◌}
+use Rattle.std.proofs.Common.{◌≡◌, ◌≢◌, ℕ, true, false, Option, Some, None, Result, Ok, Err, List, [], ◌∷◌, ◌++◌, length, refl, sym, subst}
 use Rattle.std.specs.Result.{OnOk}
 use Rattle.std.proofs.Common.{Bor}
 use Rattle.std.specs.Option.{is_some, option_copied}

@@ -1,5 +1,5 @@
 -- That a floor may be trusted: what holds of the recorded replies, and that no event drops a floor.
-use Rattle.std.proofs.Common.{◌≡◌, ℕ, ◌+◌, ◌≤◌, Bool, true, false, not, cond, Ordering, is_some, is_none, Option, Some, None, List, [], ◌∷◌, ◌++◌, length, All, Contains, count_by, is_eq, refl, sym, ap, subst, ◌∙◌, inl, inr, arith}
+use Rattle.std.proofs.Common.{◌≡◌, ℕ, ◌+◌, ◌≤◌, Bool, true, false, not, cond, is_some, is_none, Option, Some, None, List, [], ◌∷◌, ◌++◌, length, All, Contains, count_by, is_eq, refl, sym, ap, subst, ◌∙◌, inl, inr, arith}
 use Rattle.std.specs.Map.{values_of}
 use Rattle.std.specs.BTreeMap.{insert_entry}
 use Rattle.std.proofs.lemmas.Bool.{and_parts, not-true}

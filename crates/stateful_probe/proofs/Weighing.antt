@@ -5,7 +5,7 @@ use Rattle.stateful_types.specs.Format.{IsFormat}
 use Rattle.stateful_types.specs.Finalization.{finalization_format}
 use Rattle.stateful_types.proofs.Values.{finalization_alone}
 use Rattle.stateful_types.specs.declared.finalization.Finalization.{Finalization}
-use Rattle.stateful_probe.specs.Setup.{Setup, scheme_at, committee, Counts}
+use Rattle.stateful_probe.specs.Setup.{Setup, scheme_at, committee}
 use Rattle.stateful_probe.specs.Reply.{IsWhole, IsGood, IsAtFault, uncertified, IsIgnored, unjudged}
 use Rattle.stateful_probe.specs.Judgement.{IsHeld}
 use Rattle.stateful_probe.proofs.Known.{one_value}

@@ -5,7 +5,7 @@ use Rattle.stateful_types.specs.declared.codec.CodecError.TheVariants.{OutOfMemo
 use Rattle.stateful_types.specs.declared.number.Epoch.{Epoch}
 use Rattle.stateful_types.specs.declared.finalization.Finalization.{Finalization}
 use Rattle.stateful_probe.specs.Setup.{Setup, committee, membership, is_one_of, Counts}
-use Rattle.stateful_probe.specs.Reply.{IsRequest, HasHeader, IsForeign, IsWhole, IsMalformed, IsGood, IsAtFault, IsIgnored}
+use Rattle.stateful_probe.specs.Reply.{IsRequest, IsForeign, IsWhole, IsMalformed, IsGood, IsAtFault, IsIgnored}
 use Rattle.stateful_probe.specs.declared.reply.Decoded.{Decoded}
 use Rattle.stateful_probe.specs.declared.reply.Decoded.TheVariants as decoded
 use Rattle.stateful_probe.specs.declared.reply.Judgement.{Judgement}
