@@ -143,7 +143,8 @@ module _ {S K C : Type 0} (u : Setup S K C) (latest : Option (Finalization C)) w
         → IsGood u peer bytes f
         → s.subscribers ≡ []
         → Steps s (Received peer bytes) [] (restarted s)
-    recorded : {peer : K} {bytes : List ℕ} {f : Finalization C} {keys : List K} {chosen : Option (Finalization C)}
+    recorded : {peer : K} {bytes : List ℕ} {f : Finalization C} {keys : List K}
+        {chosen : Option (Finalization C)}
         → is_serving s ≡ false
         → still_counts u.cmp s.sample peer ≡ true
         → IsGood u peer bytes f

@@ -47,7 +47,8 @@ module _ {K C : Type 0} where
   with_floor s (Some f) = record s { floor = Some f }
 
 -- this one has the highest round of them, and of equal rounds it is the first
-pub record IsHighest {C : Type 0} (among : List (Finalization C)) (f : Finalization C) : Type 0 where
+pub record IsHighest {C : Type 0} (among : List (Finalization C))
+    (f : Finalization C) : Type 0 where
   pub front : List (Finalization C)
   pub back : List (Finalization C)
   pub place : among ≡ front ++ f ∷ back
@@ -55,7 +56,8 @@ pub record IsHighest {C : Type 0} (among : List (Finalization C)) (f : Finalizat
   pub highest : All (λ g. IsLater f.round g.round → ⊥) back
 
 -- one of them has this round, and none has a later one
-pub record IsHighestRound {C : Type 0} (among : List (Finalization C)) (round : Round) : Type 0 where
+pub record IsHighestRound {C : Type 0} (among : List (Finalization C))
+    (round : Round) : Type 0 where
   pub reached : Any (λ f. f.round ≡ round) among
   pub bounds : All (λ f. IsLater round f.round → ⊥) among
 
