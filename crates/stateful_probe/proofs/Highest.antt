@@ -11,7 +11,7 @@ use Rattle.std.proofs.lemmas.List.Quantifiers.{Any-push}
 use Rattle.stateful_types.specs.Round.{IsLater}
 use Rattle.stateful_types.specs.declared.round.Round.{Round}
 use Rattle.stateful_types.specs.declared.finalization.Finalization.{Finalization}
-use Rattle.stateful_probe.specs.Sampled.{IsHighest, IsHighestRound}
+use Rattle.stateful_probe.specs.Sample.{IsHighest, IsHighestRound}
 
 -- what isn't later than a round isn't later than one that isn't before that
 pub no_later_on : (a b c : Round) → (IsLater a b → ⊥) → (IsLater c a → ⊥) → IsLater c b → ⊥

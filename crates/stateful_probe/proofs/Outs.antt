@@ -3,7 +3,7 @@ use Rattle.std.proofs.Common.{◌≡◌, ℕ, Option, Some, None, List, [], ◌�
 use Rattle.std.proofs.lemmas.List.Elements.{All-nil, All-cons, All-map, All-same}
 use Rattle.stateful_types.specs.declared.finalization.Finalization.{Finalization}
 use Rattle.stateful_probe.specs.Setup.{Setup}
-use Rattle.stateful_probe.specs.Probing.{Sends, asked, handed_out}
+use Rattle.stateful_probe.specs.Probe.{Sends, asked, handed_out}
 use Rattle.stateful_probe.specs.declared.event.Out.{Out}
 use Rattle.stateful_probe.specs.declared.event.Out.TheVariants.{Floor, Request, Response}
 

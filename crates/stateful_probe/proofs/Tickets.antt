@@ -6,7 +6,7 @@ use Rattle.std.proofs.lemmas.List.Sums.{sum_by-cons, sum_by-append}
 use Rattle.std.proofs.lemmas.List.Elements.{All-head, All-tail}
 use Rattle.stateful_types.specs.declared.finalization.Finalization.{Finalization}
 use Rattle.stateful_probe.specs.Setup.{Setup, committee}
-use Rattle.stateful_probe.specs.Probing.{may_come, names_live, is_waiting, left_waiting, asked, handed_out, Steps, answered, closed, begins_round, waits, leaves, asks_again, recorded, served, stops}
+use Rattle.stateful_probe.specs.Probe.{may_come, names_live, is_waiting, left_waiting, asked, handed_out, Steps, answered, closed, begins_round, waits, leaves, asks_again, recorded, served, stops}
 use Rattle.stateful_probe.specs.Laws.{Turn, Runs, asks, takes_back, ends, asked_count, cancelled_count, answered_count}
 use Rattle.stateful_probe.specs.declared.state.State.{State}
 use Rattle.stateful_probe.specs.declared.event.Event.{Event}
@@ -145,11 +145,11 @@ module _ {S K C : Type 0} (u : Setup S K C) where
   asked_once : (turns : List (Turn K C)) (s last : State K C) → Runs u s turns last → (t : ℕ) → (asked_count t turns ≤ 1) × (t < s.next_ticket → asked_count t turns ≡ 0)
   asked_once [] s last runs t = (omega arith, λ earlier. refl)
   asked_once (turn ∷ turns) s last runs t =
-      let rest = asked_once turns runs.1 last runs.3 t in
+      let rest = asked_once turns runs.2 last runs.4 t in
       let more = sum_by-cons (λ turn. asks t turn.event) turn turns in
-      let n = step_next turn.latest s turn.event turn.outs runs.1 runs.2 in
+      let n = step_next turn.latest s turn.event turn.outs runs.2 runs.3 in
       let later : t < next_of s.next_ticket turn.event → asked_count t turns ≡ 0 = λ lt. rest.1 (omega arith) in
-      let both : (asks t turn.event + asked_count t turns ≤ 1) × (t < s.next_ticket → asks t turn.event + asked_count t turns ≡ 0) = go turn.event (and_parts (not s.stopped) _ runs.0).1 rest.0 later in
+      let both : (asks t turn.event + asked_count t turns ≤ 1) × (t < s.next_ticket → asks t turn.event + asked_count t turns ≡ 0) = go turn.event (and_parts (not s.stopped) _ runs.1).1 rest.0 later in
       (omega (arith, both.0, more), λ earlier. omega (arith, both.1 earlier, more))
     where
       go : (e : Event K) → names_live s e ≡ true → asked_count t turns ≤ 1 → (t < next_of s.next_ticket e → asked_count t turns ≡ 0)
@@ -173,9 +173,9 @@ module _ {S K C : Type 0} (u : Setup S K C) where
       → answered_count t turns + cancelled_count t turns + count_of t last.subscribers ≡ asked_count t turns + count_of t s.subscribers
   none_forgotten [] s last live runs t = omega (arith, ap (λ w. count_of t w.subscribers) runs)
   none_forgotten (turn ∷ turns) s last live runs t =
-      let next = runs.1 in
-      let here = step_ticket turn.latest s turn.event turn.outs next runs.2 live runs.0 t in
-      let rest = none_forgotten turns next last (step_live turn.latest s turn.event turn.outs next runs.2 live runs.0) runs.3 t in
+      let next = runs.2 in
+      let here = step_ticket turn.latest s turn.event turn.outs next runs.3 live runs.1 t in
+      let rest = none_forgotten turns next last (step_live turn.latest s turn.event turn.outs next runs.3 live runs.1) runs.4 t in
       omega (arith, here, rest, sum_by-cons (λ turn. asks t turn.event) turn turns, sum_by-cons (λ turn. takes_back t turn.event) turn turns, sum_by-cons (λ turn. sum_by (ends t) turn.outs) turn turns)
 
   -- ---- a stop
@@ -188,13 +188,13 @@ module _ {S K C : Type 0} (u : Setup S K C) where
   -- behind a stop nothing follows
   nothing_follows : (turns : List (Turn K C)) (s last : State K C) → s.stopped ≡ true → Runs u s turns last → last ≡ s
   nothing_follows [] s last stopped runs = runs
-  nothing_follows (turn ∷ turns) s last stopped runs = let goes_on = not-true s.stopped (and_parts (not s.stopped) _ runs.0).0 in cc
+  nothing_follows (turn ∷ turns) s last stopped runs = let goes_on = not-true s.stopped (and_parts (not s.stopped) _ runs.1).0 in cc
 
   pub stopped : (turns : List (Turn K C)) (s last : State K C) → Runs u s turns last → (k : ℕ) (turn : Turn K C) → k < length turns → slice_index_or turns k turn ≡ turn → turn.event ≡ Stop
       → (last.subscribers ≡ []) × ((e : Event K) → may_come last e ≡ false)
   stopped [] s last runs k turn lt at is = absurd (omega arith)
   stopped (first ∷ turns) s last runs zero turn lt at is =
-      let after = step_stops first.latest s first.event first.outs runs.1 runs.2 (ap (λ w. w.event) at ∙ is) in
-      let same = nothing_follows turns runs.1 last after.1 runs.3 in
+      let after = step_stops first.latest s first.event first.outs runs.2 runs.3 (ap (λ w. w.event) at ∙ is) in
+      let same = nothing_follows turns runs.2 last after.1 runs.4 in
       (ap (λ w. w.subscribers) same ∙ after.0, λ e. rw (ap (λ w. w.stopped) same ∙ after.1) refl)
-  stopped (first ∷ turns) s last runs (suc k) turn lt at is = stopped turns runs.1 last runs.3 k turn (omega arith) at is
+  stopped (first ∷ turns) s last runs (suc k) turn lt at is = stopped turns runs.2 last runs.4 k turn (omega arith) at is

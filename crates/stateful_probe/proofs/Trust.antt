@@ -1,36 +1,26 @@
 -- That a floor may be trusted: what holds of the recorded replies, and that no event drops a floor.
-use Rattle.std.proofs.Common.{◌≡◌, ℕ, ◌+◌, ◌≤◌, Bool, true, false, not, cond, Ordering, is_some, is_none, Option, Some, None, List, [], ◌∷◌, ◌++◌, length, All, Contains, count_by, is_eq, refl, sym, ap, subst, ◌∙◌, inl, inr, arith}
-use Rattle.std.specs.Cmp.{IsEquivalence}
+use Rattle.std.proofs.Common.{◌≡◌, ℕ, ◌+◌, ◌≤◌, Bool, true, false, not, cond, is_some, is_none, Option, Some, None, List, [], ◌∷◌, ◌++◌, length, All, Contains, count_by, is_eq, refl, sym, ap, subst, ◌∙◌, inl, inr, arith}
 use Rattle.std.specs.Map.{values_of}
 use Rattle.std.specs.BTreeMap.{insert_entry}
 use Rattle.std.proofs.lemmas.Bool.{and_parts, not-true}
-use Rattle.std.proofs.lemmas.Option.{same_Some}
 use Rattle.std.proofs.lemmas.List.{length-map}
 use Rattle.std.proofs.lemmas.List.Elements.{All-nil, All-cons, All-append, All-weaker, All-map, All-same, All-contains, Contains-append_right}
 use Rattle.stateful_types.specs.Round.{IsLater}
 use Rattle.stateful_types.specs.Vote.{max_faults}
 use Rattle.stateful_types.specs.declared.round.Round.{Round}
 use Rattle.stateful_types.specs.declared.finalization.Finalization.{Finalization}
-use Rattle.stateful_probe.specs.Sampled.{Sampled, has_replied, still_counts, with_reply, with_floor, cleared, IsHighest, judged, Selects}
+use Rattle.stateful_probe.specs.Sample.{Sampled, has_replied, still_counts, with_reply, with_floor, cleared, IsHighest, judged, Selects}
 use Rattle.stateful_probe.specs.Setup.{Setup, committee, is_one_of, is_judgeable, Counts, TakesPart}
-use Rattle.stateful_probe.specs.Replies.{IsGood}
-use Rattle.stateful_probe.specs.Probing.{Steps, answered, closed, begins_round, waits, leaves, attaches, asks_again, rests, unawaited, ignored, blocked, not_needed, recorded, served, passed_over, untagged, stops}
+use Rattle.stateful_probe.specs.Reply.{IsGood}
+use Rattle.stateful_probe.specs.Probe.{Steps, answered, closed, begins_round, waits, leaves, attaches, asks_again, rests, unawaited, ignored, blocked, not_needed, recorded, served, passed_over, untagged, stops}
 use Rattle.stateful_probe.specs.Laws.{Turn, Runs, IsTrusted}
 use Rattle.stateful_probe.specs.declared.state.State.{State}
 use Rattle.stateful_probe.specs.declared.event.Event.{Event}
 use Rattle.stateful_probe.specs.declared.event.Out.{Out}
 use Rattle.stateful_probe.specs.declared.event.Out.TheVariants.{Floor, Closed, Request, Response, Block}
+use Rattle.stateful_probe.proofs.Known.{AreKeys, one_value}
 use Rattle.stateful_probe.proofs.Outs.{one_out, asked_all, handed_all, sent_all}
 use Rattle.stateful_probe.proofs.Tallies.{filter_all, All-from_map, count_none, gains_from_insert, All-gains, count_by_gains, no_liar}
-
--- which keys are the same, by their order
-pub record AreKeys {K : Type 0} (eq : K → K → Bool) (cmp : K → K → Ordering) : Type 0 where
-  pub same : IsEquivalence eq
-  pub agrees : (x y : K) → eq x y ≡ is_eq (cmp x y)
-
--- an option holds one value at most
-pub one_value : {A : Type 0} (o : Option A) (a b : A) → o ≡ Some a → o ≡ Some b → a ≡ b
-one_value o a b e e' = same_Some a b (sym e ∙ e')
 
 -- of two rounds at most one is the later one
 not_both : (a b : Round) → IsLater a b → IsLater b a → ⊥
@@ -87,13 +77,13 @@ module _ {S K C : Type 0} (u : Setup S K C) where
   }
 
   module _ (replies : List (K × Finalization C)) (f : Finalization C) (good : All IsReply replies) (chosen : IsChosen replies f) where
-    -- a recorded reply is a participant's, and no later than the floor
+    -- a recorded reply is a participant's
     vouched : (liars : List K) (peer : K) (reply : Finalization C) → Contains replies (peer, reply) → is_one_of u.eq liars peer ≡ false
-        → (peer : K) × (reply : Finalization C) × Contains replies (peer, reply) × (is_one_of u.eq chosen.keys peer ≡ true) × (is_one_of u.eq liars peer ≡ false) × (IsLater f.round reply.round → ⊥)
+        → (peer : K) × (reply : Finalization C) × Contains replies (peer, reply) × (is_one_of u.eq chosen.keys peer ≡ true) × (is_one_of u.eq liars peer ≡ false)
     vouched liars peer reply at other =
         let by : IsReply (peer, reply) = All-contains IsReply replies (peer, reply) good at in
         let same : by.keys ≡ chosen.keys = one_value (committee u) by.keys chosen.keys by.takes_part.committee_is chosen.committee_is in
-        (peer, reply, at, ap (λ keys. is_one_of u.eq keys peer) (sym same) ∙ by.takes_part.member, other, All-contains (λ e. IsLater f.round e.1.round → ⊥) replies (peer, reply) chosen.highest at)
+        (peer, reply, at, ap (λ keys. is_one_of u.eq keys peer) (sym same) ∙ by.takes_part.member, other)
 
     -- the floor's epoch counts, and its certificate holds
     certified_in : (scheme : S) × Counts u f.round.epoch scheme × u.certifies scheme f
@@ -108,11 +98,11 @@ module _ {S K C : Type 0} (u : Setup S K C) where
       let chosen : IsChosen s.sample.replies f = subst (IsFloorOf s.sample.replies) e sound.floor in
       let here = certified_in s.sample.replies f sound.good chosen in
       record {
-        is_floor = e;
         scheme = here.0;
         counts = here.1;
         certified = here.2;
         among = chosen.among;
+        latest = chosen.highest;
         keys = chosen.keys;
         committee_is = chosen.committee_is;
         honest = λ liars few.
@@ -122,7 +112,7 @@ module _ {S K C : Type 0} (u : Setup S K C) where
 
   -- ---- one reply more
 
-  reply_of : (peer : K) (bytes : List ℕ) (f : Finalization C) → IsGood u peer bytes f → IsReply (peer, f)
+  pub reply_of : (peer : K) (bytes : List ℕ) (f : Finalization C) → IsGood u peer bytes f → IsReply (peer, f)
   reply_of peer bytes f good = record { scheme = good.scheme; counts = good.counts; certified = good.certified; keys = good.keys; takes_part = good.takes_part }
 
   -- the replies with the first one of a peer
@@ -159,7 +149,7 @@ module _ {S K C : Type 0} (u : Setup S K C) where
             let none : count_by (λ e. u.eq l e.0) es ≡ 0 = (λ i. count_by (λ (e : K × Finalization C). agree same e.0 i) es) ∙ count_none (λ k. is_eq (u.cmp peer k)) es new in
             omega arith
 
-    sound_more : (s : Sampled K C) (peer : K) (f : Finalization C) → IsSound s → s.floor ≡ None → has_replied u.cmp s.replies peer ≡ false
+    pub sound_more : (s : Sampled K C) (peer : K) (f : Finalization C) → IsSound s → s.floor ≡ None → has_replied u.cmp s.replies peer ≡ false
         → IsReply (peer, f) → IsSound (with_reply u.cmp s peer f)
     sound_more s peer f sound unset new reply =
         subst IsSound (sym (with_reply_is s peer f new)) (record {
@@ -170,7 +160,7 @@ module _ {S K C : Type 0} (u : Setup S K C) where
 
   -- ---- the floor that is chosen
 
-  all_judged : (n : ℕ) (s : Sampled K C) → All IsReply s.replies → judged n (is_judgeable u) s ≡ values_of s.replies
+  pub all_judged : (n : ℕ) (s : Sampled K C) → All IsReply s.replies → judged n (is_judgeable u) s ≡ values_of s.replies
   all_judged n s good =
       let P : Finalization C → Type 0 = λ g. is_judgeable u g ≡ true in
       filter_all (is_judgeable u) (values_of s.replies) (All-map P (λ e. e.1) s.replies (All-weaker IsReply (λ e. P e.1) (λ e reply. ap is_some reply.counts.known) s.replies good))
@@ -232,7 +222,7 @@ module _ {S K C : Type 0} (u : Setup S K C) where
 
   module _ (laws : AreKeys u.eq u.cmp) where
     -- no event drops a floor
-    step_keeps : (latest : Option (Finalization C)) (s : State K C) (e : Event K) (outs : List (Out K C)) (next : State K C) → Steps u latest s e outs next
+    pub step_keeps : (latest : Option (Finalization C)) (s : State K C) (e : Event K) (outs : List (Out K C)) (next : State K C) → Steps u latest s e outs next
         → (f : Finalization C) → s.sample.floor ≡ Some f → next.sample.floor ≡ Some f
     step_keeps latest s e outs next (begins_round unset idle nobody) f is = cc
     step_keeps latest s e outs next (asks_again unset others) f is = cc
@@ -240,7 +230,7 @@ module _ {S K C : Type 0} (u : Setup S K C) where
     step_keeps latest s e outs next (recorded {peer = peer} idle waited good others known selects) f is = let unset = (counting_parts s.sample peer waited).0 in cc
     step_keeps latest s e outs next _ f is = is
 
-    step_sound : (latest : Option (Finalization C)) (s : State K C) (e : Event K) (outs : List (Out K C)) (next : State K C) → Steps u latest s e outs next
+    pub step_sound : (latest : Option (Finalization C)) (s : State K C) (e : Event K) (outs : List (Out K C)) (next : State K C) → Steps u latest s e outs next
         → IsSound s.sample → IsSound next.sample
     step_sound latest s e outs next (begins_round unset idle nobody) sound = sound_empty (cleared s.sample) refl refl
     step_sound latest s e outs next (asks_again unset others) sound = sound_empty (cleared s.sample) refl refl
@@ -264,13 +254,13 @@ module _ {S K C : Type 0} (u : Setup S K C) where
       of_last = All-nil (λ turn. All (IsOf last.sample.floor) turn.outs);
     }
     trusting (turn ∷ turns) s last sound runs =
-        let next = runs.1 in
-        let rest = trusting turns next last (step_sound turn.latest s turn.event turn.outs next runs.2 sound) runs.3 in
+        let next = runs.2 in
+        let rest = trusting turns next last (step_sound turn.latest s turn.event turn.outs next runs.3 sound) runs.4 in
         record {
           sound = rest.sound;
-          kept = λ f is. rest.kept f (step_keeps turn.latest s turn.event turn.outs next runs.2 f is);
+          kept = λ f is. rest.kept f (step_keeps turn.latest s turn.event turn.outs next runs.3 f is);
           of_last = All-cons (λ turn. All (IsOf last.sample.floor) turn.outs) turn turns
-              (All-weaker (IsOf next.sample.floor) (IsOf last.sample.floor) (carried next rest.kept) turn.outs (step_floors turn.latest s turn.event turn.outs next runs.2)) rest.of_last;
+              (All-weaker (IsOf next.sample.floor) (IsOf last.sample.floor) (carried next rest.kept) turn.outs (step_floors turn.latest s turn.event turn.outs next runs.3)) rest.of_last;
         }
       where
         carried : (next : State K C) → ((f : Finalization C) → next.sample.floor ≡ Some f → last.sample.floor ≡ Some f)
@@ -281,10 +271,14 @@ module _ {S K C : Type 0} (u : Setup S K C) where
         carried next kept (Response peer bytes) is = tt
         carried next kept (Block peer) is = tt
 
-    -- each floor that was handed out may be trusted
-    pub floors_trusted : (turns : List (Turn K C)) (s last : State K C) → IsSound s.sample → Runs u s turns last
-        → All (λ turn. (t : ℕ) (f : Finalization C) → Contains turn.outs (Floor t f) → IsTrusted u last f) turns
-    floors_trusted turns s last sound runs =
-        let all = trusting turns s last sound runs in
-        All-weaker (λ turn. All (IsOf last.sample.floor) turn.outs) (λ turn. (t : ℕ) (f : Finalization C) → Contains turn.outs (Floor t f) → IsTrusted u last f)
-        (λ turn outs t f at. trusted last f all.sound (All-contains (IsOf last.sample.floor) turn.outs (Floor t f) outs at)) turns all.of_last
+    -- the floor that the probe has may be trusted
+    pub floor_trusted : (turns : List (Turn K C)) (s last : State K C) → IsSound s.sample → Runs u s turns last
+        → (f : Finalization C) → last.sample.floor ≡ Some f → IsTrusted u last f
+    floor_trusted turns s last sound runs f is = trusted last f (trusting turns s last sound runs).sound is
+
+    -- each floor that was handed out is the one that the probe has
+    pub floors_handed : (turns : List (Turn K C)) (s last : State K C) → IsSound s.sample → Runs u s turns last
+        → All (λ turn. (t : ℕ) (f : Finalization C) → Contains turn.outs (Floor t f) → last.sample.floor ≡ Some f) turns
+    floors_handed turns s last sound runs =
+        All-weaker (λ turn. All (IsOf last.sample.floor) turn.outs) (λ turn. (t : ℕ) (f : Finalization C) → Contains turn.outs (Floor t f) → last.sample.floor ≡ Some f)
+        (λ turn outs t f at. All-contains (IsOf last.sample.floor) turn.outs (Floor t f) outs at) turns (trusting turns s last sound runs).of_last

@@ -1,31 +1,51 @@
 -- What a finalization of an epoch that counts is worth.
-use Rattle.std.proofs.Common.{◌≡◌, ℕ, true, false, Some, None, List, sym, ap, ◌∙◌}
+use Rattle.std.proofs.Common.{◌≡◌, ℕ, Some, None, List, [], drop, sym, ap, subst, ◌∙◌, append-nil}
 use Rattle.std.specs.Prelude.{option_map}
+use Rattle.stateful_types.specs.Format.{IsFormat}
+use Rattle.stateful_types.specs.Finalization.{finalization_format}
+use Rattle.stateful_types.proofs.Values.{finalization_alone}
 use Rattle.stateful_types.specs.declared.finalization.Finalization.{Finalization}
-use Rattle.stateful_probe.specs.Setup.{Setup, scheme_at, committee, is_one_of, Counts}
-use Rattle.stateful_probe.specs.Replies.{IsWhole, IsGood, IsAtFault, outsider, uncertified, IsIgnored, unjudged}
+use Rattle.stateful_probe.specs.Setup.{Setup, scheme_at, committee}
+use Rattle.stateful_probe.specs.Reply.{IsWhole, IsGood, IsAtFault, uncertified, IsIgnored, unjudged}
+use Rattle.stateful_probe.specs.Judgement.{IsHeld}
+use Rattle.stateful_probe.proofs.Known.{one_value}
+use Rattle.stateful_probe.proofs.Reading.{whole_header}
 
-module _ {S K C : Type 0} (u : Setup S K C) (peer : K) (f : Finalization C) (bytes : List ℕ) (held : IsWhole u bytes f × ((scheme : S) × Counts u f.round.epoch scheme)) where
+-- bytes are a whole response with one finalization at most
+whole_same : {S K C : Type 0} (u : Setup S K C) → IsFormat u.certificates → (bytes : List ℕ) (f g : Finalization C) → IsWhole u bytes f → IsWhole u bytes g → f ≡ g
+whole_same u law bytes f g whole other =
+    let format = finalization_format u.certificates in
+    let e : format.spelling f ≡ format.spelling g = ap (drop 1) (sym whole.1 ∙ other.1) in
+    (finalization_alone u.certificates law).alone f g [] whole.0 other.0 (append-nil (format.spelling f) ∙ e)
+
+module _ {S K C : Type 0} (u : Setup S K C) (peer : K) (f : Finalization C) (bytes : List ℕ) (held : IsHeld u peer bytes f) where
   -- nobody is known to take part
   pub worthless : None ≡ scheme_at u u.minimum → IsIgnored u bytes
-  worthless e = unjudged f held.0 (ap (option_map u.keys) (sym e))
+  worthless e = unjudged f held.whole (ap (option_map u.keys) (sym e))
 
-  module _ (lowest : S) (keys : List K) (known : Some lowest ≡ scheme_at u u.minimum) (are : keys ≡ u.keys lowest) where
-    committee_is : committee u ≡ Some keys
-    committee_is = ap (option_map u.keys) (sym known) ∙ ap (λ (all : List K). Some all) (sym are)
-
-    -- the peer doesn't take part
-    pub from_outside : false ≡ is_one_of u.eq keys peer → IsAtFault u peer bytes
-    from_outside out = outsider f held.1.0 keys held.0 held.1.1 committee_is (sym out)
+  module _ (lowest : S) (known : Some lowest ≡ scheme_at u u.minimum) where
+    committee_is : committee u ≡ Some (u.keys lowest)
+    committee_is = ap (option_map u.keys) (sym known)
 
     module _ (scheme : S) (has : Some scheme ≡ scheme_at u f.round.epoch) where
-      counting : Counts u f.round.epoch scheme
-      counting = record { reached = held.1.1.reached; known = sym has }
+      same : scheme ≡ held.scheme
+      same = one_value (scheme_at u f.round.epoch) scheme held.scheme (sym has) held.counts.known
 
-      -- a participant's finalization that holds
-      pub worthy : true ≡ is_one_of u.eq keys peer → u.certifies scheme f → IsGood u peer bytes f
-      worthy among holds = record { whole = held.0; scheme = scheme; counts = counting; certified = holds; keys = keys; takes_part = record { committee_is = committee_is; member = sym among } }
+      -- a finalization that holds
+      pub worthy : u.certifies scheme f → IsGood u peer bytes f
+      worthy holds = record {
+        whole = held.whole;
+        scheme = held.scheme;
+        counts = held.counts;
+        certified = subst (λ s. u.certifies s f) same holds;
+        keys = u.keys lowest;
+        takes_part = record { committee_is = committee_is; member = held.heard (u.keys lowest) committee_is };
+      }
 
       -- it doesn't hold
-      pub unfounded : (u.certifies scheme f → ⊥) → IsAtFault u peer bytes
-      unfounded none = uncertified f scheme keys held.0 counting committee_is none
+      pub unfounded : IsFormat u.certificates → (u.certifies scheme f → ⊥) → IsAtFault u peer bytes
+      unfounded law none =
+          uncertified held.scheme (u.keys lowest)
+          (record { round = f.round; header = whole_header u bytes f held.whole; counts = held.counts })
+          committee_is
+          (λ g whole certified. none (subst (λ s. u.certifies s f) (sym same) (subst (u.certifies held.scheme) (whole_same u law bytes g f whole held.whole) certified)))

@@ -25,4 +25,7 @@ message_bytes certificate (Response f) = 1 ∷ [] ++ (finalization_format certif
 
 -- byte 0, or byte 1 and a finalization
 abbrev pub message_format : {C : Type 0} → Format C → Format (Message C)
-message_format certificate = record { fits = message_fits certificate; spelling = message_bytes certificate }
+message_format certificate = record {
+  fits = message_fits certificate;
+  spelling = message_bytes certificate;
+}

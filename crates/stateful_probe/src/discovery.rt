@@ -1,10 +1,11 @@
 //! Discovery: the participants are asked, and the floor is selected from their replies.
 
-ghost use Rattle.std.specs.Prelude.{◌≡◌, ◌++◌, List, [], false, Option, Some, is_some, OnOk, length};
+ghost use Rattle.std.specs.Prelude.{◌≡◌, ◌<◌, ◌-◌, ◌^◌, ◌++◌, List, [], false, Option, Some, is_some, OnOk, length};
 ghost use Rattle.stateful_types.specs.declared.finalization.Finalization.{Finalization};
 ghost use Rattle.stateful_probe.specs.Setup.{setup, scheme_in, committee};
-ghost use Rattle.stateful_probe.specs.Probing.{Steps, asked, restarted, handed_out, is_serving};
-ghost use Rattle.stateful_probe.specs.Selecting.{Chooses};
+ghost use Rattle.stateful_probe.specs.Probe.{Steps, asked, restarted, handed_out, is_serving};
+ghost use Rattle.stateful_probe.specs.Discovery.{Chooses};
+ghost use Rattle.stateful_probe.specs.declared.probe.Config.{Config};
 ghost use Rattle.stateful_probe.specs.declared.event.Event.TheVariants as events;
 
 use crate::event::Out;
@@ -23,12 +24,11 @@ pub(crate) fn request_latest<S: Scheme>(
     outs: &mut Vec<Out<S::Key, S::Certificate>>,
 ) -> Result<(), OutOfMemory>
     ensures restarted { OnOk result (state.new ≡ restarted state.old) }
-    ensures asked { OnOk result (outs.new.items
-        ≡ outs.old.items ++ asked (committee (setup S.Key.cmp S.Key.eq S.certificates S.keys
-        S.certifies schemes.now state.old.sample.minimum_epoch))) }
+    ensures asked { OnOk result (outs.new.items ≡ outs.old.items ++ asked (committee
+        (setup S.Key.cmp S.Key.eq S.certificates S.keys S.certifies schemes.now))) }
 {
     state.sample.reset();
-    let Some(scheme) = schemes.at(state.sample.minimum_epoch()) else {
+    let Some(scheme) = schemes.lowest() else {
         return Ok(());
     };
     let peers = Items::from_vec(Vec::from_slice(alloc, scheme.participants())?);
@@ -36,51 +36,53 @@ pub(crate) fn request_latest<S: Scheme>(
     Ok(())
 }
 
-/// Hands the floor to each of those who wait.
+/// Hands the floor to each of those who wait. The last one is handed the floor itself, and no copy.
 fn hand_out<K: Drop, C: Share + Drop>(
-    floor: &Finalization<C>,
+    floor: Finalization<C>,
     waiting: &[u64],
     outs: &mut Vec<Out<K, C>>,
 ) -> Result<(), OutOfMemory>
-    ensures { OnOk result (outs.new.items
-        ≡ outs.old.items ++ handed_out waiting.now (Some floor.now)) }
+    ensures { OnOk result (outs.new.items ≡ outs.old.items ++ handed_out waiting.now (Some floor)) }
 {
-    for ticket in waiting {
+    let Some((last, others)) = waiting.split_last() else {
+        return Ok(());
+    };
+    for ticket in others {
         outs.push(Out::Floor {
             ticket: *ticket,
             finalization: floor.share()?,
         })?;
     }
+    outs.push(Out::Floor {
+        ticket: *last,
+        finalization: floor,
+    })?;
     Ok(())
 }
 
 /// Selects the floor, if there are enough replies by now, and hands it to those who wait.
-fn select<S: Scheme>(
+fn select_floor<S: Scheme>(
     schemes: &Schemes<S>,
     state: &mut State<S::Key, S::Certificate>,
     outs: &mut Vec<Out<S::Key, S::Certificate>>,
 ) -> Result<(), OutOfMemory>
-    ensures chooses { OnOk result ((keys : List S.Key)
-        → committee (setup S.Key.cmp S.Key.eq S.certificates S.keys S.certifies schemes.now
-        state.old.sample.minimum_epoch)
+    ensures { OnOk result ((keys : List S.Key)
+        → committee (setup S.Key.cmp S.Key.eq S.certificates S.keys S.certifies schemes.now)
         ≡ Some keys
-        → Chooses (setup S.Key.cmp S.Key.eq S.certificates S.keys S.certifies schemes.now
-        state.old.sample.minimum_epoch) (length keys) state.old outs.old.items outs.new.items
-        state.new) }
-    ensures minimum { OnOk result (state.new.sample.minimum_epoch
-        ≡ state.old.sample.minimum_epoch) }
+        → Chooses (setup S.Key.cmp S.Key.eq S.certificates S.keys S.certifies schemes.now)
+        (length keys) state.old outs.old.items outs.new.items state.new) }
 {
-    let Some(scheme) = schemes.at(state.sample.minimum_epoch()) else {
+    let Some(scheme) = schemes.lowest() else {
         return Ok(());
     };
     let committee = scheme.participants().len() as u32;
     let judgeable = |f: &Finalization<S::Certificate>| -> bool
-        ensures { result ≡ is_some (scheme_in schemes.entry.now f.now.round.epoch) }
-    { schemes.at(f.round.epoch).is_some() };
+        ensures { result ≡ is_some (scheme_in schemes.entry.now.schemes f.now.round.epoch) }
+    { schemes.scheme(f.round.epoch).is_some() };
     let Some(floor) = state.sample.select(committee, judgeable)? else {
         return Ok(());
     };
-    hand_out(&floor, state.subscribers.as_slice(), outs)?;
+    hand_out(floor, state.subscribers.as_slice(), outs)?;
     state.subscribers.clear();
     Ok(())
 }
@@ -95,18 +97,15 @@ pub(crate) fn receive<S: Scheme>(
     outs: &mut Vec<Out<S::Key, S::Certificate>>,
 ) -> Result<(), OutOfMemory>
     requires { outs.old.items ≡ [] }
-    ensures received { OnOk result (is_serving state.old ≡ false
+    ensures { OnOk result (is_serving state.old ≡ false
         → (latest : Option (Finalization S.Certificate))
-        → Steps (setup S.Key.cmp S.Key.eq S.certificates S.keys S.certifies schemes.now
-        state.old.sample.minimum_epoch) latest state.old (events.Received peer value)
-        outs.new.items state.new) }
-    ensures minimum { OnOk result (state.new.sample.minimum_epoch
-        ≡ state.old.sample.minimum_epoch) }
+        → Steps (setup S.Key.cmp S.Key.eq S.certificates S.keys S.certifies schemes.now)
+        latest state.old (events.Received peer value) outs.new.items state.new) }
 {
     if !state.still_counts(&peer) {
         return Ok(());
     }
-    match judge(alloc, schemes, state.sample.minimum_epoch(), &peer, value)? {
+    match judge(alloc, schemes, &peer, value)? {
         Judgement::Ignored => {}
         Judgement::AtFault => outs.push(Out::Block { peer })?,
         Judgement::Good(finalization) => {
@@ -114,9 +113,82 @@ pub(crate) fn receive<S: Scheme>(
                 state.sample.reset();
             } else {
                 state.sample.record(peer, finalization)?;
-                select(schemes, state, outs)?;
+                select_floor(schemes, state, outs)?;
             }
         }
     }
+    Ok(())
+}
+
+/// Answers a subscription with the floor, closes it, or lets it wait.
+pub(crate) fn subscribe<S: Scheme>(
+    alloc: Global,
+    schemes: &Schemes<S>,
+    state: &mut State<S::Key, S::Certificate>,
+    ticket: u64,
+    outs: &mut Vec<Out<S::Key, S::Certificate>>,
+) -> Result<(), OutOfMemory>
+    requires below { ticket < 2 ^ 64 - 1 }
+    requires none { outs.old.items ≡ [] }
+    ensures { OnOk result ((latest : Option (Finalization S.Certificate))
+        → Steps (setup S.Key.cmp S.Key.eq S.certificates S.keys S.certifies schemes.now)
+        latest state.old (events.Subscribe ticket) outs.new.items state.new) }
+{
+    let serving = state.is_serving();
+    state.next_ticket = ticket + 1;
+    if let Some(floor) = state.sample.floor() {
+        let finalization = floor.share()?;
+        outs.push(Out::Floor {
+            ticket,
+            finalization,
+        })?;
+        return Ok(());
+    }
+    if serving {
+        outs.push(Out::Closed { ticket })?;
+        return Ok(());
+    }
+    if state.subscribers.is_empty() {
+        request_latest(alloc, schemes, state, outs)?;
+    }
+    state.subscribers.push(ticket)?;
+    Ok(())
+}
+
+/// Begins the round anew where someone waits for a floor.
+pub(crate) fn retry<S: Scheme>(
+    alloc: Global,
+    schemes: &Schemes<S>,
+    state: &mut State<S::Key, S::Certificate>,
+    outs: &mut Vec<Out<S::Key, S::Certificate>>,
+) -> Result<(), OutOfMemory>
+    requires { outs.old.items ≡ [] }
+    ensures { OnOk result ((latest : Option (Finalization S.Certificate))
+        → Steps (setup S.Key.cmp S.Key.eq S.certificates S.keys S.certifies schemes.now)
+        latest state.old events.Retry outs.new.items state.new) }
+{
+    if state.sample.floor().is_some() || state.subscribers.is_empty() {
+        return Ok(());
+    }
+    request_latest(alloc, schemes, state, outs)
+}
+
+/// Closes all that wait.
+pub(crate) fn stop<S: Scheme>(
+    state: &mut State<S::Key, S::Certificate>,
+    outs: &mut Vec<Out<S::Key, S::Certificate>>,
+) -> Result<(), OutOfMemory>
+    requires { outs.old.items ≡ [] }
+
+    // Whatever probe is stopped.
+    ensures { OnOk result ((config : Config S) (latest : Option (Finalization S.Certificate))
+        → Steps (setup S.Key.cmp S.Key.eq S.certificates S.keys S.certifies config)
+        latest state.old events.Stop outs.new.items state.new) }
+{
+    for ticket in state.subscribers.as_slice() {
+        outs.push(Out::Closed { ticket: *ticket })?;
+    }
+    state.subscribers.clear();
+    state.stopped = true;
     Ok(())
 }

@@ -8,11 +8,12 @@ use stateful_types::{Finalization, Items, Scheme};
 pub enum Event<K> {
     /// Someone asks for the floor, under a ticket above every earlier one.
     Subscribe { ticket: u64 },
-    /// Who waits under this ticket no longer does.
+    /// Who waits under this ticket no longer does. Behind its floor, or a stop, nobody waits under it.
     Cancel { ticket: u64 },
-    /// The node's own finalizations can be served.
+    /// The node's own finalizations can be served. From then on, while nobody waits and there is no floor, subscriptions
+    /// are closed.
     Attach,
-    /// A peer sent these bytes.
+    /// A peer sent these bytes. The caller bounds them (`Message::max_encode_size`).
     Received { peer: K, value: Bytes },
     /// Too few replies came in time.
     Retry,

@@ -1,13 +1,14 @@
 //! The mailbox of a probe.
 
-ghost use Rattle.std.specs.Prelude.{◌≡◌, ◌+◌, ◌-◌, ◌^◌, ◌≤◌, ◌↔◌, ◌++◌, ◌∷◌, [], false, IsNone, IfOk, OnOk, OnErr, IsErrOf, option_to_list};
-ghost use Rattle.stateful_probe.specs.Mail.{waiting};
+ghost use Rattle.std.specs.Prelude.{◌≡◌, ◌+◌, ◌-◌, ◌^◌, ◌≤◌, ◌↔◌, ◌++◌, ◌∷◌, [], IsNone, IfOk, OnOk, OnErr, IsErrOf, option_to_list};
+ghost use Rattle.stateful_probe.specs.Mailbox.{waiting};
 ghost use Rattle.stateful_probe.specs.declared.event.Event.TheVariants as events;
 
 use crate::event::{Event, ProbeEvent};
 use stateful_types::{Bounded, DrawError, OutOfMemory, Policy, Scheme};
 use std::alloc::Global;
 use std::collections::VecDeque;
+use std::marker::Model;
 
 impl<K: Drop> Policy for Event<K> {
     ghost use Rattle.std.specs.Prelude.{◌++◌, ◌∷◌, []};
@@ -26,9 +27,19 @@ impl<K: Drop> Policy for Event<K> {
 /// subscriptions, from 0 on.
 #[derive(Drop)]
 pub struct Mailbox<S: Scheme> {
-    pub(crate) next_ticket: u64,
-    pub(crate) events: Bounded<ProbeEvent<S>, VecDeque<ProbeEvent<S>>>,
-    ghost still_open: { events.closed ≡ false },
+    next_ticket: u64,
+    events: Bounded<ProbeEvent<S>, VecDeque<ProbeEvent<S>>>,
+}
+
+impl<S: Scheme> Model for Mailbox<S> {
+    ghost use Rattle.std.specs.Prelude.{◌≡◌, false};
+    ghost use Rattle.stateful_probe.specs.Mailbox.{Mail};
+
+    ghost Value = { Mail S.Key };
+
+    ghost view = { λ a. record { next_ticket = a.next_ticket; events = a.events } };
+
+    ghost invariant = { λ a. a.events.closed ≡ false };
 }
 
 impl<S: Scheme> Mailbox<S> {
@@ -36,7 +47,7 @@ impl<S: Scheme> Mailbox<S> {
     pub fn new(alloc: Global, capacity: usize) -> Result<Mailbox<S>, OutOfMemory>
         requires { 1 ≤ capacity }
         ensures first { IfOk result (λ mailbox. mailbox.next_ticket ≡ 0) }
-        ensures empty { IfOk result (λ mailbox. waiting mailbox.events ≡ []) }
+        ensures empty { IfOk result (λ mailbox. waiting mailbox ≡ []) }
         ensures capacity { IfOk result (λ mailbox. mailbox.events.capacity ≡ capacity) }
     {
         Ok(Mailbox {
@@ -49,8 +60,8 @@ impl<S: Scheme> Mailbox<S> {
     pub fn subscribe(&mut self) -> Result<u64, DrawError>
         ensures drawn { IfOk result (λ ticket. (ticket ≡ self.old.next_ticket)
             × (self.new.next_ticket ≡ ticket + 1)) }
-        ensures sent { IfOk result (λ ticket. waiting self.new.events
-            ≡ waiting self.old.events ++ events.Subscribe ticket ∷ []) }
+        ensures sent { IfOk result (λ ticket. waiting self.new
+            ≡ waiting self.old ++ events.Subscribe ticket ∷ []) }
         ensures exhausted { IsErrOf result DrawError.Exhausted
             ↔ (self.old.next_ticket ≡ 2 ^ 64 - 1) }
         ensures err { OnErr result (self.new ≡ self.old) }
@@ -66,8 +77,8 @@ impl<S: Scheme> Mailbox<S> {
 
     /// Tells that the node's own finalizations can be served.
     pub fn attach(&mut self) -> Result<(), OutOfMemory>
-        ensures sent { OnOk result (waiting self.new.events
-            ≡ waiting self.old.events ++ events.Attach ∷ []) }
+        ensures sent { OnOk result (waiting self.new
+            ≡ waiting self.old ++ events.Attach ∷ []) }
         ensures number { self.new.next_ticket ≡ self.old.next_ticket }
         ensures err { OnErr result (self.new ≡ self.old) }
     {
@@ -77,8 +88,8 @@ impl<S: Scheme> Mailbox<S> {
 
     /// Takes out the next event. None exactly where there is none.
     pub fn take(&mut self) -> Option<ProbeEvent<S>>
-        ensures front { waiting self.old.events ≡ option_to_list result ++ waiting self.new.events }
-        ensures none { IsNone result ↔ (waiting self.old.events ≡ []) }
+        ensures front { waiting self.old ≡ option_to_list result ++ waiting self.new }
+        ensures none { IsNone result ↔ (waiting self.old ≡ []) }
         ensures number { self.new.next_ticket ≡ self.old.next_ticket }
     {
         self.events.try_recv()

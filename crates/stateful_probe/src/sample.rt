@@ -9,7 +9,7 @@ ghost use Rattle.std.specs.Map.{keys_of};
 ghost use Rattle.stateful_types.specs.declared.finalization.Finalization.{Finalization};
 ghost use Rattle.stateful_types.specs.Round.{IsLater};
 ghost use Rattle.stateful_types.specs.Vote.{max_faults};
-ghost use Rattle.stateful_probe.specs.Sampled.{awaits, with_reply, with_floor, cleared, IsHighest, IsHighestRound, Selects};
+ghost use Rattle.stateful_probe.specs.Sample.{awaits, with_reply, with_floor, cleared, IsHighest, IsHighestRound, Selects};
 
 use stateful_types::{Epoch, Finalization, OutOfMemory, Round, Share, max_faults};
 use std::alloc::Global;
@@ -28,13 +28,17 @@ pub struct Sample<K: Ord, C> {
 }
 
 impl<K: Ord, C> Model for Sample<K, C> {
-    ghost use Rattle.stateful_probe.specs.Sampled.{Sampled};
+    ghost use Rattle.stateful_probe.specs.Sample.{Sampled};
     ghost use Rattle.std.specs.List.Sorted.{IsStrictlySortedBy};
     ghost use Rattle.std.specs.Map.{keys_of};
 
     ghost Value = { Sampled K C };
 
-    ghost view = { λ a. record { minimum_epoch = a.minimum_epoch; replies = a.replies.entries; floor = a.floor } };
+    ghost view = { λ a. record {
+      minimum_epoch = a.minimum_epoch;
+      replies = a.replies.entries;
+      floor = a.floor;
+    } };
 
     ghost invariant = { λ a. IsStrictlySortedBy K.cmp (keys_of a.replies.entries) };
 }
@@ -96,13 +100,15 @@ impl<K: Ord + Drop, C: Share + Drop> Sample<K, C> {
     }
 
     /// Selects the floor once more replies can be judged than participants of a committee of this size may be faulty: the
-    /// highest of these. It answers the floor when it is selected, and none at any other time.
+    /// highest of these. It answers the floor when it is selected, and none at any other time. Replies are looked at only
+    /// where so many are recorded, so the closure has to be callable only there.
     pub fn select<F: Fn(&Finalization<C>) -> bool>(
         &mut self,
         committee: u32,
         judgeable: F,
     ) -> Result<Option<Finalization<C>>, OutOfMemory>
-        requires { F.IsAlwaysCallable judgeable }
+        requires { max_faults committee + 1 ≤ length self.old.replies
+            → F.IsAlwaysCallable judgeable }
 
         // Where the closure always gives the answers of some test, as one does that only looks at the reply.
         ensures selects { IfOk result (λ chosen. (judges : Finalization C → Bool)
@@ -130,7 +136,8 @@ fn highest_reply<'a, K: Ord, C, F: Fn(&Finalization<C>) -> bool>(
     committee: u32,
     judgeable: &F,
 ) -> Option<&'a Finalization<C>>
-    requires { F.IsAlwaysCallable judgeable.now }
+    requires { max_faults committee + 1 ≤ length (values replies.now)
+        → F.IsAlwaysCallable judgeable.now }
 
     // Where the closure always gives the answers of some test.
     ensures exactly { (judges : Finalization C → Bool)
@@ -158,7 +165,10 @@ fn highest_round<K: Ord, C, F: Fn(&Finalization<C>) -> bool>(
     committee: u32,
     judgeable: &F,
 ) -> Option<Round>
-    requires { F.IsAlwaysCallable judgeable.now }
+    requires { max_faults committee + 1 ≤ length (values replies.now)
+        → F.IsAlwaysCallable judgeable.now }
+
+    ensures enough { IsSome result → max_faults committee + 1 ≤ length (values replies.now) }
 
     // Where the closure always gives the answers of some test.
     ensures exactly { (judges : Finalization C → Bool)
@@ -168,22 +178,26 @@ fn highest_round<K: Ord, C, F: Fn(&Finalization<C>) -> bool>(
         → ((f : Finalization C) (b : Bool) → FnReturnsAt F.Fn judgeable.now f b → b ≡ judges f)
         → IfSome result (IsHighestRound (filter judges (values replies.now))) }
 {
+    let faulty = max_faults(committee) as usize;
+    if replies.len() <= faulty {
+        return None;
+    }
     let mut count = 0usize;
     let mut highest: Option<Round> = None;
     for reply in replies.values() {
         if judgeable(reply) {
             count += 1;
-            highest = Some(latest(highest, reply.round));
+            highest = Some(later_round(highest, reply.round));
         }
     }
-    if count <= max_faults(committee) as usize {
+    if count <= faulty {
         return None;
     }
     highest
 }
 
 /// The later of two rounds, or the second where there is no first.
-fn latest(before: Option<Round>, round: Round) -> Round
+fn later_round(before: Option<Round>, round: Round) -> Round
     ensures one { (result ≡ round) ⊎ (before ≡ Some result) }
     ensures first { IfSome before (λ b. IsLater result b → ⊥) }
     ensures second { IsLater result round → ⊥ }
@@ -198,6 +212,7 @@ fn latest(before: Option<Round>, round: Round) -> Round
 mod tests {
     use super::*;
     use stateful_types::{Digest, Items, View};
+    use std::cell::Cell;
     use std::test::Fail;
 
     fn reply(alloc: Global, view: u64) -> Finalization<Items<u32>> {
@@ -274,6 +289,22 @@ mod tests {
         };
         assert_eq!(rt; floor.round.view.0, 9);
         assert_eq!(rt; floor.parent.0, 2);
+        Ok(())
+    }
+
+    #[test]
+    fn no_reply_is_looked_at_while_too_few_are_recorded(rt: HostRuntime) -> Result<(), Fail> {
+        let mut sample: Sample<u64, Items<u32>> = Sample::new(rt.alloc(), Epoch(0));
+        let looked = Cell::new(false);
+        sample.record(1, reply(rt.alloc(), 7))?;
+        let look = |_: &Finalization<Items<u32>>| {
+            looked.set(true);
+            true
+        };
+        assert_eq!(rt; sample.select(4, look)?.is_none(), true);
+        assert_eq!(rt; looked.get(), false);
+        assert_eq!(rt; sample.select(1, look)?.is_some(), true);
+        assert_eq!(rt; looked.get(), true);
         Ok(())
     }
 

@@ -1,11 +1,11 @@
 //! Service: peers that ask are sent the node's latest finalization.
 
-ghost use Rattle.std.specs.Prelude.{◌≡◌, List, [], true, IfOk, OnOk};
-ghost use Rattle.stateful_types.specs.declared.number.Epoch.{Epoch};
+ghost use Rattle.std.specs.Prelude.{◌≡◌, [], true, IfOk, OnOk};
 ghost use Rattle.stateful_probe.specs.Setup.{setup};
-ghost use Rattle.stateful_probe.specs.Probing.{Steps, is_serving};
-ghost use Rattle.stateful_probe.specs.Serving.{IsResponseOf};
+ghost use Rattle.stateful_probe.specs.Probe.{Steps, is_serving};
+ghost use Rattle.stateful_probe.specs.Service.{IsResponseOf};
 ghost use Rattle.stateful_probe.specs.declared.state.State.{State};
+ghost use Rattle.stateful_probe.specs.declared.probe.Config.{Config};
 ghost use Rattle.stateful_probe.specs.declared.event.Event.TheVariants as events;
 
 use crate::event::Out;
@@ -40,10 +40,9 @@ pub(crate) fn receive<S: Scheme, L: Latest<S::Certificate>>(
     requires { outs.old.items ≡ [] }
 
     // Whatever probe serves.
-    ensures { OnOk result ((schemes : List (Epoch × S)) (minimum : Epoch)
-        (state : State S.Key S.Certificate)
+    ensures { OnOk result ((config : Config S) (state : State S.Key S.Certificate)
         → is_serving state ≡ true
-        → Steps (setup S.Key.cmp S.Key.eq S.certificates S.keys S.certifies schemes minimum)
+        → Steps (setup S.Key.cmp S.Key.eq S.certificates S.keys S.certifies config)
         (L.newest latest.now) state (events.Received peer value) outs.new.items state) }
 {
     let mut input = value;

@@ -1,8 +1,8 @@
 //! What a probe keeps.
 
 ghost use Rattle.std.specs.Prelude.{◌≡◌};
-ghost use Rattle.stateful_probe.specs.Sampled.{still_counts};
-ghost use Rattle.stateful_probe.specs.Probing.{is_serving, names_live, may_come};
+ghost use Rattle.stateful_probe.specs.Sample.{still_counts};
+ghost use Rattle.stateful_probe.specs.Probe.{is_serving, names_live, may_come};
 
 use crate::event::Event;
 use crate::sample::Sample;

@@ -2,7 +2,7 @@
 
 ghost use Rattle.std.specs.Prelude.{◌≡◌, ◌==◌, ◌∷◌, ◌++◌, [], not, filter, OnOk, OnErr};
 ghost use Rattle.std.specs.List.{list_any};
-ghost use Rattle.stateful_probe.specs.Probing.{is_empty};
+ghost use Rattle.stateful_probe.specs.Probe.{is_empty};
 
 use stateful_types::OutOfMemory;
 use std::alloc::Global;

@@ -26,10 +26,10 @@ enum Act {
     Bytes(u64, &'static [u8]),
     /// A peer sends a finalization of this epoch and view, signed by so many, from the first participant on.
     Reply(u64, u64, u64, u32),
-    /// A peer sends a good reply without its last byte.
-    Cut(u64),
-    /// A peer sends a good reply with one byte more.
-    Longer(u64),
+    /// A peer sends a good reply of this epoch without its last byte.
+    Cut(u64, u64),
+    /// A peer sends a good reply of this epoch with one byte more.
+    Longer(u64, u64),
 }
 
 /// What is done, and what comes of it.
@@ -58,6 +58,18 @@ fn probe(alloc: Global, keys: &[u64]) -> Result<Probe<VoteScheme>, Fail>
     schemes.push((Epoch(0), committee(alloc, keys)?))?;
     schemes.push((Epoch(1), committee(alloc, keys)?))?;
     schemes.push((Epoch(2), committee(alloc, keys)?))?;
+    let config = Config {
+        schemes: Items::from_vec(schemes),
+        minimum_epoch: Epoch(1),
+    };
+    Ok(Probe::new(alloc, config)?)
+}
+
+/// A probe whose lowest epoch that counts, 1, has no scheme, while those beside it have one.
+fn probe_without_committee(alloc: Global) -> Result<Probe<VoteScheme>, Fail> {
+    let mut schemes = Vec::new(alloc);
+    schemes.push((Epoch(0), committee(alloc, &FOUR)?))?;
+    schemes.push((Epoch(2), committee(alloc, &FOUR)?))?;
     let config = Config {
         schemes: Items::from_vec(schemes),
         minimum_epoch: Epoch(1),
@@ -113,13 +125,13 @@ fn event(alloc: Global, act: Act) -> Result<Event<u64>, Fail> {
         Act::Reply(peer, epoch, view, signers) => {
             received(peer, response(alloc, epoch, view, signers)?)
         }
-        Act::Cut(peer) => {
-            let mut bytes = response(alloc, 1, 7, 3)?;
+        Act::Cut(peer, epoch) => {
+            let mut bytes = response(alloc, epoch, 7, 3)?;
             bytes.pop();
             received(peer, bytes)
         }
-        Act::Longer(peer) => {
-            let mut bytes = response(alloc, 1, 7, 3)?;
+        Act::Longer(peer, epoch) => {
+            let mut bytes = response(alloc, epoch, 7, 3)?;
             bytes.push(0)?;
             received(peer, bytes)
         }
@@ -180,7 +192,26 @@ fn done(
     }
 }
 
-/// Does each row to one probe.
+/// Does each row to this probe.
+fn runs_on(
+    rt: &impl Abort,
+    alloc: Global,
+    probe: Probe<VoteScheme>,
+    latest: Option<Finalization<Votes>>,
+    rows: &[Row],
+) -> Result<(), Fail> {
+    let mut probe = probe;
+    let latest = MemoryLatest {
+        finalization: latest,
+    };
+    for (i, (act, want)) in rows.iter().enumerate() {
+        let text = done(alloc, &mut probe, &latest, *act)?;
+        assert_eq!(rt; text.as_str(), *want, "in row {i}");
+    }
+    Ok(())
+}
+
+/// Does each row to one probe of this committee.
 fn runs(
     rt: &impl Abort,
     alloc: Global,
@@ -190,15 +221,8 @@ fn runs(
 ) -> Result<(), Fail>
     requires { length keys.now < 2 ^ 32 }
 {
-    let mut probe = probe(alloc, keys)?;
-    let latest = MemoryLatest {
-        finalization: latest,
-    };
-    for (i, (act, want)) in rows.iter().enumerate() {
-        let text = done(alloc, &mut probe, &latest, *act)?;
-        assert_eq!(rt; text.as_str(), *want, "in row {i}");
-    }
-    Ok(())
+    let probe = probe(alloc, keys)?;
+    runs_on(rt, alloc, probe, latest, rows)
 }
 
 #[test]
@@ -242,13 +266,15 @@ fn judges_replies(rt: HostRuntime) -> Result<(), Fail> {
         (Act::Bytes(10, &[]), "block 10;"),
         (Act::Bytes(10, &[2]), "block 10;"),
         (Act::Bytes(10, &[1]), "block 10;"),
-        (Act::Cut(10), "block 10;"),
-        (Act::Longer(10), "block 10;"),
+        (Act::Cut(10, 1), "block 10;"),
+        (Act::Longer(10, 1), "block 10;"),
+        (Act::Cut(99, 1), "block 99;"),
         // A request, and epochs that don't count.
         (Act::Bytes(10, &[0]), ""),
         (Act::Bytes(99, &[0, 1]), ""),
         (Act::Reply(99, 0, 7, 1), ""),
         (Act::Reply(99, 3, 7, 1), ""),
+        (Act::Cut(99, 3), ""),
     ];
     for (act, want) in rows {
         let rows = [(Act::Subscribe(0), ASKED), (act, want)];
@@ -328,6 +354,46 @@ fn serves_once_nobody_waits(rt: HostRuntime) -> Result<(), Fail> {
         rt.alloc(),
         &FOUR,
         Some(finalization(rt.alloc(), 1, 258, 2)?),
+        &rows,
+    )
+}
+
+#[test]
+fn judges_nothing_where_the_lowest_epoch_has_no_scheme(rt: HostRuntime) -> Result<(), Fail> {
+    let rows = [
+        // Nobody is asked, and no whole reply is judged.
+        (Act::Subscribe(0), ""),
+        (Act::Reply(10, 2, 7, 3), ""),
+        (Act::Reply(11, 2, 7, 3), ""),
+        (Act::Reply(99, 2, 7, 3), ""),
+        (Act::Reply(10, 2, 7, 1), ""),
+        (Act::Reply(10, 2, 7, 9), ""),
+        // Nor one of an epoch that doesn't count.
+        (Act::Reply(10, 1, 7, 3), ""),
+        (Act::Reply(10, 0, 7, 3), ""),
+        (Act::Cut(10, 1), ""),
+        // Nothing that decodes.
+        (Act::Cut(10, 2), "block 10;"),
+        (Act::Longer(99, 2), "block 99;"),
+        (Act::Bytes(10, &[1]), "block 10;"),
+        (Act::Bytes(10, &[2]), "block 10;"),
+        (Act::Retry, ""),
+        (Act::Subscribe(1), ""),
+        // It serves as any other does.
+        (Act::Attach, ""),
+        (Act::Cancel(0), ""),
+        (Act::Bytes(12, &[0]), ""),
+        (Act::Cancel(1), ""),
+        (Act::Bytes(12, &[0]), RESPONDED),
+        (Act::Subscribe(2), "closed 2;"),
+    ];
+    let alloc = rt.alloc();
+    let probe = probe_without_committee(alloc)?;
+    runs_on(
+        &rt,
+        alloc,
+        probe,
+        Some(finalization(alloc, 1, 258, 2)?),
         &rows,
     )
 }

@@ -6,7 +6,7 @@ use Rattle.std.proofs.lemmas.Bool.{false≢true}
 use Rattle.std.proofs.lemmas.Fn.{says_at}
 use Rattle.std.proofs.lemmas.Map.Iter.{rest_more, rest_so_far, iter_end}
 use Rattle.stateful_types.specs.Round.{IsLater}
-use Rattle.stateful_probe.specs.Sampled.{IsHighest, IsHighestRound}
+use Rattle.stateful_probe.specs.Sample.{IsHighest, IsHighestRound}
 use Rattle.stateful_probe.proofs.Highest.{highest_found, highest_reached, earlier_more}
 use Rattle.stateful_probe.proofs.sample.highest_reply.Goals as goal
 use Rattle.stateful_probe.proofs.sample.highest_reply.Goals.{else-judgeable-via-then-judgeable+else-not-is_later_than, else-judgeable-via-else-judgeable}

@@ -1,8 +1,11 @@
-use Rattle.std.proofs.Common.{length, filter, map, refl, sym, ap, ◌∙◌, arith, subst}
+use Rattle.std.proofs.Common.{not, length, filter, map, refl, sym, ap, ◌∙◌, arith, subst}
+use Rattle.std.specs.BTreeMap.{values}
 use Rattle.std.specs.Map.Iter.{deref}
+use Rattle.std.proofs.lemmas.Bool.{false≢true}
 use Rattle.std.proofs.lemmas.Fn.{says_at}
-use Rattle.std.proofs.lemmas.List.{length_push}
-use Rattle.stateful_probe.specs.Sampled.{IsHighestRound}
+use Rattle.std.proofs.lemmas.List.{length_push, length-map}
+use Rattle.std.proofs.lemmas.List.Filters.{length-filter_both}
+use Rattle.stateful_probe.specs.Sample.{IsHighestRound}
 use Rattle.stateful_probe.proofs.Highest.{IsHighestSoFar, highest_more, judged_more_yes, judged_more_no}
 use Rattle.stateful_probe.proofs.sample.highest_round.Goals as goal
 
@@ -18,7 +21,7 @@ loop-reply-preserved-then-judgeable g c = record {
       let more = judged_more_yes judges c.loop-reply.yielded reply (sym said ∙ c.if-judgeable.true) in
       let before = filter judges (map deref c.loop-reply.yielded) in (
         omega (arith, ap length more, length_push before reply.now, so_far.0),
-        subst (λ xs. IsHighestRound xs c.latest.result) (sym more) (highest_more before reply.now c.loop-reply.highest c.latest.result so_far.1 c.latest.ensures.one c.latest.ensures.first c.latest.ensures.second),
+        subst (λ xs. IsHighestRound xs c.later_round.result) (sym more) (highest_more before reply.now c.loop-reply.highest c.later_round.result so_far.1 c.later_round.ensures.one c.later_round.ensures.first c.later_round.ensures.second),
       );
 }
 
@@ -34,3 +37,9 @@ loop-reply-preserved g c = record {
       let same = judged_more_no judges c.loop-reply.yielded reply (sym said ∙ c.if-judgeable.false) in
       (so_far.0 ∙ ap length (sym same), subst (λ xs. IsHighestSoFar xs c.loop-reply.highest) (sym same) so_far.1);
 }
+
+-- too few are recorded, so too few are judged
+pub returns-then-len-faulty-clause-exactly : goal.returns-then-len-faulty-clause-exactly
+returns-then-len-faulty-clause-exactly g c = λ judges agrees.
+    let all = values c.args.replies.now in
+    (λ none. absurd (false≢true none), λ enough. absurd (omega (arith, enough, length-filter_both judges (λ f. not (judges f)) (λ f. refl) all, length-map c.args.replies.now.entries (λ e. e.1), c.len.ensures.len, c.if-len-faulty.true, c.max_faults-faulty.ensures)))

@@ -1,11 +1,11 @@
 use Rattle.std.proofs.Common.{Some, None, Err, ap}
-use Rattle.stateful_probe.specs.Probing.{passed_over, untagged}
+use Rattle.stateful_probe.specs.Probe.{passed_over, untagged}
 use Rattle.stateful_probe.proofs.Stepping.{request_read, response_read, nothing_read, served_by}
 use Rattle.stateful_probe.proofs.service.receive.Goals as goal
 use Rattle.stateful_probe.proofs.service.receive.Goals.{in-Ok-Request+in_ok-value-in-Ok-Request+in-Some+in_ok-push-in-Ok-Request, in-Ok-Request+in_ok-value-in-Ok-Request+in_default, in-Ok-Response, in-Err+in_ok-push-in-Err}
 
 pub returns : goal.returns
-returns g c = λ schemes minimum state serving. elim c.match-read.branch [
+returns g c = λ config state serving. elim c.match-read.branch [
   | in-Ok-Request+in_ok-value-in-Ok-Request+in-Some+in_ok-push-in-Ok-Request w ↦
       rw (w.outs-is, w.in_ok-push-in-Ok-Request.ensures.items, c.requires)
       (served_by _ _ state c.args.peer c.args.value (Some w.in-Some.value) serving

@@ -31,7 +31,10 @@ module _ {K C : Type 0} (cmp : K → K → Ordering) where
 
   -- the replies with one more, where it is the peer's first
   abbrev pub with_reply : Sampled K C → K → Finalization C → Sampled K C
-  with_reply s peer f = if has_replied s.replies peer then s else record s { replies = insert_entry cmp s.replies peer f }
+  with_reply s peer f =
+      if has_replied s.replies peer
+      then s
+      else record s { replies = insert_entry cmp s.replies peer f }
 
 module _ {K C : Type 0} where
   -- without replies and without a floor
@@ -44,7 +47,8 @@ module _ {K C : Type 0} where
   with_floor s (Some f) = record s { floor = Some f }
 
 -- this one has the highest round of them, and of equal rounds it is the first
-pub record IsHighest {C : Type 0} (among : List (Finalization C)) (f : Finalization C) : Type 0 where
+pub record IsHighest {C : Type 0} (among : List (Finalization C))
+    (f : Finalization C) : Type 0 where
   pub front : List (Finalization C)
   pub back : List (Finalization C)
   pub place : among ≡ front ++ f ∷ back
@@ -52,7 +56,8 @@ pub record IsHighest {C : Type 0} (among : List (Finalization C)) (f : Finalizat
   pub highest : All (λ g. IsLater f.round g.round → ⊥) back
 
 -- one of them has this round, and none has a later one
-pub record IsHighestRound {C : Type 0} (among : List (Finalization C)) (round : Round) : Type 0 where
+pub record IsHighestRound {C : Type 0} (among : List (Finalization C))
+    (round : Round) : Type 0 where
   pub reached : Any (λ f. f.round ≡ round) among
   pub bounds : All (λ f. IsLater round f.round → ⊥) among
 
@@ -64,5 +69,6 @@ module _ {K C : Type 0} (committee : ℕ) (judges : Finalization C → Bool) whe
   -- A floor is chosen exactly where none was selected and more replies can be judged than participants may be faulty; it is
   -- the highest of these.
   pub record Selects (s : Sampled K C) (chosen : Option (Finalization C)) : Type 0 where
-    pub exactly : IsSome chosen ↔ ((s.floor ≡ None) × (max_faults committee + 1 ≤ length (judged s)))
+    pub exactly : IsSome chosen
+        ↔ ((s.floor ≡ None) × (max_faults committee + 1 ≤ length (judged s)))
     pub highest : IfSome chosen (IsHighest (judged s))

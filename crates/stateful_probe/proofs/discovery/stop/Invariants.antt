@@ -1,6 +1,6 @@
 use Rattle.std.proofs.Common.{◌≡◌, map, take}
 use Rattle.stateful_probe.specs.declared.event.Out.TheVariants.{Closed}
-use Rattle.stateful_probe.proofs.probe.Probe.stop.Given as goal
+use Rattle.stateful_probe.proofs.discovery.stop.Given as goal
 
 -- those before this one are closed
 abbrev pub invariant-loop-ticket : goal.invariant-loop-ticket

@@ -1,5 +1,5 @@
 -- What the bytes that a peer sent are.
-use Rattle.std.specs.Prelude.{◌≡◌, ℕ, false, Some, None, List, [], ◌∷◌, ◌++◌}
+use Rattle.std.specs.Prelude.{◌≡◌, ℕ, false, Some, None, List, ◌∷◌, ◌++◌}
 use Rattle.stateful_types.specs.Number.{view_format}
 use Rattle.stateful_types.specs.Digest.{digest_format}
 use Rattle.stateful_types.specs.Round.{round_format}
@@ -19,13 +19,21 @@ IsRequest bytes = (rest : List ℕ) × (bytes ≡ 0 ∷ rest)
 abbrev pub IsTagged : List ℕ → Type 0
 IsTagged bytes = (rest : List ℕ) × (bytes ≡ 1 ∷ rest)
 
--- they begin as a response of this round: behind the tag stand the round, the view of the parent and the payload
+-- what stands before the certificate of a response: the round, the view of the parent and the payload
+pub record IsHeader (round : Round) (parent : View) (payload : Digest)
+    (bytes rest : List ℕ) : Type 0 where
+  pub fits : round_format.fits round × view_format.fits parent × digest_format.fits payload
+  pub is : bytes ≡ round_format.spelling round
+      ++ (view_format.spelling parent ++ (digest_format.spelling payload ++ rest))
+
+-- they begin as a response of this round: behind the tag stands a header
 pub record HasHeader (bytes : List ℕ) (round : Round) : Type 0 where
+  pub behind : List ℕ
+  pub tagged : bytes ≡ 1 ∷ behind
   pub parent : View
   pub payload : Digest
   pub rest : List ℕ
-  pub fits : round_format.fits round × view_format.fits parent × digest_format.fits payload
-  pub is : bytes ≡ 1 ∷ [] ++ (round_format.spelling round ++ (view_format.spelling parent ++ (digest_format.spelling payload ++ rest)))
+  pub header : IsHeader round parent payload behind rest
 
 module _ {S K C : Type 0} (u : Setup S K C) where
   -- they begin as a response of an epoch that doesn't count
@@ -34,9 +42,16 @@ module _ {S K C : Type 0} (u : Setup S K C) where
     pub header : HasHeader bytes round
     pub foreign : (scheme : S) → Counts u round.epoch scheme → ⊥
 
+  -- they begin as a response of an epoch that counts, which has this scheme
+  pub record IsCounted (bytes : List ℕ) (scheme : S) : Type 0 where
+    pub round : Round
+    pub header : HasHeader bytes round
+    pub counts : Counts u round.epoch scheme
+
   -- they are a response with this finalization, and nothing follows
   abbrev pub IsWhole : List ℕ → Finalization C → Type 0
-  IsWhole bytes f = (message_format u.certificates).fits (Response f) × (bytes ≡ (message_format u.certificates).spelling (Response f))
+  IsWhole bytes f = (message_format u.certificates).fits (Response f)
+      × (bytes ≡ (message_format u.certificates).spelling (Response f))
 
   -- they don't decode: they are no request, no response of an epoch that doesn't count, and no whole response
   pub record IsMalformed (bytes : List ℕ) : Type 0 where
@@ -53,12 +68,20 @@ module _ {S K C : Type 0} (u : Setup S K C) where
     pub keys : List K
     pub takes_part : TakesPart u peer keys
 
-  -- A reply for which its peer is blocked: it doesn't decode; or it is a finalization of an epoch that counts, and the peer
-  -- is no participant of the lowest epoch, or the certificate doesn't hold.
+  -- A message for which its peer is blocked: it doesn't decode; or it begins as a response of an epoch that counts, it is known
+  -- who takes part, and the peer doesn't, or the bytes hold no finalization that is certified.
   pub data IsAtFault (peer : K) (bytes : List ℕ) : Type 0 where
     malformed : IsMalformed bytes → IsAtFault peer bytes
-    outsider : (f : Finalization C) (scheme : S) (keys : List K) → IsWhole bytes f → Counts u f.round.epoch scheme → committee u ≡ Some keys → is_one_of u.eq keys peer ≡ false → IsAtFault peer bytes
-    uncertified : (f : Finalization C) (scheme : S) (keys : List K) → IsWhole bytes f → Counts u f.round.epoch scheme → committee u ≡ Some keys → (u.certifies scheme f → ⊥) → IsAtFault peer bytes
+    outsider : (scheme : S) (keys : List K)
+        → IsCounted bytes scheme
+        → committee u ≡ Some keys
+        → is_one_of u.eq keys peer ≡ false
+        → IsAtFault peer bytes
+    uncertified : (scheme : S) (keys : List K)
+        → IsCounted bytes scheme
+        → committee u ≡ Some keys
+        → ((f : Finalization C) → IsWhole bytes f → u.certifies scheme f → ⊥)
+        → IsAtFault peer bytes
 
   -- A message of which nothing is made: a request; a response of an epoch that doesn't count; a whole response where the
   -- scheme of the lowest epoch isn't known.
