@@ -1,11 +1,11 @@
--- What tickets and jobs are about.
+-- What tickets, fetches and jobs are about.
 use Rattle.std.specs.Prelude.{ℕ, ◌==◌, if◌then◌else◌, Option, Some, None, [], ◌∷◌}
 use Rattle.stateful_types.specs.Names.{Named}
 use Rattle.stateful_types.specs.declared.digest.Digest.{Digest}
 use Rattle.stateful_history.specs.Past.{Past, Item, Came, Made}
 use Rattle.stateful_history.specs.declared.event.Event.TheVariants.{Verify, Finalized}
 use Rattle.stateful_history.specs.declared.mark.How.TheVariants.{Kept}
-use Rattle.stateful_history.specs.declared.mark.Mark.TheVariants.{Started, Ended, Built}
+use Rattle.stateful_history.specs.declared.mark.Mark.TheVariants.{Asked, Started, Ended, Built}
 
 module _ {B C I : Type 0} where
   -- the block that the request of this ticket asks to judge
@@ -19,6 +19,18 @@ module _ {B C I : Type 0} where
   finalized t [] = None
   finalized t (Came (Finalized u b) ∷ p) = if t == u then Some b else finalized t p
   finalized t (item ∷ p) = finalized t p
+
+  -- for which ticket a block was asked, if for one: the floor of a sync is asked for none
+  abbrev pub asked_for : ℕ → Past B C I → Option (Option ℕ)
+  asked_for f [] = None
+  asked_for f (Made (Asked g ticket digest) ∷ p) = if f == g then Some ticket else asked_for f p
+  asked_for f (item ∷ p) = asked_for f p
+
+  -- the digest of the block that was asked
+  abbrev pub asked_digest : ℕ → Past B C I → Option Digest
+  asked_digest f [] = None
+  asked_digest f (Made (Asked g ticket digest) ∷ p) = if f == g then Some digest else asked_digest f p
+  asked_digest f (item ∷ p) = asked_digest f p
 
   -- the digest that the start of this job names
   abbrev pub started : ℕ → Past B C I → Option Digest

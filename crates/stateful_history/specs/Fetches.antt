@@ -1,11 +1,12 @@
--- Fetches: for whom they were asked, which are outstanding, and the rules on them.
-use Rattle.std.specs.Prelude.{◌≡◌, ◌<◌, ℕ, ◌==◌, ◌⊎◌, true, if◌then◌else◌, Option, Some, None, List, [], ◌∷◌, Any, MatchOption}
+-- Fetches: which are outstanding, and the rules on them.
+use Rattle.std.specs.Prelude.{◌≡◌, ◌<◌, ℕ, ◌⊎◌, true, Option, Some, None, List, [], ◌∷◌, Any, MatchOption}
 use Rattle.stateful_types.specs.Names.{Named}
 use Rattle.stateful_types.specs.declared.digest.Digest.{Digest}
 use Rattle.stateful_history.specs.Setting.{Setting, parent_of, height_of}
 use Rattle.stateful_history.specs.Past.{Past, Came, Made}
 use Rattle.stateful_history.specs.Anchors.{tip_of}
 use Rattle.stateful_history.specs.Canonical.{canonical}
+use Rattle.stateful_history.specs.Asked.{asked_for}
 use Rattle.stateful_history.specs.Live.{live_fetch}
 use Rattle.stateful_history.specs.Ancestors.{IsCircular}
 use Rattle.stateful_history.specs.Reasons.{Missing}
@@ -22,18 +23,6 @@ IsBegan (Began t b) = Unit {0}
 IsBegan mark = ⊥
 
 module _ {B C I : Type 0} where
-  -- for which ticket a block was asked, if for one: the floor of a sync is asked for none
-  abbrev pub asked_for : ℕ → Past B C I → Option (Option ℕ)
-  asked_for f [] = None
-  asked_for f (Made (Asked g ticket digest) ∷ p) = if f == g then Some ticket else asked_for f p
-  asked_for f (item ∷ p) = asked_for f p
-
-  -- the digest of the block that was asked
-  abbrev pub asked_digest : ℕ → Past B C I → Option Digest
-  asked_digest f [] = None
-  asked_digest f (Made (Asked g ticket digest) ∷ p) = if f == g then Some digest else asked_digest f p
-  asked_digest f (item ∷ p) = asked_digest f p
-
   -- the ticket has a live fetch
   pub record HasFetch (t : ℕ) (p : Past B C I) : Type 0 where
     pub fetch : ℕ

@@ -22,7 +22,7 @@ use Rattle.stateful_history.specs.Refusals.{WasFinalized}
 use Rattle.stateful_history.specs.declared.event.Event.{Event}
 use Rattle.stateful_history.specs.declared.event.Event.TheVariants.{Prepare, Propose, Finalized, Fetched, Turn, Restart}
 use Rattle.stateful_history.specs.declared.mark.Mark.TheVariants.{Opened}
-use Rattle.stateful_history.specs.Fetches.{asked_digest}
+use Rattle.stateful_history.specs.Asked.{asked_digest}
 use Rattle.stateful_history.specs.Requests.{Proposal, asked_by, IsLiveProposal}
 use Rattle.stateful_history.specs.Jobs.{IsLiveJob}
 use Rattle.stateful_history.specs.declared.mark.JobKind.TheVariants.{Build}
