@@ -47,10 +47,10 @@ module _ {B C I S T : Type 0} (s : Setting B S T) (base : S) (p : Past B C I) (t
         let on : parent_of s below ≡ tip.digest = subst (λ c. parent_of s c ≡ tip.digest) (sym (only below m)) on_tip in
         absurd (none (subst (Known s p) (sym (is ∙ on)) (is_tip tipped)))
 
-    -- and b isn't judged false: neither for a height of its own that isn't one above the tip's, nor else
     is_good : (x : Named B) (u : S) → x ≡ b → HasState s base p (parent_of s x) u → IsBad s base p u x → ⊥
     is_good x u is = subst (λ c. HasState s base p (parent_of s c) u → IsBad s base p u c → ⊥) (sym is) (good u)
 
+    -- and b isn't judged false: neither for a height of its own that isn't one above the tip's, nor else
     not_false : FalseHasReason s base p (Verdict t false) → ⊥
     not_false verdict = refused reason.because
       where

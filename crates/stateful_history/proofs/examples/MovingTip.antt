@@ -1,5 +1,5 @@
 -- What is known while the tip moves: between the mark that a finalization began and that its block was applied.
-use Rattle.std.proofs.Common.{◌≡◌, ◌≢◌, ◌⊎◌, ℕ, Some, true, ◌∷◌, MatchOption, refl, sym, subst, inl, inr, ap, ◌∙◌}
+use Rattle.std.proofs.Common.{◌≡◌, ◌≢◌, ◌⊎◌, ℕ, Some, true, false, ◌∷◌, MatchOption, refl, sym, subst, inl, inr, ap, ◌∙◌}
 use Rattle.stateful_types.specs.Names.{Named}
 use Rattle.stateful_types.specs.Round.{IsLater}
 use Rattle.stateful_types.specs.Anchor.{anchor_by}
@@ -8,8 +8,10 @@ use Rattle.stateful_types.specs.declared.digest.Digest.{Digest}
 use Rattle.stateful_history.specs.Setting.{Setting, parent_of, round_of}
 use Rattle.stateful_history.specs.Past.{Past, Made}
 use Rattle.stateful_history.specs.Met.{Met, TrueNames}
-use Rattle.stateful_history.specs.Known.{Known, is_tip, kept, stays, IsPastTip}
+use Rattle.stateful_history.specs.Known.{Known, IsUnknown, is_tip, kept, stays, IsPastTip}
 use Rattle.stateful_history.specs.Joined.{Joined, TrueIsEarned}
+use Rattle.stateful_history.specs.States.{HasState}
+use Rattle.stateful_history.specs.Reasons.{itself, HasReason, FalseHasReason}
 use Rattle.stateful_history.specs.Canonical.{IsCanonical}
 use Rattle.stateful_history.specs.Asked.{verified}
 use Rattle.stateful_history.specs.Runs.{StartsWell}
@@ -39,8 +41,21 @@ module _ {B C I S T : Type 0} (s : Setting B S T) (q : Past B C I) (t : ℕ) (f 
     dropped d (kept m k l parent) is = cc
     dropped d (stays {b = b} none m k old l parent) is = late (rw (sym (names b x (inr m) (inr met) is)) l)
 
-    -- so it isn't judged true, unless it is the finalized block of its height
+    unknown : IsUnknown s began x.digest
+    unknown is_known = dropped x.digest is_known refl
+
+    -- so it may be judged false, since it comes too late
+    judged_false : (u : ℕ) (base state : S) → verified u q ≡ Some x → (IsCanonical s began x → ⊥) → HasState s base began (parent_of s x) state → FalseHasReason s base began (Verdict u false)
+    judged_false u base state asks replaced has =
+        let reason : HasReason s base began x = record {
+          unknown = unknown;
+          not_final = replaced;
+          because = inr (inl record { first = x; missing = itself unknown; known = rw child (is_tip refl); state = state; has_state = has; bad = inr (inr (inr late)) });
+        } in
+        rw asks reason
+
+    -- and it isn't judged true, unless it is the finalized block of its height
     not_true : (u : ℕ) (base : S) → verified u q ≡ Some x → (IsCanonical s began x → ⊥) → TrueIsEarned s base began (Verdict u true) → ⊥
     not_true u base asks replaced earned =
         let judged : Joined s base began x.digest ⊎ IsCanonical s began x = subst (λ o. MatchOption o ⊥ (λ b. Joined s base began b.digest ⊎ IsCanonical s began b)) asks earned in
-        elim judged [ inl joined ↦ dropped x.digest joined.known refl | inr final ↦ replaced final ]
+        elim judged [ inl joined ↦ unknown joined.known | inr final ↦ replaced final ]
