@@ -39,7 +39,7 @@ module _ {B C I S T : Type 0} (s : Setting B S T) (a : Telling B C I S) (count :
     pub withdrawn : EachMark (WithdrawnHasCause s rule event marks) p marks
     -- jobs
     pub started : EachMark (StartsWell s) p marks
-    pub ended : EachMark EndsAsItsKind p marks
+    pub ended : EachMark (EndsAsItsKind event) p marks
     pub cancelled : EachMark (CancelledHasCause s event marks) p marks
     pub builds : EachNext BuildIsAnswered p marks
     -- finalizations and barriers

@@ -12,7 +12,7 @@ use Rattle.stateful_history.specs.Requests.{Proposal, proposed, StandsOn, IsLive
 use Rattle.stateful_history.specs.Finalizations.{begun}
 use Rattle.stateful_history.specs.Stops.{IsStopped}
 use Rattle.stateful_history.specs.declared.event.Event.{Event}
-use Rattle.stateful_history.specs.declared.event.Event.TheVariants.{Cancel, Restart}
+use Rattle.stateful_history.specs.declared.event.Event.TheVariants.{Cancel, Turn, Restart}
 use Rattle.stateful_history.specs.declared.mark.JobKind.{JobKind}
 use Rattle.stateful_history.specs.declared.mark.JobKind.TheVariants.{Candidate, Finalized, Build, Hook}
 use Rattle.stateful_history.specs.declared.mark.How.{How}
@@ -59,13 +59,15 @@ module _ {B C I : Type 0} where
   unhooked (Made (Started j Hook d) ∷ p) = None
   unhooked (item ∷ p) = unhooked p
 
-  -- what ends is a live job, of a kind that may end so
-  abbrev pub EndsAsItsKind : Past B C I → Mark B → Type 0
-  EndsAsItsKind p (Ended j how) =
-      (live_job j p ≡ true) × MatchOption (started_for j p) ⊥ (λ o. fits o.kind how ≡ true)
-  EndsAsItsKind p (Built j t b) =
-      (live_job j p ≡ true) × MatchOption (started_for j p) ⊥ (λ o. o.kind ≡ Build)
-  EndsAsItsKind p mark = Unit {0}
+  -- what ends is a live job, of a kind that may end so, and but for a cancel it ends in its own turn
+  abbrev pub EndsAsItsKind : Event B C I → Past B C I → Mark B → Type 0
+  EndsAsItsKind event p (Ended j how) =
+      (live_job j p ≡ true)
+      × MatchOption (started_for j p) ⊥ (λ o. fits o.kind how ≡ true)
+      × ((how ≡ Cancelled) ⊎ (event ≡ Turn j))
+  EndsAsItsKind event p (Built j t b) =
+      (live_job j p ≡ true) × MatchOption (started_for j p) ⊥ (λ o. o.kind ≡ Build) × (event ≡ Turn j)
+  EndsAsItsKind event p mark = Unit {0}
 
   -- A build that ends without a block is followed at once by the decline of a request for a block on its parent, and one
   -- that has built by the answer with this block.
@@ -138,6 +140,8 @@ module _ {B C I S T : Type 0} (s : Setting B S T) where
   StartsWell p (Started j Hook d) = MatchOption (unhooked p) ⊥ (λ b. b.digest ≡ d)
   StartsWell p mark = Unit {0}
 
-  -- at the end of an entry each candidate run has a live request that stands on its block
-  abbrev pub RunsAreWanted : Past B C I → Type 0
-  RunsAreWanted p = (j : ℕ) (d : Digest) → IsLiveJob j Candidate d p → (t : ℕ) × IsLiveRequest t p × StandsOn s p t d
+  -- at the end of an entry each candidate run has a live request that stands on its block, and each build has one for a
+  -- block on its parent
+  pub record RunsAreWanted (p : Past B C I) : Type 0 where
+    pub candidates : (j : ℕ) (d : Digest) → IsLiveJob j Candidate d p → (t : ℕ) × IsLiveRequest t p × StandsOn s p t d
+    pub builds : (j : ℕ) (d : Digest) → IsLiveJob j Build d p → (t : ℕ) × (r : Proposal B C I) × IsLiveProposal t p r × (r.parent.digest ≡ d)
