@@ -4,6 +4,7 @@ use Rattle.stateful_types.specs.Names.{Named}
 use Rattle.stateful_types.specs.declared.digest.Digest.{Digest}
 use Rattle.stateful_history.specs.Setting.{Setting, parent_of}
 use Rattle.stateful_history.specs.Past.{Past, Item, Came, Made}
+use Rattle.stateful_history.specs.Asked.{kept_by}
 use Rattle.stateful_history.specs.Met.{Met}
 use Rattle.stateful_history.specs.Known.{Known, IsUnknown}
 use Rattle.stateful_history.specs.Live.{live_job}
@@ -128,11 +129,18 @@ module _ {B C I S T : Type 0} (s : Setting B S T) where
     pub stands : StandsOn s p ticket d
     pub again : MayRunAgain p d
 
-  -- what is started: a candidate that may run, the one run of the block whose finalization began, the one live build, on
-  -- a known parent for a live request, or the one hook behind the last applied block
+  -- the block of this digest wasn't known where the finalization began, and no run of it was kept since
+  abbrev pub HasToRun : Past B C I → Digest → Type 0
+  HasToRun [] d = Unit {0}
+  HasToRun (Made (Began t b) ∷ p) d = IsUnknown s p d
+  HasToRun (item ∷ p) d = (kept_by p item ≢ Some d) × HasToRun p d
+
+  -- what is started: a candidate that may run, the one run of the block whose finalization began and that has to run, the
+  -- one live build, on a known parent for a live request, or the one hook behind the last applied block
   abbrev pub StartsWell : Past B C I → Mark B → Type 0
   StartsWell p (Started j Candidate d) = MayRun p d
-  StartsWell p (Started j Finalized d) = MatchOption (begun p) ⊥ (λ b. b.digest ≡ d) × (ran_finalized p ≡ false)
+  StartsWell p (Started j Finalized d) =
+      MatchOption (begun p) ⊥ (λ b. b.digest ≡ d) × (ran_finalized p ≡ false) × HasToRun p d
   StartsWell p (Started j Build d) =
       Known s p d
       × ((k : ℕ) (e : Digest) → IsLiveJob k Build e p → ⊥)

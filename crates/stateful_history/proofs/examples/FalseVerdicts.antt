@@ -56,6 +56,7 @@ module _ {B C I S T : Type 0} (s : Setting B S T) (base : S) (p : Past B C I) (t
       where
         reason : HasReason s base p b
         reason = subst (λ o. MatchOption o ⊥ (λ c. HasReason s base p c)) asks verdict
+
         refused : IsReplaced s base p b ⊎ (FailsOnKnown s base p b ⊎ (SkipsHeight s base p b ⊎ LeavesTip s base p b)) → ⊥
         refused (inl replaced) = higher replaced.covered
         refused (inr (inl fails)) = is_good fails.first fails.state (only fails.first fails.missing) fails.has_state fails.bad

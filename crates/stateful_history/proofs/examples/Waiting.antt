@@ -63,13 +63,17 @@ module _ {B C I S T : Type 0} (s : Setting B S T) (a : Telling B C I S) (count :
     waits : (state : S) → HasState s base running (parent_of s b) state
         → ((n : ℕ) → a.run_cost finality.Finalized state b.block ≡ Some n → 0 < n)
         → Waits s a count rule base running t
-    waits state has costs = finalization (inl refl) (inl (j, b, inr record {
-      met = inr (inl refl);
-      job = record { live = ap (λ x. x || false) (same j); is = ap (λ x. cond x (Some (job_of Finalized b.digest)) None) (same j) };
-      state = state;
-      has_state = has;
-      unfinished = costs;
-    }))
+    waits state has costs = finalization (inl refl) (inl (
+      j,
+      b,
+      inr record {
+        met = inr (inl refl);
+        job = record { live = ap (λ x. x || false) (same j); is = ap (λ x. cond x (Some (job_of Finalized b.digest)) None) (same j) };
+        state = state;
+        has_state = has;
+        unfinished = costs;
+      },
+    ))
 
     -- a machine that has applied the block and begins no barrier is refused: the receipt waits for nothing
     applied_refused : AllWait s a count rule base applied → ⊥
