@@ -1,5 +1,5 @@
 -- Marks that end requests and receipts, and what a build is answered with.
-use Rattle.std.specs.Prelude.{◌≡◌, ◌≢◌, ◌⊎◌, ℕ, ◌==◌, Bool, true, false, ◌||◌, Option, Some, None, [], ◌∷◌, MatchOption}
+use Rattle.std.specs.Prelude.{◌≡◌, ◌≢◌, ◌⊎◌, ℕ, ◌==◌, Bool, false, ◌||◌, Option, Some, None, [], ◌∷◌, MatchOption}
 use Rattle.stateful_types.specs.Names.{Named}
 use Rattle.stateful_types.specs.declared.outcome.Handoff.TheVariants as handed
 use Rattle.stateful_db.specs.declared.application.ProposalKind.{ProposalKind}
@@ -8,15 +8,15 @@ use Rattle.stateful_history.specs.Setting.{Setting, height_of}
 use Rattle.stateful_history.specs.Telling.{Telling}
 use Rattle.stateful_history.specs.Past.{Past, Came, Made}
 use Rattle.stateful_history.specs.Asked.{finalized}
-use Rattle.stateful_history.specs.Opening.{opening}
+use Rattle.stateful_history.specs.Opening.{opening, is_handing_over}
 use Rattle.stateful_history.specs.Live.{live_ticket}
 use Rattle.stateful_history.specs.States.{HasState}
 use Rattle.stateful_history.specs.Requests.{Proposal, asked_by, proposed, IsLiveReceipt, IsLiveVerification, IsLiveProposal, IsLiveSubscription}
-use Rattle.stateful_history.specs.declared.event.Event.TheVariants.{Cancel, Restart}
+use Rattle.stateful_history.specs.declared.event.Event.TheVariants.{Cancel}
 use Rattle.stateful_history.specs.declared.mark.Decision.{Decision}
 use Rattle.stateful_history.specs.declared.mark.Decision.TheVariants.{Block, Vote, Stage}
 use Rattle.stateful_history.specs.declared.mark.Mark.{Mark}
-use Rattle.stateful_history.specs.declared.mark.Mark.TheVariants.{Opened, Converged, Completed, Asked, Built, Verdict, Answered, Declined, Databases, Began, Acknowledged, Dropped}
+use Rattle.stateful_history.specs.declared.mark.Mark.TheVariants.{Asked, Built, Verdict, Answered, Declined, Databases, Began, Acknowledged, Dropped}
 
 -- the ticket that the mark names
 abbrev pub ticket_of : {B : Type 0} → Mark B → Option ℕ
@@ -40,15 +40,6 @@ module _ {B C I : Type 0} where
   -- no mark names a request that was cancelled
   abbrev pub NamesNoCancelled : Past B C I → Mark B → Type 0
   NamesNoCancelled p mark = MatchOption (ticket_of mark) (Unit {0}) (λ t. was_cancelled t p ≡ false)
-
-  -- a handover goes on: the databases were synced, and the sync isn't recorded as complete
-  abbrev pub is_handing_over : Past B C I → Bool
-  is_handing_over [] = false
-  is_handing_over (Came (Restart floor keep) ∷ p) = false
-  is_handing_over (Made (Opened anchor) ∷ p) = false
-  is_handing_over (Made (Converged anchor) ∷ p) = true
-  is_handing_over (Made (Completed height) ∷ p) = false
-  is_handing_over (item ∷ p) = is_handing_over p
 
 module _ {B C I S T : Type 0} (s : Setting B S T) where
   -- A mark that ends a request or receipt names a live one of the kind that it answers. A receipt is acknowledged at its

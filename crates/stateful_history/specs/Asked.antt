@@ -1,4 +1,4 @@
--- What tickets, jobs and fetches are about.
+-- What tickets, fetches and jobs are about.
 use Rattle.std.specs.Prelude.{ℕ, ◌==◌, if◌then◌else◌, Option, Some, None, [], ◌∷◌}
 use Rattle.stateful_types.specs.Names.{Named}
 use Rattle.stateful_types.specs.declared.digest.Digest.{Digest}
@@ -20,18 +20,6 @@ module _ {B C I : Type 0} where
   finalized t (Came (Finalized u b) ∷ p) = if t == u then Some b else finalized t p
   finalized t (item ∷ p) = finalized t p
 
-  -- the digest that the start of this job names
-  abbrev pub started : ℕ → Past B C I → Option Digest
-  started j [] = None
-  started j (Made (Started k kind digest) ∷ p) = if j == k then Some digest else started j p
-  started j (item ∷ p) = started j p
-
-  -- the digest of the block that this item keeps: a run of it ended so, or it was built
-  abbrev pub kept_by : Past B C I → Item B C I → Option Digest
-  kept_by p (Made (Ended j Kept)) = started j p
-  kept_by p (Made (Built j t b)) = Some b.digest
-  kept_by p item = None
-
   -- for which ticket a block was asked, if for one: the floor of a sync is asked for none
   abbrev pub asked_for : ℕ → Past B C I → Option (Option ℕ)
   asked_for f [] = None
@@ -43,3 +31,15 @@ module _ {B C I : Type 0} where
   asked_digest f [] = None
   asked_digest f (Made (Asked g ticket digest) ∷ p) = if f == g then Some digest else asked_digest f p
   asked_digest f (item ∷ p) = asked_digest f p
+
+  -- the digest that the start of this job names
+  abbrev pub started : ℕ → Past B C I → Option Digest
+  started j [] = None
+  started j (Made (Started k kind digest) ∷ p) = if j == k then Some digest else started j p
+  started j (item ∷ p) = started j p
+
+  -- the digest of the block that this item keeps: a run of it ended so, or it was built
+  abbrev pub kept_by : Past B C I → Item B C I → Option Digest
+  kept_by p (Made (Ended j Kept)) = started j p
+  kept_by p (Made (Built j t b)) = Some b.digest
+  kept_by p item = None

@@ -1,11 +1,11 @@
 -- Why a request to build is declined.
-use Rattle.std.specs.Prelude.{◌≡◌, ◌≢◌, ◌⊎◌, ◌+◌, ℕ, false, Some, None, List, ◌∷◌, MatchOption}
+use Rattle.std.specs.Prelude.{◌≡◌, ◌≢◌, ◌⊎◌, ◌+◌, ℕ, Some, None, List, ◌∷◌, MatchOption}
 use Rattle.stateful_types.specs.Names.{Named}
 use Rattle.stateful_types.specs.declared.outcome.Handoff.TheVariants as handed
 use Rattle.stateful_history.specs.Setting.{Setting, parent_of, height_of}
 use Rattle.stateful_history.specs.Telling.{Telling}
 use Rattle.stateful_history.specs.Past.{Past, Made}
-use Rattle.stateful_history.specs.Opening.{opening, is_down}
+use Rattle.stateful_history.specs.Opening.{IsSyncing}
 use Rattle.stateful_history.specs.Met.{Met}
 use Rattle.stateful_history.specs.Known.{IsUnknown}
 use Rattle.stateful_history.specs.States.{HasState}
@@ -20,10 +20,6 @@ use Rattle.stateful_history.specs.declared.mark.JobKind.TheVariants.{Build}
 use Rattle.stateful_history.specs.declared.mark.How.TheVariants.{Nothing}
 use Rattle.stateful_history.specs.declared.mark.Mark.{Mark}
 use Rattle.stateful_history.specs.declared.mark.Mark.TheVariants.{Ended, Declined}
-
--- the machine is up, and syncs
-abbrev pub IsSyncing : {B C I : Type 0} → Past B C I → Type 0
-IsSyncing p = (is_down p ≡ false) × (opening p ≡ None)
 
 module _ {B C I S T : Type 0} (s : Setting B S T) (a : Telling B C I S) (base : S) where
   -- the block isn't one above its parent

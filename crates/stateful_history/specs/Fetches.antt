@@ -1,5 +1,5 @@
--- Fetches: for whom they were asked, which are outstanding, and the rules on them.
-use Rattle.std.specs.Prelude.{◌≡◌, ◌<◌, ℕ, ◌==◌, ◌⊎◌, true, if◌then◌else◌, Option, Some, None, List, [], ◌∷◌, Any, MatchOption}
+-- Fetches: which are outstanding, and the rules on them.
+use Rattle.std.specs.Prelude.{◌≡◌, ◌<◌, ℕ, ◌⊎◌, true, Option, Some, None, List, [], ◌∷◌, Any, MatchOption}
 use Rattle.stateful_types.specs.Names.{Named}
 use Rattle.stateful_types.specs.declared.digest.Digest.{Digest}
 use Rattle.stateful_history.specs.Setting.{Setting, parent_of, height_of}

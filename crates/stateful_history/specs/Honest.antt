@@ -3,8 +3,8 @@ use Rattle.std.specs.Prelude.{◌≡◌, Some, List, [], ◌∷◌}
 use Rattle.stateful_types.specs.Names.{Named}
 use Rattle.stateful_types.specs.declared.block.Ancestry.{Ancestry}
 use Rattle.stateful_history.specs.Setting.{Setting, parent_of}
-use Rattle.stateful_history.specs.Asked.{asked_digest}
 use Rattle.stateful_history.specs.Past.{Past, Came}
+use Rattle.stateful_history.specs.Asked.{asked_digest}
 use Rattle.stateful_history.specs.declared.event.Event.TheVariants.{Verify, Prepare, Propose, Fetched}
 
 module _ {B S T : Type 0} (s : Setting B S T) where
@@ -16,11 +16,16 @@ module _ {B S T : Type 0} (s : Setting B S T) where
   abbrev pub IsLinked : Ancestry B → Type 0
   IsLinked ancestry = Descends ancestry.first ancestry.rest
 
-  -- in every ancestry each block is the parent of the one before it, and a fetch is answered with the asked block or none
+  -- in every ancestry each block is the parent of the one before it
   abbrev pub IsHonest : {C I : Type 0} → Past B C I → Type 0
   IsHonest [] = Unit {0}
   IsHonest (Came (Verify t ancestry) ∷ p) = IsLinked ancestry × IsHonest p
   IsHonest (Came (Prepare t context ancestry input) ∷ p) = IsLinked ancestry × IsHonest p
   IsHonest (Came (Propose t context ancestry input) ∷ p) = IsLinked ancestry × IsHonest p
-  IsHonest (Came (Fetched f (Some b)) ∷ p) = (asked_digest f p ≡ Some b.digest) × IsHonest p
   IsHonest (item ∷ p) = IsHonest p
+
+-- each fetch was answered with the asked block, or with none
+abbrev pub IsAnswered : {B C I : Type 0} → Past B C I → Type 0
+IsAnswered [] = Unit {0}
+IsAnswered (Came (Fetched f (Some b)) ∷ p) = (asked_digest f p ≡ Some b.digest) × IsAnswered p
+IsAnswered (item ∷ p) = IsAnswered p

@@ -42,11 +42,14 @@ module _ {B C I : Type 0} where
     pub is : started_for j p ≡ Some (job_of kind d)
 
 module _ {B C I S T : Type 0} (s : Setting B S T) (a : Telling B C I S) (base : S) (p : Past B C I) where
-  -- a live run of this block, turned less often than it takes turns on its parent's states, where that is told
+  -- a live run of this block, turned less often than it takes turns on its parent's states, where that is told;
+  -- without such states none is outstanding
   pub record IsOutstandingRun (j : ℕ) (kind : JobKind) (finality : Finality) (b : Named B) : Type 0 where
     pub met : Met s p b
     pub job : IsLiveJob j kind b.digest p
-    pub unfinished : (t : S) (n : ℕ) → HasState s base p (parent_of s b) t → a.run_cost finality t b.block ≡ Some n → turns j p < n
+    pub state : S
+    pub has_state : HasState s base p (parent_of s b) state
+    pub unfinished : (n : ℕ) → a.run_cost finality state b.block ≡ Some n → turns j p < n
 
   abbrev pub IsOutstandingCandidate : ℕ → Named B → Type 0
   IsOutstandingCandidate j b = IsOutstandingRun j Candidate finality.Candidate b
@@ -58,13 +61,17 @@ module _ {B C I S T : Type 0} (s : Setting B S T) (a : Telling B C I S) (base : 
   pub record IsOutstandingBuild (j k : ℕ) (r : Proposal B C I) : Type 0 where
     pub proposal : IsLiveProposal k p r
     pub job : IsLiveJob j Build r.parent.digest p
-    pub unfinished : (t : S) (n : ℕ) → HasState s base p r.parent.digest t → a.build_cost (asked_by r) t ≡ Some n → turns j p < n
+    pub state : S
+    pub has_state : HasState s base p r.parent.digest state
+    pub unfinished : (n : ℕ) → a.build_cost (asked_by r) state ≡ Some n → turns j p < n
 
   -- a live hook behind this block, turned less often than it takes turns on the states after the block, where that is told
   pub record IsOutstandingHook (j : ℕ) (b : Named B) : Type 0 where
     pub met : Met s p b
     pub job : IsLiveJob j Hook b.digest p
-    pub unfinished : (t : S) (n : ℕ) → HasState s base p b.digest t → a.hook_cost b.block t ≡ Some n → turns j p < n
+    pub state : S
+    pub has_state : HasState s base p b.digest state
+    pub unfinished : (n : ℕ) → a.hook_cost b.block state ≡ Some n → turns j p < n
 
   abbrev pub HasOutstandingRun : Type 0
   HasOutstandingRun = (j : ℕ) × (b : Named B) × (IsOutstandingCandidate j b ⊎ IsOutstandingFinalized j b)

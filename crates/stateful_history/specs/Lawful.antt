@@ -20,8 +20,9 @@ use Rattle.stateful_history.specs.Ancestors.{IsOnPath}
 use Rattle.stateful_history.specs.Finalizations.{IsChildOf}
 use Rattle.stateful_history.specs.Refusals.{WasFinalized}
 use Rattle.stateful_history.specs.declared.event.Event.{Event}
-use Rattle.stateful_history.specs.declared.event.Event.TheVariants.{Prepare, Propose, Finalized, Turn, Restart}
+use Rattle.stateful_history.specs.declared.event.Event.TheVariants.{Prepare, Propose, Finalized, Fetched, Turn, Restart}
 use Rattle.stateful_history.specs.declared.mark.Mark.TheVariants.{Opened}
+use Rattle.stateful_history.specs.Asked.{asked_digest}
 use Rattle.stateful_history.specs.Requests.{Proposal, asked_by, IsLiveProposal}
 use Rattle.stateful_history.specs.Jobs.{IsLiveJob}
 use Rattle.stateful_history.specs.declared.mark.JobKind.TheVariants.{Build}
@@ -89,17 +90,18 @@ module _ {B C I S T : Type 0} (s : Setting B S T) (a : Telling B C I S) (round_b
       → FitsRequest r before b
 
   -- what the event brings is true: finalized blocks follow one another, a proposal's round is later than its parent's, a
-  -- build gives what it was asked for, and at a restart some receipt may wait
+  -- fetch is answered with the asked block, a build gives what it was asked for, and at a restart some receipt may wait
   abbrev pub BringsTruth : Event B C I → Type 0
   BringsTruth (Finalized t b) = MayFinalize b
   BringsTruth (Prepare t context ancestry input) = IsLater (round_of s ancestry.first) (round_by context)
   BringsTruth (Propose t context ancestry input) = IsLater (round_of s ancestry.first) (round_by context)
+  BringsTruth (Fetched f (Some b)) = asked_digest f p ≡ Some b.digest
   BringsTruth (Turn j) = BuildsFit j
   BringsTruth (Restart floor keep) = 1 ≤ floor.max_pending_acks
   BringsTruth event = Unit {0}
 
-  -- the event may come, its ancestry is one of parents, its answer is the asked block, and what it brings is true
+  -- the event may come, its ancestry is one of parents, and what it brings is true
   pub record IsLawful (count : ℕ) (event : Event B C I) : Type 0 where
     pub may_come : may_come count p event ≡ true
-    pub honest : IsHonest s p → IsHonest s (Came event ∷ p)
+    pub linked : IsHonest s (Came event ∷ [])
     pub true_of : BringsTruth event

@@ -18,6 +18,8 @@ pub mod Ancestors
 pub mod Requests
 pub mod Jobs
 pub mod Barriers
+pub mod Numbers
+pub mod Syncs
 pub mod Stops
 pub mod Prunes
 pub mod Fetches

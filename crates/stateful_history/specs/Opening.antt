@@ -1,10 +1,10 @@
--- Openings: where the databases were opened or synced to, and whether the machine is down.
-use Rattle.std.specs.Prelude.{Bool, true, false, if◌then◌else◌, Option, Some, None, List, [], ◌∷◌}
+-- Openings: where the databases were opened or synced to, and whether the machine is down, syncs or hands over.
+use Rattle.std.specs.Prelude.{◌≡◌, Bool, true, false, if◌then◌else◌, Option, Some, None, List, [], ◌∷◌}
 use Rattle.stateful_types.specs.declared.anchor.Anchor.{Anchor}
 use Rattle.stateful_history.specs.Past.{Past, Item, Came, Made}
 use Rattle.stateful_history.specs.declared.event.Event.TheVariants.{Restart}
 use Rattle.stateful_history.specs.declared.mark.Mark.{Mark}
-use Rattle.stateful_history.specs.declared.mark.Mark.TheVariants.{Opened, Converged, Stopped}
+use Rattle.stateful_history.specs.declared.mark.Mark.TheVariants.{Opened, Converged, Completed, Stopped}
 
 module _ {B C I : Type 0} where
   -- the last opening, by files or by a sync, that follows the last restart
@@ -21,6 +21,19 @@ module _ {B C I : Type 0} where
   is_down (Came (Restart floor keep) ∷ p) = false
   is_down (Made Stopped ∷ p) = true
   is_down (item ∷ p) = is_down p
+
+  -- the machine is up, and syncs
+  abbrev pub IsSyncing : Past B C I → Type 0
+  IsSyncing p = (is_down p ≡ false) × (opening p ≡ None)
+
+  -- a handover goes on: the databases were synced, and the sync isn't recorded as complete
+  abbrev pub is_handing_over : Past B C I → Bool
+  is_handing_over [] = false
+  is_handing_over (Came (Restart floor keep) ∷ p) = false
+  is_handing_over (Made (Opened anchor) ∷ p) = false
+  is_handing_over (Made (Converged anchor) ∷ p) = true
+  is_handing_over (Made (Completed height) ∷ p) = false
+  is_handing_over (item ∷ p) = is_handing_over p
 
   -- the item is no start and no opening
   abbrev pub StartsNone : Item B C I → Type 0

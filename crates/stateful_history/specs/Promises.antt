@@ -3,12 +3,14 @@ use Rattle.std.specs.Prelude.{ℕ, Option, List, ◌∷◌}
 use Rattle.stateful_history.specs.Setting.{Setting}
 use Rattle.stateful_history.specs.Telling.{Telling}
 use Rattle.stateful_history.specs.Past.{Past, Came, after_entry, EachMark, EachNext}
-use Rattle.stateful_history.specs.Honest.{IsHonest}
+use Rattle.stateful_history.specs.Honest.{IsHonest, IsAnswered}
 use Rattle.stateful_history.specs.Joined.{TrueIsEarned}
 use Rattle.stateful_history.specs.Reasons.{FalseHasReason}
 use Rattle.stateful_history.specs.Declines.{DeclinedHasReason}
 use Rattle.stateful_history.specs.Durable.{GoodIsFlushed, AcknowledgedIsDurable}
 use Rattle.stateful_history.specs.Barriers.{GoodIsInOrder, BarrierIsOver}
+use Rattle.stateful_history.specs.Numbers.{NumberIsNew}
+use Rattle.stateful_history.specs.Syncs.{SyncsInPlace}
 use Rattle.stateful_history.specs.Fetches.{AskedIsNeeded, WithdrawnHasCause}
 use Rattle.stateful_history.specs.Finalizations.{FinalizesInOrder, AcknowledgedIsApplied}
 use Rattle.stateful_history.specs.Runs.{StartsWell, EndsAsItsKind, CancelledHasCause, BuildIsAnswered, RunsAreWanted}
@@ -25,19 +27,20 @@ module _ {B C I S T : Type 0} (s : Setting B S T) (a : Telling B C I S) (count :
   pub record KeepsRules (p : Past B C I) (event : Event B C I) (marks : List (Mark B)) : Type 0 where
     -- verdicts and declines
     pub earned : EachMark (TrueIsEarned s base) p marks
-    pub reasons : IsHonest s p → EachMark (FalseHasReason s base) p marks
-    pub declined : IsHonest s p → EachMark (DeclinedHasReason s a base event marks) p marks
+    pub reasons : IsHonest s p → IsAnswered p → EachMark (FalseHasReason s base) p marks
+    pub declined : IsHonest s p → IsAnswered p → EachMark (DeclinedHasReason s a base event marks) p marks
     pub answered : EachMark (AnsweredIsBuilt s a base) p marks
-    -- which tickets marks may name
+    -- which tickets and new numbers marks may name
     pub ends_live : EachMark (EndsLive s) p marks
     pub no_cancelled : EachMark NamesNoCancelled p marks
+    pub numbers : EachMark NumberIsNew p marks
     -- fetches
     pub asked : EachMark (AskedIsNeeded s base) p marks
     pub withdrawn : EachMark (WithdrawnHasCause s rule event marks) p marks
     -- jobs
     pub started : EachMark (StartsWell s) p marks
-    pub ended : EachMark EndsAsItsKind p marks
-    pub cancelled : EachMark (CancelledHasCause event marks) p marks
+    pub ended : EachMark (EndsAsItsKind event) p marks
+    pub cancelled : EachMark (CancelledHasCause s event marks) p marks
     pub builds : EachNext BuildIsAnswered p marks
     -- finalizations and barriers
     pub in_order : EachMark (FinalizesInOrder s.header) p marks
@@ -46,9 +49,10 @@ module _ {B C I S T : Type 0} (s : Setting B S T) (a : Telling B C I S) (count :
     pub good_in_order : EachMark GoodIsInOrder p marks
     pub durable : EachMark AcknowledgedIsDurable p marks
     pub applied : EachMark (AcknowledgedIsApplied s.header) p marks
-    -- prunes, openings and stops
+    -- prunes, openings, syncs and stops
     pub pruned : EachMark (PrunedIsDue s rule) p marks
     pub opened : EachMark (OpenedIsStored s event) p marks
+    pub syncs : EachMark (SyncsInPlace s.header) p marks
     pub clean_start : EachMark StartsClean p marks
     pub clean_stop : EachMark (StopsClean event marks) p marks
     pub stopped : EndsStopped event marks

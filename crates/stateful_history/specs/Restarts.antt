@@ -1,11 +1,12 @@
 -- Restarts: at which heights the databases can be opened again, and what they then hold.
-use Rattle.std.specs.Prelude.{◌≡◌, ◌≤◌, ◌⊎◌, ◌+◌, ℕ, Some, [], ◌∷◌, unwrap_or, option_map}
+use Rattle.std.specs.Prelude.{◌≡◌, ◌≤◌, ◌⊎◌, ◌+◌, ℕ, Some, None, [], ◌∷◌, unwrap_or, option_map}
 use Rattle.stateful_types.specs.Names.{Named}
 use Rattle.stateful_types.specs.Anchor.{anchor_by}
 use Rattle.stateful_types.specs.declared.floor.Floor.{Floor}
 use Rattle.stateful_types.specs.declared.number.Height.{Height}
 use Rattle.stateful_history.specs.Setting.{Setting, step_of}
 use Rattle.stateful_history.specs.Past.{Past, Came, Made, Cut, Tried}
+use Rattle.stateful_history.specs.Opening.{opening}
 use Rattle.stateful_history.specs.declared.event.Event.{Event}
 use Rattle.stateful_history.specs.declared.event.Event.TheVariants.{Restart}
 use Rattle.stateful_history.specs.declared.mark.Mark.{Mark}
@@ -60,9 +61,10 @@ module _ {B S T : Type 0} (s : Setting B S T) where
     pub folded : FoldsTo genesis q state
     pub targets : s.target_of state ≡ s.meaning.targets block.block
 
-  -- an opening by a restart has the height that it names, and is at the store's block there
+  -- a restart opens once, at the height that it names and the store's block there
   abbrev pub OpenedIsStored : {C I : Type 0} → Event B C I → Past B C I → Mark B → Type 0
   OpenedIsStored (Restart floor keep) p (Opened anchor) =
-      (b : Named B) × (s.stored (reopened_height floor) ≡ Some b) × (anchor ≡ anchor_by s.header b) × (anchor.height.0 ≡ reopened_height floor)
+      (opening p ≡ None)
+      × ((b : Named B) × (s.stored (reopened_height floor) ≡ Some b) × (anchor ≡ anchor_by s.header b) × (anchor.height.0 ≡ reopened_height floor))
   OpenedIsStored event p (Opened anchor) = ⊥
   OpenedIsStored event p mark = Unit {0}

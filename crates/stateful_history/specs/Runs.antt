@@ -4,15 +4,16 @@ use Rattle.stateful_types.specs.Names.{Named}
 use Rattle.stateful_types.specs.declared.digest.Digest.{Digest}
 use Rattle.stateful_history.specs.Setting.{Setting, parent_of}
 use Rattle.stateful_history.specs.Past.{Past, Item, Came, Made}
+use Rattle.stateful_history.specs.Asked.{kept_by}
 use Rattle.stateful_history.specs.Met.{Met}
 use Rattle.stateful_history.specs.Known.{Known, IsUnknown}
 use Rattle.stateful_history.specs.Live.{live_job}
-use Rattle.stateful_history.specs.Jobs.{job_of, started_for, IsLiveJob}
-use Rattle.stateful_history.specs.Requests.{Proposal, StandsOn, IsLiveRequest, IsLiveProposal}
+use Rattle.stateful_history.specs.Jobs.{JobOf, job_of, started_for, IsLiveJob}
+use Rattle.stateful_history.specs.Requests.{Proposal, proposed, StandsOn, IsLiveRequest, IsLiveProposal}
 use Rattle.stateful_history.specs.Finalizations.{begun}
 use Rattle.stateful_history.specs.Stops.{IsStopped}
 use Rattle.stateful_history.specs.declared.event.Event.{Event}
-use Rattle.stateful_history.specs.declared.event.Event.TheVariants.{Cancel, Restart}
+use Rattle.stateful_history.specs.declared.event.Event.TheVariants.{Cancel, Turn, Restart}
 use Rattle.stateful_history.specs.declared.mark.JobKind.{JobKind}
 use Rattle.stateful_history.specs.declared.mark.JobKind.TheVariants.{Candidate, Finalized, Build, Hook}
 use Rattle.stateful_history.specs.declared.mark.How.{How}
@@ -59,18 +60,15 @@ module _ {B C I : Type 0} where
   unhooked (Made (Started j Hook d) ∷ p) = None
   unhooked (item ∷ p) = unhooked p
 
-  -- what ends is a live job, of a kind that may end so
-  abbrev pub EndsAsItsKind : Past B C I → Mark B → Type 0
-  EndsAsItsKind p (Ended j how) =
-      (live_job j p ≡ true) × MatchOption (started_for j p) ⊥ (λ o. fits o.kind how ≡ true)
-  EndsAsItsKind p (Built j t b) =
-      (live_job j p ≡ true) × MatchOption (started_for j p) ⊥ (λ o. o.kind ≡ Build)
-  EndsAsItsKind p mark = Unit {0}
-
-  -- a job is cancelled where a request is cancelled, or the machine stops or starts
-  abbrev pub CancelledHasCause : Event B C I → List (Mark B) → Past B C I → Mark B → Type 0
-  CancelledHasCause event marks p (Ended j Cancelled) = ((t : ℕ) × (event ≡ Cancel t)) ⊎ IsStopped event marks
-  CancelledHasCause event marks p mark = Unit {0}
+  -- what ends is a live job, of a kind that may end so, and but for a cancel it ends in its own turn
+  abbrev pub EndsAsItsKind : Event B C I → Past B C I → Mark B → Type 0
+  EndsAsItsKind event p (Ended j how) =
+      (live_job j p ≡ true)
+      × MatchOption (started_for j p) ⊥ (λ o. fits o.kind how ≡ true)
+      × ((how ≡ Cancelled) ⊎ (event ≡ Turn j))
+  EndsAsItsKind event p (Built j t b) =
+      (live_job j p ≡ true) × MatchOption (started_for j p) ⊥ (λ o. o.kind ≡ Build) × (event ≡ Turn j)
+  EndsAsItsKind event p mark = Unit {0}
 
   -- A build that ends without a block is followed at once by the decline of a request for a block on its parent, and one
   -- that has built by the answer with this block.
@@ -88,6 +86,18 @@ module _ {B C I : Type 0} where
   BuildIsAnswered p mark next = Unit {0}
 
 module _ {B C I S T : Type 0} (s : Setting B S T) where
+  -- the job is a candidate run of a block on which the request stands, or a build for it
+  abbrev pub IsWorkFor : Past B C I → ℕ → JobOf → Type 0
+  IsWorkFor p t o =
+      ((o.kind ≡ Candidate) × StandsOn s p t o.digest)
+      ⊎ ((o.kind ≡ Build) × MatchOption (proposed t p) ⊥ (λ r. r.parent.digest ≡ o.digest))
+
+  -- a job is cancelled where a request is cancelled that it is work for, or the machine stops or starts
+  abbrev pub CancelledHasCause : Event B C I → List (Mark B) → Past B C I → Mark B → Type 0
+  CancelledHasCause event marks p (Ended j Cancelled) =
+      ((t : ℕ) × (event ≡ Cancel t) × MatchOption (started_for j p) ⊥ (IsWorkFor p t)) ⊎ IsStopped event marks
+  CancelledHasCause event marks p mark = Unit {0}
+
   -- a request ends by this item that stands on the block of this digest
   abbrev pub EndsOn : Past B C I → Digest → Item B C I → Type 0
   EndsOn p d item = MatchOption (ended_by item) ⊥ (λ t. StandsOn s p t d)
@@ -119,15 +129,27 @@ module _ {B C I S T : Type 0} (s : Setting B S T) where
     pub stands : StandsOn s p ticket d
     pub again : MayRunAgain p d
 
-  -- what is started: a candidate that may run, the one run of the block whose finalization began, a build on a known
-  -- parent for a live request, or the one hook behind the last applied block
+  -- the block of this digest wasn't known where the finalization began, and no run of it was kept since
+  abbrev pub HasToRun : Past B C I → Digest → Type 0
+  HasToRun [] d = Unit {0}
+  HasToRun (Made (Began t b) ∷ p) d = IsUnknown s p d
+  HasToRun (item ∷ p) d = (kept_by p item ≢ Some d) × HasToRun p d
+
+  -- what is started: a candidate that may run, the one run of the block whose finalization began and that has to run, the
+  -- one live build, on a known parent for a live request, or the one hook behind the last applied block
   abbrev pub StartsWell : Past B C I → Mark B → Type 0
   StartsWell p (Started j Candidate d) = MayRun p d
-  StartsWell p (Started j Finalized d) = MatchOption (begun p) ⊥ (λ b. b.digest ≡ d) × (ran_finalized p ≡ false)
-  StartsWell p (Started j Build d) = Known s p d × ((t : ℕ) × (r : Proposal B C I) × IsLiveProposal t p r × (r.parent.digest ≡ d))
+  StartsWell p (Started j Finalized d) =
+      MatchOption (begun p) ⊥ (λ b. b.digest ≡ d) × (ran_finalized p ≡ false) × HasToRun p d
+  StartsWell p (Started j Build d) =
+      Known s p d
+      × ((k : ℕ) (e : Digest) → IsLiveJob k Build e p → ⊥)
+      × ((t : ℕ) × (r : Proposal B C I) × IsLiveProposal t p r × (r.parent.digest ≡ d))
   StartsWell p (Started j Hook d) = MatchOption (unhooked p) ⊥ (λ b. b.digest ≡ d)
   StartsWell p mark = Unit {0}
 
-  -- at the end of an entry each candidate run has a live request that stands on its block
-  abbrev pub RunsAreWanted : Past B C I → Type 0
-  RunsAreWanted p = (j : ℕ) (d : Digest) → IsLiveJob j Candidate d p → (t : ℕ) × IsLiveRequest t p × StandsOn s p t d
+  -- at the end of an entry each candidate run has a live request that stands on its block, and each build has one for a
+  -- block on its parent
+  pub record RunsAreWanted (p : Past B C I) : Type 0 where
+    pub candidates : (j : ℕ) (d : Digest) → IsLiveJob j Candidate d p → (t : ℕ) × IsLiveRequest t p × StandsOn s p t d
+    pub builds : (j : ℕ) (d : Digest) → IsLiveJob j Build d p → (t : ℕ) × (r : Proposal B C I) × IsLiveProposal t p r × (r.parent.digest ≡ d)

@@ -33,10 +33,10 @@ module _ {B C I : Type 0} where
   BrokeBefore (Made mark ∷ p) = IsBroken mark ⊎ BrokeBefore p
   BrokeBefore p = ⊥
 
-  -- A stop is marked where the event is a stop or behind a barrier that broke, and nothing is live there. A request or
-  -- receipt is dropped by a stop or a restart alone.
+  -- A stop is marked where the event is a stop or behind a barrier that broke, and nothing is live behind it. A
+  -- request or receipt is dropped by a stop or a restart alone.
   abbrev pub StopsClean : Event B C I → List (Mark B) → Past B C I → Mark B → Type 0
-  StopsClean event marks p Stopped = ((event ≡ Stop) ⊎ BrokeBefore p) × NothingLive p
+  StopsClean event marks p Stopped = ((event ≡ Stop) ⊎ BrokeBefore p) × NothingLive (Made Stopped ∷ p)
   StopsClean event marks p (Dropped t) = IsStopped event marks
   StopsClean event marks p mark = Unit {0}
 

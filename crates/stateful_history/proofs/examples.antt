@@ -1,0 +1,4 @@
+pub mod MovingTip
+pub mod FalseVerdicts
+pub mod AskedAgain
+pub mod Waiting
