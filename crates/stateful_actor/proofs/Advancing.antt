@@ -17,10 +17,10 @@ use Rattle.stateful_actor.specs.Checkpoints.{Keeping, Anchored}
 use Rattle.stateful_actor.specs.Barriers.{ActiveStands}
 use Rattle.stateful_actor.specs.Stands.{Works, IsUp}
 use Rattle.stateful_actor.specs.Moments.{Moment}
-use Rattle.stateful_exec.specs.Cut.{IsCutTo}
+use Rattle.stateful_cache.specs.Cut.{IsCutTo}
 use Rattle.stateful_actor.specs.Tasks.{IsIdle}
 use Rattle.stateful_actor.specs.Finalizing.{IsNext, Moves}
-use Rattle.stateful_exec.specs.declared.cache.Cached.{Cached}
+use Rattle.stateful_cache.specs.declared.cache.Cached.{Cached}
 use Rattle.stateful_actor.specs.declared.tables.Active.{Active}
 use Rattle.stateful_actor.specs.declared.tables.Core.{Core}
 use Rattle.stateful_actor.proofs.Cutting.{Caches-cut, IsShown, root-shown}

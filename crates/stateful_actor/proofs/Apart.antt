@@ -7,11 +7,11 @@ use Rattle.stateful_types.specs.declared.block.Ancestry.{Ancestry}
 use Rattle.stateful_db.specs.declared.barrier.Flushed.TheVariants.{Good}
 use Rattle.stateful_history.specs.declared.event.Event.{Event}
 use Rattle.stateful_history.specs.declared.event.Event.TheVariants.{Verify, Finalized, Turn, Flushed, Restart}
-use Rattle.stateful_exec.specs.Cache.{IsIn, IsAtHand}
-use Rattle.stateful_exec.specs.Judgement.{IsDecided, IsJudged}
+use Rattle.stateful_cache.specs.Cache.{IsIn, IsAtHand}
+use Rattle.stateful_cache.specs.Judgement.{IsDecided, IsJudged}
 use Rattle.stateful_actor.specs.Finalizing.{IsPast, IsNext, RefusesBlock}
 use Rattle.stateful_actor.specs.Tasks.{IsDoneFor, IsVerification, RefusesVerification, IsFinalization, RefusesFinalization, IsTaskAt, RefusesAt}
-use Rattle.stateful_exec.specs.Judgement.{IsOpen}
+use Rattle.stateful_cache.specs.Judgement.{IsOpen}
 use Rattle.stateful_actor.specs.Stepping.{is_refusal}
 use Rattle.stateful_actor.specs.Workings.{Workings, numbered}
 use Rattle.stateful_actor.specs.Moments.{Moment}
@@ -22,9 +22,9 @@ use Rattle.stateful_history.specs.Past.{Past}
 use Rattle.stateful_history.specs.Live.{may_come}
 use Rattle.stateful_register.specs.Register.{RegisterStands}
 use Rattle.stateful_register.specs.declared.register.Register.{Register}
-use Rattle.stateful_exec.specs.declared.cache.Cached.{Cached}
-use Rattle.stateful_exec.specs.declared.judgement.Judgement.{Judgement}
-use Rattle.stateful_exec.specs.declared.judgement.Judgement.TheVariants.{Valid, Invalid, Waits, Open}
+use Rattle.stateful_cache.specs.declared.cache.Cached.{Cached}
+use Rattle.stateful_cache.specs.declared.judgement.Judgement.{Judgement}
+use Rattle.stateful_cache.specs.declared.judgement.Judgement.TheVariants.{Valid, Invalid, Waits, Open}
 use Rattle.stateful_actor.specs.declared.tables.Core.{Core}
 use Rattle.stateful_actor.specs.declared.task.Task.{Task}
 use Rattle.stateful_actor.specs.declared.task.Task.TheVariants as task

@@ -7,12 +7,12 @@ use Rattle.stateful_types.specs.declared.block.Ancestry.{Ancestry}
 use Rattle.stateful_db.specs.declared.barrier.Flushed.TheVariants.{Good}
 use Rattle.stateful_history.specs.declared.event.Event.{Event}
 use Rattle.stateful_history.specs.declared.event.Event.TheVariants.{Verify, Finalized, Turn, Flushed, Restart}
-use Rattle.stateful_exec.specs.Judgement.{IsDecided, IsJudged}
+use Rattle.stateful_cache.specs.Judgement.{IsDecided, IsJudged}
 use Rattle.stateful_actor.specs.Tasks.{IsFollowedBy, IsFollowedByAnother, IsRunOnParent, IsDoneFor, IsFinalization, IsTaskAt}
-use Rattle.stateful_exec.specs.Judgement.{IsOpen}
-use Rattle.stateful_exec.specs.declared.cache.Cached.{Cached}
-use Rattle.stateful_exec.specs.declared.judgement.Judgement.{Judgement}
-use Rattle.stateful_exec.specs.declared.judgement.Judgement.TheVariants.{Valid, Invalid, Waits, Open}
+use Rattle.stateful_cache.specs.Judgement.{IsOpen}
+use Rattle.stateful_cache.specs.declared.cache.Cached.{Cached}
+use Rattle.stateful_cache.specs.declared.judgement.Judgement.{Judgement}
+use Rattle.stateful_cache.specs.declared.judgement.Judgement.TheVariants.{Valid, Invalid, Waits, Open}
 use Rattle.stateful_actor.specs.declared.tables.Core.{Core}
 use Rattle.stateful_actor.specs.declared.task.Task.{Task}
 use Rattle.stateful_actor.specs.declared.task.Task.TheVariants as task

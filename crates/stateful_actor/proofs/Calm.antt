@@ -23,7 +23,7 @@ use Rattle.stateful_actor.specs.Running.{RunsOn, IsRun, IsLive}
 use Rattle.stateful_actor.specs.Checkpoints.{Keeping, Anchored}
 use Rattle.stateful_actor.specs.Barriers.{ActiveStands}
 use Rattle.stateful_actor.specs.Stands.{Works, IsUp}
-use Rattle.stateful_exec.specs.declared.cache.Cached.{Cached}
+use Rattle.stateful_cache.specs.declared.cache.Cached.{Cached}
 use Rattle.stateful_actor.specs.declared.tables.Active.{Active}
 use Rattle.stateful_actor.specs.declared.tables.Core.{Core}
 use Rattle.stateful_actor.specs.declared.tables.Live.{Live}

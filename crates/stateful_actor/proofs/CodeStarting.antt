@@ -3,7 +3,7 @@ use Rattle.std.proofs.Common.{◌∷◌, List, ◌++◌, []}
 use Rattle.stateful_types.specs.declared.digest.Digest.{Digest}
 use Rattle.stateful_actor.specs.Workings.{Workings, Point}
 use Rattle.stateful_actor.specs.Starting.{IsOver, databases, batch}
-use Rattle.stateful_exec.specs.declared.cache.Cached.{Cached}
+use Rattle.stateful_cache.specs.declared.cache.Cached.{Cached}
 
 module _ {B R U H : Type 0} (w : Workings B R H U) (anchor : Digest) (cache : List (Cached U)) (m : w.kind.Members) (old new : w.Ids) (Has More : Point w → List (Point w) → Type 0) (parent : Digest) where
   pub IsOver-weaker : ((q : Point w) (c : List (Point w)) → Has q c → More q c) → IsOver w anchor cache m old new Has parent → IsOver w anchor cache m old new More parent

@@ -11,12 +11,12 @@ use Rattle.stateful_db.specs.declared.set.SetError.{SetError}
 use Rattle.stateful_db.specs.declared.set.SetError.TheVariants as set
 use Rattle.stateful_actor.specs.Workings.{Workings, Point}
 use Rattle.stateful_actor.specs.Moments.{Moment}
-use Rattle.stateful_exec.specs.Cut.{IsRootOf}
+use Rattle.stateful_cache.specs.Cut.{IsRootOf}
 use Rattle.stateful_actor.specs.Finalizing.{Moves, BeginsIfNone}
 use Rattle.stateful_actor.specs.Counters.{IsLast}
 use Rattle.stateful_actor.specs.Errors.{fault_of_set}
 use Rattle.stateful_actor.specs.Causes.{HasCounted, FaultsApply, FaultsBarrier, FaultsFlush, KeepsStates, LeavesStates}
-use Rattle.stateful_exec.specs.declared.cache.Cached.{Cached}
+use Rattle.stateful_cache.specs.declared.cache.Cached.{Cached}
 use Rattle.stateful_actor.specs.declared.tables.Active.{Active}
 
 -- the error that a `?` makes of another

@@ -16,7 +16,7 @@ use Rattle.stateful_actor.specs.declared.tables.Core.{Core}
 use Rattle.stateful_actor.specs.declared.tables.Front.{Front}
 use Rattle.stateful_actor.specs.declared.tables.Live.{Live}
 use Rattle.stateful_actor.proofs.CodeResults.{on_ok2}
-use Rattle.stateful_exec.proofs.Indexed.{found_at}
+use Rattle.stateful_cache.proofs.Indexed.{found_at}
 
 -- the run of a job, at the place that a search gave
 pub found_run : {B R : Type 0} (runs slice : List (Live B R)) (j place : ℕ) (live : Live B R) → slice ≡ runs → MatchOption (slice_get slice place) ⊥ (λ r. r.job ≡ j) → live ≡ get_or runs place live

@@ -16,10 +16,10 @@ use Rattle.stateful_history.specs.Known.{Known, is_tip, kept, stays, IsPastTip}
 use Rattle.stateful_history.specs.declared.mark.Mark.TheVariants.{Began, Applied}
 use Rattle.stateful_actor.specs.Workings.{Workings, setting, Point}
 use Rattle.stateful_actor.specs.Chains.{Stacked, here, further, Chain, Leads}
-use Rattle.stateful_exec.specs.Cache.{IsIn, InOrder}
+use Rattle.stateful_cache.specs.Cache.{IsIn, InOrder}
 use Rattle.stateful_actor.specs.Caching.{IsCached, Caches}
-use Rattle.stateful_exec.specs.Cut.{GoesOn, AreNamed, IsCutTo, IsRootOf}
-use Rattle.stateful_exec.specs.declared.cache.Cached.{Cached}
+use Rattle.stateful_cache.specs.Cut.{GoesOn, AreNamed, IsCutTo, IsRootOf}
+use Rattle.stateful_cache.specs.declared.cache.Cached.{Cached}
 
 -- no round is later than itself
 pub IsLater-self : (r : Round) → IsLater r r → ⊥

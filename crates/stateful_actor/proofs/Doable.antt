@@ -9,14 +9,14 @@ use Rattle.stateful_db.specs.Databases.{Databases}
 use Rattle.stateful_db.specs.declared.barrier.Flushed.TheVariants.{Good}
 use Rattle.stateful_history.specs.declared.event.Event.{Event}
 use Rattle.stateful_history.specs.declared.event.Event.TheVariants.{Verify, Finalized, Turn, Flushed, Restart}
-use Rattle.stateful_exec.specs.Cache.{IsAtHand}
+use Rattle.stateful_cache.specs.Cache.{IsAtHand}
 use Rattle.stateful_actor.specs.Barriers.{HasReceipt, Recorded, Agrees}
 use Rattle.stateful_actor.specs.Stands.{Sound}
 use Rattle.stateful_actor.specs.Finalizing.{IsPast}
 use Rattle.stateful_actor.specs.Tasks.{IsDoneFor, IsRunOnParent, IsFinalization, IsTaskAt}
 use Rattle.stateful_actor.specs.Doing.{IsDoable}
-use Rattle.stateful_exec.specs.declared.judgement.Judgement.{Judgement}
-use Rattle.stateful_exec.specs.declared.judgement.Judgement.TheVariants.{Valid, Invalid, Waits, Open}
+use Rattle.stateful_cache.specs.declared.judgement.Judgement.{Judgement}
+use Rattle.stateful_cache.specs.declared.judgement.Judgement.TheVariants.{Valid, Invalid, Waits, Open}
 use Rattle.stateful_actor.specs.declared.tables.Core.{Core}
 use Rattle.stateful_actor.specs.declared.tables.Front.{Front}
 use Rattle.stateful_actor.specs.declared.task.Task.{Task}

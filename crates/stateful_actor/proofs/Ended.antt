@@ -18,7 +18,7 @@ use Rattle.stateful_actor.specs.Workings.{Workings, setting, Point}
 use Rattle.stateful_actor.specs.Running.{IsRun, IsLive, IsInTable}
 use Rattle.stateful_actor.specs.Ending.{IsTold, Turns}
 use Rattle.stateful_actor.specs.Stands.{IsUp}
-use Rattle.stateful_exec.specs.declared.cache.Cached.{Cached}
+use Rattle.stateful_cache.specs.declared.cache.Cached.{Cached}
 use Rattle.stateful_actor.specs.declared.tables.Core.{Core}
 use Rattle.stateful_actor.specs.declared.tables.Front.{Front}
 use Rattle.stateful_actor.specs.declared.tables.Live.{Live}

@@ -37,8 +37,8 @@ use Rattle.stateful_actor.specs.Effects.{Settles, CompletesBarrier, acknowledged
 use Rattle.stateful_actor.specs.Ending.{TurnsRun, TurnsHook, LeavesRun, LeavesHook}
 use Rattle.stateful_actor.specs.Finalizing.{Finalizes, BeginsIfNone, Observes}
 use Rattle.stateful_actor.specs.Restarting.{Reopens, start_height}
-use Rattle.stateful_exec.specs.declared.judgement.Judgement.{Judgement}
-use Rattle.stateful_exec.specs.declared.judgement.Judgement.TheVariants.{Valid, Invalid, Waits, Open}
+use Rattle.stateful_cache.specs.declared.judgement.Judgement.{Judgement}
+use Rattle.stateful_cache.specs.declared.judgement.Judgement.TheVariants.{Valid, Invalid, Waits, Open}
 use Rattle.stateful_actor.specs.declared.tables.Core.{Core}
 use Rattle.stateful_actor.specs.declared.task.Task.{Task}
 use Rattle.stateful_actor.specs.declared.task.Task.TheVariants as task

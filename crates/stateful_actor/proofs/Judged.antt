@@ -12,11 +12,11 @@ use Rattle.stateful_history.specs.Joined.{Joined}
 use Rattle.stateful_history.specs.Canonical.{canonical, IsCanonical}
 use Rattle.stateful_history.specs.Reasons.{HasReason}
 use Rattle.stateful_actor.specs.Workings.{Workings, setting}
-use Rattle.stateful_exec.specs.Cache.{IsIn}
+use Rattle.stateful_cache.specs.Cache.{IsIn}
 use Rattle.stateful_actor.specs.Caching.{IsCached}
-use Rattle.stateful_exec.specs.Judgement.{IsDecided, IsJudged}
+use Rattle.stateful_cache.specs.Judgement.{IsDecided, IsJudged}
 use Rattle.stateful_actor.specs.Stands.{Works, IsUp}
-use Rattle.stateful_exec.specs.declared.judgement.Judgement.TheVariants.{Valid, Invalid, Open}
+use Rattle.stateful_cache.specs.declared.judgement.Judgement.TheVariants.{Valid, Invalid, Open}
 use Rattle.stateful_actor.specs.declared.tables.Core.{Core}
 use Rattle.stateful_actor.proofs.Placed.{canonical-at, canonical-below, not_anchor, IsCovered-below, Joined-from_chain, unknown-from}
 

@@ -15,12 +15,12 @@ use Rattle.stateful_history.specs.declared.mark.How.TheVariants.{Kept}
 use Rattle.stateful_history.specs.declared.mark.Mark.TheVariants.{Ended}
 use Rattle.stateful_actor.specs.Workings.{Workings, setting, Point}
 use Rattle.stateful_actor.specs.Chains.{further, Chain, Leads}
-use Rattle.stateful_exec.specs.Cache.{IsAtHand}
+use Rattle.stateful_cache.specs.Cache.{IsAtHand}
 use Rattle.stateful_actor.specs.Caching.{IsCached, Caches}
 use Rattle.stateful_actor.specs.Running.{RunsOn, IsRun, IsLive}
 use Rattle.stateful_actor.specs.Checkpoints.{Anchored}
 use Rattle.stateful_actor.specs.Stands.{IsUp}
-use Rattle.stateful_exec.specs.declared.cache.Cached.{Cached}
+use Rattle.stateful_cache.specs.declared.cache.Cached.{Cached}
 use Rattle.stateful_actor.specs.declared.tables.Core.{Core}
 use Rattle.stateful_actor.specs.declared.tables.Live.{Live}
 use Rattle.stateful_actor.proofs.Calm.{IsCalm, Known-calm, Known-kept, later-moved, Chain-calm, IsCached-calm, RunsOn-calm, Anchored-calm, Keeping-calm, ActiveStands-calm, IsRun-calm}

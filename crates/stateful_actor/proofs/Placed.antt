@@ -15,10 +15,10 @@ use Rattle.stateful_history.specs.Canonical.{canonical, canonical_by, kept_at, p
 use Rattle.stateful_history.specs.Reasons.{IsCovered}
 use Rattle.stateful_actor.specs.Workings.{Workings, setting, Point}
 use Rattle.stateful_actor.specs.Chains.{Chain}
-use Rattle.stateful_exec.specs.Cache.{IsIn}
+use Rattle.stateful_cache.specs.Cache.{IsIn}
 use Rattle.stateful_actor.specs.Caching.{Caches}
 use Rattle.stateful_actor.specs.Checkpoints.{Anchored}
-use Rattle.stateful_exec.specs.declared.cache.Cached.{Cached}
+use Rattle.stateful_cache.specs.declared.cache.Cached.{Cached}
 use Rattle.stateful_actor.proofs.Points.{Earns-from_Stacked, Reaches-from_Stacked}
 
 nat_eq-other : (a b : ℕ) → a ≢ b → (a == b) ≡ false

@@ -7,8 +7,8 @@ use Rattle.std.proofs.lemmas.List.Edits.{length-remove, get_or-remove_below, get
 use Rattle.std.proofs.lemmas.List.Elements.{All-get_or, All-from_get_or, All-append, All-take, All-drop, Contains-append_left, Contains-push}
 use Rattle.std.proofs.lemmas.List.Quantifiers.{all_pairs_remove}
 use Rattle.stateful_types.specs.declared.digest.Digest.{Digest}
-use Rattle.stateful_exec.specs.Cache.{InOrder, IsIn}
-use Rattle.stateful_exec.specs.declared.cache.Cached.{Cached}
+use Rattle.stateful_cache.specs.Cache.{InOrder, IsIn}
+use Rattle.stateful_cache.specs.declared.cache.Cached.{Cached}
 
 dec_lt : (a b : ℕ) → (a < b) ⊎ (b ≤ a)
 dec_lt a b = grind arith

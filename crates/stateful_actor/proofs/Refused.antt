@@ -25,8 +25,8 @@ use Rattle.stateful_actor.specs.Finalizing.{IsNext}
 use Rattle.stateful_actor.specs.Stands.{Works, IsUp}
 use Rattle.stateful_actor.specs.Tasks.{IsTaskAt, IsDoneFor}
 use Rattle.stateful_actor.specs.Causes.{Tally, KeepsStates, LeavesStates, LeavesAt, FaultsAt, FaultsIn, doing, settling}
-use Rattle.stateful_exec.specs.declared.judgement.Judgement.{Judgement}
-use Rattle.stateful_exec.specs.declared.judgement.Judgement.TheVariants.{Valid, Invalid, Waits, Open}
+use Rattle.stateful_cache.specs.declared.judgement.Judgement.{Judgement}
+use Rattle.stateful_cache.specs.declared.judgement.Judgement.TheVariants.{Valid, Invalid, Waits, Open}
 use Rattle.stateful_actor.specs.declared.error.Fault.TheVariants.{Failed}
 use Rattle.stateful_actor.specs.declared.tables.Active.{Active}
 use Rattle.stateful_actor.specs.declared.tables.Core.{Core}

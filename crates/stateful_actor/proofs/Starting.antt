@@ -23,7 +23,7 @@ use Rattle.stateful_actor.specs.Starting.{IsOver, databases, batch, StartsRun}
 use Rattle.stateful_actor.specs.Moments.{Moment}
 use Rattle.stateful_actor.specs.Stands.{Works, IsUp}
 use Rattle.stateful_actor.specs.Tasks.{IsIdle}
-use Rattle.stateful_exec.specs.declared.cache.Cached.{Cached}
+use Rattle.stateful_cache.specs.declared.cache.Cached.{Cached}
 use Rattle.stateful_actor.specs.declared.tables.Core.{Core}
 use Rattle.stateful_actor.specs.declared.tables.Front.{Front}
 use Rattle.stateful_actor.specs.declared.tables.Live.{Live}

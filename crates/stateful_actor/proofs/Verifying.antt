@@ -19,13 +19,13 @@ use Rattle.stateful_history.specs.declared.mark.JobKind.TheVariants as job
 use Rattle.stateful_history.proofs.Marks.{TrueNames-before_marks}
 use Rattle.stateful_actor.specs.Workings.{Workings, setting}
 use Rattle.stateful_actor.specs.Moments.{Moment}
-use Rattle.stateful_exec.specs.Judgement.{IsJudged}
+use Rattle.stateful_cache.specs.Judgement.{IsJudged}
 use Rattle.stateful_actor.specs.Stands.{Works, IsUp, HasServed}
 use Rattle.stateful_actor.specs.Starting.{StartsRun}
 use Rattle.stateful_actor.specs.Tasks.{IsIdle, IsVerification, IsDoneFor, IsFollowedByAnother}
 use Rattle.stateful_actor.specs.Doing.{Does}
-use Rattle.stateful_exec.specs.declared.judgement.Judgement.{Judgement}
-use Rattle.stateful_exec.specs.declared.judgement.Judgement.TheVariants.{Valid, Invalid, Waits, Open}
+use Rattle.stateful_cache.specs.declared.judgement.Judgement.{Judgement}
+use Rattle.stateful_cache.specs.declared.judgement.Judgement.TheVariants.{Valid, Invalid, Waits, Open}
 use Rattle.stateful_actor.specs.declared.task.Task.{Task}
 use Rattle.stateful_actor.specs.declared.task.Task.TheVariants as task
 use Rattle.stateful_actor.proofs.Calm.{Works-quiet}

@@ -9,8 +9,8 @@ use Rattle.stateful_history.specs.Met.{Met}
 use Rattle.stateful_history.specs.Known.{Known, IsPastTip}
 use Rattle.stateful_actor.specs.Workings.{Workings, setting, Point}
 use Rattle.stateful_actor.specs.Chains.{Chain}
-use Rattle.stateful_exec.specs.declared.cache.Cached.{Cached}
-use Rattle.stateful_exec.specs.Cache.{IsIn, InOrder}
+use Rattle.stateful_cache.specs.declared.cache.Cached.{Cached}
+use Rattle.stateful_cache.specs.Cache.{IsIn, InOrder}
 
 module _ {B C I R U H : Type 0} (w : Workings B R H U) (stored : ℕ → Option (Named B)) (p : Past B C I) (points : Digest → Point w) (next : w.Ids) (anchor : Digest) where
   -- the entry is of a known block above the anchor, and its batch stands on that block's chain

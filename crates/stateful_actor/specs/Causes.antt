@@ -15,13 +15,13 @@ use Rattle.stateful_db.specs.declared.database.InitError.TheVariants as init
 use Rattle.stateful_actor.specs.Workings.{Workings, Point}
 use Rattle.stateful_actor.specs.Moments.{Moment}
 use Rattle.stateful_actor.specs.Counters.{IsLast}
-use Rattle.stateful_exec.specs.Cut.{IsRootOf}
+use Rattle.stateful_cache.specs.Cut.{IsRootOf}
 use Rattle.stateful_actor.specs.Running.{IsInTable}
 use Rattle.stateful_actor.specs.Restarting.{start_height}
 use Rattle.stateful_actor.specs.Effects.{NeedsBarrier}
 use Rattle.stateful_actor.specs.Finalizing.{IsLeftBehind}
 use Rattle.stateful_actor.specs.Doing.{Does}
-use Rattle.stateful_exec.specs.declared.cache.Cached.{Cached}
+use Rattle.stateful_cache.specs.declared.cache.Cached.{Cached}
 use Rattle.stateful_actor.specs.declared.tables.Active.{Active}
 use Rattle.stateful_actor.specs.declared.tables.Core.{Core}
 use Rattle.stateful_actor.specs.declared.tables.Front.{Front}

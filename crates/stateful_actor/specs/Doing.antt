@@ -4,7 +4,7 @@ use Rattle.stateful_types.specs.Names.{Header, Named}
 use Rattle.stateful_types.specs.declared.anchor.Anchor.{Anchor}
 use Rattle.stateful_actor.specs.Workings.{Workings}
 use Rattle.stateful_actor.specs.Moments.{Moment}
-use Rattle.stateful_exec.specs.Cache.{IsIn, IsAtHand}
+use Rattle.stateful_cache.specs.Cache.{IsIn, IsAtHand}
 use Rattle.stateful_actor.specs.Barriers.{HasReceipt}
 use Rattle.stateful_actor.specs.Effects.{Tells, Asks, HoldsReceipt, Flushes, Settles}
 use Rattle.stateful_actor.specs.Starting.{StartsRun}

@@ -16,9 +16,9 @@ use Rattle.stateful_history.specs.declared.mark.How.TheVariants as how
 use Rattle.stateful_history.specs.declared.mark.Mark.{Mark}
 use Rattle.stateful_history.specs.declared.mark.Mark.TheVariants.{Ended, Verdict}
 use Rattle.stateful_actor.specs.Workings.{Workings, Point}
-use Rattle.stateful_exec.specs.Cache.{IsAtHand}
+use Rattle.stateful_cache.specs.Cache.{IsAtHand}
 use Rattle.stateful_actor.specs.Effects.{with_receipt}
-use Rattle.stateful_exec.specs.declared.cache.Cached.{Cached}
+use Rattle.stateful_cache.specs.declared.cache.Cached.{Cached}
 use Rattle.stateful_actor.specs.declared.tables.Core.{Core}
 use Rattle.stateful_actor.specs.declared.tables.Front.{Front}
 use Rattle.stateful_actor.specs.declared.tables.Live.{Live}

@@ -11,7 +11,7 @@ use Rattle.stateful_history.specs.declared.mark.JobKind.TheVariants.{Hook}
 use Rattle.stateful_actor.specs.Workings.{Workings, Point}
 use Rattle.stateful_actor.specs.Moments.{Moment}
 use Rattle.stateful_actor.specs.Counters.{IsLast}
-use Rattle.stateful_exec.specs.Cut.{IsCutTo, IsRootOf}
+use Rattle.stateful_cache.specs.Cut.{IsCutTo, IsRootOf}
 use Rattle.stateful_actor.specs.Effects.{BeginsBarrier, with_receipt}
 use Rattle.stateful_actor.specs.declared.tables.Core.{Core}
 use Rattle.stateful_actor.specs.declared.error.StepError.{StepError}

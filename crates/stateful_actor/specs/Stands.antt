@@ -19,7 +19,7 @@ use Rattle.stateful_actor.specs.Checkpoints.{Keeping, Anchored}
 use Rattle.stateful_actor.specs.Barriers.{BarrierStands, Agrees}
 use Rattle.stateful_actor.specs.Moments.{Moment}
 use Rattle.stateful_actor.specs.Rules.{Keeps}
-use Rattle.stateful_exec.specs.declared.cache.Cached.{Cached}
+use Rattle.stateful_cache.specs.declared.cache.Cached.{Cached}
 use Rattle.stateful_actor.specs.declared.tables.Core.{Core}
 use Rattle.stateful_actor.specs.declared.tables.Live.{Live}
 

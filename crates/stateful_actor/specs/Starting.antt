@@ -8,7 +8,7 @@ use Rattle.stateful_history.specs.declared.mark.JobKind.TheVariants as job
 use Rattle.stateful_actor.specs.Workings.{Workings, Point}
 use Rattle.stateful_actor.specs.Moments.{Moment}
 use Rattle.stateful_actor.specs.Counters.{IsLast}
-use Rattle.stateful_exec.specs.declared.cache.Cached.{Cached}
+use Rattle.stateful_cache.specs.declared.cache.Cached.{Cached}
 
 -- Something holds over the states of the block of a digest: over those of the databases, where it is the anchor's, and
 -- else over those of a cached batch, whose chain is cut where the databases are. Batch ids were drawn for it.

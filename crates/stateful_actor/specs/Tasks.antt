@@ -7,11 +7,11 @@ use Rattle.stateful_types.specs.declared.block.Ancestry.{Ancestry}
 use Rattle.stateful_db.specs.declared.barrier.Flushed.TheVariants.{Good}
 use Rattle.stateful_history.specs.declared.event.Event.{Event}
 use Rattle.stateful_history.specs.declared.event.Event.TheVariants.{Verify, Finalized, Turn, Flushed, Restart}
-use Rattle.stateful_exec.specs.Cache.{IsIn, IsAtHand}
-use Rattle.stateful_exec.specs.Judgement.{IsJudged, IsOpen}
+use Rattle.stateful_cache.specs.Cache.{IsIn, IsAtHand}
+use Rattle.stateful_cache.specs.Judgement.{IsJudged, IsOpen}
 use Rattle.stateful_actor.specs.Finalizing.{IsPast, IsNext, RefusesBlock}
-use Rattle.stateful_exec.specs.declared.judgement.Judgement.{Judgement}
-use Rattle.stateful_exec.specs.declared.judgement.Judgement.TheVariants.{Valid, Invalid, Waits, Open}
+use Rattle.stateful_cache.specs.declared.judgement.Judgement.{Judgement}
+use Rattle.stateful_cache.specs.declared.judgement.Judgement.TheVariants.{Valid, Invalid, Waits, Open}
 use Rattle.stateful_actor.specs.declared.tables.Core.{Core}
 use Rattle.stateful_actor.specs.declared.task.Task.{Task}
 use Rattle.stateful_actor.specs.declared.task.Task.TheVariants as task

@@ -9,8 +9,8 @@ ghost use Rattle.stateful_actor.specs.Restarting.{start_height, StartsAt, Reopen
 use crate::error::Fault;
 use crate::one_barrier::OneBarrier;
 use crate::stateful::CoreOf;
+use stateful_cache::Cache;
 use stateful_db::{Application, DatabaseSet};
-use stateful_exec::Cache;
 use stateful_history::Mark;
 use stateful_types::{Anchor, BlockStore, Floor, Height};
 

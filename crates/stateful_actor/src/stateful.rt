@@ -5,8 +5,8 @@ ghost use Rattle.stateful_actor.specs.Stepping.{IsNew};
 
 use crate::one_barrier::OneBarrier;
 use crate::tables::Core;
+use stateful_cache::Cache;
 use stateful_db::{Application, Batch, DatabaseSet};
-use stateful_exec::Cache;
 use stateful_register::Register;
 use stateful_types::Height;
 use std::alloc::Global;

@@ -1,8 +1,8 @@
 //! The tables of the machine.
 
 use crate::one_barrier::OneBarrier;
+use stateful_cache::Cache;
 use stateful_db::Barrier;
-use stateful_exec::Cache;
 use stateful_types::{Anchor, Digested, Height};
 use std::alloc::Global;
 

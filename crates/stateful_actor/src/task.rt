@@ -6,8 +6,8 @@ ghost use Rattle.stateful_actor.specs.Tasks.{IsIdle, IsRunOnParent, IsVerificati
 use crate::error::StepError;
 use crate::finalize::is_redelivered;
 use crate::stateful::CoreOf;
+use stateful_cache::{Judgement, judge, knows};
 use stateful_db::{Application, Flushed};
-use stateful_exec::{Judgement, judge, knows};
 use stateful_history::Event;
 use stateful_types::{
     Ancestry, Anchor, BlockStore, Digest, Digested, Floor, Height, Items, OutOfMemory, Share,

@@ -13,8 +13,8 @@ use crate::error::Fault;
 use crate::stateful::CoreOf;
 use crate::tables::{Front, Live};
 use crate::verify::answer;
+use stateful_cache::{Cached, knows};
 use stateful_db::{Application, Batch, DatabaseSet};
-use stateful_exec::{Cached, knows};
 use stateful_history::{How, Mark};
 use stateful_types::{Anchor, Digested, Moved};
 

@@ -6,7 +6,7 @@ ghost use Rattle.stateful_types.specs.declared.outcome.Finality.TheVariants.{Can
 ghost use Rattle.stateful_history.specs.declared.mark.Mark.TheVariants.{Verdict, Asked};
 ghost use Rattle.stateful_actor.specs.Workings.{workings, IsRunOf};
 ghost use Rattle.stateful_actor.specs.Moments.{moment};
-ghost use Rattle.stateful_exec.specs.Cache.{IsAtHand};
+ghost use Rattle.stateful_cache.specs.Cache.{IsAtHand};
 ghost use Rattle.stateful_actor.specs.Effects.{Tells, Asks};
 ghost use Rattle.stateful_actor.specs.Starting.{IsOver, StartsRun};
 ghost use Rattle.stateful_actor.specs.Causes.{FaultsDraw, FaultsBatches, FaultsProcess, FaultsRun};
@@ -14,8 +14,8 @@ ghost use Rattle.stateful_actor.specs.Causes.{FaultsDraw, FaultsBatches, FaultsP
 use crate::error::Fault;
 use crate::stateful::CoreOf;
 use crate::tables::Live;
+use stateful_cache::Cache;
 use stateful_db::{Application, Batch, DatabaseSet, OpenBatch};
-use stateful_exec::Cache;
 use stateful_history::{JobKind, Mark};
 use stateful_types::{
     Ancestry, Anchor, Block, Digest, Digested, Finality, Items, OutOfMemory, Share,

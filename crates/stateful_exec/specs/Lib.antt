@@ -1,5 +1,1 @@
-pub mod Cache
-pub mod Index
-pub mod Cut
-pub mod Judgement
 pub mod Boundary

@@ -3,7 +3,7 @@ use Rattle.stateful_history.specs.Past.{after_all}
 use Rattle.stateful_register.specs.Register.{RegisterStands}
 use Rattle.stateful_actor.specs.Causes.{tally}
 use Rattle.stateful_actor.specs.Driving.{Steps, HasPlayed, HasStood, IsRefused}
-use Rattle.stateful_exec.proofs.Cutting.{one_over, none_over}
+use Rattle.stateful_cache.proofs.Cutting.{one_over, none_over}
 use Rattle.stateful_actor.specs.Workings.{workings, numbered}
 use Rattle.stateful_actor.specs.Moments.{Moment, moment}
 use Rattle.stateful_actor.specs.Doing.{IsStep}

@@ -1,8 +1,8 @@
 use Rattle.std.proofs.Common.{List, subst}
 use Rattle.stateful_types.specs.Anchor.{anchor_by}
 use Rattle.stateful_types.specs.declared.anchor.Anchor.{Anchor}
-use Rattle.stateful_exec.specs.Cut.{IsRootOf}
-use Rattle.stateful_exec.specs.declared.cache.Cached.{Cached}
+use Rattle.stateful_cache.specs.Cut.{IsRootOf}
+use Rattle.stateful_cache.specs.declared.cache.Cached.{Cached}
 use Rattle.stateful_actor.proofs.CodeSound.{match_some}
 use Rattle.stateful_actor.proofs.finalize.cut.Goals as goal
 

@@ -1,6 +1,6 @@
 use Rattle.std.proofs.Common.{inr, refl}
 use Rattle.stateful_types.specs.declared.digest.Digest.{Digest}
-use Rattle.stateful_exec.specs.Cache.{IsIn}
+use Rattle.stateful_cache.specs.Cache.{IsIn}
 use Rattle.stateful_actor.proofs.CodeTests.{refuted, shown}
 use Rattle.stateful_actor.proofs.task.admit_finalize.Goals as goal
 

@@ -1,10 +1,10 @@
 use Rattle.std.proofs.Common.{◌≡◌, inr, sym, subst, true}
 use Rattle.stateful_types.specs.declared.digest.Digest.{Digest}
-use Rattle.stateful_exec.specs.Cache.{IsAtHand}
-use Rattle.stateful_exec.specs.Judgement.{IsJudged}
-use Rattle.stateful_exec.specs.Judgement.{IsOpen}
-use Rattle.stateful_exec.specs.declared.judgement.Judgement.{Judgement}
-use Rattle.stateful_exec.specs.declared.judgement.Judgement.TheVariants.{Waits, Open}
+use Rattle.stateful_cache.specs.Cache.{IsAtHand}
+use Rattle.stateful_cache.specs.Judgement.{IsJudged}
+use Rattle.stateful_cache.specs.Judgement.{IsOpen}
+use Rattle.stateful_cache.specs.declared.judgement.Judgement.{Judgement}
+use Rattle.stateful_cache.specs.declared.judgement.Judgement.TheVariants.{Waits, Open}
 use Rattle.stateful_actor.proofs.CodeTests.{refuted, shown}
 use Rattle.stateful_actor.proofs.task.admit_verify.Goals.{else-is_open-via-then-is_open+else-not-knows, else-is_open-via-else-is_open}
 use Rattle.stateful_actor.proofs.task.admit_verify.Goals as goal

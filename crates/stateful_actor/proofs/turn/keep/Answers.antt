@@ -2,7 +2,7 @@ use Rattle.std.proofs.Common.{refl, inl, inr}
 use Rattle.stateful_types.specs.Round.{IsLater}
 use Rattle.stateful_types.specs.declared.digest.Digest.{Digest}
 use Rattle.stateful_types.specs.declared.round.Round.{Round}
-use Rattle.stateful_exec.specs.Cache.{IsAtHand}
+use Rattle.stateful_cache.specs.Cache.{IsAtHand}
 use Rattle.stateful_actor.proofs.CodeTests.{refuted, shown}
 use Rattle.stateful_actor.proofs.turn.keep.Goals.{then-not-is_later_than-via-then-not-is_later_than, then-not-is_later_than-via-else-not-is_later_than+then-not-knows}
 use Rattle.stateful_actor.proofs.turn.keep.Goals as goal

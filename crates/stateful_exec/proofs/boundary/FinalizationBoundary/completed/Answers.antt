@@ -1,5 +1,5 @@
 use Rattle.std.proofs.Common.{◌≡◌, refl}
-use Rattle.stateful_exec.proofs.Digests.{finds_more}
+use Rattle.stateful_cache.proofs.Digests.{finds_more}
 use Rattle.stateful_exec.proofs.boundary.FinalizationBoundary.completed.Goals as goal
 
 pub returns-clause-ok : goal.returns-clause-ok

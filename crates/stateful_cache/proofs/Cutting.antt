@@ -7,9 +7,9 @@ use Rattle.stateful_types.specs.Round.{IsLater}
 use Rattle.stateful_types.specs.declared.digest.Digest.{Digest}
 use Rattle.stateful_types.specs.declared.round.Round.{Round}
 use Rattle.stateful_types.specs.declared.anchor.Anchor.{Anchor}
-use Rattle.stateful_exec.specs.Cache.{InOrder}
-use Rattle.stateful_exec.specs.Cut.{GoesOn, AreNamed, IsCutTo, IsRootOf}
-use Rattle.stateful_exec.specs.declared.cache.Cached.{Cached}
+use Rattle.stateful_cache.specs.Cache.{InOrder}
+use Rattle.stateful_cache.specs.Cut.{GoesOn, AreNamed, IsCutTo, IsRootOf}
+use Rattle.stateful_cache.specs.declared.cache.Cached.{Cached}
 
 module _ {X : Type 0} (P : X → Type 0) where
   -- an element with the fact, as an element that the list contains

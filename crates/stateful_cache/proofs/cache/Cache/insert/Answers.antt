@@ -1,10 +1,10 @@
 use Rattle.std.proofs.Common.{◌≡◌, List, ℕ, Some, length, ◌∙◌, sym, subst}
 use Rattle.std.specs.BTreeMap.{Updates}
 use Rattle.stateful_types.specs.Digest.{digest_cmp}
-use Rattle.stateful_exec.specs.Index.{IsIndex}
-use Rattle.stateful_exec.specs.declared.cache.Cached.{Cached}
-use Rattle.stateful_exec.proofs.Indexed.{IsIndex-push, IsIndex-same}
-use Rattle.stateful_exec.proofs.cache.Cache.insert.Goals as goal
+use Rattle.stateful_cache.specs.Index.{IsIndex}
+use Rattle.stateful_cache.specs.declared.cache.Cached.{Cached}
+use Rattle.stateful_cache.proofs.Indexed.{IsIndex-push, IsIndex-same}
+use Rattle.stateful_cache.proofs.cache.Cache.insert.Goals as goal
 
 pub invariant_of-self-2 : goal.invariant_of-self-2
 invariant_of-self-2 g c =

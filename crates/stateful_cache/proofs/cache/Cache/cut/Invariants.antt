@@ -1,7 +1,7 @@
 use Rattle.std.proofs.Common.{◌≡◌, ◌≢◌, ◌++◌, MatchOption, All}
-use Rattle.stateful_exec.specs.Cut.{IsRootOf}
-use Rattle.stateful_exec.proofs.Cutting.{Cuts}
-use Rattle.stateful_exec.proofs.cache.Cache.cut.Given as goal
+use Rattle.stateful_cache.specs.Cut.{IsRootOf}
+use Rattle.stateful_cache.proofs.Cutting.{Cuts}
+use Rattle.stateful_cache.proofs.cache.Cache.cut.Given as goal
 
 abbrev pub invariant-loop-entry : goal.invariant-loop-entry
 invariant-loop-entry g l = record {

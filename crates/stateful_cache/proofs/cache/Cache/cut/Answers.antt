@@ -1,9 +1,9 @@
 use Rattle.std.proofs.Common.{◌≢◌, [], MatchOption, All, IsTrue, sym, ◌∙◌, subst, refl, arith, List}
-use Rattle.stateful_exec.specs.Cut.{IsRootOf}
-use Rattle.stateful_exec.specs.declared.cache.Cached.{Cached}
-use Rattle.stateful_exec.proofs.Cutting.{Cuts, none, keeps, drops, IsCutTo-from, root_here, root_longer, one_over, none_over}
-use Rattle.stateful_exec.proofs.cache.Cache.cut.Goals.{else-is_later_than-via-then-is_later_than+else-goes_on, else-is_later_than-via-else-is_later_than}
-use Rattle.stateful_exec.proofs.cache.Cache.cut.Goals as goal
+use Rattle.stateful_cache.specs.Cut.{IsRootOf}
+use Rattle.stateful_cache.specs.declared.cache.Cached.{Cached}
+use Rattle.stateful_cache.proofs.Cutting.{Cuts, none, keeps, drops, IsCutTo-from, root_here, root_longer, one_over, none_over}
+use Rattle.stateful_cache.proofs.cache.Cache.cut.Goals.{else-is_later_than-via-then-is_later_than+else-goes_on, else-is_later_than-via-else-is_later_than}
+use Rattle.stateful_cache.proofs.cache.Cache.cut.Goals as goal
 
 pub loop-entry-init : goal.loop-entry-init
 loop-entry-init g c = record {

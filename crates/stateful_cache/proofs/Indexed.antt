@@ -8,9 +8,9 @@ use Rattle.std.proofs.lemmas.Slice.Eq.{bytes_eq-Decides}
 use Rattle.std.proofs.lemmas.List.Elements.{All-weaker, All-push}
 use Rattle.stateful_types.specs.declared.digest.Digest.{Digest}
 use Rattle.stateful_types.specs.Digest.{digest_cmp}
-use Rattle.stateful_exec.specs.Index.{IsIndex}
-use Rattle.stateful_exec.proofs.Digests.{same_digest}
-use Rattle.stateful_exec.specs.declared.cache.Cached.{Cached}
+use Rattle.stateful_cache.specs.Index.{IsIndex}
+use Rattle.stateful_cache.proofs.Digests.{same_digest}
+use Rattle.stateful_cache.specs.declared.cache.Cached.{Cached}
 
 module _ {X : Type 0} where
   -- the element of a place, with what is known of it

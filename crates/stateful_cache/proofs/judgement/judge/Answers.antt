@@ -1,9 +1,9 @@
 use Rattle.std.proofs.Common.{arith, ◌≡◌, ◌<◌, ◌≢◌, ◌↔◌, inl, sym, ◌∙◌, ap, subst, Some, None}
 use Rattle.stateful_types.specs.declared.digest.Digest.{Digest}
 use Rattle.stateful_types.specs.declared.number.Height.{Height}
-use Rattle.stateful_exec.specs.declared.judgement.Judgement.TheVariants.{Valid, Invalid}
-use Rattle.stateful_exec.proofs.Judged.{IsIn-same, not_in, IsJudged-at, IsJudged-below}
-use Rattle.stateful_exec.proofs.judgement.judge.Goals as goal
+use Rattle.stateful_cache.specs.declared.judgement.Judgement.TheVariants.{Valid, Invalid}
+use Rattle.stateful_cache.proofs.Judged.{IsIn-same, not_in, IsJudged-at, IsJudged-below}
+use Rattle.stateful_cache.proofs.judgement.judge.Goals as goal
 
 pub returns-then-has : goal.returns-then-has
 returns-then-has g c = inl (IsIn-same g.B.Block.header c.args.anchor c.args.cache.now (g.S.BlockStore.stored c.args.store.now) c.args.block.now _ c.digest.ensures (c.has.ensures.0 c.if-has.true))

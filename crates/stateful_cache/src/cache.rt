@@ -2,7 +2,7 @@
 
 ghost use Rattle.std.specs.Prelude.{◌≡◌, ◌≢◌, ◌++◌, ◌∷◌, [], IfOk, IfErr, OnOk, OnErr, IsTrue, ◌↔◌, Any, All, MatchOption, IfSome, IfNone, Contains};
 ghost use Rattle.std.specs.Option.{option_copied};
-ghost use Rattle.stateful_exec.specs.Cut.{IsCutTo, IsRootOf, GoesOn};
+ghost use Rattle.stateful_cache.specs.Cut.{IsCutTo, IsRootOf, GoesOn};
 
 use stateful_types::{Anchor, Digest, OutOfMemory, Round};
 use std::alloc::Global;
@@ -27,8 +27,8 @@ pub struct Cache<U> {
 
 impl<U> Model for Cache<U> {
     ghost use Rattle.std.specs.Prelude.{List};
-    ghost use Rattle.stateful_exec.specs.Index.{IsIndex};
-    ghost use Rattle.stateful_exec.specs.declared.cache.Cached.{Cached};
+    ghost use Rattle.stateful_cache.specs.Index.{IsIndex};
+    ghost use Rattle.stateful_cache.specs.declared.cache.Cached.{Cached};
 
     ghost Value = { List (Cached U) };
 

@@ -3,8 +3,8 @@ use Rattle.std.specs.Prelude.{◌≡◌, ◌≢◌, ◌⊎◌, List, [], All, An
 use Rattle.stateful_types.specs.Round.{IsLater}
 use Rattle.stateful_types.specs.declared.digest.Digest.{Digest}
 use Rattle.stateful_types.specs.declared.anchor.Anchor.{Anchor}
-use Rattle.stateful_exec.specs.Cache.{InOrder}
-use Rattle.stateful_exec.specs.declared.cache.Cached.{Cached}
+use Rattle.stateful_cache.specs.Cache.{InOrder}
+use Rattle.stateful_cache.specs.declared.cache.Cached.{Cached}
 
 -- the entry is a child of the root or of one of these
 abbrev pub GoesOn : {U : Type 0} → Anchor → List (Cached U) → Cached U → Type 0

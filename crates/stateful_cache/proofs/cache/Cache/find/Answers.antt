@@ -4,9 +4,9 @@ use Rattle.std.specs.BTreeMap.{get}
 use Rattle.std.proofs.lemmas.List.Elements.{All-weaker}
 use Rattle.stateful_types.specs.declared.digest.Digest.{Digest}
 use Rattle.stateful_types.specs.Digest.{digest_cmp}
-use Rattle.stateful_exec.specs.declared.cache.Cached.{Cached}
-use Rattle.stateful_exec.proofs.Indexed.{within, found_at}
-use Rattle.stateful_exec.proofs.cache.Cache.find.Goals as goal
+use Rattle.stateful_cache.specs.declared.cache.Cached.{Cached}
+use Rattle.stateful_cache.proofs.Indexed.{within, found_at}
+use Rattle.stateful_cache.proofs.cache.Cache.find.Goals as goal
 
 pub index-requires : goal.index-requires
 index-requires g c =

@@ -2,7 +2,7 @@
 use Rattle.std.proofs.Common.{◌≡◌, ◌≢◌, ◌↔◌, List, All, Any, Option, None, Some, Bool, true, false, refl, sym, subst, is_some, IsTrue, IfSome, IfNone, Bor, option_copied}
 use Rattle.std.specs.List.{Contains}
 use Rattle.stateful_types.specs.declared.digest.Digest.{Digest}
-use Rattle.stateful_exec.specs.declared.cache.Cached.{Cached}
+use Rattle.stateful_cache.specs.declared.cache.Cached.{Cached}
 
 module _ {U : Type 0} (cache : List (Cached U)) (d : Digest) where
   pub found_any : (e : Cached U) → Contains cache e × (e.digest ≡ d) → Any (λ e. e.digest ≡ d) cache

@@ -3,11 +3,11 @@ use Rattle.std.proofs.Common.{◌≡◌, ◌≢◌, ◌↔◌, ◌<◌, inl, inr
 use Rattle.stateful_types.specs.Names.{Header, Named}
 use Rattle.stateful_types.specs.declared.digest.Digest.{Digest}
 use Rattle.stateful_types.specs.declared.anchor.Anchor.{Anchor}
-use Rattle.stateful_exec.specs.Cache.{IsIn}
-use Rattle.stateful_exec.specs.Judgement.{IsJudged}
-use Rattle.stateful_exec.specs.declared.cache.Cached.{Cached}
-use Rattle.stateful_exec.specs.declared.judgement.Judgement.{Judgement}
-use Rattle.stateful_exec.specs.declared.judgement.Judgement.TheVariants.{Valid, Invalid, Waits, Open}
+use Rattle.stateful_cache.specs.Cache.{IsIn}
+use Rattle.stateful_cache.specs.Judgement.{IsJudged}
+use Rattle.stateful_cache.specs.declared.cache.Cached.{Cached}
+use Rattle.stateful_cache.specs.declared.judgement.Judgement.{Judgement}
+use Rattle.stateful_cache.specs.declared.judgement.Judgement.TheVariants.{Valid, Invalid, Waits, Open}
 
 module _ {B U : Type 0} (header : Header B) (anchor : Anchor) (cache : List (Cached U)) (stored : ℕ → Option (Named B)) (b : Named B) where
   -- whether a block is cached, by its digest

@@ -1,9 +1,9 @@
 //! How a block is judged without a run of it.
 
 ghost use Rattle.std.specs.Prelude.{◌≡◌, ◌≢◌, IfOk, IfErr, IsTrue, ◌↔◌};
-ghost use Rattle.stateful_exec.specs.Cache.{IsAtHand};
-ghost use Rattle.stateful_exec.specs.Judgement.{IsJudged};
-ghost use Rattle.stateful_exec.specs.Judgement.{IsOpen};
+ghost use Rattle.stateful_cache.specs.Cache.{IsAtHand};
+ghost use Rattle.stateful_cache.specs.Judgement.{IsJudged};
+ghost use Rattle.stateful_cache.specs.Judgement.{IsOpen};
 
 use crate::cache::Cache;
 use stateful_types::{Anchor, Block, BlockStore, Digest, Digested, OutOfMemory};

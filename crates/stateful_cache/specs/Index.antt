@@ -3,7 +3,7 @@ use Rattle.std.specs.Prelude.{◌≡◌, ◌≢◌, ℕ, Some, None, List, All, 
 use Rattle.std.specs.BTreeMap.{BTreeMap, get}
 use Rattle.stateful_types.specs.Digest.{digest_cmp}
 use Rattle.stateful_types.specs.declared.digest.Digest.{Digest}
-use Rattle.stateful_exec.specs.declared.cache.Cached.{Cached}
+use Rattle.stateful_cache.specs.declared.cache.Cached.{Cached}
 
 -- the place of a digest is that of an entry of this digest, and the digest of each entry has a place
 pub record IsIndex {U : Type 0} (entries : List (Cached U)) (places : BTreeMap Digest ℕ) : Type 0 where

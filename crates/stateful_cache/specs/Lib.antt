@@ -1,0 +1,4 @@
+pub mod Cache
+pub mod Index
+pub mod Cut
+pub mod Judgement
