@@ -1,0 +1,144 @@
+//! What an open database adds to its medium.
+
+ghost use Rattle.std.specs.Prelude.{◌≤◌, ◌+◌, ℕ, length, Contains};
+
+use crate::checkpoints::Checkpoint;
+use crate::medium::Medium;
+use stateful_db::{DbCall, Exhausted, FlushToken, Tokens};
+use stateful_types::{Faulty, Target};
+use std::alloc::AllocError;
+
+/// The id of the last applied batch, the tokens that are out, which name places of kept checkpoints, and the medium.
+#[derive(Drop)]
+pub struct Opened<S: Checkpoint> {
+    pub(crate) id: u64,
+    pub(crate) out: Tokens,
+    pub(crate) medium: Medium<S>,
+    ghost no_later: { (at : ℕ) → Contains out at
+        → at ≤ medium.checkpoints.pruned + length medium.checkpoints.older.items },
+}
+
+impl<S: Checkpoint> Faulty for Opened<S> {
+    ghost count = { λ o. o.medium.calls.faults };
+
+    fn faults(&self) -> u64 {
+        self.medium.faults()
+    }
+}
+
+impl<S: Checkpoint> Opened<S> {
+    ghost use Rattle.std.specs.Prelude.{◌≡◌, ◌-◌, ◌^◌, ◌<◌, ◌↔◌, ◌∷◌, ◌++◌, [], IsTrue, IfOk, IfErr, OnOk, OnErr};
+    ghost use Rattle.stateful_db.specs.Disk.{place, applied, flushed};
+    ghost use Rattle.stateful_db.specs.Tokens.{without};
+    ghost use Rattle.stateful_db.specs.Reopening.{KeepsDurable, pruned_to};
+    ghost use Rattle.stateful_db.specs.declared.database.DbCall.{DbCall};
+    ghost use Rattle.stateful_medium.specs.Called.{IsListed, Called};
+    ghost use Rattle.stateful_medium.specs.Kept.{disk_of, next_of, calls_of, medium_of, standing_of};
+
+    /// The id of the last applied batch.
+    pub fn id(&self) -> u64
+        ensures { result ≡ (standing_of self.now).id }
+    {
+        self.id
+    }
+
+    /// The newest checkpoint.
+    pub fn newest(&self) -> &S
+        ensures { result.now ≡ (standing_of self.now).disk.newest }
+    {
+        self.medium.newest()
+    }
+
+    /// The medium as it is.
+    pub fn close(self) -> Medium<S>
+        ensures { result ≡ medium_of self }
+    {
+        self.medium
+    }
+
+    /// Makes a call of this kind. Whether it is to fail, which is then counted.
+    pub fn fails(&mut self, call: DbCall) -> bool
+        ensures listed { IsTrue result ↔ IsListed (calls_of (medium_of self.old)) call }
+        ensures called { Called call (calls_of (medium_of self.old)) (calls_of
+            (medium_of self.new)) }
+        ensures standing { standing_of self.new ≡ standing_of self.old }
+        ensures next { next_of (medium_of self.new) ≡ next_of (medium_of self.old) }
+    {
+        self.medium.fails(call)
+    }
+
+    /// Draws a batch id.
+    pub fn draw(&mut self) -> Result<u64, Exhausted>
+        ensures id { IfOk result (λ n. (n ≡ next_of (medium_of self.old))
+            × (next_of (medium_of self.new) ≡ next_of (medium_of self.old) + 1)) }
+        ensures exhausted { IfErr result (λ _. (2 ^ 64 - 1 ≤ next_of (medium_of self.old))
+            × (next_of (medium_of self.new) ≡ next_of (medium_of self.old))) }
+        ensures within { IfOk result (λ n. n < 2 ^ 64 - 1) }
+        ensures standing { standing_of self.new ≡ standing_of self.old }
+        ensures calls { calls_of (medium_of self.new) ≡ calls_of (medium_of self.old) }
+    {
+        let id = self.medium.next;
+        if id == u64::MAX {
+            return Err(Exhausted);
+        }
+        self.medium.next = id + 1;
+        Ok(id)
+    }
+
+    /// Adds the checkpoint of a batch that is applied. Where its range doesn't end behind that of the newest, or starts
+    /// before it, it is refused as if memory were wanting.
+    pub fn push(&mut self, id: u64, state: S) -> Result<(), AllocError>
+        ensures ok { OnOk result (standing_of self.new
+            ≡ record (standing_of self.old)
+            { id = id; disk = applied (standing_of self.old).disk state }) }
+        ensures err { OnErr result (standing_of self.new ≡ standing_of self.old) }
+        ensures next { next_of (medium_of self.new) ≡ next_of (medium_of self.old) }
+        ensures calls { calls_of (medium_of self.new) ≡ calls_of (medium_of self.old) }
+    {
+        self.medium.checkpoints.push(state)?;
+        self.id = id;
+        Ok(())
+    }
+
+    /// One token more is out, for all checkpoints.
+    pub fn put_token(&mut self) -> FlushToken
+        requires { length (standing_of self.old).out < 2 }
+        ensures standing { standing_of self.new
+            ≡ record (standing_of self.old)
+            { out = (standing_of self.old).out ++ result.place ∷ [] } }
+        ensures place { result.place ≡ place (standing_of self.old).disk }
+        ensures next { next_of (medium_of self.new) ≡ next_of (medium_of self.old) }
+        ensures calls { calls_of (medium_of self.new) ≡ calls_of (medium_of self.old) }
+    {
+        let place = self.medium.checkpoints.place();
+        self.out.put(place);
+        FlushToken { place }
+    }
+
+    /// The checkpoints that the token covers are durable, and the token is in.
+    pub fn take_token(&mut self, token: FlushToken)
+        requires { Contains (standing_of self.old).out token.place }
+        ensures standing { standing_of self.new ≡ record (standing_of self.old) {
+          disk = flushed (standing_of self.old).disk token.place;
+          out = without token.place (standing_of self.old).out;
+        } }
+        ensures next { next_of (medium_of self.new) ≡ next_of (medium_of self.old) }
+        ensures calls { calls_of (medium_of self.new) ≡ calls_of (medium_of self.old) }
+    {
+        self.medium.checkpoints.flush(token.place);
+        self.out.take(token.place);
+    }
+
+    /// Drops the checkpoints that are older than the one of this target.
+    pub fn prune(&mut self, target: &Target)
+        requires idle { (standing_of self.old).out ≡ [] }
+        requires kept { KeepsDurable S.range (λ t. t) target.now (standing_of self.old).disk }
+        ensures standing { standing_of self.new ≡ record (standing_of self.old) {
+          disk = pruned_to S.range (λ t. t) target.now (standing_of self.old).disk;
+        } }
+        ensures next { next_of (medium_of self.new) ≡ next_of (medium_of self.old) }
+        ensures calls { calls_of (medium_of self.new) ≡ calls_of (medium_of self.old) }
+    {
+        self.medium.checkpoints.prune(target);
+    }
+}
