@@ -1,5 +1,4 @@
 -- The checkpoints of media are in order.
-use Rattle.std.proofs.Common.{arith}
 use Rattle.stateful_db.specs.Disk.{IsSound, all}
 use Rattle.stateful_medium.specs.declared.checkpoints.Checkpoint.{Ghosts}
 use Rattle.stateful_medium.specs.declared.checkpoints.Checkpoints.{Checkpoints}

@@ -1,4 +1,4 @@
-use Rattle.std.proofs.Common.{◌≡◌, ◌<◌, ◌⊎◌, inl, inr, Result, Ok, Err, OnOk, OnErr, List, [], ◌∷◌, ◌++◌, length, ap, sym, subst, arith, length-append}
+use Rattle.std.proofs.Common.{◌≡◌, ◌⊎◌, inl, inr, Result, Ok, Err, OnOk, OnErr, List, [], ◌∷◌, ◌++◌, length, ap, sym, subst, arith, length-append}
 use Rattle.stateful_medium.specs.Orders.{Ascend}
 use Rattle.stateful_medium.proofs.Ascending.{Ascend-push, Ascend-last}
 use Rattle.stateful_medium.proofs.checkpoints.Checkpoints.push.Goals as goal
