@@ -1,5 +1,7 @@
 pub mod Called
 pub mod Orders
+pub mod Ranged
+pub mod Openings
 pub mod Kept
 pub mod Soundness
 pub mod TokenPlaces

@@ -1,73 +1,54 @@
 //! The kept checkpoints of a medium.
 
-ghost use Rattle.std.specs.Prelude.{◌≡◌, ◌==◌, ◌≤◌, ◌<◌, ◌+◌, ◌^◌, [], ◌∷◌, ◌++◌, length, position, take, OnOk, OnErr, IsTrue};
+ghost use Rattle.std.specs.Prelude.{◌≡◌, ◌==◌, ◌≤◌, ◌<◌, ◌+◌, ◌^◌, [], ◌∷◌, ◌++◌, length, position, take, OnOk, OnErr, IsTrue, ◌↔◌};
 ghost use Rattle.stateful_medium.specs.Orders.{Ascend, Ascend-prop};
+ghost use Rattle.stateful_medium.specs.Ranged.{range_of};
 
 use stateful_db::InitError;
 use stateful_types::{Location, Target};
 use std::alloc::{AllocError, Global};
 use std::mem;
 
-/// What a medium keeps of a checkpoint.
-pub trait Checkpoint: Drop {
-    ghost use Rattle.std.specs.Prelude.{◌≡◌};
-    ghost use Rattle.stateful_types.specs.declared.target.Target.{Target};
-
-    /// The root of its state, with the range.
-    ghost range: { Self → Target };
-
-    /// The end of the range.
-    fn end(&self) -> Location
-        ensures { result ≡ (range self.now).end };
-
-    /// The start of the range.
-    fn start(&self) -> Location
-        ensures { result ≡ (range self.now).start };
-
-    /// The root, with the range.
-    fn target(&self) -> Target
-        ensures { result ≡ range self.now };
+/// What a medium keeps of a checkpoint: its root with its range, and what else it keeps.
+#[derive(Drop)]
+pub struct Checkpoint<X> {
+    pub target: Target,
+    pub kept: X,
 }
 
-impl Checkpoint for Target {
-    ghost range = { λ target. target };
-
-    fn end(&self) -> Location {
-        self.end
-    }
-
-    fn start(&self) -> Location {
-        self.start
-    }
-
-    fn target(&self) -> Target {
-        *self
+impl<X> Checkpoint<X> {
+    /// The root with the range.
+    pub fn target(&self) -> Target
+        ensures { result ≡ range_of self.now }
+    {
+        self.target
     }
 }
 
 /// The kept checkpoints, oldest first, the number of older ones that were pruned, and the place of the last durable one.
 /// Places count the pruned ones too. Ranges ascend, and the durable one is kept.
 #[derive(Drop)]
-pub struct Checkpoints<S: Checkpoint> {
-    older: Vec<S>,
-    newest: S,
+pub struct Checkpoints<X> {
+    older: Vec<Checkpoint<X>>,
+    newest: Checkpoint<X>,
     pruned: u64,
     durable: u64,
-    ghost sizes: { Ascend S.range 0 pruned (older.items ++ newest ∷ []) } by { Ascend-prop S.range 0 pruned (older.items ++ newest ∷ []) },
+    ghost sizes: { Ascend range_of 0 pruned (older.items ++ newest ∷ []) } by { Ascend-prop range_of 0 pruned (older.items ++ newest ∷ []) },
     ghost kept: { pruned ≤ durable },
     ghost within: { durable ≤ pruned + length older.items },
     ghost placed: { pruned + length older.items < 2 ^ 64 },
 }
 
-impl<S: Checkpoint> Checkpoints<S> {
+impl<X: Drop> Checkpoints<X> {
     ghost use Rattle.std.specs.Prelude.{◌≢◌, IfOk, IfErr, slice_get};
     ghost use Rattle.stateful_db.specs.Disk.{all, place, applied, flushed, cut, IsCrash, IsOpened};
-    ghost use Rattle.stateful_db.specs.Reopening.{with_end, FailsToReopen, KeepsDurable, pruned_to};
-    ghost use Rattle.stateful_medium.specs.Kept.{disk_in, IsNumberOf};
+    ghost use Rattle.stateful_db.specs.Reopening.{with_end, FailsToReopen};
+    ghost use Rattle.stateful_medium.specs.Kept.{disk_in};
+    ghost use Rattle.stateful_medium.specs.Openings.{IsNumberOf};
 
     /// One alone. Its range doesn't end at the first location.
-    pub fn new(alloc: Global, first: S) -> Checkpoints<S>
-        requires { 0 < (S.range first).end.0 }
+    pub fn new(alloc: Global, first: Checkpoint<X>) -> Checkpoints<X>
+        requires { 0 < first.target.end.0 }
         ensures { disk_in result
             ≡ record { older = []; newest = first; pruned = 0; durable = 0 } }
     {
@@ -80,7 +61,7 @@ impl<S: Checkpoint> Checkpoints<S> {
     }
 
     /// The newest.
-    pub fn newest(&self) -> &S
+    pub fn newest(&self) -> &Checkpoint<X>
         ensures { result.now ≡ (disk_in self.now).newest }
     {
         &self.newest
@@ -98,19 +79,26 @@ impl<S: Checkpoint> Checkpoints<S> {
         self.pruned + self.older.len() as u64
     }
 
+    /// The number of the newest.
+    pub fn latest(&self) -> usize
+        ensures { result ≡ length (disk_in self.now).older }
+    {
+        self.older.len()
+    }
+
     /// The number of the first whose range has this end.
     pub fn number_with_end(&self, end: Location) -> Option<usize>
-        ensures { result ≡ position (λ s. (S.range s).end.0 == end.0) (all (disk_in self.now)) }
+        ensures { result ≡ position (λ s. s.target.end.0 == end.0) (all (disk_in self.now)) }
     {
         match number_in(self.older.as_slice(), end) {
             Some(number) => Some(number),
-            None if self.newest.end().0 == end.0 => Some(self.older.len()),
+            None if self.newest.target.end.0 == end.0 => Some(self.older.len()),
             None => None,
         }
     }
 
     /// The one of this number.
-    pub fn get(&self, number: usize) -> &S
+    pub fn get(&self, number: usize) -> &Checkpoint<X>
         requires { number < length (all (disk_in self.now)) }
         ensures { slice_get (all (disk_in self.now)) number ≡ Some result.now }
     {
@@ -122,9 +110,9 @@ impl<S: Checkpoint> Checkpoints<S> {
 
     /// The number of the one of this target.
     fn number_of(&self, expected: Target) -> Result<usize, InitError>
-        ensures ok { IfOk result (λ n. IsNumberOf S.range (Some expected) (disk_in self.now) n) }
+        ensures ok { IfOk result (λ n. IsNumberOf range_of (λ t. t) (Some expected) (disk_in self.now) n) }
         ensures err { IfErr result (λ e.
-            FailsToReopen S.range (λ t. t) (Some expected) (disk_in self.now) ⊥ e) }
+            FailsToReopen range_of (λ t. t) (Some expected) (disk_in self.now) ⊥ e) }
         ensures memory { IfErr result (λ e. e ≢ InitError.OutOfMemory) }
     {
         let number = match self.number_with_end(expected.end) {
@@ -132,7 +120,7 @@ impl<S: Checkpoint> Checkpoints<S> {
             None => return Err(InitError::Database),
         };
         let recovered = self.get(number).target();
-        if recovered == expected {
+        if is_same(recovered, expected) {
             Ok(number)
         } else {
             Err(InitError::TargetMismatch {
@@ -144,10 +132,10 @@ impl<S: Checkpoint> Checkpoints<S> {
 
     /// The number of the one of this target, or of the latest.
     pub fn number_to_open(&self, expected: Option<Target>) -> Result<usize, InitError>
-        ensures ok { IfOk result (λ n. IsNumberOf S.range expected (disk_in self.now) n) }
+        ensures ok { IfOk result (λ n. IsNumberOf range_of (λ t. t) expected (disk_in self.now) n) }
         ensures within { IfOk result (λ n. n < length (all (disk_in self.now))) }
         ensures err { IfErr result (λ e.
-            FailsToReopen S.range (λ t. t) expected (disk_in self.now) ⊥ e) }
+            FailsToReopen range_of (λ t. t) expected (disk_in self.now) ⊥ e) }
         ensures memory { IfErr result (λ e. e ≢ InitError.OutOfMemory) }
     {
         match expected {
@@ -177,12 +165,12 @@ impl<S: Checkpoint> Checkpoints<S> {
 
     /// One more. Where its range doesn't end behind that of the newest, or starts before it, it is refused as if memory
     /// were wanting.
-    pub fn push(&mut self, state: S) -> Result<(), AllocError>
+    pub fn push(&mut self, state: Checkpoint<X>) -> Result<(), AllocError>
         ensures ok { OnOk result (disk_in self.new ≡ applied (disk_in self.old) state) }
         ensures err { OnErr result (disk_in self.new ≡ disk_in self.old) }
     {
         // The state of a batch on the newest one is behind it: this never comes for it.
-        if !is_behind(&self.newest, &state) {
+        if !is_behind(&self.newest.target, &state.target) {
             return Err(AllocError);
         }
         append(&mut self.older, &mut self.newest, state)
@@ -196,17 +184,8 @@ impl<S: Checkpoint> Checkpoints<S> {
         self.durable = at.max(self.durable);
     }
 
-    /// Drops those that are older than the one of this target.
-    pub fn prune(&mut self, target: &Target)
-        requires { KeepsDurable S.range (λ t. t) target.now (disk_in self.old) }
-        ensures { disk_in self.new ≡ pruned_to S.range (λ t. t) target.now (disk_in self.old) }
-    {
-        let count = self.number_with_end(target.end).unwrap_or(0);
-        self.drop_first(count);
-    }
-
     /// Drops so many of the oldest. The durable one stays.
-    fn drop_first(&mut self, count: usize)
+    pub fn drop_first(&mut self, count: usize)
         requires within { count ≤ length (disk_in self.old).older }
         requires kept { (disk_in self.old).pruned + count ≤ (disk_in self.old).durable }
         ensures { disk_in self.new ≡ cut (disk_in self.old) count }
@@ -216,22 +195,27 @@ impl<S: Checkpoint> Checkpoints<S> {
     }
 }
 
-/// Whether the range of one ends behind that of another, and doesn't start before it.
-fn is_behind<S: Checkpoint>(one: &S, other: &S) -> bool
-    ensures ends { IsTrue result → (S.range one.now).end.0 < (S.range other.now).end.0 }
-    ensures starts { IsTrue result → (S.range one.now).start.0 ≤ (S.range other.now).start.0 }
-    ensures within { (S.range one.now).end.0 < 2 ^ 64 }
+fn is_same(one: Target, other: Target) -> bool
+    ensures { IsTrue result ↔ (one ≡ other) }
 {
-    let ends = one.end().0 < other.end().0;
-    let starts = one.start().0 <= other.start().0;
+    one == other
+}
+
+/// Whether a range ends behind another, and doesn't start before it.
+fn is_behind(one: &Target, other: &Target) -> bool
+    ensures ends { IsTrue result → one.now.end.0 < other.now.end.0 }
+    ensures starts { IsTrue result → one.now.start.0 ≤ other.now.start.0 }
+{
+    let ends = one.end.0 < other.end.0;
+    let starts = one.start.0 <= other.start.0;
     ends && starts
 }
 
 /// The number of the first whose range has this end.
-fn number_in<S: Checkpoint>(states: &[S], end: Location) -> Option<usize>
-    ensures { result ≡ position (λ s. (S.range s).end.0 == end.0) states.now }
+fn number_in<X>(states: &[Checkpoint<X>], end: Location) -> Option<usize>
+    ensures { result ≡ position (λ s. s.target.end.0 == end.0) states.now }
 {
-    states.iter().position(|state| state.end().0 == end.0)
+    states.iter().position(|state| state.target.end.0 == end.0)
 }
 
 /// Drops all but so many of the oldest. The newest stands apart.

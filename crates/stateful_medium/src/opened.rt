@@ -5,20 +5,20 @@ ghost use Rattle.std.specs.Prelude.{◌≤◌, ◌+◌, ℕ, length, Contains};
 use crate::checkpoints::Checkpoint;
 use crate::medium::Medium;
 use stateful_db::{DbCall, Exhausted, FlushToken, Tokens};
-use stateful_types::{Faulty, Target};
-use std::alloc::AllocError;
+use stateful_types::{Faulty, Location};
+use std::alloc::{AllocError, Global};
 
 /// The id of the last applied batch, the tokens that are out, which name places of kept checkpoints, and the medium.
 #[derive(Drop)]
-pub struct Opened<S: Checkpoint> {
+pub struct Opened<X> {
     pub(crate) id: u64,
     pub(crate) out: Tokens,
-    pub(crate) medium: Medium<S>,
+    pub(crate) medium: Medium<X>,
     ghost no_later: { (at : ℕ) → Contains out at
         → at ≤ medium.checkpoints.pruned + length medium.checkpoints.older.items },
 }
 
-impl<S: Checkpoint> Faulty for Opened<S> {
+impl<X: Drop> Faulty for Opened<X> {
     ghost count = { λ o. o.medium.calls.faults };
 
     fn faults(&self) -> u64 {
@@ -26,11 +26,10 @@ impl<S: Checkpoint> Faulty for Opened<S> {
     }
 }
 
-impl<S: Checkpoint> Opened<S> {
-    ghost use Rattle.std.specs.Prelude.{◌≡◌, ◌-◌, ◌^◌, ◌<◌, ◌↔◌, ◌∷◌, ◌++◌, [], IsTrue, IfOk, IfErr, OnOk, OnErr};
-    ghost use Rattle.stateful_db.specs.Disk.{place, applied, flushed};
+impl<X: Drop> Opened<X> {
+    ghost use Rattle.std.specs.Prelude.{◌≡◌, ◌-◌, ◌^◌, ◌<◌, ◌↔◌, ◌∷◌, ◌++◌, [], ◌==◌, position, IsTrue, IfOk, IfErr, OnOk, OnErr};
+    ghost use Rattle.stateful_db.specs.Disk.{all, place, applied, flushed, cut};
     ghost use Rattle.stateful_db.specs.Tokens.{without};
-    ghost use Rattle.stateful_db.specs.Reopening.{KeepsDurable, pruned_to};
     ghost use Rattle.stateful_db.specs.declared.database.DbCall.{DbCall};
     ghost use Rattle.stateful_medium.specs.Called.{IsListed, Called};
     ghost use Rattle.stateful_medium.specs.Kept.{disk_of, next_of, calls_of, medium_of, standing_of};
@@ -43,14 +42,19 @@ impl<S: Checkpoint> Opened<S> {
     }
 
     /// The newest checkpoint.
-    pub fn newest(&self) -> &S
+    pub fn newest(&self) -> &Checkpoint<X>
         ensures { result.now ≡ (standing_of self.now).disk.newest }
     {
         self.medium.newest()
     }
 
+    /// Its allocator.
+    pub fn allocator(&self) -> Global {
+        self.medium.allocator()
+    }
+
     /// The medium as it is.
-    pub fn close(self) -> Medium<S>
+    pub fn close(self) -> Medium<X>
         ensures { result ≡ medium_of self }
     {
         self.medium
@@ -87,7 +91,7 @@ impl<S: Checkpoint> Opened<S> {
 
     /// Adds the checkpoint of a batch that is applied. Where its range doesn't end behind that of the newest, or starts
     /// before it, it is refused as if memory were wanting.
-    pub fn push(&mut self, id: u64, state: S) -> Result<(), AllocError>
+    pub fn push(&mut self, id: u64, state: Checkpoint<X>) -> Result<(), AllocError>
         ensures ok { OnOk result (standing_of self.new
             ≡ record (standing_of self.old)
             { id = id; disk = applied (standing_of self.old).disk state }) }
@@ -129,16 +133,23 @@ impl<S: Checkpoint> Opened<S> {
         self.out.take(token.place);
     }
 
-    /// Drops the checkpoints that are older than the one of this target.
-    pub fn prune(&mut self, target: &Target)
+    /// The number of the first kept checkpoint whose range has this end.
+    pub fn number_with_end(&self, end: Location) -> Option<usize>
+        ensures { result ≡ position (λ s. s.target.end.0 == end.0) (all (standing_of self.now).disk) }
+    {
+        self.medium.number_with_end(end)
+    }
+
+    /// Drops so many of the oldest checkpoints. The durable one stays, and no token may be out.
+    pub fn drop_first(&mut self, count: usize)
         requires idle { (standing_of self.old).out ≡ [] }
-        requires kept { KeepsDurable S.range (λ t. t) target.now (standing_of self.old).disk }
-        ensures standing { standing_of self.new ≡ record (standing_of self.old) {
-          disk = pruned_to S.range (λ t. t) target.now (standing_of self.old).disk;
-        } }
+        requires within { count ≤ length (standing_of self.old).disk.older }
+        requires kept { (standing_of self.old).disk.pruned + count ≤ (standing_of self.old).disk.durable }
+        ensures standing { standing_of self.new
+            ≡ record (standing_of self.old) { disk = cut (standing_of self.old).disk count } }
         ensures next { next_of (medium_of self.new) ≡ next_of (medium_of self.old) }
         ensures calls { calls_of (medium_of self.new) ≡ calls_of (medium_of self.old) }
     {
-        self.medium.checkpoints.prune(target);
+        self.medium.checkpoints.drop_first(count);
     }
 }

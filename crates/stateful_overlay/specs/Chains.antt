@@ -3,7 +3,7 @@ use Rattle.std.proofs.Common.{◌≡◌, ℕ, ◌<◌, ◌≤◌, ◌==◌, ◌|
 use Rattle.std.specs.List.{list_any}
 use Rattle.std.proofs.lemmas.Bool.Decides.{nat_tests}
 use Rattle.stateful_db.specs.Chain.{IsPoint, has_id}
-use Rattle.stateful_overlay.specs.Stack.{has_layer, above}
+use Rattle.stateful_overlay.specs.Stack.{Stack, has_layer, above, cut_at}
 
 -- `After changes s t`: the changes of a batch on the state s give the state t
 module _ {C S : Type 0} (After : C → S → S → Type 0) where
@@ -89,3 +89,17 @@ module _ {C S : Type 0} (After : C → S → S → Type 0) where
           inside : (xs : List (ℕ × S)) → IsPoint p (xs ++ p ∷ older)
           inside [] = inl refl
           inside (x ∷ xs) = inr (inside xs)
+
+  -- an id of a point of the chain is among its ids
+  has_id-point : (newer older : List (ℕ × S)) (p : ℕ × S) → has_id (newer ++ p ∷ older) p.0 ≡ true
+  has_id-point [] older p = rw (is_same p.0 p.0 refl) refl
+  has_id-point (r ∷ newer) older p = rw (has_id-point newer older p) (or_true (r.0 == p.0))
+    where
+      or_true : (x : Bool) → (x || true) ≡ true
+      or_true true = refl
+      or_true false = refl
+
+  -- the layers that are cut at a point of the chain show it down to that point
+  pub stands-cut : (s : Stack C) (newer older : List (ℕ × S)) (p : ℕ × S) → Stands s.base s.layers (newer ++ p ∷ older) → Stands (cut_at p.0 s).base (cut_at p.0 s).layers (newer ++ p ∷ [])
+  stands-cut s newer older p h =
+      rw (sym (has_id-layers s.base s.layers (newer ++ p ∷ older) p.0 h) ∙ has_id-point newer older p) (stands-above s.base s.layers newer older p h)

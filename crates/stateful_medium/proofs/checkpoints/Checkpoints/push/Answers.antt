@@ -1,3 +1,5 @@
+use Rattle.stateful_medium.specs.declared.checkpoints.Checkpoint.{Checkpoint}
+use Rattle.stateful_medium.specs.Ranged.{range_of}
 use Rattle.std.proofs.Common.{◌≡◌, ◌⊎◌, inl, inr, Result, Ok, Err, OnOk, OnErr, List, [], ◌∷◌, ◌++◌, length, ap, sym, subst, arith, length-append}
 use Rattle.stateful_medium.specs.Orders.{Ascend}
 use Rattle.stateful_medium.proofs.Ascending.{Ascend-push, Ascend-last}
@@ -10,15 +12,14 @@ left (Err refused) older older' newest newest' state d e same still = inl cc
 
 pub invariant_of-self : goal.invariant_of-self
 invariant_of-self g c =
-    let S = g.row.S.Denot in
-    let range = g.S.Checkpoint.range in
+    let S = Checkpoint g.row.X.Denot in
     let kept = c.args.self.now in
     let older = c.append.new.older.items in
     let newest = c.append.new.newest in
     let said = c.append.ensures in
     let behind = c.is_behind.ensures in
-    let last = Ascend-last range 0 kept.pruned kept.older.items kept.newest kept.sizes in
-    let P : List S → Type 0 = λ ss. Ascend range 0 kept.pruned ss in
+    let last = Ascend-last range_of 0 kept.pruned kept.older.items kept.newest kept.sizes in
+    let P : List S → Type 0 = λ ss. Ascend range_of 0 kept.pruned ss in
     elim (left c.append.result kept.older.items older kept.newest newest c.args.state said.ok_older said.ok_newest said.err_older said.err_newest) [
       | inl same ↦
           let count = ap length same in
@@ -31,7 +32,7 @@ invariant_of-self g c =
       | inr more ↦
           let count = ap length more in
           record {
-            sizes = subst P (sym more) (Ascend-push range 0 kept.pruned kept.older.items kept.newest c.args.state kept.sizes (behind.starts c.if-not-is_behind.false) (behind.ends c.if-not-is_behind.false));
+            sizes = subst P (sym more) (Ascend-push range_of 0 kept.pruned kept.older.items kept.newest c.args.state kept.sizes (behind.starts c.if-not-is_behind.false) (behind.ends c.if-not-is_behind.false));
             kept = kept.kept;
             within = omega (arith, length-append {A = S});
             placed = omega (arith, length-append {A = S});

@@ -1,0 +1,4 @@
+pub mod Ops
+pub mod Compacted
+pub mod CompactShown
+pub mod CompactStored

@@ -1,0 +1,9 @@
+//! What databases that are kept as a log have in common: fields of operations with their bytes, the chain of digests, and
+//! media that keep each operation once.
+#![tactic(auto)]
+
+mod chain;
+mod field;
+
+pub use chain::link;
+pub use field::Field;
