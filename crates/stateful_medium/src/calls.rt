@@ -1,6 +1,7 @@
 //! The calls on a medium, by kind and by number, and the faults among them.
 
-ghost use Rattle.std.specs.Prelude.{◌≡◌, ◌↔◌, IsTrue, Contains, ℕ};
+ghost use Rattle.std.specs.Prelude.{◌≡◌, ◌≤◌, ◌↔◌, IsTrue, Contains, ℕ};
+ghost use Rattle.stateful_types.specs.Causes.{Rose};
 ghost use Rattle.stateful_medium.specs.Called.{number_of, passed, IsListed, Called};
 
 use stateful_db::DbCall;
@@ -83,6 +84,8 @@ impl Calls {
     pub fn fails(&mut self, call: DbCall) -> bool
         ensures listed { IsTrue result ↔ IsListed self.old call }
         ensures called { Called call self.old self.new }
+        ensures count { self.old.faults ≤ self.new.faults }
+        ensures rose { IsTrue result → Rose self.old.faults self.new.faults }
     {
         let number = self.numbers.of(call);
         self.numbers.pass(call);

@@ -27,7 +27,7 @@ impl<X: Drop> Faulty for Medium<X> {
 }
 
 impl<X: Drop> Medium<X> {
-    ghost use Rattle.std.specs.Prelude.{◌≡◌, ◌≢◌, ◌↔◌, ◌⊎◌, ◌+◌, [], length, slice_get, Some, ◌==◌, position, IsTrue, IfOk, IfErr, IsErrAnd};
+    ghost use Rattle.std.specs.Prelude.{◌≡◌, ◌≢◌, ◌↔◌, ◌⊎◌, ◌+◌, ◌≤◌, [], length, slice_get, Some, ◌==◌, position, IsTrue, IfOk, IfErr, IsErrAnd};
     ghost use Rattle.stateful_types.specs.Causes.{Rose};
     ghost use Rattle.stateful_db.specs.Disk.{all, IsCrash};
     ghost use Rattle.stateful_db.specs.Reopening.{FailsToReopen, HasNone, OpensAt};
@@ -63,6 +63,8 @@ impl<X: Drop> Medium<X> {
     pub fn fails(&mut self, call: DbCall) -> bool
         ensures listed { IsTrue result ↔ IsListed (calls_of self.old) call }
         ensures called { Called call (calls_of self.old) (calls_of self.new) }
+        ensures count { (calls_of self.old).faults ≤ (calls_of self.new).faults }
+        ensures rose { IsTrue result → Rose (calls_of self.old).faults (calls_of self.new).faults }
         ensures disk { disk_of self.new ≡ disk_of self.old }
         ensures next { next_of self.new ≡ next_of self.old }
     {
@@ -85,6 +87,7 @@ impl<X: Drop> Medium<X> {
             ⊎ HasNone range_of (λ t. t) expected (disk_of self.old)) }
         ensures memory { IfErr result (λ e. e ≢ InitError.OutOfMemory) }
         ensures called { Called DbCall.Init (calls_of self.old) (calls_of self.new) }
+        ensures count { (calls_of self.old).faults ≤ (calls_of self.new).faults }
         ensures disk { disk_of self.new ≡ disk_of self.old }
         ensures next { next_of self.new ≡ next_of self.old }
     {

@@ -4,7 +4,7 @@ ghost use Rattle.std.specs.Prelude.{◌≤◌, ◌+◌, ℕ, length, Contains};
 
 use crate::checkpoints::Checkpoint;
 use crate::medium::Medium;
-use stateful_db::{DbCall, Exhausted, FlushToken, Tokens};
+use stateful_db::{Broken, DbCall, Exhausted, FlushToken, Tokens, Why};
 use stateful_types::{Faulty, Location};
 use std::alloc::{AllocError, Global};
 
@@ -27,9 +27,10 @@ impl<X: Drop> Faulty for Opened<X> {
 }
 
 impl<X: Drop> Opened<X> {
-    ghost use Rattle.std.specs.Prelude.{◌≡◌, ◌-◌, ◌^◌, ◌<◌, ◌↔◌, ◌∷◌, ◌++◌, [], ◌==◌, position, IsTrue, IfOk, IfErr, OnOk, OnErr};
+    ghost use Rattle.std.specs.Prelude.{◌≡◌, ◌-◌, ◌^◌, ◌<◌, ◌↔◌, ◌∷◌, ◌++◌, [], ◌==◌, position, IfOk, IfErr, OnOk, OnErr};
     ghost use Rattle.stateful_db.specs.Disk.{all, place, applied, flushed, cut};
     ghost use Rattle.stateful_db.specs.Tokens.{without};
+    ghost use Rattle.stateful_types.specs.Causes.{Rose};
     ghost use Rattle.stateful_db.specs.declared.database.DbCall.{DbCall};
     ghost use Rattle.stateful_medium.specs.Called.{IsListed, Called};
     ghost use Rattle.stateful_medium.specs.Kept.{disk_of, next_of, calls_of, medium_of, standing_of};
@@ -60,15 +61,39 @@ impl<X: Drop> Opened<X> {
         self.medium
     }
 
-    /// Makes a call of this kind. Whether it is to fail, which is then counted.
-    pub fn fails(&mut self, call: DbCall) -> bool
-        ensures listed { IsTrue result ↔ IsListed (calls_of (medium_of self.old)) call }
-        ensures called { Called call (calls_of (medium_of self.old)) (calls_of
-            (medium_of self.new)) }
-        ensures standing { standing_of self.new ≡ standing_of self.old }
-        ensures next { next_of (medium_of self.new) ≡ next_of (medium_of self.old) }
+    /// Makes a call of this kind. It fails exactly where it is listed as a failing one.
+    pub fn begin(self, call: DbCall) -> Result<Opened<X>, Broken<Medium<X>>>
+        ensures ok { IfOk result (λ o. standing_of o ≡ standing_of self) }
+        ensures ok_next { IfOk result (λ o. next_of (medium_of o) ≡ next_of (medium_of self)) }
+        ensures ok_count { IfOk result (λ o.
+            (calls_of (medium_of self)).faults ≤ (calls_of (medium_of o)).faults) }
+        ensures ok_called { IfOk result (λ o.
+            Called call (calls_of (medium_of self)) (calls_of (medium_of o))) }
+        ensures err { IfErr result (λ b. disk_of b.medium ≡ (standing_of self).disk) }
+        ensures err_next { IfErr result (λ b. next_of b.medium ≡ next_of (medium_of self)) }
+        ensures err_count { IfErr result (λ b.
+            (calls_of (medium_of self)).faults ≤ (calls_of b.medium).faults) }
+        ensures err_called { IfErr result (λ b.
+            Called call (calls_of (medium_of self)) (calls_of b.medium)) }
+        ensures failed { IfErr result (λ b.
+            Rose (calls_of (medium_of self)).faults (calls_of b.medium).faults) }
+        ensures why { IfErr result (λ b. b.why ≡ Why.Failed) }
+        ensures err_listed { IfErr result (λ _. IsListed (calls_of (medium_of self)) call) }
+        ensures ok_listed { IfOk result (λ _. IsListed (calls_of (medium_of self)) call → ⊥) }
     {
-        self.medium.fails(call)
+        let Opened {
+            id,
+            out,
+            mut medium,
+        } = self;
+        if medium.fails(call) {
+            Err(Broken {
+                medium,
+                why: Why::Failed,
+            })
+        } else {
+            Ok(Opened { id, out, medium })
+        }
     }
 
     /// Draws a batch id.

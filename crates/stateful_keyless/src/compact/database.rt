@@ -152,7 +152,12 @@ impl<V: Field> ManagedDb for CompactDb<V> {
 
     fn new_batch(
         database: BatchContext<'_, CompactDb<V>>,
-    ) -> Result<KeylessUnjournaledUnmerkleized<V>, OutOfMemory> {
+    ) -> Result<KeylessUnjournaledUnmerkleized<V>, OutOfMemory>
+        ensures { let s = standing_of database.entry.database.now in
+            IfOk result (λ u. s.id < database.entry.id
+            → DraftShows V.fields.spelling u
+            ((database.entry.id, begun V.fields.spelling s.disk.newest) ∷ point s ∷ [])) }
+    {
         let (db, id) = database.into_parts();
         let state = db.opened.newest();
         Ok(KeylessUnjournaledUnmerkleized {
@@ -169,7 +174,14 @@ impl<V: Field> ManagedDb for CompactDb<V> {
     fn fork(
         database: BatchContext<'_, CompactDb<V>>,
         parent: &KeylessUnjournaledMerkleized<V>,
-    ) -> Result<KeylessUnjournaledUnmerkleized<V>, OutOfMemory> {
+    ) -> Result<KeylessUnjournaledUnmerkleized<V>, OutOfMemory>
+        ensures { let p = point (standing_of database.entry.database.now) in
+            IfOk result (λ u. (q : ℕ × State V) (above older : List (ℕ × State V))
+            → SealShows parent.now (q ∷ above ++ p ∷ older)
+            → q.0 < database.entry.id
+            → DraftShows V.fields.spelling u
+            ((database.entry.id, begun V.fields.spelling q.1) ∷ q ∷ above ++ p ∷ [])) }
+    {
         let (db, id) = database.into_parts();
         let mut batch = parent.new_batch(id)?;
         batch.below.cut(db.opened.id());
