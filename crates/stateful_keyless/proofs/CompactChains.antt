@@ -20,13 +20,13 @@ module _ {V : Type 0} (spell : V → List ℕ) where
       ∙ ap (λ b. (u.id == n) || b) (has_id-layers Unread u.below.base u.below.layers (q ∷ c) n h.1.1.0)
 
   -- a child of a sealed batch, whose layers are those of its parent and the parent's own
-  pub opens : (m : KeylessUnjournaledMerkleized V) (below : Stack (Unit {0})) (id : ℕ) (p : ℕ × State V) (c : List (ℕ × State V))
-      → SealShows m (p ∷ c) → below ≡ record m.below { layers = m.layer ∷ m.below.layers } → m.state.target.end.0 < 2 ^ 64 → p.0 < id
-      → DraftShows spell (record { id = id; below = below; floor = m.state.kept.floor; end = m.state.target.end.0; before = m.state.target.root; metadata = None; asked = 0 }) ((id, begun spell p.1) ∷ p ∷ c)
-  opens m below id p c h same within less =
+  pub opens : (m : KeylessUnjournaledMerkleized V) (below : Stack (Unit {0})) (id end : ℕ) (p : ℕ × State V) (c : List (ℕ × State V))
+      → SealShows m (p ∷ c) → below ≡ record m.below { layers = m.layer ∷ m.below.layers } → end ≡ size_of m.state → end < 2 ^ 64 → p.0 < id
+      → DraftShows spell (record { id = id; below = below; floor = m.state.kept.floor; end = end; before = m.state.target.root; metadata = None; asked = 0 }) ((id, begun spell p.1) ∷ p ∷ c)
+  opens m below id end p c h same size within less =
       let P : Stack (Unit {0}) → Type 0 = λ b. Stands Unread b.base b.layers (p ∷ c) in
-      let size = ap (λ s. size_of s) h.top in
-      let holds : Holds spell (record { id = id; below = below; floor = m.state.kept.floor; end = m.state.target.end.0; before = m.state.target.root; metadata = None; asked = 0 }) unchanged p.1 = record {
+      let top = ap (λ s. size_of s) h.top in
+      let holds : Holds spell (record { id = id; below = below; floor = m.state.kept.floor; end = end; before = m.state.target.root; metadata = None; asked = 0 }) unchanged p.1 = record {
         before = ap (λ s. s.target.root) (sym h.top);
         end = omega arith;
         floor = ap (λ s. s.kept.floor) (sym h.top);
@@ -34,6 +34,15 @@ module _ {V : Type 0} (spell : V → List ℕ) where
         asked = refl;
       } in
       (refl, (less, (subst P (sym same) h.chain, (unchanged, (holds, refl)))))
+
+  -- a batch over the state of a database
+  pub begins : (u : KeylessUnjournaledUnmerkleized V) (id : ℕ) (p : ℕ × State V)
+      → u.id ≡ id → u.below ≡ record { base = p.0; layers = [] } → u.floor ≡ p.1.kept.floor → u.end ≡ size_of p.1 → u.end < 2 ^ 64 → u.before ≡ p.1.target.root → u.metadata ≡ None → u.asked ≡ 0 → p.0 < id
+      → DraftShows spell u ((id, begun spell p.1) ∷ p ∷ [])
+  begins u id p named over floor end within before metadata asked less =
+      let P : Stack (Unit {0}) → Type 0 = λ b. Stands Unread b.base b.layers (p ∷ []) in
+      let holds : Holds spell u unchanged p.1 = record { before = before; end = omega arith; floor = floor; metadata = metadata; asked = asked } in
+      (sym named, (less, (subst P (sym over) refl, (unchanged, (holds, refl)))))
 
   -- a batch whose layers are cut at a point of its chain
   pub draft_cut : (u : KeylessUnjournaledUnmerkleized V) (t : KeylessUnjournaledUnmerkleized V) (x q p : ℕ × State V) (above older : List (ℕ × State V))

@@ -8,7 +8,7 @@ ghost use Rattle.stateful_keyless.specs.Compacted.{State, size_of};
 ghost use Rattle.stateful_keyless.specs.CompactShown.{Holds, DraftShows, SealShows};
 
 use super::database::CompactDb;
-use super::state::{Commit, CompactState, committed, share};
+use super::state::{Commit, CompactState, committed, share, size};
 use crate::op::{link_append, link_commit};
 use stateful_db::{BatchError, Merkleized, Unmerkleized};
 use stateful_log::Field;
@@ -136,6 +136,17 @@ impl<V: Field> KeylessUnjournaledUnmerkleized<V> {
     }
 }
 
+impl<V: Drop> KeylessUnjournaledMerkleized<V> {
+    /// Its id, and its state.
+    pub(crate) fn into_state(self) -> (u64, CompactState<V>)
+        ensures id { result.0 ≡ self.layer.0 }
+        ensures state { result.1 ≡ self.state }
+    {
+        let KeylessUnjournaledMerkleized { layer, state, .. } = self;
+        (layer.id(), state)
+    }
+}
+
 impl<V: Field> Unmerkleized for KeylessUnjournaledUnmerkleized<V> {
     ghost use Rattle.stateful_db.specs.Disk.{point};
     ghost use Rattle.stateful_keyless.specs.Compacted.{size_of};
@@ -193,7 +204,7 @@ impl<V: Field> Merkleized for KeylessUnjournaledMerkleized<V> {
             id,
             below: self.below.with(&self.layer)?,
             floor: self.state.kept.floor,
-            end: self.state.target.end.0,
+            end: size(&self.state),
             before: self.state.target.root,
             metadata: None,
             asked: 0,

@@ -1,22 +1,20 @@
 //! Failed changes.
 
 ghost use Rattle.std.specs.Prelude.{◌≡◌};
-ghost use Rattle.stateful_medium.specs.Kept as kept;
 
 use super::medium::CompactMedium;
 use super::state::Commit;
-use stateful_db::{Broken, Why};
-use stateful_medium::Opened;
+use stateful_db::Broken;
+use stateful_medium::Medium;
 
-/// A failed change hands back the medium.
-pub(crate) fn broken<V: Drop>(opened: Opened<Commit<V>>, why: Why) -> Broken<CompactMedium<V>>
-    ensures medium { result.medium.medium ≡ kept.medium_of opened }
-    ensures why { result.why ≡ why }
+/// The failed change of a compact database.
+pub(crate) fn broken<V: Drop>(change: Broken<Medium<Commit<V>>>) -> Broken<CompactMedium<V>>
+    ensures medium { result.medium.medium ≡ change.medium }
+    ensures why { result.why ≡ change.why }
 {
+    let Broken { medium, why } = change;
     Broken {
-        medium: CompactMedium {
-            medium: opened.close(),
-        },
+        medium: CompactMedium { medium },
         why,
     }
 }

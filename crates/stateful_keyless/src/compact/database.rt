@@ -3,9 +3,9 @@
 use super::batch::{KeylessUnjournaledMerkleized, KeylessUnjournaledUnmerkleized};
 use super::broken::broken;
 use super::medium::CompactMedium;
-use super::opening::{number_to_open, prune_to};
+use super::opening::number_to_open;
 use super::pass::CompactPass;
-use super::state::{Commit, CompactState, compact_target};
+use super::state::{Commit, CompactState, compact_target, size};
 use stateful_db::{
     BatchContext, Broken, DbCall, Exhausted, FlushToken, InitError, ManagedDb, Merkleized,
     Targeted, Why,
@@ -59,7 +59,7 @@ impl<V: Field> ManagedDb for CompactDb<V> {
     ghost use Rattle.stateful_db.specs.Reopening.{Reopens, FailsToReopen, HasNone, KeepsDurable, pruned_to};
     ghost use Rattle.stateful_db.specs.Tokens.{without};
     ghost use Rattle.stateful_medium.specs.Called.{IsListed, Called};
-    ghost use Rattle.stateful_medium.specs.Soundness.{sound_medium, sound_opened};
+    ghost use Rattle.stateful_keyless.specs.CompactSound.{sound_medium, sound_database};
     ghost use Rattle.stateful_keyless.specs.Compacted.{State, begun, initial, target_of};
     ghost use Rattle.stateful_keyless.specs.CompactShown.{DraftShows, SealShows};
     ghost use Rattle.stateful_keyless.specs.CompactStored.{disk_of, next_of, calls_of, standing_of, next_here, calls_here};
@@ -164,7 +164,7 @@ impl<V: Field> ManagedDb for CompactDb<V> {
             id,
             below: Layers::over(db.opened.allocator(), db.opened.id()),
             floor: state.kept.floor,
-            end: state.target.end.0,
+            end: size(state),
             before: state.target.root,
             metadata: None,
             asked: 0,
@@ -228,14 +228,10 @@ impl<V: Field> ManagedDb for CompactDb<V> {
             ↔ IsListed (calls_here self) DbCall.Apply }
         ensures kept { IfErr result (λ b. disk_of b.medium ≡ (standing_of self).disk) }
     {
-        let CompactDb { mut opened } = self;
-        if opened.fails(DbCall::Apply) {
-            return Err(broken(opened, Why::Failed));
-        }
-        let KeylessUnjournaledMerkleized { layer, state, .. } = batch;
-        match opened.push(layer.id(), state) {
-            Ok(()) => Ok(CompactDb { opened }),
-            Err(_) => Err(broken(opened, Why::OutOfMemory)),
+        let (id, state) = batch.into_state();
+        match self.opened.apply(id, state) {
+            Ok(opened) => Ok(CompactDb { opened }),
+            Err(change) => Err(broken(change)),
         }
     }
 
@@ -260,12 +256,10 @@ impl<V: Field> ManagedDb for CompactDb<V> {
             ↔ IsListed (calls_here self) DbCall.Finalize }
         ensures memory { IfErr result (λ b. b.why ≢ Why.OutOfMemory) }
     {
-        let CompactDb { mut opened } = self;
-        if opened.fails(DbCall::Finalize) {
-            return Err(broken(opened, Why::Failed));
+        match self.opened.finalize() {
+            Ok((opened, token)) => Ok((CompactDb { opened }, token)),
+            Err(change) => Err(broken(change)),
         }
-        let token = opened.put_token();
-        Ok((CompactDb { opened }, token))
     }
 
     /// Takes no memory. It fails exactly where the call is listed as a failing one, and leaves the durable place.
@@ -292,12 +286,10 @@ impl<V: Field> ManagedDb for CompactDb<V> {
         ensures kept { IfErr result (λ b. disk_of b.medium ≡ (standing_of self).disk) }
         ensures memory { IfErr result (λ b. b.why ≢ Why.OutOfMemory) }
     {
-        let CompactDb { mut opened } = self;
-        if opened.fails(DbCall::Flush) {
-            return Err(broken(opened, Why::Failed));
+        match self.opened.flush(token) {
+            Ok(opened) => Ok(CompactDb { opened }),
+            Err(change) => Err(broken(change)),
         }
-        opened.take_token(token);
-        Ok(CompactDb { opened })
     }
 
     /// Takes no memory. It fails exactly where the call is listed as a failing one, and leaves the checkpoints.
@@ -325,12 +317,11 @@ impl<V: Field> ManagedDb for CompactDb<V> {
         ensures kept { IfErr result (λ b. disk_of b.medium ≡ (standing_of self).disk) }
         ensures memory { IfErr result (λ b. b.why ≢ Why.OutOfMemory) }
     {
-        let CompactDb { mut opened } = self;
-        if opened.fails(DbCall::Prune) {
-            return Err(broken(opened, Why::Failed));
+        let count = self.opened.number_with_end(target.size).unwrap_or(0);
+        match self.opened.prune_first(count) {
+            Ok(opened) => Ok(CompactDb { opened }),
+            Err(change) => Err(broken(change)),
         }
-        prune_to(&mut opened, target);
-        Ok(CompactDb { opened })
     }
 
     fn sync_target(&self) -> CompactTarget {
@@ -359,9 +350,9 @@ impl<V: Field> ManagedDb for CompactDb<V> {
         medium
     }
 
-    ghost sound = { λ m. sound_medium m.medium };
+    ghost sound = { sound_medium };
 
-    ghost sound_here = { λ d. sound_opened d.opened };
+    ghost sound_here = { sound_database };
 
     ghost numbered = { λ m. m.medium.numbered };
 

@@ -1,18 +1,18 @@
 //! Checkpoints by their targets.
 
-ghost use Rattle.std.specs.Prelude.{◌≡◌, ◌≢◌, ◌⊎◌, ◌+◌, ◌<◌, [], length, position, Some, IfOk, IfErr, IsErrAnd, ◌↔◌, IsTrue};
+ghost use Rattle.std.specs.Prelude.{◌≡◌, ◌≢◌, ◌⊎◌, ◌<◌, ◌≤◌, length, Some, IfOk, IfErr, IsErrAnd, ◌↔◌, IsTrue};
 ghost use Rattle.stateful_types.specs.Causes.{Rose};
 ghost use Rattle.stateful_db.specs.Targeted.{compact_target};
 ghost use Rattle.stateful_db.specs.Disk.{all};
-ghost use Rattle.stateful_db.specs.Reopening.{FailsToReopen, HasNone, KeepsDurable, pruned_to};
+ghost use Rattle.stateful_db.specs.Reopening.{FailsToReopen, HasNone};
 ghost use Rattle.stateful_medium.specs.Called.{Called, IsListed};
-ghost use Rattle.stateful_medium.specs.Kept.{disk_of, next_of, calls_of, medium_of, standing_of};
+ghost use Rattle.stateful_medium.specs.Kept.{disk_of, next_of, calls_of};
 ghost use Rattle.stateful_medium.specs.Openings.{IsNumberOf};
 ghost use Rattle.stateful_keyless.specs.Compacted.{target_of};
 
 use super::state::{Commit, compact_target};
 use stateful_db::{DbCall, InitError, Targeted};
-use stateful_medium::{Medium, Opened};
+use stateful_medium::Medium;
 use stateful_types::CompactTarget;
 
 /// The number of the kept checkpoint of this target, or of the latest. This is a call of the kind `Init`; `Database`
@@ -35,6 +35,7 @@ pub(crate) fn number_to_open<V: Drop>(
         ⊎ HasNone target_of compact_target expected (disk_of medium.old)) }
     ensures memory { IfErr result (λ e. e ≢ InitError.OutOfMemory) }
     ensures called { Called DbCall.Init (calls_of medium.old) (calls_of medium.new) }
+    ensures count { (calls_of medium.old).faults ≤ (calls_of medium.new).faults }
     ensures disk { disk_of medium.new ≡ disk_of medium.old }
     ensures next { next_of medium.new ≡ next_of medium.old }
 {
@@ -75,20 +76,6 @@ fn number_of<V: Drop>(
             recovered: recovered.target(),
         })
     }
-}
-
-/// Drops the checkpoints that are older than the one of this target, which has so many operations.
-pub(crate) fn prune_to<V: Drop>(opened: &mut Opened<Commit<V>>, target: &CompactTarget)
-    requires idle { (standing_of opened.old).out ≡ [] }
-    requires kept { KeepsDurable target_of compact_target target.now (standing_of opened.old).disk }
-    ensures standing { standing_of opened.new ≡ record (standing_of opened.old) {
-      disk = pruned_to target_of compact_target target.now (standing_of opened.old).disk;
-    } }
-    ensures next { next_of (medium_of opened.new) ≡ next_of (medium_of opened.old) }
-    ensures calls { calls_of (medium_of opened.new) ≡ calls_of (medium_of opened.old) }
-{
-    let count = opened.number_with_end(target.size).unwrap_or(0);
-    opened.drop_first(count);
 }
 
 fn is_same(one: CompactTarget, other: CompactTarget) -> bool

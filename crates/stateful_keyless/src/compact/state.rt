@@ -1,7 +1,7 @@
 //! What a compact database keeps of a checkpoint.
 
 ghost use Rattle.std.specs.Prelude.{◌≡◌, IfOk};
-ghost use Rattle.stateful_keyless.specs.Compacted.{state_of, target_of, initial};
+ghost use Rattle.stateful_keyless.specs.Compacted.{state_of, size_of, target_of, initial};
 
 use stateful_log::Field;
 use stateful_medium::Checkpoint;
@@ -43,6 +43,13 @@ pub(crate) fn initial<V: Field>() -> Checkpoint<Commit<V>>
         floor: 0,
     };
     committed(Digest::of(&[0; 42]), 1, commit)
+}
+
+/// The number of operations.
+pub(crate) fn size<V>(state: &Checkpoint<Commit<V>>) -> u64
+    ensures { result ≡ size_of state.now }
+{
+    state.target.end.0
 }
 
 /// The root, with the number of operations.
