@@ -8,3 +8,6 @@ pub use compact::{
     Commit, CompactDb, CompactMedium, CompactPass, CompactState, KeylessUnjournaledMerkleized,
     KeylessUnjournaledUnmerkleized,
 };
+
+#[cfg(test)]
+mod tests;

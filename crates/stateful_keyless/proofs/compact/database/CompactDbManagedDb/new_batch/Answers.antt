@@ -19,4 +19,4 @@ returns g c =
     let newest = c.newest-state.ensures in
     let over = c.over.ensures ∙ ap (λ b. record { base = b; layers = [] }) c.id.ensures in
     subst P c.into_parts-id.ensures.database (λ less.
-        begins spell batch id (point (standing_of c.into_parts-id.result.0.now)) c.into_parts-id.ensures.id over (ap (λ s. s.kept.floor) newest) (c.size.ensures ∙ ap (λ s. size_of s) newest) (omega arith) (ap (λ s. s.target.root) newest) refl refl less)
+    begins spell batch id (point (standing_of c.into_parts-id.result.0.now)) c.into_parts-id.ensures.id over (ap (λ s. s.kept.floor) newest) (c.size.ensures ∙ ap (λ s. size_of s) newest) (omega arith) (ap (λ s. s.target.root) newest) refl refl less)
