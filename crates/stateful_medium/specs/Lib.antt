@@ -5,3 +5,4 @@ pub mod Openings
 pub mod Kept
 pub mod Soundness
 pub mod TokenPlaces
+pub mod Mapped
