@@ -1,2 +1,4 @@
 pub mod Chained
 pub mod ChainedLaws
+pub mod Runs
+pub mod Digests

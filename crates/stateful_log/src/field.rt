@@ -57,3 +57,26 @@ impl Field for u64 {
 
     ghost exact = { exact_unsigned };
 }
+
+impl Field for Digest {
+    ghost use Rattle.stateful_types.specs.Digest.{digest_format};
+    ghost use Rattle.stateful_log.specs.Digests.{digest_alone, digest_exact};
+
+    ghost fields = { digest_format };
+
+    fn write(&self, out: &mut Vec<u8>) -> Result<(), OutOfMemory> {
+        Digest::write(self, out)
+    }
+
+    fn read(_alloc: Global, input: &mut Bytes) -> Result<Digest, CodecError> {
+        Digest::read(input)
+    }
+
+    fn duplicate(&self) -> Result<Digest, OutOfMemory> {
+        Ok(*self)
+    }
+
+    ghost lawful = { digest_alone };
+
+    ghost exact = { digest_exact };
+}

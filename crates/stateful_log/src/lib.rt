@@ -4,6 +4,8 @@
 
 mod chain;
 mod field;
+mod run;
 
 pub use chain::link;
 pub use field::Field;
+pub use run::Run;
