@@ -4,8 +4,12 @@
 
 mod chain;
 mod field;
+mod log_medium;
+mod open_log;
 mod run;
 
 pub use chain::link;
 pub use field::Field;
+pub use log_medium::LogMedium;
+pub use open_log::OpenLog;
 pub use run::Run;

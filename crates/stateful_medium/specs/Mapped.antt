@@ -123,3 +123,7 @@ module _ {K S : Type 0} (f : K → S) (range : S → Target) where
   fails-mapped None d rose (error.TargetMismatch given recovered) h = h
   fails-mapped (Some t) d rose (error.TargetMismatch given recovered) (n, k, found, at, differs, expected, is) =
       (n, f k, with_end-mapped t d ∙ found, ap (λ ss. slice_get ss n) (all-mapped f d) ∙ slice_get-map f (all d) n k at, differs, expected, is)
+
+  pub none-mapped : (expected : Option Target) (d : Disk K) → HasNone kept_range (λ u. u) expected d → HasNone range (λ u. u) expected (mapped f d)
+  none-mapped None d h = h
+  none-mapped (Some t) d h = with_end-mapped t d ∙ h

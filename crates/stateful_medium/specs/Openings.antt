@@ -21,7 +21,7 @@ module _ {S T : Type 0} (target_of : S → T) (targeted : T → Target) where
   IsNumberOf (Some t) d n = (with_end target_of targeted t d ≡ Some n) × ((s : S) × (slice_get (all d) n ≡ Some s) × (target_of s ≡ t))
 
   -- the newest checkpoint is the one at which the medium was opened
-  opened_newest : (d e : Disk S) (n : ℕ) (s : S) → IsOpened n d e → slice_get (all d) n ≡ Some s → e.newest ≡ s
+  pub opened_newest : (d e : Disk S) (n : ℕ) (s : S) → IsOpened n d e → slice_get (all d) n ≡ Some s → e.newest ≡ s
   opened_newest d e n s opened is = last_of_take (all d) e.older e.newest s n (opened.kept ∙ ap (λ k. take k (all d)) (add-one n)) is
 
   -- a database that is opened at that number

@@ -27,7 +27,7 @@ impl<X: Drop> Faulty for Opened<X> {
 }
 
 impl<X: Drop> Opened<X> {
-    ghost use Rattle.std.specs.Prelude.{◌≡◌, ◌-◌, ◌^◌, ◌<◌, ◌↔◌, ◌∷◌, ◌++◌, [], ◌==◌, position, IfOk, IfErr, OnOk, OnErr};
+    ghost use Rattle.std.specs.Prelude.{◌≡◌, ◌-◌, ◌^◌, ◌<◌, ◌↔◌, ◌∷◌, ◌++◌, [], ◌==◌, position, slice_get, Some, IfOk, IfErr, OnOk, OnErr};
     ghost use Rattle.stateful_db.specs.Disk.{all, place, applied, flushed, cut};
     ghost use Rattle.stateful_db.specs.Tokens.{without};
     ghost use Rattle.stateful_types.specs.Causes.{Rose};
@@ -47,6 +47,13 @@ impl<X: Drop> Opened<X> {
         ensures { result.now ≡ (standing_of self.now).disk.newest }
     {
         self.medium.newest()
+    }
+
+    /// The oldest kept checkpoint.
+    pub fn oldest(&self) -> &Checkpoint<X>
+        ensures { slice_get (all (standing_of self.now).disk) 0 ≡ Some result.now }
+    {
+        self.medium.get(0)
     }
 
     /// Its allocator.
