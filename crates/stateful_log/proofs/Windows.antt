@@ -2,8 +2,8 @@
 use Rattle.std.proofs.Common.{◌≡◌, ℕ, zero, suc, ◌+◌, ◌-◌, ◌≤◌, ◌<◌, ◌⊎◌, inl, inr, List, [], ◌∷◌, ◌++◌, length, take, drop, min, Option, Some, None, slice_get, refl, sym, ap, subst, ◌∙◌, arith, length-take, length-drop, length-append}
 use Rattle.std.proofs.lemmas.List.{take-take, drop-drop, take-append-le, drop-append-le, take_all}
 use Rattle.stateful_types.specs.declared.target.Target.{Target}
-use Rattle.stateful_db.specs.Disk.{Disk, Standing, IsSound, all, cut}
-use Rattle.stateful_db.specs.CheckpointLaws.{slice_get-last, slice_get-drop, length-all}
+use Rattle.stateful_db.specs.Disk.{Disk, Standing, IsSound, all, applied, cut}
+use Rattle.stateful_db.specs.CheckpointLaws.{slice_get-last, slice_get-left, slice_get-drop, length-all}
 use Rattle.std.proofs.lemmas.Option.{slice_get_within}
 use Rattle.stateful_medium.specs.declared.checkpoints.Checkpoint.{Checkpoint}
 use Rattle.stateful_medium.specs.Ranged.{range_of}
@@ -12,6 +12,13 @@ use Rattle.stateful_log.specs.Between.{between, state_in}
 
 abbrev Point : Type 0
 Point = Checkpoint (Unit {0})
+
+-- an element is one of the front, or the last
+slice_get_cases : {X : Type 0} (i : ℕ) (xs : List X) (y x : X) → slice_get (xs ++ y ∷ []) i ≡ Some x → (slice_get xs i ≡ Some x) ⊎ (y ≡ x)
+slice_get_cases zero [] y x h = inr cc
+slice_get_cases (suc i) [] y x h = inl h
+slice_get_cases zero (z ∷ xs) y x h = inl h
+slice_get_cases (suc i) (z ∷ xs) y x h = slice_get_cases i xs y x h
 
 le_or : (a b : ℕ) → (a ≤ b) ⊎ (b ≤ a)
 le_or zero b = inl (omega arith)
@@ -145,6 +152,48 @@ module _ {Op : Type 0} where
     pub later_agree : Agree (state_in later (drop (later - first) ops)) (state_in first ops) (all d)
     later_agree = agree_each _ _ (all d) (λ i x at.
         ap (λ xs. record { target = x.target; kept = xs }) (between-drop first later ops x.target.start.0 x.target.end.0 later_first (later_begins i x at)))
+
+module _ {Op : Type 0} where
+  -- the operations of a checkpoint that is added
+  between-more : (first : ℕ) (ops more : List Op) (s e a b : ℕ) → first ≤ s → s ≤ e → e ≡ first + length ops → s ≤ a → b ≡ e + length more → between first (ops ++ more) a b ≡ drop (a - s) (between first ops s e ++ more)
+  between-more first ops more s e a b low range ends above behind =
+      let whole : between first ops s e ≡ drop (s - first) ops = take_all (e - s) (drop (s - first) ops) (omega (arith, length-drop (s - first) ops)) in
+      let joined : between first ops s e ++ more ≡ drop (s - first) (ops ++ more) = ap (λ xs. xs ++ more) whole ∙ sym (drop-append-le (s - first) ops more (omega arith)) in
+      let at : (s - first) + (a - s) ≡ a - first = omega arith in
+      take_all (b - a) (drop (a - first) (ops ++ more)) (omega (arith, length-drop (a - first) (ops ++ more), length-append ops more))
+      ∙ ap (λ n. drop n (ops ++ more)) (sym at)
+      ∙ sym (drop-drop (a - s) (s - first) (ops ++ more))
+      ∙ ap (λ xs. drop (a - s) xs) (sym joined)
+
+  -- one checkpoint more, with the operations that are appended
+  module _ (first : ℕ) (ops more : List Op) (d : Disk Point) (k : Point) (h : Holds first ops d) (sound : IsSound range_of (applied d k))
+      (range : d.newest.target.start.0 ≤ d.newest.target.end.0) (ends : k.target.end.0 ≡ d.newest.target.end.0 + length more) where
+    last_here : slice_get (all d) (length d.older) ≡ Some d.newest
+    last_here = slice_get-last d.older d.newest
+
+    above_newest : d.newest.target.start.0 ≤ k.target.start.0
+    above_newest =
+        let one : slice_get (all (applied d k)) (length d.older) ≡ Some d.newest = slice_get-left (all d) (k ∷ []) (length d.older) d.newest last_here in
+        let two : slice_get (all (applied d k)) (length (all d)) ≡ Some k = slice_get-last (all d) k in
+        sound.starts (length d.older) (length (all d)) d.newest k (omega (arith, length-all d)) one two
+
+    pub more_begins : (i : ℕ) (x : Point) → slice_get (all (applied d k)) i ≡ Some x → first ≤ x.target.start.0
+    more_begins i x at =
+        elim (slice_get_cases i (all d) k x at) [
+          | inl inside ↦ h.begins i x inside
+          | inr is ↦ let low = h.begins (length d.older) d.newest last_here in omega (arith, above_newest, ap (λ (y : Point). y.target.start.0) is)
+        ]
+
+    pub more_ends : k.target.end.0 ≡ first + length (ops ++ more)
+    more_ends = omega (arith, length-append ops more, h.ends)
+
+    pub more_agree : Agree (state_in first (ops ++ more)) (state_in first ops) (all d)
+    more_agree = agree_each _ _ (all d) (λ i x at.
+        ap (λ xs. record { target = x.target; kept = xs }) (between-append first ops more x.target.start.0 x.target.end.0 (h.begins i x at) (let last = ends_last d h.sound i x at in omega (arith, h.ends))))
+
+    pub more_is : state_in first (ops ++ more) k ≡ record { target = k.target; kept = drop (k.target.start.0 - d.newest.target.start.0) (between first ops d.newest.target.start.0 d.newest.target.end.0 ++ more) }
+    more_is = ap (λ xs. record { target = k.target; kept = xs })
+        (between-more first ops more d.newest.target.start.0 d.newest.target.end.0 k.target.start.0 k.target.end.0 (h.begins (length d.older) d.newest last_here) range h.ends above_newest ends)
 
 -- of the checkpoints that a prune leaves too
 pub cut_begins : (first : ℕ) (d : Disk Point) (n : ℕ) → n ≤ length d.older → ((i : ℕ) (k : Point) → slice_get (all d) i ≡ Some k → first ≤ k.target.start.0) → (i : ℕ) (k : Point) → slice_get (all (cut d n)) i ≡ Some k → first ≤ k.target.start.0

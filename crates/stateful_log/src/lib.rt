@@ -5,6 +5,7 @@
 mod chain;
 mod field;
 mod log_medium;
+mod longer;
 mod open_log;
 mod run;
 

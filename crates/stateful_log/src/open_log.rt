@@ -8,10 +8,11 @@ ghost use Rattle.stateful_log.specs.Between.{state_in};
 ghost use Rattle.stateful_medium.specs.declared.checkpoints.Checkpoint.{Checkpoint};
 
 use crate::log_medium::LogMedium;
+use crate::longer::longer;
 use crate::run::Run;
 use stateful_db::{Broken, DbCall, Exhausted, FlushToken, Why};
 use stateful_medium::{Medium, Opened};
-use stateful_types::{Faulty, Location, Target};
+use stateful_types::{Faulty, Location, Share, Target};
 use std::alloc::Global;
 
 /// An open database, and the operations from the location `first` up to the end of the newest checkpoint.
@@ -180,6 +181,53 @@ impl<Op: Drop> OpenLog<Op> {
         match opened.prune_first(count) {
             Ok(opened) => Ok(shortened(opened, first, ops)),
             Err(change) => Err(broken(change, first, ops)),
+        }
+    }
+}
+
+impl<Op: Share + Drop> OpenLog<Op> {
+    ghost use Rattle.std.specs.Prelude.{◌≢◌, ◌↔◌, IfOk, IfErr, IsErrAnd};
+    ghost use Rattle.stateful_types.specs.Causes.{Rose};
+    ghost use Rattle.stateful_db.specs.Disk.{applied};
+    ghost use Rattle.stateful_db.specs.declared.database.DbCall.{DbCall};
+    ghost use Rattle.stateful_medium.specs.Called.{IsListed, Called};
+    ghost use Rattle.stateful_log.specs.Logs.{extended, disk_of, next_of, calls_of, standing_of, next_here, calls_here};
+
+    /// Appends the operations of a batch that is applied, and adds its checkpoint. Where its range doesn't end behind
+    /// them, or starts before the newest one does, it is refused as if memory were wanting.
+    pub fn apply(
+        self,
+        id: u64,
+        more: &[Op],
+        target: Target,
+    ) -> Result<OpenLog<Op>, Broken<LogMedium<Op>>>
+        ensures ok { let s = standing_of self in IfOk result (λ o. standing_of o
+            ≡ record s { id = id; disk = applied s.disk (extended s.disk.newest more.now target) }) }
+        ensures ok_next { IfOk result (λ o. next_here o ≡ next_here self) }
+        ensures ok_count { IfOk result (λ o. (calls_here self).faults ≤ (calls_here o).faults) }
+        ensures ok_called { IfOk result (λ o.
+            Called DbCall.Apply (calls_here self) (calls_here o)) }
+        ensures err { IfErr result (λ b. disk_of b.medium ≡ (standing_of self).disk) }
+        ensures err_next { IfErr result (λ b. next_of b.medium ≡ next_here self) }
+        ensures err_count { IfErr result (λ b. (calls_here self).faults ≤ (calls_of b.medium).faults) }
+        ensures err_called { IfErr result (λ b.
+            Called DbCall.Apply (calls_here self) (calls_of b.medium)) }
+        ensures failed { IfErr result (λ b.
+            b.why ≡ Why.Failed → Rose (calls_here self).faults (calls_of b.medium).faults) }
+        ensures listed { IsErrAnd result (λ b. b.why ≡ Why.Failed)
+            ↔ IsListed (calls_here self) DbCall.Apply }
+    {
+        let OpenLog { opened, first, ops } = self;
+        let opened = match opened.begin(DbCall::Apply) {
+            Ok(opened) => opened,
+            Err(change) => return Err(broken(change, first, ops)),
+        };
+        match longer(OpenLog { opened, first, ops }, id, more, target) {
+            Ok(log) => Ok(log),
+            Err(medium) => Err(Broken {
+                medium,
+                why: Why::OutOfMemory,
+            }),
         }
     }
 }
