@@ -3,3 +3,7 @@ pub mod Compacted
 pub mod CompactShown
 pub mod CompactStored
 pub mod CompactSound
+pub mod Keyless
+pub mod KeylessShown
+pub mod KeylessStored
+pub mod KeylessSound

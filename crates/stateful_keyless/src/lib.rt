@@ -2,12 +2,17 @@
 #![tactic(auto)]
 
 mod compact;
+mod keyless;
 mod op;
 
 pub use compact::{
     Commit, CompactDb, CompactMedium, CompactPass, CompactState, KeylessUnjournaledMerkleized,
     KeylessUnjournaledUnmerkleized,
 };
+pub use keyless::{
+    KeylessDb, KeylessMedium, KeylessMerkleized, KeylessPass, KeylessState, KeylessUnmerkleized,
+};
+pub use op::KeylessOp;
 
 #[cfg(test)]
 mod tests;

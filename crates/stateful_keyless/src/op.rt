@@ -1,12 +1,46 @@
-//! The bytes of operations, and the digests behind them.
+//! Operations, their bytes, and the digests behind them.
 
 ghost use Rattle.std.specs.Prelude.{◌≡◌, ◌++◌, IfOk, OnOk};
 ghost use Rattle.stateful_log.specs.Chained.{linked};
 ghost use Rattle.stateful_keyless.specs.Ops.{commit_bytes, append_bytes};
 
 use stateful_log::{Field, link};
-use stateful_types::{Digest, OutOfMemory};
+use stateful_types::{Digest, OutOfMemory, Share};
 use std::alloc::Global;
+
+/// An operation of a keyless log.
+#[derive(Drop)]
+pub enum KeylessOp<V> {
+    /// The end of a batch: its metadata, and its inactivity floor.
+    Commit { metadata: Option<V>, floor: u64 },
+    /// An appended value.
+    Append(V),
+}
+
+impl<V: Field> Share for KeylessOp<V> {
+    fn share(&self) -> Result<KeylessOp<V>, OutOfMemory> {
+        match self {
+            KeylessOp::Append(value) => Ok(KeylessOp::Append(value.duplicate()?)),
+            KeylessOp::Commit { metadata, floor } => {
+                let metadata = duplicate(metadata)?;
+                Ok(KeylessOp::Commit {
+                    metadata,
+                    floor: *floor,
+                })
+            }
+        }
+    }
+}
+
+/// Equal metadata.
+pub(crate) fn duplicate<V: Field>(metadata: &Option<V>) -> Result<Option<V>, OutOfMemory>
+    ensures { IfOk result (λ same. same ≡ metadata.now) }
+{
+    match metadata {
+        None => Ok(None),
+        Some(metadata) => Ok(Some(metadata.duplicate()?)),
+    }
+}
 
 /// The digest behind an appended value.
 pub(crate) fn link_append<V: Field>(

@@ -4,3 +4,4 @@ pub mod Runs
 pub mod Digests
 pub mod Between
 pub mod Logs
+pub mod LogSound

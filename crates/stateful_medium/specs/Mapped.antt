@@ -127,3 +127,27 @@ module _ {K S : Type 0} (f : K → S) (range : S → Target) where
   pub none-mapped : (expected : Option Target) (d : Disk K) → HasNone kept_range (λ u. u) expected d → HasNone range (λ u. u) expected (mapped f d)
   none-mapped None d h = h
   none-mapped (Some t) d h = with_end-mapped t d ∙ h
+
+module _ {K S : Type 0} (f : K → S) (range : S → Target) where
+  from_map : (ks : List K) (i : ℕ) (s : S) → slice_get (map f ks) i ≡ Some s → (k : K) × ((slice_get ks i ≡ Some k) × (f k ≡ s))
+  from_map [] i s h = cc
+  from_map (k ∷ ks) zero s h = (k, (refl, cc))
+  from_map (k ∷ ks) (suc i) s h = from_map ks i s h
+
+  -- checkpoints that stand for others are in order
+  pub sound-mapped : (d : Disk K) → IsSound (λ k. range (f k)) d → IsSound range (mapped f d)
+  sound-mapped d sound =
+      let back : (i : ℕ) (s : S) → slice_get (all (mapped f d)) i ≡ Some s → (k : K) × ((slice_get (all d) i ≡ Some k) × (f k ≡ s)) =
+            λ i s at. from_map (all d) i s (ap (λ xs. slice_get xs i) (sym (all-mapped f d)) ∙ at) in
+      record {
+        kept = sound.kept;
+        within = omega (arith, sound.within, length-mapped f d.older);
+        ends = λ i j s t less at_i at_j.
+            let one = back i s at_i in let two = back j t at_j in
+            let e = sound.ends i j one.0 two.0 less one.1.0 two.1.0 in
+            omega (arith, e, ap (λ x. (range x).end.0) one.1.1, ap (λ x. (range x).end.0) two.1.1);
+        starts = λ i j s t less at_i at_j.
+            let one = back i s at_i in let two = back j t at_j in
+            let e = sound.starts i j one.0 two.0 less one.1.0 two.1.0 in
+            omega (arith, e, ap (λ x. (range x).start.0) one.1.1, ap (λ x. (range x).start.0) two.1.1);
+      }

@@ -3,6 +3,7 @@
 ghost use Rattle.std.specs.Prelude.{◌≡◌, IfOk};
 ghost use Rattle.stateful_keyless.specs.Compacted.{state_of, size_of, target_of, initial};
 
+use crate::op::duplicate;
 use stateful_log::Field;
 use stateful_medium::Checkpoint;
 use stateful_types::{CompactTarget, Digest, Location, OutOfMemory, Target};
@@ -68,10 +69,7 @@ pub(crate) fn share<V: Field>(
 ) -> Result<Checkpoint<Commit<V>>, OutOfMemory>
     ensures { IfOk result (λ same. same ≡ state.now) }
 {
-    let metadata = match &state.kept.metadata {
-        None => None,
-        Some(metadata) => Some(metadata.duplicate()?),
-    };
+    let metadata = duplicate(&state.kept.metadata)?;
     Ok(Checkpoint {
         target: state.target,
         kept: Commit {
