@@ -1,5 +1,6 @@
 //! A log of values, kept from its floor on.
 
+mod applied;
 mod batch;
 mod database;
 mod medium;

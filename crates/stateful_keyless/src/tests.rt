@@ -1,8 +1,8 @@
 //! What no clause says: digests against those of another program, and calls that succeed.
 
-use crate::{CompactDb, CompactMedium, KeylessUnjournaledMerkleized};
+use crate::{CompactDb, CompactMedium, KeylessDb, KeylessMedium, KeylessUnjournaledMerkleized};
 use stateful_db::{BatchError, DatabaseSet, DbCall, Held, ManagedDb, Merkleized};
-use stateful_types::{CompactTarget, Digest, Location};
+use stateful_types::{CompactTarget, Digest, Location, Target};
 use std::alloc::Global;
 use std::test::Fail;
 
@@ -91,5 +91,49 @@ fn a_sibling_is_stale(rt: HostRuntime) -> Result<(), Fail> {
     let one = first(&mut set)?;
     set.apply(one)?;
     assert_eq!(rt; set.seal(sibling).err(), Some(BatchError::StaleRead));
+    Ok(())
+}
+
+const fn range(root: Digest, start: u64, end: u64) -> Target {
+    Target {
+        root,
+        start: Location(start),
+        end: Location(end),
+    }
+}
+
+#[test]
+fn a_whole_log_has_the_digests_of_a_compact_one(rt: HostRuntime) -> Result<(), Fail> {
+    let medium = KeylessMedium::empty(rt.alloc(), Vec::new(rt.alloc()));
+    let mut set: Held<KeylessDb<u64>> = Held::Closed(medium);
+    set.init(&(), None)?;
+    assert_eq!(rt; set.committed_targets()?, range(EMPTY, 0, 1));
+    let batch = set.new_batches()?.append(7)?.with_metadata(9);
+    let one = set.seal(batch.with_inactivity_floor(Location(1)))?;
+    let parent = one.share()?;
+    set.apply(one)?;
+    assert_eq!(rt; set.committed_targets()?, range(WITH_7, 1, 3));
+    let batch = set.fork_batches(&parent)?.append(8)?.append(9)?;
+    let two = set.seal(batch)?;
+    assert_eq!(rt; two.root(), WITH_9);
+    set.apply(two)?;
+    assert_eq!(rt; set.committed_targets()?, range(WITH_9, 1, 6));
+    Ok(())
+}
+
+#[test]
+fn a_log_opens_at_an_earlier_target(rt: HostRuntime) -> Result<(), Fail> {
+    let medium = KeylessMedium::empty(rt.alloc(), Vec::new(rt.alloc()));
+    let mut set: Held<KeylessDb<u64>> = Held::Closed(medium);
+    set.init(&(), None)?;
+    let batch = set.new_batches()?.append(7)?;
+    let batch = set.seal(batch)?;
+    set.apply(batch)?;
+    let mut set = set.crash(&[]);
+    set.init(&(), Some(range(EMPTY, 0, 1)))?;
+    let batch = set.new_batches()?.append(7)?.with_metadata(9);
+    let one = set.seal(batch.with_inactivity_floor(Location(1)))?;
+    set.apply(one)?;
+    assert_eq!(rt; set.committed_targets()?, range(WITH_7, 1, 3));
     Ok(())
 }

@@ -8,8 +8,8 @@ ghost use Rattle.stateful_keyless.specs.Keyless.{State, size_of};
 ghost use Rattle.stateful_keyless.specs.KeylessShown.{Holds, DraftShows, SealShows};
 
 use super::database::KeylessDb;
-use super::state::{Commit, CompactState, committed, share, size};
-use crate::op::{link_append, link_commit};
+use super::state::KeylessState;
+use crate::op::{KeylessOp, link_append, link_commit};
 use stateful_db::{BatchError, Merkleized, Unmerkleized};
 use stateful_log::Field;
 use stateful_overlay::{Layer, Layers};

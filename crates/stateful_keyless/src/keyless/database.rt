@@ -2,15 +2,14 @@
 
 ghost use Rattle.std.specs.Prelude.{◌≡◌};
 
+use super::applied::apply_to;
 use super::batch::{KeylessMerkleized, KeylessUnmerkleized};
-use super::broken::broken;
 use super::medium::KeylessMedium;
-use super::opening::number_to_open;
 use super::pass::KeylessPass;
-use super::state::{Commit, CompactState, compact_target, size};
+use super::state::KeylessState;
+use crate::op::KeylessOp;
 use stateful_db::{
-    BatchContext, Broken, DbCall, Exhausted, FlushToken, InitError, ManagedDb, Merkleized,
-    Targeted, Why,
+    BatchContext, Broken, DbCall, Exhausted, FlushToken, InitError, ManagedDb, Merkleized, Why,
 };
 use stateful_log::{Field, LogMedium, OpenLog};
 use stateful_overlay::Layers;
@@ -216,11 +215,7 @@ impl<V: Field> ManagedDb for KeylessDb<V> {
             ↔ IsListed (calls_here self) DbCall.Apply }
         ensures kept { IfErr result (λ b. disk_of b.medium ≡ (standing_of self).disk) }
     {
-        let changes = batch.layer.changes();
-        let applied = self
-            .log
-            .apply(batch.layer.id(), changes.ops.as_slice(), changes.target);
-        match applied {
+        match apply_to(self.log, batch) {
             Ok(log) => Ok(KeylessDb { log }),
             Err(change) => Err(broken(change)),
         }
