@@ -1,2 +1,3 @@
 pub mod CompactChains
 pub mod KeylessChains
+pub mod Following

@@ -7,3 +7,4 @@ pub mod Keyless
 pub mod KeylessShown
 pub mod KeylessStored
 pub mod KeylessSound
+pub mod Follows

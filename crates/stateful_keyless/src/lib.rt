@@ -3,6 +3,7 @@
 
 mod compact;
 mod keyless;
+mod law;
 mod op;
 
 pub use compact::{
@@ -12,6 +13,7 @@ pub use compact::{
 pub use keyless::{
     KeylessDb, KeylessMedium, KeylessMerkleized, KeylessPass, KeylessState, KeylessUnmerkleized,
 };
+pub use law::compact_follows_keyless;
 pub use op::KeylessOp;
 
 #[cfg(test)]
