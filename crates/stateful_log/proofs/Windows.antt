@@ -1,7 +1,6 @@
 -- the operations of kept checkpoints, where others are dropped or appended
-use Rattle.std.proofs.Common.{◌≡◌, ℕ, zero, suc, ◌+◌, ◌-◌, ◌≤◌, ◌<◌, ◌⊎◌, inl, inr, List, [], ◌∷◌, ◌++◌, length, take, drop, min, Option, Some, None, slice_get, refl, sym, ap, subst, ◌∙◌, arith, length-take, length-drop, length-append}
+use Rattle.std.proofs.Common.{◌≡◌, ℕ, zero, suc, ◌+◌, ◌-◌, ◌≤◌, ◌<◌, ◌⊎◌, inl, inr, List, [], ◌∷◌, ◌++◌, length, take, drop, min, Some, slice_get, refl, sym, ap, ◌∙◌, arith, length-take, length-drop, length-append}
 use Rattle.std.proofs.lemmas.List.{take-take, drop-drop, take-append-le, drop-append-le, take_all}
-use Rattle.stateful_types.specs.declared.target.Target.{Target}
 use Rattle.stateful_db.specs.Disk.{Disk, Standing, IsSound, all, applied, cut}
 use Rattle.stateful_db.specs.CheckpointLaws.{slice_get-last, slice_get-left, slice_get-drop, length-all}
 use Rattle.std.proofs.lemmas.Option.{slice_get_within}

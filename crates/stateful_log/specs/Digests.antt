@@ -1,7 +1,5 @@
 -- Digests as fields.
-use Rattle.std.proofs.Common.{◌≡◌, ℕ, List, ◌++◌, replicate, length, ap, refl, All}
-use Rattle.std.specs.Ordering.{nat_cmp}
-use Rattle.std.specs.Cmp.Lexicographic.{slice_cmp}
+use Rattle.std.proofs.Common.{◌≡◌, ap}
 use Rattle.std.proofs.lemmas.Map.Lookups.{exact_bytes}
 use Rattle.std.specs.declared.cmp.Ordering.TheVariants.{Equal}
 use Rattle.stateful_types.specs.Format.{IsFormat}

@@ -1,5 +1,5 @@
 -- The checkpoints of log media are in order.
-use Rattle.std.specs.Prelude.{ℕ, ◌<◌, List}
+use Rattle.std.specs.Prelude.{◌<◌}
 use Rattle.stateful_db.specs.Disk.{IsSound}
 use Rattle.stateful_medium.specs.Kept as kept
 use Rattle.stateful_medium.specs.Ranged.{range_of}

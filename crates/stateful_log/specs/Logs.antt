@@ -1,5 +1,5 @@
 -- Logs, and where they are kept.
-use Rattle.std.specs.Prelude.{ℕ, ◌+◌, ◌-◌, List, ◌++◌, take, drop}
+use Rattle.std.specs.Prelude.{ℕ, ◌-◌, List, ◌++◌, drop}
 use Rattle.stateful_types.specs.declared.target.Target.{Target}
 use Rattle.stateful_db.specs.Disk.{Disk, Standing}
 use Rattle.stateful_medium.specs.declared.checkpoints.Checkpoint.{Checkpoint}

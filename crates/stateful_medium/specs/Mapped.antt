@@ -1,11 +1,11 @@
 -- Disks whose checkpoints stand for others: what is kept of a checkpoint is less than what it is to the layer above.
-use Rattle.std.proofs.Common.{◌≡◌, ◌≢◌, ℕ, zero, suc, ◌+◌, ◌-◌, ◌==◌, Bool, true, false, cond, List, [], ◌∷◌, ◌++◌, length, map, take, drop, min, max, Option, Some, None, option_map, refl, sym, ap, subst, ◌∙◌, arith, inl, inr, position, unwrap_or, slice_get}
+use Rattle.std.proofs.Common.{◌≡◌, ℕ, zero, suc, ◌+◌, ◌-◌, ◌==◌, Bool, cond, List, [], ◌∷◌, ◌++◌, length, map, take, min, max, Option, Some, None, refl, sym, ap, ◌∙◌, arith, inl, inr, position, slice_get}
 use Rattle.std.specs.List.{position_from}
 use Rattle.std.proofs.lemmas.List.{take-map, drop-map}
 use Rattle.std.proofs.lemmas.Iterator.Adapters.{position_from-zero}
 use Rattle.stateful_types.specs.declared.target.Target.{Target}
-use Rattle.stateful_db.specs.Disk.{Disk, Standing, all, place, applied, flushed, cut, IsCrash, IsOpened, IsSound}
-use Rattle.stateful_db.specs.Reopening.{with_end, OpensAt, Reopens, HasNone, Differs, FailsToReopen, KeepsDurable, pruned_to}
+use Rattle.stateful_db.specs.Disk.{Disk, Standing, all, applied, cut, IsCrash, IsOpened, IsSound}
+use Rattle.stateful_db.specs.Reopening.{with_end, HasNone, FailsToReopen}
 use Rattle.stateful_db.specs.declared.database.InitError.{InitError}
 use Rattle.stateful_db.specs.declared.database.InitError.TheVariants as error
 use Rattle.stateful_medium.specs.Openings.{IsNumberOf}
@@ -50,9 +50,9 @@ module _ {K S : Type 0} where
       let count : length (all (mapped f d)) ≡ length (all d) = ap length (all-mapped f d) ∙ length-mapped f (all d) in
       record {
         prefix =
-          all-mapped g e ∙ map-agree g f (all e) agree ∙ ap (map f) crash.prefix ∙ sym (take-map f n (all d))
-          ∙ ap (λ xs. take n xs) (sym (all-mapped f d))
-          ∙ ap (λ m. take (max (d.durable + 1 - d.pruned) (min (keep - d.pruned) m)) (all (mapped f d))) (sym count);
+            all-mapped g e ∙ map-agree g f (all e) agree ∙ ap (map f) crash.prefix ∙ sym (take-map f n (all d))
+            ∙ ap (λ xs. take n xs) (sym (all-mapped f d))
+            ∙ ap (λ m. take (max (d.durable + 1 - d.pruned) (min (keep - d.pruned) m)) (all (mapped f d))) (sym count);
         pruned = crash.pruned;
         durable = crash.durable;
       }
@@ -61,8 +61,8 @@ module _ {K S : Type 0} where
   pub opened-mapped : (f g : K → S) (n : ℕ) (d e : Disk K) → IsOpened n d e → Agree g f (all e) → IsOpened n (mapped f d) (mapped g e)
   opened-mapped f g n d e opened agree = record {
     kept =
-      all-mapped g e ∙ map-agree g f (all e) agree ∙ ap (map f) opened.kept ∙ sym (take-map f (n + 1) (all d))
-      ∙ ap (λ xs. take (n + 1) xs) (sym (all-mapped f d));
+        all-mapped g e ∙ map-agree g f (all e) agree ∙ ap (map f) opened.kept ∙ sym (take-map f (n + 1) (all d))
+        ∙ ap (λ xs. take (n + 1) xs) (sym (all-mapped f d));
     pruned = opened.pruned;
     durable = opened.durable ∙ ap (λ m. e.pruned + m) (sym (length-mapped g e.older));
   }
@@ -138,7 +138,7 @@ module _ {K S : Type 0} (f : K → S) (range : S → Target) where
   pub sound-mapped : (d : Disk K) → IsSound (λ k. range (f k)) d → IsSound range (mapped f d)
   sound-mapped d sound =
       let back : (i : ℕ) (s : S) → slice_get (all (mapped f d)) i ≡ Some s → (k : K) × ((slice_get (all d) i ≡ Some k) × (f k ≡ s)) =
-            λ i s at. from_map (all d) i s (ap (λ xs. slice_get xs i) (sym (all-mapped f d)) ∙ at) in
+      λ i s at. from_map (all d) i s (ap (λ xs. slice_get xs i) (sym (all-mapped f d)) ∙ at) in
       record {
         kept = sound.kept;
         within = omega (arith, sound.within, length-mapped f d.older);

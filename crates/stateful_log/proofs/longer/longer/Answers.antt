@@ -1,13 +1,13 @@
-use Rattle.std.proofs.Common.{◌≡◌, ◌≤◌, ℕ, ◌+◌, ◌-◌, ◌++◌, Bool, false, Result, Ok, Err, OnOk, is_err, length, take, slice_get, ap, sym, subst, ◌∙◌, arith}
+use Rattle.std.proofs.Common.{◌≡◌, ◌≤◌, ◌+◌, ◌-◌, ◌++◌, false, Result, Ok, Err, OnOk, is_err, length, take, slice_get, ap, sym, subst, ◌∙◌, arith}
 use Rattle.std.proofs.lemmas.List.{take_at}
-use Rattle.stateful_db.specs.Disk.{Disk, Standing, IsSound, all, applied}
+use Rattle.stateful_db.specs.Disk.{Disk, IsSound, all, applied}
 use Rattle.stateful_medium.specs.declared.checkpoints.Checkpoint.{Checkpoint}
 use Rattle.stateful_medium.specs.Kept as kept
 use Rattle.stateful_medium.specs.Ranged.{range_of}
 use Rattle.stateful_medium.specs.Soundness.{sound_opened}
 use Rattle.stateful_medium.specs.Mapped.{mapped, applied-mapped}
 use Rattle.stateful_log.specs.Between.{state_in}
-use Rattle.stateful_log.specs.Logs.{standing_of, extended}
+use Rattle.stateful_log.specs.Logs.{extended}
 use Rattle.stateful_log.proofs.Windows.{Holds, standing_is, more_begins, more_ends, more_agree, more_is}
 use Rattle.stateful_log.proofs.longer.longer.Goals as goal
 
@@ -56,10 +56,10 @@ returns-in-Ok-clause-ok g c =
     let f' = state_in o.first (o.ops ++ more) in
     let new = kept.standing_of c.push.new.self in
     let disk : mapped (state_in o.first c.append.new.self) new.disk ≡ applied (mapped f d) (extended (f d.newest) more c.args.target) =
-      ap (λ xs. mapped (state_in o.first xs) new.disk) added
-      ∙ ap (λ s. mapped f' s.disk) standing
-      ∙ applied-mapped f f' d k (more_agree o.first o.ops more d k holds sound low ends)
-      ∙ ap (λ s. applied (mapped f d) s) (more_is o.first o.ops more d k holds sound low ends) in
+    ap (λ xs. mapped (state_in o.first xs) new.disk) added
+    ∙ ap (λ s. mapped f' s.disk) standing
+    ∙ applied-mapped f f' d k (more_agree o.first o.ops more d k holds sound low ends)
+    ∙ ap (λ s. applied (mapped f d) s) (more_is o.first o.ops more d k holds sound low ends) in
     standing_is _ c.args.id _ o.opened.out (ap (λ s. s.id) standing) disk (ap (λ s. s.out) standing)
 
 pub invariant_of-close-in-Err : goal.invariant_of-close-in-Err

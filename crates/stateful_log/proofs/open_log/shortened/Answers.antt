@@ -1,4 +1,4 @@
-use Rattle.std.proofs.Common.{◌≡◌, ℕ, ◌+◌, ◌-◌, List, min, drop, length, ap, sym, subst, ◌∙◌, arith}
+use Rattle.std.proofs.Common.{◌≡◌, ◌-◌, min, drop, length, ap, ◌∙◌, arith}
 use Rattle.stateful_medium.specs.Kept as kept
 use Rattle.stateful_medium.specs.Soundness.{sound_opened}
 use Rattle.stateful_medium.specs.Mapped.{mapped, same-mapped}

@@ -1,5 +1,5 @@
 use Rattle.std.proofs.Common.{◌≡◌, ℕ, ◌+◌, ◌-◌, List, min, take, length, ap, sym, subst, ◌∙◌, arith}
-use Rattle.stateful_db.specs.Disk.{IsOpened, all}
+use Rattle.stateful_db.specs.Disk.{IsOpened}
 use Rattle.stateful_medium.specs.Kept as kept
 use Rattle.stateful_medium.specs.Soundness.{sound_medium, sound_opened}
 use Rattle.stateful_medium.specs.Mapped.{mapped, opened-mapped}

@@ -1,5 +1,5 @@
-use Rattle.std.proofs.Common.{◌≡◌, ◌≤◌, length, refl, ap, sym, subst, ◌∙◌, arith, slice_get}
-use Rattle.stateful_db.specs.Disk.{Disk, Standing, all, cut}
+use Rattle.std.proofs.Common.{◌≡◌, ◌≤◌, length, refl, ap, sym, ◌∙◌, arith, slice_get}
+use Rattle.stateful_db.specs.Disk.{all, cut}
 use Rattle.stateful_medium.specs.Kept as kept
 use Rattle.stateful_medium.specs.Mapped.{mapped, length-mapped, cut-mapped, agree_each}
 use Rattle.stateful_log.specs.Between.{state_in}

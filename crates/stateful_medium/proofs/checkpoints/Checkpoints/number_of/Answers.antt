@@ -1,4 +1,4 @@
-use Rattle.std.proofs.Common.{◌≡◌, ◌≢◌, sym, ◌∙◌, refl, rules, true, false}
+use Rattle.std.proofs.Common.{sym, ◌∙◌, refl}
 use Rattle.stateful_medium.proofs.checkpoints.Checkpoints.number_of.Goals as goal
 
 pub returns-then-is_same-clause-ok : goal.returns-then-is_same-clause-ok

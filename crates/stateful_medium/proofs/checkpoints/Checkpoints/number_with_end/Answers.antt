@@ -1,5 +1,4 @@
 use Rattle.stateful_medium.specs.declared.checkpoints.Checkpoint.{Checkpoint}
-use Rattle.stateful_medium.specs.Ranged.{range_of}
 use Rattle.std.proofs.Common.{◌≡◌, ◌==◌, sym, ◌∙◌, ap, eq-eqb, None, Some, position, rules, length}
 use Rattle.stateful_medium.proofs.Positions.{position_last}
 use Rattle.stateful_medium.proofs.checkpoints.Checkpoints.number_with_end.Goals as goal
