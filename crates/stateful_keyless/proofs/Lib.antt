@@ -1,0 +1,3 @@
+pub mod CompactChains
+pub mod KeylessChains
+pub mod Following

@@ -1,0 +1,10 @@
+pub mod Ops
+pub mod Compacted
+pub mod CompactShown
+pub mod CompactStored
+pub mod CompactSound
+pub mod Keyless
+pub mod KeylessShown
+pub mod KeylessStored
+pub mod KeylessSound
+pub mod Follows

@@ -1,0 +1,14 @@
+//! A log of values, kept from its floor on.
+
+mod applied;
+mod batch;
+mod database;
+mod medium;
+mod pass;
+mod state;
+
+pub use batch::{KeylessMerkleized, KeylessUnmerkleized};
+pub use database::KeylessDb;
+pub use medium::KeylessMedium;
+pub use pass::KeylessPass;
+pub use state::KeylessState;
