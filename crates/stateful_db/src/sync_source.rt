@@ -15,7 +15,7 @@ pub enum ServeFault {
 }
 
 /// What answers the requests of a syncing database.
-pub trait SyncSource: Faulty + Sized {
+pub trait SyncSource: Faulty + Sized + Drop {
     ghost use Rattle.std.specs.Prelude.{Result, IsErrOf, ◌≤◌};
     ghost use Rattle.stateful_types.specs.Causes.{Rose};
     ghost use Rattle.stateful_types.specs.declared.request.Request.{Request};

@@ -1,0 +1,60 @@
+-- Values by number: what a look-up finds behind a change.
+use Rattle.std.proofs.Common.{◌≡◌, ℕ, ◌<◌, ◌==◌, Bool, true, false, not, cond, Option, Some, None, List, [], ◌∷◌, filter, refl, sym, ap, ◌∙◌, arith}
+use Rattle.std.specs.Ordering.{nat_cmp, is_eq, match_ordering, MatchOrdering, eq_by_cmp}
+use Rattle.std.specs.declared.cmp.Ordering.{Ordering}
+use Rattle.std.specs.declared.cmp.Ordering.TheVariants.{Less, Equal, Greater}
+use Rattle.std.specs.BTreeMap.{is_at, insert_entry}
+use Rattle.std.specs.Map.{lookup, remove_entry, keys_of}
+use Rattle.std.specs.List.Sorted.{IsStrictlySortedBy}
+use Rattle.std.proofs.lemmas.Bool.Decides.{nat_tests}
+use Rattle.std.proofs.lemmas.Cmp.{ranked, nat_cmp_total, eq_by_cmp_equiv}
+use Rattle.std.proofs.lemmas.Map.{NonePasses}
+use Rattle.std.proofs.lemmas.Map.Keys.{sorted_tail, IsDistinct-from_sorted}
+use Rattle.std.proofs.lemmas.Map.Entries.{lookup-filter-keys, none_past_head}
+use Rattle.stateful_p2p.specs.Table.{at, put, without, put_each}
+
+-- the test of a number
+pub is_at_number : (t k : ℕ) → is_at (nat_cmp t) k ≡ (k == t)
+is_at_number t k = grind (arith, nat_tests)
+
+module _ {V : Type 0} where
+  -- what is at each number once a value was put at one
+  pub at-put : (table : List (ℕ × V)) (t : ℕ) (v : V) (q : ℕ) → at (put table t v) q ≡ cond (t == q) (Some v) (at table q)
+  at-put [] t v q = grind (arith, nat_tests)
+  at-put (e ∷ es) t v q = go (nat_cmp t e.0) (ranked t e.0 (nat_cmp t e.0) refl) (at-put es t v q)
+    where
+      go : (o : Ordering) → MatchOrdering o (t < e.0) (t ≡ e.0) (e.0 < t) → at (put es t v) q ≡ cond (t == q) (Some v) (at es q)
+          → at (match_ordering o ((t, v) ∷ e ∷ es) ((e.0, v) ∷ es) (e ∷ put es t v)) q ≡ cond (t == q) (Some v) (at (e ∷ es) q)
+      go Less lt rest = grind (arith, nat_tests)
+      go Equal same rest = grind (arith, nat_tests)
+      go Greater gt rest = grind (arith, nat_tests)
+
+  -- what is at each number once one was taken out
+  pub at-without : (table : List (ℕ × V)) (t q : ℕ) → at (without table t) q ≡ cond (t == q) None (at table q)
+  at-without [] t q = grind (arith, nat_tests)
+  at-without (e ∷ es) t q = go (e.0 == t) refl (at-without es t q)
+    where
+      go : (b : Bool) → (e.0 == t) ≡ b → at (without es t) q ≡ cond (t == q) None (at es q)
+          → at (cond (not b) (e ∷ without es t) (without es t)) q ≡ cond (t == q) None (at (e ∷ es) q)
+      go true same rest = grind (arith, nat_tests)
+      go false other rest = grind (arith, nat_tests)
+
+  untouched : (es : List (ℕ × V)) (t : ℕ) → NonePasses (is_at (nat_cmp t)) es → without es t ≡ es
+  untouched [] t none = refl
+  untouched (e ∷ es) t none = go (e.0 == t) (sym (is_at_number t e.0) ∙ none.0) (untouched es t none.1)
+    where
+      go : (b : Bool) → b ≡ false → without es t ≡ es → cond (not b) (e ∷ without es t) (without es t) ≡ e ∷ es
+      go true at rest = cc
+      go false at rest = ap (λ w. e ∷ w) rest
+
+  -- numbers in order are each there once
+  pub remove_is_without : (es : List (ℕ × V)) (t : ℕ) → IsStrictlySortedBy nat_cmp (keys_of es) → remove_entry (is_at (nat_cmp t)) es ≡ without es t
+  remove_is_without [] t sorted = refl
+  remove_is_without (e ∷ es) t sorted =
+      go (e.0 == t) refl (remove_is_without es t (sorted_tail nat_cmp e.0 (keys_of es) sorted))
+    where
+      go : (b : Bool) → (e.0 == t) ≡ b → remove_entry (is_at (nat_cmp t)) es ≡ without es t → remove_entry (is_at (nat_cmp t)) (e ∷ es) ≡ cond (not b) (e ∷ without es t) (without es t)
+      go true at rest =
+          rw (is_at_number t e.0 ∙ at)
+          (sym (untouched es t (none_past_head (eq_by_cmp_equiv nat_cmp_total) t e es (IsDistinct-from_sorted nat_cmp (keys_of (e ∷ es)) sorted) (is_at_number t e.0 ∙ at))))
+      go false at rest = rw (is_at_number t e.0 ∙ at) (ap (λ w. e ∷ w) rest)
