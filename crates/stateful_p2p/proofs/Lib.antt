@@ -1,1 +1,4 @@
 pub mod Tables
+pub mod Waiting
+pub mod Standing
+pub mod Boxing

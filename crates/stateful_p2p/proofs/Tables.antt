@@ -1,14 +1,17 @@
 -- Values by number: what a look-up finds behind a change.
-use Rattle.std.proofs.Common.{◌≡◌, ℕ, ◌<◌, ◌==◌, Bool, true, false, not, cond, Option, Some, None, List, [], ◌∷◌, filter, refl, sym, ap, ◌∙◌, arith}
+use Rattle.std.proofs.Common.{rules, ◌≡◌, ℕ, ◌<◌, ◌==◌, Bool, true, false, not, cond, Option, Some, None, Result, Ok, Err, List, [], ◌∷◌, filter, refl, sym, ap, ◌∙◌, arith}
 use Rattle.std.specs.Ordering.{nat_cmp, is_eq, match_ordering, MatchOrdering, eq_by_cmp}
 use Rattle.std.specs.declared.cmp.Ordering.{Ordering}
 use Rattle.std.specs.declared.cmp.Ordering.TheVariants.{Less, Equal, Greater}
 use Rattle.std.specs.BTreeMap.{is_at, insert_entry}
+use Rattle.std.specs.Option.{IsSome}
+use Rattle.std.specs.Result.{OnOk, OnErr}
 use Rattle.std.specs.Map.{lookup, remove_entry, keys_of}
 use Rattle.std.specs.List.Sorted.{IsStrictlySortedBy}
+use Rattle.std.proofs.lemmas.Bool.{eq-eqb, eqb-false}
 use Rattle.std.proofs.lemmas.Bool.Decides.{nat_tests}
 use Rattle.std.proofs.lemmas.Cmp.{ranked, nat_cmp_total, eq_by_cmp_equiv}
-use Rattle.std.proofs.lemmas.Map.{NonePasses}
+use Rattle.std.proofs.lemmas.Map.{NonePasses, none_passes_from_lookup}
 use Rattle.std.proofs.lemmas.Map.Keys.{sorted_tail, IsDistinct-from_sorted}
 use Rattle.std.proofs.lemmas.Map.Entries.{lookup-filter-keys, none_past_head}
 use Rattle.stateful_p2p.specs.Table.{at, put, without, put_each}
@@ -58,3 +61,36 @@ module _ {V : Type 0} where
           rw (is_at_number t e.0 ∙ at)
           (sym (untouched es t (none_past_head (eq_by_cmp_equiv nat_cmp_total) t e es (IsDistinct-from_sorted nat_cmp (keys_of (e ∷ es)) sorted) (is_at_number t e.0 ∙ at))))
       go false at rest = rw (is_at_number t e.0 ∙ at) (ap (λ w. e ∷ w) rest)
+
+-- what a value that is there isn't
+pub none_some : {V : Type 0} (found : Option V) → found ≡ None → IsSome found → ⊥
+none_some None e some = search rules
+none_some (Some v) e some = cc
+
+-- a call that can't fail
+pub surely : {T E P Q : Type 0} (result : Result T E) → OnOk result P → OnErr result Q → (Q → ⊥) → P
+surely (Ok x) ok err never = ok
+surely (Err e) ok err never = absurd (never err)
+
+module _ {V : Type 0} where
+  -- nothing is taken out where there is nothing
+  pub without_none : (es : List (ℕ × V)) (t : ℕ) → at es t ≡ None → without es t ≡ es
+  without_none es t none = untouched es t (none_passes_from_lookup (is_at (nat_cmp t)) es none)
+
+  -- a value that is put where there was none, and taken out again
+  pub restored : (es : List (ℕ × V)) (t : ℕ) (v : V) → at es t ≡ None → without (put es t v) t ≡ es
+  restored [] t v none = rw (eq-eqb t t refl) refl
+  restored (e ∷ es) t v none = go (nat_cmp t e.0) (ranked t e.0 (nat_cmp t e.0) refl) (e.0 == t) refl (restored es t v)
+    where
+      rest : (e.0 == t) ≡ false → at es t ≡ None
+      rest other = let here = is_at_number t e.0 in rw (here ∙ other) at none
+
+      go : (o : Ordering) → MatchOrdering o (t < e.0) (t ≡ e.0) (e.0 < t) → (b : Bool) → (e.0 == t) ≡ b → (at es t ≡ None → without (put es t v) t ≡ es)
+          → without (match_ordering o ((t, v) ∷ e ∷ es) ((e.0, v) ∷ es) (e ∷ put es t v)) t ≡ e ∷ es
+      go o at_e true same further = absurd (let here = is_at_number t e.0 in let found = rw (here ∙ same) at none in some_none found)
+        where
+          some_none : Some e.1 ≡ None → ⊥
+          some_none = λ e. cc
+      go Less lt false other further = rw (eq-eqb t t refl, other) (ap (λ w. e ∷ w) (without_none es t (rest other)))
+      go Equal is false other further = absurd (eqb-false e.0 t other (sym is))
+      go Greater gt false other further = rw other (ap (λ w. e ∷ w) (further (rest other)))

@@ -40,6 +40,10 @@ abbrev pub awaited_of : Option Verdicts → ℕ
 awaited_of None = 0
 awaited_of (Some v) = v.awaited
 
+-- whether the ticket has no candidate to judge
+abbrev pub is_free : List (ℕ × ℕ) → ℕ → Bool
+is_free unjudged t = not (is_some (at unjudged t))
+
 module _ {D : Type 0} where
   -- As many verdicts on each delivery are awaited as tickets have its candidate to judge, and a delivery that is yet to come has
   -- none.
@@ -65,18 +69,14 @@ module _ {D : Type 0} where
 
   -- Tickets are forgotten, one behind the other. Beside the outputs for those that were fetched stand those of the deliveries
   -- that were settled by it.
-  pub data Retires (s : State D) : List ℕ → List ActorOut → List ActorOut → State D → Type 0 where
-    nobody : Retires s [] [] [] s
-    unfetched : {t : ℕ} {ts : List ℕ} {forgotten settled : List ActorOut} {next last : State D} → Forgets s t None next
+  pub data Retires : State D → List ℕ → List ActorOut → List ActorOut → State D → Type 0 where
+    nobody : {s : State D} → Retires s [] [] [] s
+    unfetched : {s : State D} {t : ℕ} {ts : List ℕ} {forgotten settled : List ActorOut} {next last : State D} → Forgets s t None next
         → Retires next ts forgotten settled last → Retires s (t ∷ ts) forgotten settled last
-    fetched : {t : ℕ} {ts : List ℕ} {one : Option ActorOut} {forgotten settled : List ActorOut} {next last : State D} → Forgets s t (Some one) next
+    fetched : {s : State D} {t : ℕ} {ts : List ℕ} {one : Option ActorOut} {forgotten settled : List ActorOut} {next last : State D} → Forgets s t (Some one) next
         → Retires next ts forgotten settled last → Retires s (t ∷ ts) (Forget t ∷ forgotten) (option_to_list one ++ settled) last
 
   -- ---- a delivery
-
-  -- whether the ticket has no candidate to judge
-  abbrev pub is_free : List (ℕ × ℕ) → ℕ → Bool
-  is_free unjudged t = not (is_some (at unjudged t))
 
   -- the tickets that take a candidate for this key: its subscribers, of which there are some, that have none to judge
   pub record Takes (s : State D) (key : Request) (takers : List ℕ) : Type 0 where

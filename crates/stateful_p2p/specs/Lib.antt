@@ -1,6 +1,7 @@
 pub mod Table
 pub mod Messages
 pub mod Subscribing
+pub mod Tickets
 pub mod Inbox
 pub mod Reading
 pub mod Fanout

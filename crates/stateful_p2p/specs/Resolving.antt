@@ -11,7 +11,8 @@ use Rattle.stateful_types.specs.declared.response.Response.{Response}
 use Rattle.stateful_db.specs.declared.sync_source.ServeFault.{ServeFault}
 use Rattle.stateful_db.specs.declared.sync_source.ServeFault.TheVariants as faults
 use Rattle.stateful_p2p.specs.Table.{at, put, without}
-use Rattle.stateful_p2p.specs.Inbox.{Inbox, is_live, ended, let_go}
+use Rattle.stateful_p2p.specs.Tickets.{is_live, ended}
+use Rattle.stateful_p2p.specs.Inbox.{Inbox, let_go}
 use Rattle.stateful_p2p.specs.Fanout.{Releases, Forgets, Retires, Delivers}
 use Rattle.stateful_p2p.specs.declared.state.State.{State}
 use Rattle.stateful_p2p.specs.declared.message.Message.{Message}
@@ -45,6 +46,15 @@ IsExhausting (events.Deliver d key bytes) = d ≡ 2 ^ 64 - 1
 IsExhausting (events.Produce n key) = n ≡ 2 ^ 64 - 1
 IsExhausting event = ⊥
 
+-- a resolver that has taken nothing in
+pub record IsNew {D : Type 0} (s : State D) : Type 0 where
+  pub no_database : s.database ≡ None
+  pub nobody : s.subscriptions ≡ []
+  pub nothing : s.unjudged ≡ []
+  pub none : s.deliveries ≡ []
+  pub first_delivery : s.next_delivery ≡ 0
+  pub first_serve : s.next_serve ≡ 0
+
 module _ {D Op : Type 0} where
   -- An event may come where a message waits that it takes, the ticket that it names is live and has a candidate if it judges it,
   -- and its number is above every earlier one.
@@ -54,15 +64,6 @@ module _ {D Op : Type 0} where
   may_come s m (events.Judge t valid) = is_live m.tickets t && is_some (at s.unjudged t)
   may_come s m (events.Leave t) = is_live m.tickets t
   may_come s m (events.Produce n key) = nat_le s.next_serve n
-
-  -- a resolver that has taken nothing in
-  pub record IsNew (s : State D) : Type 0 where
-    pub no_database : s.database ≡ None
-    pub nobody : s.subscriptions ≡ []
-    pub nothing : s.unjudged ≡ []
-    pub none : s.deliveries ≡ []
-    pub first_delivery : s.next_delivery ≡ 0
-    pub first_serve : s.next_serve ≡ 0
 
   -- A message. A database is served from then on, in place of an earlier one. A request is fetched, unless its ticket was let
   -- go.

@@ -1,6 +1,6 @@
 //! Deliveries: who judges them, and what becomes of them.
 
-ghost use Rattle.std.specs.Prelude.{◌≡◌, ◌≢◌, ◌^◌, ◌-◌, ◌<◌, ◌++◌, ◌∷◌, [], ℕ, List, map, IfOk, OnOk, option_to_list};
+ghost use Rattle.std.specs.Prelude.{◌≡◌, ◌≢◌, ◌^◌, ◌-◌, ◌<◌, ◌≤◌, ◌++◌, ◌∷◌, [], ℕ, List, map, IfOk, OnOk, option_to_list};
 ghost use Rattle.std.specs.Option.{MatchOption};
 ghost use Rattle.stateful_types.specs.declared.response.Response.{Response};
 ghost use Rattle.stateful_p2p.specs.Table.{at};
@@ -9,7 +9,7 @@ ghost use Rattle.stateful_p2p.specs.Inbox.{offered_each};
 ghost use Rattle.stateful_p2p.specs.Fanout.{IsSound, Releases, Forgets, Retires, Takes, Delivers, awaiting};
 ghost use Rattle.stateful_p2p.specs.Resolving.{Judges, Leaves};
 ghost use Rattle.stateful_p2p.specs.declared.event.ActorOut.{ActorOut};
-ghost use Rattle.stateful_p2p.specs.declared.event.ActorOut.TheVariants as outs;
+ghost use Rattle.stateful_p2p.specs.declared.event.ActorOut.TheVariants.{Candidate};
 ghost use Rattle.stateful_p2p.specs.declared.state.State.{State};
 
 use crate::event::ActorOut;
@@ -225,7 +225,7 @@ fn offer<D: SyncSource>(
     ensures waits { OnOk result (mailbox.new
         ≡ offered_each mailbox.old takers.now response.now) }
     ensures told { OnOk result (outs.new.items
-        ≡ outs.old.items ++ map (λ t. outs.Candidate t) takers.now) }
+        ≡ outs.old.items ++ map (λ t. Candidate t) takers.now) }
 {
     for ticket in takers {
         mailbox.offer(*ticket, response.share()?)?;

@@ -1,6 +1,6 @@
 //! What a network's engine hands to a resolver, on its way.
 
-ghost use Rattle.std.specs.Prelude.{◌≡◌, ◌+◌, ◌-◌, ◌^◌, ◌≤◌, ◌↔◌, ◌∷◌, [], None, IsNone, IfOk, OnOk, OnErr, IsErrOf, filter};
+ghost use Rattle.std.specs.Prelude.{◌≡◌, ◌+◌, ◌-◌, ◌^◌, ◌≤◌, ◌↔◌, ◌∷◌, [], false, IsNone, IfOk, OnOk, OnErr, IsErrOf, filter};
 ghost use Rattle.stateful_types.specs.Mailbox.{queues, messages, HandsOut};
 ghost use Rattle.stateful_p2p.specs.Handling.{handled, Delivers, Produces, without_delivery, HandsEvent};
 ghost use Rattle.stateful_p2p.specs.declared.handler.EngineMessage.TheVariants as engine;

@@ -15,6 +15,7 @@ mod state;
 mod subscriber;
 mod subscriptions;
 mod table;
+mod tickets;
 
 pub use actor::{Actor, Config};
 pub use error::{ActorError, ResponseDropped, TooManyOps};

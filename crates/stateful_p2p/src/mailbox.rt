@@ -3,27 +3,17 @@
 ghost use Rattle.std.specs.Prelude.{◌≡◌, ◌≢◌, ◌+◌, ◌-◌, ◌^◌, ◌≤◌, ◌↔◌, ◌∷◌, ◌++◌, [], ℕ, Option, Some, None, true, false, IsNone, IsTrue, IsErr, IfOk, OnOk, OnErr, IsErrOf, length};
 ghost use Rattle.std.specs.List.Sorted.{IsPermutation, IsNonDecreasing};
 ghost use Rattle.stateful_types.specs.Mailbox.{queues, messages, HandsOut};
-ghost use Rattle.stateful_p2p.specs.Inbox.{Inbox, empty_inbox, Asks, Attaches, is_live, ended, let_go, cancelled, offered, taken_out, is_dropped, waiting_for, IsSound};
-ghost use Rattle.stateful_p2p.specs.declared.message.Message.{Message};
+ghost use Rattle.stateful_p2p.specs.Tickets.{is_live, is_dropped, ended};
+ghost use Rattle.stateful_p2p.specs.Inbox.{empty_inbox, Asks, Attaches, let_go, cancelled, offered, taken_out, waiting_for};
 
 use crate::error::ResponseDropped;
 use crate::message::{Message, NotOf, Pending};
 use crate::table::Table;
+use crate::tickets::Tickets;
 use stateful_db::{AttachableResolver, SyncSource};
 use stateful_types::{Bounded, DrawError, Feedback, Moved, OutOfMemory, Request, Response};
 use std::alloc::Global;
 use std::marker::Model;
-
-/// How a ticket stands. One that is in no table was never drawn, or ended behind a candidate.
-#[derive(Clone, Copy, Debug, PartialEq, Eq)]
-pub(crate) enum Standing {
-    /// It is live, and no candidate came yet.
-    Open,
-    /// It is live, and a candidate came.
-    Answered,
-    /// It was let go before a candidate.
-    Dropped,
-}
 
 /// The requests to a resolver and the databases that are attached to it, on their way, and the answers to the
 /// requests. It draws a ticket for each request, from 0 on.
@@ -31,7 +21,7 @@ pub(crate) enum Standing {
 pub struct Mailbox<D: SyncSource> {
     next_ticket: u64,
     queue: Bounded<Message<D>, Pending<D>>,
-    tickets: Table<Standing>,
+    tickets: Tickets,
     candidates: Table<Response<D::Op>>,
     cancelled: Vec<u64>,
 }
@@ -59,7 +49,7 @@ impl<D: SyncSource> Mailbox<D> {
         Ok(Mailbox {
             next_ticket: 0,
             queue: Bounded::new(alloc, capacity)?,
-            tickets: Table::new(alloc),
+            tickets: Tickets::new(alloc),
             candidates: Table::new(alloc),
             cancelled: Vec::new(alloc),
         })
@@ -77,7 +67,7 @@ impl<D: SyncSource> Mailbox<D> {
             return Err(DrawError::Exhausted);
         }
         self.cancelled.reserve(self.tickets.len() + 1)?;
-        self.tickets.put(ticket, Standing::Open)?;
+        self.tickets.open(ticket)?;
         match self.queue.enqueue(Message::GetOperations { ticket, request }) {
             Ok(feedback) => {
                 self.next_ticket = ticket + 1;
@@ -102,8 +92,10 @@ impl<D: SyncSource> Mailbox<D> {
     pub fn cancel(&mut self, ticket: u64)
         ensures { self.new ≡ cancelled self.old ticket }
     {
-        if self.let_go(ticket) {
+        if self.tickets.is_live(ticket) {
             self.cancelled.push_reserved(ticket);
+            self.tickets.end(ticket);
+            self.queue.retain_waiting(&NotOf { ticket });
         }
     }
 
@@ -117,7 +109,7 @@ impl<D: SyncSource> Mailbox<D> {
             × (waiting_for self.old ticket ≡ Some response)) }
         ensures takes { self.new ≡ taken_out self.old ticket }
     {
-        if let Some(Standing::Dropped) = self.tickets.get(ticket) {
+        if self.tickets.is_dropped(ticket) {
             return Err(ResponseDropped);
         }
         match self.candidates.remove(ticket) {
@@ -130,36 +122,24 @@ impl<D: SyncSource> Mailbox<D> {
     pub(crate) fn is_live(&self, ticket: u64) -> bool
         ensures { result ≡ is_live self.now.tickets ticket }
     {
-        match self.tickets.get(ticket) {
-            Some(Standing::Open | Standing::Answered) => true,
-            Some(Standing::Dropped) | None => false,
-        }
+        self.tickets.is_live(ticket)
     }
 
     /// Ends a ticket, if it is live. It is kept in mind only where no candidate came for it.
     pub(crate) fn end(&mut self, ticket: u64)
         ensures { self.new ≡ record self.old { tickets = ended self.old.tickets ticket } }
     {
-        match self.tickets.get(ticket) {
-            Some(Standing::Open) => self.tickets.replace(ticket, Standing::Dropped),
-            Some(Standing::Answered) => {
-                self.tickets.remove(ticket);
-            }
-            Some(Standing::Dropped) | None => {}
-        }
+        self.tickets.end(ticket);
     }
 
-    /// Ends a ticket, whose request takes no room any more if it waits. Answers whether it was live.
-    pub(crate) fn let_go(&mut self, ticket: u64) -> bool
-        ensures live { result ≡ is_live self.old.tickets ticket }
-        ensures gone { self.new ≡ let_go self.old ticket }
+    /// Lets a ticket go, of which the resolver knows.
+    pub(crate) fn let_go(&mut self, ticket: u64)
+        ensures { self.new ≡ let_go self.old ticket }
     {
-        if !self.is_live(ticket) {
-            return false;
+        if self.tickets.is_live(ticket) {
+            self.tickets.end(ticket);
+            self.queue.retain_waiting(&NotOf { ticket });
         }
-        self.end(ticket);
-        self.queue.retain_waiting(&NotOf { ticket });
-        true
     }
 
     /// A candidate waits for a ticket, in place of an earlier one.
@@ -171,9 +151,7 @@ impl<D: SyncSource> Mailbox<D> {
         ensures { OnOk result (self.new ≡ offered self.old ticket response) }
     {
         self.candidates.put(ticket, response)?;
-        if self.is_live(ticket) {
-            self.tickets.replace(ticket, Standing::Answered);
-        }
+        self.tickets.answer(ticket);
         Ok(())
     }
 

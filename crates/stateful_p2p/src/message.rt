@@ -1,6 +1,6 @@
 //! Messages on their way to the resolver, and how they wait.
 
-ghost use Rattle.std.specs.Prelude.{◌≡◌, Some, filter};
+ghost use Rattle.std.specs.Prelude.{◌≡◌, filter};
 ghost use Rattle.stateful_p2p.specs.Messages.{attached};
 
 use stateful_types::{OutOfMemory, Overflow, Policy, Predicate, Request};
@@ -58,9 +58,8 @@ impl<D: Drop> Overflow<Message<D>> for Pending<D> {
     }
 
     fn retain<P: Predicate<Message<D>>>(&mut self, live: &P) {
-        if let Some(database) = self.database.take() {
-            self.database = kept(database, live);
-        }
+        let database = self.database.take();
+        self.database = kept(database, live);
         self.requests.retain(|ask| {
             live.holds(&Message::GetOperations {
                 ticket: ask.ticket,
@@ -70,11 +69,11 @@ impl<D: Drop> Overflow<Message<D>> for Pending<D> {
     }
 }
 
-/// The database, where the predicate holds of it.
-fn kept<D: Drop, P: Predicate<Message<D>>>(database: D, live: &P) -> Option<D>
-    ensures { attached result ≡ filter (P.holds live.now) (attached (Some database)) }
+/// The database, if there is one and the predicate holds of it.
+fn kept<D: Drop, P: Predicate<Message<D>>>(database: Option<D>, live: &P) -> Option<D>
+    ensures { attached result ≡ filter (P.holds live.now) (attached database) }
 {
-    let message = Message::AttachDatabase(database);
+    let message = Message::AttachDatabase(database?);
     if !live.holds(&message) {
         return None;
     }
