@@ -10,12 +10,12 @@ use Rattle.std.specs.Map.{values_of}
 use Rattle.std.proofs.lemmas.List.Sums.{sum_by-cons}
 use Rattle.stateful_types.specs.Mailbox.{Queues, messages, HasRoom, IsBusy, HandsOut, IsFilled, Drops}
 use Rattle.stateful_types.specs.declared.mailbox.Feedback.{Feedback}
-use Rattle.stateful_types.specs.declared.mailbox.Feedback.TheVariants as feedbacks
 use Rattle.stateful_p2p.specs.Table.{at, put, without}
+use Rattle.stateful_p2p.specs.Sending.{Sends}
 use Rattle.stateful_p2p.specs.Messages.{kept}
 use Rattle.stateful_p2p.specs.Tickets.{stands_live, is_live, ended, answered, live_weight, live_count}
 use Rattle.stateful_types.specs.declared.request.Request.{Request}
-use Rattle.stateful_p2p.specs.Inbox.{Inbox, inbox, Sends, ready, waits, Asks, Attaches, IsSound}
+use Rattle.stateful_p2p.specs.Inbox.{Inbox, Asks, Attaches}
 use Rattle.stateful_p2p.specs.declared.message.Message.{Message}
 use Rattle.stateful_p2p.specs.declared.message.Message.TheVariants.{AttachDatabase, GetOperations}
 use Rattle.stateful_p2p.specs.declared.tickets.Standing.{Standing}
@@ -43,16 +43,6 @@ pub noted : (cancelled : List ℕ) (t live before capacity : ℕ) (b : Bool) →
 noted cancelled t live before capacity b room count is = let c = rw is at count in omega (arith, length-append cancelled (t ∷ []))
 
 module _ {D : Type 0} where
-  -- a message that the queue took
-  pub sends : {E : Type 0} (q after : Queues (Message D)) (message : Message D) (result : Result Feedback E) → q.closed ≡ false → ((result ≡ Ok feedbacks.Closed) ↔ IsTrue q.closed)
-      → ((result ≡ Ok feedbacks.Ok) ↔ HasRoom q) → (result ≡ Ok feedbacks.Backoff → IsBusy q)
-      → (result ≡ Ok feedbacks.Ok → after ≡ record q { ready = q.ready ++ message ∷ [] }) → (result ≡ Ok feedbacks.Backoff → after ≡ record q { overflow = kept q.overflow message })
-      → IfOk result (λ feedback. Sends q message feedback after)
-  sends q after message (Ok feedbacks.Ok) still closed room busy is_ready is_waiting = rw (is_ready refl) (ready (room.0 refl))
-  sends q after message (Ok feedbacks.Backoff) still closed room busy is_ready is_waiting = rw (is_waiting refl) (waits (busy refl))
-  sends q after message (Ok feedbacks.Closed) still closed room busy is_ready is_waiting = absurd (let c = closed.0 refl in cc)
-  sends q after message (Err e) still closed room busy is_ready is_waiting = tt
-
   -- nothing was handed out of an empty queue, which stays what it is
   pub same_queue : (q after : Queues (Message D)) (message : Option (Message D)) → HandsOut q after message → (IsNone message ↔ (messages q ≡ [])) → IsNone message → after ≡ q
   same_queue q after None hands none is =
@@ -78,18 +68,12 @@ module _ {D : Type 0} where
       some is = search rules
 
 module _ {D Op : Type 0} where
-  pub attaches : {E : Type 0} (m : Inbox D Op) (db : D) (after : Queues (Message D)) (result : Result Feedback E) → IfOk result (λ feedback. Sends m.queue (AttachDatabase db) feedback after)
+  pub attaches : {E : Type 0} (m : Inbox D Op) (db : D) (after : Queues (Message D)) (result : Result Feedback E) → IfOk result (λ feedback. Sends kept m.queue (AttachDatabase db) feedback after)
       → IfOk result (λ feedback. Attaches m db feedback (record m { queue = after }))
   attaches m db after (Ok feedback) sent = record { sends = sent; others = refl }
   attaches m db after (Err e) sent = tt
 
-module _ {D : Type 0} where
-  -- a queue that took a message isn't closed by it
-  pub sent_open : (q after : Queues (Message D)) (message : Message D) (feedback : Feedback) → Sends q message feedback after → after.closed ≡ q.closed
-  sent_open q after message feedback (ready room) = refl
-  sent_open q after message feedback (waits busy) = refl
-
 module _ {D Op : Type 0} where
-  pub asks : (m : Inbox D Op) (request : Request) (after : Queues (Message D)) (feedback : Feedback) → Sends m.queue (GetOperations m.next_ticket request) feedback after
+  pub asks : (m : Inbox D Op) (request : Request) (after : Queues (Message D)) (feedback : Feedback) → Sends kept m.queue (GetOperations m.next_ticket request) feedback after
       → Asks m request feedback m.next_ticket (record m { next_ticket = m.next_ticket + 1; queue = after; tickets = put m.tickets m.next_ticket Open })
   asks m request after feedback sent = record { drawn = refl; sends = sent; others = refl }

@@ -1,4 +1,6 @@
 pub mod Tables
 pub mod Waiting
 pub mod Standing
+pub mod Sending
 pub mod Boxing
+pub mod Handing

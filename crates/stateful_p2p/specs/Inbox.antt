@@ -1,12 +1,12 @@
 -- What contracts see of a resolver's mailbox.
 use Rattle.std.specs.Prelude.{◌≡◌, ℕ, ◌+◌, ◌≤◌, Bool, true, false, if◌then◌else◌, Option, None, List, [], ◌∷◌, ◌++◌, filter, length}
-use Rattle.stateful_types.specs.Mailbox.{Queues, queues, HasRoom, IsBusy, IsFilled}
+use Rattle.stateful_types.specs.Mailbox.{Queues, queues, IsFilled}
 use Rattle.stateful_types.specs.declared.mailbox.Feedback.{Feedback}
-use Rattle.stateful_types.specs.declared.mailbox.Feedback.TheVariants as feedbacks
 use Rattle.stateful_types.specs.declared.request.Request.{Request}
 use Rattle.stateful_types.specs.declared.response.Response.{Response}
 use Rattle.stateful_p2p.specs.Table.{at, put, without}
 use Rattle.stateful_p2p.specs.Tickets.{is_live, is_dropped, ended, answered, live_count}
+use Rattle.stateful_p2p.specs.Sending.{Sends}
 use Rattle.stateful_p2p.specs.Messages.{kept, is_not_of}
 use Rattle.stateful_p2p.specs.declared.message.Message.{Message}
 use Rattle.stateful_p2p.specs.declared.message.Message.TheVariants.{AttachDatabase, GetOperations}
@@ -25,14 +25,6 @@ pub record Inbox (D Op : Type 0) : Type 0 where
 abbrev pub inbox : {D Op : Type 0} → ℕ → Queues (Message D) → List (ℕ × Standing) → List (ℕ × Response Op) → List ℕ → Inbox D Op
 inbox next queue tickets candidates cancelled = record { next_ticket = next; queue = queue; tickets = tickets; candidates = candidates; cancelled = cancelled }
 
--- ---- messages
-
-module _ {D : Type 0} where
-  -- a message is taken: it is ready, or it waits
-  pub data Sends (queue : Queues (Message D)) (message : Message D) : Feedback → Queues (Message D) → Type 0 where
-    ready : HasRoom queue → Sends queue message feedbacks.Ok (record queue { ready = queue.ready ++ message ∷ [] })
-    waits : IsBusy queue → Sends queue message feedbacks.Backoff (record queue { overflow = kept queue.overflow message })
-
 module _ {D Op : Type 0} where
   -- nothing was asked for
   abbrev pub empty_inbox : ℕ → Inbox D Op
@@ -41,12 +33,12 @@ module _ {D Op : Type 0} where
   -- a request is on its way, and its ticket is drawn
   pub record Asks (m : Inbox D Op) (request : Request) (feedback : Feedback) (ticket : ℕ) (next : Inbox D Op) : Type 0 where
     pub drawn : ticket ≡ m.next_ticket
-    pub sends : Sends m.queue (GetOperations ticket request) feedback next.queue
+    pub sends : Sends kept m.queue (GetOperations ticket request) feedback next.queue
     pub others : next ≡ record m { next_ticket = ticket + 1; queue = next.queue; tickets = put m.tickets ticket Open }
 
   -- a database is on its way
   pub record Attaches (m : Inbox D Op) (db : D) (feedback : Feedback) (next : Inbox D Op) : Type 0 where
-    pub sends : Sends m.queue (AttachDatabase db) feedback next.queue
+    pub sends : Sends kept m.queue (AttachDatabase db) feedback next.queue
     pub others : next ≡ record m { queue = next.queue }
 
   -- the ticket is let go, and its request takes no room any more if it waits

@@ -1,4 +1,5 @@
 pub mod Table
+pub mod Sending
 pub mod Messages
 pub mod Subscribing
 pub mod Tickets

@@ -14,29 +14,29 @@ use std::marker::Model;
 
 /// What an engine hands over.
 #[derive(Drop)]
-pub(crate) enum EngineMessage {
+pub(crate) enum EngineMessage<K> {
     /// A peer's answer, for those who wait for this key.
     Deliver {
         delivery: u64,
-        key: Request,
+        key: K,
         value: Bytes,
     },
     /// A peer asks for what this key names.
-    Produce { serve: u64, key: Request },
+    Produce { serve: u64, key: K },
 }
 
 // Where the mailbox is full, peers' requests are dropped at once, so that deliveries to local callers keep priority. The
 // peer can ask one that has less to do.
-impl Policy for EngineMessage {
+impl<K: Drop> Policy for EngineMessage<K> {
     ghost use Rattle.stateful_p2p.specs.Handling.{kept};
 
-    type Overflow = VecDeque<EngineMessage>;
+    type Overflow = VecDeque<EngineMessage<K>>;
 
     ghost kept = { kept };
 
     fn handle(
-        overflow: &mut VecDeque<EngineMessage>,
-        message: EngineMessage,
+        overflow: &mut VecDeque<EngineMessage<K>>,
+        message: EngineMessage<K>,
     ) -> Result<(), OutOfMemory> {
         if let EngineMessage::Deliver { .. } = message {
             overflow.push_back(message)?;
@@ -51,12 +51,12 @@ struct NotDelivery {
     delivery: u64,
 }
 
-impl Predicate<EngineMessage> for NotDelivery {
+impl<K> Predicate<EngineMessage<K>> for NotDelivery {
     ghost use Rattle.stateful_p2p.specs.Handling.{is_not_delivery};
 
     ghost holds = { λ not_delivery message. is_not_delivery not_delivery.delivery message };
 
-    fn holds(&self, message: &EngineMessage) -> bool {
+    fn holds(&self, message: &EngineMessage<K>) -> bool {
         match message {
             EngineMessage::Deliver { delivery, .. } => *delivery != self.delivery,
             EngineMessage::Produce { .. } => true,
@@ -69,7 +69,7 @@ impl Predicate<EngineMessage> for NotDelivery {
 pub struct Handler {
     next_delivery: u64,
     next_serve: u64,
-    queue: Bounded<EngineMessage, VecDeque<EngineMessage>>,
+    queue: Bounded<EngineMessage<Request>, VecDeque<EngineMessage<Request>>>,
 }
 
 impl Model for Handler {
@@ -173,7 +173,7 @@ mod tests {
         start: Location(3),
     };
 
-    fn delivery(delivery: u64) -> EngineMessage {
+    fn delivery(delivery: u64) -> EngineMessage<Request> {
         EngineMessage::Deliver {
             delivery,
             key: KEY,
@@ -183,7 +183,7 @@ mod tests {
 
     #[test]
     fn overflow_drops_productions_and_keeps_live_deliveries(rt: HostRuntime) -> Result<(), Fail> {
-        let mut overflow: VecDeque<EngineMessage> = Overflow::empty(rt.alloc());
+        let mut overflow: VecDeque<EngineMessage<Request>> = Overflow::empty(rt.alloc());
         EngineMessage::handle(&mut overflow, EngineMessage::Produce { serve: 0, key: KEY })?;
         assert!(rt; Overflow::is_empty(&overflow));
         EngineMessage::handle(&mut overflow, delivery(0))?;

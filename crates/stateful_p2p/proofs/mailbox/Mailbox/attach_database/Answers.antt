@@ -1,5 +1,7 @@
 use Rattle.stateful_p2p.specs.declared.message.Message.TheVariants.{AttachDatabase}
-use Rattle.stateful_p2p.proofs.Boxing.{sends, attaches}
+use Rattle.stateful_p2p.specs.Messages.{kept}
+use Rattle.stateful_p2p.proofs.Sending.{sends}
+use Rattle.stateful_p2p.proofs.Boxing.{attaches}
 use Rattle.stateful_p2p.proofs.mailbox.Mailbox.attach_database.Goals as goal
 
 pub returns-clause-attaches : goal.returns-clause-attaches
@@ -7,4 +9,4 @@ returns-clause-attaches g c =
     let e = c.enqueue.ensures in
     rw (← c.self.view_is)
     (attaches _ c.args.db c.enqueue.new.self c.enqueue.result
-    (sends c.self.inside.queue c.enqueue.new.self (AttachDatabase c.args.db) c.enqueue.result c.self.invariant.still_open e.closed e.room e.busy e.ready e.waits))
+    (sends kept c.self.inside.queue c.enqueue.new.self (AttachDatabase c.args.db) c.enqueue.result c.self.invariant.still_open e.closed e.room e.busy e.ready e.waits))

@@ -4,14 +4,16 @@ use Rattle.stateful_p2p.specs.declared.message.Message.TheVariants.{GetOperation
 use Rattle.stateful_p2p.specs.declared.tickets.Standing.TheVariants.{Open}
 use Rattle.stateful_p2p.proofs.Tables.{restored}
 use Rattle.stateful_p2p.proofs.Standing.{drawn_fresh}
-use Rattle.stateful_p2p.proofs.Boxing.{sends, sent_open, asks}
+use Rattle.stateful_p2p.specs.Messages.{kept}
+use Rattle.stateful_p2p.proofs.Sending.{sends, sent_open}
+use Rattle.stateful_p2p.proofs.Boxing.{asks}
 use Rattle.stateful_p2p.proofs.mailbox.Mailbox.serve.Goals as goal
 
 pub invariant_of-self-in-Ok : goal.invariant_of-self-in-Ok
 invariant_of-self-in-Ok g c =
     let s = c.self.inside in
     let e = c.enqueue.ensures in
-    let sent = rw c.in-Ok.is at (sends s.queue c.enqueue.new.self (GetOperations s.next_ticket c.args.request) c.enqueue.result c.self.invariant.still_open e.closed e.room e.busy e.ready e.waits) in
+    let sent = rw c.in-Ok.is at (sends kept s.queue c.enqueue.new.self (GetOperations s.next_ticket c.args.request) c.enqueue.result c.self.invariant.still_open e.closed e.room e.busy e.ready e.waits) in
     record {
       still_open = sent_open _ _ _ _ sent ∙ c.self.invariant.still_open;
       filled = e.filled;
@@ -38,7 +40,7 @@ pub returns-in-Ok-clause-asks : goal.returns-in-Ok-clause-asks
 returns-in-Ok-clause-asks g c =
     let s = c.self.inside in
     let e = c.enqueue.ensures in
-    let sent = rw c.in-Ok.is at (sends s.queue c.enqueue.new.self (GetOperations s.next_ticket c.args.request) c.enqueue.result c.self.invariant.still_open e.closed e.room e.busy e.ready e.waits) in
+    let sent = rw c.in-Ok.is at (sends kept s.queue c.enqueue.new.self (GetOperations s.next_ticket c.args.request) c.enqueue.result c.self.invariant.still_open e.closed e.room e.busy e.ready e.waits) in
     rw (← c.self.view_is, c.in_ok-open.ensures.ok, c.in_ok-reserve.ensures.items)
     (asks (inbox s.next_ticket s.queue s.tickets s.candidates s.cancelled.items) c.args.request c.enqueue.new.self c.in-Ok.feedback sent)
 
