@@ -4,3 +4,5 @@ pub mod Standing
 pub mod Sending
 pub mod Boxing
 pub mod Handing
+pub mod Payloads
+pub mod Whole

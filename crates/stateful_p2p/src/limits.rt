@@ -1,15 +1,12 @@
 //! How large the payloads of a resolver are.
 
-ghost use Rattle.std.specs.Prelude.{◌≡◌, ◌+◌, ◌*◌, ◌^◌, ◌≤◌, ◌↔◌, ℕ, max, IsErr, IfOk};
+ghost use Rattle.std.specs.Prelude.{◌≡◌, ◌^◌, ◌≤◌, ◌↔◌, ℕ, IsErr, IfOk};
 ghost use Rattle.std.specs.Int.NonZero.{non_zero_u64_get};
 ghost use Rattle.stateful_p2p.specs.Limits.{payload_size, IsBounded};
 
 use crate::error::TooManyOps;
 use stateful_types::Operation;
 use std::num::NonZeroU64;
-
-/// The greatest size of an operation that limits are computed for, 16 MiB.
-const MAX_OP: usize = 16_777_216;
 
 /// How many bytes a message between resolvers has at most, where no more than so many operations are served at a time and
 /// each has at most `op` bytes. Refused where these are more than 4294967295 operations. It takes no memory.
@@ -29,6 +26,5 @@ pub fn max_payload_size(max_serve_ops: NonZeroU64, op: usize) -> Result<usize, T
 
 /// No message is longer.
 pub fn no_payload_is_longer<Op: Operation>()
-    ensures { (most op : ℕ) → 1 ≤ most → IsBounded Op.operations most op }
-{
-}
+    ensures { (most op : ℕ) → IsBounded Op.operations most op }
+{}

@@ -27,9 +27,14 @@ fn read_whole<Op: Operation + Drop>(
     ensures { IsWholeAs Op.operations key.now value result }
 {
     let mut input = value;
-    let response = Response::read(alloc, &mut input, key)?;
-    end_of(&input)?;
-    Ok(response)
+    let response = match Response::read(alloc, &mut input, key) {
+        Ok(response) => response,
+        Err(error) => return Err(error),
+    };
+    match end_of(&input) {
+        Ok(()) => Ok(response),
+        Err(error) => Err(error),
+    }
 }
 
 /// The response to the key that these bytes are, if they are one.

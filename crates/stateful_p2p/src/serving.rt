@@ -62,7 +62,8 @@ fn answer<D: SyncSource>(
             Ok(Some(Bytes::from_vec(bytes)?))
         }
         Err(ServeFault::OutOfMemory) => Err(OutOfMemory),
-        Err(ServeFault::NotServed | ServeFault::Failed) => Ok(None),
+        Err(ServeFault::NotServed) => Ok(None),
+        Err(ServeFault::Failed) => Ok(None),
     }
 }
 
