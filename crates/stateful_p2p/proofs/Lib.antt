@@ -6,3 +6,5 @@ pub mod Boxing
 pub mod Handing
 pub mod Payloads
 pub mod Whole
+pub mod Counting
+pub mod Releasing

@@ -1,6 +1,6 @@
 //! Deliveries: who judges them, and what becomes of them.
 
-ghost use Rattle.std.specs.Prelude.{◌≡◌, ◌≢◌, ◌^◌, ◌-◌, ◌<◌, ◌≤◌, ◌++◌, ◌∷◌, [], ℕ, List, map, IfOk, OnOk, option_to_list};
+ghost use Rattle.std.specs.Prelude.{◌≡◌, ◌≢◌, ◌^◌, ◌-◌, ◌<◌, ◌≤◌, ◌++◌, ◌∷◌, [], ℕ, List, true, map, IfOk, OnOk, option_to_list};
 ghost use Rattle.std.specs.Option.{MatchOption};
 ghost use Rattle.stateful_types.specs.declared.response.Response.{Response};
 ghost use Rattle.stateful_p2p.specs.Table.{at};
@@ -41,10 +41,7 @@ impl<D: SyncSource> State<D> {
         let Some(mut verdicts) = self.deliveries.remove(delivery) else {
             return Ok(None);
         };
-        verdicts.awaited -= 1;
-        if let Some(valid) = verdict {
-            verdicts.given.put(ticket, valid)?;
-        }
+        verdicts.hear(ticket, verdict)?;
         if verdicts.awaited == 0 {
             return Ok(Some(verdicts.outcome(delivery)));
         }
@@ -81,13 +78,31 @@ impl<D: SyncSource> State<D> {
     {
         let mut settled = Vec::new(alloc);
         for ticket in gone {
-            if let Some(outcome) = self.forget(*ticket)? {
-                outs.push(ActorOut::Forget { ticket: *ticket })?;
-                push_some(&mut settled, outcome)?;
-            }
+            self.retire_one(*ticket, outs, &mut settled)?;
         }
         outs.append(&mut settled)?;
         Ok(())
+    }
+
+    /// A ticket is forgotten. What that settles is kept apart.
+    fn retire_one(
+        &mut self,
+        ticket: u64,
+        outs: &mut Vec<ActorOut>,
+        settled: &mut Vec<ActorOut>,
+    ) -> Result<(), OutOfMemory>
+        requires { IsSound self.old }
+        ensures retires { OnOk result ((forgotten : List ActorOut) × (more : List ActorOut)
+            × Retires self.old (ticket ∷ []) forgotten more self.new
+            × (outs.new.items ≡ outs.old.items ++ forgotten)
+            × (settled.new.items ≡ settled.old.items ++ more)) }
+        ensures sound { OnOk result (IsSound self.new) }
+    {
+        let Some(outcome) = self.forget(ticket)? else {
+            return Ok(());
+        };
+        outs.push(ActorOut::Forget { ticket })?;
+        push_some(settled, outcome)
     }
 
     /// A ticket judges its candidate. A good one ends it.
@@ -104,12 +119,30 @@ impl<D: SyncSource> State<D> {
             × (outs.new.items ≡ outs.old.items ++ done)) }
         ensures sound { OnOk result (IsSound self.new) }
     {
-        let settled = self.release(ticket, Some(valid))?;
         if valid {
-            self.subscriptions.remove(ticket);
-            mailbox.end(ticket);
-            outs.push(ActorOut::Forget { ticket })?;
+            return self.accept(mailbox, ticket, outs);
         }
+        let settled = self.release(ticket, Some(false))?;
+        push_some(outs, settled)
+    }
+
+    /// A ticket judges its candidate good, and ends.
+    fn accept(
+        &mut self,
+        mailbox: &mut Mailbox<D>,
+        ticket: u64,
+        outs: &mut Vec<ActorOut>,
+    ) -> Result<(), OutOfMemory>
+        requires { IsSound self.old }
+        ensures judges { OnOk result ((done : List ActorOut)
+            × Judges self.old mailbox.old ticket true done self.new mailbox.new
+            × (outs.new.items ≡ outs.old.items ++ done)) }
+        ensures sound { OnOk result (IsSound self.new) }
+    {
+        let settled = self.release(ticket, Some(true))?;
+        self.subscriptions.remove(ticket);
+        mailbox.end(ticket);
+        outs.push(ActorOut::Forget { ticket })?;
         push_some(outs, settled)
     }
 
@@ -127,11 +160,11 @@ impl<D: SyncSource> State<D> {
         ensures sound { OnOk result (IsSound self.new) }
     {
         mailbox.let_go(ticket);
-        if let Some(settled) = self.forget(ticket)? {
-            outs.push(ActorOut::Forget { ticket })?;
-            push_some(outs, settled)?;
-        }
-        Ok(())
+        let Some(settled) = self.forget(ticket)? else {
+            return Ok(());
+        };
+        outs.push(ActorOut::Forget { ticket })?;
+        push_some(outs, settled)
     }
 
     /// A peer's answer to a fetch of this key.

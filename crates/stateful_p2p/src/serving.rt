@@ -1,6 +1,6 @@
 //! Productions: what peers ask, answered from the database that is attached.
 
-ghost use Rattle.std.specs.Prelude.{◌≡◌, ◌^◌, ◌-◌, ◌<◌, ◌++◌, List, IfOk, OnOk};
+ghost use Rattle.std.specs.Prelude.{◌≡◌, ◌^◌, ◌-◌, ◌<◌, ◌++◌, ◌⊎◌, List, IfOk, OnOk};
 ghost use Rattle.stateful_p2p.specs.Resolving.{setup, asks_too_many, Produces, Answers};
 ghost use Rattle.stateful_p2p.specs.declared.event.ActorOut.{ActorOut};
 
@@ -61,9 +61,20 @@ fn answer<D: SyncSource>(
             response.write(&mut bytes)?;
             Ok(Some(Bytes::from_vec(bytes)?))
         }
-        Err(ServeFault::OutOfMemory) => Err(OutOfMemory),
-        Err(ServeFault::NotServed) => Ok(None),
-        Err(ServeFault::Failed) => Ok(None),
+        Err(fault) => {
+            admits_no_answer(fault)?;
+            Ok(None)
+        }
+    }
+}
+
+/// That the database gave no answer, and not for want of memory.
+fn admits_no_answer(fault: ServeFault) -> Result<(), OutOfMemory>
+    ensures { OnOk result ((fault ≡ ServeFault.NotServed) ⊎ (fault ≡ ServeFault.Failed)) }
+{
+    match fault {
+        ServeFault::OutOfMemory => Err(OutOfMemory),
+        ServeFault::NotServed | ServeFault::Failed => Ok(()),
     }
 }
 

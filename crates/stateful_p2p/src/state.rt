@@ -1,12 +1,13 @@
 //! What a resolver keeps.
 
-ghost use Rattle.std.specs.Prelude.{◌≡◌};
-ghost use Rattle.stateful_p2p.specs.Fanout.{outcome};
+ghost use Rattle.std.specs.Prelude.{◌≡◌, ◌≤◌, OnOk};
+ghost use Rattle.stateful_p2p.specs.Fanout.{heard, outcome};
 ghost use Rattle.stateful_p2p.specs.Resolving.{IsNew};
 
 use crate::event::ActorOut;
 use crate::subscriptions::Subscriptions;
 use crate::table::Table;
+use stateful_types::OutOfMemory;
 use std::alloc::Global;
 
 /// The verdicts on a delivery: how many are still awaited, and those that were given, by ticket.
@@ -17,6 +18,18 @@ pub(crate) struct Verdicts {
 }
 
 impl Verdicts {
+    /// A ticket gives its verdict, or leaves without one.
+    pub(crate) fn hear(&mut self, ticket: u64, verdict: Option<bool>) -> Result<(), OutOfMemory>
+        requires { 1 ≤ self.old.awaited }
+        ensures { OnOk result (self.new ≡ heard self.old ticket verdict) }
+    {
+        self.awaited -= 1;
+        match verdict {
+            Some(valid) => self.given.put(ticket, valid),
+            None => Ok(()),
+        }
+    }
+
     /// What becomes of the delivery: the verdict of the first ticket that gave one, or none.
     pub(crate) fn outcome(&self, delivery: u64) -> ActorOut
         ensures { result ≡ outcome delivery self.now.given }

@@ -20,12 +20,7 @@ returns-in_ok-from_vec-in-Ok g c =
     rw (c.in_ok-from_vec-in-Ok.ensures.ok, w.appended, c.new-bytes.ensures.items)
     (served some (sym c.asks_too_many.ensures ∙ c.if-asks_too_many.false) c.in-Ok.ensures.serves w.fits)
 
-pub returns-in-Err-NotServed : goal.returns-in-Err-NotServed
-returns-in-Err-NotServed g c =
+pub returns-in_ok-admits_no_answer-in-Err : goal.returns-in_ok-admits_no_answer-in-Err
+returns-in_ok-admits_no_answer-in-Err g c =
     let some : c.args.attached.now ≡ Some c.in-Some.database = rw (← c.take.ensures.value) c.in-Some.is in
-    unserved some (sym c.asks_too_many.ensures ∙ c.if-asks_too_many.false) (rw (c.in-Err-NotServed.is, c.in-Err-NotServed.field-0-is) at c.serve-answer.ensures.serves) (inl refl)
-
-pub returns-in-Err-Failed : goal.returns-in-Err-Failed
-returns-in-Err-Failed g c =
-    let some : c.args.attached.now ≡ Some c.in-Some.database = rw (← c.take.ensures.value) c.in-Some.is in
-    unserved some (sym c.asks_too_many.ensures ∙ c.if-asks_too_many.false) (rw (c.in-Err-Failed.is, c.in-Err-Failed.field-0-is) at c.serve-answer.ensures.serves) (inr refl)
+    unserved some (sym c.asks_too_many.ensures ∙ c.if-asks_too_many.false) c.in-Err.ensures.serves c.in_ok-admits_no_answer-in-Err.ensures
