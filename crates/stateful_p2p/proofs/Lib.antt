@@ -8,3 +8,5 @@ pub mod Payloads
 pub mod Whole
 pub mod Counting
 pub mod Releasing
+pub mod Awaiting
+pub mod Performing

@@ -1,12 +1,12 @@
 //! Deliveries: who judges them, and what becomes of them.
 
-ghost use Rattle.std.specs.Prelude.{◌≡◌, ◌≢◌, ◌^◌, ◌-◌, ◌<◌, ◌≤◌, ◌++◌, ◌∷◌, [], ℕ, List, true, map, IfOk, OnOk, option_to_list};
+ghost use Rattle.std.specs.Prelude.{◌≡◌, ◌≢◌, ◌^◌, ◌-◌, ◌<◌, ◌≤◌, ◌++◌, ◌∷◌, [], ℕ, List, true, map, filter, IfOk, OnOk, option_to_list};
 ghost use Rattle.std.specs.Option.{MatchOption};
 ghost use Rattle.stateful_types.specs.declared.response.Response.{Response};
 ghost use Rattle.stateful_p2p.specs.Table.{at};
 ghost use Rattle.stateful_p2p.specs.Subscribing.{AreSubscribers};
 ghost use Rattle.stateful_p2p.specs.Inbox.{offered_each};
-ghost use Rattle.stateful_p2p.specs.Fanout.{IsSound, Releases, Forgets, Retires, Takes, Delivers, awaiting};
+ghost use Rattle.stateful_p2p.specs.Fanout.{IsSound, Releases, Forgets, Retires, Takes, Delivers, awaiting, is_free};
 ghost use Rattle.stateful_p2p.specs.Resolving.{Judges, Leaves};
 ghost use Rattle.stateful_p2p.specs.declared.event.ActorOut.{ActorOut};
 ghost use Rattle.stateful_p2p.specs.declared.event.ActorOut.TheVariants.{Candidate};
@@ -21,6 +21,7 @@ use bytes::Bytes;
 use stateful_db::SyncSource;
 use stateful_types::{OutOfMemory, Request, Response, Share};
 use std::alloc::Global;
+use std::collections::BTreeSet;
 
 impl<D: SyncSource> State<D> {
     /// A ticket gives its verdict on the candidate that it hasn't judged, or none as it leaves. Answers what becomes of
@@ -218,13 +219,7 @@ impl<D: SyncSource> State<D> {
         if subscribers.is_empty() {
             return Ok(None);
         }
-        let mut takers = Vec::new(alloc);
-        for ticket in subscribers {
-            if !self.unjudged.contains(*ticket) {
-                takers.push(*ticket)?;
-            }
-        }
-        Ok(Some(takers))
+        Ok(Some(free(alloc, subscribers, &self.unjudged)?))
     }
 
     /// The verdicts of these tickets on a delivery are awaited.
@@ -246,6 +241,24 @@ impl<D: SyncSource> State<D> {
         }
         Ok(())
     }
+}
+
+/// Those of the tickets that have no candidate to judge.
+fn free(
+    alloc: Global,
+    tickets: &BTreeSet<u64>,
+    unjudged: &Table<u64>,
+) -> Result<Vec<u64>, OutOfMemory>
+    ensures { IfOk result (λ takers.
+        takers.items ≡ filter (is_free unjudged.now) tickets.now.keys) }
+{
+    let mut takers = Vec::new(alloc);
+    for ticket in tickets {
+        if !unjudged.contains(*ticket) {
+            takers.push(*ticket)?;
+        }
+    }
+    Ok(takers)
 }
 
 /// The same candidate waits for each of these tickets.
