@@ -9,7 +9,7 @@ use Rattle.stateful_types.specs.declared.request.Request.{Request}
 use Rattle.stateful_types.specs.declared.response.Response.{Response}
 use Rattle.stateful_p2p.specs.Inbox.{Inbox}
 use Rattle.stateful_p2p.specs.Fanout.{Takes, Forgets, stranger, forgets, Releases, has_none, releases, Retires, nobody, unfetched, fetched, delivered, Delivers}
-use Rattle.stateful_p2p.specs.Resolving.{Setup, IsExhausting, Hears, attaches, fetches, passes_over, Does, hears, delivers, judges, leaves, produces, Steps}
+use Rattle.stateful_p2p.specs.Resolving.{Setup, IsExhausting, Hears, attaches, fetches, passes_over, Judges, Leaves, Produces, Does, hears, delivers, judges, leaves, produces, Steps}
 use Rattle.stateful_p2p.specs.Tasks.{Admits, hear, deliver, judge, leave, produce, has_last_number}
 use Rattle.stateful_p2p.specs.declared.state.State.{State}
 use Rattle.stateful_p2p.specs.declared.message.Message.{Message}
@@ -91,3 +91,33 @@ module _ {D Op : Type 0} where
   last_same m left event task judge e = refl
   last_same m left event task leave e = refl
   last_same m left event task produce e = refl
+
+module _ {D Op : Type 0} (u : Setup D Op) where
+  -- what a task did, with the outputs that it put behind earlier ones
+  pub data Did (s : State D) (m : Inbox D Op) (outs : List ActorOut) : Task D → List ActorOut → State D → Inbox D Op → Type 0 where
+    did_hear : {message : Message D} {done more : List ActorOut} {next : State D} → Hears s m message done next → more ≡ outs ++ done → Did s m outs (tasks.Hear message) more next m
+    did_deliver : {d : ℕ} {key : Request} {bytes : List ℕ} {done more : List ActorOut} {next : State D} {left : Inbox D Op} → Delivers u.operations s m d key bytes done next left → more ≡ outs ++ done
+        → Did s m outs (tasks.Deliver d key bytes) more next left
+    did_judge : {t : ℕ} {valid : Bool} {done more : List ActorOut} {next : State D} {left : Inbox D Op} → Judges s m t valid done next left → more ≡ outs ++ done → Did s m outs (tasks.Judge t valid) more next left
+    did_leave : {t : ℕ} {done more : List ActorOut} {next : State D} {left : Inbox D Op} → Leaves s m t done next left → more ≡ outs ++ done → Did s m outs (tasks.Leave t) more next left
+    did_produce : {n : ℕ} {key : Request} {done more : List ActorOut} {next : State D} → Produces u s n key done next → more ≡ outs ++ done → Did s m outs (tasks.Produce n key) more next m
+
+  pub admitted : (s between last : State D) (before m mid left : Inbox D Op) (event : ActorEvent) (task : Task D) (gone : List ℕ) (forgotten settled outs first : List ActorOut) → Admits before event task m
+      → IsNonDecreasing gone → IsPermutation m.cancelled gone → Retires s gone forgotten settled between → mid ≡ record m { cancelled = [] } → first ≡ [] ++ forgotten ++ settled
+      → Did between mid first task outs last left → Steps u s before event outs last left
+  admitted s between last before m mid left event task gone forgotten settled outs first (hear {message = message} handed m_is) ascending all retires mid_is first_is (did_hear {done = done} h more) =
+      steps_by u s between last before mid event gone forgotten settled done outs first ascending (subst (λ (w : Inbox D Op). IsPermutation w.cancelled gone) m_is all) retires
+      (hear_does u before m mid between message done last handed m_is mid_is h) first_is more
+  admitted s between last before m mid left event task gone forgotten settled outs first deliver ascending all retires mid_is first_is (did_deliver {done = done} h more) =
+      steps_by u s between last m left event gone forgotten settled done outs first ascending all retires (delivers (rw mid_is at h)) first_is more
+  admitted s between last before m mid left event task gone forgotten settled outs first judge ascending all retires mid_is first_is (did_judge {done = done} h more) =
+      steps_by u s between last m left event gone forgotten settled done outs first ascending all retires (judges (rw mid_is at h)) first_is more
+  admitted s between last before m mid left event task gone forgotten settled outs first leave ascending all retires mid_is first_is (did_leave {done = done} h more) =
+      steps_by u s between last m left event gone forgotten settled done outs first ascending all retires (leaves (rw mid_is at h)) first_is more
+  admitted s between last before m mid left event task gone forgotten settled outs first produce ascending all retires mid_is first_is (did_produce {n = n} {key = key} {done = done} h more) =
+      steps_by u s between last m mid event gone forgotten settled done outs first ascending all retires (subst (λ (w : Inbox D Op). Does u between (record m { cancelled = [] }) (events.Produce n key) done last w) (sym mid_is) (produces h)) first_is more
+
+-- what isn't false
+pub came : {P : Type 0} (b : Bool) → (P → b ≡ false) × (b ≡ false → P) → (P → ⊥) → b ≡ true
+came true both some = refl
+came false both some = absurd (some (both.1 refl))

@@ -69,3 +69,8 @@ on_ok (Err e) p f = p
 -- two more outputs, one behind the other
 pub both_more : (before mid after : List ActorOut) (one : ActorOut) (more : List ActorOut) → mid ≡ before ++ one ∷ [] → after ≡ mid ++ more → after ≡ before ++ one ∷ more
 both_more before mid after one more e f = f ∙ ap (λ w. w ++ more) e ∙ append_assoc before (one ∷ []) more
+
+-- what follows from two facts of an answer that is no error
+pub on_both : {T E P Q R : Type 0} (r : Result T E) → OnOk r P → OnOk r Q → (P → Q → R) → OnOk r R
+on_both (Ok x) p q f = f p q
+on_both (Err e) p q f = p
