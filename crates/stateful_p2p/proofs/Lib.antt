@@ -10,3 +10,4 @@ pub mod Counting
 pub mod Releasing
 pub mod Awaiting
 pub mod Performing
+pub mod Indexing

@@ -10,7 +10,8 @@ use Rattle.stateful_types.specs.declared.request.Request.TheVariants as asked
 use Rattle.stateful_types.specs.declared.response.Response.{Response}
 use Rattle.stateful_db.specs.declared.sync_source.ServeFault.{ServeFault}
 use Rattle.stateful_db.specs.declared.sync_source.ServeFault.TheVariants as faults
-use Rattle.stateful_p2p.specs.Table.{at, put, without}
+use Rattle.stateful_p2p.specs.Table.{at, without}
+use Rattle.stateful_p2p.specs.Subscribing.{subscribed}
 use Rattle.stateful_p2p.specs.Tickets.{is_live, ended}
 use Rattle.stateful_p2p.specs.Inbox.{Inbox, let_go}
 use Rattle.stateful_p2p.specs.Fanout.{Releases, Forgets, Retires, Delivers}
@@ -69,7 +70,7 @@ module _ {D Op : Type 0} where
   -- go.
   pub data Hears (s : State D) (m : Inbox D Op) : Message D → List ActorOut → State D → Type 0 where
     attaches : {db : D} → Hears s m (AttachDatabase db) [] (record s { database = Some db })
-    fetches : {t : ℕ} {key : Request} → is_live m.tickets t ≡ true → Hears s m (GetOperations t key) (Fetch t key ∷ []) (record s { subscriptions = put s.subscriptions t key })
+    fetches : {t : ℕ} {key : Request} → is_live m.tickets t ≡ true → Hears s m (GetOperations t key) (Fetch t key ∷ []) (record s { subscriptions = subscribed s.subscriptions t key })
     passes_over : {t : ℕ} {key : Request} → is_live m.tickets t ≡ false → Hears s m (GetOperations t key) [] s
 
   -- A verdict. A good candidate ends its ticket, and a bad one leaves it open.

@@ -6,6 +6,7 @@ mod error;
 mod event;
 mod fanout;
 mod handler;
+mod index;
 mod limits;
 mod mailbox;
 mod message;
