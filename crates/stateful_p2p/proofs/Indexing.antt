@@ -13,7 +13,7 @@ use Rattle.stateful_p2p.specs.Table.{at, put, without}
 use Rattle.stateful_p2p.specs.Subscribing.{is_key, has_ticket, is_listed}
 use Rattle.stateful_p2p.proofs.Tables.{at-put, at-without, is_at_number}
 
-equal : (o : Ordering) → is_eq o ≡ true → o ≡ Equal
+pub equal : (o : Ordering) → is_eq o ≡ true → o ≡ Equal
 equal Less e = let no : ⊥ = cc in absurd no
 equal Equal e = refl
 equal Greater e = let no : ⊥ = cc in absurd no

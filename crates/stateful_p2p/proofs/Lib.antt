@@ -11,3 +11,4 @@ pub mod Releasing
 pub mod Awaiting
 pub mod Performing
 pub mod Indexing
+pub mod Subscribers

@@ -60,7 +60,9 @@ impl Subscriptions {
         ensures { ListsSubscribers self.now key.now (option_copied result) }
     {
         requests_are_ordered();
-        self.index.of(key)
+        let tickets = self.index.of(key)?;
+        tickets.len();
+        Some(tickets)
     }
 
     /// The key is fetched for this ticket too.
