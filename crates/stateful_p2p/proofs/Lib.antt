@@ -12,3 +12,4 @@ pub mod Awaiting
 pub mod Performing
 pub mod Indexing
 pub mod Subscribers
+pub mod Spreading

@@ -5,6 +5,7 @@ use Rattle.stateful_p2p.specs.declared.event.ActorOut.TheVariants.{Candidate, Fe
 use Rattle.stateful_p2p.proofs.Releasing.{on_both}
 use Rattle.stateful_p2p.proofs.Awaiting.{none_left, some_left}
 use Rattle.stateful_p2p.proofs.Performing.{takes_same}
+use Rattle.stateful_p2p.proofs.Spreading.{awaiting_sound, on_any}
 use Rattle.stateful_p2p.proofs.state.State.deliver.Goals as goal
 
 pub returns-in_default-clause-delivers : goal.returns-in_default-clause-delivers
@@ -29,3 +30,6 @@ returns-clause-delivers g c =
     (map (λ t. Candidate t) c.in-Some.takers.items,
     rw (waits, c.in_ok-await_verdicts.ensures, c.as_slice-2.ensures.value, c.as_slice.ensures.value) (taken takes some (rw c.in-Some-2.is at c.in_ok-response.ensures)),
     rw c.as_slice-2.ensures.value at told))
+
+pub returns-clause-sound : goal.returns-clause-sound
+returns-clause-sound g c = ?
