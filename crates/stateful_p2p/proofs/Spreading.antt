@@ -1,8 +1,8 @@
 -- How many verdicts are awaited once several tickets take a candidate.
 use Rattle.std.proofs.Common.{rules, ◌≡◌, ℕ, ◌+◌, ◌*◌, ◌≤◌, ◌<◌, ◌==◌, Bool, true, false, not, cond, Option, Some, None, List, [], ◌∷◌, length, filter, Result, Ok, Err, OnOk, refl, sym, ap, ◌∙◌, arith}
 use Rattle.std.specs.Option.{is_some}
-use Rattle.std.specs.Ordering.{nat_cmp, match_ordering}
-use Rattle.std.specs.Cmp.{MatchOrdering}
+use Rattle.std.specs.Ordering.{nat_cmp, match_ordering, MatchOrdering}
+
 use Rattle.std.specs.declared.cmp.Ordering.{Ordering}
 use Rattle.std.specs.declared.cmp.Ordering.TheVariants.{Less, Equal, Greater}
 use Rattle.std.specs.List.{AllByRecursion}
@@ -58,20 +58,18 @@ above u es x d (t ∷ ts) less same = (at-put es x d t ∙ apart (x == t) refl �
 total_each : (weigh : ℕ → ℕ) (u es : List (ℕ × ℕ)) (d : ℕ) (ts : List ℕ) → IsStrictlySortedBy nat_cmp ts → AllByRecursion (λ t. at es t ≡ at u t) ts
     → total weigh (put_each es (filter (is_free u) ts) d) ≡ total weigh es + length (filter (is_free u) ts) * weigh d
 total_each weigh u es d [] sorted same = omega arith
-total_each weigh u es d (t ∷ ts) sorted same = go (is_free u t) refl
+total_each weigh u es d (t ∷ ts) sorted same = go (λ es' same'. total_each weigh u es' d ts (sorted_tail nat_cmp t ts sorted) same') (is_free u t) refl
   where
-    tail = sorted_tail nat_cmp t ts sorted
-
     none : (found : Option ℕ) → not (is_some found) ≡ true → found ≡ None
     none None e = refl
     none (Some x) e = absurd (let no : ⊥ = cc in no)
 
-    go : (b : Bool) → is_free u t ≡ b → total weigh (put_each es (cond b (t ∷ filter (is_free u) ts) (filter (is_free u) ts)) d) ≡ total weigh es + length (cond b (t ∷ filter (is_free u) ts) (filter (is_free u) ts)) * weigh d
-    go false e = total_each weigh u es d ts tail same.1
-    go true e =
+    go : ((es' : List (ℕ × ℕ)) → AllByRecursion (λ q. at es' q ≡ at u q) ts → total weigh (put_each es' (filter (is_free u) ts) d) ≡ total weigh es' + length (filter (is_free u) ts) * weigh d)
+        → (b : Bool) → is_free u t ≡ b → total weigh (put_each es (cond b (t ∷ filter (is_free u) ts) (filter (is_free u) ts)) d) ≡ total weigh es + length (cond b (t ∷ filter (is_free u) ts) (filter (is_free u) ts)) * weigh d
+    go each false e = each es same.1
+    go each true e =
         let one = total_new weigh es t d (same.0 ∙ none (at u t) e) in
-        let more = total_each weigh u (put es t d) d ts tail (above u es t d ts (sorted_head nat_cmp t ts sorted) same.1) in
-        let k = length (filter (is_free u) ts) in
+        let more = each (put es t d) (above u es t d ts (sorted_head nat_cmp t ts sorted) same.1) in
         omega (arith, one, more)
 
 all_same : (u : List (ℕ × ℕ)) (ts : List ℕ) → AllByRecursion (λ t. at u t ≡ at u t) ts

@@ -32,4 +32,6 @@ returns-clause-delivers g c =
     rw c.as_slice-2.ensures.value at told))
 
 pub returns-clause-sound : goal.returns-clause-sound
-returns-clause-sound g c = ?
+returns-clause-sound g c =
+    let takes = takes_same c.args.self.now c.args.delivery _ _ (rw c.in-Some.is at c.in_ok-takers.ensures) in
+    on_any c.offer.result (rw (c.in_ok-await_verdicts.ensures, c.as_slice.ensures.value) (awaiting_sound c.args.self.now c.args.delivery c.args.key c.in-Some.takers.items c.requires.sound c.requires.new takes))
