@@ -2,7 +2,6 @@
 use Rattle.std.proofs.Common.{rules, ◌≡◌, ℕ, ◌+◌, ◌*◌, ◌≤◌, ◌<◌, ◌==◌, Bool, true, false, not, cond, Option, Some, None, List, [], ◌∷◌, length, filter, Result, Ok, Err, OnOk, refl, sym, ap, ◌∙◌, arith}
 use Rattle.std.specs.Option.{is_some}
 use Rattle.std.specs.Ordering.{nat_cmp, match_ordering, MatchOrdering}
-
 use Rattle.std.specs.declared.cmp.Ordering.{Ordering}
 use Rattle.std.specs.declared.cmp.Ordering.TheVariants.{Less, Equal, Greater}
 use Rattle.std.specs.List.{AllByRecursion}

@@ -50,9 +50,17 @@ pub(crate) enum Task<D> {
         key: Request,
         value: Bytes,
     },
-    Judge { ticket: u64, valid: bool },
-    Leave { ticket: u64 },
-    Produce { serve: u64, key: Request },
+    Judge {
+        ticket: u64,
+        valid: bool,
+    },
+    Leave {
+        ticket: u64,
+    },
+    Produce {
+        serve: u64,
+        key: Request,
+    },
 }
 
 impl<D: SyncSource> Actor<D> {
@@ -117,7 +125,10 @@ impl<D: SyncSource> Actor<D> {
             self.failed = true;
             return Err(ActorError::Exhausted);
         }
-        match self.state.perform(self.alloc, self.max_serve_ops.get(), mailbox, task) {
+        match self
+            .state
+            .perform(self.alloc, self.max_serve_ops.get(), mailbox, task)
+        {
             Ok(outs) => Ok(outs),
             Err(OutOfMemory) => {
                 self.failed = true;
@@ -161,8 +172,7 @@ impl<D: SyncSource> State<D> {
                 value,
             }),
             ActorEvent::Judge { ticket, valid }
-                if mailbox.is_live(ticket) && self.unjudged.contains(ticket) =>
-            {
+                if mailbox.is_live(ticket) && self.unjudged.contains(ticket) => {
                 Some(Task::Judge { ticket, valid })
             }
             ActorEvent::Leave { ticket } if mailbox.is_live(ticket) => {

@@ -15,11 +15,19 @@ pub enum ActorEvent {
         value: Bytes,
     },
     /// Who waits under this ticket judged its candidate.
-    Judge { ticket: u64, valid: bool },
+    Judge {
+        ticket: u64,
+        valid: bool,
+    },
     /// Who waits under this ticket no longer does.
-    Leave { ticket: u64 },
+    Leave {
+        ticket: u64,
+    },
     /// A peer asks for what this key names.
-    Produce { serve: u64, key: Request },
+    Produce {
+        serve: u64,
+        key: Request,
+    },
 }
 
 /// What is to be done.

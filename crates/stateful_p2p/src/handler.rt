@@ -16,11 +16,7 @@ use std::marker::Model;
 #[derive(Drop)]
 pub(crate) enum EngineMessage<K> {
     /// A peer's answer, for those who wait for this key.
-    Deliver {
-        delivery: u64,
-        key: K,
-        value: Bytes,
-    },
+    Deliver { delivery: u64, key: K, value: Bytes },
     /// A peer asks for what this key names.
     Produce { serve: u64, key: K },
 }
@@ -189,10 +185,12 @@ mod tests {
         EngineMessage::handle(&mut overflow, delivery(0))?;
         EngineMessage::handle(&mut overflow, delivery(1))?;
         Overflow::retain(&mut overflow, &NotDelivery { delivery: 0 });
-        assert!(rt; matches!(
-            &Overflow::pop(&mut overflow),
-            Some(EngineMessage::Deliver { delivery: 1, .. })
-        ));
+        assert!(rt;
+            matches!(
+                &Overflow::pop(&mut overflow),
+                Some(EngineMessage::Deliver { delivery: 1, .. })
+            )
+        );
         assert!(rt; Overflow::pop(&mut overflow).is_none());
         Ok(())
     }

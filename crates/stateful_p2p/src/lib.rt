@@ -32,8 +32,8 @@ pub use event::{ActorEvent, ActorOut};
 pub use handler::Handler;
 pub use limits::{max_payload_size, no_payload_is_longer};
 pub use mailbox::Mailbox;
-pub use subscriber::Subscriber;
 pub use stateful_types::{Request, Response};
+pub use subscriber::Subscriber;
 
 #[cfg(test)]
 mod tests;

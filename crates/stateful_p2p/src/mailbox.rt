@@ -68,7 +68,10 @@ impl<D: SyncSource> Mailbox<D> {
         }
         self.cancelled.reserve(self.tickets.len() + 1)?;
         self.tickets.open(ticket)?;
-        match self.queue.enqueue(Message::GetOperations { ticket, request }) {
+        match self
+            .queue
+            .enqueue(Message::GetOperations { ticket, request })
+        {
             Ok(feedback) => {
                 self.next_ticket = ticket + 1;
                 Ok((feedback, ticket))

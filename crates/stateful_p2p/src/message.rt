@@ -148,11 +148,18 @@ mod tests {
             Message::handle(&mut pending, message)?;
         }
         Overflow::retain(&mut pending, &NotOf { ticket: 0 });
-        assert!(rt; matches!(&Overflow::pop(&mut pending), Some(Message::AttachDatabase(2))));
-        assert!(rt; matches!(
-            &Overflow::pop(&mut pending),
-            Some(Message::GetOperations { ticket: 1, .. })
-        ));
+        assert!(rt;
+            matches!(
+                &Overflow::pop(&mut pending),
+                Some(Message::AttachDatabase(2))
+            )
+        );
+        assert!(rt;
+            matches!(
+                &Overflow::pop(&mut pending),
+                Some(Message::GetOperations { ticket: 1, .. })
+            )
+        );
         assert!(rt; Overflow::pop(&mut pending).is_none());
         assert!(rt; Overflow::is_empty(&pending));
         Ok(())

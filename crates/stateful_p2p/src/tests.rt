@@ -339,7 +339,10 @@ fn one_subscriber_leaves_and_the_other_judges(rt: HostRuntime) -> Result<(), Fai
         (Act::Message, "fetch 0;"),
         (Act::Serve(2), "1 Ok"),
         (Act::Message, "fetch 1;"),
-        (Act::Deliver(0, 2, ONE_OPERATION), "candidate 0;candidate 1;"),
+        (
+            Act::Deliver(0, 2, ONE_OPERATION),
+            "candidate 0;candidate 1;",
+        ),
     ];
     let judged = [
         (Act::Leave(0), "forget 0;"),
@@ -353,7 +356,10 @@ fn one_subscriber_leaves_and_the_other_judges(rt: HostRuntime) -> Result<(), Fai
         (Act::Cancel(1), ""),
         (Act::Cancel(0), ""),
         (Act::Judge(0, true), "BadEvent"),
-        (Act::Produce(0, 2), "forget 0;forget 1;unjudged 0;unserved 0;"),
+        (
+            Act::Produce(0, 2),
+            "forget 0;forget 1;unjudged 0;unserved 0;",
+        ),
         (Act::Produce(1, 2), "unserved 1;"),
     ];
     for rest in [judged.as_slice(), left.as_slice(), cancelled.as_slice()] {
@@ -383,7 +389,10 @@ fn verdict_of_the_first_subscriber_is_the_deliverys(rt: HostRuntime) -> Result<(
         (Act::Deliver(1, 2, TWO_OPERATIONS), "candidate 3;"),
         (Act::Judge(1, true), "forget 1;"),
         (Act::Cancel(0), ""),
-        (Act::Deliver(2, 0, BOUNDARY), "forget 0;feedback 0 true;candidate 2;"),
+        (
+            Act::Deliver(2, 0, BOUNDARY),
+            "forget 0;feedback 0 true;candidate 2;",
+        ),
         (Act::Poll(0), "1 operations"),
         (Act::Leave(3), "forget 3;unjudged 1;"),
         (Act::Judge(2, false), "feedback 2 false;"),
@@ -472,7 +481,11 @@ fn refuses_events(rt: HostRuntime) -> Result<(), Fail> {
         (Act::Message, "Failed"),
     ];
     runs(&rt, rt.alloc(), &rows)?;
-    runs(&rt, rt.alloc(), &[(Act::Deliver(u64::MAX, 2, b""), "Exhausted")])
+    runs(
+        &rt,
+        rt.alloc(),
+        &[(Act::Deliver(u64::MAX, 2, b""), "Exhausted")],
+    )
 }
 
 #[test]
@@ -491,11 +504,22 @@ fn handler_numbers_what_it_hands_on(rt: HostRuntime) -> Result<(), Fail> {
     let mut handler = Handler::new(rt.alloc(), 1)?;
     assert_eq!(rt; handler.produce(key(2))?, (Feedback::Ok, 0));
     assert_eq!(rt; handler.produce(key(2))?, (Feedback::Backoff, 1));
-    assert_eq!(rt; handler.deliver(key(2), Bytes::from_static(b""))?, (Feedback::Backoff, 0));
-    assert_eq!(rt; handler.deliver(key(2), Bytes::from_static(b""))?, (Feedback::Backoff, 1));
+    assert_eq!(rt;
+        handler.deliver(key(2), Bytes::from_static(b""))?,
+        (Feedback::Backoff, 0)
+    );
+    assert_eq!(rt;
+        handler.deliver(key(2), Bytes::from_static(b""))?,
+        (Feedback::Backoff, 1)
+    );
     handler.cancel(0);
     assert!(rt; matches!(&handler.take(), Some(ActorEvent::Produce { serve: 0, .. })));
-    assert!(rt; matches!(&handler.take(), Some(ActorEvent::Deliver { delivery: 1, .. })));
+    assert!(rt;
+        matches!(
+            &handler.take(),
+            Some(ActorEvent::Deliver { delivery: 1, .. })
+        )
+    );
     assert!(rt; handler.take().is_none());
     Ok(())
 }

@@ -7,10 +7,11 @@ pub returns-then-has_last_number-clause-used_up : goal.returns-then-has_last_num
 returns-then-has_last_number-clause-used_up g c = λ e. last_same _ _ _ _ c.in-Some.ensures.admits (sym c.has_last_number.ensures ∙ c.if-has_last_number.true)
 
 pub returns-then-has_last_number-clause-exhausted : goal.returns-then-has_last_number-clause-exhausted
-returns-then-has_last_number-clause-exhausted g c =
-    (λ e.
-    (c.if-self.false, came _ c.in-Some.ensures.none (λ none. let no : ⊥ = search rules in no), last_event _ _ _ _ c.in-Some.ensures.admits (sym c.has_last_number.ensures ∙ c.if-has_last_number.true)),
-    λ cause. search rules)
+returns-then-has_last_number-clause-exhausted g c = (
+  λ e.
+      (c.if-self.false, came _ c.in-Some.ensures.none (λ none. let no : ⊥ = search rules in no), last_event _ _ _ _ c.in-Some.ensures.admits (sym c.has_last_number.ensures ∙ c.if-has_last_number.true)),
+  λ cause. search rules,
+)
 
 pub returns-in-Ok-clause-exhausted : goal.returns-in-Ok-clause-exhausted
 returns-in-Ok-clause-exhausted g c =

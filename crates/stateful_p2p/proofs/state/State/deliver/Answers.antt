@@ -26,10 +26,11 @@ returns-clause-delivers g c =
     let takes = takes_same c.args.self.now c.args.delivery _ _ (rw c.in-Some.is at c.in_ok-takers.ensures) in
     let some = some_left c.in-Some.takers.items (λ none. let e = eqb-false _ 0 (sym c.is_empty.ensures ∙ c.if-is_empty.false) in e (omega arith)) in
     on_both c.offer.result c.offer.ensures.waits c.offer.ensures.told
-    (λ waits told.
-    (map (λ t. Candidate t) c.in-Some.takers.items,
-    rw (waits, c.in_ok-await_verdicts.ensures, c.as_slice-2.ensures.value, c.as_slice.ensures.value) (taken takes some (rw c.in-Some-2.is at c.in_ok-response.ensures)),
-    rw c.as_slice-2.ensures.value at told))
+    (λ waits told. (
+      map (λ t. Candidate t) c.in-Some.takers.items,
+      rw (waits, c.in_ok-await_verdicts.ensures, c.as_slice-2.ensures.value, c.as_slice.ensures.value) (taken takes some (rw c.in-Some-2.is at c.in_ok-response.ensures)),
+      rw c.as_slice-2.ensures.value at told,
+    ))
 
 pub returns-clause-sound : goal.returns-clause-sound
 returns-clause-sound g c =

@@ -11,6 +11,8 @@ returns-in_default-clause-leaves g c = ([], rw c.let_go.ensures (leaves_unfetche
 pub returns-clause-leaves : goal.returns-clause-leaves
 returns-clause-leaves g c =
     on_ok c.push_some.result c.push_some.ensures
-    (λ e.
-    (Forget c.args.ticket ∷ option_to_list c.in-Some.settled, rw c.let_go.ensures (leaves (rw c.in-Some.is at c.in_ok-settled.ensures.forgets)),
-    both_more c.args.outs.now.items c.push.new.self.items c.push_some.new.outs.items (Forget c.args.ticket) (option_to_list c.in-Some.settled) c.in_ok-push.ensures.items e))
+    (λ e. (
+      Forget c.args.ticket ∷ option_to_list c.in-Some.settled,
+      rw c.let_go.ensures (leaves (rw c.in-Some.is at c.in_ok-settled.ensures.forgets)),
+      both_more c.args.outs.now.items c.push.new.self.items c.push_some.new.outs.items (Forget c.args.ticket) (option_to_list c.in-Some.settled) c.in_ok-push.ensures.items e,
+    ))

@@ -12,9 +12,12 @@ loop-ticket-preserved g c =
     let gone = c.args.gone.now in
     let i = c.loop-ticket.ticket-index in
     let so_far = c.loop-ticket.invariant.1 in
-    let one = c.in_ok-retire_one.ensures.retires in
-    (c.in_ok-retire_one.ensures.sound,
-    (so_far.0 ++ one.0,
-    rw (take_more gone i 0 c.loop-ticket-test.true, one.4)
-    (retired_join c.args.self.now (take i gone) (get_or gone i 0 ∷ []) so_far.0 c.loop-ticket.settled.items one.0 one.1 c.loop-ticket.self c.retire_one.new.self so_far.1 one.2),
-    rw (one.3, so_far.2) (append_assoc c.args.outs.now.items so_far.0 one.0)))
+    let one = c.in_ok-retire_one.ensures.retires in (
+      c.in_ok-retire_one.ensures.sound,
+      (
+        so_far.0 ++ one.0,
+        rw (take_more gone i 0 c.loop-ticket-test.true, one.4)
+            (retired_join c.args.self.now (take i gone) (get_or gone i 0 ∷ []) so_far.0 c.loop-ticket.settled.items one.0 one.1 c.loop-ticket.self c.retire_one.new.self so_far.1 one.2),
+        rw (one.3, so_far.2) (append_assoc c.args.outs.now.items so_far.0 one.0),
+      ),
+    )
