@@ -1,11 +1,10 @@
 -- Deliveries that tickets take.
-use Rattle.std.proofs.Common.{rules, ◌≡◌, ◌≢◌, ℕ, suc, ◌+◌, ◌<◌, ◌==◌, Bool, true, false, not, cond, Option, Some, None, List, [], ◌∷◌, ◌++◌, length, take, get_or, map, filter, refl, sym, ap, subst, ◌∙◌, arith, append_assoc, append-nil, Bor}
+use Rattle.std.proofs.Common.{◌≡◌, ◌≢◌, ℕ, ◌+◌, ◌<◌, true, false, cond, List, [], ◌∷◌, ◌++◌, length, take, get_or, map, filter, refl, sym, ap, ◌∙◌, arith, append-nil, Bor}
 use Rattle.std.specs.Map.Iter.{deref}
-use Rattle.std.specs.Option.{is_some}
 use Rattle.std.proofs.lemmas.List.{map-append, take_more}
 use Rattle.std.proofs.lemmas.List.Elements.{filter-append}
 use Rattle.stateful_types.specs.declared.response.Response.{Response}
-use Rattle.stateful_p2p.specs.Table.{at, put, put_each}
+use Rattle.stateful_p2p.specs.Table.{put, put_each}
 use Rattle.stateful_p2p.specs.Inbox.{Inbox, offered, offered_each}
 use Rattle.stateful_p2p.specs.Fanout.{is_free}
 use Rattle.stateful_p2p.specs.declared.state.State.{State}

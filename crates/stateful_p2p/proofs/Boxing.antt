@@ -1,19 +1,17 @@
 -- What calls leave of a mailbox.
-use Rattle.std.proofs.Common.{rules, ◌≡◌, ℕ, ◌+◌, ◌≤◌, ◌<◌, ◌==◌, ◌↔◌, Bool, true, false, cond, Option, Some, None, Result, Ok, Err, List, [], ◌∷◌, ◌++◌, length, refl, sym, ap, subst, ◌∙◌, arith, length-append, append-nil}
-use Rattle.std.specs.Bool.{IsTrue}
+use Rattle.std.proofs.Common.{rules, ◌≡◌, ℕ, ◌+◌, ◌≤◌, ◌↔◌, Bool, true, false, cond, Option, Some, None, Result, Ok, Err, List, [], ◌∷◌, ◌++◌, length, refl, sym, ap, ◌∙◌, arith, length-append}
 use Rattle.std.specs.Result.{IfOk}
 use Rattle.std.specs.Option.{IsNone}
-use Rattle.std.specs.Prelude.{option_to_list}
 use Rattle.std.specs.Ordering.{nat_cmp}
 use Rattle.std.specs.BTreeMap.{is_at}
 use Rattle.std.specs.Map.{values_of}
 use Rattle.std.proofs.lemmas.List.Sums.{sum_by-cons}
-use Rattle.stateful_types.specs.Mailbox.{Queues, messages, HasRoom, IsBusy, HandsOut, IsFilled, Drops}
+use Rattle.stateful_types.specs.Mailbox.{Queues, messages, HandsOut}
 use Rattle.stateful_types.specs.declared.mailbox.Feedback.{Feedback}
-use Rattle.stateful_p2p.specs.Table.{at, put, without}
+use Rattle.stateful_p2p.specs.Table.{at, put}
 use Rattle.stateful_p2p.specs.Sending.{Sends}
 use Rattle.stateful_p2p.specs.Messages.{kept}
-use Rattle.stateful_p2p.specs.Tickets.{stands_live, is_live, ended, answered, live_weight, live_count}
+use Rattle.stateful_p2p.specs.Tickets.{stands_live, is_live, live_weight, live_count}
 use Rattle.stateful_types.specs.declared.request.Request.{Request}
 use Rattle.stateful_p2p.specs.Inbox.{Inbox, Asks, Attaches}
 use Rattle.stateful_p2p.specs.declared.message.Message.{Message}

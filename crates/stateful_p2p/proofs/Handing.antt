@@ -1,5 +1,5 @@
 -- What a handler takes.
-use Rattle.std.proofs.Common.{◌≡◌, ℕ, ◌+◌, List, refl}
+use Rattle.std.proofs.Common.{ℕ, ◌+◌, List, refl}
 use Rattle.stateful_types.specs.Mailbox.{Queues}
 use Rattle.stateful_types.specs.declared.mailbox.Feedback.{Feedback}
 use Rattle.stateful_types.specs.declared.request.Request.{Request}

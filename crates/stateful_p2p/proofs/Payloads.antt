@@ -1,5 +1,5 @@
 -- How long messages between resolvers are.
-use Rattle.std.proofs.Common.{◌≡◌, ℕ, suc, ◌+◌, ◌*◌, ◌≤◌, List, [], ◌∷◌, ◌++◌, length, All, refl, arith, length-append}
+use Rattle.std.proofs.Common.{ℕ, ◌+◌, ◌*◌, ◌≤◌, List, [], ◌∷◌, ◌++◌, length, All, arith, length-append}
 use Rattle.std.specs.List.{flat_map}
 use Rattle.std.specs.Prelude.{max}
 use Rattle.std.specs.Int.{w32, w64, to_be_bytes}
@@ -12,7 +12,7 @@ use Rattle.stateful_types.specs.Request.{request_bytes}
 use Rattle.stateful_types.specs.declared.request.Request.{Request}
 use Rattle.stateful_types.specs.declared.request.Request.TheVariants as asked
 use Rattle.stateful_types.specs.declared.response.Response.TheVariants.{Operations, Boundary}
-use Rattle.stateful_p2p.specs.Limits.{payload_size, Payload, asks, answers, not_served, payload_bytes, payload_fits, frame_format, IsShort, IsSmall, IsBounded}
+use Rattle.stateful_p2p.specs.Limits.{Payload, asks, answers, not_served, payload_bytes, payload_fits, IsShort, IsSmall, IsBounded}
 
 most_right : (a b : ℕ) → b ≤ max a b
 most_right a b = grind arith

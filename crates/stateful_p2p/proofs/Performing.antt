@@ -1,12 +1,9 @@
 -- One event, from what its functions did.
-use Rattle.std.proofs.Common.{rules, ◌≡◌, ◌≢◌, ℕ, ◌+◌, ◌-◌, ◌^◌, ◌≤◌, ◌==◌, Bool, true, false, Option, Some, None, List, [], ◌∷◌, ◌++◌, refl, sym, ap, subst, ◌∙◌, append_assoc}
-use Rattle.std.specs.Option.{MatchOption}
+use Rattle.std.proofs.Common.{◌≡◌, ℕ, ◌-◌, ◌^◌, Bool, true, false, Option, Some, None, List, [], ◌++◌, refl, sym, ap, subst, ◌∙◌}
 use Rattle.std.proofs.lemmas.Bool.{eqb-true, eq-eqb}
 use Rattle.std.specs.List.Sorted.{IsPermutation, IsNonDecreasing}
-use Rattle.stateful_types.specs.Format.{Format}
-use Rattle.stateful_types.specs.Mailbox.{Queues, HandsOut}
+use Rattle.stateful_types.specs.Mailbox.{HandsOut}
 use Rattle.stateful_types.specs.declared.request.Request.{Request}
-use Rattle.stateful_types.specs.declared.response.Response.{Response}
 use Rattle.stateful_p2p.specs.Inbox.{Inbox}
 use Rattle.stateful_p2p.specs.Fanout.{Takes, Forgets, stranger, forgets, Releases, has_none, releases, Retires, nobody, unfetched, fetched, delivered, Delivers}
 use Rattle.stateful_p2p.specs.Resolving.{Setup, IsExhausting, Hears, attaches, fetches, passes_over, Judges, Leaves, Produces, Does, hears, delivers, judges, leaves, produces, Steps}

@@ -1,11 +1,11 @@
 -- How many tickets are live, and what changes leave of a mailbox.
-use Rattle.std.proofs.Common.{rules, ◌≡◌, ℕ, ◌+◌, ◌≤◌, ◌<◌, ◌==◌, Bool, true, false, cond, Option, Some, None, List, [], ◌∷◌, ◌++◌, length, refl, sym, ap, ◌∙◌, arith}
+use Rattle.std.proofs.Common.{◌≡◌, ℕ, ◌+◌, ◌≤◌, ◌==◌, Bool, true, false, cond, Option, Some, None, List, [], ◌∷◌, length, refl, ◌∙◌, arith}
 use Rattle.std.specs.Map.{values_of}
 use Rattle.std.proofs.lemmas.List.Sums.{sum_by-cons}
 use Rattle.std.proofs.lemmas.Bool.{eqb-true}
 use Rattle.std.proofs.lemmas.Bool.Decides.{nat_tests}
 use Rattle.stateful_p2p.specs.Table.{at, put, without}
-use Rattle.stateful_p2p.specs.Tickets.{stands_live, is_live, ended, ended_from, answered, live_weight, live_count}
+use Rattle.stateful_p2p.specs.Tickets.{stands_live, ended, ended_from, answered, live_weight, live_count}
 use Rattle.stateful_p2p.specs.declared.tickets.Standing.{Standing}
 use Rattle.stateful_p2p.specs.declared.tickets.Standing.TheVariants.{Open, Answered, Dropped}
 use Rattle.stateful_p2p.proofs.Tables.{at-put, at-without}

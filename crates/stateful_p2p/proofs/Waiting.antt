@@ -1,5 +1,5 @@
 -- Messages that wait.
-use Rattle.std.proofs.Common.{◌≡◌, Bool, true, false, cond, Option, Some, None, List, [], ◌∷◌, ◌++◌, map, filter, refl, sym, ap, ◌∙◌}
+use Rattle.std.proofs.Common.{◌≡◌, Bool, true, false, cond, Option, Some, None, List, [], ◌∷◌, map, filter, refl, sym, ap}
 use Rattle.std.proofs.lemmas.List.Elements.{filter-append}
 use Rattle.stateful_p2p.specs.Messages.{is_request, attached, asked, pending}
 use Rattle.stateful_p2p.specs.declared.message.Message.{Message}

@@ -1,12 +1,11 @@
 -- Responses that were read whole.
-use Rattle.std.proofs.Common.{rules, ◌≡◌, ℕ, ◌%◌, ◌^◌, Result, Ok, Err, List, [], ◌∷◌, ◌++◌, length, refl, sym, ap, subst, ◌∙◌, ◌⊎◌, inl, inr, append-nil, append_assoc}
+use Rattle.std.proofs.Common.{rules, ◌≡◌, ℕ, ◌%◌, ◌^◌, Result, Ok, Err, List, [], ◌∷◌, ◌++◌, length, refl, sym, ap, subst, ◌∙◌, inl, inr, append-nil}
 use Rattle.std.specs.List.{flat_map}
 use Rattle.std.specs.Result.{IsErrOf}
-use Rattle.stateful_types.specs.Format.{Format, Reads, UnlessMemory, end_of}
+use Rattle.stateful_types.specs.Format.{Format, Reads, end_of}
 use Rattle.stateful_types.specs.FormatLaws.{same_first}
 use Rattle.stateful_types.specs.FixedLaws.{u32_alone}
 use Rattle.stateful_types.specs.Number.{u32_format}
-use Rattle.stateful_types.specs.Digest.{digest_format}
 use Rattle.stateful_types.specs.Response.{response_format, Allows, IsAllowed, HasTooMany}
 use Rattle.stateful_types.specs.declared.codec.CodecError.{CodecError}
 use Rattle.stateful_types.specs.declared.codec.CodecError.TheVariants.{InvalidEnum, EndOfBuffer, OutOfMemory}

@@ -1,5 +1,5 @@
 -- What contracts see of a handler, and how its messages wait.
-use Rattle.std.specs.Prelude.{◌≡◌, ℕ, ◌+◌, ◌==◌, Bool, true, false, not, Option, Some, None, List, [], ◌∷◌, ◌++◌, filter, option_map}
+use Rattle.std.specs.Prelude.{◌≡◌, ℕ, ◌+◌, ◌==◌, Bool, true, not, Option, List, [], ◌∷◌, ◌++◌, filter, option_map}
 use Rattle.stateful_types.specs.Mailbox.{Queues, HandsOut}
 use Rattle.stateful_types.specs.declared.mailbox.Feedback.{Feedback}
 use Rattle.stateful_types.specs.declared.request.Request.{Request}

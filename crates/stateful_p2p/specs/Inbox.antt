@@ -1,5 +1,5 @@
 -- What contracts see of a resolver's mailbox.
-use Rattle.std.specs.Prelude.{◌≡◌, ℕ, ◌+◌, ◌≤◌, Bool, true, false, if◌then◌else◌, Option, None, List, [], ◌∷◌, ◌++◌, filter, length}
+use Rattle.std.specs.Prelude.{◌≡◌, ℕ, ◌+◌, ◌≤◌, false, if◌then◌else◌, Option, None, List, [], ◌∷◌, ◌++◌, filter, length}
 use Rattle.stateful_types.specs.Mailbox.{Queues, queues, IsFilled}
 use Rattle.stateful_types.specs.declared.mailbox.Feedback.{Feedback}
 use Rattle.stateful_types.specs.declared.request.Request.{Request}

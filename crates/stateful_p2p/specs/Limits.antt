@@ -1,5 +1,5 @@
 -- Messages between resolvers in bytes, and how long they are.
-use Rattle.std.specs.Prelude.{◌≡◌, ℕ, ◌+◌, ◌*◌, ◌≤◌, max, List, [], ◌∷◌, ◌++◌, length, All}
+use Rattle.std.specs.Prelude.{ℕ, ◌+◌, ◌*◌, ◌≤◌, max, List, [], ◌∷◌, ◌++◌, length, All}
 use Rattle.stateful_types.specs.Format.{Format}
 use Rattle.stateful_types.specs.Number.{u64_format}
 use Rattle.stateful_types.specs.Request.{request_format}

@@ -1,4 +1,4 @@
-use Rattle.std.proofs.Common.{◌≡◌, ◌++◌, [], Some, None, refl, sym, ap, ◌∙◌, inl, inr}
+use Rattle.std.proofs.Common.{◌≡◌, Some, None, refl, sym, ◌∙◌}
 use Rattle.stateful_p2p.specs.Resolving.{unattached, too_many, unserved, served}
 use Rattle.stateful_p2p.proofs.serving.answer.Goals as goal
 

@@ -1,6 +1,5 @@
-use Rattle.std.proofs.Common.{rules, ap}
+use Rattle.std.proofs.Common.{rules}
 use Rattle.std.proofs.lemmas.Fn.{filter_same}
-use Rattle.stateful_p2p.specs.Messages.{attached}
 use Rattle.stateful_p2p.proofs.Waiting.{retained}
 use Rattle.stateful_p2p.proofs.message.PendingOverflowMessage.retain.Goals as goal
 

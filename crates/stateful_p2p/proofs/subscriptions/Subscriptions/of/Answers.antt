@@ -1,4 +1,4 @@
-use Rattle.std.proofs.Common.{rules, ◌≡◌, Some, None, sym, ap, ◌∙◌}
+use Rattle.std.proofs.Common.{sym, ap, ◌∙◌}
 use Rattle.std.specs.Option.{option_copied}
 use Rattle.stateful_p2p.proofs.Subscribers.{none_listed, all_listed}
 use Rattle.stateful_p2p.proofs.subscriptions.Subscriptions.of.Goals as goal

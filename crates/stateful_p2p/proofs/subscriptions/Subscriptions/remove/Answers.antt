@@ -1,5 +1,5 @@
-use Rattle.std.proofs.Common.{rules, ◌≡◌, Some, None, refl, sym, ◌∙◌}
-use Rattle.stateful_p2p.specs.Table.{at, without}
+use Rattle.std.proofs.Common.{◌≡◌, Some, None, ◌∙◌}
+use Rattle.stateful_p2p.specs.Table.{at}
 use Rattle.stateful_p2p.proofs.Tables.{without_none}
 use Rattle.stateful_p2p.proofs.Indexing.{left_listed}
 use Rattle.stateful_p2p.proofs.subscriptions.Subscriptions.remove.Goals as goal
