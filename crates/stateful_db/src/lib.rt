@@ -8,6 +8,7 @@ mod database;
 mod held;
 mod pair;
 mod set;
+mod sync_source;
 mod tokens;
 
 pub use application::{
@@ -19,4 +20,5 @@ pub use batch::{BatchContext, BatchError, Merkleized, Unmerkleized};
 pub use database::{Broken, DbCall, Exhausted, FlushToken, InitError, ManagedDb, Targeted, Why};
 pub use held::Held;
 pub use set::{DatabaseSet, SetError, SetInit, SetLost};
+pub use sync_source::{AttachableResolver, ServeFault, SyncSource};
 pub use tokens::Tokens;
