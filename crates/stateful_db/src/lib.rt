@@ -8,7 +8,6 @@ mod database;
 mod held;
 mod pair;
 mod set;
-mod sync_source;
 mod tokens;
 
 pub use application::{
@@ -20,5 +19,4 @@ pub use batch::{BatchContext, BatchError, Merkleized, Unmerkleized};
 pub use database::{Broken, DbCall, Exhausted, FlushToken, InitError, ManagedDb, Targeted, Why};
 pub use held::Held;
 pub use set::{DatabaseSet, SetError, SetInit, SetLost};
-pub use sync_source::{AttachableResolver, ServeFault, SyncSource};
 pub use tokens::Tokens;
