@@ -1,3 +1,1 @@
 pub mod Boundary
-pub mod Path
-pub mod Walk
