@@ -3,13 +3,11 @@ use Rattle.std.specs.Prelude.{ℕ, ◌-◌, List, [], ◌∷◌, Option, Some, N
 use Rattle.stateful_types.specs.declared.round.Round.{Round}
 use Rattle.stateful_db.specs.Member.{Member, here, closed, lost, away}
 use Rattle.stateful_db.specs.declared.database.DbCall.{DbCall}
-use Rattle.stateful_db.specs.declared.held.Held.{Held}
 use Rattle.stateful_db.specs.declared.held.Held.TheVariants as held
 use Rattle.stateful_bank.specs.declared.ask.Ask.{Ask}
 use Rattle.stateful_bank.specs.declared.block.BankBlock.{BankBlock}
 use Rattle.stateful_plain.specs.Whole.{Whole}
 use Rattle.stateful_plain.specs.Stored.{standing_of, disk_of}
-use Rattle.stateful_plain.specs.declared.database.Plain.{Plain}
 use Rattle.stateful_plain.specs.declared.batch.PlainMerkleized.{PlainMerkleized}
 use Rattle.stateful_plain_bank.specs.declared.hook.BankHook.{BankHook}
 use Rattle.stateful_plain_bank.specs.declared.run.BankRun.{BankRun}
@@ -53,11 +51,13 @@ failed_of (databases.Plain d) i = elim d [
 ]
 
 -- the calls that are to fail on the database's medium, by kind and by number
-abbrev pub listed_in : Held Plain → List (DbCall × ℕ)
-listed_in (held.Here db) = db.medium.calls.failing.items
-listed_in (held.Closed medium) = medium.calls.failing.items
-listed_in (held.Lost medium) = medium.calls.failing.items
-listed_in held.Away = []
+abbrev pub listed_in : Databases → List (DbCall × ℕ)
+listed_in (databases.Plain d) = elim d [
+  | held.Here db ↦ db.medium.calls.failing.items
+  | held.Closed medium ↦ medium.calls.failing.items
+  | held.Lost medium ↦ medium.calls.failing.items
+  | held.Away ↦ []
+]
 
 -- the tables of the machine of a play
 abbrev pub core_of : Machine → Core BankBlock BankRun BankHook PlainMerkleized

@@ -104,7 +104,7 @@ fn empty_database(alloc: Global) -> Held<Plain>
     ensures empty { ⟦<Held<Plain> as DatabaseSet>⟧.members result
         ≡ closed_member (record { older = []; newest = initial; pruned = 0; durable = 0 }) }
     ensures batches { ⟦<Held<Plain> as DatabaseSet>⟧.next result ≡ 1 }
-    ensures listed { listed_in result ≡ [] }
+    ensures listed { listed_in (Databases.Plain result) ≡ [] }
     ensures counts { (i : ℕ) → ⟦<Held<Plain> as DatabaseSet>⟧.counted result i ≡ 0 }
 {
     Held::Closed(PlainMedium::empty(alloc, Vec::new(alloc)))
