@@ -15,6 +15,3 @@ pub use keyless::{
 };
 pub use law::compact_follows_keyless;
 pub use op::KeylessOp;
-
-#[cfg(test)]
-mod tests;
