@@ -100,7 +100,8 @@ fn new_machine(alloc: Global) -> Result<Stateful<Bank>, OutOfMemory>
 
 /// A database that is closed, on an empty medium that hasn't failed. No call on it is to fail: a script lists none.
 fn empty_database(alloc: Global) -> Held<Plain>
-    ensures none_away { ⟦<Held<Plain> as DatabaseSet>⟧.kind.NoneAway (⟦<Held<Plain> as DatabaseSet>⟧.members result) }
+    ensures none_away { ⟦<Held<Plain> as DatabaseSet>⟧.kind.NoneAway
+        (⟦<Held<Plain> as DatabaseSet>⟧.members result) }
     ensures empty { ⟦<Held<Plain> as DatabaseSet>⟧.members result
         ≡ closed_member (record { older = []; newest = initial; pruned = 0; durable = 0 }) }
     ensures batches { ⟦<Held<Plain> as DatabaseSet>⟧.next result ≡ 1 }
