@@ -1,0 +1,18 @@
+//! What a sync of databases decides by itself: which targets they go for, when they have converged, and what becomes of
+//! the blocks that were finalized meanwhile.
+//!
+//! A sync begins at a finalized block, and goes on while later ones are finalized. A [`CoordinatorState`] brings all
+//! databases to what one and the same block commits to. A [`Mailbox`] carries the newest finalized block to the sync,
+//! and tells each caller whether its block was recorded or the sync had ended by then. Once the databases have
+//! converged, [`classify`] says which of the retained blocks they already hold, and which are to be applied.
+#![tactic(auto)]
+
+mod action;
+mod coordinator;
+mod tip;
+
+pub use action::CoordinatorAction;
+pub use coordinator::CoordinatorState;
+
+#[cfg(test)]
+mod tests;
