@@ -4,3 +4,6 @@ pub mod Runs
 pub mod Few
 pub mod Told
 pub mod Laws
+pub mod Classifying
+pub mod Sorting
+pub mod Exactly

@@ -1,3 +1,4 @@
 pub mod Assigned
 pub mod Coordinator
 pub mod Laws
+pub mod Classify

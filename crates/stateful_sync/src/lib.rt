@@ -8,11 +8,17 @@
 #![tactic(auto)]
 
 mod action;
+mod classification;
 mod coordinator;
+mod error;
+mod handover;
 mod tip;
 
 pub use action::CoordinatorAction;
+pub use classification::classify;
 pub use coordinator::CoordinatorState;
+pub use error::SyncError;
+pub use handover::Handover;
 
 #[cfg(test)]
 mod tests;
