@@ -6,4 +6,8 @@ pub mod Told
 pub mod Laws
 pub mod Classifying
 pub mod Sorting
+pub mod Mailing
+pub mod Marks
+pub mod MailboxTold
+pub mod MailboxLaws
 pub mod Exactly

@@ -2,6 +2,7 @@
 use Rattle.std.proofs.Common.{◌≡◌, ◌≢◌, ℕ, ◌+◌, ◌<◌, suc, zero, Bool, true, false, ◌⊎◌, inl, inr, ⊎_elim, Option, Some, None, List, [], ◌∷◌, map, length, get_or, set, take, drop, ◌++◌, All, refl, sym, ap, subst, ◌∙◌, arith, length-set}
 use Rattle.std.specs.Prelude.{slice_get, cond, nat_lt, ◌==◌}
 use Rattle.std.specs.List.{Any}
+use Rattle.std.specs.Option.{option_map}
 use Rattle.std.specs.Ordering.{is_lt, nat_cmp}
 use Rattle.std.specs.declared.cmp.Ordering.TheVariants.{Less, Equal, Greater}
 use Rattle.std.proofs.lemmas.Bool.{cases_eq, cases_Bool, ltb-true}
@@ -10,7 +11,7 @@ use Rattle.std.proofs.lemmas.List.{get_or_default}
 use Rattle.std.proofs.lemmas.List.Edits.{map_over_more}
 use Rattle.std.proofs.lemmas.List.Elements.{All-nil, All-cons}
 use Rattle.std.proofs.lemmas.List.Quantifiers.{any-set}
-use Rattle.std.proofs.lemmas.Option.{slice_get_within, get_or_from_slice_get, slice_get_read, slice_get-get_or}
+use Rattle.std.proofs.lemmas.Option.{slice_get_within, get_or_from_slice_get, none-some, same_Some, slice_get-map}
 
 module _ {X : Type 0} where
   any_here : (P : X → Type 0) (x : X) (xs : List X) → P x → Any P (x ∷ xs)
@@ -79,3 +80,19 @@ lt_from_is_lt a b h = go (nat_lt a b) (a == b) refl h
     go true u e h = ltb-true a b e
     go false true e h = absurd (cc)
     go false false e h = absurd (cc)
+
+-- what stands at a place of a list that was changed at every one
+pub at_mapped : {X Y : Type 0} (f : X → Y) (xs : List X) (i : ℕ) (y : Y) → slice_get (map f xs) i ≡ Some y → (x : X) × (slice_get xs i ≡ Some x) × (f x ≡ y)
+at_mapped {X = X} f xs i y at = go (slice_get xs i) refl (sym (slice_get-map f xs i) ∙ at)
+  where
+    go : (o : Option X) → slice_get xs i ≡ o → option_map f o ≡ Some y → (x : X) × (slice_get xs i ≡ Some x) × (f x ≡ y)
+    go None is e = absurd (none-some y e)
+    go (Some x) is e = (x, is, same_Some (f x) y e)
+
+-- what stands at a place of a list that was changed at one
+pub at_changed : {X : Type 0} (xs : List X) (i j : ℕ) (a b x : X) → slice_get xs i ≡ Some b → slice_get (set xs i a) j ≡ Some x
+    → ((j ≡ i) × (a ≡ x)) ⊎ (slice_get xs j ≡ Some x)
+at_changed xs i j a b x was at = ⊎_elim
+    (λ (same : j ≡ i). inl (same, same_Some a x (sym (changed_here xs i a b was) ∙ subst (λ k. slice_get (set xs i a) k ≡ Some x) same at)))
+    (λ (other : j ≡ i → ⊥). inr (sym (changed_elsewhere xs i j a other) ∙ at))
+    (cases_eq j i)

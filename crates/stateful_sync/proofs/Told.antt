@@ -15,7 +15,7 @@ use Rattle.stateful_sync.specs.declared.action.Generation.{Generation}
 use Rattle.stateful_sync.specs.declared.action.DbSyncState.{DbSyncState}
 use Rattle.stateful_sync.specs.declared.action.DbSyncState.TheVariants.{Seeking, Reached}
 use Rattle.stateful_sync.specs.declared.action.CoordinatorAction.{CoordinatorAction}
-use Rattle.stateful_sync.proofs.Lists.{changed_here, changed_elsewhere}
+use Rattle.stateful_sync.proofs.Lists.{at_mapped, at_changed}
 use Rattle.stateful_sync.proofs.Order.{step_in_order}
 use Rattle.stateful_sync.proofs.Runs.{turn_of, last_of_push, tips_push, dispatches_push, stands_more, stands_last}
 
@@ -68,22 +68,6 @@ reached_unless_assigned g h d e = go (generation_of d == g) e
     go : (b : Bool) → (if b then d else Seeking g) ≡ Reached h → d ≡ Reached h
     go true e = e
     go false e = absurd (cc)
-
--- what stands at a place of a list that was changed at every one
-at_mapped : {X Y : Type 0} (f : X → Y) (xs : List X) (i : ℕ) (y : Y) → slice_get (map f xs) i ≡ Some y → (x : X) × (slice_get xs i ≡ Some x) × (f x ≡ y)
-at_mapped {X = X} f xs i y at = go (slice_get xs i) refl (sym (slice_get-map f xs i) ∙ at)
-  where
-    go : (o : Option X) → slice_get xs i ≡ o → option_map f o ≡ Some y → (x : X) × (slice_get xs i ≡ Some x) × (f x ≡ y)
-    go None is e = absurd (none-some y e)
-    go (Some x) is e = (x, is, same_Some (f x) y e)
-
--- what stands at a place of a list that was changed at one
-at_changed : {X : Type 0} (xs : List X) (i j : ℕ) (a b x : X) → slice_get xs i ≡ Some b → slice_get (set xs i a) j ≡ Some x
-    → ((j ≡ i) × (a ≡ x)) ⊎ (slice_get xs j ≡ Some x)
-at_changed xs i j a b x was at = ⊎_elim
-    (λ (same : j ≡ i). inl (same, same_Some a x (sym (changed_here xs i a b was) ∙ subst (λ k. slice_get (set xs i a) k ≡ Some x) same at)))
-    (λ (other : j ≡ i → ⊥). inr (sym (changed_elsewhere xs i j a other) ∙ at))
-    (cases_eq j i)
 
 module _ {T : Type 0} (start : Generation T) where
   -- what was given and reached stays so

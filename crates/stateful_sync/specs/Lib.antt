@@ -2,3 +2,5 @@ pub mod Assigned
 pub mod Coordinator
 pub mod Laws
 pub mod Classify
+pub mod Mailbox
+pub mod MailboxLaws

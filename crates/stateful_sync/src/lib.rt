@@ -12,6 +12,7 @@ mod classification;
 mod coordinator;
 mod error;
 mod handover;
+mod mailbox;
 mod tip;
 
 pub use action::CoordinatorAction;
@@ -19,6 +20,8 @@ pub use classification::classify;
 pub use coordinator::CoordinatorState;
 pub use error::SyncError;
 pub use handover::Handover;
+pub use mailbox::Mailbox;
+pub use tip::TipUpdate;
 
 #[cfg(test)]
 mod tests;
