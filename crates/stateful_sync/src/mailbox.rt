@@ -69,15 +69,15 @@ impl<T> Model for Mailbox<T> {
     ghost Value = { Mail T };
 
     ghost view = { λ a. record {
-        updates = a.updates.items;
-        waiting = a.waiting;
-        artifact = a.artifact;
+      updates = a.updates.items;
+      waiting = a.waiting;
+      artifact = a.artifact;
     } };
 
     ghost invariant = { λ a. WaitsWithin (record {
-        updates = a.updates.items;
-        waiting = a.waiting;
-        artifact = a.artifact;
+      updates = a.updates.items;
+      waiting = a.waiting;
+      artifact = a.artifact;
     }) };
 }
 
@@ -99,6 +99,7 @@ impl<T: Copy> Mailbox<T> {
     /// A block was finalized that commits to these targets. Answers the ticket, which is also the update's number.
     pub fn retarget(&mut self, anchor: Anchor, targets: T) -> Result<u64, DrawError>
         ensures drawn { IfOk result (λ ticket. Draws self.old anchor targets ticket self.new) }
+        ensures within { IfOk result (λ ticket. ticket < length self.new.updates) }
         ensures exhausted { IsErrOf result DrawError.Exhausted
             ↔ (length self.old.updates ≡ 2 ^ 64 - 1) }
         ensures err { OnErr result (self.new ≡ self.old) }
@@ -118,7 +119,8 @@ impl<T: Copy> Mailbox<T> {
 
     /// Takes out the update that waits, with its number. None exactly where none waits.
     pub fn next(&mut self) -> Option<(u64, TipUpdate<T>)>
-        ensures { HandsOut self.old result self.new }
+        ensures handed { HandsOut self.old result self.new }
+        ensures drawn { length self.new.updates ≡ length self.old.updates }
     {
         let number = self.waiting.take()?;
         let Tip { anchor, targets } = self.updates[number as usize].tip;

@@ -1,10 +1,12 @@
 //! Worked runs.
 
-ghost use Rattle.std.specs.Prelude.{◌≡◌, length};
+ghost use Rattle.std.specs.Prelude.{◌≡◌, ◌<◌, length, IfOk};
 
 use super::*;
 use stateful_db::Exhausted;
-use stateful_types::{Anchor, Digest, Epoch, Height, Round, View};
+use stateful_types::{
+    Anchor, Block, Digest, Digested, Epoch, Height, Moved, OutOfMemory, Round, View,
+};
 use std::alloc::Global;
 use std::process::Abort;
 use std::test::Fail;
@@ -148,4 +150,136 @@ fn the_same_target_needs_no_dispatch(rt: HostRuntime) -> Result<(), Fail> {
         converged(3),
     ];
     coordinates(&rt, rt.alloc(), &rows)
+}
+
+/// A block at this place, which a number tells from others there.
+#[derive(Drop)]
+struct Numbered {
+    place: Anchor,
+    number: u8,
+}
+
+impl Block for Numbered {
+    ghost use Rattle.std.specs.Prelude.{[], ◌∷◌};
+
+    type Context = Round;
+
+    ghost header = { record {
+      parent = λ b. b.place.digest;
+      height = λ b. b.place.height.0;
+      round = λ b. b.place.round;
+      bytes = λ b. b.number ∷ [];
+    } };
+
+    fn parent(&self) -> Digest {
+        self.place.digest
+    }
+
+    fn height(&self) -> Height {
+        self.place.height
+    }
+
+    fn context(&self) -> Round {
+        self.place.round
+    }
+
+    fn encode(&self, out: &mut Vec<u8>) -> Result<(), OutOfMemory> {
+        out.push(self.number)?;
+        Ok(())
+    }
+}
+
+fn block(alloc: Global, height: u64, number: u8) -> Result<Digested<Numbered>, OutOfMemory> {
+    let place = anchor(height);
+    Digested::compute(alloc, Numbered { place, number })
+}
+
+/// What becomes of blocks of these heights and numbers, which were retained under ascending tickets, against that of
+/// height 2 and number 0: a letter, and the ticket.
+fn classified(alloc: Global, blocks: &[(u64, u8)]) -> Result<Vec<(char, u64)>, SyncError> {
+    let anchor = Anchor::from_block(&block(alloc, 2, 0)?);
+    let mut retained = Vec::new(alloc);
+    for (ticket, (height, number)) in blocks.iter().enumerate() {
+        retained.push((ticket as u64, block(alloc, *height, *number)?))?;
+    }
+    let mut letters = Vec::new(alloc);
+    for handover in &classify(alloc, anchor, retained)? {
+        letters.push(match handover {
+            Handover::Covered { ticket, .. } => ('c', *ticket),
+            Handover::Reflected { ticket, .. } => ('r', *ticket),
+            Handover::Apply { ticket, .. } => ('a', *ticket),
+        })?;
+    }
+    Ok(letters)
+}
+
+#[test]
+fn blocks_are_classified_by_their_heights(rt: HostRuntime) -> Result<(), Fail> {
+    let letters = classified(rt.alloc(), &[(4, 0), (1, 9), (2, 0), (3, 0), (4, 0)])?;
+    let want = [('c', 1), ('r', 2), ('a', 3), ('a', 0), ('a', 4)];
+    assert_eq!(rt; letters.as_slice(), want.as_slice());
+
+    let skipped = SyncError::SkippedHeight {
+        expected: Height(3),
+        given: Height(4),
+    };
+    let conflict = SyncError::ConflictAtAnchor {
+        expected: Digest::of(&[0]),
+        given: Digest::of(&[1]),
+    };
+    assert_eq!(rt; classified(rt.alloc(), &[(4, 0)]).err(), Some(skipped));
+    assert_eq!(rt;
+        classified(rt.alloc(), &[(2, 0), (2, 1)]).err(),
+        Some(conflict)
+    );
+    assert_eq!(rt;
+        classified(rt.alloc(), &[(3, 0), (3, 1)]).err(),
+        Some(conflict)
+    );
+    Ok(())
+}
+
+/// A mailbox to which the block of height 7 was sent, with targets 9, and was answered with nothing.
+fn sent(rt: &impl Abort, alloc: Global) -> Result<Mailbox<u64>, Fail>
+    ensures { IfOk result (λ mailbox. 0 < length mailbox.updates) }
+{
+    let mut mailbox = Mailbox::new(alloc);
+    let ticket = mailbox.retarget(anchor(7), 9)?;
+    assert_eq!(rt; ticket, 0);
+    assert_eq!(rt; mailbox.next(), Some(update()));
+    mailbox.respond(0, None);
+    assert_eq!(rt; mailbox.poll(0), Moved::Pending);
+    Ok(mailbox)
+}
+
+fn update() -> (u64, TipUpdate<u64>) {
+    let (anchor, targets, _) = TipUpdate::new(anchor(7), 9).record();
+    let observed = Some(0);
+    (
+        0,
+        TipUpdate {
+            anchor,
+            targets,
+            observed,
+        },
+    )
+}
+
+#[test]
+fn update_that_was_dropped_unread_is_sent_again(rt: HostRuntime) -> Result<(), Fail> {
+    let mut mailbox = sent(&rt, rt.alloc())?;
+    mailbox.observed(0, false);
+    assert_eq!(rt; mailbox.next(), Some(update()));
+    mailbox.respond(0, Some(anchor(8)));
+    assert_eq!(rt; mailbox.poll(0), Moved::Done(Some(anchor(8))));
+    Ok(())
+}
+
+#[test]
+fn update_that_was_recorded_gives_none(rt: HostRuntime) -> Result<(), Fail> {
+    let mut mailbox = sent(&rt, rt.alloc())?;
+    mailbox.observed(0, true);
+    assert_eq!(rt; mailbox.poll(0), Moved::Done(None));
+    assert_eq!(rt; mailbox.next(), None);
+    Ok(())
 }

@@ -1,4 +1,4 @@
-use Rattle.std.proofs.Common.{◌≡◌, ◌+◌, ◌-◌, ◌^◌, map, refl, ap, ◌∙◌, inl, inr, arith}
+use Rattle.std.proofs.Common.{◌≡◌, ◌+◌, ◌-◌, ◌^◌, true, map, refl, ap, ◌∙◌, inl, inr, arith}
 use Rattle.std.specs.Vec.{with_items}
 use Rattle.std.proofs.lemmas.List.{with_items_is}
 use Rattle.stateful_sync.specs.Assigned.{unless_reached, unless_assigned}
@@ -69,14 +69,14 @@ invariant_of-self-in-OnTheWay-Some g c = (returns-in_ok-self-inside-in-OnTheWay-
 pub returns-in_err-self-inside-in-Together-Some-clause-exhausted : goal.returns-in_err-self-inside-in-Together-Some-clause-exhausted
 returns-in_err-self-inside-in-Together-Some-clause-exhausted g c =
     let stand = rw c.deref.ensures.value at c.in-Together-Some.ensures in
-    let last : c.self.inside.newest.number + 1 ≡ 2 ^ 64 - 1 = c.in_err-self-inside-in-Together-Some.ensures.exhausted.0 refl in
+    let last : c.self.inside.newest.number + 1 ≡ 2 ^ 64 - 1 = c.in_err-self-inside-in-Together-Some.ensures.exhausted.0 (refl {a = true}) in
     rw (← c.self.view_is)
     (λ e. (last, record { tip = c.in-Together-Some.tip; pending = c.in-Together-Some.is-1; case = inl (c.self.inside.newest.number, stand) }), λ h. c.from_residual.ensures.0)
 
 pub returns-in_err-self-inside-in-OnTheWay-Some-clause-exhausted : goal.returns-in_err-self-inside-in-OnTheWay-Some-clause-exhausted
 returns-in_err-self-inside-in-OnTheWay-Some-clause-exhausted g c =
     let stand = rw c.deref.ensures.value at c.in-OnTheWay-Some.ensures in
-    let last : c.self.inside.newest.number + 1 ≡ 2 ^ 64 - 1 = c.in_err-self-inside-in-OnTheWay-Some.ensures.exhausted.0 refl in
+    let last : c.self.inside.newest.number + 1 ≡ 2 ^ 64 - 1 = c.in_err-self-inside-in-OnTheWay-Some.ensures.exhausted.0 (refl {a = true}) in
     rw (← c.self.view_is)
     (λ e. (last, record { tip = c.in-OnTheWay-Some.tip; pending = c.in-OnTheWay-Some.is-1; case = inr stand }), λ h. c.from_residual-in_err-self-inside-in-OnTheWay-Some.ensures.0)
 
