@@ -1,5 +1,5 @@
 -- Blocks by ascending heights, and where they lead from an anchor.
-use Rattle.std.proofs.Common.{◌≡◌, ◌≢◌, ℕ, ◌+◌, ◌<◌, ◌≤◌, ◌⊎◌, ⊎_elim, inl, inr, Result, Ok, Err, List, [], ◌∷◌, ◌++◌, length, get_or, All, refl, sym, append_assoc, length-append, ap, subst, ◌∙◌, arith}
+use Rattle.std.proofs.Common.{◌≡◌, ◌≢◌, ℕ, ◌+◌, ◌<◌, ◌≤◌, ◌⊎◌, ⊎_elim, inl, inr, Result, Ok, Err, List, [], ◌∷◌, ◌++◌, length, All, refl, sym, append_assoc, length-append, ap, subst, ◌∙◌, arith}
 use Rattle.std.specs.Prelude.{IsErrAnd, IfErr}
 use Rattle.std.specs.List.Sorted.{IsNonDecreasingBy}
 use Rattle.std.proofs.lemmas.Bool.{cases_lt}
@@ -8,9 +8,8 @@ use Rattle.std.proofs.lemmas.List.Elements.{All-head, All-tail}
 use Rattle.stateful_types.specs.declared.digest.Digest.{Digest}
 use Rattle.stateful_types.specs.declared.anchor.Anchor.{Anchor}
 use Rattle.stateful_types.specs.Names.{Header, Named}
-use Rattle.stateful_sync.specs.Classify.{height_at, anchored, Passes, below, again, further, Leads, Refuses, RefusesAt}
+use Rattle.stateful_sync.specs.Classify.{height_at, anchored, Passes, below, again, further, Leads}
 use Rattle.stateful_sync.specs.declared.handover.Point.{Point}
-use Rattle.stateful_sync.specs.declared.error.SyncError.{SyncError}
 
 pub same_place : (h : ℕ) (d : Digest) (last : Point) → h ≡ last.height.0 → d ≡ last.digest
     → ◌≡◌ {A = Point} (record { height = record { 0 = h }; digest = d }) last

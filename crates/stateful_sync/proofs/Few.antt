@@ -1,15 +1,15 @@
 -- How many dispatches can come without a further tip.
-use Rattle.std.proofs.Common.{◌≡◌, ℕ, ◌+◌, ◌≤◌, true, Option, Some, None, List, [], ◌∷◌, ◌++◌, length, map, set, get_or, All, refl, sym, ap, subst, ◌∙◌, arith, length-append}
+use Rattle.std.proofs.Common.{◌≡◌, ℕ, ◌+◌, ◌≤◌, true, Option, Some, None, List, [], ◌∷◌, length, set, get_or, All, refl, sym, ap, subst, ◌∙◌, arith, length-append}
 use Rattle.std.proofs.lemmas.List.Elements.{All-set, All-map}
 use Rattle.std.proofs.lemmas.Option.{none-some, slice_get_within, get_or_from_slice_get}
 use Rattle.stateful_sync.specs.Assigned.{generation_of, is_reached, once_reached, once_marked, unless_assigned}
-use Rattle.stateful_sync.specs.Coordinator.{Coordination, IsInOrder, ChangesAt, Acts, goes_to_all, converges, regroups, goes_to_seeking, waits, Steps, reached, tipped, acted, marked, Call, AllReached}
+use Rattle.stateful_sync.specs.Coordinator.{Coordination, ChangesAt, Acts, goes_to_all, converges, regroups, goes_to_seeking, waits, Steps, reached, tipped, acted, marked, Call}
 use Rattle.stateful_sync.specs.Laws.{Turn, Runs, tips, recorded, dispatches, dispatched}
 use Rattle.stateful_sync.specs.declared.tip.Tip.{Tip}
 use Rattle.stateful_sync.specs.declared.action.DbSyncState.{DbSyncState}
 use Rattle.stateful_sync.specs.declared.action.DbSyncState.TheVariants.{Seeking, Reached}
 use Rattle.stateful_sync.specs.declared.action.CoordinatorAction.{CoordinatorAction}
-use Rattle.stateful_sync.proofs.Order.{KeepsNewest, reached_keeps, marked_keeps, step_in_order, assigned_unless_assigned}
+use Rattle.stateful_sync.proofs.Order.{KeepsNewest, reached_keeps, marked_keeps, assigned_unless_assigned}
 use Rattle.stateful_sync.proofs.Runs.{both_empty}
 
 same_reached : (n : ℕ) (d : DbSyncState) → is_reached d ≡ true → generation_of d ≡ n → d ≡ Reached n

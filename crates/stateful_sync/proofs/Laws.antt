@@ -1,13 +1,13 @@
 -- That a new coordinator keeps the laws, whatever calls come.
-use Rattle.std.proofs.Common.{◌≡◌, ℕ, ◌+◌, ◌<◌, ◌≤◌, Option, Some, None, List, [], ◌∷◌, ◌++◌, length, replicate, get_or, All, Contains, refl, sym, ap, subst, ◌∙◌, arith}
+use Rattle.std.proofs.Common.{◌≡◌, ℕ, ◌<◌, ◌≤◌, Option, Some, None, List, [], ◌∷◌, ◌++◌, length, replicate, All, refl, sym, ap, subst, ◌∙◌, arith}
 use Rattle.std.specs.Prelude.{slice_get}
-use Rattle.std.proofs.lemmas.List.{append-nil, nil_from_length, length-replicate, get_or-replicate}
-use Rattle.std.proofs.lemmas.List.Elements.{All-nil, All-replicate, All-weaker}
-use Rattle.std.proofs.lemmas.Option.{none-some, same_Some, slice_get-get_or, slice_get_within, get_or_from_slice_get}
+use Rattle.std.proofs.lemmas.List.{nil_from_length, length-replicate, get_or-replicate}
+use Rattle.std.proofs.lemmas.List.Elements.{All-nil, All-replicate}
+use Rattle.std.proofs.lemmas.Option.{none-some, slice_get-get_or, slice_get_within, get_or_from_slice_get}
 use Rattle.stateful_types.specs.declared.anchor.Anchor.{Anchor}
 use Rattle.stateful_sync.specs.Assigned.{generation_of}
 use Rattle.stateful_sync.specs.Coordinator.{Coordination, Acts, goes_to_all, converges, regroups, goes_to_seeking, waits, Steps, reached, tipped, acted, marked, Call, height_of, tip_of, latest, next_generation, AllReached, IsInOrder}
-use Rattle.stateful_sync.specs.Laws.{Turn, Runs, tips, dispatches, dispatched, last_dispatch, StandsBehind, Follows, again, further, HasConverged, at_start, KeepsLaws}
+use Rattle.stateful_sync.specs.Laws.{Turn, Runs, tips, dispatches, dispatched, last_dispatch, Follows, again, further, HasConverged, at_start, KeepsLaws}
 use Rattle.stateful_sync.specs.declared.tip.Tip.{Tip}
 use Rattle.stateful_sync.specs.declared.action.Generation.{Generation}
 use Rattle.stateful_sync.specs.declared.action.DbSyncState.{DbSyncState}

@@ -1,17 +1,15 @@
 -- That a new mailbox keeps the laws, whatever calls come.
-use Rattle.std.proofs.Common.{◌≡◌, ◌≢◌, ℕ, ◌+◌, ◌<◌, ◌≤◌, zero, suc, max, Bool, true, false, ◌⊎◌, ⊎_elim, inl, inr, Option, Some, None, List, [], ◌∷◌, ◌++◌, length, map, set, get_or, All, Contains, refl, sym, ap, subst, ◌∙◌, arith, length-set}
+use Rattle.std.proofs.Common.{◌≡◌, ◌≢◌, ℕ, ◌<◌, ◌≤◌, suc, max, Bool, false, ◌⊎◌, ⊎_elim, inl, inr, Option, Some, None, List, [], ◌∷◌, ◌++◌, length, All, refl, sym, ap, subst, ◌∙◌, arith, length-set}
 use Rattle.std.specs.Prelude.{slice_get, unwrap_or}
 use Rattle.std.specs.Option.{option_map}
-use Rattle.std.specs.List.{Any, flat_map}
+use Rattle.std.specs.List.{Any}
 use Rattle.std.proofs.lemmas.Bool.{cases_eq}
 use Rattle.std.proofs.lemmas.List.{length-map, length_push}
 use Rattle.std.proofs.lemmas.List.Elements.{All-nil, All-head, All-tail}
 use Rattle.std.proofs.lemmas.Option.{none-some, same_Some, slice_get-map, slice_get_within, some_pair_parts}
 use Rattle.stateful_types.specs.declared.anchor.Anchor.{Anchor}
-use Rattle.stateful_sync.specs.Mailbox.{Mail, numbered, made, once_answered, once_recorded, Draws, HandsOut, nothing, newest, ChangesAt, Responds, goes_on, ends, Observes, records, drops, Call, retarget, next, respond, observed, poll, Steps, drawn, handed, responded, seen, polled}
-use Rattle.stateful_sync.specs.MailboxLaws as laws
+use Rattle.stateful_sync.specs.Mailbox.{Mail, numbered, made, once_answered, once_recorded, HandsOut, nothing, newest, Responds, goes_on, ends, Observes, records, drops, Call, retarget, next, observed, poll, Steps, drawn, handed, responded, seen, polled}
 use Rattle.stateful_sync.specs.MailboxLaws.{Runs, Gives, IsToBeSent, when_made, when_dropped, Takes, takes, KeepsLaws}
-use Rattle.stateful_sync.specs.declared.tip.Tip.{Tip}
 use Rattle.stateful_sync.specs.declared.tip.TipUpdate.{TipUpdate}
 use Rattle.stateful_sync.specs.declared.mailbox.Update.{Update}
 use Rattle.stateful_sync.proofs.Marks.{Marks}

@@ -1,19 +1,17 @@
 -- What a mailbox's state tells of the calls before.
-use Rattle.std.proofs.Common.{◌≡◌, ◌≢◌, ℕ, ◌+◌, ◌<◌, ◌≤◌, zero, suc, max, Bool, true, false, ◌&&◌, ◌⊎◌, ⊎_elim, inl, inr, Option, Some, None, List, [], ◌∷◌, ◌++◌, length, map, set, All, Contains, refl, sym, ap, subst, ◌∙◌, arith, append_assoc, length-set}
+use Rattle.std.proofs.Common.{◌≡◌, ℕ, ◌<◌, zero, suc, max, Bool, true, false, ◌&&◌, Option, Some, None, List, [], ◌∷◌, ◌++◌, length, map, set, refl, sym, ap, subst, ◌∙◌, arith, append_assoc, length-set}
 use Rattle.std.specs.Prelude.{slice_get, unwrap_or}
 use Rattle.std.specs.Option.{option_map}
-use Rattle.std.specs.List.{Any, flat_map}
-use Rattle.std.proofs.lemmas.Bool.{cases_eq, and_parts}
-use Rattle.std.proofs.lemmas.List.{append-nil, length-map, map_push, map-set, length_push}
+use Rattle.std.specs.List.{flat_map}
+use Rattle.std.proofs.lemmas.Bool.{and_parts}
+use Rattle.std.proofs.lemmas.List.{append-nil, map_push, map-set, length_push}
 use Rattle.std.proofs.lemmas.List.Concat.{flat_map-append}
-use Rattle.std.proofs.lemmas.List.Elements.{All-nil}
-use Rattle.std.proofs.lemmas.Option.{none-some, same_Some, slice_get-map, slice_get_within}
+use Rattle.std.proofs.lemmas.Option.{none-some, same_Some, slice_get-map}
 use Rattle.stateful_types.specs.declared.anchor.Anchor.{Anchor}
 use Rattle.stateful_types.specs.declared.outcome.Moved.{Moved}
-use Rattle.stateful_sync.specs.Mailbox.{Mail, WaitsWithin, made, once_answered, once_recorded, Draws, HandsOut, nothing, newest, ChangesAt, Responds, goes_on, ends, Observes, records, drops, Polls, recorded, ended, waits, Call, retarget, next, respond, observed, poll, Steps, drawn, handed, responded, seen, polled}
+use Rattle.stateful_sync.specs.Mailbox.{Mail, WaitsWithin, made, once_answered, once_recorded, Draws, HandsOut, nothing, newest, Responds, goes_on, ends, Observes, records, drops, Polls, recorded, ended, waits, Call, retarget, next, respond, observed, poll, Steps, drawn, handed, responded, seen, polled}
 use Rattle.stateful_sync.specs.MailboxLaws as laws
 use Rattle.stateful_sync.specs.MailboxLaws.{Runs, IsRecorded, Gives}
-use Rattle.stateful_sync.specs.declared.tip.Tip.{Tip}
 use Rattle.stateful_sync.specs.declared.mailbox.Update.{Update}
 use Rattle.stateful_sync.proofs.Marks.{Marks, marks_more, marks_kept, marks_named, first_pushed, none_first}
 

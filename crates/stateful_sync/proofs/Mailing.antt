@@ -1,5 +1,5 @@
 -- What one call of a mailbox does, from what is read.
-use Rattle.std.proofs.Common.{◌≡◌, ℕ, ◌<◌, Option, Some, None, length, get_or, set, refl, ap}
+use Rattle.std.proofs.Common.{◌≡◌, ℕ, ◌<◌, length, get_or, set, ap}
 use Rattle.std.proofs.lemmas.Option.{slice_get-get_or}
 use Rattle.stateful_sync.specs.Mailbox.{Mail, ChangesAt}
 use Rattle.stateful_sync.specs.declared.mailbox.Update.{Update}

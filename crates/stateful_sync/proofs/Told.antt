@@ -1,15 +1,14 @@
 -- What a coordinator's state tells of the calls before.
-use Rattle.std.proofs.Common.{◌≡◌, ◌≢◌, ℕ, ◌+◌, ◌<◌, ◌≤◌, ◌==◌, Bool, true, false, ◌⊎◌, inl, inr, ⊎_elim, Option, Some, None, List, [], ◌∷◌, ◌++◌, length, map, set, All, Contains, refl, sym, ap, subst, ◌∙◌, arith, append_assoc, length-set}
+use Rattle.std.proofs.Common.{◌≡◌, ℕ, ◌+◌, ◌≤◌, ◌==◌, Bool, true, false, ◌⊎◌, inl, inr, ⊎_elim, Option, Some, None, List, [], ◌∷◌, ◌++◌, length, map, set, All, Contains, refl, sym, ap, subst, ◌∙◌, arith, length-set}
 use Rattle.std.specs.Prelude.{slice_get, if◌then◌else◌}
-use Rattle.std.specs.Option.{option_map}
-use Rattle.std.proofs.lemmas.Bool.{cases_eq, eqb-true}
+use Rattle.std.proofs.lemmas.Bool.{eqb-true}
 use Rattle.std.proofs.lemmas.List.{append-nil, length-map}
 use Rattle.std.proofs.lemmas.List.Elements.{All-nil, All-append, All-cons, All-weaker, Contains-push, Contains-append_left}
-use Rattle.std.proofs.lemmas.Option.{none-some, same_Some, slice_get-map}
+use Rattle.std.proofs.lemmas.Option.{none-some, same_Some}
 use Rattle.stateful_types.specs.declared.anchor.Anchor.{Anchor}
 use Rattle.stateful_sync.specs.Assigned.{generation_of, once_reached, once_marked, unless_reached, unless_assigned}
 use Rattle.stateful_sync.specs.Coordinator.{Coordination, IsInOrder, ChangesAt, TakesTip, takes, ignores, Acts, goes_to_all, converges, regroups, goes_to_seeking, waits, Steps, reached, tipped, acted, marked, Call, record_reached, record_tip_update, next_action, mark_reached_same_target, height_of, tip_of, latest, next_generation, dispatch}
-use Rattle.stateful_sync.specs.Laws.{Turn, tips, recorded, dispatches, dispatched, last_of, last_dispatch, StandsBehind, IsGiven, at_start, by_dispatch, HasReached, by_itself, by_target}
+use Rattle.stateful_sync.specs.Laws.{Turn, tips, recorded, dispatches, dispatched, last_of, last_dispatch, IsGiven, at_start, by_dispatch, HasReached, by_itself, by_target}
 use Rattle.stateful_sync.specs.declared.tip.Tip.{Tip}
 use Rattle.stateful_sync.specs.declared.action.Generation.{Generation}
 use Rattle.stateful_sync.specs.declared.action.DbSyncState.{DbSyncState}

@@ -1,5 +1,5 @@
 -- How a coordinator brings several databases to the targets of one block.
-use Rattle.std.specs.Prelude.{◌≡◌, ◌⊎◌, ℕ, ◌+◌, ◌<◌, ◌≤◌, Bool, true, false, Option, Some, None, unwrap_or, List, map, slice_get, slice_set, All}
+use Rattle.std.specs.Prelude.{◌≡◌, ◌⊎◌, ℕ, ◌+◌, ◌<◌, ◌≤◌, true, false, Option, Some, None, unwrap_or, List, map, slice_get, slice_set, All}
 use Rattle.std.specs.List.{Any}
 use Rattle.stateful_types.specs.declared.anchor.Anchor.{Anchor}
 use Rattle.stateful_sync.specs.Assigned.{generation_of, is_reached, once_reached, once_marked, unless_reached, unless_assigned}

@@ -1,5 +1,5 @@
 -- What holds of a coordinator whatever calls come.
-use Rattle.std.specs.Prelude.{◌≡◌, ℕ, ◌+◌, ◌<◌, ◌≤◌, Option, Some, None, List, [], ◌∷◌, ◌++◌, length, slice_get, All, Contains}
+use Rattle.std.specs.Prelude.{◌≡◌, ℕ, ◌<◌, ◌≤◌, Option, Some, None, List, [], ◌∷◌, ◌++◌, length, slice_get, All, Contains}
 use Rattle.std.specs.List.{flat_map}
 use Rattle.stateful_types.specs.declared.anchor.Anchor.{Anchor}
 use Rattle.stateful_sync.specs.Coordinator.{Coordination, Call, record_reached, record_tip_update, mark_reached_same_target, height_of, tip_of, next_generation, AllReached, Steps}

@@ -1,4 +1,4 @@
-use Rattle.std.proofs.Common.{◌≡◌, ◌+◌, ◌<◌, ap, sym, ◌∙◌}
+use Rattle.std.proofs.Common.{sym, ◌∙◌}
 use Rattle.stateful_sync.specs.Classify.{below, again, further, conflicts, skips}
 use Rattle.stateful_sync.proofs.Classifying.{same_place, next_height}
 use Rattle.stateful_sync.proofs.classification.advance.Goals as goal

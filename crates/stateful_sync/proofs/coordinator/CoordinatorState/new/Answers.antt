@@ -1,6 +1,5 @@
 use Rattle.std.proofs.Common.{refl, lit<, rules}
 use Rattle.stateful_sync.specs.declared.action.DbSyncState.{DbSyncState}
-use Rattle.stateful_sync.specs.declared.action.DbSyncState.TheVariants.{Seeking}
 use Rattle.stateful_sync.proofs.Order.{start_in_order}
 use Rattle.stateful_sync.proofs.Laws.{KeepsLaws-new}
 use Rattle.stateful_sync.proofs.coordinator.CoordinatorState.new.Goals as goal

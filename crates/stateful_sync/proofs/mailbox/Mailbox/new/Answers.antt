@@ -1,5 +1,4 @@
-use Rattle.std.proofs.Common.{◌≡◌, [], None, subst, sym}
-use Rattle.stateful_sync.specs.Mailbox.{Mail}
+use Rattle.std.proofs.Common.{None, subst, sym}
 use Rattle.stateful_sync.specs.MailboxLaws.{KeepsLaws}
 use Rattle.stateful_sync.proofs.MailboxLaws.{KeepsLaws-new}
 use Rattle.stateful_sync.proofs.mailbox.Mailbox.new.Goals as goal

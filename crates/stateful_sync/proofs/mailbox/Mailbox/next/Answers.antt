@@ -1,4 +1,4 @@
-use Rattle.std.proofs.Common.{refl, sym, rules}
+use Rattle.std.proofs.Common.{refl, sym}
 use Rattle.std.proofs.lemmas.Option.{slice_get_read}
 use Rattle.stateful_sync.specs.Mailbox.{nothing, newest}
 use Rattle.stateful_sync.proofs.mailbox.Mailbox.next.Goals as goal
