@@ -11,3 +11,4 @@ pub mod Marks
 pub mod MailboxTold
 pub mod MailboxLaws
 pub mod Exactly
+pub mod Consistent

@@ -159,6 +159,13 @@ module _ {T : Type 0} where
   handed_step : (s after : Mail T) (found : Option (ℕ × TipUpdate T)) → Steps s (next found) after → HandsOut s found after
   handed_step s after found (handed hands) = hands
 
+  drawn_waits : (s after : Mail T) (anchor : Anchor) (targets : T) (ticket : ℕ) → Steps s (retarget anchor targets ticket) after
+      → (after.waiting ≡ Some ticket) × (ticket < length after.updates)
+  drawn_waits s after anchor targets ticket (drawn draws) =
+      let long = ap (λ (m : Mail T). length m.updates) draws.is ∙ length_push s.updates (made anchor targets) in
+      let number = draws.number in
+      (ap (λ (m : Mail T). m.waiting) draws.is, omega arith)
+
   drawn_step : (s after : Mail T) (anchor : Anchor) (targets : T) (ticket : ℕ) → Steps s (retarget anchor targets ticket) after → ticket ≡ length s.updates
   drawn_step s after anchor targets ticket (drawn draws) = draws.number
 
@@ -207,6 +214,14 @@ module _ {T : Type 0} where
             let q = run_split between (next found ∷ behind) r.2.0 last r.2.2 in
             let waits = waits_through between (before ++ call ∷ []) r.2.0 q.0 n told q.1 untaken (to_be_sent r.0 call r.2.0 n r.2.1 sends) in
             hands_newest q.0 q.2.0 n found (handed_step q.0 q.2.0 found q.2.1) waits;
+        replaced = λ before between behind anchor targets m n update place older.
+            let r = at before (retarget anchor targets m ∷ (between ++ next (Some (n, update)) ∷ behind)) place in
+            let newer = drawn_waits r.0 r.2.0 anchor targets m r.2.1 in
+            let q = run_split between (next (Some (n, update)) ∷ behind) r.2.0 last r.2.2 in
+            let k = handed_by q.0 q.2.0 (Some (n, update)) n update (handed_step q.0 q.2.0 (Some (n, update)) q.2.1) refl in
+            let within : n < length r.2.0.updates = omega (arith, newer.1) in
+            dropped_between between r.2.0 q.0 n within q.1
+            (λ e. let same = same_Some m n (sym newer.0 ∙ e) in absurd (omega arith)) k.waited;
         again = λ before between behind n one two place.
             let r = at before (next (Some (n, one)) ∷ (between ++ next (Some (n, two)) ∷ behind)) place in
             let h = handed_by r.0 r.2.0 (Some (n, one)) n one (handed_step r.0 r.2.0 (Some (n, one)) r.2.1) refl in

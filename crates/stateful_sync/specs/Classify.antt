@@ -1,5 +1,6 @@
 -- Blocks that were finalized during a sync, against the block that the databases have converged to.
-use Rattle.std.specs.Prelude.{◌≡◌, ◌≢◌, ℕ, ◌+◌, ◌<◌, ◌==◌, List, [], ◌∷◌, ◌++◌, map, filter}
+use Rattle.std.specs.Prelude.{◌≡◌, ◌≢◌, ℕ, ◌+◌, ◌<◌, ◌==◌, List, [], ◌∷◌, ◌++◌, map, filter, All}
+use Rattle.std.specs.List.{Any}
 use Rattle.std.specs.Ordering.{nat_cmp}
 use Rattle.std.specs.List.Sorted.{IsNonDecreasingBy, IsPermutation}
 use Rattle.std.specs.declared.cmp.Ordering.{Ordering}
@@ -95,3 +96,16 @@ module _ {B : Type 0} (header : Header B) where
       pub sorted : List (ℕ × Named B)
       pub order : IsByHeight retained sorted
       pub refused : RefusesAt sorted error
+
+    -- The retained blocks from the anchor on are of one chain, as far as heights and digests tell: those of the anchor's height are
+    -- its block, two of one height above it are the same, and up to each of them no height is missing.
+    pub record IsConsistent (retained : List (ℕ × Named B)) : Type 0 where
+      pub at_anchor : All (λ one. height_at one ≡ anchor.height.0
+          → one.1.digest ≡ anchor.digest) retained
+      pub alike : All (λ one. All (λ other. anchor.height.0 < height_at one
+          → height_at one ≡ height_at other
+          → one.1.digest ≡ other.1.digest) retained) retained
+      pub no_gap : All (λ one. (h : ℕ)
+          → anchor.height.0 < h
+          → h < height_at one
+          → Any (λ other. height_at other ≡ h) retained) retained

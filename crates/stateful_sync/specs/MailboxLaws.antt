@@ -1,5 +1,5 @@
 -- What holds of a mailbox of a sync whatever calls come.
-use Rattle.std.specs.Prelude.{◌≡◌, ℕ, ◌≤◌, true, false, Option, Some, None, List, [], ◌∷◌, ◌++◌, length, slice_get, All, Contains}
+use Rattle.std.specs.Prelude.{◌≡◌, ℕ, ◌<◌, ◌≤◌, true, false, Option, Some, None, List, [], ◌∷◌, ◌++◌, length, slice_get, All, Contains}
 use Rattle.std.specs.List.{Any, flat_map}
 use Rattle.stateful_types.specs.declared.anchor.Anchor.{Anchor}
 use Rattle.stateful_types.specs.declared.outcome.Moved.{Moved}
@@ -80,6 +80,12 @@ module _ {T : Type 0} where
         → IsToBeSent n call
         → All (λ other. Takes other → ⊥) between
         → (m : ℕ) × (update : TipUpdate T) × (found ≡ Some (m, update)) × (n ≤ m)
+    -- behind a newer one that was made, an update is handed out only where it was dropped unread since
+    pub replaced : (before between behind : List (Call T)) (anchor : Anchor) (targets : T) (m n : ℕ)
+        (update : TipUpdate T)
+        → calls ≡ before ++ retarget anchor targets m ∷ (between ++ next (Some (n, update)) ∷ behind)
+        → n < m
+        → Any (λ call. call ≡ observed n false) between
     -- an update is handed out again only where it was dropped unread in between
     pub again : (before between behind : List (Call T)) (n : ℕ) (first second : TipUpdate T)
         → calls ≡ before ++ next (Some (n, first)) ∷ (between ++ next (Some (n, second)) ∷ behind)

@@ -1,8 +1,8 @@
 //! Blocks that were finalized during a sync, against the block that the databases have converged to.
 
-ghost use Rattle.std.specs.Prelude.{◌≡◌, ◌≢◌, ◌⊎◌, ◌<◌, ◌≤◌, map, IfOk, IfErr, IsErrOf};
+ghost use Rattle.std.specs.Prelude.{◌≡◌, ◌≢◌, ◌⊎◌, ◌<◌, ◌≤◌, map, IfOk, IfErr, OnOk, IsErrOf};
 ghost use Rattle.std.specs.List.Sorted.{IsPermutation, IsNonDecreasingBy};
-ghost use Rattle.stateful_sync.specs.Classify.{anchored, height_at, handover_at, retained_of, Passes, Leads, Refuses, RefusesAt, IsClassified, IsRefusal};
+ghost use Rattle.stateful_sync.specs.Classify.{anchored, height_at, handover_at, retained_of, Passes, Leads, Refuses, RefusesAt, IsByHeight, IsClassified, IsRefusal, IsConsistent};
 
 use crate::error::SyncError;
 use crate::handover::{Handover, Point};
@@ -29,6 +29,12 @@ pub fn classify<B: Block + Drop>(
     ensures kept { IfOk result
         (λ handovers. IsPermutation retained.items (map retained_of handovers.items)) }
 
+    // It is answered where they are consistent, and for want of memory it may be refused then.
+    ensures consistent { OnOk result (IsConsistent B.header anchor retained.items) }
+    ensures inconsistent { IfErr result (λ error. error ≢ SyncError.OutOfMemory
+        → IsConsistent B.header anchor retained.items
+        → ⊥) }
+
     // It is refused for its cause, and for want of memory.
     ensures refused { IfErr result
         (λ error. error ≢ SyncError.OutOfMemory → IsRefusal B.header anchor retained.items error) }
@@ -36,9 +42,20 @@ pub fn classify<B: Block + Drop>(
         → IsRefusal B.header anchor retained.items error
         → IsErrOf result error ⊎ IsErrOf result SyncError.OutOfMemory }
 {
+    hand_over(alloc, anchor, by_heights(retained)?)
+}
+
+/// The blocks by ascending heights, in which equal heights keep their order.
+fn by_heights<B: Block + Drop>(
+    retained: Vec<(u64, Digested<B>)>,
+) -> Result<Vec<(u64, Digested<B>)>, SyncError>
+    ensures sorted { IfOk result
+        (λ sorted. IsByHeight B.header retained.items sorted.items) }
+    ensures memory { IfErr result (λ error. error ≡ SyncError.OutOfMemory) }
+{
     let mut retained = retained;
     retained.sort_by_key(|finalization| finalization.1.height().0)?;
-    hand_over(alloc, anchor, retained)
+    Ok(retained)
 }
 
 /// As `classify`, of blocks by ascending heights.
