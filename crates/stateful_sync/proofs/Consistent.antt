@@ -1,16 +1,16 @@
 -- Retained blocks that lead on from an anchor are consistent, and those that don't aren't.
-use Rattle.std.proofs.Common.{◌≡◌, ◌≢◌, ℕ, ◌+◌, ◌<◌, ◌≤◌, ◌⊎◌, ⊎_elim, inl, inr, Result, Ok, Err, List, [], ◌∷◌, ◌++◌, length, get_or, All, Contains, refl, sym, ap, subst, ◌∙◌, arith, append_assoc, length-append}
+use Rattle.std.proofs.Common.{◌≡◌, ◌≢◌, ℕ, ◌+◌, ◌<◌, ◌≤◌, ⊎_elim, Result, Ok, Err, List, [], ◌∷◌, ◌++◌, length, get_or, All, Contains, refl, sym, ap, subst, ◌∙◌, arith, append_assoc, length-append}
 use Rattle.std.specs.Prelude.{IfOk, IfErr, OnOk}
 use Rattle.std.specs.List.{Any}
 use Rattle.std.specs.List.Sorted.{IsPermutation, IsNonDecreasingBy}
-use Rattle.std.proofs.lemmas.Bool.{cases_lt, cases_eq}
+use Rattle.std.proofs.lemmas.Bool.{cases_lt}
 use Rattle.std.proofs.lemmas.List.{append-nil, get_or_at, get_or-append-add}
-use Rattle.std.proofs.lemmas.List.Elements.{All-nil, All-push, All-weaker, All-contains, Contains-get_or, Contains-append_left, Contains-append_right, Contains-append_cases}
+use Rattle.std.proofs.lemmas.List.Elements.{All-nil, All-push, All-contains, Contains-append_left, Contains-append_right, Contains-append_cases}
 use Rattle.std.proofs.lemmas.List.Sorted.{All-permutation, Contains-permutation, IsPermutation-sym}
 use Rattle.stateful_types.specs.Names.{Header, Named}
 use Rattle.stateful_types.specs.declared.anchor.Anchor.{Anchor}
 use Rattle.stateful_types.specs.declared.digest.Digest.{Digest}
-use Rattle.stateful_sync.specs.Classify.{anchored, place_of, height_at, Passes, below, again, further, Leads, Refuses, conflicts, skips, RefusesAt, IsByHeight, IsConsistent}
+use Rattle.stateful_sync.specs.Classify.{anchored, height_at, Passes, below, again, further, Leads, Refuses, conflicts, skips, RefusesAt, IsByHeight, IsConsistent}
 use Rattle.stateful_sync.specs.declared.handover.Point.{Point}
 use Rattle.stateful_sync.specs.declared.error.SyncError.{SyncError}
 use Rattle.stateful_sync.specs.declared.error.SyncError.TheVariants.{OutOfMemory}
