@@ -1,1 +1,4 @@
 pub mod States
+pub mod Ahead
+pub mod Accepted
+pub mod Wholes

@@ -1,5 +1,5 @@
 -- The format of states, by its three cases.
-use Rattle.std.proofs.Common.{◌≡◌, ℕ, Some, None, List, [], ◌∷◌, refl, inl, inr, lit<}
+use Rattle.std.proofs.Common.{◌≡◌, Some, None, [], ◌∷◌, refl, inl, inr, lit<}
 use Rattle.std.specs.Prelude.{◌⊎◌}
 use Rattle.stateful_types.specs.declared.finalization.Finalization.{Finalization}
 use Rattle.stateful_types.specs.declared.number.Height.{Height}

@@ -1,1 +1,7 @@
 pub mod State
+pub mod Store
+pub mod Errors
+pub mod Worth
+pub mod Plan
+pub mod Laws
+pub mod Start

@@ -1,6 +1,20 @@
-//! What a node remembers of its sync.
+//! What a node remembers of its sync, where a sync starts, and how databases are opened behind one.
+//!
+//! A node that begins late asks peers for the databases of a finalized block, its floor. The plan keeps that floor until
+//! the sync is done, over all restarts, and then the height and the digest of the block at which it was done: from then on
+//! the node never syncs from peers again. [`SyncPlan`] is that memory over a store of one value. A floor never moves to an
+//! earlier round, and a completion never to a lower height.
 #![tactic(auto)]
 
+mod error;
+mod plan;
 mod state;
+mod store;
 
+pub use error::{Missing, PlanError, SyncError};
+pub use plan::{Start, SyncPlan};
 pub use state::{SyncState, no_state_begins_another};
+pub use store::{MemoryPlanStore, PlanCall, PlanStore, StoreFault};
+
+#[cfg(test)]
+mod tests;

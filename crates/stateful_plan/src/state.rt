@@ -1,8 +1,11 @@
 //! What a node remembers of its sync, in bytes.
 
-ghost use Rattle.std.specs.Prelude.{◌≡◌, length};
+ghost use Rattle.std.specs.Prelude.{◌≡◌, ℕ, List, Option, Result, length};
 ghost use Rattle.stateful_types.specs.Format.{Reads, Writes, IsFormat};
+ghost use Rattle.stateful_types.specs.declared.codec.CodecError.{CodecError};
 ghost use Rattle.stateful_plan.specs.State.{state_format};
+ghost use Rattle.stateful_plan.specs.Worth.{IsWorth};
+ghost use Rattle.stateful_plan.specs.declared.state.SyncState.{SyncState};
 
 use bytes::Bytes;
 use stateful_types::{
@@ -11,6 +14,7 @@ use stateful_types::{
 use std::alloc::Global;
 
 /// How far a node has come with its sync.
+#[derive(Drop)]
 pub enum SyncState<S: Scheme> {
     /// It syncs to this floor.
     InProgress(Finalization<S::Certificate>),
@@ -20,18 +24,6 @@ pub enum SyncState<S: Scheme> {
         height: Height,
         digest: Option<Digest>,
     },
-}
-
-impl<S: Scheme> Drop for SyncState<S> {
-    fn drop(self) {
-        match self {
-            SyncState::InProgress(_finalization) => {}
-            SyncState::Complete {
-                height: _,
-                digest: _,
-            } => {}
-        }
-    }
 }
 
 impl<S: Scheme> SyncState<S> {
@@ -99,7 +91,13 @@ impl<S: Scheme> SyncState<S> {
     }
 }
 
-/// No spelling of a state begins another, and so no state has the spelling of another.
+/// No spelling of a state begins another, and so no state has the spelling of another. And what a store holds is worth one
+/// state, or has one fault, and nothing else.
 pub fn no_state_begins_another<S: Scheme>()
-    ensures { IsFormat (state_format {S = S} {K = S.Key} S.certificates) }
+    ensures states { IsFormat (state_format {S = S} {K = S.Key} S.certificates) }
+    ensures worth { (value : Option (List ℕ))
+        (one other : Result (Option (SyncState S S.Key S.Certificate)) CodecError)
+        → IsWorth (state_format S.certificates) value one
+        → IsWorth (state_format S.certificates) value other
+        → one ≡ other }
 {}

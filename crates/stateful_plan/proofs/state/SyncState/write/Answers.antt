@@ -1,7 +1,5 @@
-use Rattle.stateful_types.specs.Number.{height_format}
-use Rattle.stateful_types.specs.Digest.{digest_format}
-use Rattle.stateful_types.proofs.Formats.{write_both, write_rest}
-use Rattle.stateful_plan.proofs.States.{floor_case, height_case, recorded_case}
+use Rattle.stateful_types.proofs.Formats.{write_rest}
+use Rattle.stateful_plan.proofs.States.{floor_case}
 use Rattle.stateful_plan.proofs.state.SyncState.write.Goals as goal
 
 pub returns-in_ok-write_u8-in-InProgress : goal.returns-in_ok-write_u8-in-InProgress
