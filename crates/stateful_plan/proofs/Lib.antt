@@ -2,3 +2,4 @@ pub mod States
 pub mod Ahead
 pub mod Accepted
 pub mod Wholes
+pub mod Choices

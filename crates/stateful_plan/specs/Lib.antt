@@ -4,4 +4,6 @@ pub mod Errors
 pub mod Worth
 pub mod Plan
 pub mod Laws
+pub mod Refusals
+pub mod Choice
 pub mod Start

@@ -1,9 +1,10 @@
-//! Plans over reloads, told as tables.
+//! Plans over reloads, and choices of a start, told as tables.
 
 use super::*;
 use bytes::Bytes;
 use stateful_types::{
-    CodecError, Digest, Epoch, Finalization, Height, Items, Round, View, VoteScheme,
+    Block, CodecError, Digest, Digested, Epoch, Finalization, Floor, Height, Items, MemoryStore,
+    OutOfMemory, Round, View, VoteScheme,
 };
 use std::alloc::Global;
 use std::test::Fail;
@@ -188,5 +189,196 @@ fn a_plan_is_loaded_from_whole_bytes(rt: HostRuntime) -> Result<(), Fail> {
     let failing = vec![in rt.alloc(); (PlanCall::Load, 0)]?;
     let loaded = Plan::init(rt.alloc(), MemoryPlanStore::new(None, failing), "node");
     assert_eq!(rt; loaded.err(), Some(PlanError::PlanStore));
+    Ok(())
+}
+
+/// A block of a height, told from others of that height by its letter.
+#[derive(Drop)]
+struct Letter {
+    letter: u8,
+    height: u64,
+}
+
+impl Block for Letter {
+    ghost use Rattle.std.specs.Prelude.{◌∷◌, [], replicate};
+
+    type Context = Round;
+
+    ghost header = { record {
+      parent = λ b. record { 0 = replicate 32 0 };
+      height = λ b. b.height;
+      round = λ b. record { epoch = record { 0 = 0 }; view = record { 0 = 0 } };
+      bytes = λ b. b.letter ∷ [];
+    } };
+
+    fn parent(&self) -> Digest {
+        Digest([0; 32])
+    }
+
+    fn height(&self) -> Height {
+        Height(self.height)
+    }
+
+    fn context(&self) -> Round {
+        round(0)
+    }
+
+    fn encode(&self, out: &mut Vec<u8>) -> Result<(), OutOfMemory> {
+        out.push(self.letter)?;
+        Ok(())
+    }
+}
+
+fn block(alloc: Global, (height, letter): (u64, u8)) -> Result<Digested<Letter>, OutOfMemory> {
+    Digested::compute(alloc, Letter { letter, height })
+}
+
+fn store(alloc: Global, blocks: &[(u64, u8)]) -> Result<MemoryStore<Letter>, OutOfMemory> {
+    let mut store = MemoryStore::new(alloc);
+    for named in blocks {
+        store.insert(block(alloc, *named)?)?;
+    }
+    Ok(store)
+}
+
+/// The start of a sync: a block's height and letter, a fetch, or what is missing.
+#[derive(Clone, Copy, Debug, PartialEq, Eq)]
+enum Choice {
+    Start(u64, u8),
+    Fetch,
+    Missing(Missing),
+}
+
+/// What was chosen. Digests are told apart as those of letters.
+fn choice_of(resolved: Result<Resolved<Letter>, SyncError>) -> Result<Choice, SyncError> {
+    match resolved {
+        Ok(Resolved::Block(block)) => {
+            let letter = block.inner().letter;
+            Ok(Choice::Start(block.height().0, letter))
+        }
+        Ok(Resolved::Fetch(_)) => Ok(Choice::Fetch),
+        Err(SyncError::MissingBlock(missing)) => Ok(Choice::Missing(missing)),
+        Err(error) => Err(error),
+    }
+}
+
+/// What the store reports, with no window.
+fn reported(processed: Option<u64>, cutoff: Option<u64>) -> Floor {
+    Floor {
+        processed: processed.map(Height),
+        cutoff: cutoff.map(round),
+        max_pending_acks: 0,
+    }
+}
+
+const LAST: u64 = u64::MAX;
+
+/// The processed height, the view of the cutoff, the stored blocks, and the start of a sync to block b of view 5.
+type Resolving = (Option<u64>, Option<u64>, &'static [(u64, u8)], Choice);
+
+#[test]
+fn a_sync_starts_at_its_floor_or_where_the_store_has_come_to(rt: HostRuntime) -> Result<(), Fail> {
+    let last = Choice::Missing(Missing::AtHeight(Height(LAST)));
+    let rows: [Resolving; 11] = [
+        (None, None, &[(0, b'g')], Choice::Fetch),
+        (None, Some(9), &[(0, b'g')], Choice::Fetch),
+        (Some(4), None, &[(4, b'a'), (5, b'b')], Choice::Fetch),
+        (Some(4), Some(4), &[(4, b'a'), (5, b'b')], Choice::Fetch),
+        (
+            Some(4),
+            Some(5),
+            &[(4, b'a'), (5, b'b')],
+            Choice::Start(5, b'b'),
+        ),
+        (
+            Some(4),
+            Some(6),
+            &[(4, b'a'), (5, b'c')],
+            Choice::Start(4, b'a'),
+        ),
+        (
+            Some(4),
+            Some(6),
+            &[(4, b'a'), (6, b'b')],
+            Choice::Start(4, b'a'),
+        ),
+        (
+            Some(4),
+            Some(6),
+            &[(3, b'a'), (5, b'c')],
+            Choice::Missing(Missing::AtHeight(Height(4))),
+        ),
+        (
+            Some(LAST - 1),
+            Some(6),
+            &[(LAST, b'b')],
+            Choice::Start(LAST, b'b'),
+        ),
+        (
+            Some(LAST),
+            Some(6),
+            &[(0, b'b'), (LAST, b'a')],
+            Choice::Start(LAST, b'a'),
+        ),
+        (Some(LAST), Some(6), &[(0, b'b')], last),
+    ];
+    let payload = block(rt.alloc(), (0, b'b'))?.digest();
+    let finalization = finalization(rt.alloc(), 5, payload);
+    for (processed, cutoff, blocks, choice) in rows {
+        let store = store(rt.alloc(), blocks)?;
+        let resolved = resolve(&store, &reported(processed, cutoff), &finalization);
+        assert_eq!(rt; choice_of(resolved)?, choice);
+    }
+    Ok(())
+}
+
+/// The processed height, the stored blocks, the answer of the fetch, and the start.
+type Fetched = (Option<u64>, &'static [(u64, u8)], Option<(u64, u8)>, Choice);
+
+#[test]
+fn a_fetched_block_gives_way_to_a_higher_processed_one(rt: HostRuntime) -> Result<(), Fail> {
+    let rows: [Fetched; 6] = [
+        (
+            Some(4),
+            &[(4, b'a')],
+            None,
+            Choice::Missing(Missing::Fetched),
+        ),
+        (None, &[(9, b'c')], Some((5, b'b')), Choice::Start(5, b'b')),
+        (
+            Some(4),
+            &[(4, b'a')],
+            Some((5, b'b')),
+            Choice::Start(5, b'b'),
+        ),
+        (
+            Some(5),
+            &[(5, b'c')],
+            Some((5, b'b')),
+            Choice::Start(5, b'b'),
+        ),
+        (
+            Some(6),
+            &[(6, b'c')],
+            Some((5, b'b')),
+            Choice::Start(6, b'c'),
+        ),
+        (
+            Some(6),
+            &[(5, b'b')],
+            Some((5, b'b')),
+            Choice::Missing(Missing::AtHeight(Height(6))),
+        ),
+    ];
+    for (processed, blocks, answer, choice) in rows {
+        let store = store(rt.alloc(), blocks)?;
+        let answer = match answer {
+            Some(named) => Some(block(rt.alloc(), named)?),
+            None => None,
+        };
+        let start = resolve_fetched(&store, &reported(processed, None), answer);
+        let resolved = start.map(Resolved::Block);
+        assert_eq!(rt; choice_of(resolved)?, choice);
+    }
     Ok(())
 }
