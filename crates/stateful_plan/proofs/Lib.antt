@@ -3,3 +3,4 @@ pub mod Ahead
 pub mod Accepted
 pub mod Wholes
 pub mod Choices
+pub mod Openings

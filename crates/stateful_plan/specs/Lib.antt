@@ -6,4 +6,5 @@ pub mod Plan
 pub mod Laws
 pub mod Refusals
 pub mod Choice
+pub mod Opening
 pub mod Start

@@ -6,17 +6,20 @@
 //! earlier round, and a completion never to a lower height.
 //!
 //! [`resolve`] and [`resolve_fetched`] choose the block from which a sync starts: the floor's own, or one of the block
-//! store where that has come further.
+//! store where that has come further. [`open_set`] opens databases that no sync is to fill, at the block up to which the
+//! node has come.
 #![tactic(auto)]
 
 mod choice;
 mod error;
+mod opening;
 mod plan;
 mod state;
 mod store;
 
 pub use choice::{Resolved, resolve, resolve_fetched};
 pub use error::{Missing, PlanError, SyncError};
+pub use opening::open_set;
 pub use plan::{Start, SyncPlan};
 pub use state::{SyncState, no_state_begins_another};
 pub use store::{MemoryPlanStore, PlanCall, PlanStore, StoreFault};
