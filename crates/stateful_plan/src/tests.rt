@@ -1,5 +1,7 @@
 //! Plans over reloads, and choices of a start, told as tables.
 
+ghost use Rattle.std.specs.Prelude.{◌≡◌};
+
 use super::*;
 use bytes::Bytes;
 use stateful_types::{
@@ -27,7 +29,9 @@ enum Act {
 /// What is done, the error that comes of it, and then the view of the floor and the recorded height.
 type Row = (Act, Option<PlanError>, Option<u64>, Option<u64>);
 
-fn round(view: u64) -> Round {
+fn round(view: u64) -> Round
+    ensures { result ≡ record { epoch = record { 0 = 0 }; view = record { 0 = view } } }
+{
     Round {
         epoch: Epoch(0),
         view: View(view),
