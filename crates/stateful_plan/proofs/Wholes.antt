@@ -1,7 +1,7 @@
 -- What whole bytes are worth.
 use Rattle.std.proofs.Common.{◌≡◌, ℕ, Option, Some, None, List, [], ◌∷◌, ◌++◌, Result, Ok, Err, refl, sym, ap, subst, ◌∙◌, inl, inr}
 use Rattle.std.proofs.lemmas.List.{append-nil, append_cancel_left}
-use Rattle.std.specs.Prelude.{IsErrAnd}
+use Rattle.std.specs.Prelude.{IsErrAnd, IfSome}
 use Rattle.stateful_types.specs.declared.codec.CodecError.{CodecError}
 use Rattle.stateful_types.specs.declared.codec.CodecError.TheVariants.{InvalidEnum, EndOfBuffer, OutOfMemory}
 use Rattle.stateful_types.specs.Format.{Format, EndsInside, IsWrong, IsFormat, Reads, UnlessMemory, end_of}
@@ -95,3 +95,12 @@ module _ {A : Type 0} (f : Format A) (law : IsFormat f) where
     where
       under : ◌≡◌ {A = Result A CodecError} (Err e) (Err d) → ◌≡◌ {A = Result (Option A) CodecError} (Err e) (Err d)
       under same = cc
+
+-- where what is held is worth this, whatever else it is worth is the same
+pub one_kept : {A : Type 0} (f : Format A) → IsFormat f → (held : Option (Option (List ℕ))) (state : Option A) → IfSome held (λ value. IsWorth f value (Ok state))
+    → IfSome held (λ _. (earlier : Option A) → IfSome held (λ value. IsWorth f value (Ok earlier)) → state ≡ earlier)
+one_kept f law None state worth = tt
+one_kept {A} f law (Some value) state worth = λ earlier other. under earlier (one_worth f law value (Ok state) (Ok earlier) worth other)
+  where
+    under : (earlier : Option A) → ◌≡◌ {A = Result (Option A) CodecError} (Ok state) (Ok earlier) → state ≡ earlier
+    under earlier e = cc

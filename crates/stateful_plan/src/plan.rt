@@ -1,6 +1,6 @@
 //! The plan: what a node remembers of its sync, over a store of one value.
 
-ghost use Rattle.std.specs.Prelude.{◌≡◌, ◌↔◌, ◌≤◌, ◌⊎◌, ℕ, None, IsErrOf, IsSome, IsTrue, IsFalse, IfOk, IfErr, IfSome, OnOk, OnErr};
+ghost use Rattle.std.specs.Prelude.{◌≡◌, ◌↔◌, ◌≤◌, ◌⊎◌, ℕ, Option, None, IsErrOf, IsSome, IsTrue, IsFalse, IfOk, IfErr, IfSome, OnOk, OnErr};
 ghost use Rattle.std.specs.Option.{option_copied};
 ghost use Rattle.stateful_types.specs.Causes.{Rose};
 ghost use Rattle.stateful_types.specs.declared.digest.Digest.{Digest};
@@ -11,6 +11,7 @@ ghost use Rattle.stateful_plan.specs.Worth.{IsWhole};
 ghost use Rattle.stateful_plan.specs.Plan.{floor_of, completion_of, digest_of, IsNew, IsIgnored, TakesFloor, MayComplete, Completes, IsBackward, IsConflict, IsKept, IsLoaded, IsOfBytes, IsOfCompletion};
 ghost use Rattle.stateful_plan.specs.Laws.{Call, NeverFallsBack};
 ghost use Rattle.stateful_plan.specs.Start.{Starts};
+ghost use Rattle.stateful_plan.specs.declared.state.SyncState.{SyncState};
 
 use crate::error::PlanError;
 use crate::state::SyncState;
@@ -61,6 +62,12 @@ impl<P: PlanStore + Drop, S: Scheme> SyncPlan<P, S> {
         ensures kept { IfOk result (λ plan. IsKept S.certificates (P.held plan.store) plan.state) }
         ensures same { IfOk result (λ plan. P.held plan.store ≡ P.held store) }
         ensures later { IfOk result (λ plan. P.count store ≤ P.count plan.store) }
+
+        // Where the store was that of a plan, this one has what that plan accepted last.
+        ensures again { IfOk result (λ plan. IfSome (P.held store) (λ _.
+            (earlier : Option (SyncState S S.Key S.Certificate))
+            → IsKept S.certificates (P.held store) earlier
+            → plan.state ≡ earlier)) }
 
         // Whatever calls follow.
         ensures law { IfOk result (λ plan. NeverFallsBack plan.state) }
