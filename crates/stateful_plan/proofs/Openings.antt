@@ -14,6 +14,10 @@ use Rattle.stateful_plan.specs.Opening.{IsContradicted, IsChecked, agrees, diffe
 use Rattle.stateful_plan.specs.declared.error.SyncError.{SyncError}
 use Rattle.stateful_plan.specs.declared.error.SyncError.TheVariants.{CompletedConflict}
 
+-- what was told of one is so of the other, which is the same
+pub told_of : {A T : Type 0} (f : A → T) (told : T) (a b : A) → told ≡ f a → a ≡ b → told ≡ f b
+told_of f told a b is same = is ∙ ap f same
+
 -- at the completion's height another digest is recorded than this one
 pub contradicted_by : (completed : Option (Height × Option Digest)) (at height : Height) (recorded : Option Digest) (known given : Digest) (same : Bool) → completed ≡ Some (at, recorded) → recorded ≡ Some known → at.0 ≡ height.0
     → (IsTrue same → known ≡ given) × (known ≡ given → IsTrue same) → IsTrue (not same) → IsContradicted completed height.0 known given

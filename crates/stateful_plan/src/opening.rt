@@ -1,10 +1,13 @@
 //! How databases are opened that no sync is to fill.
 
-ghost use Rattle.std.specs.Prelude.{◌≡◌, ◌<◌, ◌≤◌, ◌^◌, ℕ, Some, IsErrOf, IfOk, OnOk, OnErr};
+ghost use Rattle.std.specs.Prelude.{◌≡◌, ◌<◌, ◌≤◌, ◌^◌, ℕ, Some, IsErrOf, OnOk, OnErr};
 ghost use Rattle.stateful_types.specs.Names.{Named};
+ghost use Rattle.stateful_types.specs.declared.digest.Digest.{Digest};
+ghost use Rattle.stateful_types.specs.declared.number.Height.{Height};
 ghost use Rattle.stateful_db.specs.Databases.{IsOpening};
 ghost use Rattle.stateful_db.specs.declared.database.InitError.{InitError};
 ghost use Rattle.stateful_plan.specs.Errors.{of_opening};
+ghost use Rattle.stateful_plan.specs.declared.error.Missing.{Missing};
 ghost use Rattle.stateful_plan.specs.Opening.{opening_height, IsChecked, IsRefused, Opens};
 
 use crate::choice::block_at;
@@ -27,12 +30,19 @@ pub fn open_set<A: Application, T: BlockStore<A::Block>>(
         (T.stored store.now) (opening_height processed completed) completed
         (A.Databases.counted databases.old) (A.Databases.counted databases.new)
         (A.Databases.members databases.old) (A.Databases.members databases.new) result }
-    ensures opening { IfOk result (λ anchor. A.Databases.kind.Openable
-        (A.Databases.members databases.old)
+    ensures opening { OnOk result (A.Databases.kind.Openable (A.Databases.members databases.old)
         → (block : Named A.Block)
         → T.stored store.now (opening_height processed completed) ≡ Some block
         → IsOpening A.Databases.kind (A.Databases.next databases.new)
         (A.Databases.members databases.new) (A.works.meaning.targets block.block)) }
+
+    // No database was called where the block is missing, or another block was recorded.
+    ensures missing { (which : Missing)
+        → IsErrOf result (SyncError.MissingBlock which)
+        → databases.new ≡ databases.old }
+    ensures conflict { (height : Height) (recorded given : Digest)
+        → IsErrOf result (SyncError.CompletedConflict height recorded given)
+        → databases.new ≡ databases.old }
 
     // A database that didn't open has a cause, and where there is one but for its count no opening comes to its end.
     ensures cause { (block : Named A.Block) (index : ℕ) (why : InitError)

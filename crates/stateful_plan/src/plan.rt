@@ -175,7 +175,9 @@ impl<P: PlanStore + Drop, S: Scheme> SyncPlan<P, S> {
             ↔ (IsBackward self.old.state recorded height × (given ≡ height)) }
         ensures conflict { (at : Height) (recorded given : Digest)
             → IsErrOf result (PlanError.CompletedConflict at recorded given)
-            ↔ (IsConflict self.old.state height recorded digest × (at ≡ height) × (given ≡ digest)) }
+            ↔ (IsConflict self.old.state height recorded digest
+            × (at ≡ height)
+            × (given ≡ digest)) }
         ensures cause { IsErrOf result PlanError.PlanStore
             → Rose (P.count self.old.store) (P.count self.new.store) }
         ensures only { IfErr result (λ e. IsOfBytes e → ⊥) }
@@ -231,7 +233,9 @@ impl<P: PlanStore + Drop, S: Scheme> SyncPlan<P, S> {
             ↔ (IsBackward self.now.state recorded height × (given ≡ height)) }
         ensures conflict { (at : Height) (recorded given : Digest)
             → IsErrOf result (PlanError.CompletedConflict at recorded given)
-            ↔ (IsConflict self.now.state height recorded digest × (at ≡ height) × (given ≡ digest)) }
+            ↔ (IsConflict self.now.state height recorded digest
+            × (at ≡ height)
+            × (given ≡ digest)) }
         ensures ok { OnOk result (MayComplete self.now.state height digest) }
         ensures only { IfErr result IsOfCompletion }
         ensures kept { IsKept S.certificates (P.held self.now.store) self.now.state }
