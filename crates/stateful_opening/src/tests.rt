@@ -88,13 +88,7 @@ fn databases_open_at_the_later_height_or_not_at_all(rt: HostRuntime) -> Result<(
         let processed = processed.map(Height);
         let completed = completed.map(|(height, digest)| (Height(height), digest));
         let mut databases = Held::Closed(PlainMedium::empty(alloc, Vec::new(alloc)));
-        let opened = open_set::<Bank, MemoryStore<BankBlock>>(
-            &mut databases,
-            &(),
-            &store,
-            processed,
-            completed,
-        );
+        let opened = open_set::<Bank, _>(&mut databases, &(), &store, processed, completed);
         assert_eq!(rt; opened, answer);
         assert_eq!(rt; databases.is_here(), answer.is_ok());
     }

@@ -71,22 +71,29 @@ fn view_of(plan: &Plan) -> Option<u64> {
 
 #[test]
 fn a_floor_moves_forward_alone_over_reloads(rt: HostRuntime) -> Result<(), Fail> {
-    let rows: [Row; 12] = [
+    let rows: [Row; 14] = [
         (Act::Reload, None, None, None),
         (Act::Floor(7, 1), None, Some(7), None),
         (Act::Reload, None, Some(7), None),
         (Act::Floor(6, 2), None, Some(7), None),
         (Act::Floor(7, 2), None, Some(7), None),
         (Act::Reload, None, Some(7), None),
-        // The second put is listed as failing.
+        // The second put is listed as failing, and so is the fourth.
         (Act::Floor(9, 3), Some(PlanError::PlanStore), Some(7), None),
         (Act::Reload, None, Some(7), None),
         (Act::Floor(9, 3), None, Some(9), None),
         (Act::Reload, None, Some(9), None),
+        (
+            Act::Completed(3, 4),
+            Some(PlanError::PlanStore),
+            Some(9),
+            None,
+        ),
+        (Act::Reload, None, Some(9), None),
         (Act::Completed(3, 4), None, None, Some(3)),
         (Act::Floor(12, 5), None, None, Some(3)),
     ];
-    let failing = vec![in rt.alloc(); (PlanCall::Put, 1)]?;
+    let failing = vec![in rt.alloc(); (PlanCall::Put, 1), (PlanCall::Put, 3)]?;
     let mut plan = Plan::init(rt.alloc(), MemoryPlanStore::new(None, failing), "node")?;
     assert!(rt; plan.should_sync(true));
     assert!(rt; !plan.should_sync(false));
