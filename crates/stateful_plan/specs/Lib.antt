@@ -1,0 +1,10 @@
+pub mod State
+pub mod Store
+pub mod Errors
+pub mod Worth
+pub mod Plan
+pub mod Laws
+pub mod Refusals
+pub mod Choice
+pub mod Opening
+pub mod Start
