@@ -1,0 +1,16 @@
+pub mod Tables
+pub mod Waiting
+pub mod Standing
+pub mod Sending
+pub mod Boxing
+pub mod Handing
+pub mod Payloads
+pub mod Whole
+pub mod Counting
+pub mod Releasing
+pub mod Awaiting
+pub mod Performing
+pub mod Indexing
+pub mod Subscribers
+pub mod Spreading
+pub mod Histories
