@@ -14,3 +14,8 @@ pub mod Indexing
 pub mod Subscribers
 pub mod Spreading
 pub mod Histories
+pub mod Moving
+pub mod Putting
+pub mod Placing
+pub mod Fetching
+pub mod Laws

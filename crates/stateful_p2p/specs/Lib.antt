@@ -11,3 +11,4 @@ pub mod Tasks
 pub mod Handling
 pub mod Limits
 pub mod History
+pub mod Laws

@@ -5,6 +5,7 @@ ghost use Rattle.std.specs.Int.NonZero.{non_zero_u64_get};
 ghost use Rattle.stateful_types.specs.Mailbox.{HandsOut};
 ghost use Rattle.stateful_p2p.specs.Inbox.{Inbox, empty_inbox};
 ghost use Rattle.stateful_p2p.specs.Fanout.{IsSound};
+ghost use Rattle.stateful_p2p.specs.Laws.{KeepsLaws};
 ghost use Rattle.stateful_p2p.specs.Resolving.{setup, IsNew, may_come, IsExhausting, Hears, Does, Steps};
 ghost use Rattle.stateful_p2p.specs.Tasks.{Admits, IsTimely, is_new_number, has_last_number};
 ghost use Rattle.stateful_p2p.specs.declared.event.ActorOut.{ActorOut};
@@ -71,6 +72,11 @@ impl<D: SyncSource> Actor<D> {
         ensures mailbox { IfOk result (λ made. made.1 ≡ empty_inbox config.mailbox_size) }
         ensures limit { IfOk result (λ made. made.0.max_serve_ops ≡ config.max_serve_ops) }
         ensures works { IfOk result (λ made. made.0.failed ≡ false) }
+
+        // Whatever calls of `step` and of the mailbox follow.
+        ensures laws { IfOk result (λ made. KeepsLaws
+            (setup D.Op.operations D.serves (non_zero_u64_get config.max_serve_ops))
+            made.0.state made.1) }
     {
         let mailbox = Mailbox::new(alloc, config.mailbox_size)?;
         let actor = Actor {
