@@ -19,3 +19,4 @@ pub mod Putting
 pub mod Placing
 pub mod Fetching
 pub mod Laws
+pub mod Current

@@ -8,9 +8,9 @@ use Rattle.stateful_p2p.specs.History.{Entry, Asked, Cancelled, Stepped, outs_of
 use Rattle.stateful_p2p.specs.declared.state.State.{State}
 use Rattle.stateful_p2p.specs.declared.message.Message.{Message}
 use Rattle.stateful_p2p.specs.declared.message.Message.TheVariants.{AttachDatabase, GetOperations}
-use Rattle.stateful_p2p.specs.declared.actor.Task.TheVariants.{Hear, Judge, Leave}
+use Rattle.stateful_p2p.specs.declared.actor.Task.TheVariants.{Hear, Deliver, Judge, Leave}
 use Rattle.stateful_p2p.specs.declared.event.ActorOut.{ActorOut}
-use Rattle.stateful_p2p.specs.declared.event.ActorOut.TheVariants.{Fetch}
+use Rattle.stateful_p2p.specs.declared.event.ActorOut.TheVariants.{Fetch, Candidate}
 
 -- ---- tickets
 
@@ -38,6 +38,32 @@ module _ {D : Type 0} where
   abbrev pub IsTaken : ℕ → Request → Entry D → Type 0
   IsTaken t key (Stepped (Hear (GetOperations u request)) outs) = (u ≡ t) × (request ≡ key)
   IsTaken t key entry = ⊥
+
+  -- the key was fetched for the ticket
+  abbrev pub WasFetched : List (Entry D) → ℕ → Request → Type 0
+  WasFetched entries t key = Once (λ before entry. Contains (outs_of entry) (Fetch t key)) entries
+
+  -- the ticket subscribes to the key: it is live, and the key was fetched for it
+  abbrev pub IsSubscriber : List (Entry D) → Request → ℕ → Type 0
+  IsSubscriber entries key t = IsLive entries t × WasFetched entries t key
+
+  -- ---- candidates
+
+  -- a candidate of the delivery is handed to the ticket
+  abbrev pub Hands : ℕ → ℕ → Entry D → Type 0
+  Hands t d (Stepped (Deliver e key bytes) outs) = (e ≡ d) × Contains outs (Candidate t)
+  Hands t d entry = ⊥
+
+  -- the ticket gives its verdict, it leaves, or it is cancelled
+  abbrev pub Replies : ℕ → Entry D → Type 0
+  Replies t (Cancelled u) = u ≡ t
+  Replies t (Stepped (Judge u valid) outs) = u ≡ t
+  Replies t (Stepped (Leave u) outs) = u ≡ t
+  Replies t entry = ⊥
+
+  -- the ticket has a candidate of the delivery, and hasn't replied to it
+  abbrev pub HasToJudge : List (Entry D) → ℕ → ℕ → Type 0
+  HasToJudge entries t d = Since (Hands t d) (Replies t) entries
 
 abbrev pub is_fetch_of : ℕ → ActorOut → Bool
 is_fetch_of t (Fetch u key) = u == t
