@@ -63,18 +63,18 @@ has_push (u ∷ ts) t x = go (u == x) (has_push ts t x)
 
 -- ---- who is forgotten
 
-none_some : {V : Type 0} (v : V) → None ≡ Some v → ⊥
+pub none_some : {V : Type 0} (v : V) → None ≡ Some v → ⊥
 none_some v e = cc
 
 is_there : {V : Type 0} (found : Option V) (v : V) → found ≡ Some v → is_some found ≡ true
 is_there found v e = ap is_some e
 
-there_is : {V : Type 0} (found : Option V) → is_some found ≡ true → (v : V) × (found ≡ Some v)
+pub there_is : {V : Type 0} (found : Option V) → is_some found ≡ true → (v : V) × (found ≡ Some v)
 there_is None e = absurd cc
 there_is (Some v) e = (v, refl)
 
 -- nothing is at one place any more
-abbrev Clears : {V : Type 0} → ℕ → List (ℕ × V) → List (ℕ × V) → Type 0
+abbrev pub Clears : {V : Type 0} → ℕ → List (ℕ × V) → List (ℕ × V) → Type 0
 Clears t before after = (x : ℕ) → at after x ≡ cond (t == x) None (at before x)
 
 clears_none : {V : Type 0} (t : ℕ) (table : List (ℕ × V)) → at table t ≡ None → Clears t table table

@@ -25,7 +25,7 @@ use Rattle.stateful_p2p.proofs.Putting.{all_retired, all_judged, all_left, all_d
 use Rattle.stateful_p2p.proofs.Placing.{IsPlaced, placed, same_message, same_takes}
 
 -- what is no fetch
-abbrev IsOther : ActorOut → Type 0
+abbrev pub IsOther : ActorOut → Type 0
 IsOther (Fetch t key) = ⊥
 IsOther out = Unit {0}
 
@@ -37,7 +37,7 @@ same_fetch v x k j e = (cc, cc)
 
 module _ {D Op : Type 0} where
   -- a message from which this fetch comes
-  fetched_by : (s : State D) (m : Inbox D Op) (message : Message D) (done : List ActorOut) (next : State D) (outs : List ActorOut) → Hears s m message done next → (t : ℕ) (key : Request) → Contains done (Fetch t key)
+  pub fetched_by : (s : State D) (m : Inbox D Op) (message : Message D) (done : List ActorOut) (next : State D) (outs : List ActorOut) → Hears s m message done next → (t : ℕ) (key : Request) → Contains done (Fetch t key)
       → IsTaken t key (Stepped (tasks.Hear message) outs) × (is_live m.tickets t ≡ true) × (message ≡ GetOperations t key)
   fetched_by s m message done next outs attaches t key there = absurd (in_none (Fetch t key) there)
   fetched_by s m message done next outs (fetches {t = v} {key = k} live) t key there = go (in_cons (Fetch v k) [] (Fetch t key) there)
@@ -48,20 +48,20 @@ module _ {D Op : Type 0} where
   fetched_by s m message done next outs (passes_over dead) t key there = absurd (in_none (Fetch t key) there)
 
   -- a message that asks for a live ticket
-  fetches_it : (s : State D) (m : Inbox D Op) (message : Message D) (done : List ActorOut) (next : State D) → Hears s m message done next → (t : ℕ) (key : Request) → message ≡ GetOperations t key → is_live m.tickets t ≡ true
+  pub fetches_it : (s : State D) (m : Inbox D Op) (message : Message D) (done : List ActorOut) (next : State D) → Hears s m message done next → (t : ℕ) (key : Request) → message ≡ GetOperations t key → is_live m.tickets t ≡ true
       → Contains done (Fetch t key)
   fetches_it s m message done next (attaches {db = db}) t key is live = absurd cc
   fetches_it s m message done next (fetches {t = v} {key = k} alive) t key is live = (0, omega arith, let e : Fetch v k ≡ Fetch t key = cc in e)
   fetches_it s m message done next (passes_over {t = v} {key = k} dead) t key is live =
       absurd (let same : v ≡ t = cc in let e = subst (λ w. is_live m.tickets w ≡ false) same dead in cc)
 
-  taken_message : (m left : Inbox D Op) (t : ℕ) (key : Request) (other : Message D) (outs : List ActorOut) → IsTaken t key (Stepped (tasks.Hear other) outs) → other ≡ GetOperations t key
+  pub taken_message : (m left : Inbox D Op) (t : ℕ) (key : Request) (other : Message D) (outs : List ActorOut) → IsTaken t key (Stepped (tasks.Hear other) outs) → other ≡ GetOperations t key
   taken_message m left t key (AttachDatabase db) outs is = absurd is
   taken_message m left t key (GetOperations v k) outs is = let a = is.0 in let b = is.1 in cc
 
 module _ {D Op : Type 0} (u : Setup D Op) where
   -- of what an event puts out, a fetch is of the request that it took, whose ticket is live
-  fetch_done : (s : State D) (m : Inbox D Op) (event : ActorEvent) (task : Task D) (done : List ActorOut) (next : State D) (left : Inbox D Op) (outs : List ActorOut) → Does u s m event done next left → Takes m left event task
+  pub fetch_done : (s : State D) (m : Inbox D Op) (event : ActorEvent) (task : Task D) (done : List ActorOut) (next : State D) (left : Inbox D Op) (outs : List ActorOut) → Does u s m event done next left → Takes m left event task
       → (t : ℕ) (key : Request) → Contains done (Fetch t key) → IsTaken t key (Stepped task outs) × (is_live m.tickets t ≡ true) × Contains (messages m.queue) (GetOperations t key)
   fetch_done s m event task done next left outs (Does.hears {message = message} hands are h) (Takes.hears {message = other} handed) t key there =
       let by = fetched_by s m message done next outs h t key there in
@@ -83,7 +83,7 @@ module _ {D Op : Type 0} (u : Setup D Op) where
   taken_done s m event task done next left outs (Does.produces h) Takes.produces t key is live = absurd is
 
   -- where it stands among all that the event puts out
-  in_done : (s : State D) (m : Inbox D Op) (event : ActorEvent) (outs : List ActorOut) (next : State D) (left : Inbox D Op) (steps : Steps u s m event outs next left) (P : ActorOut → Type 0)
+  pub in_done : (s : State D) (m : Inbox D Op) (event : ActorEvent) (outs : List ActorOut) (next : State D) (left : Inbox D Op) (steps : Steps u s m event outs next left) (P : ActorOut → Type 0)
       → ((t : ℕ) → P (Forget t)) → ((d : ℕ) (v : Bool) → P (Feedback d v)) → ((d : ℕ) → P (Unjudged d))
       → (x : ActorOut) → (P x → ⊥) → Contains outs x → Contains steps.done x
   in_done s m event outs next left steps P forget feedback unjudged x other there = go (Contains-append_cases (steps.forgotten ++ steps.settled) steps.done x (subst (λ w. Contains w x) steps.outs_are there))

@@ -20,3 +20,4 @@ pub mod Placing
 pub mod Fetching
 pub mod Laws
 pub mod Current
+pub mod Following
