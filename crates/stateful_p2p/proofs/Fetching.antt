@@ -100,7 +100,7 @@ module _ {D Op : Type 0} (u : Setup D Op) where
   fetch_law h s m e next left (Turns.attaches sent_db) here t key there = absurd (in_none (Fetch t key) there)
   fetch_law h s m e next left Turns.cancels here t key there = absurd (in_none (Fetch t key) there)
   fetch_law h s m e next left Turns.polls here t key there = absurd (in_none (Fetch t key) there)
-  fetch_law h s m e next left (Turns.steps {event = event} {task = task} {outs = outs} takes steps) here t key there =
+  fetch_law h s m e next left (Turns.steps {event = event} {task = task} {outs = outs} comes takes steps) here t key there =
       let there' = in_done s m event outs next left steps IsOther (λ t. tt) (λ d v. tt) (λ d. tt) (Fetch t key) (λ never. never) there in
       let by = fetch_done steps.between (record m { cancelled = [] }) event task steps.done next left outs steps.does (same_takes m left event task takes) t key there' in
       (by.0, (here.live t).0 by.1, here.drawn t key by.2)
@@ -111,7 +111,7 @@ module _ {D Op : Type 0} (u : Setup D Op) where
   taken_law h s m e next left (Turns.attaches sent_db) here t key is live = absurd is
   taken_law h s m e next left Turns.cancels here t key is live = absurd is
   taken_law h s m e next left Turns.polls here t key is live = absurd is
-  taken_law h s m e next left (Turns.steps {event = event} {task = task} {outs = outs} takes steps) here t key is live =
+  taken_law h s m e next left (Turns.steps {event = event} {task = task} {outs = outs} comes takes steps) here t key is live =
       let there = taken_done steps.between (record m { cancelled = [] }) event task steps.done next left outs steps.does (same_takes m left event task takes) t key is ((here.live t).1 live) in
       subst (λ w. Contains w (Fetch t key)) (sym steps.outs_are) (Contains-append_right (steps.forgotten ++ steps.settled) steps.done (Fetch t key) there)
 

@@ -14,7 +14,7 @@ use Rattle.stateful_p2p.specs.Table.{at, put, without, put_each}
 use Rattle.stateful_p2p.specs.Tickets.{is_live, is_dropped, ended}
 use Rattle.stateful_p2p.specs.Messages.{is_not_of}
 use Rattle.stateful_p2p.specs.Subscribing.{AreSubscribers, subscribed}
-use Rattle.stateful_p2p.specs.Inbox.{Inbox, Asks, Attaches, cancelled, let_go, taken_out, offered_each, empty_inbox}
+use Rattle.stateful_p2p.specs.Inbox.{Inbox, Asks, Attaches, cancelled as cancelled_inbox, let_go, taken_out, offered, offered_each, empty_inbox}
 use Rattle.stateful_p2p.specs.Fanout.{is_free, Releases, has_none, releases, Forgets, stranger, forgets, Retires, delivered, awaiting, Delivers, unheard, malformed, untaken, taken}
 use Rattle.stateful_p2p.specs.Fanout as fanout
 use Rattle.stateful_p2p.specs.Resolving.{Setup, IsNew, Hears, attaches, fetches, passes_over, Judges, accepts, rejects, Leaves, leaves_unfetched, Produces, sent, Does, Steps}
@@ -32,7 +32,7 @@ use Rattle.stateful_p2p.proofs.Tables.{at-put, at-without}
 use Rattle.stateful_p2p.proofs.Histories.{kept, once_here, once_before, once_split, since_here, since_before, since_split, since_none, once_none}
 use Rattle.stateful_p2p.proofs.Moving.{in_cons, in_none, count_cons, Contains-filter}
 use Rattle.stateful_p2p.proofs.Putting.{count_there, once_counted, all_one, all_retired, all_judged, all_left, all_delivered, all_produced}
-use Rattle.stateful_p2p.proofs.Placing.{IsPlaced, placed, same_message, same_takes}
+use Rattle.stateful_p2p.proofs.Placing.{IsPlaced, placed_first, turn_placed, same_message, same_takes}
 use Rattle.stateful_p2p.proofs.Fetching.{IsOther, fetched_by, fetches_it, fetch_done, in_done, taken_message}
 use Rattle.stateful_p2p.proofs.Current.{has, has_there, there_has, has_push, none_some, there_is, Clears, Held, released_clears, released_same, Gone, forgot_gone, gone_held, IsCurrent, IsTold, heard_current, current_told, Follows, current_more}
 
@@ -121,7 +121,7 @@ module _ {D : Type 0} where
       held_on x d true same e there = absurd (none_some d (sym e ∙ there))
       held_on x d false other e there = ap (λ w. is_some (at w x)) (released_same s t (Some false) settled next rel) ∙ held x d (sym e ∙ there)
 
-  accepted_gone : (s : State D) (t : ℕ) (settled : Option ActorOut) (mid : State D) → Releases s t (Some true) settled mid → Gone t s (record mid { subscriptions = without mid.subscriptions t })
+  pub accepted_gone : (s : State D) (t : ℕ) (settled : Option ActorOut) (mid : State D) → Releases s t (Some true) settled mid → Gone t s (record mid { subscriptions = without mid.subscriptions t })
   accepted_gone s t settled mid rel = record {
     subs = λ x. at-without mid.subscriptions t x ∙ ap (λ w. cond (t == x) None (at w x)) (released_same s t (Some true) settled mid rel);
     unjudged = released_clears s t (Some true) settled mid rel;
@@ -257,14 +257,14 @@ IsUnhanded (Candidate t) = ⊥
 IsUnhanded out = Unit {0}
 
 -- the outputs of the event itself, among all that it puts out
-record Within (outs done : List ActorOut) : Type 0 where
-  fetch_in : (t : ℕ) (key : Request) → Contains outs (Fetch t key) → Contains done (Fetch t key)
-  handed_in : (t : ℕ) → Contains outs (Candidate t) → Contains done (Candidate t)
-  all_out : (x : ActorOut) → Contains done x → Contains outs x
+pub record Within (outs done : List ActorOut) : Type 0 where
+  pub fetch_in : (t : ℕ) (key : Request) → Contains outs (Fetch t key) → Contains done (Fetch t key)
+  pub handed_in : (t : ℕ) → Contains outs (Candidate t) → Contains done (Candidate t)
+  pub all_out : (x : ActorOut) → Contains done x → Contains outs x
 
 module _ {D Op : Type 0} (u : Setup D Op) where
   -- no request of a ticket is on its way that was fetched
-  never_fetched : (h : List (Entry D)) (m : Inbox D Op) (t : ℕ) (key k : Request) → IsPlaced h m → Contains (messages m.queue) (GetOperations t key) → WasFetched h t k → ⊥
+  pub never_fetched : (h : List (Entry D)) (m : Inbox D Op) (t : ℕ) (key k : Request) → IsPlaced h m → Contains (messages m.queue) (GetOperations t key) → WasFetched h t k → ⊥
   never_fetched h m t key k here there was =
       let w = count_there (is_request_of t) (messages m.queue) (GetOperations t key) there (eq-eqb t t refl) in
       let f = once_counted (is_fetch_of t) (Fetch t k) h (eq-eqb t t refl) was in
@@ -301,3 +301,212 @@ module _ {D Op : Type 0} (u : Setup D Op) where
   follows_done h s m event task done next left outs here now (Does.produces {n = n} {key = key} h') Takes.produces within =
       follows_same h s (Stepped (tasks.Produce n key) outs) next (ap (λ (w : State D). w.subscriptions) h'.others) (ap (λ (w : State D). w.unjudged) h'.others) now.held
       (λ x drawn. drawn.1) (λ x never. never) (λ x k there. All-contains IsOther done (Fetch x k) (all_produced IsOther {Op = Op} (λ n bytes. tt) (λ n. tt) u s n key done next h') (within.fetch_in x k there)) (λ x never. never) (λ x d never. never)
+
+-- ---- over a history
+
+module _ {D Op : Type 0} where
+  -- nobody is newly cancelled by an event
+  let_go_cancelled : (m : Inbox D Op) (t : ℕ) → (let_go m t).cancelled ≡ m.cancelled
+  let_go_cancelled m t = go (is_live m.tickets t)
+    where
+      go : (b : Bool) → (let w : Inbox D Op = cond b (record m { tickets = ended m.tickets t; queue = record m.queue { overflow = filter (is_not_of t) m.queue.overflow } }) m in w.cancelled) ≡ m.cancelled
+      go true = refl
+      go false = refl
+
+  offered_cancelled : (m : Inbox D Op) (ts : List ℕ) (r : Response Op) → (offered_each m ts r).cancelled ≡ m.cancelled
+  offered_cancelled m [] r = refl
+  offered_cancelled m (t ∷ ts) r = offered_cancelled (offered m t r) ts r
+
+  delivered_cancelled : (operations : Format Op) (s : State D) (m : Inbox D Op) (d : ℕ) (key : Request) (bytes : List ℕ) (done : List ActorOut) (next : State D) (left : Inbox D Op) → Delivers operations s m d key bytes done next left → left.cancelled ≡ m.cancelled
+  delivered_cancelled operations s m d key bytes done next left (unheard x) = refl
+  delivered_cancelled operations s m d key bytes done next left (malformed x y) = refl
+  delivered_cancelled operations s m d key bytes done next left (untaken x y) = refl
+  delivered_cancelled operations s m d key bytes done next left (taken {takers = takers} {response = response} x y z) = offered_cancelled m takers response
+
+  judged_cancelled : (s : State D) (m : Inbox D Op) (t : ℕ) (valid : Bool) (done : List ActorOut) (next : State D) (left : Inbox D Op) → Judges s m t valid done next left → left.cancelled ≡ m.cancelled
+  judged_cancelled s m t valid done next left (accepts rel) = refl
+  judged_cancelled s m t valid done next left (rejects rel) = refl
+
+  left_cancelled : (s : State D) (m : Inbox D Op) (t : ℕ) (done : List ActorOut) (next : State D) (left : Inbox D Op) → Leaves s m t done next left → left.cancelled ≡ m.cancelled
+  left_cancelled s m t done next left (Leaves.leaves f) = let_go_cancelled m t
+  left_cancelled s m t done next left (leaves_unfetched f) = let_go_cancelled m t
+
+  module _ (u : Setup D Op) where
+    does_cancelled : (s : State D) (m : Inbox D Op) (event : ActorEvent) (done : List ActorOut) (next : State D) (left : Inbox D Op) → Does u s m event done next left → left.cancelled ≡ m.cancelled
+    does_cancelled s m event done next left (Does.hears hands are h) = ap (λ (w : Inbox D Op). w.cancelled) are
+    does_cancelled s m event done next left (Does.delivers {d = d} {key = key} {bytes = bytes} h) = delivered_cancelled u.operations s m d key bytes done next left h
+    does_cancelled s m event done next left (Does.judges {t = t} {valid = valid} h) = judged_cancelled s m t valid done next left h
+    does_cancelled s m event done next left (Does.leaves {t = t} h) = left_cancelled s m t done next left h
+    does_cancelled s m event done next left (Does.produces h) = refl
+
+    -- what the event itself puts out, among all
+    pub within : (s : State D) (m : Inbox D Op) (event : ActorEvent) (outs : List ActorOut) (next : State D) (left : Inbox D Op) (steps : Steps u s m event outs next left) → Within outs steps.done
+    within s m event outs next left steps = record {
+      fetch_in = λ t key there. in_done u s m event outs next left steps IsOther (λ t. tt) (λ d v. tt) (λ d. tt) (Fetch t key) (λ never. never) there;
+      handed_in = λ t there. in_done u s m event outs next left steps IsUnhanded (λ t. tt) (λ d v. tt) (λ d. tt) (Candidate t) (λ never. never) there;
+      all_out = λ x there. subst (λ w. Contains w x) (sym steps.outs_are) (Contains-append_right (steps.forgotten ++ steps.settled) steps.done x there);
+    }
+
+    -- the tables once the cancels were heard of
+    pub between_current : (h : List (Entry D)) (s : State D) (m : Inbox D Op) (event : ActorEvent) (outs : List ActorOut) (next : State D) (left : Inbox D Op) (steps : Steps u s m event outs next left) → IsTold h s m.cancelled → IsCurrent h steps.between
+    between_current h s m event outs next left steps told =
+        heard_current h s m.cancelled steps.gone steps.forgotten steps.settled steps.between told (λ x. sym (list_any-IsPermutation (λ t. t == x) m.cancelled steps.gone steps.all)) steps.retires
+
+    -- the mailbox, in which no cancel is left to be heard of
+    pub placed_same : (h : List (Entry D)) (m : Inbox D Op) → IsPlaced h m → IsPlaced h (record m { cancelled = [] })
+    placed_same h m here = record { fresh = here.fresh; idle = here.idle; few = here.few; all = here.all; live = here.live; drawn = here.drawn }
+
+    pub stepped_current : (h : List (Entry D)) (s : State D) (m : Inbox D Op) (event : ActorEvent) (task : Task D) (outs : List ActorOut) (next : State D) (left : Inbox D Op) → IsPlaced h m → IsTold h s m.cancelled → Takes m left event task → Steps u s m event outs next left
+        → IsCurrent (h ++ Stepped task outs ∷ []) next × (left.cancelled ≡ [])
+    stepped_current h s m event task outs next left here told takes steps =
+        let m0 : Inbox D Op = record m { cancelled = [] } in
+        let now = between_current h s m event outs next left steps told in
+        (current_more h steps.between (Stepped task outs) next now
+        (follows_done u h steps.between m0 event task steps.done next left outs (placed_same h m here) now steps.does (same_takes m left event task takes) (within s m event outs next left steps)),
+        does_cancelled steps.between m0 event steps.done next left steps.does)
+
+    asked_told : (h : List (Entry D)) (s : State D) (m : Inbox D Op) (t : ℕ) (key : Request) (feedback : Reply) (left : Inbox D Op) → IsPlaced h m → Asks m key feedback t left → IsTold h s m.cancelled → IsTold (h ++ Asked t key ∷ []) s left.cancelled
+    asked_told h s m t key feedback left here asks told =
+        subst (λ w. IsTold (h ++ Asked t key ∷ []) s w) (sym (ap (λ (w : Inbox D Op). w.cancelled) asks.others))
+        (record {
+          held = told.held;
+          subs = λ x k. (λ both. forth x k ((told.subs x k).0 both), λ is. (told.subs x k).1 (back x k (since_split h e (IsDrawn x) (Ends x) is.0) (once_split h e (λ before entry. Contains (outs_of entry) (Fetch x k)) is.1)));
+          unjudged = λ x d. (λ both. since_before h e (Hands x d) (Replies x) ((told.unjudged x d).0 both) (λ never. never), λ is. (told.unjudged x d).1 (had x d (since_split h e (Hands x d) (Replies x) is)));
+        })
+      where
+        e : Entry D
+        e = Asked t key
+
+        forth : (x : ℕ) (k : Request) → IsSubscriber h k x → IsSubscriber (h ++ Asked t key ∷ []) k x
+        forth x k was = (since_before h (Asked t key) (IsDrawn x) (Ends x) was.0 (λ never. never), once_before h (Asked t key) (λ before entry. Contains (outs_of entry) (Fetch x k)) was.1)
+
+        back : (x : ℕ) (k : Request) → IsDrawn {D = D} x (Asked t key) ⊎ (Since (IsDrawn x) (Ends x) h × (⊥ → ⊥)) → WasFetched h x k ⊎ Contains [] (Fetch x k) → IsSubscriber h k x
+        back x k live (inr c) = absurd (in_none (Fetch x k) c)
+        back x k (inl drawn) (inl was) =
+            absurd (let f = once_counted (is_fetch_of x) (Fetch x k) h (eq-eqb x x refl) was in let i = here.idle x (let a = asks.drawn in let b = drawn.1.0 in omega arith) in omega arith)
+        back x k (inr live) (inl was) = (live.0, was)
+
+        had : (x d : ℕ) → ⊥ ⊎ (Since (Hands x d) (Replies x) h × (⊥ → ⊥)) → HasToJudge h x d
+        had x d (inl never) = absurd never
+        had x d (inr was) = was.0
+
+    -- an entry that changes nothing of it
+    idle_told : (h : List (Entry D)) (s : State D) (gone : List ℕ) (e : Entry D) → ((t : ℕ) → IsDrawn t e → ⊥) → ((t : ℕ) → Ends t e → ⊥) → ((t : ℕ) (key : Request) → Contains (outs_of e) (Fetch t key) → ⊥) → ((t : ℕ) → Replies t e → ⊥) → ((t d : ℕ) → Hands t d e → ⊥)
+        → IsTold h s gone → IsTold (h ++ e ∷ []) s gone
+    idle_told h s gone e undrawn unended unfetched unreplied unhanded told = record {
+      held = told.held;
+      subs = λ x k. (λ both. forth x k ((told.subs x k).0 both), λ is. (told.subs x k).1 (back x k (since_split h e (IsDrawn x) (Ends x) is.0) (once_split h e (λ before entry. Contains (outs_of entry) (Fetch x k)) is.1)));
+      unjudged = λ x d. (λ both. since_before h e (Hands x d) (Replies x) ((told.unjudged x d).0 both) (unreplied x), λ is. (told.unjudged x d).1 (had x d (since_split h e (Hands x d) (Replies x) is)));
+    }
+      where
+        forth : (x : ℕ) (k : Request) → IsSubscriber h k x → IsSubscriber (h ++ e ∷ []) k x
+        forth x k was = (since_before h e (IsDrawn x) (Ends x) was.0 (unended x), once_before h e (λ before entry. Contains (outs_of entry) (Fetch x k)) was.1)
+
+        back : (x : ℕ) (k : Request) → IsDrawn x e ⊎ (Since (IsDrawn x) (Ends x) h × (Ends x e → ⊥)) → WasFetched h x k ⊎ Contains (outs_of e) (Fetch x k) → IsSubscriber h k x
+        back x k live (inr c) = absurd (unfetched x k c)
+        back x k (inl drawn) (inl was) = absurd (undrawn x drawn)
+        back x k (inr live) (inl was) = (live.0, was)
+
+        had : (x d : ℕ) → Hands x d e ⊎ (Since (Hands x d) (Replies x) h × (Replies x e → ⊥)) → HasToJudge h x d
+        had x d (inl here) = absurd (unhanded x d here)
+        had x d (inr was) = was.0
+
+    -- who has to judge something is live
+    judging_live : (h : List (Entry D)) (s : State D) (gone : List ℕ) (t d : ℕ) → IsTold h s gone → HasToJudge h t d → IsLive h t
+    judging_live h s gone t d told has_to =
+        let both = (told.unjudged t d).1 has_to in
+        let sub = there_is (at s.subscriptions t) (told.held t d both.0) in
+        ((told.subs t sub.0).0 (sub.1, both.1)).0
+
+    cancelled_told : (h : List (Entry D)) (s : State D) (m : Inbox D Op) (t : ℕ) → IsPlaced h m → IsTold h s m.cancelled → IsTold (h ++ Cancelled t ∷ []) s (cancelled_inbox m t).cancelled
+    cancelled_told h s m t here told = go (is_live m.tickets t) refl
+      where
+        e : Entry D
+        e = Cancelled t
+
+        -- who isn't the ticket is what it was
+        make : (gone : List ℕ) → ((x : ℕ) → (IsLive h x) → (has gone x ≡ false) ↔ ((has m.cancelled x ≡ false) × (t ≡ x → ⊥))) → ((x : ℕ) → has gone x ≡ false → (has m.cancelled x ≡ false)) → IsTold (h ++ Cancelled t ∷ []) s gone
+        make gone same weaker = record {
+          held = told.held;
+          subs = λ x k. (λ both. forth x k both ((told.subs x k).0 (both.0, weaker x both.1)), λ is. back x k (since_split h (Cancelled t) (IsDrawn x) (Ends x) is.0) (once_split h (Cancelled t) (λ before entry. Contains (outs_of entry) (Fetch x k)) is.1));
+          unjudged = λ x d. (λ both. on x d both ((told.unjudged x d).0 (both.0, weaker x both.1)), λ is. had x d (since_split h (Cancelled t) (Hands x d) (Replies x) is));
+        }
+          where
+            forth : (x : ℕ) (k : Request) → (at s.subscriptions x ≡ Some k) × (has gone x ≡ false) → IsSubscriber h k x → IsSubscriber (h ++ Cancelled t ∷ []) k x
+            forth x k both was = (since_before h (Cancelled t) (IsDrawn x) (Ends x) was.0 ((same x was.0).0 both.1).1, once_before h (Cancelled t) (λ before entry. Contains (outs_of entry) (Fetch x k)) was.1)
+
+            back : (x : ℕ) (k : Request) → IsDrawn {D = D} x (Cancelled t) ⊎ (Since (IsDrawn x) (Ends x) h × (t ≡ x → ⊥)) → WasFetched h x k ⊎ Contains [] (Fetch x k) → (at s.subscriptions x ≡ Some k) × (has gone x ≡ false)
+            back x k live (inr c) = absurd (in_none (Fetch x k) c)
+            back x k (inl drawn) (inl was) = absurd drawn.1
+            back x k (inr live) (inl was) = let both = (told.subs x k).1 (live.0, was) in (both.0, (same x live.0).1 (both.1, live.1))
+
+            on : (x d : ℕ) → (at s.unjudged x ≡ Some d) × (has gone x ≡ false) → HasToJudge h x d → HasToJudge (h ++ Cancelled t ∷ []) x d
+            on x d both was = since_before h (Cancelled t) (Hands x d) (Replies x) was ((same x (judging_live h s m.cancelled x d told was)).0 both.1).1
+
+            had : (x d : ℕ) → ⊥ ⊎ (Since (Hands x d) (Replies x) h × (t ≡ x → ⊥)) → (at s.unjudged x ≡ Some d) × (has gone x ≡ false)
+            had x d (inl never) = absurd never
+            had x d (inr was) = let both = (told.unjudged x d).1 was.0 in (both.0, (same x (judging_live h s m.cancelled x d told was.0)).1 (both.1, was.1))
+
+        or_false : (a b : Bool) → (a || b) ≡ false → (a ≡ false) × (b ≡ false)
+        or_false true b is = let no : ⊥ = cc in absurd no
+        or_false false b is = (refl, is)
+
+        false_or : (a b : Bool) → a ≡ false → b ≡ false → (a || b) ≡ false
+        false_or true b one two = one
+        false_or false b one two = two
+
+        more : (x : ℕ) → (has (m.cancelled ++ t ∷ []) x ≡ false) ↔ ((has m.cancelled x ≡ false) × (t ≡ x → ⊥))
+        more x = (
+          λ is. let both = or_false (has m.cancelled x) (t == x) (sym (has_push m.cancelled t x) ∙ is) in (both.0, λ same. eqb-false t x both.1 same),
+          λ both. has_push m.cancelled t x ∙ false_or (has m.cancelled x) (t == x) both.0 (not_same (t == x) refl both.1)
+        )
+          where
+            not_same : (b : Bool) → (t == x) ≡ b → (t ≡ x → ⊥) → b ≡ false
+            not_same true same apart = absurd (apart (eqb-true t x same))
+            not_same false other apart = refl
+
+        go : (b : Bool) → is_live m.tickets t ≡ b
+            → IsTold (h ++ Cancelled t ∷ []) s (let w : Inbox D Op = cond b (record (cond b (record m { tickets = ended m.tickets t; queue = record m.queue { overflow = filter (is_not_of t) m.queue.overflow } }) m) { cancelled = m.cancelled ++ t ∷ [] }) m in w.cancelled)
+        go true live = make (m.cancelled ++ t ∷ []) (λ x alive. more x) (λ x is. ((more x).0 is).0)
+        go false dead = make m.cancelled (λ x alive. (λ is. (is, λ (same : t ≡ x). let l = (here.live x).1 alive in let l' = subst (λ w. is_live m.tickets w ≡ false) same dead in let no : ⊥ = cc in no), λ both. both.0)) (λ x is. is)
+
+    polled_cancelled : (m : Inbox D Op) (t : ℕ) → (taken_out m t).cancelled ≡ m.cancelled
+    polled_cancelled m t = go (is_dropped m.tickets t)
+      where
+        go : (b : Bool) → (let w : Inbox D Op = cond b m (record m { candidates = without m.candidates t }) in w.cancelled) ≡ m.cancelled
+        go true = refl
+        go false = refl
+
+    -- what the tables tell, with where the requests are
+    pub record IsKnown (h : List (Entry D)) (s : State D) (m : Inbox D Op) : Type 0 where
+      pub placed : IsPlaced h m
+      pub told : IsTold h s m.cancelled
+
+    turn_told : (h : List (Entry D)) (s : State D) (m : Inbox D Op) (e : Entry D) (next : State D) (left : Inbox D Op) → Turns u s m e next left → IsPlaced h m → IsTold h s m.cancelled → IsTold (h ++ e ∷ []) next left.cancelled
+    turn_told h s m e next left (Turns.asks {t = t} {key = key} {feedback = feedback} asks) here told = asked_told h s m t key feedback left here asks told
+    turn_told h s m e next left (Turns.attaches {db = db} sent_db) here told =
+        subst (λ w. IsTold (h ++ e ∷ []) s w) (sym (ap (λ (w : Inbox D Op). w.cancelled) sent_db.others))
+        (idle_told h s m.cancelled e (λ t drawn. drawn.1) (λ t never. never) (λ t key there. in_none (Fetch t key) there) (λ t never. never) (λ t d never. never) told)
+    turn_told h s m e next left (Turns.cancels {t = t}) here told = cancelled_told h s m t here told
+    turn_told h s m e next left (Turns.polls {t = t}) here told =
+        subst (λ w. IsTold (h ++ e ∷ []) s w) (sym (polled_cancelled m t))
+        (idle_told h s m.cancelled e (λ t drawn. drawn.1) (λ t never. never) (λ t key there. in_none (Fetch t key) there) (λ t never. never) (λ t d never. never) told)
+    turn_told h s m e next left (Turns.steps {event = event} {task = task} {outs = outs} comes takes steps) here told =
+        let now = stepped_current h s m event task outs next left here told takes steps in
+        subst (λ w. IsTold (h ++ e ∷ []) next w) (sym now.1) (current_told (h ++ e ∷ []) next now.0)
+
+    turn_known : (h : List (Entry D)) (s : State D) (m : Inbox D Op) (e : Entry D) (next : State D) (left : Inbox D Op) → Turns u s m e next left → IsKnown h s m → IsKnown (h ++ e ∷ []) next left
+    turn_known h s m e next left turn known = record { placed = turn_placed u h s m e next left turn known.placed; told = turn_told h s m e next left turn known.placed known.told }
+
+    known_first : (first : State D) (capacity : ℕ) → IsNew first → IsKnown [] first (empty_inbox capacity)
+    known_first first capacity new = record {
+      placed = placed_first u capacity;
+      told = record {
+        held = λ t d there. absurd (none_some d (sym (ap (λ w. at w t) new.nothing) ∙ there));
+        subs = λ t key. (λ both. absurd (none_some key (sym (ap (λ w. at w t) new.nobody) ∙ both.0)), λ is. absurd (once_none (λ before entry. Contains (outs_of entry) (Fetch t key)) is.1));
+        unjudged = λ t d. (λ both. absurd (none_some d (sym (ap (λ w. at w t) new.nothing) ∙ both.0)), λ is. absurd (since_none (Hands t d) (Replies t) is));
+      };
+    }
+
+    pub known : {first : State D} (capacity : ℕ) → IsNew first → (h : List (Entry D)) (s : State D) (m : Inbox D Op) → Runs u first (empty_inbox capacity) h s m → IsKnown h s m
+    known {first} capacity new = kept u (λ h s m. IsKnown h s m) (known_first first capacity new) turn_known

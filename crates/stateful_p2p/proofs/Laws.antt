@@ -7,7 +7,7 @@ use Rattle.stateful_p2p.specs.declared.state.State.{State}
 use Rattle.stateful_p2p.proofs.Placing.{placed}
 use Rattle.stateful_p2p.proofs.Fetching.{fetches_law, takes_law}
 
-use Rattle.stateful_p2p.proofs.Following.{at_each}
+use Rattle.stateful_p2p.proofs.Forgetting.{sorted_cons}
 
 module _ {D Op : Type 0} (u : Setup D Op) where
   pub KeepsLaws-new : (first : State D) (box : Inbox D Op) (capacity : ℕ) → IsNew first → box ≡ empty_inbox capacity → KeepsLaws u first box

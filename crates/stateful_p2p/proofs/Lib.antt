@@ -21,3 +21,4 @@ pub mod Fetching
 pub mod Laws
 pub mod Current
 pub mod Following
+pub mod Forgetting

@@ -389,12 +389,12 @@ module _ {D Op : Type 0} where
       tickets = ap (λ (w : Inbox D Op). w.tickets) sent_db.others
 
 module _ {D Op : Type 0} (u : Setup D Op) where
-  turn_placed : (h : List (Entry D)) (s : State D) (m : Inbox D Op) (e : Entry D) (next : State D) (left : Inbox D Op) → Turns u s m e next left → IsPlaced h m → IsPlaced (h ++ e ∷ []) left
+  pub turn_placed : (h : List (Entry D)) (s : State D) (m : Inbox D Op) (e : Entry D) (next : State D) (left : Inbox D Op) → Turns u s m e next left → IsPlaced h m → IsPlaced (h ++ e ∷ []) left
   turn_placed h s m e next left (Turns.asks {t = t} {key = key} {feedback = feedback} asks) here = asked_placed h m t key feedback left asks here
   turn_placed h s m e next left (Turns.attaches {db = db} {feedback = feedback} sent_db) here = moved h m left e (λ t draw. draw.1) (attached_moves m db feedback left sent_db) here
   turn_placed h s m e next left (Turns.cancels {t = t}) here = moved h m left e (λ t draw. draw.1) (cancels_moves m t) here
   turn_placed h s m e next left (Turns.polls {t = t}) here = moved h m left e (λ t draw. draw.1) (polled_moves m t) here
-  turn_placed h s m e next left (Turns.steps {event = event} {task = task} {outs = outs} takes steps) here = moved h m left e (λ t draw. draw.1) (step_moves u s m event task outs next left steps takes) here
+  turn_placed h s m e next left (Turns.steps {event = event} {task = task} {outs = outs} comes takes steps) here = moved h m left e (λ t draw. draw.1) (step_moves u s m event task outs next left steps takes) here
 
   -- an empty mailbox
   pub placed_first : (capacity : ℕ) → IsPlaced {D = D} [] (empty_inbox {D = D} {Op = Op} capacity)

@@ -1,10 +1,10 @@
 -- What is seen of a resolver and its mailbox, and what can be said of it.
-use Rattle.std.specs.Prelude.{◌≡◌, ℕ, ◌≤◌, ◌↔◌, Bool, false, Option, Some, None, Result, Err, List, [], ◌∷◌, ◌++◌, Contains, count_by, sum_by, All}
+use Rattle.std.specs.Prelude.{◌≡◌, ℕ, Bool, true, Some, List, [], ◌∷◌, ◌++◌, Contains, count_by, sum_by, All}
 use Rattle.stateful_types.specs.Mailbox.{HandsOut}
 use Rattle.stateful_types.specs.declared.mailbox.Feedback.{Feedback}
 use Rattle.stateful_types.specs.declared.request.Request.{Request}
 use Rattle.stateful_p2p.specs.Inbox.{Inbox, Asks, Attaches, cancelled, taken_out}
-use Rattle.stateful_p2p.specs.Resolving.{Setup, Steps}
+use Rattle.stateful_p2p.specs.Resolving.{Setup, may_come, Steps}
 use Rattle.stateful_p2p.specs.declared.message.Message.{Message}
 use Rattle.stateful_p2p.specs.declared.state.State.{State}
 use Rattle.stateful_p2p.specs.declared.actor.Task.{Task}
@@ -68,6 +68,7 @@ module _ {D Op : Type 0} where
       cancels : {t : ℕ} → Turns s m (Cancelled t) s (cancelled m t)
       polls : {t : ℕ} → Turns s m (Polled t) s (taken_out m t)
       steps : {event : ActorEvent} {task : Task D} {outs : List ActorOut} {next : State D} {left : Inbox D Op}
+          → may_come s m event ≡ true
           → Takes m left event task
           → Steps u s m event outs next left
           → Turns s m (Stepped task outs) next left

@@ -1,16 +1,22 @@
 -- What holds of a resolver whatever is done to it and to its mailbox, said of what is seen of both.
-use Rattle.std.specs.Prelude.{◌≡◌, ℕ, ◌+◌, ◌≤◌, ◌==◌, Bool, true, false, List, [], ◌∷◌, ◌++◌, Contains, count_by}
+use Rattle.std.specs.Prelude.{◌≡◌, ◌≢◌, ◌↔◌, ℕ, ◌+◌, ◌≤◌, ◌==◌, Bool, true, false, Option, List, [], ◌∷◌, ◌++◌, map, All, Contains, count_by, option_to_list}
+use Rattle.std.specs.Ordering.{nat_cmp}
+use Rattle.std.specs.List.Sorted.{IsStrictlySortedBy}
+use Rattle.stateful_types.specs.Format.{Format}
 use Rattle.stateful_types.specs.Mailbox.{messages}
 use Rattle.stateful_types.specs.declared.request.Request.{Request}
+use Rattle.stateful_types.specs.declared.response.Response.{Response}
 use Rattle.stateful_p2p.specs.Inbox.{Inbox}
+use Rattle.stateful_p2p.specs.Reading.{IsResponse}
 use Rattle.stateful_p2p.specs.Resolving.{Setup}
 use Rattle.stateful_p2p.specs.History.{Entry, Asked, Cancelled, Stepped, outs_of, count_outs, Once, Always, Since, Runs}
 use Rattle.stateful_p2p.specs.declared.state.State.{State}
 use Rattle.stateful_p2p.specs.declared.message.Message.{Message}
 use Rattle.stateful_p2p.specs.declared.message.Message.TheVariants.{AttachDatabase, GetOperations}
-use Rattle.stateful_p2p.specs.declared.actor.Task.TheVariants.{Hear, Deliver, Judge, Leave}
+use Rattle.stateful_p2p.specs.declared.actor.Task.{Task}
+use Rattle.stateful_p2p.specs.declared.actor.Task.TheVariants.{Hear, Deliver, Judge, Leave, Produce}
 use Rattle.stateful_p2p.specs.declared.event.ActorOut.{ActorOut}
-use Rattle.stateful_p2p.specs.declared.event.ActorOut.TheVariants.{Fetch, Candidate}
+use Rattle.stateful_p2p.specs.declared.event.ActorOut.TheVariants.{Fetch, Forget, Candidate, Feedback, Unjudged, Served, Unserved}
 
 -- ---- tickets
 
@@ -65,6 +71,21 @@ module _ {D : Type 0} where
   abbrev pub HasToJudge : List (Entry D) → ℕ → ℕ → Type 0
   HasToJudge entries t d = Since (Hands t d) (Replies t) entries
 
+  -- a subscriber that has nothing to judge
+  abbrev pub IsFree : List (Entry D) → Request → ℕ → Type 0
+  IsFree entries key t = IsSubscriber entries key t × ((d : ℕ) → HasToJudge entries t d → ⊥)
+
+-- the tickets of which it holds, ascending
+pub record AreThose (P : ℕ → Type 0) (tickets : List ℕ) : Type 0 where
+  pub ascending : IsStrictlySortedBy nat_cmp tickets
+  pub members : (t : ℕ) → Contains tickets t ↔ P t
+
+-- an answer to a delivery
+abbrev pub IsAnswer : ActorOut → Type 0
+IsAnswer (Feedback d valid) = Unit {0}
+IsAnswer (Unjudged d) = Unit {0}
+IsAnswer out = ⊥
+
 abbrev pub is_fetch_of : ℕ → ActorOut → Bool
 is_fetch_of t (Fetch u key) = u == t
 is_fetch_of t out = false
@@ -77,11 +98,88 @@ is_request_of t (GetOperations u request) = u == t
 abbrev pub waiting : {D Op : Type 0} → ℕ → Inbox D Op → ℕ
 waiting t m = count_by (is_request_of t) (messages m.queue)
 
+abbrev pub is_forget_of : ℕ → ActorOut → Bool
+is_forget_of t (Forget u) = u == t
+is_forget_of t out = false
+
+-- ---- what an event puts out, by what came before
+
+module _ {D Op : Type 0} (operations : Format Op) (before : List (Entry D)) where
+  -- A delivery. Without a subscriber it stays unjudged. It is bad exactly where its bytes aren't a response to its key. Else
+  -- each subscriber that has nothing to judge takes it, in ascending order, and where none does, it stays unjudged.
+  pub data Spreads (d : ℕ) (key : Request) (bytes : List ℕ) : List ActorOut → Type 0 where
+    unheard : ((t : ℕ) → IsSubscriber before key t → ⊥) → Spreads d key bytes (Unjudged d ∷ [])
+    malformed : {t : ℕ}
+        → IsSubscriber before key t
+        → ((response : Response Op) → IsResponse operations key bytes response → ⊥)
+        → Spreads d key bytes (Feedback d false ∷ [])
+    untaken : {t : ℕ} {response : Response Op}
+        → IsSubscriber before key t
+        → IsResponse operations key bytes response
+        → ((u : ℕ) → IsFree before key u → ⊥)
+        → Spreads d key bytes (Unjudged d ∷ [])
+    taken : {takers : List ℕ} {response : Response Op}
+        → IsResponse operations key bytes response
+        → AreThose (IsFree before key) takers
+        → takers ≢ []
+        → Spreads d key bytes (map (λ t. Candidate t) takers)
+
+  -- what an event puts out of its own
+  pub data Puts : Task D → List ActorOut → Type 0 where
+    attaches : {db : D} → Puts (Hear (AttachDatabase db)) []
+    fetches : {t : ℕ} {key : Request}
+        → IsLive before t
+        → Puts (Hear (GetOperations t key)) (Fetch t key ∷ [])
+    passes_over : {t : ℕ} {key : Request}
+        → (IsLive before t → ⊥)
+        → Puts (Hear (GetOperations t key)) []
+    spreads : {d : ℕ} {key : Request} {bytes : List ℕ} {outs : List ActorOut}
+        → Spreads d key bytes outs
+        → Puts (Deliver d key bytes) outs
+    accepts : {t : ℕ} (answer : Option ActorOut)
+        → All IsAnswer (option_to_list answer)
+        → Puts (Judge t true) (Forget t ∷ option_to_list answer)
+    rejects : {t : ℕ} (answer : Option ActorOut)
+        → All IsAnswer (option_to_list answer)
+        → Puts (Judge t false) (option_to_list answer)
+    leaves : {t : ℕ} {key : Request} (answer : Option ActorOut)
+        → WasFetched before t key
+        → All IsAnswer (option_to_list answer)
+        → Puts (Leave t) (Forget t ∷ option_to_list answer)
+    leaves_unfetched : {t : ℕ}
+        → ((key : Request) → WasFetched before t key → ⊥)
+        → Puts (Leave t) []
+    serves : {n : ℕ} {key : Request} (bytes : List ℕ) → Puts (Produce n key) (Served n bytes ∷ [])
+    serves_nothing : {n : ℕ} {key : Request} → Puts (Produce n key) (Unserved n ∷ [])
+
+  -- who was fetched for, is live no more, and wasn't forgotten yet
+  abbrev pub IsLeft : ℕ → Type 0
+  IsLeft t = ((key : Request) × WasFetched before t key)
+      × (IsLive before t → ⊥)
+      × (count_outs (is_forget_of t) before ≡ 0)
+
+  -- all that it puts out: those who were cancelled are forgotten first, in ascending order, then come answers to the
+  -- deliveries that this settles, and then what is its own
+  pub record Tells (task : Task D) (outs : List ActorOut) : Type 0 where
+    pub gone : List ℕ
+    pub are : AreThose IsLeft gone
+    pub settled : List ActorOut
+    pub answers : All IsAnswer settled
+    pub own : List ActorOut
+    pub puts : Puts task own
+    pub outs_are : outs ≡ map (λ t. Forget t) gone ++ settled ++ own
+
+  abbrev pub TellsAt : Entry D → Type 0
+  TellsAt (Stepped task outs) = Tells task outs
+  TellsAt entry = Unit {0}
+
 -- ---- the laws
 
-module _ {D Op : Type 0} where
+module _ {D Op : Type 0} (operations : Format Op) where
   -- Whatever was done since the resolver and its mailbox were made:
   pub record Lawful (entries : List (Entry D)) (m : Inbox D Op) : Type 0 where
+    -- each event puts out what the entries before it tell
+    pub tells : Always (TellsAt operations) entries
     -- a key is fetched where the request for it is taken, and its ticket is live
     pub fetches : Always (λ before entry. (t : ℕ) (key : Request)
         → Contains (outs_of entry) (Fetch t key)
@@ -96,8 +194,8 @@ module _ {D Op : Type 0} where
         → IsLive entries t
         → waiting t m + count_outs (is_fetch_of t) entries ≡ 1
 
-  module _ (u : Setup D Op) where
-    abbrev pub KeepsLaws : State D → Inbox D Op → Type 0
-    KeepsLaws first box = (entries : List (Entry D)) (s : State D) (m : Inbox D Op)
-        → Runs u first box entries s m
-        → Lawful entries m
+module _ {D Op : Type 0} (u : Setup D Op) where
+  abbrev pub KeepsLaws : State D → Inbox D Op → Type 0
+  KeepsLaws first box = (entries : List (Entry D)) (s : State D) (m : Inbox D Op)
+      → Runs u first box entries s m
+      → Lawful u.operations entries m
