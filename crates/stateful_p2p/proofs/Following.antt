@@ -482,7 +482,7 @@ module _ {D Op : Type 0} where
       pub placed : IsPlaced h m
       pub told : IsTold h s m.cancelled
 
-    turn_told : (h : List (Entry D)) (s : State D) (m : Inbox D Op) (e : Entry D) (next : State D) (left : Inbox D Op) → Turns u s m e next left → IsPlaced h m → IsTold h s m.cancelled → IsTold (h ++ e ∷ []) next left.cancelled
+    pub turn_told : (h : List (Entry D)) (s : State D) (m : Inbox D Op) (e : Entry D) (next : State D) (left : Inbox D Op) → Turns u s m e next left → IsPlaced h m → IsTold h s m.cancelled → IsTold (h ++ e ∷ []) next left.cancelled
     turn_told h s m e next left (Turns.asks {t = t} {key = key} {feedback = feedback} asks) here told = asked_told h s m t key feedback left here asks told
     turn_told h s m e next left (Turns.attaches {db = db} sent_db) here told =
         subst (λ w. IsTold (h ++ e ∷ []) s w) (sym (ap (λ (w : Inbox D Op). w.cancelled) sent_db.others))
@@ -498,7 +498,7 @@ module _ {D Op : Type 0} where
     turn_known : (h : List (Entry D)) (s : State D) (m : Inbox D Op) (e : Entry D) (next : State D) (left : Inbox D Op) → Turns u s m e next left → IsKnown h s m → IsKnown (h ++ e ∷ []) next left
     turn_known h s m e next left turn known = record { placed = turn_placed u h s m e next left turn known.placed; told = turn_told h s m e next left turn known.placed known.told }
 
-    known_first : (first : State D) (capacity : ℕ) → IsNew first → IsKnown [] first (empty_inbox capacity)
+    pub known_first : (first : State D) (capacity : ℕ) → IsNew first → IsKnown [] first (empty_inbox capacity)
     known_first first capacity new = record {
       placed = placed_first u capacity;
       told = record {

@@ -331,7 +331,7 @@ module _ {D Op : Type 0} (u : Setup D Op) where
   pub cancelled_dead : (h : List (Entry D)) (s : State D) (m : Inbox D Op) (t : ℕ) → IsPlaced h m → IsTold h s m.cancelled → IsBalanced h s → subscribes s t ≡ true → has m.cancelled t ≡ true → IsLive h t → ⊥
   cancelled_dead h s m t here told balanced sub gone live = let e = subscribed_on h s m t here told balanced sub ((here.live t).1 live) in let never : ⊥ = cc in never
 
-  same_gone : (m : Inbox D Op) (gone : List ℕ) → IsPermutation m.cancelled gone → (x : ℕ) → has gone x ≡ has m.cancelled x
+  pub same_gone : (m : Inbox D Op) (gone : List ℕ) → IsPermutation m.cancelled gone → (x : ℕ) → has gone x ≡ has m.cancelled x
   same_gone m gone all x = sym (list_any-IsPermutation (λ t. t == x) m.cancelled gone all)
 
   and_left : (a b : Bool) → (a && b) ≡ true → a ≡ true

@@ -22,3 +22,4 @@ pub mod Laws
 pub mod Current
 pub mod Following
 pub mod Forgetting
+pub mod Telling
