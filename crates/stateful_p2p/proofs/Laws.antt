@@ -14,6 +14,7 @@ use Rattle.stateful_p2p.proofs.Current.{IsTold}
 use Rattle.stateful_p2p.proofs.Following.{known_first, turn_told}
 use Rattle.stateful_p2p.proofs.Forgetting.{IsBalanced, turn_balanced}
 use Rattle.stateful_p2p.proofs.Telling.{tells_law}
+use Rattle.stateful_p2p.proofs.Numbering.{turn_answered}
 
 module _ {D Op : Type 0} (u : Setup D Op) where
   -- what each entry keeps

@@ -23,3 +23,5 @@ pub mod Current
 pub mod Following
 pub mod Forgetting
 pub mod Telling
+pub mod Settling
+pub mod Numbering

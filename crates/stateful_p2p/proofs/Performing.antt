@@ -17,11 +17,11 @@ use Rattle.stateful_p2p.specs.declared.event.ActorEvent.TheVariants as events
 use Rattle.stateful_p2p.specs.declared.event.ActorOut.{ActorOut}
 
 module _ {D : Type 0} where
-  released_number : (s : State D) (t : ℕ) (verdict : Option Bool) (settled : Option ActorOut) (next : State D) → Releases s t verdict settled next → next.next_delivery ≡ s.next_delivery
+  pub released_number : (s : State D) (t : ℕ) (verdict : Option Bool) (settled : Option ActorOut) (next : State D) → Releases s t verdict settled next → next.next_delivery ≡ s.next_delivery
   released_number s t verdict settled next (has_none none) = refl
   released_number s t verdict settled next (releases here there) = refl
 
-  forgot_number : (s : State D) (t : ℕ) (settled : Option (Option ActorOut)) (next : State D) → Forgets s t settled next → next.next_delivery ≡ s.next_delivery
+  pub forgot_number : (s : State D) (t : ℕ) (settled : Option (Option ActorOut)) (next : State D) → Forgets s t settled next → next.next_delivery ≡ s.next_delivery
   forgot_number s t settled next (stranger none) = refl
   forgot_number s t settled next (forgets {settled = one} some rel) = released_number (record s { subscriptions = _ }) t None one next rel
 

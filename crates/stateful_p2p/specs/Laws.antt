@@ -71,6 +71,31 @@ module _ {D : Type 0} where
   abbrev pub HasToJudge : List (Entry D) → ℕ → ℕ → Type 0
   HasToJudge entries t d = Since (Hands t d) (Replies t) entries
 
+  -- the ticket gives this verdict
+  abbrev pub Gives : ℕ → Bool → Entry D → Type 0
+  Gives t valid (Stepped (Judge u given) outs) = (u ≡ t) × (given ≡ valid)
+  Gives t valid entry = ⊥
+
+  -- the ticket gave this verdict on the candidate of the delivery
+  abbrev pub HasJudged : List (Entry D) → ℕ → ℕ → Bool → Type 0
+  HasJudged entries t d valid = Once (λ before entry. Gives t valid entry × HasToJudge before t d) entries
+
+  -- the delivery of this number
+  abbrev pub Delivers : ℕ → Entry D → Type 0
+  Delivers d (Stepped (Deliver e key bytes) outs) = e ≡ d
+  Delivers d entry = ⊥
+
+  abbrev pub WasDelivered : List (Entry D) → ℕ → Type 0
+  WasDelivered entries d = Once (λ before entry. Delivers d entry) entries
+
+  -- the production of this number
+  abbrev pub Produces : ℕ → Entry D → Type 0
+  Produces n (Stepped (Produce k key) outs) = k ≡ n
+  Produces n entry = ⊥
+
+  abbrev pub WasProduced : List (Entry D) → ℕ → Type 0
+  WasProduced entries n = Once (λ before entry. Produces n entry) entries
+
   -- a subscriber that has nothing to judge
   abbrev pub IsFree : List (Entry D) → Request → ℕ → Type 0
   IsFree entries key t = IsSubscriber entries key t × ((d : ℕ) → HasToJudge entries t d → ⊥)
@@ -85,6 +110,12 @@ abbrev pub IsAnswer : ActorOut → Type 0
 IsAnswer (Feedback d valid) = Unit {0}
 IsAnswer (Unjudged d) = Unit {0}
 IsAnswer out = ⊥
+
+-- an answer to this delivery
+abbrev pub is_answer_to : ℕ → ActorOut → Bool
+is_answer_to d (Feedback e valid) = e == d
+is_answer_to d (Unjudged e) = e == d
+is_answer_to d out = false
 
 abbrev pub is_fetch_of : ℕ → ActorOut → Bool
 is_fetch_of t (Fetch u key) = u == t
@@ -101,6 +132,12 @@ waiting t m = count_by (is_request_of t) (messages m.queue)
 abbrev pub is_forget_of : ℕ → ActorOut → Bool
 is_forget_of t (Forget u) = u == t
 is_forget_of t out = false
+
+-- an answer to the peer that asked under this number
+abbrev pub is_served : ℕ → ActorOut → Bool
+is_served n (Served k bytes) = k == n
+is_served n (Unserved k) = k == n
+is_served n out = false
 
 -- ---- what an event puts out, by what came before
 
