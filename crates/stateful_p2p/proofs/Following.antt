@@ -412,7 +412,7 @@ module _ {D Op : Type 0} where
         had x d (inr was) = was.0
 
     -- who has to judge something is live
-    judging_live : (h : List (Entry D)) (s : State D) (gone : List ℕ) (t d : ℕ) → IsTold h s gone → HasToJudge h t d → IsLive h t
+    pub judging_live : (h : List (Entry D)) (s : State D) (gone : List ℕ) (t d : ℕ) → IsTold h s gone → HasToJudge h t d → IsLive h t
     judging_live h s gone t d told has_to =
         let both = (told.unjudged t d).1 has_to in
         let sub = there_is (at s.subscriptions t) (told.held t d both.0) in

@@ -18,6 +18,7 @@ pub mod Moving
 pub mod Putting
 pub mod Placing
 pub mod Fetching
+pub mod Ending
 pub mod Laws
 pub mod Current
 pub mod Following

@@ -1,5 +1,5 @@
 -- What holds of a resolver whatever is done to it and to its mailbox, said of what is seen of both.
-use Rattle.std.specs.Prelude.{◌≡◌, ◌≢◌, ◌↔◌, ℕ, ◌+◌, ◌≤◌, ◌==◌, Bool, true, false, Option, List, [], ◌∷◌, ◌++◌, map, All, Contains, count_by, option_to_list}
+use Rattle.std.specs.Prelude.{◌≡◌, ◌≢◌, ◌↔◌, ℕ, ◌+◌, ◌≤◌, ◌<◌, ◌==◌, ◌⊎◌, Bool, true, false, Option, List, [], ◌∷◌, ◌++◌, map, All, Contains, count_by, option_to_list}
 use Rattle.std.specs.Ordering.{nat_cmp}
 use Rattle.std.specs.List.Sorted.{IsStrictlySortedBy}
 use Rattle.stateful_types.specs.Format.{Format}
@@ -8,13 +8,15 @@ use Rattle.stateful_types.specs.declared.request.Request.{Request}
 use Rattle.stateful_types.specs.declared.response.Response.{Response}
 use Rattle.stateful_p2p.specs.Inbox.{Inbox}
 use Rattle.stateful_p2p.specs.Reading.{IsResponse}
-use Rattle.stateful_p2p.specs.Resolving.{Setup}
+use Rattle.stateful_p2p.specs.Resolving.{Setup, may_come}
 use Rattle.stateful_p2p.specs.History.{Entry, Asked, Cancelled, Stepped, outs_of, count_outs, Once, Always, Since, Runs}
 use Rattle.stateful_p2p.specs.declared.state.State.{State}
 use Rattle.stateful_p2p.specs.declared.message.Message.{Message}
 use Rattle.stateful_p2p.specs.declared.message.Message.TheVariants.{AttachDatabase, GetOperations}
 use Rattle.stateful_p2p.specs.declared.actor.Task.{Task}
 use Rattle.stateful_p2p.specs.declared.actor.Task.TheVariants.{Hear, Deliver, Judge, Leave, Produce}
+use Rattle.stateful_p2p.specs.declared.event.ActorEvent.{ActorEvent}
+use Rattle.stateful_p2p.specs.declared.event.ActorEvent.TheVariants as events
 use Rattle.stateful_p2p.specs.declared.event.ActorOut.{ActorOut}
 use Rattle.stateful_p2p.specs.declared.event.ActorOut.TheVariants.{Fetch, Forget, Candidate, Feedback, Unjudged, Served, Unserved}
 
@@ -48,6 +50,10 @@ module _ {D : Type 0} where
   -- the key was fetched for the ticket
   abbrev pub WasFetched : List (Entry D) → ℕ → Request → Type 0
   WasFetched entries t key = Once (λ before entry. Contains (outs_of entry) (Fetch t key)) entries
+
+  -- something was fetched for the ticket
+  abbrev pub HadFetch : List (Entry D) → ℕ → Type 0
+  HadFetch entries t = (key : Request) × WasFetched entries t key
 
   -- the ticket subscribes to the key: it is live, and the key was fetched for it
   abbrev pub IsSubscriber : List (Entry D) → Request → ℕ → Type 0
@@ -191,7 +197,7 @@ module _ {D Op : Type 0} (operations : Format Op) (before : List (Entry D)) wher
 
   -- who was fetched for, is live no more, and wasn't forgotten yet
   abbrev pub IsLeft : ℕ → Type 0
-  IsLeft t = ((key : Request) × WasFetched before t key)
+  IsLeft t = HadFetch before t
       × (IsLive before t → ⊥)
       × (count_outs (is_forget_of t) before ≡ 0)
 
@@ -210,11 +216,41 @@ module _ {D Op : Type 0} (operations : Format Op) (before : List (Entry D)) wher
   TellsAt (Stepped task outs) = Tells task outs
   TellsAt entry = Unit {0}
 
+-- ---- what holds behind each event
+
+module _ {D : Type 0} (before : List (Entry D)) where
+  -- whoever was fetched for and is live no more was forgotten, once, and nobody else was
+  abbrev pub ForgetsAt : Entry D → Type 0
+  ForgetsAt (Stepped task outs) = (t : ℕ)
+      → (count_outs (is_forget_of t) (before ++ Stepped task outs ∷ []) ≡ 1)
+      ↔ (HadFetch (before ++ Stepped task outs ∷ []) t
+      × (IsLive (before ++ Stepped task outs ∷ []) t → ⊥))
+  ForgetsAt entry = Unit {0}
+
+  -- each delivery was answered, once, or somebody has it to judge
+  abbrev pub AnswersAt : Entry D → Type 0
+  AnswersAt (Stepped task outs) = (d : ℕ)
+      → WasDelivered (before ++ Stepped task outs ∷ []) d
+      → (count_outs (is_answer_to d) (before ++ Stepped task outs ∷ []) ≡ 1)
+      ⊎ ((t : ℕ) × HasToJudge (before ++ Stepped task outs ∷ []) t d)
+  AnswersAt entry = Unit {0}
+
+-- Which events may come. A message waits; who judges has a candidate to judge; who leaves is live; and the number of a
+-- delivery or of a production is above every earlier one.
+abbrev pub CanCome : {D Op : Type 0} → List (Entry D) → Inbox D Op → ActorEvent → Type 0
+CanCome entries m events.Message = messages m.queue ≢ []
+CanCome entries m (events.Deliver d key bytes) = (e : ℕ) → WasDelivered entries e → e < d
+CanCome entries m (events.Judge t valid) = (d : ℕ) × HasToJudge entries t d
+CanCome entries m (events.Leave t) = IsLive entries t
+CanCome entries m (events.Produce n key) = (k : ℕ) → WasProduced entries k → k < n
+
 -- ---- the laws
 
 module _ {D Op : Type 0} (operations : Format Op) where
   -- Whatever was done since the resolver and its mailbox were made:
-  pub record Lawful (entries : List (Entry D)) (m : Inbox D Op) : Type 0 where
+  pub record Lawful (entries : List (Entry D)) (s : State D) (m : Inbox D Op) : Type 0 where
+    -- which events may come
+    pub comes : (event : ActorEvent) → (may_come s m event ≡ true) ↔ CanCome entries m event
     -- each event puts out what the entries before it tell
     pub tells : Always (TellsAt operations) entries
     -- a key is fetched where the request for it is taken, and its ticket is live
@@ -230,9 +266,15 @@ module _ {D Op : Type 0} (operations : Format Op) where
     pub none_forgotten : (t : ℕ)
         → IsLive entries t
         → waiting t m + count_outs (is_fetch_of t) entries ≡ 1
+    -- a ticket is forgotten once at most, and is behind each event where it was fetched for and is live no more
+    pub forgotten_once : (t : ℕ) → count_outs (is_forget_of t) entries ≤ 1
+    pub forgets : Always ForgetsAt entries
+    -- a delivery is answered once at most, and is behind each event where nobody has it to judge
+    pub answered_once : (d : ℕ) → count_outs (is_answer_to d) entries ≤ 1
+    pub answers : Always AnswersAt entries
 
 module _ {D Op : Type 0} (u : Setup D Op) where
   abbrev pub KeepsLaws : State D → Inbox D Op → Type 0
   KeepsLaws first box = (entries : List (Entry D)) (s : State D) (m : Inbox D Op)
       → Runs u first box entries s m
-      → Lawful u.operations entries m
+      → Lawful u.operations entries s m
