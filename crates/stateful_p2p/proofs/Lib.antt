@@ -18,6 +18,8 @@ pub mod Moving
 pub mod Putting
 pub mod Placing
 pub mod Fetching
+pub mod Verdicts
+pub mod Judging
 pub mod Ending
 pub mod Laws
 pub mod Current

@@ -28,11 +28,11 @@ use Rattle.stateful_p2p.proofs.Placing.{same_takes}
 use Rattle.stateful_p2p.proofs.Settling.{stands, IsCounted, retired_counted, retired_answers, retired_forgets, delivers_it, done_counted}
 
 -- the least new number of a delivery, behind an event
-abbrev delivery_after : {D : Type 0} → ℕ → Task D → ℕ
+abbrev pub delivery_after : {D : Type 0} → ℕ → Task D → ℕ
 delivery_after n (tasks.Deliver d key bytes) = d + 1
 delivery_after n task = n
 
-abbrev serve_after : {D : Type 0} → ℕ → Task D → ℕ
+abbrev pub serve_after : {D : Type 0} → ℕ → Task D → ℕ
 serve_after n (tasks.Produce k key) = k + 1
 serve_after n task = n
 
@@ -51,9 +51,9 @@ module _ {D : Type 0} where
   retired_serve s ts f o last (fetched {t = t} {ts = us} {one = x} {forgotten = g} {settled = p} {next = next} one rest) = retired_serve next us g p last rest ∙ forgot_serve s t (Some x) next one
 
   -- both numbers behind an event
-  record Numbers (s : State D) (task : Task D) (next : State D) : Type 0 where
-    delivery : next.next_delivery ≡ delivery_after s.next_delivery task
-    serve : next.next_serve ≡ serve_after s.next_serve task
+  pub record Numbers (s : State D) (task : Task D) (next : State D) : Type 0 where
+    pub delivery : next.next_delivery ≡ delivery_after s.next_delivery task
+    pub serve : next.next_serve ≡ serve_after s.next_serve task
 
 module _ {D Op : Type 0} where
   heard_numbers : (s : State D) (m : Inbox D Op) (message other : Message D) (done : List ActorOut) (next : State D) → Hears s m message done next → Numbers s (tasks.Hear other) next
@@ -83,7 +83,7 @@ module _ {D Op : Type 0} (u : Setup D Op) where
   done_numbers s m event task done next left (Does.leaves {t = t} h) Takes.leaves = left_numbers s m t done next left h
   done_numbers s m event task done next left (Does.produces h) Takes.produces = record { delivery = ap (λ (w : State D). w.next_delivery) h.others; serve = ap (λ (w : State D). w.next_serve) h.others }
 
-  step_numbers : (s : State D) (m : Inbox D Op) (event : ActorEvent) (task : Task D) (outs : List ActorOut) (next : State D) (left : Inbox D Op) → Steps u s m event outs next left → Takes m left event task → Numbers s task next
+  pub step_numbers : (s : State D) (m : Inbox D Op) (event : ActorEvent) (task : Task D) (outs : List ActorOut) (next : State D) (left : Inbox D Op) → Steps u s m event outs next left → Takes m left event task → Numbers s task next
   step_numbers s m event task outs next left steps takes =
       let n = done_numbers steps.between (record m { cancelled = [] }) event task steps.done next left steps.does (same_takes m left event task takes) in
       record {
@@ -198,7 +198,7 @@ module _ {D Op : Type 0} (u : Setup D Op) where
       stepped_numbered h s m event task outs next left comes (step_numbers u s m event task outs next left steps takes) takes here
 
   -- an event's deliveries are new
-  new_delivery : (s between : State D) (m : Inbox D Op) (event : ActorEvent) → between.next_delivery ≡ s.next_delivery → may_come s m event ≡ true → (d : ℕ) (key : Request) (bytes : List ℕ) → event ≡ events.Deliver d key bytes → between.next_delivery ≤ d
+  pub new_delivery : (s between : State D) (m : Inbox D Op) (event : ActorEvent) → between.next_delivery ≡ s.next_delivery → may_come s m event ≡ true → (d : ℕ) (key : Request) (bytes : List ℕ) → event ≡ events.Deliver d key bytes → between.next_delivery ≤ d
   new_delivery s between m event same comes d key bytes is = subst (λ n. n ≤ d) (sym same) (leb-true s.next_delivery d (subst (λ e. may_come s m e ≡ true) is comes))
 
   idle_answered : (h : List (Entry D)) (s : State D) (e : Entry D) → ((d : ℕ) → count_by (is_answer_to d) (outs_of e) ≡ 0) → ((d : ℕ) → is_delivery d e ≡ false) → IsAnswered h s → IsAnswered (h ++ e ∷ []) s
@@ -210,7 +210,7 @@ module _ {D Op : Type 0} (u : Setup D Op) where
   }
 
   -- the number of a delivery that comes is at least the least new one
-  delivers_up : (s : State D) (m left : Inbox D Op) (event : ActorEvent) (task : Task D) → may_come s m event ≡ true → Takes m left event task → (d : ℕ) → delivers_it d task ≡ true → s.next_delivery ≤ d
+  pub delivers_up : (s : State D) (m left : Inbox D Op) (event : ActorEvent) (task : Task D) → may_come s m event ≡ true → Takes m left event task → (d : ℕ) → delivers_it d task ≡ true → s.next_delivery ≤ d
   delivers_up s m left event task comes (Takes.hears handed) d is = absurd cc
   delivers_up s m left event task comes (Takes.delivers {d = k}) d is = let a = leb-true s.next_delivery k comes in let b = eqb-true k d is in omega arith
   delivers_up s m left event task comes Takes.judges d is = absurd cc
@@ -218,7 +218,7 @@ module _ {D Op : Type 0} (u : Setup D Op) where
   delivers_up s m left event task comes Takes.produces d is = absurd cc
 
   -- a number that is new behind an event was new before, and isn't the event's
-  number_down : (n d : ℕ) (task : Task D) → ((d : ℕ) → delivers_it d task ≡ true → n ≤ d) → delivery_after n task ≤ d → (n ≤ d) × (delivers_it d task ≡ false)
+  pub number_down : (n d : ℕ) (task : Task D) → ((d : ℕ) → delivers_it d task ≡ true → n ≤ d) → delivery_after n task ≤ d → (n ≤ d) × (delivers_it d task ≡ false)
   number_down n d (tasks.Hear message) up le = (le, refl)
   number_down n d (tasks.Deliver k key bytes) up le = (let a = up k (eq-eqb k k refl) in omega arith, apart (k == d) refl)
     where
@@ -228,6 +228,14 @@ module _ {D Op : Type 0} (u : Setup D Op) where
   number_down n d (tasks.Judge t valid) up le = (le, refl)
   number_down n d (tasks.Leave t) up le = (le, refl)
   number_down n d (tasks.Produce k key) up le = (le, refl)
+
+  -- the least new number of a delivery never falls
+  pub number_up : (n : ℕ) (task : Task D) → ((d : ℕ) → delivers_it d task ≡ true → n ≤ d) → n ≤ delivery_after n task
+  number_up n (tasks.Hear message) up = omega arith
+  number_up n (tasks.Deliver k key bytes) up = let a = up k (eq-eqb k k refl) in omega arith
+  number_up n (tasks.Judge t valid) up = omega arith
+  number_up n (tasks.Leave t) up = omega arith
+  number_up n (tasks.Produce k key) up = omega arith
 
   stepped_answered : (h : List (Entry D)) (s : State D) (m : Inbox D Op) (event : ActorEvent) (task : Task D) (outs : List ActorOut) (next : State D) (left : Inbox D Op) → may_come s m event ≡ true → Takes m left event task → Steps u s m event outs next left → IsAnswered h s → IsAnswered (h ++ Stepped task outs ∷ []) next
   stepped_answered h s m event task outs next left comes takes steps here = record {

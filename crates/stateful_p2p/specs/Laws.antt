@@ -86,6 +86,20 @@ module _ {D : Type 0} where
   abbrev pub HasJudged : List (Entry D) → ℕ → ℕ → Bool → Type 0
   HasJudged entries t d valid = Once (λ before entry. Gives t valid entry × HasToJudge before t d) entries
 
+  -- everybody who had the candidate of the delivery has replied
+  abbrev pub HaveReplied : List (Entry D) → ℕ → Type 0
+  HaveReplied entries d = (t : ℕ) → HasToJudge entries t d → ⊥
+
+  -- the verdict on the delivery of the lowest ticket that gave one
+  abbrev pub IsVerdict : List (Entry D) → ℕ → Bool → Type 0
+  IsVerdict entries d valid = (t : ℕ)
+      × HasJudged entries t d valid
+      × ((u : ℕ) (other : Bool) → HasJudged entries u d other → t ≤ u)
+
+  -- nobody gave a verdict on the delivery
+  abbrev pub HasNoVerdict : List (Entry D) → ℕ → Type 0
+  HasNoVerdict entries d = (t : ℕ) (valid : Bool) → HasJudged entries t d valid → ⊥
+
   -- the delivery of this number
   abbrev pub Delivers : ℕ → Entry D → Type 0
   Delivers d (Stepped (Deliver e key bytes) outs) = e ≡ d
@@ -235,6 +249,21 @@ module _ {D : Type 0} (before : List (Entry D)) where
       ⊎ ((t : ℕ) × HasToJudge (before ++ Stepped task outs ∷ []) t d)
   AnswersAt entry = Unit {0}
 
+  -- A verdict that isn't given where the delivery comes is that of the lowest ticket that gave one, once all have replied;
+  -- a delivery that comes to be unjudged had none.
+  abbrev pub SettlesAt : Entry D → Type 0
+  SettlesAt (Stepped task outs) = ((d : ℕ) (valid : Bool)
+      → Contains outs (Feedback d valid)
+      → (Delivers d (Stepped task outs) × (valid ≡ false))
+      ⊎ (HaveReplied (before ++ Stepped task outs ∷ []) d
+      × IsVerdict (before ++ Stepped task outs ∷ []) d valid))
+      × ((d : ℕ)
+      → Contains outs (Unjudged d)
+      → Delivers d (Stepped task outs)
+      ⊎ (HaveReplied (before ++ Stepped task outs ∷ []) d
+      × HasNoVerdict (before ++ Stepped task outs ∷ []) d))
+  SettlesAt entry = Unit {0}
+
 -- Which events may come. A message waits; who judges has a candidate to judge; who leaves is live; and the number of a
 -- delivery or of a production is above every earlier one.
 abbrev pub CanCome : {D Op : Type 0} → List (Entry D) → Inbox D Op → ActorEvent → Type 0
@@ -272,6 +301,7 @@ module _ {D Op : Type 0} (operations : Format Op) where
     -- a delivery is answered once at most, and is behind each event where nobody has it to judge
     pub answered_once : (d : ℕ) → count_outs (is_answer_to d) entries ≤ 1
     pub answers : Always AnswersAt entries
+    pub settles : Always SettlesAt entries
 
 module _ {D Op : Type 0} (u : Setup D Op) where
   abbrev pub KeepsLaws : State D → Inbox D Op → Type 0
