@@ -6,7 +6,7 @@ use Rattle.stateful_p2p.specs.Fanout.{waiting_on, awaited_of}
 use Rattle.stateful_p2p.specs.Inbox.{Inbox, empty_inbox}
 use Rattle.stateful_p2p.specs.Resolving.{Setup, IsNew}
 use Rattle.stateful_p2p.specs.History.{Entry, Stepped, count_outs, Turns, Runs}
-use Rattle.stateful_p2p.specs.Laws.{IsLive, HadFetch, HasToJudge, Delivers, WasDelivered, Produces, is_forget_of, is_answer_to, Gives, TellsAt, ForgetsAt, AnswersAt, SettlesAt, KeepsLaws, Lawful}
+use Rattle.stateful_p2p.specs.Laws.{IsLive, HadFetch, HasToJudge, Delivers, WasDelivered, Produces, is_forget_of, is_answer_to, Gives, TellsAt, ForgetsAt, AnswersAt, SettlesAt, Serves, KeepsLaws, Lawful}
 use Rattle.stateful_p2p.specs.declared.state.State.{State}
 use Rattle.stateful_p2p.proofs.Histories.{kept, each, once_none}
 use Rattle.stateful_p2p.proofs.Placing.{IsPlaced, turn_placed}
@@ -19,6 +19,7 @@ use Rattle.stateful_p2p.proofs.Settling.{InOrder}
 use Rattle.stateful_p2p.proofs.Numbering.{IsNumbered, IsAnswered, turn_numbered, turn_answered}
 use Rattle.stateful_p2p.proofs.Verdicts.{IsJudged}
 use Rattle.stateful_p2p.proofs.Judging.{turn_judged, settles_law}
+use Rattle.stateful_p2p.proofs.Producing.{IsServed, turn_serves, turn_served}
 use Rattle.stateful_p2p.proofs.Ending.{forgets_behind, answers_behind, comes_law}
 
 abbrev IsStep : {D : Type 0} → Entry D → Type 0
@@ -34,6 +35,8 @@ module _ {D Op : Type 0} (u : Setup D Op) where
     numbered : IsNumbered h s
     answered : IsAnswered h s
     judged : IsJudged h s
+    serves : Serves u h s.database
+    served : IsServed h s
 
   first_holds : (first : State D) (capacity : ℕ) → IsNew first → Holds [] first (empty_inbox capacity)
   first_holds first capacity new =
@@ -65,6 +68,8 @@ module _ {D Op : Type 0} (u : Setup D Op) where
           each = λ d v there. absurd (none_some v (sym (ap (λ w. at w d) new.none) ∙ there));
           old = λ t d b was. absurd (once_none (λ before entry. Gives t b entry × HasToJudge before t d) was);
         };
+        serves = subst (Serves u []) (sym new.no_database) Serves.nothing;
+        served = record { new = λ n up. refl; few = λ n. omega arith };
       }
 
   turn_holds : (h : List (Entry D)) (s : State D) (m : Inbox D Op) (e : Entry D) (next : State D) (left : Inbox D Op) → Turns u s m e next left → Holds h s m → Holds (h ++ e ∷ []) next left
@@ -75,6 +80,8 @@ module _ {D Op : Type 0} (u : Setup D Op) where
     numbered = turn_numbered u h s m e next left turn all.numbered;
     answered = turn_answered u h s m e next left turn all.answered;
     judged = turn_judged u h s m e next left turn all.placed all.told all.answered all.judged;
+    serves = turn_serves u h s m e next left turn all.serves;
+    served = turn_served u h s m e next left turn all.served;
   }
 
   -- behind an event, all that is told holds of the tables
@@ -118,4 +125,6 @@ module _ {D Op : Type 0} (u : Setup D Op) where
             answered_once = λ d. let f = (holds h s m runs).answered.few d in let e = (holds h s m runs).answered.even d in omega arith;
             answers = each u Holds AnswersAt holds answers_at h s m runs;
             settles = each u Holds SettlesAt holds (λ h s m e next left turn all. settles_law u h s m e next left turn all.placed all.told all.answered all.judged (turn_answered u h s m e next left turn all.answered)) h s m runs;
+            served_once = λ n. (holds h s m runs).served.few n;
+            served = (s.database, (holds h s m runs).serves);
           }

@@ -20,6 +20,7 @@ pub mod Placing
 pub mod Fetching
 pub mod Verdicts
 pub mod Judging
+pub mod Producing
 pub mod Ending
 pub mod Laws
 pub mod Current

@@ -1,5 +1,5 @@
 -- What holds of a resolver whatever is done to it and to its mailbox, said of what is seen of both.
-use Rattle.std.specs.Prelude.{◌≡◌, ◌≢◌, ◌↔◌, ℕ, ◌+◌, ◌≤◌, ◌<◌, ◌==◌, ◌⊎◌, Bool, true, false, Option, List, [], ◌∷◌, ◌++◌, map, All, Contains, count_by, option_to_list}
+use Rattle.std.specs.Prelude.{◌≡◌, ◌≢◌, ◌↔◌, ℕ, ◌+◌, ◌≤◌, ◌<◌, ◌==◌, ◌⊎◌, Bool, true, false, Option, Some, None, List, [], ◌∷◌, ◌++◌, map, All, Contains, count_by, option_to_list}
 use Rattle.std.specs.Ordering.{nat_cmp}
 use Rattle.std.specs.List.Sorted.{IsStrictlySortedBy}
 use Rattle.stateful_types.specs.Format.{Format}
@@ -8,7 +8,7 @@ use Rattle.stateful_types.specs.declared.request.Request.{Request}
 use Rattle.stateful_types.specs.declared.response.Response.{Response}
 use Rattle.stateful_p2p.specs.Inbox.{Inbox}
 use Rattle.stateful_p2p.specs.Reading.{IsResponse}
-use Rattle.stateful_p2p.specs.Resolving.{Setup, may_come}
+use Rattle.stateful_p2p.specs.Resolving.{Setup, may_come, Answers, sent}
 use Rattle.stateful_p2p.specs.History.{Entry, Asked, Cancelled, Stepped, outs_of, count_outs, Once, Always, Since, Runs}
 use Rattle.stateful_p2p.specs.declared.state.State.{State}
 use Rattle.stateful_p2p.specs.declared.message.Message.{Message}
@@ -273,15 +273,42 @@ CanCome entries m (events.Judge t valid) = (d : ℕ) × HasToJudge entries t d
 CanCome entries m (events.Leave t) = IsLive entries t
 CanCome entries m (events.Produce n key) = (k : ℕ) → WasProduced entries k → k < n
 
+-- ---- what peers are served
+
+-- whether the entry changes what is served
+abbrev pub IsOfDatabase : {D : Type 0} → Entry D → Type 0
+IsOfDatabase (Stepped (Hear (AttachDatabase db)) outs) = Unit {0}
+IsOfDatabase (Stepped (Produce n key) outs) = Unit {0}
+IsOfDatabase entry = ⊥
+
+module _ {D Op : Type 0} (u : Setup D Op) where
+  -- The database that is served behind these entries, if there is one: the last that was taken from the mailbox, as the
+  -- requests that it answered left it. Each peer was sent what it answered.
+  pub data Serves : List (Entry D) → Option D → Type 0 where
+    nothing : Serves [] None
+    attached : {entries : List (Entry D)} {served : Option D} (db : D) (outs : List ActorOut)
+        → Serves entries served
+        → Serves (entries ++ Stepped (Hear (AttachDatabase db)) outs ∷ []) (Some db)
+    answered : {entries : List (Entry D)} {served next : Option D}
+        (n : ℕ) (key : Request) (bytes : Option (List ℕ)) (outs : List ActorOut)
+        → Serves entries served
+        → Answers u served key bytes next
+        → Contains outs (sent u n bytes)
+        → Serves (entries ++ Stepped (Produce n key) outs ∷ []) next
+    passed : {entries : List (Entry D)} {served : Option D} (entry : Entry D)
+        → Serves entries served
+        → (IsOfDatabase entry → ⊥)
+        → Serves (entries ++ entry ∷ []) served
+
 -- ---- the laws
 
-module _ {D Op : Type 0} (operations : Format Op) where
+module _ {D Op : Type 0} (u : Setup D Op) where
   -- Whatever was done since the resolver and its mailbox were made:
   pub record Lawful (entries : List (Entry D)) (s : State D) (m : Inbox D Op) : Type 0 where
     -- which events may come
     pub comes : (event : ActorEvent) → (may_come s m event ≡ true) ↔ CanCome entries m event
     -- each event puts out what the entries before it tell
-    pub tells : Always (TellsAt operations) entries
+    pub tells : Always (TellsAt u.operations) entries
     -- a key is fetched where the request for it is taken, and its ticket is live
     pub fetches : Always (λ before entry. (t : ℕ) (key : Request)
         → Contains (outs_of entry) (Fetch t key)
@@ -302,9 +329,12 @@ module _ {D Op : Type 0} (operations : Format Op) where
     pub answered_once : (d : ℕ) → count_outs (is_answer_to d) entries ≤ 1
     pub answers : Always AnswersAt entries
     pub settles : Always SettlesAt entries
+    -- a production is answered once at most, as the database that is served answers
+    pub served_once : (n : ℕ) → count_outs (is_served n) entries ≤ 1
+    pub served : (database : Option D) × Serves u entries database
 
 module _ {D Op : Type 0} (u : Setup D Op) where
   abbrev pub KeepsLaws : State D → Inbox D Op → Type 0
   KeepsLaws first box = (entries : List (Entry D)) (s : State D) (m : Inbox D Op)
       → Runs u first box entries s m
-      → Lawful u.operations entries s m
+      → Lawful u entries s m
