@@ -232,7 +232,7 @@ module _ {D : Type 0} where
           go false absent is = is ∙ both.0
 
 -- which tickets take the candidates that are put out
-candidate_in : (takers : List ℕ) (t : ℕ) → Contains (map (λ w. Candidate w) takers) (Candidate t) → Contains takers t
+pub candidate_in : (takers : List ℕ) (t : ℕ) → Contains (map (λ w. Candidate w) takers) (Candidate t) → Contains takers t
 candidate_in [] t there = absurd (in_none (Candidate t) there)
 candidate_in (w ∷ takers) t there = go (candidate_in takers t) (in_cons (Candidate w) (map (λ w. Candidate w) takers) (Candidate t) there)
   where
@@ -243,7 +243,7 @@ candidate_in (w ∷ takers) t there = go (candidate_in takers t) (in_cons (Candi
     go rest (inl e) = (0, omega arith, same w t e)
     go rest (inr c) = Contains-append_right (w ∷ []) takers t (rest c)
 
-in_candidate : (takers : List ℕ) (t : ℕ) → Contains takers t → Contains (map (λ w. Candidate w) takers) (Candidate t)
+pub in_candidate : (takers : List ℕ) (t : ℕ) → Contains takers t → Contains (map (λ w. Candidate w) takers) (Candidate t)
 in_candidate [] t there = absurd (in_none t there)
 in_candidate (w ∷ takers) t there = go (in_candidate takers t) (in_cons w takers t there)
   where
@@ -252,7 +252,7 @@ in_candidate (w ∷ takers) t there = go (in_candidate takers t) (in_cons w take
     go rest (inr c) = Contains-append_right (Candidate w ∷ []) (map (λ w. Candidate w) takers) (Candidate t) (rest c)
 
 -- what hands nothing to anybody
-abbrev IsUnhanded : ActorOut → Type 0
+abbrev pub IsUnhanded : ActorOut → Type 0
 IsUnhanded (Candidate t) = ⊥
 IsUnhanded out = Unit {0}
 

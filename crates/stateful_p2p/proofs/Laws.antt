@@ -1,14 +1,15 @@
 -- That a new resolver keeps the laws, whatever is done to it and to its mailbox.
-use Rattle.std.proofs.Common.{◌≡◌, ◌↔◌, ◌⊎◌, ℕ, ◌+◌, ◌≤◌, cond, None, List, [], ◌∷◌, ◌++◌, refl, sym, ap, ◌∙◌, subst, arith}
+use Rattle.std.proofs.Common.{◌≡◌, ◌↔◌, ◌⊎◌, ℕ, ◌+◌, ◌≤◌, cond, None, List, [], ◌∷◌, ◌++◌, Contains, refl, sym, ap, ◌∙◌, subst, arith}
 use Rattle.std.specs.Option.{is_some}
 use Rattle.stateful_p2p.specs.Table.{at}
 use Rattle.stateful_p2p.specs.Fanout.{waiting_on, awaited_of}
 use Rattle.stateful_p2p.specs.Inbox.{Inbox, empty_inbox}
 use Rattle.stateful_p2p.specs.Resolving.{Setup, IsNew}
-use Rattle.stateful_p2p.specs.History.{Entry, Stepped, count_outs, Turns, Runs}
-use Rattle.stateful_p2p.specs.Laws.{IsLive, HadFetch, HasToJudge, Delivers, WasDelivered, Produces, is_forget_of, is_answer_to, Gives, TellsAt, ForgetsAt, AnswersAt, SettlesAt, Serves, KeepsLaws, Lawful}
+use Rattle.stateful_p2p.specs.History.{Entry, Stepped, outs_of, count_outs, Turns, Runs}
+use Rattle.stateful_p2p.specs.Laws.{IsDrawn, IsLive, HadFetch, HandsOver, Retakes, HasToJudge, Delivers, WasDelivered, Produces, is_forget_of, is_answer_to, Gives, TellsAt, ForgetsAt, AnswersAt, SettlesAt, Serves, KeepsLaws, Lawful}
 use Rattle.stateful_p2p.specs.declared.state.State.{State}
-use Rattle.stateful_p2p.proofs.Histories.{kept, each, once_none}
+use Rattle.stateful_p2p.specs.declared.event.ActorOut.TheVariants.{Candidate}
+use Rattle.stateful_p2p.proofs.Histories.{kept, each, once_none, since_none}
 use Rattle.stateful_p2p.proofs.Placing.{IsPlaced, turn_placed}
 use Rattle.stateful_p2p.proofs.Fetching.{fetches_law, takes_law}
 use Rattle.stateful_p2p.proofs.Current.{none_some, IsCurrent, IsTold}
@@ -20,6 +21,7 @@ use Rattle.stateful_p2p.proofs.Numbering.{IsNumbered, IsAnswered, turn_numbered,
 use Rattle.stateful_p2p.proofs.Verdicts.{IsJudged}
 use Rattle.stateful_p2p.proofs.Judging.{turn_judged, settles_law}
 use Rattle.stateful_p2p.proofs.Producing.{IsServed, turn_serves, turn_served}
+use Rattle.stateful_p2p.proofs.Polling.{IsPolled, IsWaiting, dropped_law, turn_polled}
 use Rattle.stateful_p2p.proofs.Ending.{forgets_behind, answers_behind, comes_law}
 
 abbrev IsStep : {D : Type 0} → Entry D → Type 0
@@ -37,6 +39,8 @@ module _ {D Op : Type 0} (u : Setup D Op) where
     judged : IsJudged h s
     serves : Serves u h s.database
     served : IsServed h s
+    polled : IsPolled h m
+    waiting : IsWaiting u.operations h m
 
   first_holds : (first : State D) (capacity : ℕ) → IsNew first → Holds [] first (empty_inbox capacity)
   first_holds first capacity new =
@@ -70,6 +74,11 @@ module _ {D Op : Type 0} (u : Setup D Op) where
         };
         serves = subst (Serves u []) (sym new.no_database) Serves.nothing;
         served = record { new = λ n up. refl; few = λ n. omega arith };
+        polled = record {
+          stands = λ t drawn. absurd (once_none (λ before entry. IsDrawn t entry) drawn);
+          fresh = λ t up had. once_none (λ before entry. Contains (outs_of entry) (Candidate t)) had;
+        };
+        waiting = record { some = λ t r is. absurd (none_some r is); none = λ t is r waits. since_none (HandsOver u.operations t r) (Retakes t) waits };
       }
 
   turn_holds : (h : List (Entry D)) (s : State D) (m : Inbox D Op) (e : Entry D) (next : State D) (left : Inbox D Op) → Turns u s m e next left → Holds h s m → Holds (h ++ e ∷ []) next left
@@ -82,6 +91,8 @@ module _ {D Op : Type 0} (u : Setup D Op) where
     judged = turn_judged u h s m e next left turn all.placed all.told all.answered all.judged;
     serves = turn_serves u h s m e next left turn all.serves;
     served = turn_served u h s m e next left turn all.served;
+    polled = (turn_polled u h s m e next left turn all.placed all.told all.polled all.waiting).0;
+    waiting = (turn_polled u h s m e next left turn all.placed all.told all.polled all.waiting).1;
   }
 
   -- behind an event, all that is told holds of the tables
@@ -125,6 +136,9 @@ module _ {D Op : Type 0} (u : Setup D Op) where
             answered_once = λ d. let f = (holds h s m runs).answered.few d in let e = (holds h s m runs).answered.even d in omega arith;
             answers = each u Holds AnswersAt holds answers_at h s m runs;
             settles = each u Holds SettlesAt holds (λ h s m e next left turn all. settles_law u h s m e next left turn all.placed all.told all.answered all.judged (turn_answered u h s m e next left turn all.answered)) h s m runs;
+            dropped = let all = holds h s m runs in dropped_law h m all.placed all.polled;
+            waits = (holds h s m runs).waiting.some;
+            nothing_waits = (holds h s m runs).waiting.none;
             served_once = λ n. (holds h s m runs).served.few n;
             served = (s.database, (holds h s m runs).serves);
           }

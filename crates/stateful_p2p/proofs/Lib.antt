@@ -21,6 +21,7 @@ pub mod Fetching
 pub mod Verdicts
 pub mod Judging
 pub mod Producing
+pub mod Polling
 pub mod Ending
 pub mod Laws
 pub mod Current

@@ -6,10 +6,11 @@ use Rattle.stateful_types.specs.Format.{Format}
 use Rattle.stateful_types.specs.Mailbox.{messages}
 use Rattle.stateful_types.specs.declared.request.Request.{Request}
 use Rattle.stateful_types.specs.declared.response.Response.{Response}
-use Rattle.stateful_p2p.specs.Inbox.{Inbox}
+use Rattle.stateful_p2p.specs.Inbox.{Inbox, waiting_for}
+use Rattle.stateful_p2p.specs.Tickets.{is_dropped}
 use Rattle.stateful_p2p.specs.Reading.{IsResponse}
 use Rattle.stateful_p2p.specs.Resolving.{Setup, may_come, Answers, sent}
-use Rattle.stateful_p2p.specs.History.{Entry, Asked, Cancelled, Stepped, outs_of, count_outs, Once, Always, Since, Runs}
+use Rattle.stateful_p2p.specs.History.{Entry, Asked, Cancelled, Polled, Stepped, outs_of, count_outs, Once, Always, Since, Runs}
 use Rattle.stateful_p2p.specs.declared.state.State.{State}
 use Rattle.stateful_p2p.specs.declared.message.Message.{Message}
 use Rattle.stateful_p2p.specs.declared.message.Message.TheVariants.{AttachDatabase, GetOperations}
@@ -65,6 +66,16 @@ module _ {D : Type 0} where
   abbrev pub Hands : ℕ → ℕ → Entry D → Type 0
   Hands t d (Stepped (Deliver e key bytes) outs) = (e ≡ d) × Contains outs (Candidate t)
   Hands t d entry = ⊥
+
+  -- some candidate was handed to the ticket
+  abbrev pub HadCandidate : List (Entry D) → ℕ → Type 0
+  HadCandidate entries t = Once (λ before entry. Contains (outs_of entry) (Candidate t)) entries
+
+  -- the ticket was drawn, and ended before a candidate came for it
+  abbrev pub WasLetGo : List (Entry D) → ℕ → Type 0
+  WasLetGo entries t = Once (λ before entry. IsDrawn t entry) entries
+      × (IsLive entries t → ⊥)
+      × (HadCandidate entries t → ⊥)
 
   -- the ticket gives its verdict, it leaves, or it is cancelled
   abbrev pub Replies : ℕ → Entry D → Type 0
@@ -273,6 +284,24 @@ CanCome entries m (events.Judge t valid) = (d : ℕ) × HasToJudge entries t d
 CanCome entries m (events.Leave t) = IsLive entries t
 CanCome entries m (events.Produce n key) = (k : ℕ) → WasProduced entries k → k < n
 
+-- ---- what is polled
+
+-- the candidate of the ticket is polled, or a further one is handed to it
+abbrev pub Retakes : {D : Type 0} → ℕ → Entry D → Type 0
+Retakes t (Polled u) = u ≡ t
+Retakes t (Stepped task outs) = Contains outs (Candidate t)
+Retakes t entry = ⊥
+
+module _ {D Op : Type 0} (operations : Format Op) where
+  -- the ticket is handed this response, which the delivery's bytes are
+  abbrev pub HandsOver : ℕ → Response Op → Entry D → Type 0
+  HandsOver t response (Stepped (Deliver d key bytes) outs) = Contains outs (Candidate t) × IsResponse operations key bytes response
+  HandsOver t response entry = ⊥
+
+  -- it waits for the ticket
+  abbrev pub WaitsFor : List (Entry D) → ℕ → Response Op → Type 0
+  WaitsFor entries t response = Since (HandsOver t response) (Retakes t) entries
+
 -- ---- what peers are served
 
 -- whether the entry changes what is served
@@ -329,6 +358,16 @@ module _ {D Op : Type 0} (u : Setup D Op) where
     pub answered_once : (d : ℕ) → count_outs (is_answer_to d) entries ≤ 1
     pub answers : Always AnswersAt entries
     pub settles : Always SettlesAt entries
+    -- who was let go before a candidate is told so, and a candidate waits until it is polled or replaced
+    pub dropped : (t : ℕ) → (is_dropped m.tickets t ≡ true) ↔ WasLetGo entries t
+    pub waits : (t : ℕ) (response : Response Op)
+        → waiting_for m t ≡ Some response
+        → WaitsFor u.operations entries t response
+    pub nothing_waits : (t : ℕ)
+        → waiting_for m t ≡ None
+        → (response : Response Op)
+        → WaitsFor u.operations entries t response
+        → ⊥
     -- a production is answered once at most, as the database that is served answers
     pub served_once : (n : ℕ) → count_outs (is_served n) entries ≤ 1
     pub served : (database : Option D) × Serves u entries database
