@@ -1,5 +1,5 @@
 -- That a new resolver keeps the laws, whatever is done to it and to its mailbox.
-use Rattle.std.proofs.Common.{◌≡◌, ◌↔◌, ◌⊎◌, ℕ, ◌+◌, ◌≤◌, cond, None, List, [], ◌∷◌, ◌++◌, Contains, refl, sym, ap, ◌∙◌, subst, arith}
+use Rattle.std.proofs.Common.{◌≡◌, ◌↔◌, ◌⊎◌, ℕ, ◌+◌, ◌≤◌, cond, Option, Some, None, List, [], ◌∷◌, ◌++◌, Contains, refl, sym, ap, ◌∙◌, subst, arith}
 use Rattle.std.specs.Option.{is_some}
 use Rattle.stateful_p2p.specs.Table.{at}
 use Rattle.stateful_p2p.specs.Fanout.{waiting_on, awaited_of}
@@ -27,6 +27,9 @@ use Rattle.stateful_p2p.proofs.Ending.{forgets_behind, answers_behind, comes_law
 abbrev IsStep : {D : Type 0} → Entry D → Type 0
 IsStep (Stepped task outs) = Unit {0}
 IsStep entry = ⊥
+
+same_number : (d e : ℕ) → ◌≡◌ {A = Option ℕ} (Some d) (Some e) → d ≡ e
+same_number d e is = cc
 
 module _ {D Op : Type 0} (u : Setup D Op) where
   -- what each entry keeps
@@ -131,6 +134,7 @@ module _ {D Op : Type 0} (u : Setup D Op) where
             fetched_once = λ t. let f = here.few t in omega arith;
             none_forgotten = λ t live. here.all t ((here.live t).1 live);
             comes = let all = holds h s m runs in comes_law u h s m all.placed all.told all.balanced all.numbered;
+            one_at_a_time = λ t d e one other. let told = (holds h s m runs).told in same_number d e (sym ((told.unjudged t d).1 one).0 ∙ ((told.unjudged t e).1 other).0);
             forgotten_once = λ t. let f = here.few t in let e = (holds h s m runs).balanced.even t in omega arith;
             forgets = each u Holds ForgetsAt holds forgets_at h s m runs;
             answered_once = λ d. let f = (holds h s m runs).answered.few d in let e = (holds h s m runs).answered.even d in omega arith;

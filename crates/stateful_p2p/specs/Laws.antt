@@ -295,7 +295,8 @@ Retakes t entry = ⊥
 module _ {D Op : Type 0} (operations : Format Op) where
   -- the ticket is handed this response, which the delivery's bytes are
   abbrev pub HandsOver : ℕ → Response Op → Entry D → Type 0
-  HandsOver t response (Stepped (Deliver d key bytes) outs) = Contains outs (Candidate t) × IsResponse operations key bytes response
+  HandsOver t response (Stepped (Deliver d key bytes) outs) = Contains outs (Candidate t)
+      × IsResponse operations key bytes response
   HandsOver t response entry = ⊥
 
   -- it waits for the ticket
@@ -354,6 +355,8 @@ module _ {D Op : Type 0} (u : Setup D Op) where
     -- a ticket is forgotten once at most, and is behind each event where it was fetched for and is live no more
     pub forgotten_once : (t : ℕ) → count_outs (is_forget_of t) entries ≤ 1
     pub forgets : Always ForgetsAt entries
+    -- a ticket has one candidate to judge at a time
+    pub one_at_a_time : (t d e : ℕ) → HasToJudge entries t d → HasToJudge entries t e → d ≡ e
     -- a delivery is answered once at most, and is behind each event where nobody has it to judge
     pub answered_once : (d : ℕ) → count_outs (is_answer_to d) entries ≤ 1
     pub answers : Always AnswersAt entries
