@@ -65,9 +65,11 @@ module _ {D Op : Type 0} (u : Setup D Op) where
       → (t : ℕ) (key : Request) → Contains done (Fetch t key) → IsTaken t key (Stepped task outs) × (is_live m.tickets t ≡ true) × Contains (messages m.queue) (GetOperations t key)
   fetch_done s m event task done next left outs (Does.hears {message = message} hands are h) (Takes.hears {message = other} handed) t key there =
       let by = fetched_by s m message done next outs h t key there in
-      let same = same_message m.queue left.queue message other hands handed in
-      (subst (λ w. IsTaken t key (Stepped (tasks.Hear w) outs)) same by.0, by.1,
-      subst (λ w. Contains w (GetOperations t key)) (sym hands.front) (0, omega arith, by.2))
+      let same = same_message m.queue left.queue message other hands handed in (
+        subst (λ w. IsTaken t key (Stepped (tasks.Hear w) outs)) same by.0,
+        by.1,
+        subst (λ w. Contains w (GetOperations t key)) (sym hands.front) (0, omega arith, by.2),
+      )
   fetch_done s m event task done next left outs (Does.delivers {d = d} {key = k} {bytes = bytes} h) Takes.delivers t key there = absurd (no_other done t key (all_delivered IsOther (λ t. tt) (λ d v. tt) (λ d. tt) u.operations s m d k bytes done next left h) there)
   fetch_done s m event task done next left outs (Does.judges {t = v} {valid = valid} h) Takes.judges t key there = absurd (no_other done t key (all_judged IsOther (λ t. tt) (λ d v. tt) (λ d. tt) s m v valid done next left h) there)
   fetch_done s m event task done next left outs (Does.leaves {t = v} h) Takes.leaves t key there = absurd (no_other done t key (all_left IsOther (λ t. tt) (λ d v. tt) (λ d. tt) s m v done next left h) there)

@@ -360,10 +360,11 @@ module _ {D Op : Type 0} where
         → IsCurrent (h ++ Stepped task outs ∷ []) next × (left.cancelled ≡ [])
     stepped_current h s m event task outs next left here told takes steps =
         let m0 : Inbox D Op = record m { cancelled = [] } in
-        let now = between_current h s m event outs next left steps told in
-        (current_more h steps.between (Stepped task outs) next now
-        (follows_done u h steps.between m0 event task steps.done next left outs (placed_same h m here) now steps.does (same_takes m left event task takes) (within s m event outs next left steps)),
-        does_cancelled steps.between m0 event steps.done next left steps.does)
+        let now = between_current h s m event outs next left steps told in (
+          current_more h steps.between (Stepped task outs) next now
+              (follows_done u h steps.between m0 event task steps.done next left outs (placed_same h m here) now steps.does (same_takes m left event task takes) (within s m event outs next left steps)),
+          does_cancelled steps.between m0 event steps.done next left steps.does,
+        )
 
     asked_told : (h : List (Entry D)) (s : State D) (m : Inbox D Op) (t : ℕ) (key : Request) (feedback : Reply) (left : Inbox D Op) → IsPlaced h m → Asks m key feedback t left → IsTold h s m.cancelled → IsTold (h ++ Asked t key ∷ []) s left.cancelled
     asked_told h s m t key feedback left here asks told =
@@ -458,7 +459,7 @@ module _ {D Op : Type 0} where
         more : (x : ℕ) → (has (m.cancelled ++ t ∷ []) x ≡ false) ↔ ((has m.cancelled x ≡ false) × (t ≡ x → ⊥))
         more x = (
           λ is. let both = or_false (has m.cancelled x) (t == x) (sym (has_push m.cancelled t x) ∙ is) in (both.0, λ same. eqb-false t x both.1 same),
-          λ both. has_push m.cancelled t x ∙ false_or (has m.cancelled x) (t == x) both.0 (not_same (t == x) refl both.1)
+          λ both. has_push m.cancelled t x ∙ false_or (has m.cancelled x) (t == x) both.0 (not_same (t == x) refl both.1),
         )
           where
             not_same : (b : Bool) → (t == x) ≡ b → (t ≡ x → ⊥) → b ≡ false
@@ -495,9 +496,6 @@ module _ {D Op : Type 0} where
         let now = stepped_current h s m event task outs next left here told takes steps in
         subst (λ w. IsTold (h ++ e ∷ []) next w) (sym now.1) (current_told (h ++ e ∷ []) next now.0)
 
-    turn_known : (h : List (Entry D)) (s : State D) (m : Inbox D Op) (e : Entry D) (next : State D) (left : Inbox D Op) → Turns u s m e next left → IsKnown h s m → IsKnown (h ++ e ∷ []) next left
-    turn_known h s m e next left turn known = record { placed = turn_placed u h s m e next left turn known.placed; told = turn_told h s m e next left turn known.placed known.told }
-
     pub known_first : (first : State D) (capacity : ℕ) → IsNew first → IsKnown [] first (empty_inbox capacity)
     known_first first capacity new = record {
       placed = placed_first u capacity;
@@ -507,6 +505,3 @@ module _ {D Op : Type 0} where
         unjudged = λ t d. (λ both. absurd (none_some d (sym (ap (λ w. at w t) new.nothing) ∙ both.0)), λ is. absurd (since_none (Hands t d) (Replies t) is));
       };
     }
-
-    pub known : {first : State D} (capacity : ℕ) → IsNew first → (h : List (Entry D)) (s : State D) (m : Inbox D Op) → Runs u first (empty_inbox capacity) h s m → IsKnown h s m
-    known {first} capacity new = kept u (λ h s m. IsKnown h s m) (known_first first capacity new) turn_known

@@ -36,7 +36,7 @@ use Rattle.stateful_p2p.proofs.Moving.{in_cons, in_none, count_append, count_con
 use Rattle.stateful_p2p.proofs.Putting.{count_zero, count_there, once_counted, all_released, all_forgot, all_retired, all_delivered, all_produced}
 use Rattle.stateful_p2p.proofs.Placing.{IsPlaced}
 use Rattle.stateful_p2p.proofs.Current.{has, has_there, there_has, none_some, there_is, Held, released_same, Gone, forgot_gone, retired_gone, gone_held, IsCurrent, IsTold}
-use Rattle.stateful_p2p.proofs.Following.{IsKnown, known, never_fetched, between_current, accepted_gone}
+use Rattle.stateful_p2p.proofs.Following.{never_fetched, between_current, accepted_gone}
 
 -- ---- lists in order
 
@@ -205,10 +205,6 @@ counted_fetch {D} (e ∷ h) t some = go (count_by (is_fetch_of t) (outs_of e)) r
         (r.0, record { before = e ∷ r.1.before; entry = r.1.entry; after = r.1.after; place = ap (λ w. e ∷ w) r.1.place; here = r.1.here })
     go (suc n) some' all rest = let r = fetch_there (outs_of e) t (omega arith) in (r.0, record { before = []; entry = e; after = h; place = refl; here = r.1 })
 
--- a list that has none of a kind
-none_of : (kind : ActorOut → Bool) (outs : List ActorOut) → All (λ x. kind x ≡ false) outs → count_by kind outs ≡ 0
-none_of kind outs all = count_zero kind outs all
-
 module _ {D : Type 0} where
   -- who was fetched for was forgotten, or is subscribed
   pub record IsBalanced (h : List (Entry D)) (s : State D) : Type 0 where
@@ -221,16 +217,16 @@ module _ {D : Type 0} where
   evens_same : (s next : State D) (done : List ActorOut) → next.subscriptions ≡ s.subscriptions → ((x : ℕ) → All (λ y. is_forget_of x y ≡ false) done) → ((x : ℕ) → All (λ y. is_fetch_of x y ≡ false) done) → Evens s done next
   evens_same s next done same no_forgets no_fetches x =
       let e = ap {B = ℕ} (λ w. cond (is_some (at w x)) 1 0) same in
-      let a = none_of (is_forget_of x) done (no_forgets x) in
-      let b = none_of (is_fetch_of x) done (no_fetches x) in
+      let a = count_zero (is_forget_of x) done (no_forgets x) in
+      let b = count_zero (is_fetch_of x) done (no_fetches x) in
       omega arith
 
   -- one is forgotten
   evens_forgot : (s next : State D) (t : ℕ) (rest : List ActorOut) → ((x : ℕ) → subscribes next x ≡ cond (t == x) false (subscribes s x)) → subscribes s t ≡ true → ((x : ℕ) → All (λ y. is_forget_of x y ≡ false) rest) → ((x : ℕ) → All (λ y. is_fetch_of x y ≡ false) rest)
       → Evens s (Forget t ∷ rest) next
   evens_forgot s next t rest cleared sub no_forgets no_fetches x =
-      let a = none_of (is_forget_of x) rest (no_forgets x) in
-      let b = none_of (is_fetch_of x) rest (no_fetches x) in
+      let a = count_zero (is_forget_of x) rest (no_forgets x) in
+      let b = count_zero (is_fetch_of x) rest (no_fetches x) in
       let c = count_cons (is_forget_of x) (Forget t) rest in
       let d = count_cons (is_fetch_of x) (Forget t) rest in
       go (t == x) refl (cleared x) c a (omega arith)
@@ -390,9 +386,9 @@ module _ {D Op : Type 0} (u : Setup D Op) where
           let c' = count_append (is_forget_of t) steps.forgotten steps.settled in
           let d' = count_append (is_fetch_of t) steps.forgotten steps.settled in
           let p = all_retired (λ y. is_fetch_of t y ≡ false) (λ d v. refl) (λ d. refl) (λ x. refl) s steps.gone steps.forgotten steps.settled steps.between steps.retires in
-          let z = none_of (is_fetch_of t) steps.forgotten p.0 in
-          let z' = none_of (is_fetch_of t) steps.settled p.1 in
-          let y = none_of (is_forget_of t) steps.settled (settled_only s steps.gone steps.forgotten steps.settled steps.between steps.retires t) in
+          let z = count_zero (is_fetch_of t) steps.forgotten p.0 in
+          let z' = count_zero (is_fetch_of t) steps.settled p.1 in
+          let y = count_zero (is_forget_of t) steps.settled (settled_only s steps.gone steps.forgotten steps.settled steps.between steps.retires t) in
           let f = forgot_counts s steps.gone steps.forgotten steps.settled steps.between told.held steps.retires t in
           let o = own t in
           let e = balanced.even t in

@@ -79,9 +79,10 @@ module _ {E : Type 0} (h : List E) (e : E) where
       go (last before_is entry_is none) = inl (subst S entry_is o.begins)
       go (earlier rest h_is after_is) =
           let both : All (λ later. N later → ⊥) (rest ++ e ∷ []) = subst (All (λ later. N later → ⊥)) after_is o.goes_on in
-          inr
-          (record { before = o.before; entry = o.entry; after = rest; place = h_is; begins = o.begins; goes_on = front rest both },
-          All-contains (λ later. N later → ⊥) (rest ++ e ∷ []) e both (Contains-append_right rest (e ∷ []) e (0, omega arith, refl)))
+          inr (
+            record { before = o.before; entry = o.entry; after = rest; place = h_is; begins = o.begins; goes_on = front rest both },
+            All-contains (λ later. N later → ⊥) (rest ++ e ∷ []) e both (Contains-append_right rest (e ∷ []) e (0, omega arith, refl)),
+          )
 
 -- nothing is in an empty history
 nowhere : {E : Type 0} (before after : List E) (x : E) → [] ≡ before ++ x ∷ after → ⊥
@@ -97,9 +98,6 @@ module _ {E : Type 0} where
 
   pub always_none : (P : List E → E → Type 0) → Always P []
   always_none P before x after is = absurd (nowhere before after x is)
-
-  pub once_weaker : (P Q : List E → E → Type 0) → ((h : List E) (e : E) → P h e → Q h e) → (h : List E) → Once P h → Once Q h
-  once_weaker P Q weaker h o = record { before = o.before; entry = o.entry; after = o.after; place = o.place; here = weaker o.before o.entry o.here }
 
 -- ---- counts of outputs
 

@@ -133,7 +133,7 @@ module _ {D Op : Type 0} (u : Setup D Op) (h : List (Entry D)) (s : State D) (m 
   settles_by : IsAnswered (h ++ Stepped task outs ∷ []) next → SettlesAt h (Stepped task outs)
   settles_by behind = (
     λ d valid there. feedback d valid there (all_told (Feedback d valid) d there (eq-eqb d d refl)),
-    λ d there. unjudged d there (all_told (Unjudged d) d there (eq-eqb d d refl))
+    λ d there. unjudged d there (all_told (Unjudged d) d there (eq-eqb d d refl)),
   )
     where
       feedback : (d : ℕ) (valid : Bool) → Contains outs (Feedback d valid) → Told (h ++ Stepped task outs ∷ []) (Stepped task outs) (Feedback d valid)

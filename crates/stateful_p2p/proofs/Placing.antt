@@ -288,7 +288,7 @@ module _ {D Op : Type 0} where
     all = λ t live. let c = count_push (is_fetch_of t) h e in let f = moves.all t live in let i = here.all t ((moves.live t).0 live).0 in omega arith;
     live = λ t. (
       λ l. let both = (moves.live t).0 l in since_before h e (IsDrawn t) (Ends t) ((here.live t).0 both.0) both.1,
-      λ l. back t (since_split h e (IsDrawn t) (Ends t) l)
+      λ l. back t (since_split h e (IsDrawn t) (Ends t) l),
     );
     drawn = λ t key there. once_before h e (λ before e. Draws t key e) (here.drawn t key (moves.from t key there));
   }

@@ -303,7 +303,7 @@ module _ {D Op : Type 0} (u : Setup D Op) (h : List (Entry D)) (s : State D) (m 
     record {
       some = λ x r found. some x r (has takers x) refl (waits_offered m takers response x) found;
       none = λ x found r waits. none x r (has takers x) refl (waits_offered m takers response x) found (since_split h e (HandsOver u.operations x r) (Retakes x) waits);
-    }
+    },
   )
     where
       e : Entry D
@@ -417,19 +417,21 @@ module _ {D Op : Type 0} (u : Setup D Op) where
       go true dropped = (idle_polled h m m e refl (λ x. inl refl) (λ x drawn. drawn.1) (λ x there. in_none (Candidate x) there) polled, others m.candidates (λ x other. refl) (nothing_there dropped (at m.candidates t) refl))
       go false kept = (
         idle_polled h m (record m { candidates = without m.candidates t }) e refl (λ x. inl refl) (λ x drawn. drawn.1) (λ x there. in_none (Candidate x) there) polled,
-        others (without m.candidates t) (λ x other. at-without m.candidates t x ∙ ap (λ b. cond b None (at m.candidates x)) other) (at-without m.candidates t t ∙ ap (λ b. cond b None (at m.candidates t)) (eq-eqb t t refl))
+        others (without m.candidates t) (λ x other. at-without m.candidates t x ∙ ap (λ b. cond b None (at m.candidates x)) other) (at-without m.candidates t t ∙ ap (λ b. cond b None (at m.candidates t)) (eq-eqb t t refl)),
       )
 
   pub turn_polled : (h : List (Entry D)) (s : State D) (m : Inbox D Op) (e : Entry D) (next : State D) (left : Inbox D Op) → Turns u s m e next left → IsPlaced h m → IsTold h s m.cancelled → IsPolled h m → IsWaiting u.operations h m → IsPolled (h ++ e ∷ []) left × IsWaiting u.operations (h ++ e ∷ []) left
   turn_polled h s m e next left (Turns.asks {t = t} {key = key} {feedback = feedback} asks) here told polled waiting =
       (asked_polled h m t key feedback left asks polled, idle_waiting u.operations h m left e (ap (λ (w : Inbox D Op). w.candidates) asks.others) (λ x never. never) (λ x r never. never) waiting)
-  turn_polled h s m e next left (Turns.attaches sent_db) here told polled waiting =
-      (idle_polled h m left e (ap (λ (w : Inbox D Op). w.next_ticket) sent_db.others) (λ x. inl (ap (λ (w : Inbox D Op). at w.tickets x) sent_db.others)) (λ x drawn. drawn.1) (λ x there. in_none (Candidate x) there) polled,
-      idle_waiting u.operations h m left e (ap (λ (w : Inbox D Op). w.candidates) sent_db.others) (λ x never. never) (λ x r never. never) waiting)
+  turn_polled h s m e next left (Turns.attaches sent_db) here told polled waiting = (
+    idle_polled h m left e (ap (λ (w : Inbox D Op). w.next_ticket) sent_db.others) (λ x. inl (ap (λ (w : Inbox D Op). at w.tickets x) sent_db.others)) (λ x drawn. drawn.1) (λ x there. in_none (Candidate x) there) polled,
+    idle_waiting u.operations h m left e (ap (λ (w : Inbox D Op). w.candidates) sent_db.others) (λ x never. never) (λ x r never. never) waiting,
+  )
   turn_polled h s m e next left (Turns.cancels {t = t}) here told polled waiting =
-      let apart = cancelled_apart m t in
-      (idle_polled h m left e apart.next (λ x. either t x (at m.tickets x) (at (cancelled_inbox m t).tickets x) (at_cancelled m t x)) (λ x drawn. drawn.1) (λ x there. in_none (Candidate x) there) polled,
-      idle_waiting u.operations h m left e apart.candidates (λ x never. never) (λ x r never. never) waiting)
+      let apart = cancelled_apart m t in (
+        idle_polled h m left e apart.next (λ x. either t x (at m.tickets x) (at (cancelled_inbox m t).tickets x) (at_cancelled m t x)) (λ x drawn. drawn.1) (λ x there. in_none (Candidate x) there) polled,
+        idle_waiting u.operations h m left e apart.candidates (λ x never. never) (λ x r never. never) waiting,
+      )
   turn_polled h s m e next left (Turns.polls {t = t}) here told polled waiting = polled_waiting h m t here polled waiting
   turn_polled h s m e next left (Turns.steps {event = event} {task = task} {outs = outs} comes takes steps) here told polled waiting =
       let own = within u s m event outs next left steps in

@@ -36,7 +36,7 @@ use Rattle.stateful_p2p.proofs.Moving.{in_cons, in_none, Contains-filter}
 use Rattle.stateful_p2p.proofs.Putting.{once_counted, all_released, all_forgot}
 use Rattle.stateful_p2p.proofs.Placing.{IsPlaced, same_message, same_takes, turn_placed, placed_first}
 use Rattle.stateful_p2p.proofs.Current.{has, none_some, there_is, IsCurrent, IsTold}
-use Rattle.stateful_p2p.proofs.Following.{IsKnown, turn_told, known_first, between_current, placed_same}
+use Rattle.stateful_p2p.proofs.Following.{between_current, placed_same}
 use Rattle.stateful_p2p.proofs.Forgetting.{subscribes, AreForgotten, forgotten, IsBalanced, counted_fetch, cancelled_dead, same_gone, turn_balanced}
 
 -- what is settled answers deliveries

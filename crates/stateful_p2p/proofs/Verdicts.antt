@@ -226,9 +226,10 @@ module _ {D Op : Type 0} where
       → Each (GivenIs (h ++ Stepped (tasks.Judge t valid) outs ∷ [])) next × All (Told (h ++ Stepped (tasks.Judge t valid) outs ∷ []) (Stepped (tasks.Judge t valid) outs)) done
   judged_judged h s m t valid done next left outs now each (resolving.accepts {settled = settled} {next = mid} rel) =
       let e : Entry D = Stepped (tasks.Judge t true) outs in
-      let keeps = keeps_judged h s t true outs now in
-      (released_each (GivenIs h) (GivenIs (h ++ e ∷ [])) s t (Some true) settled mid keeps rel each,
-      All-cons (Told (h ++ e ∷ []) e) (Forget t) (option_to_list settled) tt (released_told (h ++ e ∷ []) e (GivenIs h) s t (Some true) settled mid keeps rel each))
+      let keeps = keeps_judged h s t true outs now in (
+        released_each (GivenIs h) (GivenIs (h ++ e ∷ [])) s t (Some true) settled mid keeps rel each,
+        All-cons (Told (h ++ e ∷ []) e) (Forget t) (option_to_list settled) tt (released_told (h ++ e ∷ []) e (GivenIs h) s t (Some true) settled mid keeps rel each),
+      )
   judged_judged h s m t valid done next left outs now each (resolving.rejects {settled = settled} rel) =
       let e : Entry D = Stepped (tasks.Judge t false) outs in
       let keeps = keeps_judged h s t false outs now in
