@@ -1,25 +1,19 @@
 -- What the tables of a resolver tell of its history: who subscribes to what, and who has which candidate to judge.
-use Rattle.std.proofs.Common.{◌≡◌, ◌≢◌, ℕ, ◌+◌, ◌≤◌, ◌==◌, ◌↔◌, Bool, true, false, not, cond, ◌||◌, Option, Some, None, List, [], ◌∷◌, ◌++◌, map, filter, All, Contains, count_by, ◌⊎◌, inl, inr, refl, sym, ap, subst, ◌∙◌, arith}
-use Rattle.std.specs.Prelude.{option_to_list}
+use Rattle.std.proofs.Common.{◌≡◌, ℕ, ◌==◌, ◌↔◌, Bool, true, false, cond, ◌||◌, Option, Some, None, List, [], ◌∷◌, ◌++◌, Contains, ◌⊎◌, inl, inr, refl, sym, ap, ◌∙◌, arith}
 use Rattle.std.specs.List.{list_any}
 use Rattle.std.specs.Option.{is_some}
-use Rattle.std.proofs.lemmas.Bool.{eqb-true, eqb-false, eq-eqb}
-use Rattle.std.proofs.lemmas.List.Elements.{All-contains, filter_passes, Contains-append_cases, Contains-append_right}
-use Rattle.std.proofs.lemmas.List.Sorted.{list_any-IsPermutation}
-use Rattle.stateful_types.specs.Format.{Format}
-use Rattle.stateful_types.specs.Mailbox.{messages, HandsOut}
+use Rattle.std.proofs.lemmas.Bool.{eqb-true, eq-eqb}
+use Rattle.std.proofs.lemmas.List.Elements.{Contains-append_right}
 use Rattle.stateful_types.specs.declared.request.Request.{Request}
-use Rattle.stateful_p2p.specs.Table.{at, put, without, put_each}
-use Rattle.stateful_p2p.specs.Tickets.{is_live}
-use Rattle.stateful_p2p.specs.Subscribing.{AreSubscribers, subscribed}
-use Rattle.stateful_p2p.specs.Inbox.{Inbox, cancelled, let_go}
-use Rattle.stateful_p2p.specs.Fanout.{is_free, Releases, has_none, releases, Forgets, stranger, forgets, Retires, nobody, unfetched, fetched, Takes, delivered, awaiting, Delivers, unheard, malformed, untaken, taken}
-use Rattle.stateful_p2p.specs.History.{Entry, Asked, Attached, Cancelled, Polled, Stepped, outs_of, count_outs, Once, Since}
-use Rattle.stateful_p2p.specs.Laws.{IsDrawn, Ends, IsLive, WasFetched, IsSubscriber, Hands, Replies, HasToJudge, is_fetch_of}
+use Rattle.stateful_p2p.specs.Table.{at, without}
+use Rattle.stateful_p2p.specs.Inbox.{cancelled}
+use Rattle.stateful_p2p.specs.Fanout.{Releases, has_none, releases, Forgets, stranger, forgets, Retires, nobody, unfetched, fetched}
+use Rattle.stateful_p2p.specs.History.{Entry, outs_of, Since}
+use Rattle.stateful_p2p.specs.Laws.{IsDrawn, Ends, IsLive, WasFetched, IsSubscriber, Hands, Replies, HasToJudge}
 use Rattle.stateful_p2p.specs.declared.state.State.{State}
 use Rattle.stateful_p2p.specs.declared.event.ActorOut.{ActorOut}
-use Rattle.stateful_p2p.specs.declared.event.ActorOut.TheVariants.{Fetch, Candidate}
-use Rattle.stateful_p2p.proofs.Tables.{at-put, at-without}
+use Rattle.stateful_p2p.specs.declared.event.ActorOut.TheVariants.{Fetch}
+use Rattle.stateful_p2p.proofs.Tables.{at-without}
 use Rattle.stateful_p2p.proofs.Histories.{once_here, once_before, once_split, since_here, since_before, since_split}
 use Rattle.stateful_p2p.proofs.Moving.{in_cons, in_none}
 

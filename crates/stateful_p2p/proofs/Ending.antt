@@ -1,15 +1,14 @@
 -- What holds behind each event: who was forgotten, which deliveries were answered, and which events may come next.
-use Rattle.std.proofs.Common.{◌≡◌, ◌≢◌, ℕ, zero, suc, ◌+◌, ◌≤◌, ◌<◌, ◌==◌, ◌↔◌, nat_le, Bool, true, false, not, cond, ◌&&◌, Option, Some, None, List, [], ◌∷◌, ◌++◌, count_by, ◌⊎◌, inl, inr, refl, sym, ap, subst, ◌∙◌, arith}
+use Rattle.std.proofs.Common.{◌≡◌, ◌≢◌, ℕ, ◌+◌, ◌≤◌, ◌<◌, ◌↔◌, nat_le, Bool, true, false, not, cond, ◌&&◌, Some, List, [], ◌∷◌, ◌⊎◌, inl, inr, refl, ap, arith}
 use Rattle.std.specs.Option.{is_some}
 use Rattle.std.proofs.lemmas.Bool.{eq-eqb, leb-true, leb-false}
 use Rattle.stateful_types.specs.Mailbox.{messages}
-use Rattle.stateful_types.specs.declared.request.Request.{Request}
 use Rattle.stateful_p2p.specs.Table.{at}
 use Rattle.stateful_p2p.specs.Tickets.{is_live}
 use Rattle.stateful_p2p.specs.Inbox.{Inbox}
 use Rattle.stateful_p2p.specs.Resolving.{Setup, is_empty, may_come}
-use Rattle.stateful_p2p.specs.History.{Entry, Stepped, count_outs}
-use Rattle.stateful_p2p.specs.Laws.{IsLive, HadFetch, WasFetched, HasToJudge, WasDelivered, WasProduced, CanCome, is_fetch_of, is_forget_of, is_answer_to}
+use Rattle.stateful_p2p.specs.History.{Entry, count_outs}
+use Rattle.stateful_p2p.specs.Laws.{IsLive, HadFetch, HasToJudge, WasDelivered, WasProduced, CanCome, is_fetch_of, is_forget_of, is_answer_to}
 use Rattle.stateful_p2p.specs.declared.state.State.{State}
 use Rattle.stateful_p2p.specs.declared.message.Message.{Message}
 use Rattle.stateful_p2p.specs.declared.event.ActorEvent.{ActorEvent}

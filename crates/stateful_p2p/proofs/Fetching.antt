@@ -1,16 +1,13 @@
 -- That keys are fetched for live tickets, where their requests are taken, once, and that no live ticket is forgotten.
-use Rattle.std.proofs.Common.{◌≡◌, ℕ, ◌+◌, ◌≤◌, ◌==◌, Bool, true, false, cond, Option, Some, None, List, [], ◌∷◌, ◌++◌, map, All, Contains, count_by, ◌⊎◌, inl, inr, refl, sym, ap, subst, ◌∙◌, arith}
-use Rattle.std.specs.Prelude.{option_to_list}
-use Rattle.std.proofs.lemmas.List.Elements.{All-nil, All-cons, All-append, All-map, All-contains, Contains-append_cases, Contains-append_right}
-use Rattle.stateful_types.specs.Format.{Format}
-use Rattle.stateful_types.specs.Mailbox.{messages, HandsOut}
+use Rattle.std.proofs.Common.{◌≡◌, ℕ, Bool, true, false, List, [], ◌++◌, All, Contains, ◌⊎◌, inl, inr, sym, subst, ◌∙◌, arith}
+use Rattle.std.proofs.lemmas.List.Elements.{All-append, All-contains, Contains-append_cases, Contains-append_right}
+use Rattle.stateful_types.specs.Mailbox.{messages}
 use Rattle.stateful_types.specs.declared.request.Request.{Request}
 use Rattle.stateful_p2p.specs.Tickets.{is_live}
 use Rattle.stateful_p2p.specs.Inbox.{Inbox, empty_inbox}
-use Rattle.stateful_p2p.specs.Fanout.{Releases, Delivers, unheard, malformed, untaken, taken}
-use Rattle.stateful_p2p.specs.Resolving.{Setup, Hears, attaches, fetches, passes_over, Judges, accepts, rejects, Leaves, leaves_unfetched, Produces, sent, Does, Steps}
-use Rattle.stateful_p2p.specs.History.{Entry, Stepped, outs_of, count_outs, Once, Always, Takes, Turns, Runs}
-use Rattle.stateful_p2p.specs.Laws.{Draws, IsLive, IsTaken, is_fetch_of, waiting}
+use Rattle.stateful_p2p.specs.Resolving.{Setup, Hears, attaches, fetches, passes_over, Does, Steps}
+use Rattle.stateful_p2p.specs.History.{Entry, Stepped, outs_of, Once, Always, Takes, Turns, Runs}
+use Rattle.stateful_p2p.specs.Laws.{Draws, IsLive, IsTaken}
 use Rattle.stateful_p2p.specs.declared.state.State.{State}
 use Rattle.stateful_p2p.specs.declared.message.Message.{Message}
 use Rattle.stateful_p2p.specs.declared.message.Message.TheVariants.{AttachDatabase, GetOperations}
@@ -18,7 +15,7 @@ use Rattle.stateful_p2p.specs.declared.actor.Task.{Task}
 use Rattle.stateful_p2p.specs.declared.actor.Task.TheVariants as tasks
 use Rattle.stateful_p2p.specs.declared.event.ActorEvent.{ActorEvent}
 use Rattle.stateful_p2p.specs.declared.event.ActorOut.{ActorOut}
-use Rattle.stateful_p2p.specs.declared.event.ActorOut.TheVariants.{Fetch, Forget, Candidate, Feedback, Unjudged, Served, Unserved}
+use Rattle.stateful_p2p.specs.declared.event.ActorOut.TheVariants.{Fetch, Forget, Feedback, Unjudged}
 use Rattle.stateful_p2p.proofs.Histories.{each}
 use Rattle.stateful_p2p.proofs.Moving.{in_cons, in_none}
 use Rattle.stateful_p2p.proofs.Putting.{all_retired, all_judged, all_left, all_delivered, all_produced}

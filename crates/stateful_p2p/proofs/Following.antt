@@ -1,40 +1,39 @@
 -- That the tables of a resolver follow its history.
-use Rattle.std.proofs.Common.{◌≡◌, ◌≢◌, ℕ, ◌+◌, ◌≤◌, ◌==◌, ◌↔◌, Bool, true, false, not, cond, ◌||◌, Option, Some, None, List, [], ◌∷◌, ◌++◌, map, filter, All, Contains, count_by, ◌⊎◌, inl, inr, refl, sym, ap, subst, ◌∙◌, arith}
-use Rattle.std.specs.Prelude.{option_to_list}
+use Rattle.std.proofs.Common.{◌≡◌, ℕ, ◌==◌, ◌↔◌, Bool, true, false, not, cond, ◌||◌, Option, Some, None, List, [], ◌∷◌, ◌++◌, map, filter, All, Contains, ◌⊎◌, inl, inr, refl, sym, ap, subst, ◌∙◌, arith}
 use Rattle.std.specs.Option.{is_some}
 use Rattle.std.proofs.lemmas.Bool.{eqb-true, eqb-false, eq-eqb}
-use Rattle.std.proofs.lemmas.List.Elements.{All-contains, filter_passes, Contains-append_cases, Contains-append_right}
+use Rattle.std.proofs.lemmas.List.Elements.{All-contains, filter_passes, Contains-append_right}
 use Rattle.std.proofs.lemmas.List.Sorted.{list_any-IsPermutation}
 use Rattle.stateful_types.specs.Format.{Format}
-use Rattle.stateful_types.specs.Mailbox.{messages, HandsOut}
+use Rattle.stateful_types.specs.Mailbox.{messages}
 use Rattle.stateful_types.specs.declared.request.Request.{Request}
 use Rattle.stateful_types.specs.declared.mailbox.Feedback.{Feedback as Reply}
 use Rattle.stateful_types.specs.declared.response.Response.{Response}
 use Rattle.stateful_p2p.specs.Table.{at, put, without, put_each}
 use Rattle.stateful_p2p.specs.Tickets.{is_live, is_dropped, ended}
 use Rattle.stateful_p2p.specs.Messages.{is_not_of}
-use Rattle.stateful_p2p.specs.Subscribing.{AreSubscribers, subscribed}
-use Rattle.stateful_p2p.specs.Inbox.{Inbox, Asks, Attaches, cancelled as cancelled_inbox, let_go, taken_out, offered, offered_each, empty_inbox}
+use Rattle.stateful_p2p.specs.Subscribing.{subscribed}
+use Rattle.stateful_p2p.specs.Inbox.{Inbox, Asks, cancelled as cancelled_inbox, let_go, taken_out, offered, offered_each, empty_inbox}
 use Rattle.stateful_p2p.specs.Fanout.{is_free, Releases, has_none, releases, Forgets, stranger, forgets, Retires, delivered, awaiting, Delivers, unheard, malformed, untaken, taken}
 use Rattle.stateful_p2p.specs.Fanout as fanout
-use Rattle.stateful_p2p.specs.Resolving.{Setup, IsNew, Hears, attaches, fetches, passes_over, Judges, accepts, rejects, Leaves, leaves_unfetched, Produces, sent, Does, Steps}
-use Rattle.stateful_p2p.specs.History.{Entry, Asked, Attached, Cancelled, Polled, Stepped, outs_of, count_outs, Once, Since, Takes, Turns, Runs}
-use Rattle.stateful_p2p.specs.Laws.{IsDrawn, Ends, IsLive, IsTaken, WasFetched, IsSubscriber, Hands, Replies, HasToJudge, is_fetch_of, is_request_of, waiting}
+use Rattle.stateful_p2p.specs.Resolving.{Setup, IsNew, Hears, attaches, fetches, passes_over, Judges, accepts, rejects, Leaves, leaves_unfetched, Does, Steps}
+use Rattle.stateful_p2p.specs.History.{Entry, Asked, Cancelled, Stepped, outs_of, Since, Takes, Turns}
+use Rattle.stateful_p2p.specs.Laws.{IsDrawn, Ends, IsLive, WasFetched, IsSubscriber, Hands, Replies, HasToJudge, is_fetch_of, is_request_of}
 use Rattle.stateful_p2p.specs.declared.state.State.{State}
 use Rattle.stateful_p2p.specs.declared.message.Message.{Message}
-use Rattle.stateful_p2p.specs.declared.message.Message.TheVariants.{AttachDatabase, GetOperations}
+use Rattle.stateful_p2p.specs.declared.message.Message.TheVariants.{GetOperations}
 use Rattle.stateful_p2p.specs.declared.actor.Task.{Task}
 use Rattle.stateful_p2p.specs.declared.actor.Task.TheVariants as tasks
 use Rattle.stateful_p2p.specs.declared.event.ActorEvent.{ActorEvent}
 use Rattle.stateful_p2p.specs.declared.event.ActorOut.{ActorOut}
-use Rattle.stateful_p2p.specs.declared.event.ActorOut.TheVariants.{Fetch, Forget, Candidate, Feedback, Unjudged, Served, Unserved}
+use Rattle.stateful_p2p.specs.declared.event.ActorOut.TheVariants.{Fetch, Candidate, Feedback, Unjudged}
 use Rattle.stateful_p2p.proofs.Tables.{at-put, at-without}
-use Rattle.stateful_p2p.proofs.Histories.{kept, once_here, once_before, once_split, since_here, since_before, since_split, since_none, once_none}
-use Rattle.stateful_p2p.proofs.Moving.{in_cons, in_none, count_cons, Contains-filter}
-use Rattle.stateful_p2p.proofs.Putting.{count_there, once_counted, all_one, all_retired, all_judged, all_left, all_delivered, all_produced}
-use Rattle.stateful_p2p.proofs.Placing.{IsPlaced, placed_first, turn_placed, same_message, same_takes}
-use Rattle.stateful_p2p.proofs.Fetching.{IsOther, fetched_by, fetches_it, fetch_done, in_done, taken_message}
-use Rattle.stateful_p2p.proofs.Current.{has, has_there, there_has, has_push, none_some, there_is, Clears, Held, released_clears, released_same, Gone, forgot_gone, gone_held, IsCurrent, IsTold, heard_current, current_told, Follows, current_more}
+use Rattle.stateful_p2p.proofs.Histories.{once_before, once_split, since_before, since_split, since_none, once_none}
+use Rattle.stateful_p2p.proofs.Moving.{in_cons, in_none, Contains-filter}
+use Rattle.stateful_p2p.proofs.Putting.{count_there, once_counted, all_one, all_judged, all_left, all_delivered, all_produced}
+use Rattle.stateful_p2p.proofs.Placing.{IsPlaced, placed_first, same_takes}
+use Rattle.stateful_p2p.proofs.Fetching.{IsOther, in_done}
+use Rattle.stateful_p2p.proofs.Current.{has, has_there, there_has, has_push, none_some, there_is, Held, released_clears, released_same, Gone, forgot_gone, gone_held, IsCurrent, IsTold, heard_current, current_told, Follows, current_more}
 
 -- ---- one place of a table
 

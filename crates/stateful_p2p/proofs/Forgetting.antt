@@ -1,42 +1,40 @@
 -- Who is forgotten: whoever was fetched for and ended, once.
-use Rattle.std.proofs.Common.{◌≡◌, ◌≢◌, ℕ, zero, suc, ◌+◌, ◌≤◌, ◌<◌, ◌==◌, ◌↔◌, Bool, true, false, not, cond, ◌||◌, ◌&&◌, Option, Some, None, List, [], ◌∷◌, ◌++◌, map, filter, length, drop, All, Contains, count_by, sum_by, ◌⊎◌, inl, inr, refl, sym, ap, subst, ◌∙◌, arith}
+use Rattle.std.proofs.Common.{◌≡◌, ℕ, zero, suc, ◌+◌, ◌≤◌, ◌<◌, ◌==◌, ◌↔◌, Bool, true, false, cond, ◌||◌, ◌&&◌, Some, None, List, [], ◌∷◌, ◌++◌, map, All, Contains, count_by, ◌⊎◌, inl, inr, refl, sym, ap, subst, ◌∙◌, arith}
 use Rattle.std.specs.Prelude.{option_to_list}
 use Rattle.std.specs.Option.{is_some}
 use Rattle.std.specs.Ordering.{nat_cmp}
-use Rattle.std.specs.declared.cmp.Ordering.{Ordering}
-use Rattle.std.specs.declared.cmp.Ordering.TheVariants.{Less, Equal, Greater}
+use Rattle.std.specs.declared.cmp.Ordering.TheVariants.{Less}
 use Rattle.std.specs.List.Sorted.{IsStrictlySortedBy, IsNonDecreasing, IsPermutation}
 use Rattle.std.proofs.lemmas.Bool.{eqb-true, eqb-false, eq-eqb}
 use Rattle.std.proofs.lemmas.Bool.Decides.{nat_tests}
-use Rattle.std.proofs.lemmas.List.Sums.{sum_by-cons, sum_by-append}
+use Rattle.std.proofs.lemmas.List.Sums.{sum_by-cons}
 use Rattle.std.proofs.lemmas.List.Sorted.{IsNonDecreasingBy-drop, list_any-IsPermutation}
-use Rattle.std.proofs.lemmas.List.Elements.{All-nil, All-append, All-weaker, All-contains, All-contains_itself, recursion_from_All, Contains-append_right}
+use Rattle.std.proofs.lemmas.List.Elements.{All-nil, All-append, All-weaker, All-contains_itself, recursion_from_All, Contains-append_right}
 use Rattle.stateful_types.specs.Format.{Format}
 use Rattle.stateful_types.specs.Mailbox.{messages}
 use Rattle.stateful_types.specs.declared.request.Request.{Request}
-use Rattle.stateful_p2p.specs.Table.{at, put, without}
-use Rattle.stateful_p2p.specs.Subscribing.{subscribed}
+use Rattle.stateful_p2p.specs.Table.{at, without}
 use Rattle.stateful_p2p.specs.Tickets.{is_live}
-use Rattle.stateful_p2p.specs.Inbox.{Inbox, empty_inbox}
-use Rattle.stateful_p2p.specs.Fanout.{Releases, has_none, releases, Forgets, stranger, forgets, Retires, nobody, unfetched, fetched, Delivers, unheard, malformed, untaken, taken}
-use Rattle.stateful_p2p.specs.Resolving.{Setup, IsNew, may_come, Hears, attaches, fetches, passes_over, Judges, accepts, rejects, Leaves, leaves_unfetched, Produces, sent, Does, Steps}
-use Rattle.stateful_p2p.specs.History.{Entry, Stepped, outs_of, count_outs, Once, Takes, Turns, Runs}
-use Rattle.stateful_p2p.specs.Laws.{IsLive, WasFetched, AreThose, IsLeft, is_fetch_of, is_forget_of, is_request_of}
+use Rattle.stateful_p2p.specs.Inbox.{Inbox}
+use Rattle.stateful_p2p.specs.Fanout.{Forgets, stranger, forgets, Retires, nobody, unfetched, fetched, Delivers, unheard, malformed, untaken, taken}
+use Rattle.stateful_p2p.specs.Resolving.{Setup, may_come, Hears, attaches, fetches, passes_over, Judges, accepts, rejects, Leaves, leaves_unfetched, Does, Steps}
+use Rattle.stateful_p2p.specs.History.{Entry, Stepped, outs_of, count_outs, Turns}
+use Rattle.stateful_p2p.specs.Laws.{IsLive, WasFetched, is_fetch_of, is_forget_of, is_request_of}
 use Rattle.stateful_p2p.specs.declared.state.State.{State}
 use Rattle.stateful_p2p.specs.declared.message.Message.{Message}
-use Rattle.stateful_p2p.specs.declared.message.Message.TheVariants.{AttachDatabase, GetOperations}
+use Rattle.stateful_p2p.specs.declared.message.Message.TheVariants.{GetOperations}
 use Rattle.stateful_p2p.specs.declared.actor.Task.{Task}
 use Rattle.stateful_p2p.specs.declared.event.ActorEvent.{ActorEvent}
 use Rattle.stateful_p2p.specs.declared.event.ActorEvent.TheVariants as events
 use Rattle.stateful_p2p.specs.declared.event.ActorOut.{ActorOut}
-use Rattle.stateful_p2p.specs.declared.event.ActorOut.TheVariants.{Fetch, Forget, Candidate, Feedback, Unjudged, Served, Unserved}
+use Rattle.stateful_p2p.specs.declared.event.ActorOut.TheVariants.{Fetch, Forget}
 use Rattle.stateful_p2p.proofs.Tables.{at-put, at-without}
-use Rattle.stateful_p2p.proofs.Histories.{count_push, kept}
+use Rattle.stateful_p2p.proofs.Histories.{count_push}
 use Rattle.stateful_p2p.proofs.Moving.{in_cons, in_none, count_append, count_cons}
-use Rattle.stateful_p2p.proofs.Putting.{count_zero, count_there, once_counted, all_released, all_forgot, all_retired, all_delivered, all_produced}
+use Rattle.stateful_p2p.proofs.Putting.{count_zero, count_there, all_released, all_forgot, all_retired, all_delivered, all_produced}
 use Rattle.stateful_p2p.proofs.Placing.{IsPlaced}
-use Rattle.stateful_p2p.proofs.Current.{has, has_there, there_has, none_some, there_is, Held, released_same, Gone, forgot_gone, retired_gone, gone_held, IsCurrent, IsTold}
-use Rattle.stateful_p2p.proofs.Following.{never_fetched, between_current, accepted_gone}
+use Rattle.stateful_p2p.proofs.Current.{has, there_has, there_is, Held, released_same, Gone, forgot_gone, retired_gone, gone_held, IsTold}
+use Rattle.stateful_p2p.proofs.Following.{accepted_gone}
 
 -- ---- lists in order
 

@@ -1,14 +1,13 @@
 -- What the answers to deliveries tell, over a history.
-use Rattle.std.proofs.Common.{◌≡◌, ◌≢◌, ℕ, zero, suc, ◌+◌, ◌≤◌, ◌<◌, ◌==◌, Bool, true, false, cond, Option, Some, None, List, [], ◌∷◌, ◌++◌, All, Contains, count_by, ◌⊎◌, inl, inr, refl, sym, ap, subst, ◌∙◌, arith}
+use Rattle.std.proofs.Common.{◌≡◌, ℕ, ◌<◌, Bool, true, false, cond, Option, Some, List, [], ◌∷◌, ◌++◌, All, Contains, ◌⊎◌, inl, inr, refl, sym, ap, subst, ◌∙◌, arith}
 use Rattle.std.specs.Option.{is_some}
 use Rattle.std.proofs.lemmas.Bool.{eqb-true, eq-eqb}
 use Rattle.std.proofs.lemmas.List.Elements.{All-contains, Contains-append_cases}
-use Rattle.stateful_types.specs.declared.request.Request.{Request}
 use Rattle.stateful_p2p.specs.Table.{at}
 use Rattle.stateful_p2p.specs.Inbox.{Inbox}
 use Rattle.stateful_p2p.specs.Fanout.{outcome}
 use Rattle.stateful_p2p.specs.Resolving.{Setup, may_come, Steps}
-use Rattle.stateful_p2p.specs.History.{Entry, Stepped, outs_of, count_outs, Once, Takes, Turns}
+use Rattle.stateful_p2p.specs.History.{Entry, Stepped, Takes, Turns}
 use Rattle.stateful_p2p.specs.Laws.{HasToJudge, Gives, HasJudged, HaveReplied, IsVerdict, HasNoVerdict, Delivers, SettlesAt, is_answer_to}
 use Rattle.stateful_p2p.specs.declared.state.State.{State}
 use Rattle.stateful_p2p.specs.declared.actor.Task.{Task}
@@ -17,15 +16,14 @@ use Rattle.stateful_p2p.specs.declared.event.ActorEvent.{ActorEvent}
 use Rattle.stateful_p2p.specs.declared.event.ActorOut.{ActorOut}
 use Rattle.stateful_p2p.specs.declared.event.ActorOut.TheVariants.{Feedback, Unjudged}
 use Rattle.stateful_p2p.proofs.Tables.{is_at_number}
-use Rattle.stateful_p2p.proofs.Histories.{once_here, once_before, once_split, count_push}
-use Rattle.stateful_p2p.proofs.Moving.{count_append}
+use Rattle.stateful_p2p.proofs.Histories.{once_split, count_push}
 use Rattle.stateful_p2p.proofs.Putting.{count_there}
 use Rattle.stateful_p2p.proofs.Performing.{retired_number}
 use Rattle.stateful_p2p.proofs.Placing.{IsPlaced, same_takes}
 use Rattle.stateful_p2p.proofs.Current.{IsCurrent, IsTold}
 use Rattle.stateful_p2p.proofs.Following.{between_current, stepped_current}
-use Rattle.stateful_p2p.proofs.Settling.{first_lowest, stands, IsCounted, judged_stands, stands_old, retired_counted, retired_answers, retired_forgets}
-use Rattle.stateful_p2p.proofs.Numbering.{IsAnswered, delivered_count, delivery_after, step_numbers, new_delivery, number_up, delivers_up}
+use Rattle.stateful_p2p.proofs.Settling.{first_lowest, IsCounted, judged_stands, stands_old, retired_counted, retired_answers, retired_forgets}
+use Rattle.stateful_p2p.proofs.Numbering.{IsAnswered, step_numbers, new_delivery, number_up, delivers_up}
 use Rattle.stateful_p2p.proofs.Verdicts.{GivenIs, Told, Each, IsJudged, given_more, each_more, keeps_judged, retired_each, retired_told, done_judged}
 
 module _ {D : Type 0} where

@@ -1,12 +1,12 @@
 -- That a new resolver keeps the laws, whatever is done to it and to its mailbox.
-use Rattle.std.proofs.Common.{◌≡◌, ◌↔◌, ◌⊎◌, ℕ, ◌+◌, ◌≤◌, cond, Option, Some, None, List, [], ◌∷◌, ◌++◌, Contains, refl, sym, ap, ◌∙◌, subst, arith}
+use Rattle.std.proofs.Common.{◌≡◌, ◌↔◌, ◌⊎◌, ℕ, cond, Option, Some, List, [], ◌∷◌, ◌++◌, Contains, refl, sym, ap, ◌∙◌, subst, arith}
 use Rattle.std.specs.Option.{is_some}
 use Rattle.stateful_p2p.specs.Table.{at}
 use Rattle.stateful_p2p.specs.Fanout.{waiting_on, awaited_of}
 use Rattle.stateful_p2p.specs.Inbox.{Inbox, empty_inbox}
 use Rattle.stateful_p2p.specs.Resolving.{Setup, IsNew}
 use Rattle.stateful_p2p.specs.History.{Entry, Stepped, outs_of, count_outs, Turns, Runs}
-use Rattle.stateful_p2p.specs.Laws.{IsDrawn, IsLive, HadFetch, HandsOver, Retakes, HasToJudge, Delivers, WasDelivered, Produces, is_forget_of, is_answer_to, Gives, TellsAt, ForgetsAt, AnswersAt, SettlesAt, Serves, KeepsLaws, Lawful}
+use Rattle.stateful_p2p.specs.Laws.{IsDrawn, IsLive, HadFetch, HandsOver, Retakes, HasToJudge, Delivers, WasDelivered, Produces, is_forget_of, is_answer_to, Gives, TellsAt, ForgetsAt, AnswersAt, SettlesAt, Serves, KeepsLaws}
 use Rattle.stateful_p2p.specs.declared.state.State.{State}
 use Rattle.stateful_p2p.specs.declared.event.ActorOut.TheVariants.{Candidate}
 use Rattle.stateful_p2p.proofs.Histories.{kept, each, once_none, since_none}

@@ -1,18 +1,15 @@
 -- What an entry does to the tickets and the requests of a mailbox.
-use Rattle.std.proofs.Common.{◌≡◌, ℕ, ◌+◌, ◌≤◌, ◌==◌, ◌↔◌, Bool, true, false, not, cond, Option, Some, None, List, [], ◌∷◌, ◌++◌, filter, map, Contains, count_by, All, ◌⊎◌, inl, inr, refl, sym, ap, subst, ◌∙◌, arith, append_assoc, append-nil}
-use Rattle.std.specs.Prelude.{option_to_list}
-use Rattle.std.proofs.lemmas.Bool.{eqb-true, eqb-false, eq-eqb}
+use Rattle.std.proofs.Common.{◌≡◌, ℕ, ◌+◌, ◌≤◌, ◌==◌, Bool, true, false, not, cond, Option, Some, None, List, [], ◌∷◌, ◌++◌, filter, Contains, count_by, ◌⊎◌, inl, inr, refl, sym, ap, subst, ◌∙◌, arith, append_assoc, append-nil}
+use Rattle.std.proofs.lemmas.Bool.{eqb-true, eqb-false}
 use Rattle.std.proofs.lemmas.List.Sums.{sum_by-cons, sum_by-append}
 use Rattle.std.proofs.lemmas.List.Elements.{All-cons, All-weaker, All-contains, All-filter, All-contains_itself, Contains-push_cases, Contains-append_left, Contains-append_right, Contains-append_cases}
-use Rattle.stateful_types.specs.Mailbox.{Queues, messages, HandsOut}
+use Rattle.stateful_types.specs.Mailbox.{Queues, messages}
 use Rattle.stateful_types.specs.declared.request.Request.{Request}
 use Rattle.stateful_types.specs.declared.mailbox.Feedback.{Feedback}
-use Rattle.stateful_types.specs.declared.response.Response.{Response}
 use Rattle.stateful_p2p.specs.Table.{at, put, without}
 use Rattle.stateful_p2p.specs.Tickets.{stands_live, is_live, ended, ended_from, answered}
 use Rattle.stateful_p2p.specs.Sending.{Sends, ready, waits}
 use Rattle.stateful_p2p.specs.Messages.{is_request, is_not_of, kept}
-use Rattle.stateful_p2p.specs.Inbox.{Inbox, let_go, cancelled, offered, offered_each}
 use Rattle.stateful_p2p.specs.Laws.{is_request_of}
 use Rattle.stateful_p2p.specs.declared.message.Message.{Message}
 use Rattle.stateful_p2p.specs.declared.message.Message.TheVariants.{AttachDatabase, GetOperations}

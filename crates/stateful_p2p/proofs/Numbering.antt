@@ -1,18 +1,15 @@
 -- The numbers of deliveries and productions: each is above those before it.
-use Rattle.std.proofs.Common.{◌≡◌, ◌≢◌, ℕ, zero, suc, ◌+◌, ◌≤◌, ◌<◌, ◌==◌, ◌↔◌, nat_le, Bool, true, false, cond, Option, Some, None, List, [], ◌∷◌, ◌++◌, All, Contains, count_by, sum_by, ◌⊎◌, inl, inr, refl, sym, ap, subst, ◌∙◌, arith}
-use Rattle.std.specs.Prelude.{option_to_list}
-use Rattle.std.specs.Option.{is_some}
-use Rattle.std.proofs.lemmas.Bool.{eqb-true, eqb-false, eq-eqb, leb-true, leb-false}
+use Rattle.std.proofs.Common.{◌≡◌, ℕ, ◌+◌, ◌≤◌, ◌<◌, ◌==◌, Bool, true, false, cond, Option, Some, None, List, [], ◌∷◌, ◌++◌, count_by, sum_by, ◌⊎◌, inl, inr, refl, sym, ap, subst, ◌∙◌, arith}
+use Rattle.std.proofs.lemmas.Bool.{eqb-true, eq-eqb, leb-true}
 use Rattle.std.proofs.lemmas.List.Sums.{sum_by_push, sum_by-cons, sum_by-append}
 use Rattle.stateful_types.specs.Format.{Format}
 use Rattle.stateful_types.specs.declared.request.Request.{Request}
-use Rattle.stateful_p2p.specs.Table.{at, without}
-use Rattle.stateful_p2p.specs.Inbox.{Inbox, empty_inbox}
+use Rattle.stateful_p2p.specs.Inbox.{Inbox}
 use Rattle.stateful_p2p.specs.Fanout.{Releases, has_none, releases, Forgets, stranger, forgets, Retires, nobody, unfetched, fetched}
 use Rattle.stateful_p2p.specs.Fanout as fanout
 use Rattle.stateful_p2p.specs.Resolving.{Setup, IsNew, may_come, Hears, Judges, Leaves, Does, Steps}
 use Rattle.stateful_p2p.specs.Resolving as resolving
-use Rattle.stateful_p2p.specs.History.{Entry, Stepped, outs_of, count_outs, Once, Takes, Turns, Runs}
+use Rattle.stateful_p2p.specs.History.{Entry, Stepped, outs_of, count_outs, Takes, Turns}
 use Rattle.stateful_p2p.specs.Laws.{Delivers, WasDelivered, Produces, WasProduced, is_answer_to}
 use Rattle.stateful_p2p.specs.declared.state.State.{State}
 use Rattle.stateful_p2p.specs.declared.message.Message.{Message}
@@ -21,7 +18,7 @@ use Rattle.stateful_p2p.specs.declared.actor.Task.TheVariants as tasks
 use Rattle.stateful_p2p.specs.declared.event.ActorEvent.{ActorEvent}
 use Rattle.stateful_p2p.specs.declared.event.ActorEvent.TheVariants as events
 use Rattle.stateful_p2p.specs.declared.event.ActorOut.{ActorOut}
-use Rattle.stateful_p2p.proofs.Histories.{once_here, once_before, once_split, once_none, count_push}
+use Rattle.stateful_p2p.proofs.Histories.{once_here, once_before, once_split, count_push}
 use Rattle.stateful_p2p.proofs.Moving.{count_append}
 use Rattle.stateful_p2p.proofs.Performing.{released_number, forgot_number, retired_number}
 use Rattle.stateful_p2p.proofs.Placing.{same_takes}

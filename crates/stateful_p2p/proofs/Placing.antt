@@ -1,35 +1,34 @@
 -- Where the requests of tickets are: on their way in the mailbox, or fetched.
-use Rattle.std.proofs.Common.{rules, ◌≡◌, ℕ, ◌+◌, ◌≤◌, ◌==◌, ◌↔◌, Bool, true, false, not, cond, Option, Some, None, List, [], ◌∷◌, ◌++◌, map, filter, Contains, All, count_by, ◌⊎◌, inl, inr, refl, sym, ap, subst, ◌∙◌, arith}
+use Rattle.std.proofs.Common.{◌≡◌, ℕ, ◌+◌, ◌≤◌, ◌==◌, ◌↔◌, Bool, true, false, cond, Option, Some, None, List, [], ◌∷◌, ◌++◌, map, filter, Contains, All, count_by, ◌⊎◌, inl, inr, refl, sym, ap, subst, ◌∙◌, arith}
 use Rattle.std.specs.Prelude.{option_to_list}
 use Rattle.std.proofs.lemmas.Bool.{eqb-true, eqb-false, eq-eqb}
-use Rattle.std.proofs.lemmas.List.Elements.{All-nil, All-cons, Contains-append_right, Contains-push_cases}
+use Rattle.std.proofs.lemmas.List.Elements.{All-cons, Contains-append_right, Contains-push_cases}
 use Rattle.stateful_types.specs.Format.{Format}
 use Rattle.stateful_types.specs.Mailbox.{Queues, messages, HandsOut}
 use Rattle.stateful_types.specs.declared.request.Request.{Request}
 use Rattle.stateful_types.specs.declared.mailbox.Feedback.{Feedback as Reply}
 use Rattle.stateful_types.specs.declared.response.Response.{Response}
 use Rattle.stateful_p2p.specs.Table.{at, put, without}
-use Rattle.stateful_p2p.specs.Tickets.{is_live, is_dropped, ended, answered}
+use Rattle.stateful_p2p.specs.Tickets.{is_live, is_dropped, ended}
 use Rattle.stateful_p2p.specs.Messages.{is_not_of}
 use Rattle.stateful_p2p.specs.Inbox.{Inbox, Asks, Attaches, let_go, cancelled, offered, offered_each, taken_out, empty_inbox}
-use Rattle.stateful_p2p.specs.Fanout.{outcome, settled_by, Releases, has_none, releases, Forgets, stranger, forgets, Retires, nobody, unfetched, fetched, Delivers, unheard, malformed, untaken, taken}
-use Rattle.stateful_p2p.specs.Resolving.{Setup, Hears, attaches, fetches, passes_over, Judges, accepts, rejects, Leaves, leaves_unfetched, Produces, sent, Does, Steps}
-use Rattle.stateful_p2p.specs.History.{Entry, Asked, Attached, Cancelled, Polled, Stepped, outs_of, count_outs, Once, Always, Since, Takes, Turns, Runs}
-use Rattle.stateful_p2p.specs.Laws.{Draws, IsDrawn, Ends, IsLive, IsTaken, is_fetch_of, is_request_of, waiting}
+use Rattle.stateful_p2p.specs.Fanout.{Delivers, unheard, malformed, untaken, taken}
+use Rattle.stateful_p2p.specs.Resolving.{Setup, Hears, attaches, fetches, passes_over, Judges, accepts, rejects, Leaves, leaves_unfetched, sent, Does, Steps}
+use Rattle.stateful_p2p.specs.History.{Entry, Asked, Stepped, outs_of, count_outs, Once, Since, Takes, Turns, Runs}
+use Rattle.stateful_p2p.specs.Laws.{Draws, IsDrawn, Ends, IsLive, is_fetch_of, is_request_of, waiting}
 use Rattle.stateful_p2p.specs.declared.state.State.{State}
 use Rattle.stateful_p2p.specs.declared.message.Message.{Message}
 use Rattle.stateful_p2p.specs.declared.message.Message.TheVariants.{AttachDatabase, GetOperations}
-use Rattle.stateful_p2p.specs.declared.tickets.Standing.{Standing}
 use Rattle.stateful_p2p.specs.declared.tickets.Standing.TheVariants.{Open}
 use Rattle.stateful_p2p.specs.declared.actor.Task.{Task}
 use Rattle.stateful_p2p.specs.declared.actor.Task.TheVariants as tasks
 use Rattle.stateful_p2p.specs.declared.event.ActorEvent.{ActorEvent}
 use Rattle.stateful_p2p.specs.declared.event.ActorOut.{ActorOut}
 use Rattle.stateful_p2p.specs.declared.event.ActorOut.TheVariants.{Fetch, Forget, Candidate, Feedback, Unjudged, Served, Unserved}
-use Rattle.stateful_p2p.proofs.Histories.{kept, each, once_here, once_before, once_split, once_none, since_here, since_before, since_split, since_none, count_push}
+use Rattle.stateful_p2p.proofs.Histories.{kept, once_here, once_before, since_here, since_before, since_split, since_none, count_push}
 use Rattle.stateful_p2p.proofs.Standing.{AreFresh, drawn_fresh, ended_fresh, answered_fresh}
-use Rattle.stateful_p2p.proofs.Putting.{count_zero, count_there, once_counted, all_one, all_released, all_forgot, all_retired}
-use Rattle.stateful_p2p.proofs.Moving.{live_put, live_ended, live_answered, in_cons, in_none, count_append, count_cons, sent_database, sent_request, sent_from, without_waiting, fewer_waiting, without_from}
+use Rattle.stateful_p2p.proofs.Putting.{count_zero, all_one, all_released, all_forgot, all_retired}
+use Rattle.stateful_p2p.proofs.Moving.{live_put, live_ended, live_answered, in_none, count_append, count_cons, sent_database, sent_request, sent_from, without_waiting, fewer_waiting, without_from}
 
 -- the request that is taken
 same_head : {D : Type 0} (x y : Message D) (rest : List (Message D)) → ◌≡◌ {A = List (Message D)} (x ∷ rest) (y ∷ rest) → x ≡ y

@@ -1,5 +1,5 @@
 -- What a poll of a mailbox answers, over a history.
-use Rattle.std.proofs.Common.{◌≡◌, ◌≢◌, ℕ, zero, suc, ◌+◌, ◌≤◌, ◌<◌, ◌==◌, ◌↔◌, Bool, true, false, cond, ◌||◌, Option, Some, None, List, [], ◌∷◌, ◌++◌, map, filter, All, Contains, ◌⊎◌, inl, inr, refl, sym, ap, subst, ◌∙◌, arith}
+use Rattle.std.proofs.Common.{◌≡◌, ℕ, ◌≤◌, ◌==◌, ◌↔◌, Bool, true, false, cond, ◌||◌, Option, Some, None, List, [], ◌∷◌, ◌++◌, filter, All, Contains, ◌⊎◌, inl, inr, refl, sym, ap, subst, ◌∙◌, arith}
 use Rattle.std.proofs.lemmas.Bool.{eqb-true, eqb-false, eq-eqb}
 use Rattle.std.proofs.lemmas.List.Elements.{All-nil, All-contains}
 use Rattle.stateful_types.specs.Format.{Format}
@@ -10,13 +10,13 @@ use Rattle.stateful_p2p.specs.Table.{at, put, without}
 use Rattle.stateful_p2p.specs.Tickets.{stands_live, stands_dropped, is_live, is_dropped, ended, ended_from, answered}
 use Rattle.stateful_p2p.specs.Messages.{is_not_of}
 use Rattle.stateful_p2p.specs.Reading.{IsResponse}
-use Rattle.stateful_p2p.specs.Inbox.{Inbox, Asks, Attaches, let_go, cancelled as cancelled_inbox, offered, offered_each, waiting_for, taken_out, empty_inbox}
+use Rattle.stateful_p2p.specs.Inbox.{Inbox, Asks, let_go, cancelled as cancelled_inbox, offered, offered_each, waiting_for, taken_out}
 use Rattle.stateful_p2p.specs.Fanout.{is_free}
 use Rattle.stateful_p2p.specs.Fanout as fanout
 use Rattle.stateful_p2p.specs.Resolving.{Setup, may_come, Hears, Judges, Leaves, Does, Steps}
 use Rattle.stateful_p2p.specs.Resolving as resolving
-use Rattle.stateful_p2p.specs.History.{Entry, Asked, Attached, Cancelled, Polled, Stepped, outs_of, Once, Since, Takes, Turns}
-use Rattle.stateful_p2p.specs.Laws.{IsDrawn, Ends, IsLive, HadCandidate, WasLetGo, Retakes, HandsOver, WaitsFor}
+use Rattle.stateful_p2p.specs.History.{Entry, Asked, Polled, Stepped, outs_of, Once, Since, Takes, Turns}
+use Rattle.stateful_p2p.specs.Laws.{IsDrawn, IsLive, HadCandidate, WasLetGo, Retakes, HandsOver, WaitsFor}
 use Rattle.stateful_p2p.specs.declared.state.State.{State}
 use Rattle.stateful_p2p.specs.declared.message.Message.{Message}
 use Rattle.stateful_p2p.specs.declared.tickets.Standing.{Standing}
@@ -27,7 +27,7 @@ use Rattle.stateful_p2p.specs.declared.event.ActorEvent.{ActorEvent}
 use Rattle.stateful_p2p.specs.declared.event.ActorOut.{ActorOut}
 use Rattle.stateful_p2p.specs.declared.event.ActorOut.TheVariants.{Fetch, Candidate, Feedback, Unjudged}
 use Rattle.stateful_p2p.proofs.Tables.{at-put, at-without}
-use Rattle.stateful_p2p.proofs.Histories.{once_here, once_before, once_split, once_none, since_here, since_before, since_split, since_none}
+use Rattle.stateful_p2p.proofs.Histories.{once_here, once_before, once_split, since_here, since_before, since_split}
 use Rattle.stateful_p2p.proofs.Moving.{in_none, Contains-filter}
 use Rattle.stateful_p2p.proofs.Putting.{all_one, all_judged, all_left, all_produced}
 use Rattle.stateful_p2p.proofs.Placing.{IsPlaced, same_takes}

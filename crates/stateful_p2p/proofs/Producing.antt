@@ -1,7 +1,6 @@
 -- That peers are sent what the database that is served answers, once each.
-use Rattle.std.proofs.Common.{◌≡◌, ◌≢◌, ℕ, zero, suc, ◌+◌, ◌≤◌, ◌<◌, ◌==◌, Bool, true, false, cond, Option, Some, None, List, [], ◌∷◌, ◌++◌, map, All, Contains, count_by, ◌⊎◌, inl, inr, refl, sym, ap, subst, ◌∙◌, arith}
-use Rattle.std.specs.Prelude.{option_to_list}
-use Rattle.std.proofs.lemmas.Bool.{eqb-true, eqb-false, eq-eqb, leb-true}
+use Rattle.std.proofs.Common.{◌≡◌, ℕ, ◌+◌, ◌≤◌, ◌==◌, Bool, true, false, cond, Option, Some, None, List, [], ◌∷◌, ◌++◌, Contains, count_by, refl, sym, ap, subst, ◌∙◌, arith}
+use Rattle.std.proofs.lemmas.Bool.{eqb-true, eq-eqb, leb-true}
 use Rattle.std.proofs.lemmas.List.Elements.{Contains-append_right}
 use Rattle.stateful_types.specs.Format.{Format}
 use Rattle.stateful_types.specs.declared.request.Request.{Request}
@@ -14,17 +13,16 @@ use Rattle.stateful_p2p.specs.History.{Entry, Stepped, outs_of, count_outs, Take
 use Rattle.stateful_p2p.specs.Laws.{Serves, IsOfDatabase, is_served}
 use Rattle.stateful_p2p.specs.declared.state.State.{State}
 use Rattle.stateful_p2p.specs.declared.message.Message.{Message}
-use Rattle.stateful_p2p.specs.declared.message.Message.TheVariants.{AttachDatabase, GetOperations}
 use Rattle.stateful_p2p.specs.declared.actor.Task.{Task}
 use Rattle.stateful_p2p.specs.declared.actor.Task.TheVariants as tasks
 use Rattle.stateful_p2p.specs.declared.event.ActorEvent.{ActorEvent}
 use Rattle.stateful_p2p.specs.declared.event.ActorOut.{ActorOut}
-use Rattle.stateful_p2p.specs.declared.event.ActorOut.TheVariants.{Fetch, Forget, Candidate, Feedback, Unjudged, Served, Unserved}
+use Rattle.stateful_p2p.specs.declared.event.ActorOut.TheVariants.{Fetch, Served, Unserved}
 use Rattle.stateful_p2p.proofs.Histories.{count_push}
 use Rattle.stateful_p2p.proofs.Moving.{count_append, count_cons}
 use Rattle.stateful_p2p.proofs.Putting.{count_zero, all_retired, all_judged, all_left, all_delivered}
 use Rattle.stateful_p2p.proofs.Placing.{same_message, same_takes}
-use Rattle.stateful_p2p.proofs.Numbering.{Numbers, step_numbers, retired_serve, serve_after}
+use Rattle.stateful_p2p.proofs.Numbering.{step_numbers, serve_after}
 
 -- ---- the database
 

@@ -1,19 +1,18 @@
 -- What an event puts out, by kinds.
-use Rattle.std.proofs.Common.{◌≡◌, ℕ, zero, suc, ◌+◌, ◌≤◌, ◌==◌, Bool, true, false, cond, Option, Some, None, List, [], ◌∷◌, ◌++◌, map, All, Contains, count_by, sum_by, ◌⊎◌, inl, inr, refl, sym, ap, subst, ◌∙◌, arith}
+use Rattle.std.proofs.Common.{◌≡◌, ℕ, zero, suc, ◌≤◌, ◌==◌, Bool, true, false, cond, Option, Some, None, List, [], ◌∷◌, map, All, Contains, count_by, sum_by, refl, sym, ap, subst, arith}
 use Rattle.std.specs.Prelude.{option_to_list}
 use Rattle.std.proofs.lemmas.List.Sums.{sum_by-append, sum_by-cons}
-use Rattle.std.proofs.lemmas.List.Elements.{All-nil, All-cons, All-head, All-tail, All-append, All-map, All-contains}
+use Rattle.std.proofs.lemmas.List.Elements.{All-nil, All-cons, All-head, All-tail, All-append, All-contains}
 use Rattle.stateful_types.specs.Format.{Format}
 use Rattle.stateful_types.specs.declared.request.Request.{Request}
-use Rattle.stateful_p2p.specs.Fanout.{outcome, settled_by, heard, Releases, has_none, releases, Forgets, stranger, forgets, Retires, nobody, unfetched, fetched, Delivers, unheard, malformed, untaken, taken}
+use Rattle.stateful_p2p.specs.Fanout.{outcome, heard, Releases, has_none, releases, Forgets, forgets, Retires, nobody, unfetched, fetched, Delivers, unheard, malformed, untaken, taken}
 use Rattle.stateful_p2p.specs.Inbox.{Inbox}
 use Rattle.stateful_p2p.specs.Resolving.{Setup, Judges, accepts, rejects, Leaves, leaves_unfetched, Produces, sent}
 use Rattle.stateful_p2p.specs.History.{Entry, outs_of, count_outs, Once}
 use Rattle.stateful_p2p.specs.declared.state.State.{State}
-use Rattle.stateful_p2p.specs.declared.state.Verdicts.{Verdicts}
 use Rattle.stateful_p2p.specs.declared.event.ActorOut.{ActorOut}
 use Rattle.stateful_p2p.specs.declared.event.ActorOut.TheVariants.{Forget, Candidate, Feedback, Unjudged, Served, Unserved}
-use Rattle.stateful_p2p.proofs.Moving.{count_append, count_cons}
+use Rattle.stateful_p2p.proofs.Moving.{count_cons}
 
 -- what is of no kind isn't counted
 pub count_zero : {X : Type 0} (kind : X → Bool) (xs : List X) → All (λ x. kind x ≡ false) xs → count_by kind xs ≡ 0

@@ -1,5 +1,5 @@
 -- That each event puts out what the entries before it tell.
-use Rattle.std.proofs.Common.{◌≡◌, ◌≢◌, ℕ, zero, suc, ◌+◌, ◌≤◌, ◌==◌, ◌↔◌, Bool, true, false, not, cond, ◌||◌, Option, Some, None, List, [], ◌∷◌, ◌++◌, map, filter, All, Contains, count_by, ◌⊎◌, inl, inr, refl, sym, ap, subst, ◌∙◌, arith}
+use Rattle.std.proofs.Common.{◌≡◌, ◌≢◌, ℕ, ◌+◌, ◌≤◌, Bool, true, false, not, cond, Option, Some, None, List, [], ◌∷◌, ◌++◌, filter, All, Contains, ◌⊎◌, inl, inr, refl, sym, ap, subst, ◌∙◌, arith}
 use Rattle.std.specs.Prelude.{option_to_list}
 use Rattle.std.specs.Option.{is_some}
 use Rattle.std.specs.Ordering.{nat_cmp}
@@ -8,36 +8,27 @@ use Rattle.std.proofs.lemmas.Bool.{eq-eqb}
 use Rattle.std.proofs.lemmas.List.Kept.{IsStrictlySortedBy-filter}
 use Rattle.std.proofs.lemmas.List.Elements.{All-nil, All-append, All-contains, filter_passes, Contains-append_right}
 use Rattle.stateful_types.specs.Format.{Format}
-use Rattle.stateful_types.specs.Mailbox.{messages, HandsOut}
 use Rattle.stateful_types.specs.declared.request.Request.{Request}
-use Rattle.stateful_types.specs.declared.response.Response.{Response}
 use Rattle.stateful_p2p.specs.Table.{at}
-use Rattle.stateful_p2p.specs.Tickets.{is_live}
-use Rattle.stateful_p2p.specs.Inbox.{Inbox, empty_inbox}
-use Rattle.stateful_p2p.specs.Subscribing.{AreSubscribers}
+use Rattle.stateful_p2p.specs.Inbox.{Inbox}
 use Rattle.stateful_p2p.specs.Fanout.{is_free, Releases, Forgets, stranger, forgets, Retires, nobody, unfetched, fetched, Delivers}
 use Rattle.stateful_p2p.specs.Fanout as fanout
 use Rattle.stateful_p2p.specs.Resolving.{Setup, IsNew, may_come, Hears, Judges, Leaves, Produces, sent, Does, Steps}
 use Rattle.stateful_p2p.specs.Resolving as resolving
-use Rattle.stateful_p2p.specs.Reading.{IsResponse}
-use Rattle.stateful_p2p.specs.History.{Entry, Stepped, outs_of, count_outs, Once, Always, Takes, Turns, Runs}
-use Rattle.stateful_p2p.specs.Laws.{IsLive, WasFetched, IsSubscriber, HasToJudge, IsFree, AreThose, IsAnswer, IsLeft, Spreads, Puts, Tells, TellsAt, is_fetch_of, is_forget_of}
+use Rattle.stateful_p2p.specs.History.{Entry, count_outs, Takes, Turns}
+use Rattle.stateful_p2p.specs.Laws.{IsLive, IsSubscriber, IsFree, AreThose, IsAnswer, IsLeft, Spreads, Puts, Tells, TellsAt, is_fetch_of, is_forget_of}
 use Rattle.stateful_p2p.specs.declared.state.State.{State}
 use Rattle.stateful_p2p.specs.declared.message.Message.{Message}
-use Rattle.stateful_p2p.specs.declared.message.Message.TheVariants.{AttachDatabase, GetOperations}
 use Rattle.stateful_p2p.specs.declared.actor.Task.{Task}
 use Rattle.stateful_p2p.specs.declared.actor.Task.TheVariants as tasks
 use Rattle.stateful_p2p.specs.declared.event.ActorEvent.{ActorEvent}
-use Rattle.stateful_p2p.specs.declared.event.ActorEvent.TheVariants as events
 use Rattle.stateful_p2p.specs.declared.event.ActorOut.{ActorOut}
-use Rattle.stateful_p2p.specs.declared.event.ActorOut.TheVariants.{Forget, Fetch, Feedback, Unjudged, Served, Unserved}
-use Rattle.stateful_p2p.proofs.Histories.{each, kept}
 use Rattle.stateful_p2p.proofs.Moving.{in_cons, in_none, Contains-filter}
 use Rattle.stateful_p2p.proofs.Putting.{once_counted, all_released, all_forgot}
-use Rattle.stateful_p2p.proofs.Placing.{IsPlaced, same_message, same_takes, turn_placed, placed_first}
+use Rattle.stateful_p2p.proofs.Placing.{IsPlaced, same_message}
 use Rattle.stateful_p2p.proofs.Current.{has, none_some, there_is, IsCurrent, IsTold}
 use Rattle.stateful_p2p.proofs.Following.{between_current, placed_same}
-use Rattle.stateful_p2p.proofs.Forgetting.{subscribes, AreForgotten, forgotten, IsBalanced, counted_fetch, cancelled_dead, same_gone, turn_balanced}
+use Rattle.stateful_p2p.proofs.Forgetting.{subscribes, forgotten, IsBalanced, counted_fetch, cancelled_dead, same_gone}
 
 -- what is settled answers deliveries
 settled_answers : {D : Type 0} (s : State D) (ts : List ℕ) (f o : List ActorOut) (last : State D) → Retires s ts f o last → All IsAnswer o

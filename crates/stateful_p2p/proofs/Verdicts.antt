@@ -1,9 +1,9 @@
 -- That the verdict on a delivery is that of the lowest ticket that gave one, once all have replied.
-use Rattle.std.proofs.Common.{◌≡◌, ◌≢◌, ℕ, zero, suc, ◌+◌, ◌≤◌, ◌<◌, ◌==◌, Bool, true, false, cond, Option, Some, None, List, [], ◌∷◌, ◌++◌, map, length, All, Contains, count_by, ◌⊎◌, inl, inr, refl, sym, ap, subst, ◌∙◌, arith}
+use Rattle.std.proofs.Common.{◌≡◌, ℕ, ◌≤◌, ◌<◌, ◌==◌, Bool, true, false, cond, Option, Some, None, List, [], ◌∷◌, ◌++◌, length, All, ◌⊎◌, inl, inr, refl, sym, ap, subst, ◌∙◌, arith}
 use Rattle.std.specs.Prelude.{option_to_list}
 use Rattle.std.specs.Option.{is_some}
 use Rattle.std.proofs.lemmas.Bool.{eqb-true, eqb-false, eq-eqb}
-use Rattle.std.proofs.lemmas.List.Elements.{All-nil, All-cons, All-append, All-weaker, All-contains, All-same}
+use Rattle.std.proofs.lemmas.List.Elements.{All-nil, All-cons, All-append}
 use Rattle.stateful_types.specs.Format.{Format}
 use Rattle.stateful_types.specs.declared.request.Request.{Request}
 use Rattle.stateful_p2p.specs.Table.{at, put, without}
@@ -12,8 +12,8 @@ use Rattle.stateful_p2p.specs.Fanout.{outcome, heard, settled_by, kept, Releases
 use Rattle.stateful_p2p.specs.Fanout as fanout
 use Rattle.stateful_p2p.specs.Resolving.{Setup, may_come, Hears, Judges, Leaves, Produces, Does, Steps}
 use Rattle.stateful_p2p.specs.Resolving as resolving
-use Rattle.stateful_p2p.specs.History.{Entry, Stepped, outs_of, count_outs, Once, Takes, Turns}
-use Rattle.stateful_p2p.specs.Laws.{HasToJudge, Gives, HasJudged, Delivers, is_answer_to}
+use Rattle.stateful_p2p.specs.History.{Entry, Stepped, Takes}
+use Rattle.stateful_p2p.specs.Laws.{HasToJudge, Gives, HasJudged, Delivers}
 use Rattle.stateful_p2p.specs.declared.state.State.{State}
 use Rattle.stateful_p2p.specs.declared.state.Verdicts.{Verdicts}
 use Rattle.stateful_p2p.specs.declared.message.Message.{Message}
@@ -22,13 +22,13 @@ use Rattle.stateful_p2p.specs.declared.actor.Task.TheVariants as tasks
 use Rattle.stateful_p2p.specs.declared.event.ActorEvent.{ActorEvent}
 use Rattle.stateful_p2p.specs.declared.event.ActorEvent.TheVariants as events
 use Rattle.stateful_p2p.specs.declared.event.ActorOut.{ActorOut}
-use Rattle.stateful_p2p.specs.declared.event.ActorOut.TheVariants.{Fetch, Forget, Candidate, Feedback, Unjudged, Served, Unserved}
-use Rattle.stateful_p2p.proofs.Tables.{at-put, at-without, is_at_number}
+use Rattle.stateful_p2p.specs.declared.event.ActorOut.TheVariants.{Fetch, Forget, Feedback, Unjudged}
+use Rattle.stateful_p2p.proofs.Tables.{at-put, at-without}
 use Rattle.stateful_p2p.proofs.Histories.{once_here, once_before, once_split}
 use Rattle.stateful_p2p.proofs.Putting.{all_one, all_candidates, all_produced}
 use Rattle.stateful_p2p.proofs.Current.{none_some, IsCurrent}
 use Rattle.stateful_p2p.proofs.Forgetting.{sorted_nil}
-use Rattle.stateful_p2p.proofs.Settling.{InOrder, put_in_order, first_lowest, stands, IsCounted, judged_stands, stands_old}
+use Rattle.stateful_p2p.proofs.Settling.{InOrder, put_in_order}
 
 same_some : (x y : Verdicts) → ◌≡◌ {A = Option Verdicts} (Some x) (Some y) → x ≡ y
 same_some x y e = cc

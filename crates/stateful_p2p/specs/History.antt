@@ -1,5 +1,5 @@
 -- What is seen of a resolver and its mailbox, and what can be said of it.
-use Rattle.std.specs.Prelude.{◌≡◌, ℕ, Bool, true, Some, List, [], ◌∷◌, ◌++◌, Contains, count_by, sum_by, All}
+use Rattle.std.specs.Prelude.{◌≡◌, ℕ, Bool, true, Some, List, [], ◌∷◌, ◌++◌, count_by, sum_by, All}
 use Rattle.stateful_types.specs.Mailbox.{HandsOut}
 use Rattle.stateful_types.specs.declared.mailbox.Feedback.{Feedback}
 use Rattle.stateful_types.specs.declared.request.Request.{Request}

@@ -136,6 +136,22 @@ mod tests {
         }
     }
 
+    /// The database that is attached, if the message attaches one.
+    fn database(message: Option<Message<u8>>) -> Option<u8> {
+        match message? {
+            Message::AttachDatabase(database) => Some(database),
+            Message::GetOperations { .. } => None,
+        }
+    }
+
+    /// The ticket of the request, if the message is one.
+    fn ticket(message: Option<Message<u8>>) -> Option<u64> {
+        match message? {
+            Message::AttachDatabase(_) => None,
+            Message::GetOperations { ticket, .. } => Some(ticket),
+        }
+    }
+
     #[test]
     fn newest_database_goes_before_live_requests(rt: HostRuntime) -> Result<(), Fail> {
         let mut pending: Pending<u8> = Overflow::empty(rt.alloc());
@@ -148,18 +164,8 @@ mod tests {
             Message::handle(&mut pending, message)?;
         }
         Overflow::retain(&mut pending, &NotOf { ticket: 0 });
-        assert!(rt;
-            matches!(
-                &Overflow::pop(&mut pending),
-                Some(Message::AttachDatabase(2))
-            )
-        );
-        assert!(rt;
-            matches!(
-                &Overflow::pop(&mut pending),
-                Some(Message::GetOperations { ticket: 1, .. })
-            )
-        );
+        assert_eq!(rt; database(Overflow::pop(&mut pending)), Some(2));
+        assert_eq!(rt; ticket(Overflow::pop(&mut pending)), Some(1));
         assert!(rt; Overflow::pop(&mut pending).is_none());
         assert!(rt; Overflow::is_empty(&pending));
         Ok(())
