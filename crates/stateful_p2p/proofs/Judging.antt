@@ -8,7 +8,7 @@ use Rattle.stateful_p2p.specs.Inbox.{Inbox}
 use Rattle.stateful_p2p.specs.Fanout.{outcome}
 use Rattle.stateful_p2p.specs.Resolving.{Setup, may_come, Steps}
 use Rattle.stateful_p2p.specs.History.{Entry, Stepped, Takes, Turns}
-use Rattle.stateful_p2p.specs.Laws.{HasToJudge, Gives, HasJudged, HaveReplied, IsVerdict, HasNoVerdict, Delivers, SettlesAt, is_answer_to}
+use Rattle.stateful_p2p.specs.Laws.{HasToJudge, GivesVerdict, HasJudged, HaveReplied, IsVerdict, HasNoVerdict, Delivers, SettlesAt, is_answer_to}
 use Rattle.stateful_p2p.specs.declared.state.State.{State}
 use Rattle.stateful_p2p.specs.declared.actor.Task.{Task}
 use Rattle.stateful_p2p.specs.declared.actor.Task.TheVariants as tasks
@@ -59,7 +59,7 @@ module _ {D Op : Type 0} (u : Setup D Op) (h : List (Entry D)) (s : State D) (m 
       (λ t d b was. subst (λ n. d < n) (sym same_number) (judged.old t d b was)) (retired_each (GivenIs h) s steps.gone steps.forgotten steps.settled steps.between steps.retires judged.each) steps.does (same_takes m left event task takes)
 
   -- who is judged now has a candidate, of an earlier delivery
-  gives_old : (t d : ℕ) (b : Bool) → Gives t b (Stepped task outs) × HasToJudge h t d → d < s.next_delivery
+  gives_old : (t d : ℕ) (b : Bool) → GivesVerdict t b (Stepped task outs) × HasToJudge h t d → d < s.next_delivery
   gives_old t d b both =
       let stood = judged_stands steps.between t d counted ((now.unjudged t d).1 both.1) in
       subst (λ n. d < n) same_number (stands_old steps.between d counted (ap is_some stood.1))
@@ -68,13 +68,13 @@ module _ {D Op : Type 0} (u : Setup D Op) (h : List (Entry D)) (s : State D) (m 
   stepped_judged = record {
     each = own.0;
     old = λ t d b was.
-        let lt = old t d b (once_split h (Stepped task outs) (λ before entry. Gives t b entry × HasToJudge before t d) was) in
+        let lt = old t d b (once_split h (Stepped task outs) (λ before entry. GivesVerdict t b entry × HasToJudge before t d) was) in
         let up = number_up u s.next_delivery task (delivers_up u s m left event task comes takes) in
         let number = (step_numbers u s m event task outs next left steps takes).delivery in
         omega arith;
   }
     where
-      old : (t d : ℕ) (b : Bool) → HasJudged h t d b ⊎ (Gives t b (Stepped task outs) × HasToJudge h t d) → d < s.next_delivery
+      old : (t d : ℕ) (b : Bool) → HasJudged h t d b ⊎ (GivesVerdict t b (Stepped task outs) × HasToJudge h t d) → d < s.next_delivery
       old t d b (inl was) = judged.old t d b was
       old t d b (inr both) = gives_old t d b both
 
@@ -144,13 +144,13 @@ module _ {D Op : Type 0} (u : Setup D Op) (h : List (Entry D)) (s : State D) (m 
       unjudged d there (inr given) = inr (replied behind (Unjudged d) d there (eq-eqb d d refl), none_from (h ++ Stepped task outs ∷ []) d d given.0 given.1 given.2)
 
 module _ {D Op : Type 0} (u : Setup D Op) where
-  idle_judged : (h : List (Entry D)) (s : State D) (e : Entry D) → ((t : ℕ) (b : Bool) → Gives t b e → ⊥) → IsJudged h s → IsJudged (h ++ e ∷ []) s
+  idle_judged : (h : List (Entry D)) (s : State D) (e : Entry D) → ((t : ℕ) (b : Bool) → GivesVerdict t b e → ⊥) → IsJudged h s → IsJudged (h ++ e ∷ []) s
   idle_judged h s e none judged = record {
     each = each_more h e s none judged.each;
-    old = λ t d b was. old t d b (once_split h e (λ before entry. Gives t b entry × HasToJudge before t d) was);
+    old = λ t d b was. old t d b (once_split h e (λ before entry. GivesVerdict t b entry × HasToJudge before t d) was);
   }
     where
-      old : (t d : ℕ) (b : Bool) → HasJudged h t d b ⊎ (Gives t b e × HasToJudge h t d) → d < s.next_delivery
+      old : (t d : ℕ) (b : Bool) → HasJudged h t d b ⊎ (GivesVerdict t b e × HasToJudge h t d) → d < s.next_delivery
       old t d b (inl was) = judged.old t d b was
       old t d b (inr both) = absurd (none t b both.0)
 

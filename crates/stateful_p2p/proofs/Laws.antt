@@ -6,7 +6,7 @@ use Rattle.stateful_p2p.specs.Fanout.{waiting_on, awaited_of}
 use Rattle.stateful_p2p.specs.Inbox.{Inbox, empty_inbox}
 use Rattle.stateful_p2p.specs.Resolving.{Setup, IsNew}
 use Rattle.stateful_p2p.specs.History.{Entry, Stepped, outs_of, count_outs, Turns, Runs}
-use Rattle.stateful_p2p.specs.Laws.{IsDrawn, IsLive, HadFetch, HandsOver, Retakes, HasToJudge, Delivers, WasDelivered, Produces, is_forget_of, is_answer_to, Gives, TellsAt, ForgetsAt, AnswersAt, SettlesAt, Serves, KeepsLaws}
+use Rattle.stateful_p2p.specs.Laws.{IsDrawn, IsLive, HadFetch, HandsOver, Retakes, HasToJudge, Delivers, WasDelivered, Produces, is_forget_of, is_answer_to, GivesVerdict, TellsAt, ForgetsAt, AnswersAt, SettlesAt, Serves, KeepsLaws}
 use Rattle.stateful_p2p.specs.declared.state.State.{State}
 use Rattle.stateful_p2p.specs.declared.event.ActorOut.TheVariants.{Candidate}
 use Rattle.stateful_p2p.proofs.Histories.{kept, each, once_none, since_none}
@@ -73,7 +73,7 @@ module _ {D Op : Type 0} (u : Setup D Op) where
         };
         judged = record {
           each = λ d v there. absurd (none_some v (sym (ap (λ w. at w d) new.none) ∙ there));
-          old = λ t d b was. absurd (once_none (λ before entry. Gives t b entry × HasToJudge before t d) was);
+          old = λ t d b was. absurd (once_none (λ before entry. GivesVerdict t b entry × HasToJudge before t d) was);
         };
         serves = subst (Serves u []) (sym new.no_database) Serves.nothing;
         served = record { new = λ n up. refl; few = λ n. omega arith };

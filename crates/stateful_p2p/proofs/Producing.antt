@@ -1,16 +1,19 @@
 -- That peers are sent what the database that is served answers, once each.
 use Rattle.std.proofs.Common.{◌≡◌, ℕ, ◌+◌, ◌≤◌, ◌==◌, Bool, true, false, cond, Option, Some, None, List, [], ◌∷◌, ◌++◌, Contains, count_by, refl, sym, ap, subst, ◌∙◌, arith}
-use Rattle.std.proofs.lemmas.Bool.{eqb-true, eq-eqb, leb-true}
+use Rattle.std.specs.Int.NonZero.{non_zero_u64_get}
+use Rattle.std.proofs.lemmas.Bool.{eqb-true, eq-eqb, leb-true, ltb-true, ltb-false}
 use Rattle.std.proofs.lemmas.List.Elements.{Contains-append_right}
 use Rattle.stateful_types.specs.Format.{Format}
+use Rattle.stateful_types.specs.Response.{response_format}
 use Rattle.stateful_types.specs.declared.request.Request.{Request}
+use Rattle.stateful_types.specs.declared.request.Request.TheVariants as requests
 use Rattle.stateful_p2p.specs.Inbox.{Inbox}
 use Rattle.stateful_p2p.specs.Fanout.{Releases, has_none, releases, Forgets, stranger, forgets, Retires, nobody, unfetched, fetched}
 use Rattle.stateful_p2p.specs.Fanout as fanout
-use Rattle.stateful_p2p.specs.Resolving.{Setup, may_come, Hears, Judges, Leaves, Produces, Answers, sent, Does, Steps}
+use Rattle.stateful_p2p.specs.Resolving.{Setup, asks_too_many, may_come, Hears, Judges, Leaves, Produces, Answers, sent, Does, Steps}
 use Rattle.stateful_p2p.specs.Resolving as resolving
 use Rattle.stateful_p2p.specs.History.{Entry, Stepped, outs_of, count_outs, Takes, Turns}
-use Rattle.stateful_p2p.specs.Laws.{Serves, IsOfDatabase, is_served}
+use Rattle.stateful_p2p.specs.Laws.{AsksTooMuch, Gives, Sent, Serves, IsOfDatabase, is_served}
 use Rattle.stateful_p2p.specs.declared.state.State.{State}
 use Rattle.stateful_p2p.specs.declared.message.Message.{Message}
 use Rattle.stateful_p2p.specs.declared.actor.Task.{Task}
@@ -55,6 +58,28 @@ module _ {D Op : Type 0} where
   delivered_database operations s m d key bytes done next left (fanout.untaken x y) = refl
   delivered_database operations s m d key bytes done next left (fanout.taken x y z) = refl
 
+-- whether more is asked for than is served
+too_much : (most : ℕ) (key : Request) → asks_too_many most key ≡ true → AsksTooMuch most key
+too_much most (requests.Operations size start max_ops) is = ltb-true most (non_zero_u64_get max_ops) is
+too_much most (requests.Boundary size start) is = absurd cc
+
+not_too_much : (most : ℕ) (key : Request) → asks_too_many most key ≡ false → AsksTooMuch most key → ⊥
+not_too_much most (requests.Operations size start max_ops) is more = let few = ltb-false most (non_zero_u64_get max_ops) is in let never : ⊥ = omega arith in never
+not_too_much most (requests.Boundary size start) is more = more
+
+module _ {D Op : Type 0} (u : Setup D Op) where
+  -- what is sent, by whether a database is attached
+  gives_by : (key : Request) (attached : Option D) (bytes : Option (List ℕ)) (next : Option D) → Answers u attached key bytes next → Gives u key attached bytes next
+  gives_by key attached bytes next (resolving.unattached none) = subst (λ w. Gives u key w None w) (sym none) Gives.none_attached
+  gives_by key attached bytes next (resolving.too_many {db = db} is many) = subst (λ w. Gives u key w None w) (sym is) (Gives.too_much (too_much u.max_serve_ops key many))
+  gives_by key attached bytes next (resolving.unserved {db = db} {next = after} {fault = fault} is few serves why) = subst (λ w. Gives u key w None (Some after)) (sym is) (Gives.not_served {db = db} (not_too_much u.max_serve_ops key few) serves why)
+  gives_by key attached bytes next (resolving.served {db = db} {next = after} {response = response} is few serves fits) =
+      subst (λ w. Gives u key w (Some ((response_format u.operations).spelling response)) (Some after)) (sym is) (Gives.gives {db = db} {response = response} (not_too_much u.max_serve_ops key few) serves fits)
+
+  sent_out : (n : ℕ) (bytes : Option (List ℕ)) (outs : List ActorOut) → Contains outs (sent u n bytes) → Sent u n bytes outs
+  sent_out n None outs there = there
+  sent_out n (Some bytes) outs there = there
+
 module _ {D Op : Type 0} (u : Setup D Op) (h : List (Entry D)) where
   -- an entry that serves nothing else
   passes_by : (e : Entry D) (served next : Option D) → next ≡ served → (IsOfDatabase e → ⊥) → Serves u h served → Serves u (h ++ e ∷ []) next
@@ -74,7 +99,7 @@ module _ {D Op : Type 0} (u : Setup D Op) (h : List (Entry D)) where
   done_serves s m event task done outs next left within (Does.judges {t = t} {valid = valid} p) Takes.judges here = passes_by (Stepped (tasks.Judge t valid) outs) s.database next.database (judged_database s m t valid done next left p) (λ never. never) here
   done_serves s m event task done outs next left within (Does.leaves {t = t} p) Takes.leaves here = passes_by (Stepped (tasks.Leave t) outs) s.database next.database (left_database s m t done next left p) (λ never. never) here
   done_serves s m event task done outs next left within (Does.produces {n = n} {key = key} p) Takes.produces here =
-      Serves.answered n key p.bytes outs here p.answers (within (sent u n p.bytes) (subst (λ w. Contains w (sent u n p.bytes)) (sym p.outs_are) (0, omega arith, refl)))
+      Serves.answered n key p.bytes outs here (gives_by u key s.database p.bytes next.database p.answers) (sent_out u n p.bytes outs (within (sent u n p.bytes) (subst (λ w. Contains w (sent u n p.bytes)) (sym p.outs_are) (0, omega arith, refl))))
 
 module _ {D Op : Type 0} (u : Setup D Op) where
   pub turn_serves : (h : List (Entry D)) (s : State D) (m : Inbox D Op) (e : Entry D) (next : State D) (left : Inbox D Op) → Turns u s m e next left → Serves u h s.database → Serves u (h ++ e ∷ []) next.database

@@ -13,7 +13,7 @@ use Rattle.stateful_p2p.specs.Fanout as fanout
 use Rattle.stateful_p2p.specs.Resolving.{Setup, may_come, Hears, Judges, Leaves, Produces, Does, Steps}
 use Rattle.stateful_p2p.specs.Resolving as resolving
 use Rattle.stateful_p2p.specs.History.{Entry, Stepped, Takes}
-use Rattle.stateful_p2p.specs.Laws.{HasToJudge, Gives, HasJudged, Delivers}
+use Rattle.stateful_p2p.specs.Laws.{HasToJudge, GivesVerdict, HasJudged, Delivers}
 use Rattle.stateful_p2p.specs.declared.state.State.{State}
 use Rattle.stateful_p2p.specs.declared.state.Verdicts.{Verdicts}
 use Rattle.stateful_p2p.specs.declared.message.Message.{Message}
@@ -115,14 +115,14 @@ module _ {D : Type 0} where
   -- ---- with one event more
 
   -- an entry that gives no verdict
-  pub given_more : (h : List (Entry D)) (e : Entry D) → ((t : ℕ) (b : Bool) → Gives t b e → ⊥) → (d : ℕ) (given : List (ℕ × Bool)) → GivenIs h d given → GivenIs (h ++ e ∷ []) d given
+  pub given_more : (h : List (Entry D)) (e : Entry D) → ((t : ℕ) (b : Bool) → GivesVerdict t b e → ⊥) → (d : ℕ) (given : List (ℕ × Bool)) → GivenIs h d given → GivenIs (h ++ e ∷ []) d given
   given_more h e none d given is = record {
     ordered = is.ordered;
-    there = λ t b found. once_before h e (λ before entry. Gives t b entry × HasToJudge before t d) (is.there t b found);
-    back = λ t b was. old t b (once_split h e (λ before entry. Gives t b entry × HasToJudge before t d) was);
+    there = λ t b found. once_before h e (λ before entry. GivesVerdict t b entry × HasToJudge before t d) (is.there t b found);
+    back = λ t b was. old t b (once_split h e (λ before entry. GivesVerdict t b entry × HasToJudge before t d) was);
   }
     where
-      old : (t : ℕ) (b : Bool) → HasJudged h t d b ⊎ (Gives t b e × HasToJudge h t d) → is_some (at given t) ≡ true
+      old : (t : ℕ) (b : Bool) → HasJudged h t d b ⊎ (GivesVerdict t b e × HasToJudge h t d) → is_some (at given t) ≡ true
       old t b (inl was) = is.back t b was
       old t b (inr now) = absurd (none t b now.0)
 
@@ -136,8 +136,8 @@ module _ {D : Type 0} where
       others : (d : ℕ) (given : List (ℕ × Bool)) → (at s.unjudged t ≡ Some d → ⊥) → GivenIs h d given → GivenIs (h ++ Stepped (tasks.Judge t valid) outs ∷ []) d given
       others d given apart is = record {
         ordered = is.ordered;
-        there = λ x b found. once_before h e (λ before entry. Gives x b entry × HasToJudge before x d) (is.there x b found);
-        back = λ x b was. old x b (once_split h e (λ before entry. Gives x b entry × HasToJudge before x d) was);
+        there = λ x b found. once_before h e (λ before entry. GivesVerdict x b entry × HasToJudge before x d) (is.there x b found);
+        back = λ x b was. old x b (once_split h e (λ before entry. GivesVerdict x b entry × HasToJudge before x d) was);
       }
         where
           old : (x : ℕ) (b : Bool) → HasJudged h x d b ⊎ (((t ≡ x) × (valid ≡ b)) × HasToJudge h x d) → is_some (at given x) ≡ true
@@ -148,7 +148,7 @@ module _ {D : Type 0} where
       this d v has_to is = record {
         ordered = put_in_order v.given t valid is.ordered;
         there = λ x b found. to x b (t == x) refl (at-put v.given t valid x) found;
-        back = λ x b was. from x b (at-put v.given t valid x) (once_split h e (λ before entry. Gives x b entry × HasToJudge before x d) was);
+        back = λ x b was. from x b (at-put v.given t valid x) (once_split h e (λ before entry. GivesVerdict x b entry × HasToJudge before x d) was);
       }
         where
           same_bool : (x y : Bool) → ◌≡◌ {A = Option Bool} (Some x) (Some y) → x ≡ y
@@ -158,9 +158,9 @@ module _ {D : Type 0} where
           to x b true same put_is found =
               let b_is : valid ≡ b = same_bool valid b (sym (put_is ∙ ap (λ w. cond w (Some valid) (at v.given x)) same) ∙ found) in
               let x_is : t ≡ x = eqb-true t x same in
-              once_here h e (λ before entry. Gives x b entry × HasToJudge before x d) ((x_is, b_is), subst (λ w. HasToJudge h w d) x_is ((now.unjudged t d).0 has_to))
+              once_here h e (λ before entry. GivesVerdict x b entry × HasToJudge before x d) ((x_is, b_is), subst (λ w. HasToJudge h w d) x_is ((now.unjudged t d).0 has_to))
           to x b false other put_is found =
-              once_before h e (λ before entry. Gives x b entry × HasToJudge before x d) (is.there x b (sym (put_is ∙ ap (λ w. cond w (Some valid) (at v.given x)) other) ∙ found))
+              once_before h e (λ before entry. GivesVerdict x b entry × HasToJudge before x d) (is.there x b (sym (put_is ∙ ap (λ w. cond w (Some valid) (at v.given x)) other) ∙ found))
 
           any_found : (w : Bool) (found : Option Bool) → is_some found ≡ true → is_some (cond w (Some valid) found) ≡ true
           any_found true found some = refl
@@ -177,11 +177,11 @@ module _ {D : Type 0} where
     pub each : Each (GivenIs h) s
     pub old : (t d : ℕ) (b : Bool) → HasJudged h t d b → d < s.next_delivery
 
-  pub each_more : (h : List (Entry D)) (e : Entry D) (s : State D) → ((t : ℕ) (b : Bool) → Gives t b e → ⊥) → Each (GivenIs h) s → Each (GivenIs (h ++ e ∷ [])) s
+  pub each_more : (h : List (Entry D)) (e : Entry D) (s : State D) → ((t : ℕ) (b : Bool) → GivesVerdict t b e → ⊥) → Each (GivenIs h) s → Each (GivenIs (h ++ e ∷ [])) s
   each_more h e s none each d v there = given_more h e none d v.given (each d v there)
 
 module _ {D Op : Type 0} where
-  heard_judged : (h : List (Entry D)) (s : State D) (m : Inbox D Op) (message : Message D) (done : List ActorOut) (next : State D) (e : Entry D) → ((t : ℕ) (b : Bool) → Gives t b e → ⊥) → Each (GivenIs h) s → Hears s m message done next
+  heard_judged : (h : List (Entry D)) (s : State D) (m : Inbox D Op) (message : Message D) (done : List ActorOut) (next : State D) (e : Entry D) → ((t : ℕ) (b : Bool) → GivesVerdict t b e → ⊥) → Each (GivenIs h) s → Hears s m message done next
       → Each (GivenIs (h ++ e ∷ [])) next × All (Told (h ++ e ∷ []) e) done
   heard_judged h s m message done next e none each resolving.attaches = (each_more h e s none each, All-nil (Told (h ++ e ∷ []) e))
   heard_judged h s m message done next e none each (resolving.fetches {t = t} {key = key} live) = (each_more h e s none each, all_one (Told (h ++ e ∷ []) e) (Fetch t key) tt)
@@ -209,7 +209,7 @@ module _ {D Op : Type 0} where
       nothing = record {
         ordered = sorted_nil;
         there = λ t b found. absurd (none_some b found);
-        back = λ t b was. absurd (never t b (once_split h (Stepped (tasks.Deliver d key bytes) outs) (λ before entry. Gives t b entry × HasToJudge before t d) was));
+        back = λ t b was. absurd (never t b (once_split h (Stepped (tasks.Deliver d key bytes) outs) (λ before entry. GivesVerdict t b entry × HasToJudge before t d) was));
       }
         where
           never : (t : ℕ) (b : Bool) → HasJudged h t d b ⊎ (⊥ × HasToJudge h t d) → ⊥

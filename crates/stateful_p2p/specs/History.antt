@@ -40,7 +40,9 @@ module _ {E : Type 0} where
 
   -- it holds at each entry, of those before it and of itself
   abbrev pub Always : (List E → E → Type 0) → List E → Type 0
-  Always P entries = (before : List E) (entry : E) (after : List E) → entries ≡ before ++ entry ∷ after → P before entry
+  Always P entries = (before : List E) (entry : E) (after : List E)
+      → entries ≡ before ++ entry ∷ after
+      → P before entry
 
   -- it began with an entry, and none behind that one ended it
   pub record Since (Begins Ends : E → Type 0) (entries : List E) : Type 0 where
@@ -54,20 +56,33 @@ module _ {E : Type 0} where
 module _ {D Op : Type 0} where
   -- the event, with the message that it took
   pub data Takes (m left : Inbox D Op) : ActorEvent → Task D → Type 0 where
-    hears : {message : Message D} → HandsOut m.queue left.queue (Some message) → Takes m left events.Message (tasks.Hear message)
-    delivers : {d : ℕ} {key : Request} {bytes : List ℕ} → Takes m left (events.Deliver d key bytes) (tasks.Deliver d key bytes)
-    judges : {t : ℕ} {valid : Bool} → Takes m left (events.Judge t valid) (tasks.Judge t valid)
-    leaves : {t : ℕ} → Takes m left (events.Leave t) (tasks.Leave t)
-    produces : {n : ℕ} {key : Request} → Takes m left (events.Produce n key) (tasks.Produce n key)
+    hears : {message : Message D}
+        → HandsOut m.queue left.queue (Some message)
+        → Takes m left events.Message (tasks.Hear message)
+    delivers : {d : ℕ} {key : Request} {bytes : List ℕ}
+        → Takes m left (events.Deliver d key bytes) (tasks.Deliver d key bytes)
+    judges : {t : ℕ} {valid : Bool}
+        → Takes m left (events.Judge t valid) (tasks.Judge t valid)
+    leaves : {t : ℕ}
+        → Takes m left (events.Leave t) (tasks.Leave t)
+    produces : {n : ℕ} {key : Request}
+        → Takes m left (events.Produce n key) (tasks.Produce n key)
 
   module _ (u : Setup D Op) where
     -- one entry
     pub data Turns (s : State D) (m : Inbox D Op) : Entry D → State D → Inbox D Op → Type 0 where
-      asks : {t : ℕ} {key : Request} {feedback : Feedback} {left : Inbox D Op} → Asks m key feedback t left → Turns s m (Asked t key) s left
-      attaches : {db : D} {feedback : Feedback} {left : Inbox D Op} → Attaches m db feedback left → Turns s m (Attached db) s left
-      cancels : {t : ℕ} → Turns s m (Cancelled t) s (cancelled m t)
-      polls : {t : ℕ} → Turns s m (Polled t) s (taken_out m t)
-      steps : {event : ActorEvent} {task : Task D} {outs : List ActorOut} {next : State D} {left : Inbox D Op}
+      asks : {t : ℕ} {key : Request} {feedback : Feedback} {left : Inbox D Op}
+          → Asks m key feedback t left
+          → Turns s m (Asked t key) s left
+      attaches : {db : D} {feedback : Feedback} {left : Inbox D Op}
+          → Attaches m db feedback left
+          → Turns s m (Attached db) s left
+      cancels : {t : ℕ}
+          → Turns s m (Cancelled t) s (cancelled m t)
+      polls : {t : ℕ}
+          → Turns s m (Polled t) s (taken_out m t)
+      steps : {event : ActorEvent} {task : Task D} {outs : List ActorOut}
+          {next : State D} {left : Inbox D Op}
           → may_come s m event ≡ true
           → Takes m left event task
           → Steps u s m event outs next left
@@ -76,7 +91,8 @@ module _ {D Op : Type 0} where
     -- entries, one after another, from one resolver and its mailbox to what they became
     pub data Runs (first : State D) (box : Inbox D Op) : List (Entry D) → State D → Inbox D Op → Type 0 where
       begins : Runs first box [] first box
-      goes_on : {entries : List (Entry D)} {entry : Entry D} {s next : State D} {m left : Inbox D Op}
+      goes_on : {entries : List (Entry D)} {entry : Entry D}
+          {s next : State D} {m left : Inbox D Op}
           → Runs first box entries s m
           → Turns s m entry next left
           → Runs first box (entries ++ entry ∷ []) next left

@@ -1,15 +1,20 @@
 -- What holds of a resolver whatever is done to it and to its mailbox, said of what is seen of both.
-use Rattle.std.specs.Prelude.{◌≡◌, ◌≢◌, ◌↔◌, ℕ, ◌+◌, ◌≤◌, ◌<◌, ◌==◌, ◌⊎◌, Bool, true, false, Option, Some, None, List, [], ◌∷◌, ◌++◌, map, All, Contains, count_by, option_to_list}
+use Rattle.std.specs.Prelude.{◌≡◌, ◌≢◌, ◌↔◌, ℕ, ◌+◌, ◌≤◌, ◌<◌, ◌==◌, ◌⊎◌, Bool, true, false, Option, Some, None, Ok, Err, List, [], ◌∷◌, ◌++◌, map, All, Contains, count_by, option_to_list}
+use Rattle.std.specs.Int.NonZero.{non_zero_u64_get}
 use Rattle.std.specs.Ordering.{nat_cmp}
 use Rattle.std.specs.List.Sorted.{IsStrictlySortedBy}
 use Rattle.stateful_types.specs.Format.{Format}
 use Rattle.stateful_types.specs.Mailbox.{messages}
+use Rattle.stateful_types.specs.Response.{response_format}
 use Rattle.stateful_types.specs.declared.request.Request.{Request}
+use Rattle.stateful_types.specs.declared.request.Request.TheVariants as requests
 use Rattle.stateful_types.specs.declared.response.Response.{Response}
+use Rattle.stateful_source.specs.declared.source.ServeFault.{ServeFault}
+use Rattle.stateful_source.specs.declared.source.ServeFault.TheVariants as faults
 use Rattle.stateful_p2p.specs.Inbox.{Inbox, waiting_for}
 use Rattle.stateful_p2p.specs.Tickets.{is_dropped}
 use Rattle.stateful_p2p.specs.Reading.{IsResponse}
-use Rattle.stateful_p2p.specs.Resolving.{Setup, may_come, Answers, sent}
+use Rattle.stateful_p2p.specs.Resolving.{Setup, may_come}
 use Rattle.stateful_p2p.specs.History.{Entry, Asked, Cancelled, Polled, Stepped, outs_of, count_outs, Once, Always, Since, Runs}
 use Rattle.stateful_p2p.specs.declared.state.State.{State}
 use Rattle.stateful_p2p.specs.declared.message.Message.{Message}
@@ -89,13 +94,13 @@ module _ {D : Type 0} where
   HasToJudge entries t d = Since (Hands t d) (Replies t) entries
 
   -- the ticket gives this verdict
-  abbrev pub Gives : ℕ → Bool → Entry D → Type 0
-  Gives t valid (Stepped (Judge u given) outs) = (u ≡ t) × (given ≡ valid)
-  Gives t valid entry = ⊥
+  abbrev pub GivesVerdict : ℕ → Bool → Entry D → Type 0
+  GivesVerdict t valid (Stepped (Judge u given) outs) = (u ≡ t) × (given ≡ valid)
+  GivesVerdict t valid entry = ⊥
 
   -- the ticket gave this verdict on the candidate of the delivery
   abbrev pub HasJudged : List (Entry D) → ℕ → ℕ → Bool → Type 0
-  HasJudged entries t d valid = Once (λ before entry. Gives t valid entry × HasToJudge before t d) entries
+  HasJudged entries t d valid = Once (λ before entry. GivesVerdict t valid entry × HasToJudge before t d) entries
 
   -- everybody who had the candidate of the delivery has replied
   abbrev pub HaveReplied : List (Entry D) → ℕ → Type 0
@@ -311,7 +316,34 @@ IsOfDatabase (Stepped (Hear (AttachDatabase db)) outs) = Unit {0}
 IsOfDatabase (Stepped (Produce n key) outs) = Unit {0}
 IsOfDatabase entry = ⊥
 
+-- the key asks for more operations than are served
+abbrev pub AsksTooMuch : ℕ → Request → Type 0
+AsksTooMuch most (requests.Operations size start max_ops) = most < non_zero_u64_get max_ops
+AsksTooMuch most (requests.Boundary size start) = ⊥
+
 module _ {D Op : Type 0} (u : Setup D Op) where
+  -- What a peer is sent, and the database behind that. It is nothing exactly where none is attached, where the key asks for
+  -- more operations than are served, in which case the database isn't asked, and where the database doesn't serve what is
+  -- asked for or fails.
+  pub data Gives (key : Request) : Option D → Option (List ℕ) → Option D → Type 0 where
+    none_attached : Gives key None None None
+    too_much : {db : D} → AsksTooMuch u.max_serve_ops key → Gives key (Some db) None (Some db)
+    not_served : {db next : D} {fault : ServeFault}
+        → (AsksTooMuch u.max_serve_ops key → ⊥)
+        → u.serves db key (Err fault) next
+        → (fault ≡ faults.NotServed) ⊎ (fault ≡ faults.Failed)
+        → Gives key (Some db) None (Some next)
+    gives : {db next : D} {response : Response Op}
+        → (AsksTooMuch u.max_serve_ops key → ⊥)
+        → u.serves db key (Ok response) next
+        → (response_format u.operations).fits response
+        → Gives key (Some db) (Some ((response_format u.operations).spelling response)) (Some next)
+
+  -- the outputs have the answer to the peer that asked under this number
+  abbrev pub Sent : ℕ → Option (List ℕ) → List ActorOut → Type 0
+  Sent n None outs = Contains outs (Unserved n)
+  Sent n (Some bytes) outs = Contains outs (Served n bytes)
+
   -- The database that is served behind these entries, if there is one: the last that was taken from the mailbox, as the
   -- requests that it answered left it. Each peer was sent what it answered.
   pub data Serves : List (Entry D) → Option D → Type 0 where
@@ -322,8 +354,8 @@ module _ {D Op : Type 0} (u : Setup D Op) where
     answered : {entries : List (Entry D)} {served next : Option D}
         (n : ℕ) (key : Request) (bytes : Option (List ℕ)) (outs : List ActorOut)
         → Serves entries served
-        → Answers u served key bytes next
-        → Contains outs (sent u n bytes)
+        → Gives key served bytes next
+        → Sent n bytes outs
         → Serves (entries ++ Stepped (Produce n key) outs ∷ []) next
     passed : {entries : List (Entry D)} {served : Option D} (entry : Entry D)
         → Serves entries served

@@ -2,7 +2,7 @@
 
 use super::*;
 use bytes::Bytes;
-use stateful_source::{ServeFault, SyncSource};
+use stateful_source::{AttachableResolverSet, ServeFault, SyncSource};
 use stateful_types::{
     CodecError, Digest, DrawError, Failed, Faulty, Feedback, Items, Location, Moved, Operation,
     OutOfMemory, Share, read_u8, read_u64, write_u8, write_u64,
@@ -102,6 +102,15 @@ impl SyncSource for Fixed {
                 Err(ServeFault::Failed)
             }
         }
+    }
+}
+
+/// A database that answers this, and hasn't failed.
+fn answering(alloc: Global, answer: Answer) -> Fixed {
+    Fixed {
+        alloc,
+        answer,
+        faults: 0,
     }
 }
 
@@ -236,11 +245,7 @@ fn done(
             Ok(format!(in alloc; "{ticket} {feedback:?}")?)
         }
         Act::Attach(answer) => {
-            let feedback = mailbox.attach_database(Fixed {
-                alloc,
-                answer,
-                faults: 0,
-            })?;
+            let feedback = mailbox.attach_database(answering(alloc, answer))?;
             Ok(format!(in alloc; "{feedback:?}")?)
         }
         Act::Cancel(ticket) => {
@@ -467,6 +472,28 @@ fn serves(rt: HostRuntime) -> Result<(), Fail> {
         (Act::Produce(8, 1), "BadEvent"),
     ];
     runs(&rt, rt.alloc(), &rows)
+}
+
+#[test]
+fn a_set_of_databases_goes_to_its_resolvers(rt: HostRuntime) -> Result<(), Fail> {
+    let (mut actor, mailbox) = resolver(rt.alloc())?;
+    let (mut other, more) = resolver(rt.alloc())?;
+    let mut mailboxes = (mailbox, more);
+    mailboxes.attach_databases((
+        answering(rt.alloc(), Answer::Value(100)),
+        answering(rt.alloc(), Answer::NotServed),
+    ))?;
+    let rows = [
+        (Act::Message, "", ""),
+        (Act::Produce(0, 1), "served 0 22;", "unserved 0;"),
+    ];
+    for (act, want, wanted) in rows {
+        let text = done(rt.alloc(), &mut actor, &mut mailboxes.0, act)?;
+        assert_eq!(rt; text.as_str(), want);
+        let text = done(rt.alloc(), &mut other, &mut mailboxes.1, act)?;
+        assert_eq!(rt; text.as_str(), wanted);
+    }
+    Ok(())
 }
 
 #[test]
