@@ -1,0 +1,258 @@
+//! The resolver, one event at a time.
+
+ghost use Rattle.std.specs.Prelude.{◌≡◌, ◌≢◌, ◌≤◌, ◌^◌, ◌-◌, ◌++◌, ◌↔◌, ℕ, List, true, false, IsTrue, IsNone, IfOk, OnOk, IfErr, IfSome, IsErrOf};
+ghost use Rattle.std.specs.Int.NonZero.{non_zero_u64_get};
+ghost use Rattle.stateful_types.specs.Mailbox.{HandsOut};
+ghost use Rattle.stateful_p2p.specs.Inbox.{Inbox, empty_inbox};
+ghost use Rattle.stateful_p2p.specs.Fanout.{IsSound};
+ghost use Rattle.stateful_p2p.specs.Laws.{KeepsLaws};
+ghost use Rattle.stateful_p2p.specs.Resolving.{setup, IsNew, may_come, IsExhausting, Hears, Does, Steps};
+ghost use Rattle.stateful_p2p.specs.Tasks.{Admits, IsTimely, is_new_number, has_last_number};
+ghost use Rattle.stateful_p2p.specs.declared.event.ActorOut.{ActorOut};
+ghost use Rattle.stateful_p2p.specs.declared.event.ActorEvent.{ActorEvent};
+
+use crate::error::ActorError;
+use crate::event::{ActorEvent, ActorOut};
+use crate::mailbox::Mailbox;
+use crate::message::Message;
+use crate::state::State;
+use bytes::Bytes;
+use stateful_source::SyncSource;
+use stateful_types::{OutOfMemory, Request};
+use std::alloc::Global;
+use std::num::NonZeroU64;
+
+/// How many operations a peer's request may ask for, and how many messages are ready in the mailbox at most, which is
+/// at least one.
+#[derive(Drop)]
+pub struct Config {
+    /// Larger requests go unanswered. Peers that fetch from this node ask for no more operations at a time, or their
+    /// requests are never answered.
+    pub max_serve_ops: NonZeroU64,
+    pub mailbox_size: usize,
+}
+
+/// A resolver: one event is one call of `step`.
+#[derive(Drop)]
+pub struct Actor<D: SyncSource> {
+    pub(crate) alloc: Global,
+    pub(crate) max_serve_ops: NonZeroU64,
+    pub(crate) state: State<D>,
+    pub(crate) failed: bool,
+    ghost sound: { failed ≡ false → IsSound state },
+}
+
+/// An event that may come, with the message that it takes.
+#[derive(Drop)]
+pub(crate) enum Task<D> {
+    Hear(Message<D>),
+    Deliver {
+        delivery: u64,
+        key: Request,
+        value: Bytes,
+    },
+    Judge {
+        ticket: u64,
+        valid: bool,
+    },
+    Leave {
+        ticket: u64,
+    },
+    Produce {
+        serve: u64,
+        key: Request,
+    },
+}
+
+impl<D: SyncSource> Actor<D> {
+    /// A resolver that nobody has asked for anything, and its mailbox.
+    pub fn new(alloc: Global, config: Config) -> Result<(Actor<D>, Mailbox<D>), OutOfMemory>
+        requires { 1 ≤ config.mailbox_size }
+        ensures state { IfOk result (λ made. IsNew made.0.state) }
+        ensures mailbox { IfOk result (λ made. made.1 ≡ empty_inbox config.mailbox_size) }
+        ensures limit { IfOk result (λ made. made.0.max_serve_ops ≡ config.max_serve_ops) }
+        ensures works { IfOk result (λ made. made.0.failed ≡ false) }
+
+        // Whatever calls of `step` and of the mailbox follow.
+        ensures laws { IfOk result (λ made. KeepsLaws
+            (setup D.Op.operations D.serves (non_zero_u64_get config.max_serve_ops))
+            made.0.state made.1) }
+    {
+        let mailbox = Mailbox::new(alloc, config.mailbox_size)?;
+        let actor = Actor {
+            alloc,
+            max_serve_ops: config.max_serve_ops,
+            state: State::new(alloc),
+            failed: false,
+        };
+        Ok((actor, mailbox))
+    }
+
+    /// Takes one event in, and answers what is to be done. The order of refusals is `Failed`, `BadEvent`, `Exhausted`.
+    pub fn step(
+        &mut self,
+        mailbox: &mut Mailbox<D>,
+        event: ActorEvent,
+    ) -> Result<Vec<ActorOut>, ActorError>
+        // What is put out, the state and the mailbox behind the event are those of the rules.
+        ensures steps { IfOk result (λ outs. Steps
+            (setup D.Op.operations D.serves (non_zero_u64_get self.old.max_serve_ops))
+            self.old.state mailbox.old event outs.items self.new.state mailbox.new) }
+        ensures came { OnOk result ((may_come self.old.state mailbox.old event ≡ true)
+            × (self.old.failed ≡ false)
+            × (self.new.failed ≡ false)) }
+        ensures limit { self.new.max_serve_ops ≡ self.old.max_serve_ops }
+
+        // Each refusal has its cause; want of memory has none.
+        ensures failed { IsErrOf result ActorError.Failed ↔ (self.old.failed ≡ true) }
+        ensures bad { IsErrOf result ActorError.BadEvent
+            ↔ ((self.old.failed ≡ false)
+            × (may_come self.old.state mailbox.old event ≡ false)) }
+        ensures exhausted { IsErrOf result ActorError.Exhausted
+            ↔ ((self.old.failed ≡ false)
+            × (may_come self.old.state mailbox.old event ≡ true)
+            × IsExhausting event) }
+
+        // What a refusal leaves.
+        ensures idle { IsErrOf result ActorError.Failed
+            → (self.new ≡ self.old) × (mailbox.new ≡ mailbox.old) }
+        ensures unchanged { IsErrOf result ActorError.BadEvent
+            → (self.new ≡ self.old) × (mailbox.new ≡ mailbox.old) }
+        ensures used_up { IsErrOf result ActorError.Exhausted → mailbox.new ≡ mailbox.old }
+        ensures fails { IfErr result (λ e. e ≢ ActorError.BadEvent → self.new.failed ≡ true) }
+    {
+        if self.failed {
+            return Err(ActorError::Failed);
+        }
+        let Some(task) = self.state.admit(mailbox, event) else {
+            return Err(ActorError::BadEvent);
+        };
+        if task.has_last_number() {
+            self.failed = true;
+            return Err(ActorError::Exhausted);
+        }
+        match self
+            .state
+            .perform(self.alloc, self.max_serve_ops.get(), mailbox, task)
+        {
+            Ok(outs) => Ok(outs),
+            Err(OutOfMemory) => {
+                self.failed = true;
+                Err(ActorError::OutOfMemory)
+            }
+        }
+    }
+}
+
+impl<D> Task<D> {
+    /// Whether its number is the last one that there is.
+    fn has_last_number(&self) -> bool
+        ensures { result ≡ has_last_number self.now }
+    {
+        match self {
+            Task::Deliver { delivery, .. } => *delivery == u64::MAX,
+            Task::Produce { serve, .. } => *serve == u64::MAX,
+            _ => false,
+        }
+    }
+}
+
+impl<D: SyncSource> State<D> {
+    /// What an event is, with the message that it takes. None exactly where it may not come, and then nothing has changed.
+    fn admit(&self, mailbox: &mut Mailbox<D>, event: ActorEvent) -> Option<Task<D>>
+        ensures admits { IfSome result (λ task.
+            Admits mailbox.old event task mailbox.new) }
+        ensures new { IfSome result (λ task. is_new_number self.now task ≡ true) }
+        ensures none { IsNone result ↔ (may_come self.now mailbox.old event ≡ false) }
+        ensures unchanged { IsNone result → mailbox.new ≡ mailbox.old }
+    {
+        match event {
+            ActorEvent::Message => Some(Task::Hear(mailbox.take()?)),
+            ActorEvent::Deliver {
+                delivery,
+                key,
+                value,
+            } if self.next_delivery <= delivery => Some(Task::Deliver {
+                delivery,
+                key,
+                value,
+            }),
+            ActorEvent::Judge { ticket, valid }
+                if mailbox.is_live(ticket) && self.unjudged.contains(ticket) => {
+                Some(Task::Judge { ticket, valid })
+            }
+            ActorEvent::Leave { ticket } if mailbox.is_live(ticket) => {
+                Some(Task::Leave { ticket })
+            }
+            ActorEvent::Produce { serve, key } if self.next_serve <= serve => {
+                Some(Task::Produce { serve, key })
+            }
+            _ => None,
+        }
+    }
+
+    /// Forgets the tickets that were cancelled, and does the task.
+    fn perform(
+        &mut self,
+        alloc: Global,
+        max_serve_ops: u64,
+        mailbox: &mut Mailbox<D>,
+        task: Task<D>,
+    ) -> Result<Vec<ActorOut>, OutOfMemory>
+        requires sound { IsSound self.old }
+        requires fits { IsTimely self.old task }
+
+        // Whichever event it is, out of whichever mailbox it was taken.
+        ensures steps { IfOk result (λ outs. (before : Inbox D D.Op) (event : ActorEvent)
+            → Admits before event task mailbox.old
+            → Steps (setup D.Op.operations D.serves max_serve_ops)
+            self.old before event outs.items self.new mailbox.new) }
+        ensures sound { OnOk result (IsSound self.new) }
+    {
+        let mut outs = Vec::new(alloc);
+        let gone = mailbox.take_cancelled(alloc)?;
+        self.retire(alloc, gone.as_slice(), &mut outs)?;
+        match task {
+            Task::Hear(message) => self.hear(mailbox, message, &mut outs)?,
+            Task::Deliver {
+                delivery,
+                key,
+                value,
+            } => self.deliver(alloc, mailbox, delivery, key, value, &mut outs)?,
+            Task::Judge { ticket, valid } => self.judge(mailbox, ticket, valid, &mut outs)?,
+            Task::Leave { ticket } => self.leave(mailbox, ticket, &mut outs)?,
+            Task::Produce { serve, key } => {
+                self.produce(alloc, max_serve_ops, serve, key, &mut outs)?;
+            }
+        }
+        Ok(outs)
+    }
+
+    /// A database is served from now on, or a request is fetched, unless its ticket was let go.
+    fn hear(
+        &mut self,
+        mailbox: &Mailbox<D>,
+        message: Message<D>,
+        outs: &mut Vec<ActorOut>,
+    ) -> Result<(), OutOfMemory>
+        requires { IsSound self.old }
+        ensures hears { OnOk result ((done : List ActorOut)
+            × Hears self.old mailbox.now message done self.new
+            × (outs.new.items ≡ outs.old.items ++ done)) }
+        ensures sound { OnOk result (IsSound self.new) }
+    {
+        match message {
+            Message::AttachDatabase(database) => self.database = Some(database),
+            Message::GetOperations { ticket, request } => {
+                if mailbox.is_live(ticket) {
+                    self.subscriptions.insert(ticket, request)?;
+                    outs.push(ActorOut::Fetch {
+                        ticket,
+                        key: request,
+                    })?;
+                }
+            }
+        }
+        Ok(())
+    }
+}
