@@ -1,1 +1,3 @@
 pub mod Boundary
+pub mod Path
+pub mod Walk
