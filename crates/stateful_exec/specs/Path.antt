@@ -6,10 +6,15 @@ use Rattle.stateful_types.specs.declared.anchor.Anchor.{Anchor}
 use Rattle.stateful_cache.specs.Cache.{IsAtHand}
 use Rattle.stateful_cache.specs.declared.cache.Cached.{Cached}
 
--- missing blocks, the newest first, and the parent of the last of them
+-- blocks that have to be run, the newest first, and the parent of the last of them
 pub record Path (B : Type 0) : Type 0 where
   pub blocks : List (Named B)
   pub parent : Named B
+
+-- the element stands at the end of the list
+pub record IsLastOf {T : Type 0} (items : List T) (item : T) : Type 0 where
+  pub earlier : List T
+  pub parts : items ≡ earlier ++ item ∷ []
 
 module _ {B : Type 0} (header : Header B) where
   -- the block is one above the other, and its child

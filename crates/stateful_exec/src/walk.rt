@@ -1,23 +1,31 @@
-//! Walks from a requested block through its ancestors, to one that is at hand.
+//! What a request needs before its blocks can be run: walks from its first unknown block through its ancestors, to one
+//! that is known.
 
-ghost use Rattle.std.specs.Prelude.{◌≡◌, ◌↔◌, ◌∷◌, IfOk, IsTrue};
+ghost use Rattle.std.specs.Prelude.{◌≡◌, ◌≢◌, ◌↔◌, ◌++◌, ◌∷◌, [], IfOk, IsTrue, take};
+ghost use Rattle.stateful_cache.specs.Judgement.{IsJudged};
+ghost use Rattle.stateful_cache.specs.declared.judgement.Judgement.TheVariants as judged;
 ghost use Rattle.stateful_exec.specs.Path.{IsOneAbove};
-ghost use Rattle.stateful_exec.specs.Walk.{Walks, StandsAt};
+ghost use Rattle.stateful_exec.specs.Walk.{Walks, StandsAt, IsVerified, IsPrepared};
 
 use crate::path::ReplayPath;
-use stateful_cache::{Cache, knows};
-use stateful_types::{Anchor, Block, Digest, Digested, OutOfMemory, Share};
+use crate::request::Request;
+use stateful_cache::{Cache, Judgement, judge, knows};
+use stateful_types::{Ancestry, Anchor, Block, BlockStore, Digest, Digested, OutOfMemory, Share};
 use std::alloc::Global;
 
-/// What a walk from a block through its ancestors found.
+/// What a request needs.
 #[derive(Drop)]
-pub enum Walk<B> {
-    /// An ancestor that is at hand, with the missing blocks above it.
-    Ready(ReplayPath<B>),
-    /// An ancestor of this digest has to be fetched.
-    Ask(Digest),
-    /// A block that isn't at hand and is no higher than the anchor, or one whose parent is another block or isn't one lower.
+pub enum Acquired<B> {
+    /// Nothing: its block is valid.
+    Valid,
+    /// Nothing: its block is invalid, or the parent of its proposal can't be made known.
     Invalid,
+    /// The block of this digest.
+    Ask(Digest),
+    /// The finalized block of its height, which the store doesn't have.
+    Waits,
+    /// These blocks are to be run.
+    Ready(ReplayPath<B>),
 }
 
 /// How a block of a walk stands.
@@ -53,33 +61,101 @@ fn is_one_above<B: Block + Drop>(block: &Digested<B>, parent: &Digested<B>) -> b
     child && Some(block.height()) == parent.height().next()
 }
 
-/// Walks from a block through the blocks that were acquired for it, each the parent of the one before, to one that is at
-/// hand.
-pub fn walk_from<B: Block + Drop, U: Drop>(
-    alloc: Global,
+/// Walks on from the end of a path through these blocks, each the parent of the one before, to one that is at hand.
+fn walk_from<B: Block + Drop, U: Drop>(
+    path: ReplayPath<B>,
     anchor: Anchor,
     cache: &Cache<U>,
-    first: &Digested<B>,
     acquired: &[Digested<B>],
-) -> Result<Walk<B>, OutOfMemory>
-    ensures { IfOk result (λ found. Walks B.header anchor cache.now (first.now ∷ acquired.now)
-        found) }
+) -> Result<Acquired<B>, OutOfMemory>
+    ensures { IfOk result (Walks B.header anchor cache.now path.blocks
+        (path.parent ∷ acquired.now)) }
 {
-    let mut path = ReplayPath::new(alloc, first.share()?);
+    let mut path = path;
     for next in acquired {
-        match standing_of(anchor, cache, &path.parent) {
-            Standing::AtHand => return Ok(Walk::Ready(path)),
-            Standing::Covered => return Ok(Walk::Invalid),
+        match standing_of(anchor, cache, path.parent()) {
+            Standing::AtHand => return Ok(Acquired::Ready(path)),
+            Standing::Covered => return Ok(Acquired::Invalid),
             Standing::Missing => {}
         }
-        if !is_one_above(&path.parent, next) {
-            return Ok(Walk::Invalid);
+        if !is_one_above(path.parent(), next) {
+            return Ok(Acquired::Invalid);
         }
         path.step_to(next)?;
     }
-    match standing_of(anchor, cache, &path.parent) {
-        Standing::AtHand => Ok(Walk::Ready(path)),
-        Standing::Covered => Ok(Walk::Invalid),
-        Standing::Missing => Ok(Walk::Ask(path.parent.parent())),
+    match standing_of(anchor, cache, path.parent()) {
+        Standing::AtHand => Ok(Acquired::Ready(path)),
+        Standing::Covered => Ok(Acquired::Invalid),
+        Standing::Missing => Ok(Acquired::Ask(path.parent().parent())),
+    }
+}
+
+/// A block that isn't judged without a run of it has to be run above what its parent needs.
+fn walk_above<B: Block + Drop, U: Drop>(
+    alloc: Global,
+    anchor: Anchor,
+    cache: &Cache<U>,
+    block: &Digested<B>,
+    parent: &Digested<B>,
+    acquired: &[Digested<B>],
+) -> Result<Acquired<B>, OutOfMemory>
+    ensures { (stored : _)
+        → IsJudged B.header anchor cache.now stored block.now judged.Open
+        → IfOk result (IsVerified B.header anchor cache.now stored block.now
+        (parent.now ∷ acquired.now)) }
+{
+    if !parent.digest().is(block.parent()) {
+        return Ok(Acquired::Invalid);
+    }
+    let path = ReplayPath::of(alloc, block.share()?, parent.share()?)?;
+    walk_from(path, anchor, cache, acquired)
+}
+
+/// What a verification needs that isn't judged without a run of its block.
+fn acquire<B: Block + Drop, U: Drop>(
+    alloc: Global,
+    anchor: Anchor,
+    cache: &Cache<U>,
+    ancestry: &Ancestry<B>,
+    acquired: &[Digested<B>],
+) -> Result<Acquired<B>, OutOfMemory>
+    ensures { (stored : _)
+        → IsJudged B.header anchor cache.now stored ancestry.now.first judged.Open
+        → IfOk result (IsVerified B.header anchor cache.now stored ancestry.now.first
+        (take 1 ancestry.now.rest ++ acquired.now)) }
+{
+    let block = &ancestry.first;
+    if let Some(parent) = ancestry.rest.as_slice().first() {
+        return walk_above(alloc, anchor, cache, block, parent, acquired);
+    }
+    match acquired.split_first() {
+        Some((parent, more)) => walk_above(alloc, anchor, cache, block, parent, more),
+        None => Ok(Acquired::Ask(block.parent())),
+    }
+}
+
+/// What a request needs, with the blocks that were acquired for it so far.
+pub(crate) fn prepare<B: Block + Drop, C: Copy, I, U: Drop, S: BlockStore<B>>(
+    alloc: Global,
+    anchor: Anchor,
+    cache: &Cache<U>,
+    store: &S,
+    request: &Request<B, C, I>,
+    acquired: &[Digested<B>],
+) -> Result<Acquired<B>, OutOfMemory>
+    ensures { IfOk result (IsPrepared B.header anchor cache.now (S.stored store.now) request.now
+        acquired.now) }
+{
+    match request {
+        Request::Verify { ancestry, .. } => match judge(anchor, cache, store, &ancestry.first)? {
+            Judgement::Valid => Ok(Acquired::Valid),
+            Judgement::Invalid => Ok(Acquired::Invalid),
+            Judgement::Waits => Ok(Acquired::Waits),
+            Judgement::Open => acquire(alloc, anchor, cache, ancestry, acquired),
+        },
+        Request::Recover { ancestry, .. } => {
+            let path = ReplayPath::new(alloc, ancestry.first.share()?);
+            walk_from(path, anchor, cache, acquired)
+        }
     }
 }

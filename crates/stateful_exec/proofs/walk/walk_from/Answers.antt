@@ -20,16 +20,20 @@ pub returns-then-not-is_one_above : goal.returns-then-not-is_one_above
 returns-then-not-is_one_above g c =
     let leads = Leads-inside g.B.Block.header c.args.anchor c.args.cache.now c.args.first.now c.args.acquired.now c.loop-next.next-index _ _ c.loop-next.invariant in
     let missing : IsMissing g.B.Block.header c.args.anchor c.args.cache.now c.loop-next.path.parent = rw (← c.path.view_is) c.in-Missing.ensures in
-    let other : IsOneAbove g.B.Block.header c.loop-next.path.parent c.next-item.result → ⊥ = rw (← c.path.view_is) (refused _ _ c.is_one_above.ensures c.if-not-is_one_above.true) in
-    (c.loop-next.path.blocks, c.loop-next.path.parent, drop c.loop-next.next-index c.args.acquired.now, leads,
-      inr (missing, (c.next-item.result, drop (c.loop-next.next-index + 1) c.args.acquired.now, drop_at c.args.acquired.now c.loop-next.next-index c.next-item.result c.loop-next-test.true c.next-item.is, other)))
+    let other : IsOneAbove g.B.Block.header c.loop-next.path.parent c.next-item.result → ⊥ = rw (← c.path.view_is) (refused _ _ c.is_one_above.ensures c.if-not-is_one_above.true) in (
+      c.loop-next.path.blocks,
+      c.loop-next.path.parent,
+      drop c.loop-next.next-index c.args.acquired.now,
+      leads,
+      inr (missing, (c.next-item.result, drop (c.loop-next.next-index + 1) c.args.acquired.now, drop_at c.args.acquired.now c.loop-next.next-index c.next-item.result c.loop-next-test.true c.next-item.is, other)),
+    )
 
 pub loop-next-preserved : goal.loop-next-preserved
 loop-next-preserved g c =
     let missing : IsMissing g.B.Block.header c.args.anchor c.args.cache.now c.loop-next.path.parent = rw (← c.path.view_is) c.in-Missing.ensures in
     let above : IsOneAbove g.B.Block.header c.loop-next.path.parent c.next-item.result = rw (← c.path.view_is) (c.is_one_above.ensures.0 c.if-not-is_one_above.false) in
     rw (take_at c.args.acquired.now c.loop-next.next-index c.next-item.result c.loop-next-test.true c.next-item.is) (rw c.in_ok-step_to.ensures.ok
-      (Leads-next g.B.Block.header c.args.anchor c.args.cache.now (c.args.first.now ∷ take c.loop-next.next-index c.args.acquired.now) _ _ c.next-item.result c.loop-next.invariant missing above))
+    (Leads-next g.B.Block.header c.args.anchor c.args.cache.now (c.args.first.now ∷ take c.loop-next.next-index c.args.acquired.now) _ _ c.next-item.result c.loop-next.invariant missing above))
 
 pub returns-in-AtHand-standing_of : goal.returns-in-AtHand-standing_of
 returns-in-AtHand-standing_of g c =
