@@ -3,3 +3,9 @@ pub mod Errors
 pub mod Request
 pub mod Path
 pub mod Walk
+pub mod Workings
+pub mod State
+pub mod Moments
+pub mod Starting
+pub mod Rules
+pub mod Causes

@@ -30,7 +30,7 @@ impl<V> Model for Table<V> {
 
 impl<V: Drop> Table<V> {
     /// Without values.
-    fn new(alloc: Global) -> Table<V>
+    pub fn new(alloc: Global) -> Table<V>
         ensures { result ≡ [] }
     {
         Table {
@@ -39,7 +39,7 @@ impl<V: Drop> Table<V> {
     }
 
     /// How many there are.
-    fn len(&self) -> usize
+    pub fn len(&self) -> usize
         ensures size { result ≡ length self.now }
         ensures small { result < 2 ^ 63 }
     {
@@ -47,21 +47,21 @@ impl<V: Drop> Table<V> {
     }
 
     /// The value at a number.
-    fn get(&self, number: u64) -> Option<&V>
+    pub fn get(&self, number: u64) -> Option<&V>
         ensures { option_copied result ≡ at self.now number }
     {
         self.entries.get(&number)
     }
 
     /// Whether there is a value at a number.
-    fn contains(&self, number: u64) -> bool
+    pub fn contains(&self, number: u64) -> bool
         ensures { result ≡ is_some (at self.now number) }
     {
         self.entries.contains_key(&number)
     }
 
     /// The value at the least number.
-    fn first(&self) -> Option<&V>
+    pub fn first(&self) -> Option<&V>
         ensures { option_copied result ≡ first_of self.now }
     {
         match self.entries.first_key_value() {
@@ -78,7 +78,7 @@ impl<V: Drop> Table<V> {
     }
 
     /// Puts a value at a number, in place of the one that was there. That takes memory only where there was none.
-    fn put(&mut self, number: u64, value: V) -> Result<(), OutOfMemory>
+    pub fn put(&mut self, number: u64, value: V) -> Result<(), OutOfMemory>
         ensures ok { OnOk result (self.new ≡ put self.old number value) }
         ensures sums { OnOk result ((weigh : V → ℕ)
             → total weigh self.new + weight_of weigh (at self.old number)
@@ -91,7 +91,7 @@ impl<V: Drop> Table<V> {
     }
 
     /// Puts a value in place of the one at a number. It takes no memory.
-    fn replace(&mut self, number: u64, value: V)
+    pub fn replace(&mut self, number: u64, value: V)
         requires { IsSome (at self.old number) }
         ensures entries { self.new ≡ put self.old number value }
         ensures sums { (weigh : V → ℕ)
@@ -102,7 +102,7 @@ impl<V: Drop> Table<V> {
     }
 
     /// Takes out the value at a number.
-    fn remove(&mut self, number: u64) -> Option<V>
+    pub fn remove(&mut self, number: u64) -> Option<V>
         ensures value { result ≡ at self.old number }
         ensures others { self.new ≡ without self.old number }
         ensures sums { (weigh : V → ℕ)
