@@ -1,66 +1,99 @@
 -- Walks, block by block.
-use Rattle.std.proofs.Common.{◌≡◌, ◌↔◌, ◌<◌, ◌++◌, ◌∷◌, [], ℕ, zero, suc, ◌+◌, List, All, Bool, true, false, not, ◌≤◌, length, get_or, take, drop, arith, refl, sym, ◌∙◌, ap, subst, IsTrue}
-use Rattle.std.proofs.lemmas.Grind.{common_steps}
-use Rattle.std.proofs.lemmas.List.{append_assoc}
+use Rattle.std.proofs.Common.{◌≡◌, ◌↔◌, ◌<◌, ◌≤◌, ◌++◌, ◌∷◌, [], ℕ, ◌+◌, List, Bool, false, length, get_or, take, drop, refl, sym, ◌∙◌, ap, subst, append_assoc, append-nil, inl, inr, IsTrue}
+use Rattle.std.proofs.Math.ListN.{drop_of_length-le}
+use Rattle.std.proofs.lemmas.List.{take-append-drop, take_more, drop_more}
 use Rattle.std.proofs.lemmas.List.Elements.{All-nil, All-push}
 use Rattle.stateful_types.specs.Names.{Header, Named}
 use Rattle.stateful_types.specs.declared.digest.Digest.{Digest}
 use Rattle.stateful_types.specs.declared.anchor.Anchor.{Anchor}
 use Rattle.stateful_cache.specs.Cache.{IsAtHand}
-use Rattle.stateful_exec.specs.Path.{IsOneAbove, Descends, IsMissing, Leads}
 use Rattle.stateful_cache.specs.declared.cache.Cached.{Cached}
-
-take_drop : {X : Type 0} (i : ℕ) (xs : List X) → take i xs ++ drop i xs ≡ xs
-take_drop i xs = grind (common_steps)
-
-pub drop_all : {X : Type 0} (xs : List X) (i : ℕ) → length xs ≤ i → drop i xs ≡ []
-drop_all xs i l = grind (arith, common_steps)
+use Rattle.stateful_exec.specs.Path.{Path, IsOneAbove, Descends, IsMissing, IsCovered, Leads}
+use Rattle.stateful_exec.specs.Walk.{Walks, IsNeeded}
+use Rattle.stateful_exec.specs.Walk.IsNeeded.{child}
+use Rattle.stateful_exec.specs.declared.walk.Acquired.{Acquired}
+use Rattle.stateful_exec.specs.declared.walk.Acquired.TheVariants.{Invalid, Ask, Ready}
 
 -- a test that failed refutes what it tests
-pub refused : (r : Bool) (P : Type 0) → (IsTrue r ↔ P) → not r ≡ true → P → ⊥
+pub refused : (r : Bool) (P : Type 0) → (IsTrue r ↔ P) → r ≡ false → P → ⊥
 refused r P is f p = let t : IsTrue r = is.1 p in cc
 
 -- the element of a place is the first of those from there on
-pub drop_at : {X : Type 0} (xs : List X) (i : ℕ) (x : X) → i < length xs → x ≡ get_or xs i x → drop i xs ≡ x ∷ drop (i + 1) xs
-drop_at [] i x l e = absurd (omega (arith, l))
-drop_at (y ∷ ys) zero x l e = ap (λ z. z ∷ ys) (sym e)
-drop_at (y ∷ ys) (suc i) x l e = drop_at ys i x (omega (arith, l)) e
+drop_at : {X : Type 0} (xs : List X) (i : ℕ) (x : X) → i < length xs → x ≡ get_or xs i x → drop i xs ≡ x ∷ drop (i + 1) xs
+drop_at xs i x l e = drop_more xs i x l ∙ ap (λ z. z ∷ drop (i + 1) xs) (sym e)
 
-pub take_at : {X : Type 0} (xs : List X) (i : ℕ) (x : X) → i < length xs → x ≡ get_or xs i x → take (i + 1) xs ≡ take i xs ++ x ∷ []
-take_at xs i x l e = grind (arith, common_steps)
+take_at : {X : Type 0} (xs : List X) (i : ℕ) (x : X) → i < length xs → x ≡ get_or xs i x → take (i + 1) xs ≡ take i xs ++ x ∷ []
+take_at xs i x l e = take_more xs i x l ∙ ap (λ z. take i xs ++ z ∷ []) (sym e)
 
 module _ {B U : Type 0} (header : Header B) (anchor : Anchor) (cache : List (Cached U)) where
   pub not_at_hand : (b : Named B) (r : Bool) (d : Digest) → d ≡ b.digest → (IsTrue r ↔ IsAtHand anchor cache d) → r ≡ false → IsAtHand anchor cache b.digest → ⊥
   not_at_hand b r d e is f h = let t : IsTrue r = is.1 (subst (λ (x : Digest). IsAtHand anchor cache x) (sym e) h) in cc
 
-  -- one block leads to itself
-  pub Leads-one : (b : Named B) → Leads header anchor cache (b ∷ []) [] b []
-  Leads-one b = record { parts = refl; each = All-nil (IsMissing header anchor cache); descends = tt }
+  -- a walk of these blocks has come to the path's end, and put those that it passed below those on top
+  pub record Reaches (top blocks : List (Named B)) (path : Path B) : Type 0 where
+    pub missing : List (Named B)
+    pub joined : path.blocks ≡ top ++ missing
+    pub leads : Leads header anchor cache blocks missing path.parent []
 
-  -- what follows the last block is the rest
-  pub Leads-more : (blocks rest missing : List (Named B)) (last : Named B) → Leads header anchor cache blocks missing last [] → Leads header anchor cache (blocks ++ rest) missing last rest
-  Leads-more blocks rest missing last leads = record {
-    parts = ap (λ bs. bs ++ rest) leads.parts ∙ append_assoc missing (last ∷ []) rest;
-    each = leads.each;
-    descends = leads.descends;
+  -- a walk begins at the path's end
+  pub Reaches-first : (path : Path B) → Reaches path.blocks (path.parent ∷ []) path
+  Reaches-first path = record {
+    missing = [];
+    joined = simp append-nil;
+    leads = record { parts = refl; each = All-nil (IsMissing header anchor cache); descends = tt };
   }
-
-  -- the blocks that were walked lead on into those that are left
-  pub Leads-inside : (first : Named B) (acquired : List (Named B)) (i : ℕ) (missing : List (Named B)) (last : Named B) → Leads header anchor cache (first ∷ take i acquired) missing last []
-      → Leads header anchor cache (first ∷ acquired) missing last (drop i acquired)
-  Leads-inside first acquired i missing last leads =
-      subst (λ (bs : List (Named B)). Leads header anchor cache (first ∷ bs) missing last (drop i acquired)) (take_drop i acquired) (Leads-more (first ∷ take i acquired) (drop i acquired) missing last leads)
 
   Descends-push : (blocks : List (Named B)) (last next : Named B) → IsOneAbove header last next → Descends header (blocks ++ last ∷ []) → Descends header ((blocks ++ last ∷ []) ++ next ∷ [])
   Descends-push [] last next above d = (above, tt)
   Descends-push (x ∷ []) last next above d = (d.0, (above, tt))
   Descends-push (x ∷ y ∷ ys) last next above d = (d.0, Descends-push (y ∷ ys) last next above d.1)
 
-  -- a missing block is passed
-  pub Leads-next : (blocks missing : List (Named B)) (last next : Named B) → Leads header anchor cache blocks missing last [] → IsMissing header anchor cache last → IsOneAbove header last next
-      → Leads header anchor cache (blocks ++ next ∷ []) (missing ++ last ∷ []) next []
-  Leads-next blocks missing last next leads is above = record {
-    parts = ap (λ bs. bs ++ next ∷ []) leads.parts;
-    each = All-push (IsMissing header anchor cache) missing last leads.each is;
-    descends = Descends-push missing last next above leads.descends;
-  }
+  module _ (top : List (Named B)) (first : Named B) (acquired : List (Named B)) (i : ℕ) (path : Path B) (reached : Reaches top (first ∷ take i acquired) path) where
+    -- what follows the path's end is what is left
+    Leads-left : Leads header anchor cache (first ∷ acquired) reached.missing path.parent (drop i acquired)
+    Leads-left = record {
+      parts = ap (λ bs. first ∷ bs) (sym (take-append-drop i acquired)) ∙ ap (λ bs. bs ++ drop i acquired) reached.leads.parts ∙ append_assoc reached.missing (path.parent ∷ []) (drop i acquired);
+      each = reached.leads.each;
+      descends = reached.leads.descends;
+    }
+
+    -- a missing block is passed
+    pub Reaches-next : (next : Named B) → i < length acquired → next ≡ get_or acquired i next → IsMissing header anchor cache path.parent → IsOneAbove header path.parent next
+        → Reaches top (first ∷ take (i + 1) acquired) (record { blocks = path.blocks ++ path.parent ∷ []; parent = next })
+    Reaches-next next l e missing above = record {
+      missing = reached.missing ++ path.parent ∷ [];
+      joined = ap (λ bs. bs ++ path.parent ∷ []) reached.joined ∙ append_assoc top reached.missing (path.parent ∷ []);
+      leads = record {
+        parts = ap (λ bs. first ∷ bs) (take_at acquired i next l e) ∙ ap (λ bs. bs ++ next ∷ []) reached.leads.parts;
+        each = All-push (IsMissing header anchor cache) reached.missing path.parent reached.leads.each missing;
+        descends = Descends-push reached.missing path.parent next above reached.leads.descends;
+      };
+    }
+
+    -- the path's end is at hand
+    pub Walks-ready : IsAtHand anchor cache path.parent.digest → Walks header anchor cache top (first ∷ acquired) (Ready path)
+    Walks-ready known = (reached.missing, drop i acquired, reached.joined, Leads-left, known)
+
+    pub Walks-covered : IsCovered header anchor cache path.parent → Walks header anchor cache top (first ∷ acquired) Invalid
+    Walks-covered covered = (reached.missing, path.parent, drop i acquired, Leads-left, inl covered)
+
+    -- the next block isn't the parent
+    pub Walks-broken : (next : Named B) → i < length acquired → next ≡ get_or acquired i next → IsMissing header anchor cache path.parent → (IsOneAbove header path.parent next → ⊥)
+        → Walks header anchor cache top (first ∷ acquired) Invalid
+    Walks-broken next l e missing other =
+        (reached.missing, path.parent, drop i acquired, Leads-left, inr (missing, (next, drop (i + 1) acquired, drop_at acquired i next l e, other)))
+
+    -- no block is left
+    pub Walks-ask : length acquired ≤ i → IsMissing header anchor cache path.parent → (digest : Digest) → digest ≡ header.parent path.parent.block → Walks header anchor cache top (first ∷ acquired) (Ask digest)
+    Walks-ask l missing digest e = (
+      reached.missing,
+      path.parent,
+      subst (λ (bs : List (Named B)). Leads header anchor cache (first ∷ acquired) reached.missing path.parent bs) (drop_of_length-le acquired l) Leads-left,
+      missing,
+      e,
+    )
+
+  -- a run on this parent needs what a walk from it finds
+  pub IsNeeded-child : (b parent : Named B) (acquired : List (Named B)) (path : Path B) (found : Acquired B) → path ≡ record { blocks = b ∷ []; parent = parent } → parent.digest ≡ header.parent b.block
+      → Walks header anchor cache path.blocks (path.parent ∷ acquired) found → IsNeeded header anchor cache b (parent ∷ acquired) found
+  IsNeeded-child b parent acquired path found is e walks = child refl e (subst (λ (p : Path B). Walks header anchor cache p.blocks (p.parent ∷ acquired) found) is walks)

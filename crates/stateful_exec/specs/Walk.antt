@@ -30,16 +30,19 @@ module _ {B U : Type 0} (header : Header B) (anchor : Anchor) (cache : List (Cac
       × (IsCovered header anchor cache «end» ⊎ (IsMissing header anchor cache «end» × ((next : Named B) × (more : List (Named B)) × (rest ≡ next ∷ more) × (IsOneAbove header «end» next → ⊥))))
   Walks top blocks acquired = ⊥
 
+  -- What a run of a block needs, where these blocks are at hand, its parent first: the parent, or it is walked from.
+  pub data IsNeeded (b : Named B) : List (Named B) → Acquired B → Type 0 where
+    orphan : {chain : List (Named B)} {digest : Digest} → chain ≡ [] → digest ≡ header.parent b.block → IsNeeded b chain (Ask digest)
+    stranger : {chain more : List (Named B)} {parent : Named B} → chain ≡ parent ∷ more → parent.digest ≢ header.parent b.block → IsNeeded b chain Invalid
+    child : {chain more : List (Named B)} {parent : Named B} {found : Acquired B} → chain ≡ parent ∷ more → parent.digest ≡ header.parent b.block → Walks (b ∷ []) chain found → IsNeeded b chain found
+
   module _ (stored : ℕ → Option (Named B)) where
-    -- What the verification of a block needs, where these blocks are at hand, its parent first: it is judged without a run of
-    -- the block, or its parent is walked from.
-    pub data IsVerified (b : Named B) : List (Named B) → Acquired B → Type 0 where
-      valid : {chain : List (Named B)} → IsJudged header anchor cache stored b judged.Valid → IsVerified b chain Valid
-      invalid : {chain : List (Named B)} → IsJudged header anchor cache stored b judged.Invalid → IsVerified b chain Invalid
-      waits : {chain : List (Named B)} → IsJudged header anchor cache stored b judged.Waits → IsVerified b chain Waits
-      orphan : {chain : List (Named B)} {digest : Digest} → IsJudged header anchor cache stored b judged.Open → chain ≡ [] → digest ≡ header.parent b.block → IsVerified b chain (Ask digest)
-      stranger : {chain more : List (Named B)} {parent : Named B} → IsJudged header anchor cache stored b judged.Open → chain ≡ parent ∷ more → parent.digest ≢ header.parent b.block → IsVerified b chain Invalid
-      child : {chain more : List (Named B)} {parent : Named B} {found : Acquired B} → IsJudged header anchor cache stored b judged.Open → chain ≡ parent ∷ more → parent.digest ≡ header.parent b.block → Walks (b ∷ []) chain found → IsVerified b chain found
+    -- What the verification of a block needs: it is judged without a run of the block, or has to be run.
+    pub data IsVerified (b : Named B) (chain : List (Named B)) : Acquired B → Type 0 where
+      valid : IsJudged header anchor cache stored b judged.Valid → IsVerified b chain Valid
+      invalid : IsJudged header anchor cache stored b judged.Invalid → IsVerified b chain Invalid
+      waits : IsJudged header anchor cache stored b judged.Waits → IsVerified b chain Waits
+      runs : {found : Acquired B} → IsJudged header anchor cache stored b judged.Open → IsNeeded b chain found → IsVerified b chain found
 
     -- What a request needs, with the blocks that were acquired for it. The parent of the block to judge is the next of its
     -- ancestry, or the first that was acquired. The parent of a proposal is walked from.

@@ -2,10 +2,8 @@
 //! that is known.
 
 ghost use Rattle.std.specs.Prelude.{◌≡◌, ◌≢◌, ◌↔◌, ◌++◌, ◌∷◌, [], IfOk, IsTrue, take};
-ghost use Rattle.stateful_cache.specs.Judgement.{IsJudged};
-ghost use Rattle.stateful_cache.specs.declared.judgement.Judgement.TheVariants as judged;
 ghost use Rattle.stateful_exec.specs.Path.{IsOneAbove};
-ghost use Rattle.stateful_exec.specs.Walk.{Walks, StandsAt, IsVerified, IsPrepared};
+ghost use Rattle.stateful_exec.specs.Walk.{Walks, StandsAt, IsNeeded, IsPrepared};
 
 use crate::path::ReplayPath;
 use crate::request::Request;
@@ -90,7 +88,7 @@ fn walk_from<B: Block + Drop, U: Drop>(
     }
 }
 
-/// A block that isn't judged without a run of it has to be run above what its parent needs.
+/// What a run of a block above this parent needs.
 fn walk_above<B: Block + Drop, U: Drop>(
     alloc: Global,
     anchor: Anchor,
@@ -99,9 +97,7 @@ fn walk_above<B: Block + Drop, U: Drop>(
     parent: &Digested<B>,
     acquired: &[Digested<B>],
 ) -> Result<Acquired<B>, OutOfMemory>
-    ensures { (stored : _)
-        → IsJudged B.header anchor cache.now stored block.now judged.Open
-        → IfOk result (IsVerified B.header anchor cache.now stored block.now
+    ensures { IfOk result (IsNeeded B.header anchor cache.now block.now
         (parent.now ∷ acquired.now)) }
 {
     if !parent.digest().is(block.parent()) {
@@ -111,7 +107,7 @@ fn walk_above<B: Block + Drop, U: Drop>(
     walk_from(path, anchor, cache, acquired)
 }
 
-/// What a verification needs that isn't judged without a run of its block.
+/// What a run of the first block of an ancestry needs.
 fn acquire<B: Block + Drop, U: Drop>(
     alloc: Global,
     anchor: Anchor,
@@ -119,9 +115,7 @@ fn acquire<B: Block + Drop, U: Drop>(
     ancestry: &Ancestry<B>,
     acquired: &[Digested<B>],
 ) -> Result<Acquired<B>, OutOfMemory>
-    ensures { (stored : _)
-        → IsJudged B.header anchor cache.now stored ancestry.now.first judged.Open
-        → IfOk result (IsVerified B.header anchor cache.now stored ancestry.now.first
+    ensures { IfOk result (IsNeeded B.header anchor cache.now ancestry.now.first
         (take 1 ancestry.now.rest ++ acquired.now)) }
 {
     let block = &ancestry.first;

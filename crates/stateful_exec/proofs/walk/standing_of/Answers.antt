@@ -1,5 +1,3 @@
-use Rattle.std.proofs.Common.{arith, ◌≡◌, ◌<◌, ◌≤◌}
-use Rattle.stateful_types.specs.declared.number.Height.{Height}
 use Rattle.stateful_exec.proofs.Walking.{not_at_hand}
 use Rattle.stateful_exec.proofs.walk.standing_of.Goals as goal
 
