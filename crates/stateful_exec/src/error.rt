@@ -1,7 +1,7 @@
 //! Why execution refused a call.
 
 use crate::boundary::ExecutionStep;
-use stateful_db::AppFault;
+use stateful_db::{AppFault, SetError};
 use stateful_types::{Digest, Height, OutOfMemory, Round, Target};
 use std::alloc::{AllocError, AllocFailed};
 use thiserror::Error;
@@ -129,6 +129,22 @@ impl From<AppFault> for ExecError {
         match fault {
             AppFault::Failed => ExecError::Application,
             AppFault::OutOfMemory => ExecError::OutOfMemory,
+        }
+    }
+}
+
+impl From<SetError> for ExecError {
+    ghost use Rattle.std.specs.Prelude.{◌≡◌};
+    ghost use Rattle.stateful_exec.specs.Errors.{error_of_set};
+
+    ghost from_gives = { λ fault e. e ≡ error_of_set fault };
+
+    // No call that makes batches fails at a database: one that failed is lost.
+    fn from(fault: SetError) -> ExecError {
+        match fault {
+            SetError::Lost | SetError::DatabaseFault { .. } => ExecError::Lost,
+            SetError::Exhausted => ExecError::Exhausted,
+            SetError::OutOfMemory => ExecError::OutOfMemory,
         }
     }
 }

@@ -3,20 +3,21 @@
 
 mod boundary;
 mod error;
+mod met;
 mod path;
-mod processor;
+mod pause;
 mod request;
+mod state;
 mod tables;
-mod verifier;
 mod walk;
 mod worked;
 
 pub use boundary::{Disposition, ExecutionStep, FinalizationBoundary};
 pub use error::{ExecError, ProposalFault};
 pub use path::ReplayPath;
-pub use processor::Processor;
+pub use pause::Pause;
 pub use request::{Proposal, Request, Verdict};
-pub use tables::{LiveRun, Phase, Queued, Requested};
-pub use verifier::{Joined, Verifier};
+pub use state::Tables;
+pub use tables::{LiveRun, Phase, Requested};
 pub use walk::Acquired;
 pub use worked::Worked;

@@ -75,14 +75,15 @@ impl<B: Drop> ReplayPath<B> {
         Ok(())
     }
 
-    /// The next one to run is done with.
-    pub(crate) fn advance(&mut self)
+    /// The next one to run is done with. Its parent is handed out.
+    pub(crate) fn advance(&mut self) -> Digested<B>
         requires { self.old.blocks ≢ [] }
-        ensures { self.old.blocks ≡ self.new.blocks ++ self.new.parent ∷ [] }
+        ensures passed { self.old.blocks ≡ self.new.blocks ++ self.new.parent ∷ [] }
+        ensures parent { result ≡ self.old.parent }
     {
         let Some(block) = self.blocks.pop() else {
             unreachable!();
         };
-        self.parent = block;
+        mem::replace(&mut self.parent, block)
     }
 }

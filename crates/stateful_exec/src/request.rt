@@ -42,10 +42,9 @@ pub enum Verdict {
     Invalid,
 }
 
-/// A request to build, whose parent is known.
+/// What a request to build asks for.
 #[derive(Drop)]
 pub struct Proposal<B, C, I> {
-    pub ticket: u64,
     pub context: C,
     pub ancestry: Ancestry<B>,
     pub input: I,

@@ -1,7 +1,10 @@
-//! What execution keeps: live runs, requests, and what is to be built.
+//! What execution keeps of live runs and requests.
+
+ghost use Rattle.std.specs.Prelude.{◌≡◌};
+ghost use Rattle.stateful_exec.specs.Phase.{is_on};
 
 use crate::path::ReplayPath;
-use crate::request::{Proposal, Request};
+use crate::request::Request;
 use stateful_types::{Digested, Items};
 
 /// A candidate run that goes on.
@@ -28,6 +31,18 @@ pub enum Phase<B> {
     Parked(ReplayPath<B>),
 }
 
+impl<B> Phase<B> {
+    /// Whether it waits for the run of this job.
+    pub(crate) fn is_on(&self, job: u64) -> bool
+        ensures { result ≡ is_on job self.now }
+    {
+        match self {
+            Phase::Executing { job: of, .. } => *of == job,
+            _ => false,
+        }
+    }
+}
+
 /// A request that goes on.
 #[derive(Drop)]
 pub struct Requested<B, C, I> {
@@ -35,12 +50,4 @@ pub struct Requested<B, C, I> {
     /// What was fetched for it, one after another.
     pub acquired: Items<Digested<B>>,
     pub phase: Phase<B>,
-}
-
-/// A build that isn't started yet.
-#[derive(Drop)]
-pub struct Queued<B, C, I> {
-    pub proposal: Proposal<B, C, I>,
-    /// Whether its ticket was handed out.
-    pub taken: bool,
 }

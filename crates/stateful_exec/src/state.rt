@@ -1,0 +1,345 @@
+//! The tables of execution, over plain types.
+
+ghost use Rattle.std.specs.Prelude.{◌≡◌, ◌≢◌, ◌↔◌, ◌<◌, ◌+◌, ◌-◌, ◌^◌, ◌++◌, ◌∷◌, [], ℕ, false, List, Some, None, IsSome, OnOk, OnErr, IfOk, IfErr, IfSome, IfNone, All, IsTrue, MatchOption};
+ghost use Rattle.stateful_cache.specs.Cache.{IsIn, IsAtHand};
+ghost use Rattle.stateful_history.specs.declared.mark.Mark.TheVariants as mark;
+ghost use Rattle.stateful_table.specs.Table.{at, put, without};
+ghost use Rattle.stateful_exec.specs.Starting.{IsLeft};
+ghost use Rattle.stateful_exec.specs.Phase.{tickets_on};
+ghost use Rattle.stateful_exec.specs.Rules.{taken, moved, ended, told, Knows, HasRun, RunsNone, GoesOn, JoinsAs, Meets, Skips};
+ghost use Rattle.stateful_exec.specs.declared.tables.Phase.TheVariants as phase;
+
+use crate::boundary::{Disposition, ExecutionStep};
+use crate::error::ExecError;
+use crate::met::Met;
+use crate::path::ReplayPath;
+use crate::pause::Pause;
+use crate::request::{Proposal, Request, Verdict};
+use crate::tables::{LiveRun, Phase, Requested};
+use stateful_cache::{Cache, knows};
+use stateful_history::Mark;
+use stateful_table::Table;
+use stateful_types::{Anchor, Block, Digest, Digested, Items, OutOfMemory, Share};
+use std::alloc::Global;
+use std::marker::Model;
+
+/// What execution keeps, over blocks `B`, contexts `C`, inputs `I`, runs `R` and sealed batches `U`.
+#[derive(Drop)]
+pub struct Tables<B, C, I, R, U> {
+    pub(crate) alloc: Global,
+    pub(crate) anchor: Anchor,
+    pub(crate) cache: Cache<U>,
+    runs: Table<LiveRun<B, R>>,
+    requests: Table<Requested<B, C, I>>,
+    queued: Table<Proposal<B, C, I>>,
+    recovered: Vec<u64>,
+    next_job: u64,
+    next_fetch: u64,
+    pause: Pause,
+}
+
+impl<B, C, I, R, U> Model for Tables<B, C, I, R, U> {
+    ghost use Rattle.stateful_exec.specs.State.{State};
+
+    ghost Value = { State B C I R U };
+
+    ghost view = { λ t. record {
+      anchor = t.anchor;
+      cache = t.cache;
+      runs = t.runs;
+      requests = t.requests;
+      queued = t.queued;
+      recovered = t.recovered.items;
+      next_job = t.next_job;
+      next_fetch = t.next_fetch;
+      pause = t.pause;
+    } };
+}
+
+impl<B: Block + Drop, C: Copy, I: Drop, R: Drop, U: Drop> Tables<B, C, I, R, U> {
+    /// Nothing is cached above the anchor, and nothing goes on. Jobs and fetches are numbered from 0.
+    pub(crate) fn new(alloc: Global, anchor: Anchor) -> Tables<B, C, I, R, U>
+        ensures { result ≡ record {
+          anchor = anchor;
+          cache = [];
+          runs = [];
+          requests = [];
+          queued = [];
+          recovered = [];
+          next_job = 0;
+          next_fetch = 0;
+          pause = Pause.Free;
+        } }
+    {
+        Tables {
+            alloc,
+            anchor,
+            cache: Cache::new(alloc),
+            runs: Table::new(alloc),
+            requests: Table::new(alloc),
+            queued: Table::new(alloc),
+            recovered: Vec::new(alloc),
+            next_job: 0,
+            next_fetch: 0,
+            pause: Pause::Free,
+        }
+    }
+
+    /// Whether the block of this digest is known: it is the anchor, or cached.
+    pub(crate) fn knows(&self, digest: Digest) -> bool
+        ensures { IsTrue result ↔ Knows self.now digest }
+    {
+        knows(self.anchor, &self.cache, digest)
+    }
+
+    /// The job of the live run of the block of this digest.
+    pub(crate) fn run_of(&self, digest: Digest) -> Option<u64>
+        ensures found { IfSome result (HasRun self.now digest) }
+        ensures none { IfNone result (RunsNone self.now digest) }
+    {
+        for (job, run) in self.runs.entries().iter() {
+            if run.block.digest().is(digest) {
+                return Some(*job);
+            }
+        }
+        None
+    }
+
+    /// The tickets of the requests that wait for the run of a job, ascending.
+    pub(crate) fn tickets_on(&self, job: u64) -> Result<Items<u64>, OutOfMemory>
+        ensures { IfOk result (λ tickets. tickets ≡ tickets_on job self.now.requests) }
+    {
+        let mut tickets = Items::new(self.alloc);
+        for (ticket, requested) in self.requests.entries().iter() {
+            if requested.phase.is_on(job) {
+                tickets.push(*ticket)?;
+            }
+        }
+        Ok(tickets)
+    }
+
+    /// Whether a block is run on under the pause.
+    fn goes_on(&self, block: &Digested<B>) -> bool
+        ensures { IsTrue result ↔ GoesOn B.header self.now.pause block.now }
+    {
+        match &self.pause {
+            Pause::Finalizing(boundary) => {
+                boundary.disposition(&ExecutionStep::of(block)) == Disposition::Retain
+            }
+            _ => true,
+        }
+    }
+
+    /// Passes the next block of a path, and tells what it is.
+    fn join(&self, path: &mut ReplayPath<B>) -> Result<Met<B>, OutOfMemory>
+        requires { path.old.blocks ≢ [] }
+        ensures passed { path.old.blocks ≡ path.new.blocks ++ path.new.parent ∷ [] }
+        ensures joins { IfOk result (JoinsAs B.header self.now path.new.parent path.old.parent) }
+    {
+        let parent = path.advance();
+        let block = path.parent();
+        if self.knows(block.digest()) {
+            return Ok(Met::Known);
+        }
+        if let Some(job) = self.run_of(block.digest()) {
+            return Ok(Met::Run(job));
+        }
+        if !self.knows(parent.digest()) {
+            return Ok(Met::Missed);
+        }
+        let block = block.share()?;
+        Ok(Met::Unrun { block, parent })
+    }
+
+    /// Passes the next block of a path where it goes on, and tells what was met.
+    fn meet(&self, path: &mut ReplayPath<B>) -> Result<Met<B>, OutOfMemory>
+        ensures { IfOk result (Meets B.header self.now path.old path.new) }
+    {
+        let Some(block) = path.next() else {
+            return Ok(Met::Arrived);
+        };
+        if !self.goes_on(block) {
+            return Ok(Met::Left);
+        }
+        self.join(path)
+    }
+
+    /// Passes the known blocks of a path, and tells what was met behind them.
+    pub(crate) fn skip(&self, path: &mut ReplayPath<B>) -> Result<Met<B>, OutOfMemory>
+        ensures { IfOk result (Skips B.header self.now path.old path.new) }
+    {
+        loop {
+            match self.meet(path)? {
+                Met::Known => {}
+                met => return Ok(met),
+            }
+        }
+    }
+
+    /// Takes a request out of its table.
+    pub(crate) fn take(&mut self, ticket: u64) -> Requested<B, C, I>
+        requires { IsSome (at self.old.requests ticket) }
+        ensures request { at self.old.requests ticket ≡ Some result }
+        ensures rest { self.new ≡ taken self.old ticket }
+    {
+        match self.requests.remove(ticket) {
+            Some(requested) => requested,
+            None => unreachable!(),
+        }
+    }
+
+    /// A request has come so far.
+    pub(crate) fn put(
+        &mut self,
+        ticket: u64,
+        requested: Requested<B, C, I>,
+    ) -> Result<(), OutOfMemory>
+        ensures { OnOk result (self.new ≡ record self.old {
+          requests = put self.old.requests ticket requested;
+        }) }
+    {
+        self.requests.put(ticket, requested)
+    }
+
+    /// A block is fetched for a request, under the next number. `Exhausted` exactly where that is the last one.
+    pub(crate) fn ask(
+        &mut self,
+        ticket: u64,
+        requested: Requested<B, C, I>,
+        digest: Digest,
+        marks: &mut Vec<Mark<B>>,
+    ) -> Result<(), ExecError>
+        ensures state { OnOk result (self.new ≡ record
+            (moved self.old ticket requested (phase.Fetching self.old.next_fetch)) {
+              next_fetch = self.old.next_fetch + 1;
+            }) }
+        ensures left { OnOk result (IsLeft self.old.next_fetch) }
+        ensures marks { OnOk result (marks.new.items
+            ≡ marks.old.items ++ mark.Asked self.old.next_fetch (Some ticket) digest ∷ []) }
+        ensures err { IfErr result (λ e. e ≢ ExecError.OutOfMemory
+            → (e ≡ ExecError.Exhausted) × (IsLeft self.old.next_fetch → ⊥)) }
+    {
+        let fetch = self.next_fetch;
+        if fetch == u64::MAX {
+            return Err(ExecError::Exhausted);
+        }
+        let Requested {
+            request,
+            acquired,
+            phase: _,
+        } = requested;
+        self.requests.put(
+            ticket,
+            Requested {
+                request,
+                acquired,
+                phase: Phase::Fetching(fetch),
+            },
+        )?;
+        self.next_fetch = fetch + 1;
+        marks.push(Mark::Asked {
+            fetch,
+            ticket: Some(ticket),
+            digest,
+        })?;
+        Ok(())
+    }
+
+    /// A request ends: it is answered, or the build of a proposal whose parent is known is queued.
+    pub(crate) fn conclude(
+        &mut self,
+        ticket: u64,
+        request: Request<B, C, I>,
+        verdict: Verdict,
+        marks: &mut Vec<Mark<B>>,
+    ) -> Result<(), OutOfMemory>
+        ensures state { OnOk result (self.new ≡ ended self.old ticket request verdict) }
+        ensures marks { OnOk result (marks.new.items
+            ≡ marks.old.items ++ told ticket request verdict) }
+    {
+        match request {
+            Request::Verify { .. } => {
+                let valid = verdict == Verdict::Valid;
+                marks.push(Mark::Verdict { ticket, valid })?;
+                Ok(())
+            }
+            Request::Recover {
+                context,
+                ancestry,
+                input,
+                kind,
+                ..
+            } => {
+                let proposal = Proposal {
+                    context,
+                    ancestry,
+                    input,
+                    kind,
+                };
+                self.end_recovery(ticket, proposal, verdict, marks)
+            }
+        }
+    }
+
+    /// The parent of a proposal is known, and its build is queued; or it can't be made known, and the proposal is declined.
+    fn end_recovery(
+        &mut self,
+        ticket: u64,
+        proposal: Proposal<B, C, I>,
+        verdict: Verdict,
+        marks: &mut Vec<Mark<B>>,
+    ) -> Result<(), OutOfMemory>
+        ensures known { verdict ≡ Verdict.Valid → OnOk result ((self.new ≡ record self.old {
+          queued = put self.old.queued ticket proposal;
+          recovered = self.old.recovered ++ ticket ∷ [];
+        }) × (marks.new.items ≡ marks.old.items)) }
+        ensures unknown { verdict ≡ Verdict.Invalid → OnOk result ((self.new ≡ self.old)
+            × (marks.new.items ≡ marks.old.items ++ mark.Declined ticket ∷ [])) }
+    {
+        match verdict {
+            Verdict::Valid => {
+                self.queued.put(ticket, proposal)?;
+                self.recovered.push(ticket)?;
+            }
+            Verdict::Invalid => marks.push(Mark::Declined { ticket })?,
+        }
+        Ok(())
+    }
+
+    /// A run of this block is live, under the next number of a job, which isn't the last one.
+    pub(crate) fn add_run(&mut self, block: Digested<B>, run: R) -> Result<u64, OutOfMemory>
+        requires { IsLeft self.old.next_job }
+        ensures job { IfOk result (λ job. job ≡ self.old.next_job) }
+        ensures state { OnOk result (self.new ≡ record self.old {
+          runs = put self.old.runs self.old.next_job (record {
+            block = block;
+            run = run;
+            awaited = false;
+          });
+          next_job = self.old.next_job + 1;
+        }) }
+        ensures err { OnErr result (self.new ≡ self.old) }
+    {
+        let job = self.next_job;
+        let live = LiveRun {
+            block,
+            run,
+            awaited: false,
+        };
+        self.runs.put(job, live)?;
+        self.next_job = job + 1;
+        Ok(job)
+    }
+
+    /// The number of the next job. `Exhausted` exactly where that is the last one.
+    pub(crate) fn free_job(&self) -> Result<u64, ExecError>
+        ensures ok { IfOk result (λ job. (job ≡ self.now.next_job) × IsLeft self.now.next_job) }
+        ensures err { IfErr result (λ e. (e ≡ ExecError.Exhausted)
+            × (IsLeft self.now.next_job → ⊥)) }
+    {
+        if self.next_job == u64::MAX {
+            return Err(ExecError::Exhausted);
+        }
+        Ok(self.next_job)
+    }
+}
