@@ -9,7 +9,7 @@ use Rattle.stateful_cache.specs.Cache.{IsAtHand}
 use Rattle.stateful_table.specs.Table.{at, put, without}
 use Rattle.stateful_exec.specs.Boundary.{step_by, IsRetained}
 use Rattle.stateful_exec.specs.Path.{Path, IsLastOf}
-use Rattle.stateful_exec.specs.State.{State}
+use Rattle.stateful_exec.specs.declared.state.Tables.{Tables}
 use Rattle.stateful_exec.specs.Walk.{IsPrepared}
 use Rattle.stateful_exec.specs.Workings.{Workings}
 use Rattle.stateful_exec.specs.Moments.{Moment, Becomes}
@@ -46,16 +46,16 @@ first_or other [] = other
 first_or other (x ∷ xs) = x
 
 -- A request that is served is taken out of its table.
-module _ {B C I R U : Type 0} (v : State B C I R U) where
-  abbrev pub taken : ℕ → State B C I R U
+module _ {B C I R U : Type 0} (v : Tables B C I R U) where
+  abbrev pub taken : ℕ → Tables B C I R U
   taken t = record v { requests = without v.requests t }
 
   -- the request of this ticket has come so far
-  abbrev pub moved : ℕ → Requested B C I → Phase B → State B C I R U
+  abbrev pub moved : ℕ → Requested B C I → Phase B → Tables B C I R U
   moved t r phase = record v { requests = put v.requests t (record r { phase = phase }) }
 
   -- the request of this ticket has ended; a proposal whose parent is known is queued
-  abbrev pub ended : ℕ → Request B C I → Verdict → State B C I R U
+  abbrev pub ended : ℕ → Request B C I → Verdict → Tables B C I R U
   ended t (Recover u context ancestry input kind) Valid = record v {
     queued = put v.queued t (record { context = context; ancestry = ancestry; input = input; kind = kind });
     recovered = v.recovered ++ t ∷ [];
@@ -78,7 +78,7 @@ abbrev pub GoesOn : {B : Type 0} → Header B → Pause → Named B → Type 0
 GoesOn header (Finalizing boundary) b = IsRetained boundary (step_by header b)
 GoesOn header pause b = Unit {0}
 
-module _ {B C I R U : Type 0} (header : Header B) (v : State B C I R U) where
+module _ {B C I R U : Type 0} (header : Header B) (v : Tables B C I R U) where
   -- a block that needs no run
   abbrev pub IsPassed : Named B → Type 0
   IsPassed b = GoesOn header v.pause b × Knows v b.digest
@@ -126,7 +126,7 @@ module _ {B C I P R D H G U : Type 0} (w : Workings B C I P R D H G U) where
 
   -- a run of the next block is started for a request
   pub record Launches (m : Moment w) (t : ℕ) (r : Requested B C I) (left : List (Named B)) (b parent : Named B) (now : Moment w) : Type 0 where
-    pub running : State B C I R U
+    pub running : Tables B C I R U
     pub starts : StartsRun w b parent m.members m.next now.next m.state running
     pub state : now.state ≡ moved running t r (Executing m.state.next_job (record { blocks = left; parent = b }))
     pub members : now.members ≡ m.members
@@ -139,7 +139,7 @@ module _ {B C I P R D H G U : Type 0} (w : Workings B C I P R D H G U) where
     arrives : All (IsPassed w.header m.state) path.blocks → Concludes m t r Valid now → Advances m t r path now
     leaves : {left : List (Named B)} {b parent : Named B} → Reaches w.header m.state path left b parent
         → (GoesOn w.header m.state.pause b → ⊥) → Concludes m t r Invalid now → Advances m t r path now
-    joins : {left : List (Named B)} {b parent : Named B} {j : ℕ} → Reaches w.header m.state path left b parent
+    joins : {left : List (Named B)} {b parent : Named B} (j : ℕ) → Reaches w.header m.state path left b parent
         → GoesOn w.header m.state.pause b → (Knows m.state b.digest → ⊥) → HasRun m.state b.digest j
         → Becomes w m (moved m.state t r (Executing j (record { blocks = left; parent = b }))) [] now → Advances m t r path now
     starts : {left : List (Named B)} {b parent : Named B} → Reaches w.header m.state path left b parent

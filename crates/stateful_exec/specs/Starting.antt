@@ -9,7 +9,7 @@ use Rattle.stateful_db.specs.Works.{run_of}
 use Rattle.stateful_cache.specs.declared.cache.Cached.{Cached}
 use Rattle.stateful_table.specs.Table.{put}
 use Rattle.stateful_exec.specs.Workings.{Workings, Point}
-use Rattle.stateful_exec.specs.State.{State}
+use Rattle.stateful_exec.specs.declared.state.Tables.{Tables}
 use Rattle.stateful_exec.specs.declared.tables.LiveRun.{LiveRun}
 
 -- the number isn't the last one
@@ -31,7 +31,7 @@ module _ {B C I P R D H G U : Type 0} (w : Workings B C I P R D H G U) where
 
   -- A run of the block is live, over the states of its parent, under the next number of a job. That number and the batches'
   -- ids weren't the last ones.
-  pub record StartsRun (b parent : Named B) (m : w.kind.Members) (next now : w.Ids) (old new : State B C I R U) : Type 0 where
+  pub record StartsRun (b parent : Named B) (m : w.kind.Members) (next now : w.Ids) (old new : Tables B C I R U) : Type 0 where
     pub run : R
     pub job_left : IsLeft old.next_job
     pub ids_left : w.kind.Spent next → ⊥

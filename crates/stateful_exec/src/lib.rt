@@ -7,8 +7,10 @@ mod met;
 mod path;
 mod pause;
 mod request;
+mod running;
 mod state;
 mod tables;
+mod tickets;
 mod walk;
 mod worked;
 

@@ -16,12 +16,12 @@ use crate::path::ReplayPath;
 use crate::pause::Pause;
 use crate::request::{Proposal, Request, Verdict};
 use crate::tables::{LiveRun, Phase, Requested};
+use crate::tickets::Tickets;
 use stateful_cache::{Cache, knows};
 use stateful_history::Mark;
 use stateful_table::Table;
 use stateful_types::{Anchor, Block, Digest, Digested, Items, OutOfMemory, Share};
 use std::alloc::Global;
-use std::marker::Model;
 
 /// What execution keeps, over blocks `B`, contexts `C`, inputs `I`, runs `R` and sealed batches `U`.
 #[derive(Drop)]
@@ -29,37 +29,24 @@ pub struct Tables<B, C, I, R, U> {
     pub(crate) alloc: Global,
     pub(crate) anchor: Anchor,
     pub(crate) cache: Cache<U>,
-    runs: Table<LiveRun<B, R>>,
-    requests: Table<Requested<B, C, I>>,
-    queued: Table<Proposal<B, C, I>>,
-    recovered: Vec<u64>,
-    next_job: u64,
-    next_fetch: u64,
-    pause: Pause,
-}
-
-impl<B, C, I, R, U> Model for Tables<B, C, I, R, U> {
-    ghost use Rattle.stateful_exec.specs.State.{State};
-
-    ghost Value = { State B C I R U };
-
-    ghost view = { λ t. record {
-      anchor = t.anchor;
-      cache = t.cache;
-      runs = t.runs;
-      requests = t.requests;
-      queued = t.queued;
-      recovered = t.recovered.items;
-      next_job = t.next_job;
-      next_fetch = t.next_fetch;
-      pause = t.pause;
-    } };
+    /// The live candidate runs, by their jobs.
+    pub(crate) runs: Table<LiveRun<B, R>>,
+    /// By their tickets.
+    pub(crate) requests: Table<Requested<B, C, I>>,
+    /// The builds that aren't started yet, by their tickets.
+    pub(crate) queued: Table<Proposal<B, C, I>>,
+    /// The tickets of those that weren't handed out yet, in the order in which their parents became known.
+    pub(crate) recovered: Tickets,
+    pub(crate) next_job: u64,
+    pub(crate) next_fetch: u64,
+    pub(crate) pause: Pause,
 }
 
 impl<B: Block + Drop, C: Copy, I: Drop, R: Drop, U: Drop> Tables<B, C, I, R, U> {
     /// Nothing is cached above the anchor, and nothing goes on. Jobs and fetches are numbered from 0.
     pub(crate) fn new(alloc: Global, anchor: Anchor) -> Tables<B, C, I, R, U>
         ensures { result ≡ record {
+          alloc = alloc;
           anchor = anchor;
           cache = [];
           runs = [];
@@ -78,7 +65,7 @@ impl<B: Block + Drop, C: Copy, I: Drop, R: Drop, U: Drop> Tables<B, C, I, R, U> 
             runs: Table::new(alloc),
             requests: Table::new(alloc),
             queued: Table::new(alloc),
-            recovered: Vec::new(alloc),
+            recovered: Tickets::new(alloc),
             next_job: 0,
             next_fetch: 0,
             pause: Pause::Free,

@@ -1,0 +1,119 @@
+//! Requests on their way: what they need, and the runs that are started for them.
+
+ghost use Rattle.std.specs.Prelude.{◌≡◌, ◌≢◌, ◌≤◌, ◌∷◌, [], ℕ, List, Some, OnOk, IfOk, IfErr, IsErrOf};
+ghost use Rattle.stateful_types.specs.Causes.{Rose};
+ghost use Rattle.stateful_types.specs.declared.outcome.Finality.TheVariants.{Candidate};
+ghost use Rattle.stateful_cache.specs.Cache.{IsAtHand};
+ghost use Rattle.stateful_exec.specs.Moments.{moment};
+ghost use Rattle.stateful_exec.specs.Starting.{IsOver, IsFresh, StartsRun};
+ghost use Rattle.stateful_exec.specs.Rules.{Knows, Advances, Acquires};
+ghost use Rattle.stateful_exec.specs.Causes.{FaultsBatches, FaultsStart, FaultsAdvance, FaultsAcquire};
+
+use crate::error::ExecError;
+use crate::met::Met;
+use crate::path::ReplayPath;
+use crate::request::Verdict;
+use crate::state::Tables;
+use crate::tables::{Phase, Requested};
+use crate::walk::{Acquired, prepare};
+use crate::worked::Worked;
+use stateful_cache::Cache;
+use stateful_db::{Application, Batch, DatabaseSet, OpenBatch};
+use stateful_history::{JobKind, Mark};
+use stateful_types::{
+    Ancestry, Anchor, Block, BlockStore, Digest, Digested, Finality, Items, OutOfMemory, Share,
+};
+use std::alloc::Global;
+
+/// The tables of an application.
+pub type TablesOf<A> = Tables<
+    <A as Application>::Block,
+    <A as Application>::Context,
+    <A as Application>::Input,
+    <A as Application>::Run,
+    Batch<A>,
+>;
+
+/// A block and its parent.
+fn pair<B: Drop>(
+    alloc: Global,
+    block: &Digested<B>,
+    parent: Digested<B>,
+) -> Result<Ancestry<B>, OutOfMemory>
+    ensures { IfOk result (λ ancestry. ancestry
+        ≡ record { first = block.now; rest = parent ∷ [] }) }
+{
+    let mut rest = Items::new(alloc);
+    rest.push(parent)?;
+    Ok(Ancestry {
+        first: block.share()?,
+        rest,
+    })
+}
+
+/// Batches over the states of a known block.
+fn begin<A: Application>(
+    anchor: Anchor,
+    cache: &Cache<Batch<A>>,
+    databases: &mut A::Databases,
+    parent: Digest,
+) -> Result<OpenBatch<A>, ExecError>
+    requires { IsAtHand anchor cache.now parent }
+    ensures ok { IfOk result (λ batches. IsOver ⟦<A as Worked>⟧.workings anchor.digest cache.now
+        (A.Databases.members databases.old) (A.Databases.next databases.old)
+        (A.Databases.next databases.new) (λ q c. A.Databases.opened batches
+        ((A.Databases.next databases.old, A.Databases.kind.begun q.1) ∷ q ∷ c)) parent) }
+    ensures members { A.Databases.members databases.new ≡ A.Databases.members databases.old }
+    ensures within { OnOk result (A.Databases.kind.Spent (A.Databases.next databases.old) → ⊥) }
+    ensures keeps { (c : List (A.Databases.Ids × A.Databases.States))
+        → A.Databases.kind.issued (A.Databases.next databases.old) c
+        → A.Databases.kind.issued (A.Databases.next databases.new) c }
+    ensures fault { IfErr result (FaultsBatches ⟦<A as Worked>⟧.workings
+        (A.Databases.members databases.old) (A.Databases.next databases.old)) }
+    ensures counts { (n : ℕ)
+        → A.Databases.counted databases.new n ≡ A.Databases.counted databases.old n }
+{
+    if parent.is(anchor.digest) {
+        return Ok(databases.new_batches()?);
+    }
+    match cache.find(parent) {
+        Some(entry) => Ok(databases.fork_batches(&entry.batch)?),
+        None => unreachable!(),
+    }
+}
+
+/// A candidate run of a block over the states of its parent, which is known.
+fn start<A: Application>(
+    application: &mut A,
+    tables: &TablesOf<A>,
+    databases: &mut A::Databases,
+    block: &Digested<A::Block>,
+    parent: Digested<A::Block>,
+) -> Result<A::Run, ExecError>
+    requires { Knows tables.now parent.digest }
+    ensures ok { IfOk result (λ run. IsOver ⟦<A as Worked>⟧.workings tables.now.anchor.digest
+        tables.now.cache (A.Databases.members databases.old) (A.Databases.next databases.old)
+        (A.Databases.next databases.new) (λ q c. IsFresh ⟦<A as Worked>⟧.workings run Candidate
+        block.now parent (A.Databases.next databases.old) q c) parent.digest) }
+    ensures members { A.Databases.members databases.new ≡ A.Databases.members databases.old }
+    ensures within { OnOk result (A.Databases.kind.Spent (A.Databases.next databases.old) → ⊥) }
+    ensures keeps { (c : List (A.Databases.Ids × A.Databases.States))
+        → A.Databases.kind.issued (A.Databases.next databases.old) c
+        → A.Databases.kind.issued (A.Databases.next databases.new) c }
+    ensures batches { IfErr result (λ e. e ≢ ExecError.Application
+        → FaultsBatches ⟦<A as Worked>⟧.workings (A.Databases.members databases.old)
+        (A.Databases.next databases.old) e) }
+    ensures failed { IsErrOf result ExecError.Application
+        → Rose (A.count application.old) (A.count application.new)
+        × (A.Databases.kind.Spent (A.Databases.next databases.old) → ⊥) }
+    ensures counts { (n : ℕ)
+        → A.Databases.counted databases.new n ≡ A.Databases.counted databases.old n }
+    ensures notes { (IsErrOf result ExecError.OutOfMemory → ⊥)
+        → A.notes application.new ≡ A.notes application.old }
+    ensures later { A.count application.old ≤ A.count application.new }
+{
+    let batches = begin::<A>(tables.anchor, &tables.cache, databases, parent.digest())?;
+    let ancestry = pair(tables.alloc, block, parent)?;
+    let context = block.inner().context();
+    Ok(application.process(context, ancestry, batches, Finality::Candidate)?)
+}
