@@ -1,3 +1,4 @@
 pub mod Tests
 pub mod Walking
 pub mod Starting
+pub mod Entries
