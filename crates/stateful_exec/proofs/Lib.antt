@@ -2,3 +2,4 @@ pub mod Tests
 pub mod Walking
 pub mod Starting
 pub mod Skipping
+pub mod Entries
