@@ -1,6 +1,8 @@
 //! Requests on their way: what they need, and the runs that are started for them.
 
-ghost use Rattle.std.specs.Prelude.{◌≡◌, ◌≢◌, ◌≤◌, ◌∷◌, [], ℕ, List, Some, OnOk, IfOk, IfErr, IsErrOf};
+ghost use Rattle.std.specs.Prelude.{◌≡◌, ◌≢◌, ◌≤◌, ◌++◌, ◌∷◌, [], ℕ, List, Some, OnOk, IfOk, IfErr, IsErrOf};
+ghost use Rattle.stateful_history.specs.declared.mark.Mark.TheVariants.{Started};
+ghost use Rattle.stateful_history.specs.declared.mark.JobKind.TheVariants as job;
 ghost use Rattle.stateful_types.specs.Causes.{Rose};
 ghost use Rattle.stateful_types.specs.declared.outcome.Finality.TheVariants.{Candidate};
 ghost use Rattle.stateful_cache.specs.Cache.{IsAtHand};
@@ -56,13 +58,13 @@ fn begin<A: Application>(
     anchor: Anchor,
     cache: &Cache<Batch<A>>,
     databases: &mut A::Databases,
-    parent: Digest,
+    parent: &Digested<A::Block>,
 ) -> Result<OpenBatch<A>, ExecError>
-    requires { IsAtHand anchor cache.now parent }
+    requires { IsAtHand anchor cache.now parent.now.digest }
     ensures ok { IfOk result (λ batches. IsOver ⟦<A as Worked>⟧.workings anchor.digest cache.now
         (A.Databases.members databases.old) (A.Databases.next databases.old)
         (A.Databases.next databases.new) (λ q c. A.Databases.opened batches
-        ((A.Databases.next databases.old, A.Databases.kind.begun q.1) ∷ q ∷ c)) parent) }
+        ((A.Databases.next databases.old, A.Databases.kind.begun q.1) ∷ q ∷ c)) parent.now.digest) }
     ensures members { A.Databases.members databases.new ≡ A.Databases.members databases.old }
     ensures within { OnOk result (A.Databases.kind.Spent (A.Databases.next databases.old) → ⊥) }
     ensures keeps { (c : List (A.Databases.Ids × A.Databases.States))
@@ -73,6 +75,7 @@ fn begin<A: Application>(
     ensures counts { (n : ℕ)
         → A.Databases.counted databases.new n ≡ A.Databases.counted databases.old n }
 {
+    let parent = parent.digest();
     if parent.is(anchor.digest) {
         return Ok(databases.new_batches()?);
     }
@@ -112,8 +115,44 @@ fn start<A: Application>(
         → A.notes application.new ≡ A.notes application.old }
     ensures later { A.count application.old ≤ A.count application.new }
 {
-    let batches = begin::<A>(tables.anchor, &tables.cache, databases, parent.digest())?;
+    let batches = begin::<A>(tables.anchor, &tables.cache, databases, &parent)?;
     let ancestry = pair(tables.alloc, block, parent)?;
     let context = block.inner().context();
     Ok(application.process(context, ancestry, batches, Finality::Candidate)?)
+}
+
+/// A run of the next block of a path is started for a request.
+fn launch<A: Application>(
+    application: &mut A,
+    tables: &mut TablesOf<A>,
+    databases: &mut A::Databases,
+    block: Digested<A::Block>,
+    parent: Digested<A::Block>,
+    marks: &mut Vec<Mark<A::Block>>,
+) -> Result<u64, ExecError>
+    requires { Knows tables.old parent.digest }
+    ensures starts { OnOk result (StartsRun ⟦<A as Worked>⟧.workings block parent
+        (A.Databases.members databases.old) (A.Databases.next databases.old)
+        (A.Databases.next databases.new) tables.old tables.new) }
+    ensures job { IfOk result (λ job. job ≡ tables.old.next_job) }
+    ensures marks { OnOk result (marks.new.items
+        ≡ marks.old.items ++ Started tables.old.next_job job.Candidate block.digest ∷ []) }
+    ensures members { A.Databases.members databases.new ≡ A.Databases.members databases.old }
+    ensures fault { IfErr result (FaultsStart ⟦<A as Worked>⟧.workings
+        (Rose (A.count application.old) (A.count application.new)) tables.old.next_job
+        (A.Databases.members databases.old) (A.Databases.next databases.old)) }
+    ensures counts { (n : ℕ)
+        → A.Databases.counted databases.new n ≡ A.Databases.counted databases.old n }
+    ensures notes { (IsErrOf result ExecError.OutOfMemory → ⊥)
+        → A.notes application.new ≡ A.notes application.old }
+    ensures later { A.count application.old ≤ A.count application.new }
+{
+    let job = tables.free_job()?;
+    let run = start(application, tables, databases, &block, parent)?;
+    marks.push(Mark::Started {
+        job,
+        kind: JobKind::Candidate,
+        digest: block.digest(),
+    })?;
+    Ok(tables.add_run(block, run)?)
 }

@@ -5,7 +5,7 @@ use Rattle.stateful_exec.proofs.state.Tables.run_of.Goals as goal
 
 pub loop-job-init : goal.loop-job-init
 loop-job-init g c =
-    rw (← c.self.view_is) (Searches-first c.self.inside.runs (λ run. run.block.digest ≡ c.args.digest) c.entries.result.now _ c.entries.ensures c.iter-job-items.ensures.found (c.into_iter-job-iterator.ensures.into_iter_gives ∙ c.iter-job-items.ensures.rest))
+    Searches-first c.args.self.now.runs (λ run. run.block.digest ≡ c.args.digest) c.entries.result.now _ c.entries.ensures c.iter-job-items.ensures.found (c.into_iter-job-iterator.ensures.into_iter_gives ∙ c.iter-job-items.ensures.rest)
 
 pub returns-then-is-clause-found : goal.returns-then-is-clause-found
 returns-then-is-clause-found g c =
