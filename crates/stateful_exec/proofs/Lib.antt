@@ -3,3 +3,4 @@ pub mod Walking
 pub mod Starting
 pub mod Skipping
 pub mod Entries
+pub mod Advancing

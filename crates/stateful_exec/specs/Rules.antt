@@ -111,12 +111,17 @@ module _ {B C I R U : Type 0} (header : Header B) (v : Tables B C I R U) where
   Meets old new met.Left = ((b : Named B) × IsLastOf old.blocks b × (GoesOn header v.pause b → ⊥)) × (new ≡ old)
   Meets old new found = (old.blocks ≡ new.blocks ++ new.parent ∷ []) × GoesOn header v.pause new.parent × JoinsAs new.parent old.parent found
 
+  -- a block that is to be run is met on a known parent
+  abbrev pub MeetsOnKnown : Met B → Type 0
+  MeetsOnKnown (met.Unrun b parent) = Knows v parent.digest
+  MeetsOnKnown other = Unit {0}
+
   -- what a path meets behind what is passed: its end; or a block that doesn't go on over a finalization; or one that isn't
   -- known
   pub data Skips (old new : Path B) : Met B → Type 0 where
-    arrives : All IsPassed old.blocks → Skips old new met.Arrived
-    leaves : {left : List (Named B)} {b parent : Named B} → Reaches old left b parent → (GoesOn header v.pause b → ⊥) → Skips old new met.Left
-    joins : {parent : Named B} {found : Met B} → Reaches old new.blocks new.parent parent → GoesOn header v.pause new.parent → found ≢ met.Known
+    to_end : All IsPassed old.blocks → Skips old new met.Arrived
+    to_left : {left : List (Named B)} {b parent : Named B} → Reaches old left b parent → (GoesOn header v.pause b → ⊥) → Skips old new met.Left
+    to_met : {parent : Named B} {found : Met B} → Reaches old new.blocks new.parent parent → GoesOn header v.pause new.parent → found ≢ met.Known
         → JoinsAs new.parent parent found → Skips old new found
 
 module _ {B C I P R D H G U : Type 0} (w : Workings B C I P R D H G U) where
@@ -163,4 +168,4 @@ module _ {B C I P R D H G U : Type 0} (w : Workings B C I P R D H G U) where
           → Becomes w m (record (moved m.state t r (Fetching m.state.next_fetch)) { next_fetch = m.state.next_fetch + 1 }) (mark.Asked m.state.next_fetch (Some t) digest ∷ []) now
           → Acquires m t r now
       waits : Needs m r acquired.Waits → Becomes w m (moved m.state t r Waiting) [] now → Acquires m t r now
-      runs : {path : Path B} → Needs m r (acquired.Ready path) → Advances m t (record r { acquired = [] }) path now → Acquires m t r now
+      runs : {path : Path B} → Needs m r (acquired.Ready path) → Advances m t (requested r.request) path now → Acquires m t r now

@@ -1,5 +1,5 @@
 -- The start of a candidate run.
-use Rattle.std.specs.Prelude.{◌≡◌, ◌≢◌, ◌+◌, ◌-◌, ◌^◌, ◌<◌, ◌++◌, ◌∷◌, [], ℕ, false, Some, List, Contains}
+use Rattle.std.specs.Prelude.{◌≡◌, ◌≢◌, ◌+◌, ◌-◌, ◌^◌, ◌<◌, ◌≤◌, ◌++◌, ◌∷◌, [], ℕ, false, Some, List, Contains}
 use Rattle.stateful_types.specs.Names.{Named}
 use Rattle.stateful_types.specs.declared.digest.Digest.{Digest}
 use Rattle.stateful_types.specs.declared.block.Ancestry.{Ancestry}
@@ -15,6 +15,10 @@ use Rattle.stateful_exec.specs.declared.tables.LiveRun.{LiveRun}
 -- the number isn't the last one
 abbrev pub IsLeft : ℕ → Type 0
 IsLeft number = number < 2 ^ 64 - 1
+
+-- the numbers that are drawn next don't fall
+abbrev pub Rises : {B C I R U : Type 0} → (old new : Tables B C I R U) → Type 0
+Rises old new = (old.next_job ≤ new.next_job) × (old.next_fetch ≤ new.next_fetch)
 
 module _ {B C I P R D H G U : Type 0} (w : Workings B C I P R D H G U) where
   -- Something holds over the states of the block of a digest: over those of the databases, where it is the anchor's, and

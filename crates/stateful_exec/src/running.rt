@@ -7,14 +7,14 @@ ghost use Rattle.stateful_types.specs.Causes.{Rose};
 ghost use Rattle.stateful_types.specs.declared.outcome.Finality.TheVariants.{Candidate};
 ghost use Rattle.stateful_cache.specs.Cache.{IsAtHand};
 ghost use Rattle.stateful_exec.specs.Moments.{moment};
-ghost use Rattle.stateful_exec.specs.Starting.{IsOver, IsFresh, StartsRun};
-ghost use Rattle.stateful_exec.specs.Rules.{Knows, Advances, Acquires};
+ghost use Rattle.stateful_exec.specs.Starting.{IsOver, IsFresh, Rises, StartsRun};
+ghost use Rattle.stateful_exec.specs.Rules.{requested, Knows, Advances, Acquires};
 ghost use Rattle.stateful_exec.specs.Causes.{FaultsBatches, FaultsStart, FaultsAdvance, FaultsAcquire};
 
 use crate::error::ExecError;
 use crate::met::Met;
 use crate::path::ReplayPath;
-use crate::request::Verdict;
+use crate::request::{Request, Verdict};
 use crate::state::Tables;
 use crate::tables::{Phase, Requested};
 use crate::walk::{Acquired, prepare};
@@ -141,6 +141,7 @@ fn launch<A: Application>(
     ensures fault { IfErr result (FaultsStart ⟦<A as Worked>⟧.workings
         (Rose (A.count application.old) (A.count application.new)) tables.old.next_job
         (A.Databases.members databases.old) (A.Databases.next databases.old)) }
+    ensures numbers { Rises tables.old tables.new }
     ensures counts { (n : ℕ)
         → A.Databases.counted databases.new n ≡ A.Databases.counted databases.old n }
     ensures notes { (IsErrOf result ExecError.OutOfMemory → ⊥)
@@ -155,4 +156,45 @@ fn launch<A: Application>(
         digest: block.digest(),
     })?;
     Ok(tables.add_run(block, run)?)
+}
+
+/// A request with blocks to run goes along its path, to its end or to a run.
+fn advance<A: Application>(
+    application: &mut A,
+    tables: &mut TablesOf<A>,
+    databases: &mut A::Databases,
+    ticket: u64,
+    request: Request<A::Block, A::Context, A::Input>,
+    path: ReplayPath<A::Block>,
+    marks: &mut Vec<Mark<A::Block>>,
+) -> Result<(), ExecError>
+    ensures ok { OnOk result (let w = ⟦<A as Worked>⟧.workings in Advances w
+        (moment w tables.old (A.Databases.members databases.old) (A.Databases.next databases.old)
+        marks.old.items) ticket (requested request) path
+        (moment w tables.new (A.Databases.members databases.new) (A.Databases.next databases.new)
+        marks.new.items)) }
+    ensures fault { IfErr result (let w = ⟦<A as Worked>⟧.workings in FaultsAdvance w
+        (Rose (A.count application.old) (A.count application.new))
+        (moment w tables.old (A.Databases.members databases.old) (A.Databases.next databases.old)
+        marks.old.items) path) }
+    ensures members { A.Databases.members databases.new ≡ A.Databases.members databases.old }
+    ensures numbers { Rises tables.old tables.new }
+    ensures counts { (n : ℕ)
+        → A.Databases.counted databases.new n ≡ A.Databases.counted databases.old n }
+    ensures notes { (IsErrOf result ExecError.OutOfMemory → ⊥)
+        → A.notes application.new ≡ A.notes application.old }
+    ensures later { A.count application.old ≤ A.count application.new }
+{
+    let mut path = path;
+    match tables.skip(&mut path)? {
+        Met::Known => unreachable!(),
+        Met::Arrived => tables.conclude(ticket, request, Verdict::Valid, marks)?,
+        Met::Left | Met::Missed => tables.conclude(ticket, request, Verdict::Invalid, marks)?,
+        Met::Run(job) => tables.execute(ticket, request, job, path)?,
+        Met::Unrun { block, parent } => {
+            let job = launch(application, tables, databases, block, parent, marks)?;
+            tables.execute(ticket, request, job, path)?;
+        }
+    }
+    Ok(())
 }

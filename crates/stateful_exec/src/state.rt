@@ -4,9 +4,9 @@ ghost use Rattle.std.specs.Prelude.{◌≡◌, ◌≢◌, ◌↔◌, ◌<◌, �
 ghost use Rattle.stateful_cache.specs.Cache.{IsIn, IsAtHand};
 ghost use Rattle.stateful_history.specs.declared.mark.Mark.TheVariants as mark;
 ghost use Rattle.stateful_table.specs.Table.{at, put, without};
-ghost use Rattle.stateful_exec.specs.Starting.{IsLeft};
+ghost use Rattle.stateful_exec.specs.Starting.{IsLeft, Rises};
 ghost use Rattle.stateful_exec.specs.Phase.{tickets_on};
-ghost use Rattle.stateful_exec.specs.Rules.{taken, moved, ended, told, Knows, HasRun, RunsNone, GoesOn, JoinsAs, Meets, Skips};
+ghost use Rattle.stateful_exec.specs.Rules.{taken, requested, moved, ended, told, Knows, HasRun, RunsNone, GoesOn, JoinsAs, Meets, MeetsOnKnown, Skips};
 ghost use Rattle.stateful_exec.specs.declared.tables.Phase.TheVariants as phase;
 
 use crate::boundary::{Disposition, ExecutionStep};
@@ -153,7 +153,8 @@ impl<B: Block + Drop, C: Copy, I: Drop, R: Drop, U: Drop> Tables<B, C, I, R, U> 
 
     /// Passes the known blocks of a path, and tells what was met behind them.
     pub(crate) fn skip(&self, path: &mut ReplayPath<B>) -> Result<Met<B>, OutOfMemory>
-        ensures { IfOk result (Skips B.header self.now path.old path.new) }
+        ensures skips { IfOk result (Skips B.header self.now path.old path.new) }
+        ensures on_known { IfOk result (MeetsOnKnown B.header self.now) }
     {
         loop {
             match self.meet(path)? {
@@ -181,11 +182,34 @@ impl<B: Block + Drop, C: Copy, I: Drop, R: Drop, U: Drop> Tables<B, C, I, R, U> 
         ticket: u64,
         requested: Requested<B, C, I>,
     ) -> Result<(), OutOfMemory>
-        ensures { OnOk result (self.new ≡ record self.old {
+        ensures numbers { Rises self.old self.new }
+        ensures ok { OnOk result (self.new ≡ record self.old {
           requests = put self.old.requests ticket requested;
         }) }
     {
         self.requests.put(ticket, requested)
+    }
+
+    /// A request waits for a run. These blocks are left behind that of the run.
+    pub(crate) fn execute(
+        &mut self,
+        ticket: u64,
+        request: Request<B, C, I>,
+        job: u64,
+        path: ReplayPath<B>,
+    ) -> Result<(), OutOfMemory>
+        ensures ok { OnOk result (self.new
+            ≡ moved self.old ticket (requested request) (phase.Executing job path)) }
+        ensures err { OnErr result (self.new ≡ self.old) }
+    {
+        self.requests.put(
+            ticket,
+            Requested {
+                request,
+                acquired: Items::new(self.alloc),
+                phase: Phase::Executing { job, path },
+            },
+        )
     }
 
     /// A block is fetched for a request, under the next number. `Exhausted` exactly where that is the last one.
@@ -203,6 +227,7 @@ impl<B: Block + Drop, C: Copy, I: Drop, R: Drop, U: Drop> Tables<B, C, I, R, U> 
         ensures left { OnOk result (IsLeft self.old.next_fetch) }
         ensures marks { OnOk result (marks.new.items
             ≡ marks.old.items ++ mark.Asked self.old.next_fetch (Some ticket) digest ∷ []) }
+        ensures numbers { Rises self.old self.new }
         ensures err { IfErr result (λ e. e ≢ ExecError.OutOfMemory
             → (e ≡ ExecError.Exhausted) × (IsLeft self.old.next_fetch → ⊥)) }
     {
@@ -243,6 +268,7 @@ impl<B: Block + Drop, C: Copy, I: Drop, R: Drop, U: Drop> Tables<B, C, I, R, U> 
         ensures state { OnOk result (self.new ≡ ended self.old ticket request verdict) }
         ensures marks { OnOk result (marks.new.items
             ≡ marks.old.items ++ told ticket request verdict) }
+        ensures numbers { Rises self.old self.new }
     {
         match request {
             Request::Verify { .. } => {
@@ -280,6 +306,7 @@ impl<B: Block + Drop, C: Copy, I: Drop, R: Drop, U: Drop> Tables<B, C, I, R, U> 
           queued = put self.old.queued ticket proposal;
           recovered = self.old.recovered ++ ticket ∷ [];
         }) × (marks.new.items ≡ marks.old.items)) }
+        ensures numbers { Rises self.old self.new }
         ensures unknown { verdict ≡ Verdict.Invalid → OnOk result ((self.new ≡ self.old)
             × (marks.new.items ≡ marks.old.items ++ mark.Declined ticket ∷ [])) }
     {
