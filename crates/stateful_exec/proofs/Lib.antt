@@ -4,3 +4,4 @@ pub mod Starting
 pub mod Skipping
 pub mod Entries
 pub mod Advancing
+pub mod Acquiring

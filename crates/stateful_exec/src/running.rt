@@ -198,3 +198,52 @@ fn advance<A: Application>(
     }
     Ok(())
 }
+
+/// A request acquires what it needs: it ends, or a block is fetched for it, or it waits, or its blocks are run.
+pub(crate) fn acquire<A: Application, S: BlockStore<A::Block>>(
+    application: &mut A,
+    tables: &mut TablesOf<A>,
+    databases: &mut A::Databases,
+    store: &S,
+    ticket: u64,
+    requested: Requested<A::Block, A::Context, A::Input>,
+    marks: &mut Vec<Mark<A::Block>>,
+) -> Result<(), ExecError>
+    ensures ok { OnOk result (let w = ⟦<A as Worked>⟧.workings in Acquires w (S.stored store.now)
+        (moment w tables.old (A.Databases.members databases.old) (A.Databases.next databases.old)
+        marks.old.items) ticket requested
+        (moment w tables.new (A.Databases.members databases.new) (A.Databases.next databases.new)
+        marks.new.items)) }
+    ensures fault { IfErr result (let w = ⟦<A as Worked>⟧.workings in FaultsAcquire w
+        (Rose (A.count application.old) (A.count application.new)) (S.stored store.now)
+        (moment w tables.old (A.Databases.members databases.old) (A.Databases.next databases.old)
+        marks.old.items) requested) }
+    ensures members { A.Databases.members databases.new ≡ A.Databases.members databases.old }
+    ensures numbers { Rises tables.old tables.new }
+    ensures counts { (n : ℕ)
+        → A.Databases.counted databases.new n ≡ A.Databases.counted databases.old n }
+    ensures notes { (IsErrOf result ExecError.OutOfMemory → ⊥)
+        → A.notes application.new ≡ A.notes application.old }
+    ensures later { A.count application.old ≤ A.count application.new }
+{
+    let acquired = requested.acquired.as_slice();
+    let found = prepare(
+        tables.alloc,
+        tables.anchor,
+        &tables.cache,
+        store,
+        &requested.request,
+        acquired,
+    )?;
+    match found {
+        Acquired::Valid => tables.conclude(ticket, requested.request, Verdict::Valid, marks)?,
+        Acquired::Invalid => tables.conclude(ticket, requested.request, Verdict::Invalid, marks)?,
+        Acquired::Ask(digest) => tables.ask(ticket, requested, digest, marks)?,
+        Acquired::Waits => tables.set_phase(ticket, requested, Phase::Waiting)?,
+        Acquired::Ready(path) => {
+            let request = requested.request;
+            advance(application, tables, databases, ticket, request, path, marks)?;
+        }
+    }
+    Ok(())
+}

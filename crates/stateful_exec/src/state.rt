@@ -1,6 +1,6 @@
 //! The tables of execution, over plain types.
 
-ghost use Rattle.std.specs.Prelude.{◌≡◌, ◌≢◌, ◌↔◌, ◌<◌, ◌+◌, ◌-◌, ◌^◌, ◌++◌, ◌∷◌, [], ℕ, false, List, Some, None, IsSome, OnOk, OnErr, IfOk, IfErr, IfSome, IfNone, All, IsTrue, MatchOption};
+ghost use Rattle.std.specs.Prelude.{◌≡◌, ◌≢◌, ◌↔◌, ◌⊎◌, ◌<◌, ◌+◌, ◌-◌, ◌^◌, ◌++◌, ◌∷◌, [], ℕ, false, List, Some, None, IsSome, OnOk, OnErr, IfOk, IfErr, IfSome, IfNone, All, IsTrue, MatchOption};
 ghost use Rattle.stateful_cache.specs.Cache.{IsIn, IsAtHand};
 ghost use Rattle.stateful_history.specs.declared.mark.Mark.TheVariants as mark;
 ghost use Rattle.stateful_table.specs.Table.{at, put, without};
@@ -212,6 +212,31 @@ impl<B: Block + Drop, C: Copy, I: Drop, R: Drop, U: Drop> Tables<B, C, I, R, U> 
         )
     }
 
+    /// A request has come so far.
+    pub(crate) fn set_phase(
+        &mut self,
+        ticket: u64,
+        requested: Requested<B, C, I>,
+        phase: Phase<B>,
+    ) -> Result<(), OutOfMemory>
+        ensures ok { OnOk result (self.new ≡ moved self.old ticket requested phase) }
+        ensures err { OnErr result (self.new ≡ self.old) }
+    {
+        let Requested {
+            request,
+            acquired,
+            phase: _,
+        } = requested;
+        self.requests.put(
+            ticket,
+            Requested {
+                request,
+                acquired,
+                phase,
+            },
+        )
+    }
+
     /// A block is fetched for a request, under the next number. `Exhausted` exactly where that is the last one.
     pub(crate) fn ask(
         &mut self,
@@ -228,26 +253,14 @@ impl<B: Block + Drop, C: Copy, I: Drop, R: Drop, U: Drop> Tables<B, C, I, R, U> 
         ensures marks { OnOk result (marks.new.items
             ≡ marks.old.items ++ mark.Asked self.old.next_fetch (Some ticket) digest ∷ []) }
         ensures numbers { Rises self.old self.new }
-        ensures err { IfErr result (λ e. e ≢ ExecError.OutOfMemory
-            → (e ≡ ExecError.Exhausted) × (IsLeft self.old.next_fetch → ⊥)) }
+        ensures err { IfErr result (λ e. (e ≡ ExecError.OutOfMemory)
+            ⊎ ((e ≡ ExecError.Exhausted) × (IsLeft self.old.next_fetch → ⊥))) }
     {
         let fetch = self.next_fetch;
         if fetch == u64::MAX {
             return Err(ExecError::Exhausted);
         }
-        let Requested {
-            request,
-            acquired,
-            phase: _,
-        } = requested;
-        self.requests.put(
-            ticket,
-            Requested {
-                request,
-                acquired,
-                phase: Phase::Fetching(fetch),
-            },
-        )?;
+        self.set_phase(ticket, requested, Phase::Fetching(fetch))?;
         self.next_fetch = fetch + 1;
         marks.push(Mark::Asked {
             fetch,
