@@ -10,3 +10,4 @@ pub mod Moments
 pub mod Starting
 pub mod Rules
 pub mod Causes
+pub mod Ending

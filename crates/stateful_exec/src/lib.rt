@@ -2,6 +2,7 @@
 #![tactic(auto)]
 
 mod boundary;
+mod ending;
 mod error;
 mod met;
 mod path;

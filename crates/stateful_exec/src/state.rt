@@ -4,6 +4,7 @@ ghost use Rattle.std.specs.Prelude.{◌≡◌, ◌≢◌, ◌↔◌, ◌⊎◌, 
 ghost use Rattle.stateful_cache.specs.Cache.{IsIn, IsAtHand};
 ghost use Rattle.stateful_history.specs.declared.mark.Mark.TheVariants as mark;
 ghost use Rattle.stateful_table.specs.Table.{at, put, without};
+ghost use Rattle.stateful_exec.specs.Ending.{step_in, Takes, FaultsTake};
 ghost use Rattle.stateful_exec.specs.Starting.{IsLeft, Rises};
 ghost use Rattle.stateful_exec.specs.Phase.{tickets_on};
 ghost use Rattle.stateful_exec.specs.Rules.{taken, requested, moved, ended, told, Knows, HasRun, RunsNone, GoesOn, JoinsAs, Meets, MeetsOnKnown, Skips};
@@ -17,8 +18,8 @@ use crate::pause::Pause;
 use crate::request::{Proposal, Request, Verdict};
 use crate::tables::{LiveRun, Phase, Requested};
 use crate::tickets::Tickets;
-use stateful_cache::{Cache, knows};
-use stateful_history::Mark;
+use stateful_cache::{Cache, Cached, knows};
+use stateful_history::{How, Mark};
 use stateful_table::Table;
 use stateful_types::{Anchor, Block, Digest, Digested, Items, OutOfMemory, Share};
 use std::alloc::Global;
@@ -40,6 +41,17 @@ pub struct Tables<B, C, I, R, U> {
     pub(crate) next_job: u64,
     pub(crate) next_fetch: u64,
     pub(crate) pause: Pause,
+}
+
+/// What an entry of the cache is of.
+fn step_in<U>(entry: &Cached<U>) -> ExecutionStep
+    ensures { result ≡ step_in entry.now }
+{
+    ExecutionStep {
+        digest: entry.digest,
+        parent: entry.parent,
+        round: entry.round,
+    }
 }
 
 impl<B: Block + Drop, C: Copy, I: Drop, R: Drop, U: Drop> Tables<B, C, I, R, U> {
@@ -331,6 +343,50 @@ impl<B: Block + Drop, C: Copy, I: Drop, R: Drop, U: Drop> Tables<B, C, I, R, U> 
             Verdict::Invalid => marks.push(Mark::Declined { ticket })?,
         }
         Ok(())
+    }
+
+    /// Takes the run of a job out of its table.
+    pub(crate) fn take_run(&mut self, job: u64) -> LiveRun<B, R>
+        requires { IsSome (at self.old.runs job) }
+        ensures run { at self.old.runs job ≡ Some result }
+        ensures rest { self.new ≡ record self.old { runs = without self.old.runs job } }
+    {
+        match self.runs.remove(job) {
+            Some(run) => run,
+            None => unreachable!(),
+        }
+    }
+
+    /// The cache takes a block with its sealed batch, or misses it. An entry of the block that is there keeps its states.
+    /// `PendingChanged` exactly where an entry of its digest is of another parent or round.
+    pub(crate) fn keep(&mut self, block: &Digested<B>, batch: U) -> Result<How, ExecError>
+        ensures takes { IfOk result (Takes B.header self.old.anchor block.now batch
+            self.old.cache self.new.cache) }
+        ensures rest { OnOk result (self.new ≡ record self.old { cache = self.new.cache }) }
+        ensures numbers { Rises self.old self.new }
+        ensures fault { IfErr result (FaultsTake B.header block.now self.old.cache) }
+    {
+        let step = ExecutionStep::of(block);
+        if let Some(entry) = self.cache.find(step.digest) {
+            let before = step_in(entry);
+            if before.is(step) {
+                return Ok(How::Kept);
+            }
+            return Err(ExecError::PendingChanged {
+                before,
+                after: step,
+            });
+        }
+        if !step.round.is_later_than(self.anchor.round) || !self.knows(step.parent) {
+            return Ok(How::Missed);
+        }
+        self.cache.insert(Cached {
+            digest: step.digest,
+            parent: step.parent,
+            round: step.round,
+            batch,
+        })?;
+        Ok(How::Kept)
     }
 
     /// A run of this block is live, under the next number of a job, which isn't the last one.
