@@ -78,11 +78,14 @@ impl<V: Drop> Table<V> {
     }
 
     /// Puts a value at a number, in place of the one that was there. That takes memory only where there was none.
+    /// A value put there later leaves nothing of this one.
     pub fn put(&mut self, number: u64, value: V) -> Result<(), OutOfMemory>
         ensures ok { OnOk result (self.new ≡ put self.old number value) }
         ensures sums { OnOk result ((weigh : V → ℕ)
             → total weigh self.new + weight_of weigh (at self.old number)
             ≡ total weigh self.old + weigh value) }
+        ensures twice { OnOk result ((later : V)
+            → put self.new number later ≡ put self.old number later) }
         ensures err { OnErr result (self.new ≡ self.old) }
         ensures new { OnErr result (at self.old number ≡ None) }
     {
@@ -101,13 +104,15 @@ impl<V: Drop> Table<V> {
         let _ = self.entries.insert(number, value);
     }
 
-    /// Takes out the value at a number.
+    /// Takes out the value at a number. A value put there afterwards leaves what it
+    /// would have left in place of the one taken out.
     pub fn remove(&mut self, number: u64) -> Option<V>
         ensures value { result ≡ at self.old number }
         ensures others { self.new ≡ without self.old number }
         ensures sums { (weigh : V → ℕ)
             → total weigh self.new + weight_of weigh (at self.old number)
             ≡ total weigh self.old }
+        ensures again { (value : V) → put self.new number value ≡ put self.old number value }
     {
         self.entries.remove(&number)
     }
