@@ -5,3 +5,4 @@ pub mod Skipping
 pub mod Entries
 pub mod Advancing
 pub mod Acquiring
+pub mod Cancelling

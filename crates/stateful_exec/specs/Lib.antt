@@ -11,3 +11,4 @@ pub mod Starting
 pub mod Rules
 pub mod Causes
 pub mod Ending
+pub mod Fetching

@@ -4,11 +4,14 @@
 mod boundary;
 mod ending;
 mod error;
+mod handler;
 mod met;
 mod path;
 mod pause;
+mod processor;
 mod request;
 mod running;
+mod serving;
 mod state;
 mod tables;
 mod tickets;
@@ -17,8 +20,10 @@ mod worked;
 
 pub use boundary::{Disposition, ExecutionStep, FinalizationBoundary};
 pub use error::{ExecError, ProposalFault};
+pub use handler::Handler;
 pub use path::ReplayPath;
 pub use pause::Pause;
+pub use processor::Processor;
 pub use request::{Proposal, Request, Verdict};
 pub use state::Tables;
 pub use tables::{LiveRun, Phase, Requested};

@@ -9,6 +9,7 @@ ghost use Rattle.stateful_cache.specs.Cache.{IsAtHand};
 ghost use Rattle.stateful_exec.specs.Moments.{moment};
 ghost use Rattle.stateful_exec.specs.Starting.{IsOver, IsFresh, Rises, StartsRun};
 ghost use Rattle.stateful_exec.specs.Rules.{requested, Knows, Advances, Acquires};
+ghost use Rattle.stateful_exec.specs.Fetching.{IsLiveFetch, IsFetched, FaultsFetched};
 ghost use Rattle.stateful_exec.specs.Causes.{FaultsBatches, FaultsStart, FaultsAdvance, FaultsAcquire};
 
 use crate::error::ExecError;
@@ -246,4 +247,51 @@ pub(crate) fn acquire<A: Application, S: BlockStore<A::Block>>(
         }
     }
     Ok(())
+}
+
+/// A fetch is answered: with a block its request acquires what it needs; without one a verification waits, and a proposal
+/// ends.
+pub(crate) fn fetched<A: Application, S: BlockStore<A::Block>>(
+    application: &mut A,
+    tables: &mut TablesOf<A>,
+    databases: &mut A::Databases,
+    store: &S,
+    fetch: u64,
+    answer: Option<Digested<A::Block>>,
+    marks: &mut Vec<Mark<A::Block>>,
+) -> Result<(), ExecError>
+    requires { IsLiveFetch tables.old fetch }
+    ensures ok { OnOk result (let w = ⟦<A as Worked>⟧.workings in IsFetched w (S.stored store.now)
+        (moment w tables.old (A.Databases.members databases.old) (A.Databases.next databases.old)
+        marks.old.items) fetch answer
+        (moment w tables.new (A.Databases.members databases.new) (A.Databases.next databases.new)
+        marks.new.items)) }
+    ensures fault { IfErr result (let w = ⟦<A as Worked>⟧.workings in FaultsFetched w
+        (Rose (A.count application.old) (A.count application.new)) (S.stored store.now)
+        (moment w tables.old (A.Databases.members databases.old) (A.Databases.next databases.old)
+        marks.old.items) fetch answer) }
+    ensures members { A.Databases.members databases.new ≡ A.Databases.members databases.old }
+    ensures numbers { Rises tables.old tables.new }
+    ensures counts { (n : ℕ)
+        → A.Databases.counted databases.new n ≡ A.Databases.counted databases.old n }
+    ensures notes { (IsErrOf result ExecError.OutOfMemory → ⊥)
+        → A.notes application.new ≡ A.notes application.old }
+    ensures later { A.count application.old ≤ A.count application.new }
+{
+    let (ticket, requested) = tables.take_fetching(fetch);
+    match answer {
+        Some(block) => {
+            let requested = requested.with_block(block)?;
+            acquire(
+                application,
+                tables,
+                databases,
+                store,
+                ticket,
+                requested,
+                marks,
+            )
+        }
+        None => Ok(tables.abstain(ticket, requested, marks)?),
+    }
 }

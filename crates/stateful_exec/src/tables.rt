@@ -1,11 +1,13 @@
 //! What execution keeps of live runs and requests.
 
-ghost use Rattle.std.specs.Prelude.{◌≡◌};
+ghost use Rattle.std.specs.Prelude.{◌≡◌, ◌↔◌, IsTrue};
 ghost use Rattle.stateful_exec.specs.Phase.{is_on};
+ghost use Rattle.stateful_exec.specs.Rules.{requested};
 
 use crate::path::ReplayPath;
 use crate::request::Request;
 use stateful_types::{Digested, Items};
+use std::alloc::Global;
 
 /// A candidate run that goes on.
 #[derive(Drop)]
@@ -32,6 +34,16 @@ pub enum Phase<B> {
 }
 
 impl<B> Phase<B> {
+    /// Whether a block is fetched under this number.
+    pub(crate) fn fetches(&self, fetch: u64) -> bool
+        ensures { IsTrue result ↔ (self.now ≡ Phase.Fetching fetch) }
+    {
+        match self {
+            Phase::Fetching(of) => *of == fetch,
+            _ => false,
+        }
+    }
+
     /// Whether it waits for the run of this job.
     pub(crate) fn is_on(&self, job: u64) -> bool
         ensures { result ≡ is_on job self.now }
@@ -50,4 +62,17 @@ pub struct Requested<B, C, I> {
     /// What was fetched for it, one after another.
     pub acquired: Items<Digested<B>>,
     pub phase: Phase<B>,
+}
+
+impl<B, C, I> Requested<B, C, I> {
+    /// A request for which nothing was acquired.
+    pub(crate) fn new(alloc: Global, request: Request<B, C, I>) -> Requested<B, C, I>
+        ensures { result ≡ requested request }
+    {
+        Requested {
+            request,
+            acquired: Items::new(alloc),
+            phase: Phase::Open,
+        }
+    }
 }

@@ -1,15 +1,16 @@
 //! Tickets in a row.
 
-ghost use Rattle.std.specs.Prelude.{◌≡◌, ◌++◌, ◌∷◌, [], OnOk, OnErr};
+ghost use Rattle.std.specs.Prelude.{◌≡◌, ◌==◌, not, ◌++◌, ◌∷◌, [], OnOk, OnErr, IfSome, IfNone, filter};
 
 use stateful_types::OutOfMemory;
 use std::alloc::Global;
+use std::collections::VecDeque;
 use std::marker::Model;
 
 /// Tickets in a row, which contracts see as a list.
 #[derive(Drop)]
 pub struct Tickets {
-    tickets: Vec<u64>,
+    tickets: VecDeque<u64>,
 }
 
 impl Model for Tickets {
@@ -25,7 +26,7 @@ impl Tickets {
         ensures { result ≡ [] }
     {
         Tickets {
-            tickets: Vec::new(alloc),
+            tickets: VecDeque::new(alloc),
         }
     }
 
@@ -34,7 +35,22 @@ impl Tickets {
         ensures ok { OnOk result (self.new ≡ self.old ++ ticket ∷ []) }
         ensures err { OnErr result (self.new ≡ self.old) }
     {
-        self.tickets.push(ticket)?;
+        self.tickets.push_back(ticket)?;
         Ok(())
+    }
+
+    /// Takes the first one out.
+    pub(crate) fn pop(&mut self) -> Option<u64>
+        ensures first { IfSome result (λ ticket. self.old ≡ ticket ∷ self.new) }
+        ensures none { IfNone result (self.old ≡ []) }
+    {
+        self.tickets.pop_front()
+    }
+
+    /// Takes a ticket out, wherever it stands.
+    pub(crate) fn remove(&mut self, ticket: u64)
+        ensures { self.new ≡ filter (λ t. not (t == ticket)) self.old }
+    {
+        self.tickets.retain(|t| *t != ticket);
     }
 }
