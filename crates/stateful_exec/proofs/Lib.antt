@@ -6,3 +6,4 @@ pub mod Entries
 pub mod Advancing
 pub mod Acquiring
 pub mod Cancelling
+pub mod Answering
