@@ -45,7 +45,7 @@ module _ {B C I P R D H G U : Type 0} (w : Workings B C I P R D H G U) where
   serving m t = record m { state = taken m.state t }
 
   -- What becomes of a request whose fetch is answered: with the block it acquires what it needs; without one a verification
-  -- waits, and a proposal ends.
+  -- waits, and a proposal ends. Where no block is fetched under the number nothing changes.
   pub data IsFetched (stored : ℕ → Option (Named B)) (m : Moment w) (fetch : ℕ) (answer : Option (Named B)) (now : Moment w) : Type 0 where
     found : (t : ℕ) (r : Requested B C I) (b : Named B) → Fetches m.state fetch t r → answer ≡ Some b
         → Acquires w stored (serving m t) t (with_block r b) now → IsFetched stored m fetch answer now
@@ -53,6 +53,7 @@ module _ {B C I P R D H G U : Type 0} (w : Workings B C I P R D H G U) where
         → Becomes w m (moved (taken m.state t) t r Waiting) [] now → IsFetched stored m fetch answer now
     declines : (t : ℕ) (r : Requested B C I) → Fetches m.state fetch t r → answer ≡ None → (IsVerification r.request → ⊥)
         → Concludes w (serving m t) t r Invalid now → IsFetched stored m fetch answer now
+    dead : (IsLiveFetch m.state fetch → ⊥) → now ≡ m → IsFetched stored m fetch answer now
 
   -- memory ran out, or the request didn't acquire what it needs
   pub data FaultsFetched (rose : Type 0) (stored : ℕ → Option (Named B)) (m : Moment w) (fetch : ℕ) (answer : Option (Named B)) (e : ExecError) : Type 0 where

@@ -9,7 +9,7 @@ ghost use Rattle.stateful_exec.specs.Request.{ticket_by};
 ghost use Rattle.stateful_exec.specs.Starting.{Rises};
 ghost use Rattle.stateful_exec.specs.Rules.{requested, Acquires};
 ghost use Rattle.stateful_exec.specs.Causes.{FaultsAcquire};
-ghost use Rattle.stateful_exec.specs.Fetching.{IsLiveFetch, IsFetched, FaultsFetched, Cancels};
+ghost use Rattle.stateful_exec.specs.Fetching.{IsFetched, FaultsFetched, Cancels};
 
 use crate::error::ExecError;
 use crate::processor::Processor;
@@ -102,7 +102,8 @@ impl<A: Application + Drop> Handler<A> {
         )
     }
 
-    /// A fetch is answered: with the block that was asked for, or with none.
+    /// A fetch is answered: with the block that was asked for, or with none. Where no block is fetched under the number
+    /// nothing changes.
     pub fn fetched<S: BlockStore<A::Block>>(
         &mut self,
         databases: &mut A::Databases,
@@ -111,7 +112,6 @@ impl<A: Application + Drop> Handler<A> {
         answer: Option<Digested<A::Block>>,
         marks: &mut Vec<Mark<A::Block>>,
     ) -> Result<(), ExecError>
-        requires live { IsLiveFetch self.old.state fetch }
         ensures ok { OnOk result (let w = ⟦<A as Worked>⟧.workings in
             IsFetched w (S.stored store.now)
             (moment w self.old.state (A.Databases.members databases.old)

@@ -9,7 +9,7 @@ ghost use Rattle.stateful_cache.specs.Cache.{IsAtHand};
 ghost use Rattle.stateful_exec.specs.Moments.{moment};
 ghost use Rattle.stateful_exec.specs.Starting.{IsOver, IsFresh, Rises, StartsRun};
 ghost use Rattle.stateful_exec.specs.Rules.{requested, Knows, Advances, Acquires};
-ghost use Rattle.stateful_exec.specs.Fetching.{IsLiveFetch, IsFetched, FaultsFetched};
+ghost use Rattle.stateful_exec.specs.Fetching.{IsFetched, FaultsFetched};
 ghost use Rattle.stateful_exec.specs.Causes.{FaultsBatches, FaultsStart, FaultsAdvance, FaultsAcquire};
 
 use crate::error::ExecError;
@@ -250,7 +250,7 @@ pub(crate) fn acquire<A: Application, S: BlockStore<A::Block>>(
 }
 
 /// A fetch is answered: with a block its request acquires what it needs; without one a verification waits, and a proposal
-/// ends.
+/// ends. Where no block is fetched under the number nothing changes.
 pub(crate) fn fetched<A: Application, S: BlockStore<A::Block>>(
     application: &mut A,
     tables: &mut TablesOf<A>,
@@ -260,7 +260,6 @@ pub(crate) fn fetched<A: Application, S: BlockStore<A::Block>>(
     answer: Option<Digested<A::Block>>,
     marks: &mut Vec<Mark<A::Block>>,
 ) -> Result<(), ExecError>
-    requires { IsLiveFetch tables.old fetch }
     ensures ok { OnOk result (let w = ⟦<A as Worked>⟧.workings in IsFetched w (S.stored store.now)
         (moment w tables.old (A.Databases.members databases.old) (A.Databases.next databases.old)
         marks.old.items) fetch answer
@@ -278,7 +277,9 @@ pub(crate) fn fetched<A: Application, S: BlockStore<A::Block>>(
         → A.notes application.new ≡ A.notes application.old }
     ensures later { A.count application.old ≤ A.count application.new }
 {
-    let (ticket, requested) = tables.take_fetching(fetch);
+    let Some((ticket, requested)) = tables.take_fetching(fetch) else {
+        return Ok(());
+    };
     match answer {
         Some(block) => {
             let requested = requested.with_block(block)?;

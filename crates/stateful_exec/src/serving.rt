@@ -57,16 +57,15 @@ impl<B: Block + Drop, C: Copy, I: Drop, R: Drop, U: Drop> Tables<B, C, I, R, U> 
     }
 
     /// Takes the request out of its table for which a block is fetched under this number.
-    pub(crate) fn take_fetching(&mut self, fetch: u64) -> (u64, Requested<B, C, I>)
-        requires { IsLiveFetch self.old fetch }
-        ensures fetches { Fetches self.old fetch result.0 result.1 }
-        ensures rest { self.new ≡ taken self.old result.0 }
+    pub(crate) fn take_fetching(&mut self, fetch: u64) -> Option<(u64, Requested<B, C, I>)>
+        ensures fetches { IfSome result (λ found. Fetches self.old fetch found.0 found.1) }
+        ensures rest { IfSome result (λ found. self.new ≡ taken self.old found.0) }
+        ensures none { IfNone result (IsLiveFetch self.old fetch → ⊥) }
+        ensures same { IfNone result (self.new ≡ self.old) }
     {
-        let Some(ticket) = self.request_of(fetch) else {
-            unreachable!();
-        };
+        let ticket = self.request_of(fetch)?;
         let requested = self.take(ticket);
-        (ticket, requested)
+        Some((ticket, requested))
     }
 
     /// A fetch brought no block: a verification waits, and a proposal ends.
