@@ -5,3 +5,5 @@ pub mod Skipping
 pub mod Entries
 pub mod Advancing
 pub mod Acquiring
+pub mod Keeping
+pub mod Telling

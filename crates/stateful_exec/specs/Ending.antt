@@ -1,5 +1,5 @@
 -- Turns of candidate runs, how their ends are told, and what becomes of the requests that waited for them.
-use Rattle.std.specs.Prelude.{◌≡◌, ◌≢◌, ◌⊎◌, ◌+◌, ◌++◌, ◌∷◌, [], ℕ, Option, Some, None, List, All, Any}
+use Rattle.std.specs.Prelude.{◌≡◌, ◌≢◌, ◌⊎◌, ◌+◌, ◌++◌, ◌∷◌, [], ℕ, Option, Some, None, List, Any}
 use Rattle.stateful_types.specs.Names.{Header, Named}
 use Rattle.stateful_types.specs.Round.{IsLater}
 use Rattle.stateful_types.specs.declared.anchor.Anchor.{Anchor}
@@ -12,8 +12,8 @@ use Rattle.stateful_history.specs.declared.mark.How.TheVariants.{Kept, Rejected,
 use Rattle.stateful_history.specs.declared.mark.Mark.TheVariants as mark
 use Rattle.stateful_cache.specs.Cache.{IsIn, IsAtHand}
 use Rattle.stateful_cache.specs.declared.cache.Cached.{Cached}
-use Rattle.stateful_table.specs.Table.{at, put, without}
-use Rattle.stateful_exec.specs.Boundary.{Boundary, step_by, IsRetained, Completes}
+use Rattle.stateful_table.specs.Table.{at, without}
+use Rattle.stateful_exec.specs.Boundary.{step_by, IsRetained, Completes}
 use Rattle.stateful_exec.specs.Path.{Path}
 use Rattle.stateful_exec.specs.Phase.{tickets_on}
 use Rattle.stateful_exec.specs.Workings.{Workings, Point}
@@ -25,7 +25,6 @@ use Rattle.stateful_exec.specs.declared.error.ExecError.TheVariants.{OutOfMemory
 use Rattle.stateful_exec.specs.declared.pause.Pause.{Pause}
 use Rattle.stateful_exec.specs.declared.pause.Pause.TheVariants.{Finalizing, Pruning}
 use Rattle.stateful_exec.specs.declared.request.Verdict.TheVariants.{Invalid}
-use Rattle.stateful_exec.specs.declared.state.Tables.{Tables}
 use Rattle.stateful_exec.specs.declared.tables.LiveRun.{LiveRun}
 use Rattle.stateful_exec.specs.declared.tables.Phase.TheVariants.{Executing, Parked}
 use Rattle.stateful_exec.specs.declared.tables.Requested.{Requested}
