@@ -4,9 +4,9 @@ ghost use Rattle.std.specs.Prelude.{◌≡◌, ◌≢◌, ◌↔◌, ◌⊎◌, 
 ghost use Rattle.stateful_cache.specs.Cache.{IsIn, IsAtHand};
 ghost use Rattle.stateful_history.specs.declared.mark.Mark.TheVariants as mark;
 ghost use Rattle.stateful_table.specs.Table.{at, put, without};
-ghost use Rattle.stateful_exec.specs.Ending.{step_in, Takes, FaultsTake};
+ghost use Rattle.stateful_exec.specs.Ending.{step_in, Takes, FaultsTake, Crosses, IsFate, released};
 ghost use Rattle.stateful_exec.specs.Starting.{IsLeft, Rises};
-ghost use Rattle.stateful_exec.specs.Phase.{tickets_on};
+ghost use Rattle.stateful_exec.specs.Phase.{tickets_on, released_on};
 ghost use Rattle.stateful_exec.specs.Rules.{taken, requested, moved, ended, told, Knows, HasRun, RunsNone, GoesOn, JoinsAs, Meets, MeetsOnKnown, Skips};
 ghost use Rattle.stateful_exec.specs.declared.tables.Phase.TheVariants as phase;
 
@@ -16,7 +16,7 @@ use crate::met::Met;
 use crate::path::ReplayPath;
 use crate::pause::Pause;
 use crate::request::{Proposal, Request, Verdict};
-use crate::tables::{LiveRun, Phase, Requested};
+use crate::tables::{Fate, LiveRun, Phase, Released, Requested};
 use crate::tickets::Tickets;
 use stateful_cache::{Cache, Cached, knows};
 use stateful_history::{How, Mark};
@@ -224,6 +224,27 @@ impl<B: Block + Drop, C: Copy, I: Drop, R: Drop, U: Drop> Tables<B, C, I, R, U> 
         )
     }
 
+    /// The blocks of a request are to be run later.
+    pub(crate) fn park(
+        &mut self,
+        ticket: u64,
+        request: Request<B, C, I>,
+        path: ReplayPath<B>,
+    ) -> Result<(), OutOfMemory>
+        ensures ok { OnOk result (self.new
+            ≡ moved self.old ticket (requested request) (phase.Parked path)) }
+        ensures err { OnErr result (self.new ≡ self.old) }
+    {
+        self.requests.put(
+            ticket,
+            Requested {
+                request,
+                acquired: Items::new(self.alloc),
+                phase: Phase::Parked(path),
+            },
+        )
+    }
+
     /// A request has come so far.
     pub(crate) fn set_phase(
         &mut self,
@@ -357,6 +378,16 @@ impl<B: Block + Drop, C: Copy, I: Drop, R: Drop, U: Drop> Tables<B, C, I, R, U> 
         }
     }
 
+    /// Puts the run of a job in its table.
+    pub(crate) fn put_run(&mut self, job: u64, live: LiveRun<B, R>) -> Result<(), OutOfMemory>
+        ensures ok { OnOk result (self.new ≡ record self.old {
+          runs = put self.old.runs job live;
+        }) }
+        ensures err { OnErr result (self.new ≡ self.old) }
+    {
+        self.runs.put(job, live)
+    }
+
     /// The cache takes a block with its sealed batch, or misses it. An entry of the block that is there keeps its states.
     /// `PendingChanged` exactly where an entry of its digest is of another parent or round.
     pub(crate) fn keep(&mut self, block: &Digested<B>, batch: U) -> Result<How, ExecError>
@@ -387,6 +418,49 @@ impl<B: Block + Drop, C: Copy, I: Drop, R: Drop, U: Drop> Tables<B, C, I, R, U> 
             batch,
         })?;
         Ok(How::Kept)
+    }
+
+    /// While a finalization goes on, a block that goes on over it is compatible from now on.
+    pub(crate) fn cross(&mut self, block: &Digested<B>) -> Result<(), OutOfMemory>
+        ensures crosses { OnOk result (Crosses B.header block.now self.old.pause self.new.pause) }
+        ensures rest { self.new ≡ record self.old { pause = self.new.pause } }
+    {
+        self.pause.cross(block)
+    }
+
+    /// Takes the requests that wait for the run of a job out of their table, by ascending tickets.
+    pub(crate) fn release(&mut self, job: u64) -> Result<Vec<Released<B, C, I>>, OutOfMemory>
+        ensures released { IfOk result (λ out. out.items ≡ released_on job self.old.requests) }
+        ensures rest { OnOk result (self.new ≡ released job self.old) }
+        ensures numbers { Rises self.old self.new }
+    {
+        let tickets = self.tickets_on(job)?;
+        let mut out = Vec::new(self.alloc);
+        for ticket in tickets.into_vec() {
+            let Requested {
+                request,
+                acquired: _,
+                phase,
+            } = self.take(ticket);
+            let Phase::Executing { job: _, path } = phase else {
+                unreachable!();
+            };
+            out.push(Released {
+                ticket,
+                request,
+                path,
+            })?;
+        }
+        Ok(out)
+    }
+
+    /// What becomes of the requests that waited for a run of the block that ended so.
+    pub(crate) fn fate(&self, block: &Digested<B>, how: How) -> Fate
+        ensures { IsFate B.header self.now.pause (IsIn self.now.cache block.now.digest) block.now
+            how result }
+    {
+        let known = self.cache.has(block.digest());
+        self.pause.fate(known, block, how)
     }
 
     /// A run of this block is live, under the next number of a job, which isn't the last one.
