@@ -7,3 +7,5 @@ pub mod Advancing
 pub mod Acquiring
 pub mod Keeping
 pub mod Telling
+pub mod Fates
+pub mod Ended

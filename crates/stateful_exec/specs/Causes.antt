@@ -30,6 +30,10 @@ module _ {B C I P R D H G U : Type 0} (w : Workings B C I P R D H G U) where
   FaultsBatches m next Lost = w.kind.point m ≡ None
   FaultsBatches m next e = ⊥
 
+  -- the cache didn't take the block of the run of a job
+  abbrev pub FaultsEnd : Tables B C I R U → ℕ → ExecError → Type 0
+  FaultsEnd v j e = MatchOption (at v.runs j) ⊥ (λ run. FaultsTake w.header run.block v.cache e)
+
 module _ {B C I P R D H G U : Type 0} (w : Workings B C I P R D H G U) (rose : Type 0) where
   -- no run was started: no number was left for its job; or one was, and no batches were made; or the application, which had
   -- them, failed
@@ -53,10 +57,6 @@ module _ {B C I P R D H G U : Type 0} (w : Workings B C I P R D H G U) (rose : T
     no_fetch : (digest : Digest) → e ≡ Exhausted → Needs w stored m r (acquired.Ask digest) → (IsLeft m.state.next_fetch → ⊥) → FaultsAcquire stored m r e
     running : {path : Path B} → Needs w stored m r (acquired.Ready path) → FaultsAdvance m path e → FaultsAcquire stored m r e
 
-  -- the cache didn't take the block of the run of a job
-  abbrev pub FaultsEnd : Tables B C I R U → ℕ → ExecError → Type 0
-  FaultsEnd v j e = MatchOption (at v.runs j) ⊥ (λ run. FaultsTake w.header run.block v.cache e)
-
   -- some requests followed in turn, and the next one wasn't served
   pub record FaultsFollow (b : Named B) (how : How) (all : List (Released B C I)) (m : Moment w) (e : ExecError) : Type 0 where
     pub served : List (Released B C I)
@@ -70,7 +70,7 @@ module _ {B C I P R D H G U : Type 0} (w : Workings B C I P R D H G U) (rose : T
   -- memory ran out; or the run of a job wasn't ended; or it was, and one of the requests that waited for it wasn't served
   pub data FaultsSettle (m : Moment w) (j : ℕ) (ended : Option U) (e : ExecError) : Type 0 where
     memory : e ≡ OutOfMemory → FaultsSettle m j ended e
-    ending : FaultsEnd m.state j e → FaultsSettle m j ended e
+    ending : FaultsEnd w m.state j e → FaultsSettle m j ended e
     following : {b : Named B} {how : How} {done : Moment w} → EndsRun w m j b ended how done
         → FaultsFollow b how (released_on j done.state.requests) (record done { state = released j done.state }) e → FaultsSettle m j ended e
 
