@@ -9,3 +9,4 @@ pub mod Keeping
 pub mod Telling
 pub mod Fates
 pub mod Ended
+pub mod Releasing

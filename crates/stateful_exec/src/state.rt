@@ -1,6 +1,9 @@
 //! The tables of execution, over plain types.
 
 ghost use Rattle.std.specs.Prelude.{◌≡◌, ◌≢◌, ◌↔◌, ◌⊎◌, ◌<◌, ◌+◌, ◌-◌, ◌^◌, ◌++◌, ◌∷◌, [], ℕ, false, List, Some, None, IsSome, OnOk, OnErr, IfOk, IfErr, IfSome, IfNone, All, IsTrue, MatchOption};
+ghost use Rattle.std.specs.List.Sorted.{IsStrictlySortedBy};
+ghost use Rattle.std.specs.Map.{keys_of};
+ghost use Rattle.std.specs.Ordering.{nat_cmp};
 ghost use Rattle.stateful_cache.specs.Cache.{IsIn, IsAtHand};
 ghost use Rattle.stateful_history.specs.declared.mark.Mark.TheVariants as mark;
 ghost use Rattle.stateful_table.specs.Table.{at, put, without};
@@ -106,7 +109,8 @@ impl<B: Block + Drop, C: Copy, I: Drop, R: Drop, U: Drop> Tables<B, C, I, R, U> 
 
     /// The tickets of the requests that wait for the run of a job, ascending.
     pub(crate) fn tickets_on(&self, job: u64) -> Result<Items<u64>, OutOfMemory>
-        ensures { IfOk result (λ tickets. tickets ≡ tickets_on job self.now.requests) }
+        ensures tickets { IfOk result (λ tickets. tickets ≡ tickets_on job self.now.requests) }
+        ensures ordered { OnOk result (IsStrictlySortedBy nat_cmp (keys_of self.now.requests)) }
     {
         let mut tickets = Items::new(self.alloc);
         for (ticket, requested) in self.requests.entries().iter() {
