@@ -10,3 +10,4 @@ pub mod Telling
 pub mod Fates
 pub mod Ended
 pub mod Releasing
+pub mod Turning

@@ -375,6 +375,8 @@ impl<B: Block + Drop, C: Copy, I: Drop, R: Drop, U: Drop> Tables<B, C, I, R, U> 
         requires { IsSome (at self.old.runs job) }
         ensures run { at self.old.runs job ≡ Some result }
         ensures rest { self.new ≡ record self.old { runs = without self.old.runs job } }
+        ensures again { (run : LiveRun B R)
+            → put self.new.runs job run ≡ put self.old.runs job run }
     {
         match self.runs.remove(job) {
             Some(run) => run,
