@@ -11,3 +11,4 @@ pub mod Fates
 pub mod Ended
 pub mod Releasing
 pub mod Turning
+pub mod Following
