@@ -7,3 +7,10 @@ pub mod Advancing
 pub mod Acquiring
 pub mod Cancelling
 pub mod Answering
+pub mod Keeping
+pub mod Telling
+pub mod Fates
+pub mod Ended
+pub mod Releasing
+pub mod Turning
+pub mod Following

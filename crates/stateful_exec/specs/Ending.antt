@@ -1,24 +1,27 @@
 -- Turns of candidate runs, how their ends are told, and what becomes of the requests that waited for them.
-use Rattle.std.specs.Prelude.{◌≡◌, ◌≢◌, ◌⊎◌, ◌+◌, ◌++◌, ◌∷◌, [], ℕ, Option, Some, None, List, All, Any}
+use Rattle.std.specs.Prelude.{◌≡◌, ◌≢◌, ◌⊎◌, ◌+◌, ◌++◌, ◌∷◌, [], ℕ, Option, Some, None, Result, Ok, Err, List, Any, IfOk, IsErrOf}
+use Rattle.stateful_types.specs.Causes.{Rose}
 use Rattle.stateful_types.specs.Names.{Header, Named}
 use Rattle.stateful_types.specs.Round.{IsLater}
 use Rattle.stateful_types.specs.declared.anchor.Anchor.{Anchor}
 use Rattle.stateful_types.specs.declared.outcome.Moved.{Moved}
+use Rattle.stateful_types.specs.declared.outcome.Moved.TheVariants.{Pending, Done}
 use Rattle.stateful_db.specs.Chain.{IsPoint}
 use Rattle.stateful_db.specs.Meaning.{outcome, Ends}
 use Rattle.stateful_db.specs.Works.{RunOf, block_of, run_chain, Costs}
+use Rattle.stateful_db.specs.declared.application.AppFault.{AppFault}
+use Rattle.stateful_db.specs.declared.application.AppFault.TheVariants.{Failed}
 use Rattle.stateful_history.specs.declared.mark.How.{How}
 use Rattle.stateful_history.specs.declared.mark.How.TheVariants.{Kept, Rejected, Mismatched, Missed}
 use Rattle.stateful_history.specs.declared.mark.Mark.TheVariants as mark
 use Rattle.stateful_cache.specs.Cache.{IsIn, IsAtHand}
 use Rattle.stateful_cache.specs.declared.cache.Cached.{Cached}
 use Rattle.stateful_table.specs.Table.{at, put, without}
-use Rattle.stateful_exec.specs.Boundary.{Boundary, step_by, IsRetained, Completes}
-use Rattle.stateful_exec.specs.Path.{Path}
-use Rattle.stateful_exec.specs.Phase.{tickets_on}
+use Rattle.stateful_exec.specs.Boundary.{step_by, IsRetained, Completes}
+use Rattle.stateful_exec.specs.Phase.{released_on, not_on}
 use Rattle.stateful_exec.specs.Workings.{Workings, Point}
 use Rattle.stateful_exec.specs.Moments.{Moment, Becomes}
-use Rattle.stateful_exec.specs.Rules.{taken, moved, requested, Concludes, Advances}
+use Rattle.stateful_exec.specs.Rules.{moved, requested, Concludes, Advances}
 use Rattle.stateful_exec.specs.declared.boundary.ExecutionStep.{ExecutionStep}
 use Rattle.stateful_exec.specs.declared.error.ExecError.{ExecError}
 use Rattle.stateful_exec.specs.declared.error.ExecError.TheVariants.{OutOfMemory, PendingChanged}
@@ -26,9 +29,11 @@ use Rattle.stateful_exec.specs.declared.pause.Pause.{Pause}
 use Rattle.stateful_exec.specs.declared.pause.Pause.TheVariants.{Finalizing, Pruning}
 use Rattle.stateful_exec.specs.declared.request.Verdict.TheVariants.{Invalid}
 use Rattle.stateful_exec.specs.declared.state.Tables.{Tables}
+use Rattle.stateful_exec.specs.declared.tables.Fate.{Fate}
+use Rattle.stateful_exec.specs.declared.tables.Fate.TheVariants as fate
 use Rattle.stateful_exec.specs.declared.tables.LiveRun.{LiveRun}
-use Rattle.stateful_exec.specs.declared.tables.Phase.TheVariants.{Executing, Parked}
-use Rattle.stateful_exec.specs.declared.tables.Requested.{Requested}
+use Rattle.stateful_exec.specs.declared.tables.Phase.TheVariants.{Parked}
+use Rattle.stateful_exec.specs.declared.tables.Released.{Released}
 
 -- one relation after another, for each of these
 pub data InTurn {X M : Type 0} (R : X → M → M → Type 0) : List X → M → M → Type 0 where
@@ -60,6 +65,33 @@ FaultsTake header b cache OutOfMemory = Unit {0}
 FaultsTake header b cache (PendingChanged before after) = ChangesPending header b cache before after
 FaultsTake header b cache e = ⊥
 
+-- while a finalization goes on, a block that goes on over it is compatible once its run has ended
+abbrev pub Crosses : {B : Type 0} → Header B → Named B → Pause → Pause → Type 0
+Crosses header b (Finalizing old) (Finalizing new) =
+    (IsRetained old (step_by header b) × Completes b.digest old new) ⊎ ((IsRetained old (step_by header b) → ⊥) × (new ≡ old))
+Crosses header b (Finalizing old) new = ⊥
+Crosses header b old new = new ≡ old
+
+-- the block doesn't go on over the finalization of another one
+abbrev pub IsGivenUp : {B : Type 0} → Header B → Pause → Named B → Type 0
+IsGivenUp header (Finalizing boundary) b = (b.digest ≢ boundary.digest) × (IsRetained boundary (step_by header b) → ⊥)
+IsGivenUp header pause b = ⊥
+
+-- the block is being finalized, and this run of it wasn't kept
+abbrev pub IsHeld : {B : Type 0} → Pause → Named B → How → Type 0
+IsHeld (Finalizing boundary) b how = (b.digest ≡ boundary.digest) × (how ≢ Kept)
+IsHeld pause b how = ⊥
+
+-- what becomes of a request that waited for the run of a block, where the block is known or not
+abbrev pub IsFate : {B : Type 0} → Header B → Pause → Type 0 → Named B → How → Fate → Type 0
+IsFate header pause known b how fate.Invalid = IsGivenUp header pause b ⊎ ((IsHeld pause b how → ⊥) × (known → ⊥))
+IsFate header pause known b how fate.Parked = IsHeld pause b how ⊎ ((pause ≡ Pruning) × known)
+IsFate header pause known b how fate.GoesOn = (IsGivenUp header pause b → ⊥) × (IsHeld pause b how → ⊥) × (pause ≢ Pruning) × known
+
+-- the requests that wait for the run of a job are taken out of their table
+abbrev pub released : {B C I R U : Type 0} → ℕ → Tables B C I R U → Tables B C I R U
+released job v = record v { requests = not_on job v.requests }
+
 module _ {B C I P R D H G U : Type 0} (w : Workings B C I P R D H G U) where
   -- A turn of a run: where the databases are at a point of its chain, it goes on, or ends with what is to come of its block,
   -- in as many turns as it costs, where that is told.
@@ -83,13 +115,6 @@ module _ {B C I P R D H G U : Type 0} (w : Workings B C I P R D H G U) where
     mismatched : {batch : U} → Differs b batch → new ≡ old → IsTold anchor b old new (Some batch) Mismatched
     agreed : {batch : U} {how : How} → Agrees b batch → Takes w.header anchor b batch old new how → IsTold anchor b old new (Some batch) how
 
-  -- while a finalization goes on, a block that goes on over it is compatible once its run has ended
-  abbrev pub Crosses : Named B → Pause → Pause → Type 0
-  Crosses b (Finalizing old) (Finalizing new) =
-      (IsRetained old (step_by w.header b) × Completes b.digest old new) ⊎ ((IsRetained old (step_by w.header b) → ⊥) × (new ≡ old))
-  Crosses b (Finalizing old) new = ⊥
-  Crosses b old new = new ≡ old
-
   -- the run of a job has ended so
   pub record EndsRun (m : Moment w) (j : ℕ) (b : Named B) (ended : Option U) (how : How) (now : Moment w) : Type 0 where
     pub run : LiveRun B R
@@ -98,38 +123,47 @@ module _ {B C I P R D H G U : Type 0} (w : Workings B C I P R D H G U) where
     pub cache : List (Cached U)
     pub told : IsTold m.state.anchor b m.state.cache cache ended how
     pub pause : Pause
-    pub crosses : Crosses b m.state.pause pause
+    pub crosses : Crosses w.header b m.state.pause pause
     pub becomes : Becomes w m (record m.state { cache = cache; runs = without m.state.runs j; pause = pause }) (mark.Ended j how ∷ []) now
 
-  -- the block doesn't go on over the finalization of another one
-  abbrev pub IsGivenUp : Pause → Named B → Type 0
-  IsGivenUp (Finalizing boundary) b = (b.digest ≢ boundary.digest) × (IsRetained boundary (step_by w.header b) → ⊥)
-  IsGivenUp pause b = ⊥
-
-  -- the block is being finalized, and this run of it wasn't kept
-  abbrev pub IsHeld : Pause → Named B → How → Type 0
-  IsHeld (Finalizing boundary) b how = (b.digest ≡ boundary.digest) × (how ≢ Kept)
-  IsHeld pause b how = ⊥
+  -- the run of a job has had a turn, which answers so; it failed only where its count rose
+  pub record TurnsRun (count : R → ℕ) (m : w.kind.Members) (j : ℕ) (old new : Tables B C I R U) (answer : Result (Moved (Option U)) AppFault) : Type 0 where
+    pub live : LiveRun B R
+    pub live_is : at old.runs j ≡ Some live
+    pub turned : R
+    pub turns : IfOk answer (Turns m live.run turned)
+    pub failed : IsErrOf answer Failed → Rose (count live.run) (count turned)
+    pub state : new ≡ record old { runs = put old.runs j (record live { run = turned }) }
 
   -- What becomes of a request that waited for a run of the block: its block doesn't go on over a finalization, or isn't known,
   -- and it ends; or it is parked, since the block is being finalized or a prune is to come; or it goes along its path.
-  pub data Follows (b : Named B) (how : How) (t : ℕ) (m now : Moment w) : Type 0 where
-    given_up : (r : Requested B C I) (j : ℕ) (path : Path B) → at m.state.requests t ≡ Some r → r.phase ≡ Executing j path
-        → IsGivenUp m.state.pause b → Concludes w (record m { state = taken m.state t }) t r Invalid now → Follows b how t m now
-    held : (r : Requested B C I) (j : ℕ) (path : Path B) → at m.state.requests t ≡ Some r → r.phase ≡ Executing j path
-        → IsHeld m.state.pause b how → Becomes w m (moved (taken m.state t) t r (Parked path)) [] now → Follows b how t m now
-    failed : (r : Requested B C I) (j : ℕ) (path : Path B) → at m.state.requests t ≡ Some r → r.phase ≡ Executing j path
-        → (IsHeld m.state.pause b how → ⊥) → (IsIn m.state.cache b.digest → ⊥) → Concludes w (record m { state = taken m.state t }) t r Invalid now → Follows b how t m now
-    parked : (r : Requested B C I) (j : ℕ) (path : Path B) → at m.state.requests t ≡ Some r → r.phase ≡ Executing j path
-        → m.state.pause ≡ Pruning → IsIn m.state.cache b.digest → Becomes w m (moved (taken m.state t) t r (Parked path)) [] now → Follows b how t m now
-    goes_on : (r : Requested B C I) (j : ℕ) (path : Path B) → at m.state.requests t ≡ Some r → r.phase ≡ Executing j path
-        → (IsGivenUp m.state.pause b → ⊥) → (IsHeld m.state.pause b how → ⊥) → m.state.pause ≢ Pruning → IsIn m.state.cache b.digest
-        → Advances w (record m { state = taken m.state t }) t (requested r.request) path now → Follows b how t m now
+  pub data Follows (b : Named B) (how : How) (r : Released B C I) (m now : Moment w) : Type 0 where
+    given_up : IsGivenUp w.header m.state.pause b → Concludes w m r.ticket (requested r.request) Invalid now → Follows b how r m now
+    held : IsHeld m.state.pause b how → Becomes w m (moved m.state r.ticket (requested r.request) (Parked r.path)) [] now → Follows b how r m now
+    failed : (IsHeld m.state.pause b how → ⊥) → (IsIn m.state.cache b.digest → ⊥)
+        → Concludes w m r.ticket (requested r.request) Invalid now → Follows b how r m now
+    parked : m.state.pause ≡ Pruning → IsIn m.state.cache b.digest
+        → Becomes w m (moved m.state r.ticket (requested r.request) (Parked r.path)) [] now → Follows b how r m now
+    goes_on : (IsGivenUp w.header m.state.pause b → ⊥) → (IsHeld m.state.pause b how → ⊥) → m.state.pause ≢ Pruning → IsIn m.state.cache b.digest
+        → Advances w m r.ticket (requested r.request) r.path now → Follows b how r m now
 
   -- the run of a job has ended, and the requests that waited for it follow, by ascending tickets
   pub record Settles (m : Moment w) (j : ℕ) (ended : Option U) (now : Moment w) : Type 0 where
     pub block : Named B
     pub how : How
-    pub mid : Moment w
-    pub ends : EndsRun m j block ended how mid
-    pub follow : InTurn (Follows block how) (tickets_on j mid.state.requests) mid now
+    pub done : Moment w
+    pub ends : EndsRun m j block ended how done
+    pub follow : InTurn (Follows block how) (released_on j done.state.requests) (record done { state = released j done.state }) now
+
+  -- what a turn's answer leads to: nothing where the run goes on, and where it has ended what follows
+  abbrev pub SettlesBy : Moment w → ℕ → Result (Moved (Option U)) AppFault → Moment w → Type 0
+  SettlesBy m j (Ok Pending) now = now ≡ m
+  SettlesBy m j (Ok (Done ended)) now = Settles m j ended now
+  SettlesBy m j (Err fault) now = ⊥
+
+  -- the run of a job has had a turn, and what its answer leads to
+  pub record Steps (count : R → ℕ) (m : Moment w) (j : ℕ) (now : Moment w) : Type 0 where
+    pub running : Tables B C I R U
+    pub answer : Result (Moved (Option U)) AppFault
+    pub turns : TurnsRun count m.members j m.state running answer
+    pub settles : SettlesBy (record m { state = running }) j answer now

@@ -160,7 +160,7 @@ fn launch<A: Application>(
 }
 
 /// A request with blocks to run goes along its path, to its end or to a run.
-fn advance<A: Application>(
+pub(crate) fn advance<A: Application>(
     application: &mut A,
     tables: &mut TablesOf<A>,
     databases: &mut A::Databases,

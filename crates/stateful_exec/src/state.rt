@@ -1,12 +1,15 @@
 //! The tables of execution, over plain types.
 
 ghost use Rattle.std.specs.Prelude.{◌≡◌, ◌≢◌, ◌↔◌, ◌⊎◌, ◌<◌, ◌+◌, ◌-◌, ◌^◌, ◌++◌, ◌∷◌, [], ℕ, false, List, Some, None, IsSome, OnOk, OnErr, IfOk, IfErr, IfSome, IfNone, All, IsTrue, MatchOption};
+ghost use Rattle.std.specs.List.Sorted.{IsStrictlySortedBy};
+ghost use Rattle.std.specs.Map.{keys_of};
+ghost use Rattle.std.specs.Ordering.{nat_cmp};
 ghost use Rattle.stateful_cache.specs.Cache.{IsIn, IsAtHand};
 ghost use Rattle.stateful_history.specs.declared.mark.Mark.TheVariants as mark;
 ghost use Rattle.stateful_table.specs.Table.{at, put, without};
-ghost use Rattle.stateful_exec.specs.Ending.{step_in, Takes, FaultsTake};
+ghost use Rattle.stateful_exec.specs.Ending.{step_in, Takes, FaultsTake, Crosses, IsFate, released};
 ghost use Rattle.stateful_exec.specs.Starting.{IsLeft, Rises};
-ghost use Rattle.stateful_exec.specs.Phase.{tickets_on};
+ghost use Rattle.stateful_exec.specs.Phase.{tickets_on, released_on};
 ghost use Rattle.stateful_exec.specs.Rules.{taken, requested, moved, ended, told, Knows, HasRun, RunsNone, GoesOn, JoinsAs, Meets, MeetsOnKnown, Skips};
 ghost use Rattle.stateful_exec.specs.declared.tables.Phase.TheVariants as phase;
 
@@ -16,7 +19,7 @@ use crate::met::Met;
 use crate::path::ReplayPath;
 use crate::pause::Pause;
 use crate::request::{Proposal, Request, Verdict};
-use crate::tables::{LiveRun, Phase, Requested};
+use crate::tables::{Fate, LiveRun, Phase, Released, Requested};
 use crate::tickets::Tickets;
 use stateful_cache::{Cache, Cached, knows};
 use stateful_history::{How, Mark};
@@ -106,7 +109,8 @@ impl<B: Block + Drop, C: Copy, I: Drop, R: Drop, U: Drop> Tables<B, C, I, R, U> 
 
     /// The tickets of the requests that wait for the run of a job, ascending.
     pub(crate) fn tickets_on(&self, job: u64) -> Result<Items<u64>, OutOfMemory>
-        ensures { IfOk result (λ tickets. tickets ≡ tickets_on job self.now.requests) }
+        ensures tickets { IfOk result (λ tickets. tickets ≡ tickets_on job self.now.requests) }
+        ensures ordered { OnOk result (IsStrictlySortedBy nat_cmp (keys_of self.now.requests)) }
     {
         let mut tickets = Items::new(self.alloc);
         for (ticket, requested) in self.requests.entries().iter() {
@@ -220,6 +224,27 @@ impl<B: Block + Drop, C: Copy, I: Drop, R: Drop, U: Drop> Tables<B, C, I, R, U> 
                 request,
                 acquired: Items::new(self.alloc),
                 phase: Phase::Executing { job, path },
+            },
+        )
+    }
+
+    /// The blocks of a request are to be run later.
+    pub(crate) fn park(
+        &mut self,
+        ticket: u64,
+        request: Request<B, C, I>,
+        path: ReplayPath<B>,
+    ) -> Result<(), OutOfMemory>
+        ensures ok { OnOk result (self.new
+            ≡ moved self.old ticket (requested request) (phase.Parked path)) }
+        ensures err { OnErr result (self.new ≡ self.old) }
+    {
+        self.requests.put(
+            ticket,
+            Requested {
+                request,
+                acquired: Items::new(self.alloc),
+                phase: Phase::Parked(path),
             },
         )
     }
@@ -350,11 +375,23 @@ impl<B: Block + Drop, C: Copy, I: Drop, R: Drop, U: Drop> Tables<B, C, I, R, U> 
         requires { IsSome (at self.old.runs job) }
         ensures run { at self.old.runs job ≡ Some result }
         ensures rest { self.new ≡ record self.old { runs = without self.old.runs job } }
+        ensures again { (run : LiveRun B R)
+            → put self.new.runs job run ≡ put self.old.runs job run }
     {
         match self.runs.remove(job) {
             Some(run) => run,
             None => unreachable!(),
         }
+    }
+
+    /// Puts the run of a job in its table.
+    pub(crate) fn put_run(&mut self, job: u64, live: LiveRun<B, R>) -> Result<(), OutOfMemory>
+        ensures ok { OnOk result (self.new ≡ record self.old {
+          runs = put self.old.runs job live;
+        }) }
+        ensures err { OnErr result (self.new ≡ self.old) }
+    {
+        self.runs.put(job, live)
     }
 
     /// The cache takes a block with its sealed batch, or misses it. An entry of the block that is there keeps its states.
@@ -387,6 +424,49 @@ impl<B: Block + Drop, C: Copy, I: Drop, R: Drop, U: Drop> Tables<B, C, I, R, U> 
             batch,
         })?;
         Ok(How::Kept)
+    }
+
+    /// While a finalization goes on, a block that goes on over it is compatible from now on.
+    pub(crate) fn cross(&mut self, block: &Digested<B>) -> Result<(), OutOfMemory>
+        ensures crosses { OnOk result (Crosses B.header block.now self.old.pause self.new.pause) }
+        ensures rest { self.new ≡ record self.old { pause = self.new.pause } }
+    {
+        self.pause.cross(block)
+    }
+
+    /// Takes the requests that wait for the run of a job out of their table, by ascending tickets.
+    pub(crate) fn release(&mut self, job: u64) -> Result<Vec<Released<B, C, I>>, OutOfMemory>
+        ensures released { IfOk result (λ out. out.items ≡ released_on job self.old.requests) }
+        ensures rest { OnOk result (self.new ≡ released job self.old) }
+        ensures numbers { Rises self.old self.new }
+    {
+        let tickets = self.tickets_on(job)?;
+        let mut out = Vec::new(self.alloc);
+        for ticket in tickets.into_vec() {
+            let Requested {
+                request,
+                acquired: _,
+                phase,
+            } = self.take(ticket);
+            let Phase::Executing { job: _, path } = phase else {
+                unreachable!();
+            };
+            out.push(Released {
+                ticket,
+                request,
+                path,
+            })?;
+        }
+        Ok(out)
+    }
+
+    /// What becomes of the requests that waited for a run of the block that ended so.
+    pub(crate) fn fate(&self, block: &Digested<B>, how: How) -> Fate
+        ensures { IsFate B.header self.now.pause (IsIn self.now.cache block.now.digest) block.now
+            how result }
+    {
+        let known = self.cache.has(block.digest());
+        self.pause.fate(known, block, how)
     }
 
     /// A run of this block is live, under the next number of a job, which isn't the last one.

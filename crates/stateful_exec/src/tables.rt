@@ -76,3 +76,19 @@ impl<B, C, I> Requested<B, C, I> {
         }
     }
 }
+
+/// A request that has waited for a run, with the blocks that are left behind that of the run.
+#[derive(Drop)]
+pub struct Released<B, C, I> {
+    pub ticket: u64,
+    pub request: Request<B, C, I>,
+    pub path: ReplayPath<B>,
+}
+
+/// What becomes of a request that has waited for a run.
+#[derive(Clone, Copy, Debug, PartialEq, Eq)]
+pub(crate) enum Fate {
+    Invalid,
+    Parked,
+    GoesOn,
+}
