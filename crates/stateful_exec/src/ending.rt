@@ -149,7 +149,7 @@ fn follow_each<A: Application>(
 }
 
 /// What a turn of a run leads to: where it has ended, the requests that waited for it follow.
-fn settle<A: Application>(
+pub(crate) fn settle<A: Application>(
     application: &mut A,
     tables: &mut TablesOf<A>,
     databases: &mut A::Databases,

@@ -8,9 +8,11 @@ ghost use Rattle.stateful_exec.specs.Moments.{moment};
 ghost use Rattle.stateful_exec.specs.Request.{ticket_by};
 ghost use Rattle.stateful_exec.specs.Starting.{Rises};
 ghost use Rattle.stateful_exec.specs.Rules.{requested, Acquires};
-ghost use Rattle.stateful_exec.specs.Causes.{FaultsAcquire};
+ghost use Rattle.stateful_exec.specs.Causes.{FaultsAcquire, FaultsAnswer, FaultsStep};
+ghost use Rattle.stateful_exec.specs.Ending.{Steps, SettlesBy};
 ghost use Rattle.stateful_exec.specs.Fetching.{IsFetched, FaultsFetched, Cancels};
 
+use crate::ending::{Turned, complete, settle};
 use crate::error::ExecError;
 use crate::processor::Processor;
 use crate::request::Request;
@@ -137,6 +139,80 @@ impl<A: Application + Drop> Handler<A> {
             databases,
             store,
             fetch,
+            answer,
+            marks,
+        )
+    }
+
+    /// The run of a job has one turn. Where it has ended, its end is told, and the requests that waited for it follow, by
+    /// ascending tickets.
+    pub fn complete(
+        &mut self,
+        databases: &mut A::Databases,
+        job: u64,
+        marks: &mut Vec<Mark<A::Block>>,
+    ) -> Result<(), ExecError>
+        requires live { IsSome (at self.old.state.runs job) }
+        ensures ok { OnOk result (let w = ⟦<A as Worked>⟧.workings in
+            Steps w A.Run.count
+            (moment w self.old.state (A.Databases.members databases.old)
+            (A.Databases.next databases.old) marks.old.items) job
+            (moment w self.new.state (A.Databases.members databases.new)
+            (A.Databases.next databases.new) marks.new.items)) }
+        ensures fault { IfErr result (let w = ⟦<A as Worked>⟧.workings in
+            FaultsStep w (Rose (A.count self.old.application) (A.count self.new.application))
+            A.Run.count
+            (moment w self.old.state (A.Databases.members databases.old)
+            (A.Databases.next databases.old) marks.old.items) job) }
+        ensures members { A.Databases.members databases.new ≡ A.Databases.members databases.old }
+        ensures numbers { Rises self.old.state self.new.state }
+        ensures counts { (n : ℕ)
+            → A.Databases.counted databases.new n ≡ A.Databases.counted databases.old n }
+        ensures notes { (IsErrOf result ExecError.OutOfMemory → ⊥)
+            → A.notes self.new.application ≡ A.notes self.old.application }
+        ensures later { A.count self.old.application ≤ A.count self.new.application }
+    {
+        complete(
+            &mut self.application,
+            &mut self.tables,
+            databases,
+            job,
+            marks,
+        )
+    }
+
+    /// Does what `complete` does behind the turn: `answer` is what the last turn of the job's run answered.
+    pub fn settle(
+        &mut self,
+        databases: &mut A::Databases,
+        job: u64,
+        answer: Turned<A>,
+        marks: &mut Vec<Mark<A::Block>>,
+    ) -> Result<(), ExecError>
+        requires live { IsSome (at self.old.state.runs job) }
+        ensures ok { OnOk result (let w = ⟦<A as Worked>⟧.workings in
+            SettlesBy w
+            (moment w self.old.state (A.Databases.members databases.old)
+            (A.Databases.next databases.old) marks.old.items) job answer
+            (moment w self.new.state (A.Databases.members databases.new)
+            (A.Databases.next databases.new) marks.new.items)) }
+        ensures fault { IfErr result (let w = ⟦<A as Worked>⟧.workings in
+            FaultsAnswer w (Rose (A.count self.old.application) (A.count self.new.application))
+            (moment w self.old.state (A.Databases.members databases.old)
+            (A.Databases.next databases.old) marks.old.items) job answer) }
+        ensures members { A.Databases.members databases.new ≡ A.Databases.members databases.old }
+        ensures numbers { Rises self.old.state self.new.state }
+        ensures counts { (n : ℕ)
+            → A.Databases.counted databases.new n ≡ A.Databases.counted databases.old n }
+        ensures notes { (IsErrOf result ExecError.OutOfMemory → ⊥)
+            → A.notes self.new.application ≡ A.notes self.old.application }
+        ensures later { A.count self.old.application ≤ A.count self.new.application }
+    {
+        settle(
+            &mut self.application,
+            &mut self.tables,
+            databases,
+            job,
             answer,
             marks,
         )

@@ -19,6 +19,7 @@ mod walk;
 mod worked;
 
 pub use boundary::{Disposition, ExecutionStep, FinalizationBoundary};
+pub use ending::Turned;
 pub use error::{ExecError, ProposalFault};
 pub use handler::Handler;
 pub use path::ReplayPath;
@@ -26,6 +27,6 @@ pub use pause::Pause;
 pub use processor::Processor;
 pub use request::{Proposal, Request, Verdict};
 pub use state::Tables;
-pub use tables::{LiveRun, Phase, Requested};
+pub use tables::{LiveRun, Phase, Released, Requested};
 pub use walk::Acquired;
 pub use worked::Worked;
