@@ -12,3 +12,4 @@ pub mod Ended
 pub mod Releasing
 pub mod Turning
 pub mod Following
+pub mod Settling
