@@ -28,6 +28,6 @@ module _ {B C I P R D H G U : Type 0} (w : Workings B C I P R D H G U) (old take
     crosses = subst (λ (p : Pause). Crosses w.header live.block p new.pause) (ap (λ (t : Tables B C I R U). t.pause) cached ∙ ap (λ (t : Tables B C I R U). t.pause) out) crosses;
     becomes =
         let state : new ≡ record old { cache = mid.cache; runs = without old.runs j; pause = new.pause } =
-            paused ∙ ap (λ (t : Tables B C I R U). record t { pause = new.pause }) cached ∙ ap (λ (t : Tables B C I R U). record t { cache = mid.cache; pause = new.pause }) out in
+        paused ∙ ap (λ (t : Tables B C I R U). record t { pause = new.pause }) cached ∙ ap (λ (t : Tables B C I R U). record t { cache = mid.cache; pause = new.pause }) out in
         ap (λ (t : Tables B C I R U). moment w t members next after) state ∙ ap (λ ms. moment w (record old { cache = mid.cache; runs = without old.runs j; pause = new.pause }) members next ms) marks;
   }

@@ -108,7 +108,7 @@ module _ {B C I : Type 0} (job : ℕ) where
           let same : e.0 ≡ t = search in
           let o = on_it job e.1.phase on in
           let gone : without (e ∷ es) t ≡ es =
-              subst (λ (k : ℕ). without (e ∷ es) k ≡ es) same (rw (eq-eqb e.0 e.0 refl) (untouched e.0 es distinct.0)) in
+          subst (λ (k : ℕ). without (e ∷ es) k ≡ es) same (rw (eq-eqb e.0 e.0 refl) (untouched e.0 es distinct.0)) in
           record {
             request = e.1;
             path = o.path;

@@ -21,7 +21,7 @@ unreachable-requires g c =
 pub loop-ticket-preserved : goal.loop-ticket-preserved
 loop-ticket-preserved g c = (
   Drains-next c.args.job c.args.self.now.requests _ _ _ c.loop-ticket.invariant.0 c.in-Some.ticket _ c.in-Some.ensures.steps.0 c.take-request.result c.take-request.ensures.request
-  c.in-Executing.job c.in-Executing.path c.in-Executing.is _ _ (ap (λ (t : Tables g.row.B.Denot g.row.C.Denot g.row.I.Denot g.row.R.Denot g.row.U.Denot). t.requests) c.take-request.ensures.rest) c.in_ok-push.ensures.items,
+      c.in-Executing.job c.in-Executing.path c.in-Executing.is _ _ (ap (λ (t : Tables g.row.B.Denot g.row.C.Denot g.row.I.Denot g.row.R.Denot g.row.U.Denot). t.requests) c.take-request.ensures.rest) c.in_ok-push.ensures.items,
   still c.args.self.now c.loop-ticket.self c.take-request.new.self c.in-Some.ticket c.loop-ticket.invariant.1 c.take-request.ensures.rest,
 )
 
