@@ -1,10 +1,9 @@
 -- What becomes of a request that has waited for a run.
-use Rattle.std.proofs.Common.{◌≡◌, ◌↔◌, ◌⊎◌, inl, inr}
+use Rattle.std.proofs.Common.{◌↔◌, inl, inr}
 use Rattle.stateful_types.specs.Names.{Header, Named}
 use Rattle.stateful_history.specs.declared.mark.How.{How}
-use Rattle.stateful_exec.specs.Ending.{IsGivenUp, IsHeld, IsFate}
+use Rattle.stateful_exec.specs.Ending.{IsFate}
 use Rattle.stateful_exec.specs.declared.pause.Pause.{Pause}
-use Rattle.stateful_exec.specs.declared.pause.Pause.TheVariants.{Pruning}
 use Rattle.stateful_exec.specs.declared.tables.Fate.{Fate}
 use Rattle.stateful_exec.specs.declared.tables.Fate.TheVariants as fate
 

@@ -14,3 +14,4 @@ pub mod Ended
 pub mod Releasing
 pub mod Turning
 pub mod Following
+pub mod Settling

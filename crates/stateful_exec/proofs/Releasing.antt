@@ -1,17 +1,17 @@
 -- Requests that are taken out of their table, ticket by ticket.
-use Rattle.std.proofs.Common.{◌≡◌, ◌++◌, ◌∷◌, [], ℕ, ◌==◌, Bool, true, false, cond, List, Option, Some, None, option_map, filter_map, IsSome, length, refl, sym, ap, ◌∙◌, subst}
+use Rattle.std.proofs.Common.{◌≡◌, ◌++◌, ◌∷◌, [], ℕ, ◌==◌, Bool, true, false, List, Some, None, IsSome, length, refl, sym, ap, ◌∙◌, subst}
 use Rattle.std.specs.Ordering.{nat_cmp}
 use Rattle.std.specs.Map.{keys_of}
 use Rattle.std.specs.List.{AllByRecursion}
 use Rattle.std.specs.List.Sorted.{IsStrictlySortedBy}
 use Rattle.std.specs.declared.cmp.Ordering.TheVariants.{Less}
-use Rattle.std.proofs.lemmas.Bool.{eq-eqb, eqb-false, eqb-true}
+use Rattle.std.proofs.lemmas.Bool.{eq-eqb, eqb-true}
 use Rattle.std.proofs.lemmas.List.{append_assoc, append-nil, nil_from_length}
 use Rattle.std.proofs.lemmas.Map.Keys.{sorted_head, sorted_tail}
 use Rattle.stateful_table.specs.Table.{at, without}
 use Rattle.stateful_table.proofs.Tables.{is_at_number}
 use Rattle.stateful_exec.specs.Path.{Path}
-use Rattle.stateful_exec.specs.Phase.{is_on, tickets_on, path_on, released_from, released_on, not_on}
+use Rattle.stateful_exec.specs.Phase.{is_on, tickets_on, path_on, released_on, not_on}
 use Rattle.stateful_exec.specs.Rules.{taken}
 use Rattle.stateful_exec.specs.declared.state.Tables.{Tables}
 use Rattle.stateful_exec.specs.declared.tables.Phase.{Phase}

@@ -1,7 +1,6 @@
 -- Turns of runs.
-use Rattle.std.proofs.Common.{◌≡◌, ◌+◌, ◌∷◌, ℕ, List, Option, Some, Result, Ok, Err, IfOk, IfErr, IsErrOf, IsErrAnd, IsSome, refl, ap, ◌∙◌}
+use Rattle.std.proofs.Common.{◌≡◌, ◌+◌, ◌∷◌, ℕ, List, Option, Some, Result, Ok, Err, IfOk, IsErrOf, IsSome, refl, ap, ◌∙◌}
 use Rattle.std.proofs.lemmas.Bool.{eq-eqb}
-use Rattle.std.proofs.lemmas.Result.{err_from_is_err_and}
 use Rattle.stateful_types.specs.Causes.{Rose}
 use Rattle.stateful_types.specs.declared.outcome.Moved.{Moved}
 use Rattle.stateful_db.specs.Chain.{IsPoint}

@@ -1,22 +1,21 @@
 //! Ends of candidate runs, and the requests that waited for them.
 
-ghost use Rattle.std.specs.Prelude.{◌≡◌, ◌≢◌, ◌≤◌, ◌++◌, ◌∷◌, [], ℕ, List, Some, IsSome, OnOk, IfOk, IfErr, IsErrOf, MatchOption};
+ghost use Rattle.std.specs.Prelude.{◌≡◌, ◌≤◌, ℕ, IsSome, OnOk, IfOk, IfErr, IsErrOf};
 ghost use Rattle.stateful_types.specs.Causes.{Rose};
-ghost use Rattle.stateful_table.specs.Table.{at, put};
+ghost use Rattle.stateful_table.specs.Table.{at};
 ghost use Rattle.stateful_exec.specs.Moments.{moment};
 ghost use Rattle.stateful_exec.specs.Starting.{Rises};
 ghost use Rattle.stateful_exec.specs.Causes.{FaultsEnd, FaultsAdvance, FaultsFollow, FaultsAnswer, FaultsStep};
 ghost use Rattle.stateful_exec.specs.Ending.{InTurn, IsTold, EndsRun, FaultsTake, TurnsRun, Follows, SettlesBy, Steps};
-ghost use Rattle.stateful_exec.specs.Rules.{requested};
 
 use crate::error::ExecError;
 use crate::request::Verdict;
 use crate::running::{TablesOf, advance};
-use crate::tables::{Fate, Phase, Released, Requested};
+use crate::tables::{Fate, Released};
 use crate::worked::Worked;
 use stateful_db::{AppFault, Application, Batch, DatabaseSet};
 use stateful_history::{How, Mark};
-use stateful_types::{Digested, Items, Moved, OutOfMemory};
+use stateful_types::{Digested, Moved, OutOfMemory};
 
 /// The requests of an application that have waited for a run.
 pub type ReleasedOf<A> = Released<

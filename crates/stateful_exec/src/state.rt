@@ -430,6 +430,7 @@ impl<B: Block + Drop, C: Copy, I: Drop, R: Drop, U: Drop> Tables<B, C, I, R, U> 
     pub(crate) fn cross(&mut self, block: &Digested<B>) -> Result<(), OutOfMemory>
         ensures crosses { OnOk result (Crosses B.header block.now self.old.pause self.new.pause) }
         ensures rest { self.new ≡ record self.old { pause = self.new.pause } }
+        ensures numbers { Rises self.old self.new }
     {
         self.pause.cross(block)
     }

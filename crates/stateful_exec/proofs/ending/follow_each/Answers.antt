@@ -1,8 +1,6 @@
-use Rattle.std.proofs.Common.{◌≡◌, ◌∙◌, refl, arith}
-use Rattle.stateful_types.specs.Causes.{Rose}
+use Rattle.std.proofs.Common.{◌∙◌, refl, arith}
 use Rattle.stateful_exec.specs.Workings.{workings}
-use Rattle.stateful_exec.specs.Moments.{moment}
-use Rattle.stateful_exec.proofs.Following.{Reached-first, Reached-next, Reached-all, Reached-refused, Rises-then, Rose-earlier, not_memory, no_error}
+use Rattle.stateful_exec.proofs.Following.{Reached-first, Reached-next, Reached-refused, Rises-then, Rose-earlier, not_memory, no_error}
 use Rattle.stateful_exec.proofs.ending.follow_each.Goals as goal
 
 pub loop-next-init : goal.loop-next-init

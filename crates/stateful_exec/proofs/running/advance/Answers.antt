@@ -1,4 +1,4 @@
-use Rattle.std.proofs.Common.{◌≡◌, refl}
+use Rattle.std.proofs.Common.{refl}
 use Rattle.stateful_exec.specs.Workings.{workings}
 use Rattle.stateful_exec.proofs.Advancing.{at_end, at_stop, at_run, at_unrun, refused_start}
 use Rattle.stateful_exec.proofs.running.advance.Goals as goal

@@ -1,4 +1,4 @@
-use Rattle.std.proofs.Common.{◌≡◌, refl}
+use Rattle.std.proofs.Common.{refl}
 use Rattle.stateful_exec.proofs.Walking.{refused}
 use Rattle.stateful_exec.proofs.state.Tables.meet.Goals as goal
 

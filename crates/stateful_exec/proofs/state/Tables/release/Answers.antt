@@ -1,5 +1,4 @@
-use Rattle.std.proofs.Common.{◌≡◌, ◌∙◌, ap, refl}
-use Rattle.stateful_exec.specs.Phase.{not_on}
+use Rattle.std.proofs.Common.{◌∙◌, ap, refl}
 use Rattle.stateful_exec.specs.declared.state.Tables.{Tables}
 use Rattle.stateful_exec.proofs.Releasing.{Drains-first, Drains-there, Drains-on, Drains-next, Drains-all, Drains-left, still}
 use Rattle.stateful_exec.proofs.state.Tables.release.Goals as goal

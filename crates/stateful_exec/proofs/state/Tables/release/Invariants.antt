@@ -1,6 +1,5 @@
 use Rattle.std.proofs.Common.{◌≡◌}
 use Rattle.stateful_exec.proofs.Releasing.{Drains}
-use Rattle.stateful_exec.specs.declared.state.Tables.{Tables}
 use Rattle.stateful_exec.proofs.state.Tables.release.Given as goal
 
 abbrev pub invariant-loop-ticket : goal.invariant-loop-ticket

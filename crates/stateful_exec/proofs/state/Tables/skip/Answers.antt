@@ -1,4 +1,3 @@
-use Rattle.std.proofs.Common.{◌≡◌}
 use Rattle.stateful_exec.specs.Rules.{Meets}
 use Rattle.stateful_exec.specs.declared.met.Met.TheVariants.{Known}
 use Rattle.stateful_exec.proofs.Skipping.{HasPassed-none, HasPassed-more, Skips-at, shorter, on_known}
