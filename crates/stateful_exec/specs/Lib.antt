@@ -1,1 +1,14 @@
 pub mod Boundary
+pub mod Errors
+pub mod Request
+pub mod Path
+pub mod Phase
+pub mod Walk
+pub mod Workings
+pub mod State
+pub mod Moments
+pub mod Starting
+pub mod Rules
+pub mod Causes
+pub mod Ending
+pub mod Fetching

@@ -1,6 +1,6 @@
 //! How runs cross a finalization: which end before it, which go on, and which are given up.
 
-ghost use Rattle.std.specs.Prelude.{◌≡◌, ◌≢◌, ◌↔◌, true, OnOk, OnErr};
+ghost use Rattle.std.specs.Prelude.{◌≡◌, ◌≢◌, ◌↔◌, true, IsTrue, OnOk, OnErr};
 ghost use Rattle.stateful_types.specs.Round.{IsLater};
 ghost use Rattle.stateful_exec.specs.Boundary.{step_by, Completes, IsRetained};
 
@@ -17,6 +17,13 @@ pub struct ExecutionStep {
 }
 
 impl ExecutionStep {
+    /// Whether both are of one digest, parent and round.
+    pub(crate) fn is(self, other: ExecutionStep) -> bool
+        ensures { IsTrue result ↔ (self ≡ other) }
+    {
+        self == other
+    }
+
     /// The step of a block.
     pub fn of<B: Block>(block: &Digested<B>) -> ExecutionStep
         ensures { result ≡ step_by B.header block.now }

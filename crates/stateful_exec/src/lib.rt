@@ -2,5 +2,31 @@
 #![tactic(auto)]
 
 mod boundary;
+mod ending;
+mod error;
+mod handler;
+mod met;
+mod path;
+mod pause;
+mod processor;
+mod request;
+mod running;
+mod serving;
+mod state;
+mod tables;
+mod tickets;
+mod walk;
+mod worked;
 
 pub use boundary::{Disposition, ExecutionStep, FinalizationBoundary};
+pub use ending::Turned;
+pub use error::{ExecError, ProposalFault};
+pub use handler::Handler;
+pub use path::ReplayPath;
+pub use pause::Pause;
+pub use processor::Processor;
+pub use request::{Proposal, Request, Verdict};
+pub use state::Tables;
+pub use tables::{LiveRun, Phase, Released, Requested};
+pub use walk::Acquired;
+pub use worked::Worked;

@@ -1,4 +1,4 @@
-use Rattle.std.proofs.Common.{◌≡◌, refl}
+use Rattle.std.proofs.Common.{refl}
 use Rattle.stateful_cache.proofs.Digests.{finds_more}
 use Rattle.stateful_exec.proofs.boundary.FinalizationBoundary.completed.Goals as goal
 

@@ -1,5 +1,4 @@
-use Rattle.std.proofs.Common.{◌≡◌, ◌≢◌, refl, sym, ◌∙◌, true, false, IsTrue}
-use Rattle.stateful_exec.specs.Boundary.{IsRetained}
+use Rattle.std.proofs.Common.{refl, sym, ◌∙◌, IsTrue}
 use Rattle.stateful_cache.proofs.Digests.{finds}
 use Rattle.stateful_exec.proofs.boundary.FinalizationBoundary.disposition.Goals.{else-later-via-then-later+else-contains, else-later-via-else-later}
 use Rattle.stateful_exec.proofs.boundary.FinalizationBoundary.disposition.Goals as goal

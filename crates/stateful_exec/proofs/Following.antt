@@ -1,0 +1,97 @@
+-- Requests that follow the end of a run, one after another.
+use Rattle.std.proofs.Common.{◌≡◌, ◌≤◌, ◌++◌, ◌∷◌, [], ℕ, List, Result, Ok, Err, IsErrAnd, IsErrOf, IfErr, length, sym, ap, ◌∙◌, subst, arith}
+use Rattle.std.proofs.lemmas.List.{append_assoc, append-nil, nil_from_length}
+use Rattle.std.proofs.lemmas.Result.{err_from_is_err_and}
+use Rattle.stateful_types.specs.Causes.{Rose}
+use Rattle.stateful_types.specs.Names.{Named}
+use Rattle.stateful_history.specs.declared.mark.How.{How}
+use Rattle.stateful_exec.specs.Workings.{Workings}
+use Rattle.stateful_exec.specs.Path.{Path}
+use Rattle.stateful_exec.specs.Moments.{Moment}
+use Rattle.stateful_exec.specs.Starting.{Rises}
+use Rattle.stateful_exec.specs.Ending.{InTurn, Follows}
+use Rattle.stateful_exec.specs.Ending.InTurn.{none, next}
+use Rattle.stateful_exec.specs.Causes.{FaultsStart, FaultsAdvance, FaultsFollow}
+use Rattle.stateful_exec.specs.Causes.FaultsAdvance.{memory, starting}
+use Rattle.stateful_exec.specs.declared.error.ExecError.{ExecError}
+use Rattle.stateful_exec.specs.declared.error.ExecError.TheVariants.{Lost, SkippedHeight, NotExtending, ConflictAtAnchor, FinalizedRejected, FinalizedMismatch, ProposalMismatch, ProposalStale, PendingChanged, Application, Exhausted, OutOfMemory}
+use Rattle.stateful_exec.specs.declared.state.Tables.{Tables}
+use Rattle.stateful_exec.specs.declared.tables.Released.{Released}
+
+pub Rose-earlier : (a b c : ℕ) → a ≤ b → Rose b c → Rose a c
+Rose-earlier a b c before rose = omega arith
+
+err-injective : {S : Type 0} {x y : ExecError} → IsErrOf {T = S} (Err x) y → x ≡ y
+err-injective is = search
+
+-- an error that isn't that of memory
+pub not_memory : {S T : Type 0} (r : Result T ExecError) (e : ExecError) → IsErrAnd r (λ f. f ≡ e) → (IsErrOf r OutOfMemory → ⊥) → IsErrOf {T = S} (Err e) OutOfMemory → ⊥
+not_memory {S = S} r e of other is =
+    let p = err_from_is_err_and r of in
+    let same : e ≡ OutOfMemory = err-injective {S = S} is in
+    other (p.1 ∙ ap Err (p.2 ∙ same))
+
+pub no_error : {T : Type 0} (x : T) (e : ExecError) → IsErrOf (Ok x) e → ⊥
+no_error x e is = cc
+
+module _ {B C I R U : Type 0} (old mid new : Tables B C I R U) where
+  pub Rises-then : Rises old mid → Rises mid new → Rises old new
+  Rises-then first then = (omega (arith, first.0, then.0), omega (arith, first.1, then.1))
+
+module _ {X M : Type 0} (R : X → M → M → Type 0) where
+  pub InTurn-more : {xs : List X} {m n last : M} (x : X) → InTurn R xs m n → R x n last → InTurn R (xs ++ x ∷ []) m last
+  InTurn-more x none r = next r none
+  InTurn-more x (next s rest) r = next s (InTurn-more x rest r)
+
+module _ {B C I P R D H G U : Type 0} (w : Workings B C I P R D H G U) (rose later : Type 0) (weaker : rose → later) where
+  FaultsStart-later : (job : ℕ) (m : w.kind.Members) (n : w.Ids) (e : ExecError) → FaultsStart w rose job m n e → FaultsStart w later job m n e
+  FaultsStart-later job m n Lost f = f
+  FaultsStart-later job m n (SkippedHeight expected given) f = f
+  FaultsStart-later job m n (NotExtending expected given) f = f
+  FaultsStart-later job m n (ConflictAtAnchor expected given) f = f
+  FaultsStart-later job m n (FinalizedRejected digest) f = f
+  FaultsStart-later job m n (FinalizedMismatch index expected given) f = f
+  FaultsStart-later job m n (ProposalMismatch fault) f = f
+  FaultsStart-later job m n (ProposalStale anchor round) f = f
+  FaultsStart-later job m n (PendingChanged before after) f = f
+  FaultsStart-later job m n Application f = (weaker f.0, f.1, f.2)
+  FaultsStart-later job m n Exhausted f = f
+  FaultsStart-later job m n OutOfMemory f = f
+
+  FaultsAdvance-later : (m : Moment w) (path : Path B) (e : ExecError) → FaultsAdvance w rose m path e → FaultsAdvance w later m path e
+  FaultsAdvance-later m path e (memory is) = memory is
+  FaultsAdvance-later m path e (starting reaches goes unknown unrun known f) = starting reaches goes unknown unrun known (FaultsStart-later m.state.next_job m.members m.next e f)
+
+module _ {B C I P R D H G U : Type 0} (w : Workings B C I P R D H G U) (b : Named B) (how : How) (whole : List (Released B C I)) (first : Moment w) where
+  -- so many have followed, and these are left
+  pub record Reached (done left : List (Released B C I)) (m : Moment w) : Type 0 where
+    pub all : done ++ left ≡ whole
+    pub follow : InTurn (Follows w b how) done first m
+
+  pub Reached-first : (left : List (Released B C I)) → left ≡ whole → Reached [] left first
+  Reached-first left is = record { all = is; follow = none }
+
+  module _ (done left : List (Released B C I)) (m : Moment w) (reached : Reached done left m) where
+    pub Reached-next : (x : Released B C I) (rest : List (Released B C I)) (now : Moment w) → left ≡ x ∷ rest → Follows w b how x m now → Reached (done ++ x ∷ []) rest now
+    Reached-next x rest now step follows = record {
+      all = append_assoc done (x ∷ []) rest ∙ ap (λ l. done ++ l) (sym step) ∙ reached.all;
+      follow = InTurn-more (Follows w b how) x reached.follow follows;
+    }
+
+    pub Reached-all : (n : ℕ) → n ≡ length left → n ≡ 0 → InTurn (Follows w b how) whole first m
+    Reached-all n size ends =
+        subst (λ (l : List (Released B C I)). InTurn (Follows w b how) l first m) (sym (append-nil done) ∙ ap (λ l. done ++ l) (sym (nil_from_length left (sym size ∙ ends))) ∙ reached.all) reached.follow
+
+    pub Reached-refused : (rose later : Type 0) → (rose → later) → {T : Type 0} (result : Result T ExecError) (e : ExecError) → IsErrAnd result (λ f. f ≡ e)
+        → (x : Released B C I) (rest : List (Released B C I)) → left ≡ x ∷ rest → FaultsAdvance w rose m x.path e → IfErr result (FaultsFollow w later b how whole first)
+    Reached-refused rose later weaker result e of x rest step faults =
+        let p = err_from_is_err_and result of in
+        rw (p.1, p.2) (record {
+          served = done;
+          next = x;
+          rest = rest;
+          mid = m;
+          parts = sym reached.all ∙ ap (λ l. done ++ l) step;
+          follow = reached.follow;
+          fault = FaultsAdvance-later w rose later weaker m x.path e faults;
+        })

@@ -1,0 +1,17 @@
+pub mod Tests
+pub mod Walking
+pub mod Starting
+pub mod Skipping
+pub mod Entries
+pub mod Advancing
+pub mod Acquiring
+pub mod Cancelling
+pub mod Answering
+pub mod Keeping
+pub mod Telling
+pub mod Fates
+pub mod Ended
+pub mod Releasing
+pub mod Turning
+pub mod Following
+pub mod Settling

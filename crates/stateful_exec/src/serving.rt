@@ -1,0 +1,150 @@
+//! Answers of fetches, cancels, and proposals whose parents are known.
+
+ghost use Rattle.std.specs.Prelude.{◌≡◌, ◌≢◌, ◌⊎◌, ◌++◌, ◌∷◌, [], ℕ, List, Some, None, IsSome, OnOk, OnErr, IfOk, IfErr, IfSome, IfNone, All, MatchOption};
+ghost use Rattle.stateful_history.specs.declared.mark.Mark.TheVariants as mark;
+ghost use Rattle.stateful_history.specs.declared.mark.How.TheVariants as how;
+ghost use Rattle.stateful_table.specs.Table.{at, put, without};
+ghost use Rattle.stateful_exec.specs.Phase.{tickets_on};
+ghost use Rattle.stateful_exec.specs.Starting.{Rises};
+ghost use Rattle.stateful_exec.specs.Rules.{taken, moved, ended, told};
+ghost use Rattle.stateful_exec.specs.Fetching.{IsVerification, Fetches, IsLiveFetch, with_block, Cancels};
+ghost use Rattle.stateful_exec.specs.declared.request.Verdict.TheVariants as verdict;
+ghost use Rattle.stateful_exec.specs.declared.tables.Phase.TheVariants as phase;
+
+use crate::request::{Request, Verdict};
+use crate::state::Tables;
+use crate::tables::{Phase, Requested};
+use stateful_history::{How, Mark};
+use stateful_types::{Block, Digested, OutOfMemory};
+
+impl<B, C, I> Requested<B, C, I> {
+    /// With one block more that was fetched for it.
+    pub(crate) fn with_block(self, block: Digested<B>) -> Result<Requested<B, C, I>, OutOfMemory>
+    where
+        B: Drop,
+        C: Copy,
+        I: Drop,
+        ensures { IfOk result (λ r. r ≡ with_block self block) }
+    {
+        let Requested {
+            request,
+            mut acquired,
+            phase,
+        } = self;
+        acquired.push(block)?;
+        Ok(Requested {
+            request,
+            acquired,
+            phase,
+        })
+    }
+}
+
+impl<B: Block + Drop, C: Copy, I: Drop, R: Drop, U: Drop> Tables<B, C, I, R, U> {
+    /// The ticket of the request for which a block is fetched under this number.
+    fn request_of(&self, fetch: u64) -> Option<u64>
+        ensures found { IfSome result (λ ticket. MatchOption (at self.now.requests ticket) ⊥ (λ r.
+            r.phase ≡ phase.Fetching fetch)) }
+        ensures none { IfNone result (All (λ e. e.1.phase ≡ phase.Fetching fetch → ⊥)
+            self.now.requests) }
+    {
+        for (ticket, requested) in self.requests.entries().iter() {
+            if requested.phase.fetches(fetch) {
+                return Some(*ticket);
+            }
+        }
+        None
+    }
+
+    /// Takes the request out of its table for which a block is fetched under this number.
+    pub(crate) fn take_fetching(&mut self, fetch: u64) -> Option<(u64, Requested<B, C, I>)>
+        ensures fetches { IfSome result (λ found. Fetches self.old fetch found.0 found.1) }
+        ensures rest { IfSome result (λ found. self.new ≡ taken self.old found.0) }
+        ensures none { IfNone result (IsLiveFetch self.old fetch → ⊥) }
+        ensures same { IfNone result (self.new ≡ self.old) }
+    {
+        let ticket = self.request_of(fetch)?;
+        let requested = self.take(ticket);
+        Some((ticket, requested))
+    }
+
+    /// A fetch brought no block: a verification waits, and a proposal ends.
+    pub(crate) fn abstain(
+        &mut self,
+        ticket: u64,
+        requested: Requested<B, C, I>,
+        marks: &mut Vec<Mark<B>>,
+    ) -> Result<(), OutOfMemory>
+        ensures waits { OnOk result (IsVerification requested.request
+            → (self.new ≡ moved self.old ticket requested phase.Waiting)
+            × (marks.new.items ≡ marks.old.items)) }
+        ensures declines { OnOk result ((IsVerification requested.request → ⊥)
+            → (self.new ≡ ended self.old ticket requested.request verdict.Invalid)
+            × (marks.new.items ≡ marks.old.items ++ told ticket requested.request
+            verdict.Invalid)) }
+        ensures numbers { Rises self.old self.new }
+    {
+        match &requested.request {
+            Request::Verify { .. } => self.set_phase(ticket, requested, Phase::Waiting),
+            Request::Recover { .. } => {
+                self.conclude(ticket, requested.request, Verdict::Invalid, marks)
+            }
+        }
+    }
+
+    /// The ticket of the next build that is queued and wasn't handed out, in the order in which their parents became known.
+    pub(crate) fn ready(&mut self) -> Option<u64>
+        ensures first { IfSome result (λ ticket. self.old.recovered ≡ ticket ∷ self.new.recovered) }
+        ensures none { IfNone result (self.old.recovered ≡ []) }
+        ensures rest { self.new ≡ record self.old { recovered = self.new.recovered } }
+    {
+        self.recovered.pop()
+    }
+
+    /// Gives a request up. The run that it was the last to wait for ends.
+    pub(crate) fn cancel(
+        &mut self,
+        ticket: u64,
+        marks: &mut Vec<Mark<B>>,
+    ) -> Result<(), OutOfMemory>
+        requires { IsSome (at self.old.requests ticket) ⊎ IsSome (at self.old.queued ticket) }
+        ensures ok { OnOk result ((more : List (Mark B))
+            × Cancels self.old self.new ticket more
+            × (marks.new.items ≡ marks.old.items ++ more)) }
+        ensures numbers { Rises self.old self.new }
+    {
+        let Some(requested) = self.requests.remove(ticket) else {
+            let _ = self.queued.remove(ticket);
+            self.recovered.remove(ticket);
+            return Ok(());
+        };
+        match requested.phase {
+            Phase::Fetching(fetch) => {
+                marks.push(Mark::Withdrawn { fetch })?;
+                Ok(())
+            }
+            Phase::Executing { job, .. } => self.leave(job, marks),
+            Phase::Open | Phase::Waiting | Phase::Parked(_) => Ok(()),
+        }
+    }
+
+    /// A run ends for which no request waits any more.
+    fn leave(&mut self, job: u64, marks: &mut Vec<Mark<B>>) -> Result<(), OutOfMemory>
+        ensures ok { OnOk result (
+            (tickets_on job self.old.requests ≢ []
+            → (self.new ≡ self.old) × (marks.new.items ≡ marks.old.items))
+            × (tickets_on job self.old.requests ≡ []
+            → (self.new ≡ record self.old { runs = without self.old.runs job })
+            × (marks.new.items ≡ marks.old.items ++ mark.Ended job how.Cancelled ∷ []))) }
+        ensures numbers { Rises self.old self.new }
+    {
+        if self.tickets_on(job)?.is_empty() {
+            let _ = self.runs.remove(job);
+            marks.push(Mark::Ended {
+                job,
+                how: How::Cancelled,
+            })?;
+        }
+        Ok(())
+    }
+}

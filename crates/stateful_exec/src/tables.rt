@@ -1,0 +1,94 @@
+//! What execution keeps of live runs and requests.
+
+ghost use Rattle.std.specs.Prelude.{◌≡◌, ◌↔◌, IsTrue};
+ghost use Rattle.stateful_exec.specs.Phase.{is_on};
+ghost use Rattle.stateful_exec.specs.Rules.{requested};
+
+use crate::path::ReplayPath;
+use crate::request::Request;
+use stateful_types::{Digested, Items};
+use std::alloc::Global;
+
+/// A candidate run that goes on.
+#[derive(Drop)]
+pub struct LiveRun<B, R> {
+    pub block: Digested<B>,
+    pub run: R,
+    /// A pause waits for its end.
+    pub awaited: bool,
+}
+
+/// How far a request has come.
+#[derive(Drop)]
+pub enum Phase<B> {
+    /// What it needs is still to be found.
+    Open,
+    /// A block is fetched for it, under this number.
+    Fetching(u64),
+    /// It waits until acquisitions start anew.
+    Waiting,
+    /// It waits for a run. These blocks are left behind that of the run.
+    Executing { job: u64, path: ReplayPath<B> },
+    /// These blocks are to be run.
+    Parked(ReplayPath<B>),
+}
+
+impl<B> Phase<B> {
+    /// Whether a block is fetched under this number.
+    pub(crate) fn fetches(&self, fetch: u64) -> bool
+        ensures { IsTrue result ↔ (self.now ≡ Phase.Fetching fetch) }
+    {
+        match self {
+            Phase::Fetching(of) => *of == fetch,
+            _ => false,
+        }
+    }
+
+    /// Whether it waits for the run of this job.
+    pub(crate) fn is_on(&self, job: u64) -> bool
+        ensures { result ≡ is_on job self.now }
+    {
+        match self {
+            Phase::Executing { job: of, .. } => *of == job,
+            _ => false,
+        }
+    }
+}
+
+/// A request that goes on.
+#[derive(Drop)]
+pub struct Requested<B, C, I> {
+    pub request: Request<B, C, I>,
+    /// What was fetched for it, one after another.
+    pub acquired: Items<Digested<B>>,
+    pub phase: Phase<B>,
+}
+
+impl<B, C, I> Requested<B, C, I> {
+    /// A request for which nothing was acquired.
+    pub(crate) fn new(alloc: Global, request: Request<B, C, I>) -> Requested<B, C, I>
+        ensures { result ≡ requested request }
+    {
+        Requested {
+            request,
+            acquired: Items::new(alloc),
+            phase: Phase::Open,
+        }
+    }
+}
+
+/// A request that has waited for a run, with the blocks that are left behind that of the run.
+#[derive(Drop)]
+pub struct Released<B, C, I> {
+    pub ticket: u64,
+    pub request: Request<B, C, I>,
+    pub path: ReplayPath<B>,
+}
+
+/// What becomes of a request that has waited for a run.
+#[derive(Clone, Copy, Debug, PartialEq, Eq)]
+pub(crate) enum Fate {
+    Invalid,
+    Parked,
+    GoesOn,
+}
