@@ -4,7 +4,7 @@ use Rattle.std.specs.Map.Iter.{deref}
 use Rattle.std.proofs.lemmas.List.{map-append, take_more}
 use Rattle.std.proofs.lemmas.List.Elements.{filter-append}
 use Rattle.stateful_types.specs.declared.response.Response.{Response}
-use Rattle.stateful_p2p.specs.Table.{put, put_each}
+use Rattle.stateful_table.specs.Table.{put, put_each}
 use Rattle.stateful_p2p.specs.Inbox.{Inbox, offered, offered_each}
 use Rattle.stateful_p2p.specs.Fanout.{is_free}
 use Rattle.stateful_p2p.specs.declared.state.State.{State}

@@ -8,7 +8,7 @@ use Rattle.std.specs.Map.{values_of}
 use Rattle.std.proofs.lemmas.List.Sums.{sum_by-cons}
 use Rattle.stateful_types.specs.Mailbox.{Queues, messages, HandsOut}
 use Rattle.stateful_types.specs.declared.mailbox.Feedback.{Feedback}
-use Rattle.stateful_p2p.specs.Table.{at, put}
+use Rattle.stateful_table.specs.Table.{at, put}
 use Rattle.stateful_p2p.specs.Sending.{Sends}
 use Rattle.stateful_p2p.specs.Messages.{kept}
 use Rattle.stateful_p2p.specs.Tickets.{stands_live, is_live, live_weight, live_count}

@@ -3,7 +3,7 @@ use Rattle.std.proofs.Common.{◌≡◌, ◌≢◌, ℕ, ◌+◌, ◌≤◌, ◌
 use Rattle.std.specs.Option.{is_some}
 use Rattle.std.proofs.lemmas.Bool.{eq-eqb, leb-true, leb-false}
 use Rattle.stateful_types.specs.Mailbox.{messages}
-use Rattle.stateful_p2p.specs.Table.{at}
+use Rattle.stateful_table.specs.Table.{at}
 use Rattle.stateful_p2p.specs.Tickets.{is_live}
 use Rattle.stateful_p2p.specs.Inbox.{Inbox}
 use Rattle.stateful_p2p.specs.Resolving.{Setup, is_empty, may_come}

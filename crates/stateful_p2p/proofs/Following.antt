@@ -9,7 +9,7 @@ use Rattle.stateful_types.specs.Mailbox.{messages}
 use Rattle.stateful_types.specs.declared.request.Request.{Request}
 use Rattle.stateful_types.specs.declared.mailbox.Feedback.{Feedback as Reply}
 use Rattle.stateful_types.specs.declared.response.Response.{Response}
-use Rattle.stateful_p2p.specs.Table.{at, put, without, put_each}
+use Rattle.stateful_table.specs.Table.{at, put, without, put_each}
 use Rattle.stateful_p2p.specs.Tickets.{is_live, is_dropped, ended}
 use Rattle.stateful_p2p.specs.Messages.{is_not_of}
 use Rattle.stateful_p2p.specs.Subscribing.{subscribed}
@@ -27,7 +27,7 @@ use Rattle.stateful_p2p.specs.declared.actor.Task.TheVariants as tasks
 use Rattle.stateful_p2p.specs.declared.event.ActorEvent.{ActorEvent}
 use Rattle.stateful_p2p.specs.declared.event.ActorOut.{ActorOut}
 use Rattle.stateful_p2p.specs.declared.event.ActorOut.TheVariants.{Fetch, Candidate, Feedback, Unjudged}
-use Rattle.stateful_p2p.proofs.Tables.{at-put, at-without}
+use Rattle.stateful_table.proofs.Tables.{at-put, at-without}
 use Rattle.stateful_p2p.proofs.Histories.{once_before, once_split, since_before, since_split, since_none, once_none}
 use Rattle.stateful_p2p.proofs.Moving.{in_cons, in_none, Contains-filter}
 use Rattle.stateful_p2p.proofs.Putting.{count_there, once_counted, all_one, all_judged, all_left, all_delivered, all_produced}

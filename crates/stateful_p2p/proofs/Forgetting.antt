@@ -13,7 +13,7 @@ use Rattle.std.proofs.lemmas.List.Elements.{All-nil, All-append, All-weaker, All
 use Rattle.stateful_types.specs.Format.{Format}
 use Rattle.stateful_types.specs.Mailbox.{messages}
 use Rattle.stateful_types.specs.declared.request.Request.{Request}
-use Rattle.stateful_p2p.specs.Table.{at, without}
+use Rattle.stateful_table.specs.Table.{at, without}
 use Rattle.stateful_p2p.specs.Tickets.{is_live}
 use Rattle.stateful_p2p.specs.Inbox.{Inbox}
 use Rattle.stateful_p2p.specs.Fanout.{Forgets, stranger, forgets, Retires, nobody, unfetched, fetched, Delivers, unheard, malformed, untaken, taken}
@@ -28,7 +28,7 @@ use Rattle.stateful_p2p.specs.declared.event.ActorEvent.{ActorEvent}
 use Rattle.stateful_p2p.specs.declared.event.ActorEvent.TheVariants as events
 use Rattle.stateful_p2p.specs.declared.event.ActorOut.{ActorOut}
 use Rattle.stateful_p2p.specs.declared.event.ActorOut.TheVariants.{Fetch, Forget}
-use Rattle.stateful_p2p.proofs.Tables.{at-put, at-without}
+use Rattle.stateful_table.proofs.Tables.{at-put, at-without}
 use Rattle.stateful_p2p.proofs.Histories.{count_push}
 use Rattle.stateful_p2p.proofs.Moving.{in_cons, in_none, count_append, count_cons}
 use Rattle.stateful_p2p.proofs.Putting.{count_zero, count_there, all_released, all_forgot, all_retired, all_delivered, all_produced}

@@ -9,9 +9,9 @@ use Rattle.std.specs.BTreeMap.{BTreeMap, get, is_at}
 use Rattle.std.specs.BTreeSet.{BTreeSet, contains}
 use Rattle.std.proofs.lemmas.Bool.{eqb-true}
 use Rattle.std.proofs.lemmas.Bool.Decides.{nat_tests}
-use Rattle.stateful_p2p.specs.Table.{at, put, without}
+use Rattle.stateful_table.specs.Table.{at, put, without}
 use Rattle.stateful_p2p.specs.Subscribing.{is_key, has_ticket, is_listed}
-use Rattle.stateful_p2p.proofs.Tables.{at-put, at-without, is_at_number}
+use Rattle.stateful_table.proofs.Tables.{at-put, at-without, is_at_number}
 
 pub equal : (o : Ordering) → is_eq o ≡ true → o ≡ Equal
 equal Less e = let no : ⊥ = cc in absurd no

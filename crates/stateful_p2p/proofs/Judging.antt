@@ -3,7 +3,7 @@ use Rattle.std.proofs.Common.{◌≡◌, ℕ, ◌<◌, Bool, true, false, cond, 
 use Rattle.std.specs.Option.{is_some}
 use Rattle.std.proofs.lemmas.Bool.{eqb-true, eq-eqb}
 use Rattle.std.proofs.lemmas.List.Elements.{All-contains, Contains-append_cases}
-use Rattle.stateful_p2p.specs.Table.{at}
+use Rattle.stateful_table.specs.Table.{at}
 use Rattle.stateful_p2p.specs.Inbox.{Inbox}
 use Rattle.stateful_p2p.specs.Fanout.{outcome}
 use Rattle.stateful_p2p.specs.Resolving.{Setup, may_come, Steps}
@@ -15,7 +15,7 @@ use Rattle.stateful_p2p.specs.declared.actor.Task.TheVariants as tasks
 use Rattle.stateful_p2p.specs.declared.event.ActorEvent.{ActorEvent}
 use Rattle.stateful_p2p.specs.declared.event.ActorOut.{ActorOut}
 use Rattle.stateful_p2p.specs.declared.event.ActorOut.TheVariants.{Feedback, Unjudged}
-use Rattle.stateful_p2p.proofs.Tables.{is_at_number}
+use Rattle.stateful_table.proofs.Tables.{is_at_number}
 use Rattle.stateful_p2p.proofs.Histories.{once_split, count_push}
 use Rattle.stateful_p2p.proofs.Putting.{count_there}
 use Rattle.stateful_p2p.proofs.Performing.{retired_number}

@@ -1,7 +1,7 @@
 -- That a new resolver keeps the laws, whatever is done to it and to its mailbox.
 use Rattle.std.proofs.Common.{◌≡◌, ◌↔◌, ◌⊎◌, ℕ, cond, Option, Some, List, [], ◌∷◌, ◌++◌, Contains, refl, sym, ap, ◌∙◌, subst, arith}
 use Rattle.std.specs.Option.{is_some}
-use Rattle.stateful_p2p.specs.Table.{at}
+use Rattle.stateful_table.specs.Table.{at}
 use Rattle.stateful_p2p.specs.Fanout.{waiting_on, awaited_of}
 use Rattle.stateful_p2p.specs.Inbox.{Inbox, empty_inbox}
 use Rattle.stateful_p2p.specs.Resolving.{Setup, IsNew}

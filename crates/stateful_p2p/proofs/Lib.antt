@@ -1,4 +1,3 @@
-pub mod Tables
 pub mod Waiting
 pub mod Standing
 pub mod Sending

@@ -6,7 +6,7 @@ use Rattle.std.proofs.lemmas.List.Elements.{All-cons, All-weaker, All-contains, 
 use Rattle.stateful_types.specs.Mailbox.{Queues, messages}
 use Rattle.stateful_types.specs.declared.request.Request.{Request}
 use Rattle.stateful_types.specs.declared.mailbox.Feedback.{Feedback}
-use Rattle.stateful_p2p.specs.Table.{at, put, without}
+use Rattle.stateful_table.specs.Table.{at, put, without}
 use Rattle.stateful_p2p.specs.Tickets.{stands_live, is_live, ended, ended_from, answered}
 use Rattle.stateful_p2p.specs.Sending.{Sends, ready, waits}
 use Rattle.stateful_p2p.specs.Messages.{is_request, is_not_of, kept}
@@ -15,7 +15,7 @@ use Rattle.stateful_p2p.specs.declared.message.Message.{Message}
 use Rattle.stateful_p2p.specs.declared.message.Message.TheVariants.{AttachDatabase, GetOperations}
 use Rattle.stateful_p2p.specs.declared.tickets.Standing.{Standing}
 use Rattle.stateful_p2p.specs.declared.tickets.Standing.TheVariants.{Open, Answered, Dropped}
-use Rattle.stateful_p2p.proofs.Tables.{at-put, at-without}
+use Rattle.stateful_table.proofs.Tables.{at-put, at-without}
 
 -- ---- tickets
 

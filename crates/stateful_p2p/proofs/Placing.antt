@@ -8,7 +8,7 @@ use Rattle.stateful_types.specs.Mailbox.{Queues, messages, HandsOut}
 use Rattle.stateful_types.specs.declared.request.Request.{Request}
 use Rattle.stateful_types.specs.declared.mailbox.Feedback.{Feedback as Reply}
 use Rattle.stateful_types.specs.declared.response.Response.{Response}
-use Rattle.stateful_p2p.specs.Table.{at, put, without}
+use Rattle.stateful_table.specs.Table.{at, put, without}
 use Rattle.stateful_p2p.specs.Tickets.{is_live, is_dropped, ended}
 use Rattle.stateful_p2p.specs.Messages.{is_not_of}
 use Rattle.stateful_p2p.specs.Inbox.{Inbox, Asks, Attaches, let_go, cancelled, offered, offered_each, taken_out, empty_inbox}

@@ -6,7 +6,7 @@ use Rattle.stateful_types.specs.Format.{Format}
 use Rattle.stateful_types.specs.declared.request.Request.{Request}
 use Rattle.stateful_types.specs.declared.response.Response.{Response}
 use Rattle.stateful_types.specs.declared.mailbox.Feedback.{Feedback as Reply}
-use Rattle.stateful_p2p.specs.Table.{at, put, without}
+use Rattle.stateful_table.specs.Table.{at, put, without}
 use Rattle.stateful_p2p.specs.Tickets.{stands_live, stands_dropped, is_live, is_dropped, ended, ended_from, answered}
 use Rattle.stateful_p2p.specs.Messages.{is_not_of}
 use Rattle.stateful_p2p.specs.Reading.{IsResponse}
@@ -26,7 +26,7 @@ use Rattle.stateful_p2p.specs.declared.actor.Task.TheVariants as tasks
 use Rattle.stateful_p2p.specs.declared.event.ActorEvent.{ActorEvent}
 use Rattle.stateful_p2p.specs.declared.event.ActorOut.{ActorOut}
 use Rattle.stateful_p2p.specs.declared.event.ActorOut.TheVariants.{Fetch, Candidate, Feedback, Unjudged}
-use Rattle.stateful_p2p.proofs.Tables.{at-put, at-without}
+use Rattle.stateful_table.proofs.Tables.{at-put, at-without}
 use Rattle.stateful_p2p.proofs.Histories.{once_here, once_before, once_split, since_here, since_before, since_split}
 use Rattle.stateful_p2p.proofs.Moving.{in_none, Contains-filter}
 use Rattle.stateful_p2p.proofs.Putting.{all_one, all_judged, all_left, all_produced}

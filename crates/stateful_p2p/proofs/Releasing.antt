@@ -4,13 +4,13 @@ use Rattle.std.specs.Prelude.{option_to_list}
 use Rattle.std.specs.Option.{is_some}
 use Rattle.std.specs.Result.{OnOk}
 use Rattle.stateful_types.specs.declared.request.Request.{Request}
-use Rattle.stateful_p2p.specs.Table.{at, put, without}
+use Rattle.stateful_table.specs.Table.{at, put, without}
 use Rattle.stateful_p2p.specs.Fanout.{outcome, heard, settled_by, kept, Releases, has_none, releases, Forgets, stranger, forgets, Retires, nobody, unfetched, fetched}
 use Rattle.stateful_p2p.specs.declared.state.State.{State}
 use Rattle.stateful_p2p.specs.declared.state.Verdicts.{Verdicts}
 use Rattle.stateful_p2p.specs.declared.event.ActorOut.{ActorOut}
 use Rattle.stateful_p2p.specs.declared.event.ActorOut.TheVariants.{Forget}
-use Rattle.stateful_p2p.proofs.Tables.{without_none}
+use Rattle.stateful_table.proofs.Tables.{without_none}
 
 module _ {D : Type 0} where
   -- a ticket that has nothing to judge

@@ -4,11 +4,11 @@ use Rattle.std.specs.Map.{values_of}
 use Rattle.std.proofs.lemmas.List.Sums.{sum_by-cons}
 use Rattle.std.proofs.lemmas.Bool.{eqb-true}
 use Rattle.std.proofs.lemmas.Bool.Decides.{nat_tests}
-use Rattle.stateful_p2p.specs.Table.{at, put, without}
+use Rattle.stateful_table.specs.Table.{at, put, without}
 use Rattle.stateful_p2p.specs.Tickets.{stands_live, ended, ended_from, answered, live_weight, live_count}
 use Rattle.stateful_p2p.specs.declared.tickets.Standing.{Standing}
 use Rattle.stateful_p2p.specs.declared.tickets.Standing.TheVariants.{Open, Answered, Dropped}
-use Rattle.stateful_p2p.proofs.Tables.{at-put, at-without}
+use Rattle.stateful_table.proofs.Tables.{at-put, at-without}
 
 light : (s : Standing) → live_weight s ≤ 1
 light Open = omega arith

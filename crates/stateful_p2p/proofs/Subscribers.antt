@@ -19,7 +19,7 @@ use Rattle.std.specs.BTreeSet.{BTreeSet}
 use Rattle.std.specs.List.{list_any}
 use Rattle.std.proofs.lemmas.Map.Views.{list_any-from_Contains, Contains-from_any}
 use Rattle.std.proofs.lemmas.Cmp.{eq_by_cmp_equiv, nat_cmp_total}
-use Rattle.stateful_p2p.specs.Table.{at}
+use Rattle.stateful_table.specs.Table.{at}
 use Rattle.stateful_p2p.specs.Subscribing.{is_key, has_ticket, is_listed, AreSubscribers}
 use Rattle.stateful_p2p.proofs.Indexing.{equal}
 

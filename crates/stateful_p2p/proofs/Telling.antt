@@ -9,7 +9,7 @@ use Rattle.std.proofs.lemmas.List.Kept.{IsStrictlySortedBy-filter}
 use Rattle.std.proofs.lemmas.List.Elements.{All-nil, All-append, All-contains, filter_passes, Contains-append_right}
 use Rattle.stateful_types.specs.Format.{Format}
 use Rattle.stateful_types.specs.declared.request.Request.{Request}
-use Rattle.stateful_p2p.specs.Table.{at}
+use Rattle.stateful_table.specs.Table.{at}
 use Rattle.stateful_p2p.specs.Inbox.{Inbox}
 use Rattle.stateful_p2p.specs.Fanout.{is_free, Releases, Forgets, stranger, forgets, Retires, nobody, unfetched, fetched, Delivers}
 use Rattle.stateful_p2p.specs.Fanout as fanout

@@ -3,7 +3,7 @@ use Rattle.std.specs.Prelude.{◌≡◌, ◌≢◌, ℕ, ◌+◌, ◌-◌, ◌�
 use Rattle.stateful_types.specs.Format.{Format}
 use Rattle.stateful_types.specs.declared.request.Request.{Request}
 use Rattle.stateful_types.specs.declared.response.Response.{Response}
-use Rattle.stateful_p2p.specs.Table.{at, put, without, put_each, total}
+use Rattle.stateful_table.specs.Table.{at, put, without, put_each, total}
 use Rattle.stateful_p2p.specs.Subscribing.{AreSubscribers}
 use Rattle.stateful_p2p.specs.Reading.{IsResponse}
 use Rattle.stateful_p2p.specs.Inbox.{Inbox, offered_each}

@@ -4,7 +4,7 @@ use Rattle.stateful_types.specs.Mailbox.{Queues, queues, IsFilled}
 use Rattle.stateful_types.specs.declared.mailbox.Feedback.{Feedback}
 use Rattle.stateful_types.specs.declared.request.Request.{Request}
 use Rattle.stateful_types.specs.declared.response.Response.{Response}
-use Rattle.stateful_p2p.specs.Table.{at, put, without}
+use Rattle.stateful_table.specs.Table.{at, put, without}
 use Rattle.stateful_p2p.specs.Tickets.{is_live, is_dropped, ended, answered, live_count}
 use Rattle.stateful_p2p.specs.Sending.{Sends}
 use Rattle.stateful_p2p.specs.Messages.{kept, is_not_of}

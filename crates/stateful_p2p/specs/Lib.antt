@@ -1,4 +1,3 @@
-pub mod Table
 pub mod Sending
 pub mod Messages
 pub mod Subscribing

@@ -1,6 +1,6 @@
 -- How the tickets of a mailbox stand.
 use Rattle.std.specs.Prelude.{ℕ, Bool, true, false, if◌then◌else◌, Option, Some, None, List}
-use Rattle.stateful_p2p.specs.Table.{at, put, without, total}
+use Rattle.stateful_table.specs.Table.{at, put, without, total}
 use Rattle.stateful_p2p.specs.declared.tickets.Standing.{Standing}
 use Rattle.stateful_p2p.specs.declared.tickets.Standing.TheVariants.{Open, Answered, Dropped}
 

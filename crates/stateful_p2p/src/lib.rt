@@ -23,7 +23,6 @@ mod serving;
 mod state;
 mod subscriber;
 mod subscriptions;
-mod table;
 mod tickets;
 
 pub use actor::{Actor, Config};

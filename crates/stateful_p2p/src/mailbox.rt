@@ -8,9 +8,9 @@ ghost use Rattle.stateful_p2p.specs.Inbox.{empty_inbox, Asks, Attaches, let_go, 
 
 use crate::error::ResponseDropped;
 use crate::message::{Message, NotOf, Pending};
-use crate::table::Table;
 use crate::tickets::Tickets;
 use stateful_source::{AttachableResolver, SyncSource};
+use stateful_table::Table;
 use stateful_types::{Bounded, DrawError, Feedback, Moved, OutOfMemory, Request, Response};
 use std::alloc::Global;
 use std::marker::Model;

@@ -6,7 +6,7 @@ ghost use Rattle.stateful_p2p.specs.Resolving.{IsNew};
 
 use crate::event::ActorOut;
 use crate::subscriptions::Subscriptions;
-use crate::table::Table;
+use stateful_table::Table;
 use stateful_types::OutOfMemory;
 use std::alloc::Global;
 

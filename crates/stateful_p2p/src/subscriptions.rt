@@ -2,11 +2,11 @@
 
 ghost use Rattle.std.specs.Prelude.{◌≡◌, [], OnOk};
 ghost use Rattle.std.specs.Option.{option_copied};
-ghost use Rattle.stateful_p2p.specs.Table.{at, without};
+ghost use Rattle.stateful_table.specs.Table.{at, without};
 ghost use Rattle.stateful_p2p.specs.Subscribing.{subscribed, ListsSubscribers};
 
 use crate::index::Index;
-use crate::table::Table;
+use stateful_table::Table;
 use stateful_types::{OutOfMemory, Request, requests_are_ordered};
 use std::alloc::Global;
 use std::collections::BTreeSet;
@@ -23,7 +23,7 @@ pub(crate) struct Subscriptions {
 impl Model for Subscriptions {
     ghost use Rattle.std.specs.Prelude.{◌≡◌, List, ℕ};
     ghost use Rattle.stateful_types.specs.declared.request.Request.{Request};
-    ghost use Rattle.stateful_p2p.specs.Table.{at};
+    ghost use Rattle.stateful_table.specs.Table.{at};
     ghost use Rattle.stateful_p2p.specs.Subscribing.{is_listed, is_key};
 
     ghost Value = { List (ℕ × Request) };

@@ -2,7 +2,7 @@ use Rattle.std.proofs.Common.{◌≡◌, ap, ◌∙◌, arith}
 use Rattle.stateful_p2p.specs.Inbox.{inbox}
 use Rattle.stateful_p2p.specs.declared.message.Message.TheVariants.{GetOperations}
 use Rattle.stateful_p2p.specs.declared.tickets.Standing.TheVariants.{Open}
-use Rattle.stateful_p2p.proofs.Tables.{restored}
+use Rattle.stateful_table.proofs.Tables.{restored}
 use Rattle.stateful_p2p.proofs.Standing.{drawn_fresh}
 use Rattle.stateful_p2p.specs.Messages.{kept}
 use Rattle.stateful_p2p.proofs.Sending.{sends, sent_open}

@@ -1,5 +1,5 @@
 use Rattle.std.proofs.Common.{◌≡◌, [], take, length}
-use Rattle.stateful_p2p.specs.Table.{put, put_each}
+use Rattle.stateful_table.specs.Table.{put, put_each}
 use Rattle.stateful_p2p.proofs.state.State.await_verdicts.Given as goal
 
 -- the tickets before this place are awaited

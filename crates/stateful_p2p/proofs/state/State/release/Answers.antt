@@ -1,6 +1,6 @@
 use Rattle.std.proofs.Common.{◌≡◌, ◌-◌, Some, true, false}
 use Rattle.std.proofs.lemmas.Bool.{eq-eqb}
-use Rattle.stateful_p2p.specs.Table.{at}
+use Rattle.stateful_table.specs.Table.{at}
 use Rattle.stateful_p2p.proofs.Releasing.{released_none, released_by}
 use Rattle.stateful_p2p.proofs.Counting.{released_sound, heard_less, not_zero}
 use Rattle.stateful_p2p.proofs.state.State.release.Goals as goal

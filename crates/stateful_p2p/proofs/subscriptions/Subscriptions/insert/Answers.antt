@@ -1,7 +1,7 @@
 use Rattle.std.proofs.Common.{◌≡◌, List, ℕ, None, refl, ap, ◌∙◌}
 use Rattle.std.proofs.lemmas.Bool.{eq-eqb}
-use Rattle.stateful_p2p.specs.Table.{at, without}
-use Rattle.stateful_p2p.proofs.Tables.{at-without, restored}
+use Rattle.stateful_table.specs.Table.{at, without}
+use Rattle.stateful_table.proofs.Tables.{at-without, restored}
 use Rattle.stateful_p2p.proofs.Indexing.{come_listed}
 use Rattle.stateful_p2p.proofs.subscriptions.Subscriptions.insert.Goals as goal
 

@@ -1,6 +1,6 @@
 use Rattle.std.proofs.Common.{◌≡◌, Some, None, ◌∙◌}
-use Rattle.stateful_p2p.specs.Table.{at}
-use Rattle.stateful_p2p.proofs.Tables.{without_none}
+use Rattle.stateful_table.specs.Table.{at}
+use Rattle.stateful_table.proofs.Tables.{without_none}
 use Rattle.stateful_p2p.proofs.Indexing.{left_listed}
 use Rattle.stateful_p2p.proofs.subscriptions.Subscriptions.remove.Goals as goal
 

@@ -1,7 +1,0 @@
-use Rattle.std.proofs.lemmas.Cmp.{nat_cmp_total}
-use Rattle.std.proofs.lemmas.Map.Entries.{sum_by-insert_entry}
-use Rattle.stateful_p2p.proofs.table.Table.put.Goals as goal
-
-pub returns-clause-sums : goal.returns-clause-sums
-returns-clause-sums g c =
-    λ weigh. rw (c.in_ok-insert.ensures.entries, ← c.self.view_is) (sum_by-insert_entry weigh nat_cmp_total c.self.inside.entries.entries c.args.number c.args.value c.self.invariant)
