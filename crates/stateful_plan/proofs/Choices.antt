@@ -14,7 +14,7 @@ use Rattle.stateful_plan.specs.declared.choice.Resolved.{Resolved}
 use Rattle.stateful_plan.specs.declared.choice.Resolved.TheVariants.{Block}
 use Rattle.stateful_plan.specs.declared.error.Missing.TheVariants.{AtHeight}
 use Rattle.stateful_plan.specs.declared.error.SyncError.{SyncError}
-use Rattle.stateful_plan.specs.declared.error.SyncError.TheVariants.{Database, TargetMismatch, MissingBlock, CompletedConflict, OutOfMemory}
+use Rattle.stateful_plan.specs.declared.error.SyncError.TheVariants.{Database, TargetMismatch, MissingBlock, CompletedConflict, SkippedHeight, ConflictAtAnchor, OutOfMemory}
 
 -- ---- answers that want of memory may take the place of
 
@@ -26,6 +26,8 @@ only_right R one (Err (Database index)) right other is = one (Err (Database inde
 only_right R one (Err (TargetMismatch index expected recovered)) right other is = one (Err (TargetMismatch index expected recovered)) other right is
 only_right R one (Err (MissingBlock missing)) right other is = one (Err (MissingBlock missing)) other right is
 only_right R one (Err (CompletedConflict height recorded given)) right other is = one (Err (CompletedConflict height recorded given)) other right is
+only_right R one (Err (SkippedHeight expected given)) right other is = one (Err (SkippedHeight expected given)) other right is
+only_right R one (Err (ConflictAtAnchor expected given)) right other is = one (Err (ConflictAtAnchor expected given)) other right is
 only_right R one (Err OutOfMemory) right other is = tt
 
 -- what is right is right of the whole, unless memory ran out
@@ -35,6 +37,8 @@ right_too P R over (Err (Database index)) right = over (Err (Database index)) ri
 right_too P R over (Err (TargetMismatch index expected recovered)) right = over (Err (TargetMismatch index expected recovered)) right
 right_too P R over (Err (MissingBlock missing)) right = over (Err (MissingBlock missing)) right
 right_too P R over (Err (CompletedConflict height recorded given)) right = over (Err (CompletedConflict height recorded given)) right
+right_too P R over (Err (SkippedHeight expected given)) right = over (Err (SkippedHeight expected given)) right
+right_too P R over (Err (ConflictAtAnchor expected given)) right = over (Err (ConflictAtAnchor expected given)) right
 right_too P R over (Err OutOfMemory) right = tt
 
 -- what is right of an error is right of it where it is passed on
@@ -48,6 +52,8 @@ passed_right {A} {B} P R over error right (Err e) is = subst (λ (d : SyncError)
     weaker (TargetMismatch index expected recovered) p = over (TargetMismatch index expected recovered) p
     weaker (MissingBlock missing) p = over (MissingBlock missing) p
     weaker (CompletedConflict height recorded given) p = over (CompletedConflict height recorded given) p
+    weaker (SkippedHeight expected given) p = over (SkippedHeight expected given) p
+    weaker (ConflictAtAnchor expected given) p = over (ConflictAtAnchor expected given) p
     weaker OutOfMemory p = tt
 
 -- ---- what was looked up

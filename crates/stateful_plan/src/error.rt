@@ -8,7 +8,7 @@ ghost use Rattle.stateful_plan.specs.Errors.{of_codec, of_store, of_opening};
 use crate::store::StoreFault;
 use stateful_db::{InitError, SetInit};
 use stateful_types::{CodecError, Digest, Height, OutOfMemory, Target};
-use std::alloc::AllocFailed;
+use std::alloc::{AllocError, AllocFailed};
 use thiserror::Error;
 
 /// Why a plan didn't load, or didn't change.
@@ -88,7 +88,7 @@ pub enum Missing {
     Fetched,
 }
 
-/// Why no start of a sync was chosen, or why databases weren't opened.
+/// Why no start of a sync was chosen, why databases weren't opened, or why a sync goes no further.
 #[derive(Clone, Copy, Debug, PartialEq, Eq, Error)]
 pub enum SyncError {
     /// The database of this number failed to open, or keeps no checkpoint with the end that the block commits to.
@@ -113,6 +113,18 @@ pub enum SyncError {
         recorded: Digest,
         given: Digest,
     },
+    /// A finalized block is above the next height.
+    #[error("a finalized block is above the next height")]
+    SkippedHeight {
+        expected: Height,
+        given: Height,
+    },
+    /// Two different blocks were finalized at one height, which may be the anchor's.
+    #[error("another block was finalized at the same height")]
+    ConflictAtAnchor {
+        expected: Digest,
+        given: Digest,
+    },
     #[error("out of memory")]
     OutOfMemory,
 }
@@ -121,6 +133,22 @@ impl From<OutOfMemory> for SyncError {
     ghost from_gives = { λ _ e. e ≡ sync.OutOfMemory };
 
     fn from(_refused: OutOfMemory) -> SyncError {
+        SyncError::OutOfMemory
+    }
+}
+
+impl From<AllocError> for SyncError {
+    ghost from_gives = { λ _ e. e ≡ sync.OutOfMemory };
+
+    fn from(_refused: AllocError) -> SyncError {
+        SyncError::OutOfMemory
+    }
+}
+
+impl<T: Drop> From<AllocFailed<T>> for SyncError {
+    ghost from_gives = { λ _ e. e ≡ sync.OutOfMemory };
+
+    fn from(_refused: AllocFailed<T>) -> SyncError {
         SyncError::OutOfMemory
     }
 }

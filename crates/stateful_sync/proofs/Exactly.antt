@@ -10,8 +10,8 @@ use Rattle.stateful_types.specs.declared.anchor.Anchor.{Anchor}
 use Rattle.stateful_sync.specs.Classify.{anchored, place_of, Passes, below, again, further, Refuses, conflicts, skips, Leads, RefusesAt, IsByHeight, IsRefusal, IsClassified, height_at, handover_at, handover_by, retained_of}
 use Rattle.stateful_sync.specs.declared.handover.Handover.{Handover}
 use Rattle.stateful_sync.specs.declared.handover.Point.{Point}
-use Rattle.stateful_sync.specs.declared.error.SyncError.{SyncError}
-use Rattle.stateful_sync.specs.declared.error.SyncError.TheVariants.{SkippedHeight, ConflictAtAnchor, OutOfMemory}
+use Rattle.stateful_plan.specs.declared.error.SyncError.{SyncError}
+use Rattle.stateful_plan.specs.declared.error.SyncError.TheVariants.{Database, TargetMismatch, MissingBlock, CompletedConflict, SkippedHeight, ConflictAtAnchor, OutOfMemory}
 use Rattle.stateful_sync.proofs.Sorting.{one_by_height}
 
 module _ {B : Type 0} (header : Header B) (anchor : Anchor) where
@@ -89,6 +89,10 @@ module _ {B : Type 0} (header : Header B) (anchor : Anchor) where
       (sym one.place ∙ same ∙ other.place) one.leads one.cause other.leads other.cause
 
   unless_memory : (e : SyncError) → (e ≡ OutOfMemory) ⊎ (e ≢ OutOfMemory)
+  unless_memory (Database index) = inr (λ e. cc)
+  unless_memory (TargetMismatch index expected recovered) = inr (λ e. cc)
+  unless_memory (MissingBlock missing) = inr (λ e. cc)
+  unless_memory (CompletedConflict height recorded given) = inr (λ e. cc)
   unless_memory (SkippedHeight expected given) = inr (λ e. cc)
   unless_memory (ConflictAtAnchor expected given) = inr (λ e. cc)
   unless_memory OutOfMemory = inl refl

@@ -10,8 +10,8 @@ use Rattle.stateful_types.specs.declared.anchor.Anchor.{Anchor}
 use Rattle.stateful_sync.specs.declared.handover.Point.{Point}
 use Rattle.stateful_sync.specs.declared.handover.Handover.{Handover}
 use Rattle.stateful_sync.specs.declared.handover.Handover.TheVariants.{Covered, Reflected, Apply}
-use Rattle.stateful_sync.specs.declared.error.SyncError.{SyncError}
-use Rattle.stateful_sync.specs.declared.error.SyncError.TheVariants.{SkippedHeight, ConflictAtAnchor}
+use Rattle.stateful_plan.specs.declared.error.SyncError.{SyncError}
+use Rattle.stateful_plan.specs.declared.error.SyncError.TheVariants.{SkippedHeight, ConflictAtAnchor}
 
 -- the anchor's place
 abbrev pub anchored : Anchor → Point

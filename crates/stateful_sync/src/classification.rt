@@ -4,8 +4,8 @@ ghost use Rattle.std.specs.Prelude.{◌≡◌, ◌≢◌, ◌⊎◌, ◌<◌, �
 ghost use Rattle.std.specs.List.Sorted.{IsPermutation, IsNonDecreasingBy};
 ghost use Rattle.stateful_sync.specs.Classify.{anchored, height_at, handover_at, retained_of, Passes, Leads, Refuses, RefusesAt, IsByHeight, IsClassified, IsRefusal, IsConsistent};
 
-use crate::error::SyncError;
 use crate::handover::{Handover, Point};
+use stateful_plan::SyncError;
 use stateful_types::{Anchor, Block, Digested, Height};
 use std::alloc::Global;
 use std::cmp::Ordering;
