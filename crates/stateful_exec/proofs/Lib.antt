@@ -14,3 +14,5 @@ pub mod Ended
 pub mod Releasing
 pub mod Turning
 pub mod Following
+pub mod Proposals
+pub mod Builds
