@@ -53,17 +53,17 @@ module _ {B C I P R D H G U : Type 0} (w : Workings B C I P R D H G U) (count : 
   live = record { live = sym there; job = job }
 
   has_turn : (moved so : Moved (Handoff (ProposedBlock B U))) → moved ≡ so → IsEnd moved → IsCost moved → HasTurn w count members b.build turned (Ok so)
-  has_turn moved so is end cost = record { ends = subst IsEnd is end; costs = subst IsCost is cost; failed = λ none. absurd none }
+  has_turn moved so is end cost = record { ends = subst IsEnd is end; costs = subst IsCost is cost; failed = λ none. let k : Ok so ≡ Err Failed = none in cc }
 
   pub turned_on : (moved : Moved (Handoff (ProposedBlock B U))) → moved ≡ Pending → IsEnd moved → IsCost moved → TurnsBuild w count m build j m (Some (record b { build = turned }))
   turned_on moved is end cost = goes_on live (has_turn moved Pending is end cost) refl refl
 
   module _ (moved : Moved (Handoff (ProposedBlock B U))) (given : Handoff (ProposedBlock B U)) (is : moved ≡ Done given) (end : IsEnd moved) (cost : IsCost moved) {T : Type 0} where
-    pub turned_out : (new : Tables B C I R U) (after : List (Mark B)) (result : Result T ExecError)
+    pub turned_out : (new : Tables B C I R U) (after : List (Mark B)) (result : Result T ExecError) (left : Option (Building B C D)) → left ≡ None
         → OnOk result ((ms : w.kind.Members) (n : w.Ids) → EndsBuild w (record b { build = turned }) (moment w old ms n before) given (moment w new ms n after))
-        → OnOk result (TurnsBuild w count m build j (moment w new members next after) None)
-    turned_out new after (Ok x) ended = ends live (has_turn moved (Done given) is end cost) (ended members next) refl
-    turned_out new after (Err e) ended = tt
+        → OnOk result (TurnsBuild w count m build j (moment w new members next after) left)
+    turned_out new after (Ok x) left none ended = ends live (has_turn moved (Done given) is end cost) (ended members next) none
+    turned_out new after (Err e) left none ended = tt
 
     pub not_taken : (result : Result T ExecError) → IfErr result (FaultsGiven w (record b { build = turned }) old.anchor given old.cache) → IfErr result (FaultsTurn w count m build j)
     not_taken (Ok x) fault = tt
