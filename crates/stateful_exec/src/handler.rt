@@ -4,8 +4,6 @@ ghost use Rattle.std.specs.Prelude.{◌≡◌, ◌⊎◌, ◌++◌, ◌∷◌, [
 ghost use Rattle.stateful_types.specs.Causes.{Rose};
 ghost use Rattle.stateful_history.specs.declared.mark.Mark.{Mark as Marked};
 ghost use Rattle.stateful_table.specs.Table.{at};
-ghost use Rattle.stateful_exec.specs.Building.{Proposes, FaultsPropose};
-ghost use Rattle.stateful_exec.specs.Built.{TurnsBuild, FaultsTurn};
 ghost use Rattle.stateful_exec.specs.Moments.{moment};
 ghost use Rattle.stateful_exec.specs.Request.{ticket_by};
 ghost use Rattle.stateful_exec.specs.Starting.{Rises};
@@ -14,12 +12,10 @@ ghost use Rattle.stateful_exec.specs.Causes.{FaultsAcquire, FaultsAnswer, Faults
 ghost use Rattle.stateful_exec.specs.Ending.{Steps, SettlesBy};
 ghost use Rattle.stateful_exec.specs.Fetching.{IsFetched, FaultsFetched, Cancels};
 
-use crate::building::BuildStart;
-use crate::built::turn_build;
 use crate::ending::{Turned, complete, settle};
 use crate::error::ExecError;
 use crate::processor::Processor;
-use crate::proposing::{BuildingOf, propose};
+use crate::proposing::BuildingOf;
 use crate::request::Request;
 use crate::running::{TablesOf, acquire, fetched};
 use crate::tables::Requested;
@@ -255,63 +251,5 @@ impl<A: Application + Drop> Handler<A> {
         ensures application { self.new.application ≡ self.old.application }
     {
         self.tables.cancel(ticket, marks)
-    }
-
-    /// Starts the build of a ticket that is queued, under the next number of a job; where the block that it is to be built on
-    /// isn't known it is declined. A ticket that isn't queued is declined, and nothing changes.
-    pub fn propose(
-        &mut self,
-        ticket: u64,
-        databases: &mut A::Databases,
-        provider: A::Provider,
-    ) -> Result<BuildStart, ExecError>
-        ensures ok { IfOk result (Proposes ⟦<A as Worked>⟧.workings ticket provider
-            (A.Databases.members databases.old) (A.Databases.next databases.old)
-            (A.Databases.next databases.new) self.old.state self.new.state self.old.build
-            self.new.build) }
-        ensures fault { IfErr result (FaultsPropose ⟦<A as Worked>⟧.workings
-            (Rose (A.count self.old.application) (A.count self.new.application)) ticket
-            (A.Databases.members databases.old) (A.Databases.next databases.old)
-            self.old.state) }
-        ensures members { A.Databases.members databases.new ≡ A.Databases.members databases.old }
-        ensures numbers { Rises self.old.state self.new.state }
-        ensures counts { (n : ℕ)
-            → A.Databases.counted databases.new n ≡ A.Databases.counted databases.old n }
-        ensures notes { (IsErrOf result ExecError.OutOfMemory → ⊥)
-            → A.notes self.new.application ≡ A.notes self.old.application }
-        ensures later { A.count self.old.application ≤ A.count self.new.application }
-    {
-        propose(
-            &mut self.application,
-            &mut self.tables,
-            databases,
-            &mut self.build,
-            ticket,
-            provider,
-        )
-    }
-
-    /// The build of a job has a turn. Where it has ended, its block is cached and its proposal answered. Where no build of
-    /// this job is live nothing changes.
-    pub fn turn_build(
-        &mut self,
-        databases: &A::Databases,
-        job: u64,
-        marks: &mut Vec<Mark<A::Block>>,
-    ) -> Result<(), ExecError>
-        ensures ok { OnOk result (let w = ⟦<A as Worked>⟧.workings in
-            TurnsBuild w A.Build.count
-            (moment w self.old.state (A.Databases.members databases.now)
-            (A.Databases.next databases.now) marks.old.items) self.old.build job
-            (moment w self.new.state (A.Databases.members databases.now)
-            (A.Databases.next databases.now) marks.new.items) self.new.build) }
-        ensures fault { IfErr result (let w = ⟦<A as Worked>⟧.workings in
-            FaultsTurn w A.Build.count
-            (moment w self.old.state (A.Databases.members databases.now)
-            (A.Databases.next databases.now) marks.old.items) self.old.build job) }
-        ensures numbers { Rises self.old.state self.new.state }
-        ensures application { self.new.application ≡ self.old.application }
-    {
-        turn_build::<A>(&mut self.tables, databases, &mut self.build, job, marks)
     }
 }
