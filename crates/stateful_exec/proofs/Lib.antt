@@ -15,5 +15,3 @@ pub mod Releasing
 pub mod Turning
 pub mod Following
 pub mod Settling
-pub mod Proposals
-pub mod Builds

@@ -12,5 +12,3 @@ pub mod Rules
 pub mod Causes
 pub mod Ending
 pub mod Fetching
-pub mod Building
-pub mod Built

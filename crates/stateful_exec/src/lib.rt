@@ -2,8 +2,6 @@
 #![tactic(auto)]
 
 mod boundary;
-mod building;
-mod built;
 mod ending;
 mod error;
 mod handler;
@@ -11,8 +9,6 @@ mod met;
 mod path;
 mod pause;
 mod processor;
-mod proposing;
-mod queued;
 mod request;
 mod running;
 mod serving;
@@ -23,7 +19,6 @@ mod walk;
 mod worked;
 
 pub use boundary::{Disposition, ExecutionStep, FinalizationBoundary};
-pub use building::{BuildStart, Building};
 pub use ending::Turned;
 pub use error::{ExecError, ProposalFault};
 pub use handler::Handler;
