@@ -15,3 +15,5 @@ pub mod Releasing
 pub mod Turning
 pub mod Following
 pub mod Settling
+pub mod Proposals
+pub mod Builds

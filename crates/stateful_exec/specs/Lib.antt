@@ -12,3 +12,5 @@ pub mod Rules
 pub mod Causes
 pub mod Ending
 pub mod Fetching
+pub mod Building
+pub mod Built

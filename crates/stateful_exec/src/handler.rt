@@ -15,6 +15,7 @@ ghost use Rattle.stateful_exec.specs.Fetching.{IsFetched, FaultsFetched, Cancels
 use crate::ending::{Turned, complete, settle};
 use crate::error::ExecError;
 use crate::processor::Processor;
+use crate::proposing::BuildingOf;
 use crate::request::Request;
 use crate::running::{TablesOf, acquire, fetched};
 use crate::tables::Requested;
@@ -29,15 +30,18 @@ use std::marker::Model;
 pub struct Handler<A: Application + Drop> {
     application: A,
     tables: TablesOf<A>,
+    build: Option<BuildingOf<A>>,
 }
 
 impl<A: Application + Drop> Model for Handler<A> {
     ghost use Rattle.stateful_exec.specs.State.{Owner};
+    ghost use Rattle.std.specs.Prelude.{Option};
+    ghost use Rattle.stateful_exec.specs.declared.building.Building.{Building};
     ghost use Rattle.stateful_exec.specs.declared.state.Tables.{Tables};
 
-    ghost Value = { Owner A (Tables A.Block A.Context A.Input A.Run A.Databases.Merkleized) };
+    ghost Value = { Owner A (Tables A.Block A.Context A.Input A.Run A.Databases.Merkleized) (Option (Building A.Block A.Context A.Build)) };
 
-    ghost view = { λ h. record { application = h.application; state = h.tables } };
+    ghost view = { λ h. record { application = h.application; state = h.tables; build = h.build } };
 }
 
 impl<A: Application + Drop> Handler<A> {
@@ -48,10 +52,12 @@ impl<A: Application + Drop> Handler<A> {
         let Processor {
             application,
             tables,
+            build,
         } = processor;
         Ok(Handler {
             application,
             tables,
+            build,
         })
     }
 

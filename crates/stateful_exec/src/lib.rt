@@ -2,6 +2,8 @@
 #![tactic(auto)]
 
 mod boundary;
+mod building;
+mod built;
 mod ending;
 mod error;
 mod handler;
@@ -9,6 +11,8 @@ mod met;
 mod path;
 mod pause;
 mod processor;
+mod proposing;
+mod queued;
 mod request;
 mod running;
 mod serving;
@@ -19,6 +23,7 @@ mod walk;
 mod worked;
 
 pub use boundary::{Disposition, ExecutionStep, FinalizationBoundary};
+pub use building::{BuildStart, Building};
 pub use ending::Turned;
 pub use error::{ExecError, ProposalFault};
 pub use handler::Handler;

@@ -1,11 +1,22 @@
 //! An application with the states of blocks that aren't final yet.
 
-ghost use Rattle.std.specs.Prelude.{◌≡◌, ◌↔◌, [], IfOk, IsTrue};
+ghost use Rattle.std.specs.Prelude.{◌≡◌, ◌↔◌, ◌≤◌, [], ℕ, None, OnOk, IfOk, IfErr, IsErrOf, IsTrue};
+ghost use Rattle.stateful_types.specs.Causes.{Rose};
 ghost use Rattle.stateful_cache.specs.Cache.{IsIn};
+ghost use Rattle.stateful_exec.specs.Building.{Proposes, FaultsPropose};
+ghost use Rattle.stateful_exec.specs.Built.{TurnsBuild, FaultsTurn};
+ghost use Rattle.stateful_exec.specs.Moments.{moment};
+ghost use Rattle.stateful_exec.specs.Starting.{Rises};
 
+use crate::building::BuildStart;
+use crate::built::turn_build;
+use crate::error::ExecError;
+use crate::proposing::{BuildingOf, propose};
 use crate::running::TablesOf;
 use crate::state::Tables;
+use crate::worked::Worked;
 use stateful_db::{Application, DatabaseSet};
+use stateful_history::Mark;
 use stateful_types::{Anchor, Digest, OutOfMemory};
 use std::alloc::Global;
 use std::marker::Model;
@@ -15,15 +26,18 @@ use std::marker::Model;
 pub struct Processor<A: Application + Drop> {
     pub(crate) application: A,
     pub(crate) tables: TablesOf<A>,
+    pub(crate) build: Option<BuildingOf<A>>,
 }
 
 impl<A: Application + Drop> Model for Processor<A> {
     ghost use Rattle.stateful_exec.specs.State.{Owner};
+    ghost use Rattle.std.specs.Prelude.{Option};
+    ghost use Rattle.stateful_exec.specs.declared.building.Building.{Building};
     ghost use Rattle.stateful_exec.specs.declared.state.Tables.{Tables};
 
-    ghost Value = { Owner A (Tables A.Block A.Context A.Input A.Run A.Databases.Merkleized) };
+    ghost Value = { Owner A (Tables A.Block A.Context A.Input A.Run A.Databases.Merkleized) (Option (Building A.Block A.Context A.Build)) };
 
-    ghost view = { λ p. record { application = p.application; state = p.tables } };
+    ghost view = { λ p. record { application = p.application; state = p.tables; build = p.build } };
 }
 
 impl<A: Application + Drop> Processor<A> {
@@ -35,12 +49,14 @@ impl<A: Application + Drop> Processor<A> {
             × (p.state.runs ≡ [])
             × (p.state.requests ≡ [])
             × (p.state.queued ≡ [])
-            × (p.state.recovered ≡ [])) }
+            × (p.state.recovered ≡ [])
+            × (p.build ≡ None)) }
         ensures numbers { IfOk result (λ p. (p.state.next_job ≡ 0) × (p.state.next_fetch ≡ 0)) }
     {
         Ok(Processor {
             application,
             tables: Tables::new(alloc, anchor),
+            build: None,
         })
     }
 
@@ -63,5 +79,63 @@ impl<A: Application + Drop> Processor<A> {
         ensures { IsTrue result ↔ (self.now.state.runs ≡ []) }
     {
         self.tables.runs.len() == 0
+    }
+
+    /// Starts the build of a ticket that is queued, under the next number of a job; where the block that it is to be built on
+    /// isn't known it is declined. A ticket that isn't queued is declined, and nothing changes.
+    pub fn propose(
+        &mut self,
+        ticket: u64,
+        databases: &mut A::Databases,
+        provider: A::Provider,
+    ) -> Result<BuildStart, ExecError>
+        ensures ok { IfOk result (Proposes ⟦<A as Worked>⟧.workings ticket provider
+            (A.Databases.members databases.old) (A.Databases.next databases.old)
+            (A.Databases.next databases.new) self.old.state self.new.state self.old.build
+            self.new.build) }
+        ensures fault { IfErr result (FaultsPropose ⟦<A as Worked>⟧.workings
+            (Rose (A.count self.old.application) (A.count self.new.application)) ticket
+            (A.Databases.members databases.old) (A.Databases.next databases.old)
+            self.old.state) }
+        ensures members { A.Databases.members databases.new ≡ A.Databases.members databases.old }
+        ensures numbers { Rises self.old.state self.new.state }
+        ensures counts { (n : ℕ)
+            → A.Databases.counted databases.new n ≡ A.Databases.counted databases.old n }
+        ensures notes { (IsErrOf result ExecError.OutOfMemory → ⊥)
+            → A.notes self.new.application ≡ A.notes self.old.application }
+        ensures later { A.count self.old.application ≤ A.count self.new.application }
+    {
+        propose(
+            &mut self.application,
+            &mut self.tables,
+            databases,
+            &mut self.build,
+            ticket,
+            provider,
+        )
+    }
+
+    /// The build of a job has a turn. Where it has ended, its block is cached and its proposal answered. Where no build of
+    /// this job is live nothing changes.
+    pub fn turn_build(
+        &mut self,
+        databases: &A::Databases,
+        job: u64,
+        marks: &mut Vec<Mark<A::Block>>,
+    ) -> Result<(), ExecError>
+        ensures ok { OnOk result (let w = ⟦<A as Worked>⟧.workings in
+            TurnsBuild w A.Build.count
+            (moment w self.old.state (A.Databases.members databases.now)
+            (A.Databases.next databases.now) marks.old.items) self.old.build job
+            (moment w self.new.state (A.Databases.members databases.now)
+            (A.Databases.next databases.now) marks.new.items) self.new.build) }
+        ensures fault { IfErr result (let w = ⟦<A as Worked>⟧.workings in
+            FaultsTurn w A.Build.count
+            (moment w self.old.state (A.Databases.members databases.now)
+            (A.Databases.next databases.now) marks.old.items) self.old.build job) }
+        ensures numbers { Rises self.old.state self.new.state }
+        ensures application { self.new.application ≡ self.old.application }
+    {
+        turn_build::<A>(&mut self.tables, databases, &mut self.build, job, marks)
     }
 }

@@ -55,7 +55,7 @@ fn pair<B: Drop>(
 }
 
 /// Batches over the states of a known block.
-fn begin<A: Application>(
+pub(crate) fn begin<A: Application>(
     anchor: Anchor,
     cache: &Cache<Batch<A>>,
     databases: &mut A::Databases,
