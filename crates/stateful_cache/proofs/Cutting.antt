@@ -20,7 +20,7 @@ module _ {X : Type 0} (P : X → Type 0) where
   Any-cases x xs zero y l is p = inl (subst P (sym is) p)
   Any-cases x xs (suc k) y l is p = inr (k, y, omega arith, is, p)
 
-  Any-longer : (xs : List X) (y : X) → Any P xs → Any P (xs ++ y ∷ [])
+  pub Any-longer : (xs : List X) (y : X) → Any P xs → Any P (xs ++ y ∷ [])
   Any-longer xs y a = Any-from (xs ++ y ∷ []) a.1 (Contains-append_left xs (y ∷ []) a.1 (a.0, a.2, a.3)) a.4
 
 Contains-none : {X : Type 0} (x : X) → Contains [] x → ⊥

@@ -3,3 +3,4 @@ pub mod Digests
 pub mod Indexed
 pub mod Cutting
 pub mod Judged
+pub mod Descending

@@ -1,9 +1,9 @@
 -- What stays of a cache where a block becomes the anchor.
-use Rattle.std.specs.Prelude.{◌≡◌, ◌≢◌, ◌⊎◌, List, [], All, Any, Contains}
+use Rattle.std.specs.Prelude.{◌≡◌, ◌≢◌, ◌↔◌, ◌⊎◌, List, [], All, Any, Contains}
 use Rattle.stateful_types.specs.Round.{IsLater}
 use Rattle.stateful_types.specs.declared.digest.Digest.{Digest}
 use Rattle.stateful_types.specs.declared.anchor.Anchor.{Anchor}
-use Rattle.stateful_cache.specs.Cache.{InOrder}
+use Rattle.stateful_cache.specs.Cache.{InOrder, IsIn}
 use Rattle.stateful_cache.specs.declared.cache.Cached.{Cached}
 
 -- the entry is a child of the root or of one of these
@@ -28,3 +28,15 @@ pub record IsCutTo {U : Type 0} (root : Anchor) (entries kept : List (Cached U))
 -- the batch is that of an entry of the root's digest
 abbrev pub IsRootOf : {U : Type 0} → Anchor → List (Cached U) → U → Type 0
 IsRootOf root entries batch = Any (λ e. (e.digest ≡ root.digest) × (e.batch ≡ batch)) entries
+
+-- the entry is another than the root, of a later round, and a child of the root or of one of these digests
+pub record DescendsFrom {U : Type 0} (root : Anchor) (digests : List Digest) (e : Cached U) : Type 0 where
+  pub other : e.digest ≢ root.digest
+  pub later : IsLater root.round e.round
+  pub behind : (e.parent ≡ root.digest) ⊎ Contains digests e.parent
+
+-- these are the digests of the entries that are kept where this is the root
+pub record AreDescendants {U : Type 0} (root : Anchor) (entries : List (Cached U)) (digests : List Digest) : Type 0 where
+  pub kept : List (Cached U)
+  pub cut : IsCutTo root entries kept
+  pub each : (d : Digest) → Contains digests d ↔ IsIn kept d

@@ -1,12 +1,13 @@
 //! The cache: sealed batches of blocks above the anchor that aren't final yet.
 
-ghost use Rattle.std.specs.Prelude.{◌≡◌, ◌≢◌, ◌++◌, ◌∷◌, [], IfOk, IfErr, OnOk, OnErr, IsTrue, ◌↔◌, Any, All, MatchOption, IfSome, IfNone, Contains};
+ghost use Rattle.std.specs.Prelude.{◌≡◌, ◌≢◌, ◌++◌, ◌∷◌, [], IfOk, IfErr, OnOk, OnErr, IsTrue, ◌↔◌, ◌⊎◌, Any, All, MatchOption, IfSome, IfNone, Contains};
 ghost use Rattle.std.specs.Option.{option_copied};
-ghost use Rattle.stateful_cache.specs.Cut.{IsCutTo, IsRootOf, GoesOn};
+ghost use Rattle.std.specs.BTreeSet.{keys};
+ghost use Rattle.stateful_cache.specs.Cut.{IsCutTo, IsRootOf, GoesOn, DescendsFrom, AreDescendants};
 
 use stateful_types::{Anchor, Digest, OutOfMemory, Round};
 use std::alloc::Global;
-use std::collections::BTreeMap;
+use std::collections::{BTreeMap, BTreeSet};
 use std::marker::Model;
 
 /// A block whose state is at hand, by its names, with the sealed batch that shows it.
@@ -76,6 +77,43 @@ impl<U: Drop> Cache<U> {
         self.places.insert(entry.digest, self.entries.len())?;
         self.entries.push(entry)?;
         Ok(())
+    }
+}
+
+/// Whether the entry is a child of the root, or of one of these.
+fn is_behind<U: Drop>(root: Anchor, digests: &BTreeSet<Digest>, entry: &Cached<U>) -> bool
+    ensures { IsTrue result ↔ ((entry.now.parent ≡ root.digest)
+        ⊎ Contains (keys digests.now) entry.now.parent) }
+{
+    entry.parent.is(root.digest) || digests.contains(&entry.parent)
+}
+
+/// Whether the entry is another than the root, of a later round, and a child of the root or of one of these.
+fn descends<U: Drop>(root: Anchor, digests: &BTreeSet<Digest>, entry: &Cached<U>) -> bool
+    ensures { IsTrue result ↔ DescendsFrom root (keys digests.now) entry.now }
+{
+    if entry.digest.is(root.digest) || !entry.round.is_later_than(root.round) {
+        return false;
+    }
+    is_behind(root, digests, entry)
+}
+
+impl<U: Drop> Cache<U> {
+    /// The digests of the root's descendants of later rounds.
+    pub fn descendants(
+        &self,
+        alloc: Global,
+        root: Anchor,
+    ) -> Result<BTreeSet<Digest>, OutOfMemory>
+        ensures { IfOk result (λ digests. AreDescendants root self.now (keys digests)) }
+    {
+        let mut digests = BTreeSet::new(alloc);
+        for entry in &self.entries {
+            if descends(root, &digests, entry) {
+                digests.insert(entry.digest)?;
+            }
+        }
+        Ok(digests)
     }
 }
 

@@ -1,22 +1,22 @@
 -- Requests that follow the end of a run, one after another.
-use Rattle.std.proofs.Common.{◌≡◌, ◌≤◌, ◌++◌, ◌∷◌, [], ℕ, List, Result, Ok, Err, IsErrAnd, IsErrOf, IfErr, length, sym, ap, ◌∙◌, subst, arith}
+use Rattle.std.proofs.Common.{◌≡◌, ◌≤◌, ◌++◌, ◌∷◌, [], ℕ, Option, List, Result, Ok, Err, IsErrAnd, IsErrOf, IfErr, length, sym, ap, ◌∙◌, subst, arith}
 use Rattle.std.proofs.lemmas.List.{append_assoc, append-nil, nil_from_length}
 use Rattle.std.proofs.lemmas.Result.{err_from_is_err_and}
 use Rattle.stateful_types.specs.Causes.{Rose}
 use Rattle.stateful_types.specs.Names.{Named}
-use Rattle.stateful_history.specs.declared.mark.How.{How}
 use Rattle.stateful_exec.specs.Workings.{Workings}
 use Rattle.stateful_exec.specs.Path.{Path}
 use Rattle.stateful_exec.specs.Moments.{Moment}
 use Rattle.stateful_exec.specs.Starting.{Rises}
-use Rattle.stateful_exec.specs.Ending.{InTurn, Follows}
+use Rattle.stateful_exec.specs.Ending.{InTurn, StopsAt}
 use Rattle.stateful_exec.specs.Ending.InTurn.{none, next}
-use Rattle.stateful_exec.specs.Causes.{FaultsStart, FaultsAdvance, FaultsFollow}
+use Rattle.stateful_exec.specs.Causes.{FaultsStart, FaultsAdvance, FaultsAcquire}
+use Rattle.stateful_exec.specs.Causes.FaultsAcquire.{memory as no_memory, no_fetch, running}
 use Rattle.stateful_exec.specs.Causes.FaultsAdvance.{memory, starting}
 use Rattle.stateful_exec.specs.declared.error.ExecError.{ExecError}
 use Rattle.stateful_exec.specs.declared.error.ExecError.TheVariants.{Lost, SkippedHeight, NotExtending, ConflictAtAnchor, FinalizedRejected, FinalizedMismatch, ProposalMismatch, ProposalStale, PendingChanged, Application, Exhausted, OutOfMemory}
 use Rattle.stateful_exec.specs.declared.state.Tables.{Tables}
-use Rattle.stateful_exec.specs.declared.tables.Released.{Released}
+use Rattle.stateful_exec.specs.declared.tables.Requested.{Requested}
 
 pub Rose-earlier : (a b c : ℕ) → a ≤ b → Rose b c → Rose a c
 Rose-earlier a b c before rose = omega arith
@@ -58,33 +58,39 @@ module _ {B C I P R D H G U : Type 0} (w : Workings B C I P R D H G U) (rose lat
   FaultsStart-later job m n Exhausted f = f
   FaultsStart-later job m n OutOfMemory f = f
 
-  FaultsAdvance-later : (m : Moment w) (path : Path B) (e : ExecError) → FaultsAdvance w rose m path e → FaultsAdvance w later m path e
+  pub FaultsAdvance-later : (m : Moment w) (path : Path B) (e : ExecError) → FaultsAdvance w rose m path e → FaultsAdvance w later m path e
   FaultsAdvance-later m path e (memory is) = memory is
   FaultsAdvance-later m path e (starting reaches goes unknown unrun known f) = starting reaches goes unknown unrun known (FaultsStart-later m.state.next_job m.members m.next e f)
 
-module _ {B C I P R D H G U : Type 0} (w : Workings B C I P R D H G U) (b : Named B) (how : How) (whole : List (Released B C I)) (first : Moment w) where
-  -- so many have followed, and these are left
-  pub record Reached (done left : List (Released B C I)) (m : Moment w) : Type 0 where
+module _ {B C I P R D H G U : Type 0} (w : Workings B C I P R D H G U) (rose later : Type 0) (weaker : rose → later) where
+  pub FaultsAcquire-later : (stored : ℕ → Option (Named B)) (m : Moment w) (r : Requested B C I) (e : ExecError) → FaultsAcquire w rose stored m r e → FaultsAcquire w later stored m r e
+  FaultsAcquire-later stored m r e (no_memory is) = no_memory is
+  FaultsAcquire-later stored m r e (no_fetch digest is needs none_left) = no_fetch digest is needs none_left
+  FaultsAcquire-later stored m r e (running {path = path} needs f) = running needs (FaultsAdvance-later w rose later weaker m path e f)
+
+module _ {X M : Type 0} (R : X → M → M → Type 0) (whole : List X) (first : M) where
+  -- so many were served, and these are left
+  pub record Reached (done left : List X) (m : M) : Type 0 where
     pub all : done ++ left ≡ whole
-    pub follow : InTurn (Follows w b how) done first m
+    pub turns : InTurn R done first m
 
-  pub Reached-first : (left : List (Released B C I)) → left ≡ whole → Reached [] left first
-  Reached-first left is = record { all = is; follow = none }
+  pub Reached-first : (left : List X) → left ≡ whole → Reached [] left first
+  Reached-first left is = record { all = is; turns = none }
 
-  module _ (done left : List (Released B C I)) (m : Moment w) (reached : Reached done left m) where
-    pub Reached-next : (x : Released B C I) (rest : List (Released B C I)) (now : Moment w) → left ≡ x ∷ rest → Follows w b how x m now → Reached (done ++ x ∷ []) rest now
-    Reached-next x rest now step follows = record {
+  module _ (done left : List X) (m : M) (reached : Reached done left m) where
+    pub Reached-next : (x : X) (rest : List X) (now : M) → left ≡ x ∷ rest → R x m now → Reached (done ++ x ∷ []) rest now
+    Reached-next x rest now step served = record {
       all = append_assoc done (x ∷ []) rest ∙ ap (λ l. done ++ l) (sym step) ∙ reached.all;
-      follow = InTurn-more (Follows w b how) x reached.follow follows;
+      turns = InTurn-more R x reached.turns served;
     }
 
-    pub Reached-all : (n : ℕ) → n ≡ length left → n ≡ 0 → InTurn (Follows w b how) whole first m
+    pub Reached-all : (n : ℕ) → n ≡ length left → n ≡ 0 → InTurn R whole first m
     Reached-all n size ends =
-        subst (λ (l : List (Released B C I)). InTurn (Follows w b how) l first m) (sym (append-nil done) ∙ ap (λ l. done ++ l) (sym (nil_from_length left (sym size ∙ ends))) ∙ reached.all) reached.follow
+        subst (λ (l : List X). InTurn R l first m) (sym (append-nil done) ∙ ap (λ l. done ++ l) (sym (nil_from_length left (sym size ∙ ends))) ∙ reached.all) reached.turns
 
-    pub Reached-refused : (rose later : Type 0) → (rose → later) → {T : Type 0} (result : Result T ExecError) (e : ExecError) → IsErrAnd result (λ f. f ≡ e)
-        → (x : Released B C I) (rest : List (Released B C I)) → left ≡ x ∷ rest → FaultsAdvance w rose m x.path e → IfErr result (FaultsFollow w later b how whole first)
-    Reached-refused rose later weaker result e of x rest step faults =
+    pub Reached-refused : {T E : Type 0} (Faults : X → M → E → Type 0) (result : Result T E) (e : E) → IsErrAnd result (λ f. f ≡ e)
+        → (x : X) (rest : List X) → left ≡ x ∷ rest → Faults x m e → IfErr result (StopsAt R Faults whole first)
+    Reached-refused Faults result e of x rest step faults =
         let p = err_from_is_err_and result of in
         rw (p.1, p.2) (record {
           served = done;
@@ -92,6 +98,6 @@ module _ {B C I P R D H G U : Type 0} (w : Workings B C I P R D H G U) (b : Name
           rest = rest;
           mid = m;
           parts = sym reached.all ∙ ap (λ l. done ++ l) step;
-          follow = reached.follow;
-          fault = FaultsAdvance-later w rose later weaker m x.path e faults;
+          turns = reached.turns;
+          fault = faults;
         })

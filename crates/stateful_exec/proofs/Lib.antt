@@ -17,3 +17,7 @@ pub mod Following
 pub mod Settling
 pub mod Proposals
 pub mod Builds
+pub mod Fronts
+pub mod Rebuilding
+pub mod Pauses
+pub mod Resumed

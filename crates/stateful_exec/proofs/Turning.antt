@@ -20,15 +20,15 @@ pub put_there : {V : Type 0} (table now : List (ℕ × V)) (t : ℕ) (v : V) →
 put_there table now t v is = rw (is, at-put table t v t, eq-eqb t t refl) refl
 
 module _ {B C I P R D H G U : Type 0} (w : Workings B C I P R D H G U) (m : w.kind.Members) (run turned : R) where
-  abbrev IsEnd : Moved (Option U) → Type 0
+  abbrev pub IsEnd : Moved (Option U) → Type 0
   IsEnd moved = (r : RunOf B C w.Ids w.States) (n : ℕ) (q : Point w) → w.works.runs run r n → w.kind.point m ≡ Some q → IsPoint q (r.at ∷ r.below)
       → Ends moved (outcome w.works.meaning r.finality r.at.1 (block_of r)) (λ batch s. w.shows batch (run_chain r s)) (w.works.runs turned r (n + 1))
 
-  abbrev IsCost : Moved (Option U) → Type 0
+  abbrev pub IsCost : Moved (Option U) → Type 0
   IsCost moved = (r : RunOf B C w.Ids w.States) (n : ℕ) (q : Point w) → w.works.runs run r n → w.kind.point m ≡ Some q → IsPoint q (r.at ∷ r.below)
       → Costs (w.works.run_cost r.finality r.at.1 (block_of r)) moved n
 
-  turns : (answer : Result (Moved (Option U)) AppFault) → IfOk answer IsEnd → IfOk answer IsCost → IfOk answer (Turns w m run turned)
+  pub turns : (answer : Result (Moved (Option U)) AppFault) → IfOk answer IsEnd → IfOk answer IsCost → IfOk answer (Turns w m run turned)
   turns (Ok moved) ends costs = record { ends = ends; costs = costs }
   turns (Err fault) ends costs = tt
 

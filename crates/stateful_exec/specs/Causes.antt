@@ -1,5 +1,5 @@
 -- Why requests aren't served.
-use Rattle.std.specs.Prelude.{◌≡◌, ◌⊎◌, ◌++◌, ◌∷◌, ℕ, Option, None, Result, Ok, Err, List, MatchOption}
+use Rattle.std.specs.Prelude.{◌≡◌, ◌⊎◌, ℕ, Option, None, Result, Ok, Err, List, MatchOption}
 use Rattle.stateful_types.specs.Names.{Named}
 use Rattle.stateful_types.specs.declared.digest.Digest.{Digest}
 use Rattle.stateful_types.specs.declared.outcome.Moved.{Moved}
@@ -13,7 +13,7 @@ use Rattle.stateful_exec.specs.Phase.{released_on}
 use Rattle.stateful_exec.specs.Workings.{Workings}
 use Rattle.stateful_exec.specs.Moments.{Moment}
 use Rattle.stateful_exec.specs.Starting.{IsLeft}
-use Rattle.stateful_exec.specs.Ending.{InTurn, FaultsTake, released, EndsRun, Follows, TurnsRun}
+use Rattle.stateful_exec.specs.Ending.{StopsAt, FaultsTake, released, EndsRun, Follows, TurnsRun}
 use Rattle.stateful_exec.specs.Rules.{Knows, RunsNone, GoesOn, Reaches, Needs}
 use Rattle.stateful_exec.specs.declared.error.ExecError.{ExecError}
 use Rattle.stateful_exec.specs.declared.error.ExecError.TheVariants.{Lost, Application, Exhausted, OutOfMemory}
@@ -58,14 +58,8 @@ module _ {B C I P R D H G U : Type 0} (w : Workings B C I P R D H G U) (rose : T
     running : {path : Path B} → Needs w stored m r (acquired.Ready path) → FaultsAdvance m path e → FaultsAcquire stored m r e
 
   -- some requests followed in turn, and the next one wasn't served
-  pub record FaultsFollow (b : Named B) (how : How) (all : List (Released B C I)) (m : Moment w) (e : ExecError) : Type 0 where
-    pub served : List (Released B C I)
-    pub next : Released B C I
-    pub rest : List (Released B C I)
-    pub mid : Moment w
-    pub parts : all ≡ served ++ next ∷ rest
-    pub follow : InTurn (Follows w b how) served m mid
-    pub fault : FaultsAdvance mid next.path e
+  abbrev pub FaultsFollow : Named B → How → List (Released B C I) → Moment w → ExecError → Type 0
+  FaultsFollow b how all m e = StopsAt (Follows w b how) (λ r mid error. FaultsAdvance mid r.path error) all m e
 
   -- memory ran out; or the run of a job wasn't ended; or it was, and one of the requests that waited for it wasn't served
   pub data FaultsSettle (m : Moment w) (j : ℕ) (ended : Option U) (e : ExecError) : Type 0 where

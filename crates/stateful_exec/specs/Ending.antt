@@ -40,6 +40,16 @@ pub data InTurn {X M : Type 0} (R : X → M → M → Type 0) : List X → M →
   none : {m : M} → InTurn R [] m m
   next : {x : X} {xs : List X} {m n last : M} → R x m n → InTurn R xs n last → InTurn R (x ∷ xs) m last
 
+-- some of these were served in turn, and the next one wasn't
+pub record StopsAt {X M E : Type 0} (R : X → M → M → Type 0) (Faults : X → M → E → Type 0) (all : List X) (m : M) (e : E) : Type 0 where
+  pub served : List X
+  pub next : X
+  pub rest : List X
+  pub mid : M
+  pub parts : all ≡ served ++ next ∷ rest
+  pub turns : InTurn R served m mid
+  pub fault : Faults next mid e
+
 -- what an entry of the cache is of
 abbrev pub step_in : {U : Type 0} → Cached U → ExecutionStep
 step_in e = record { digest = e.digest; parent = e.parent; round = e.round }

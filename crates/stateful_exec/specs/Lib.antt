@@ -14,3 +14,5 @@ pub mod Ending
 pub mod Fetching
 pub mod Building
 pub mod Built
+pub mod Pausing
+pub mod Finalizing

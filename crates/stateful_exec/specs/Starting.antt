@@ -38,7 +38,7 @@ module _ {B C I P R D H G U : Type 0} (w : Workings B C I P R D H G U) where
     pub job_left : IsLeft old.next_job
     pub ids_left : w.kind.Spent next → ⊥
     pub state : new ≡ record old {
-      runs = put old.runs old.next_job (record { block = b; run = run; awaited = false });
+      runs = put old.runs old.next_job (record { block = b; run = run });
       next_job = old.next_job + 1;
     }
     pub over : IsOver old.anchor.digest old.cache m next now (λ q c. IsFresh run Candidate b parent next q c) parent.digest

@@ -1,10 +1,13 @@
 //! How runs cross a finalization: which end before it, which go on, and which are given up.
 
-ghost use Rattle.std.specs.Prelude.{◌≡◌, ◌≢◌, ◌↔◌, true, IsTrue, OnOk, OnErr};
+ghost use Rattle.std.specs.Prelude.{◌≡◌, ◌≢◌, ◌↔◌, true, IsTrue, IfOk, OnOk, OnErr};
 ghost use Rattle.stateful_types.specs.Round.{IsLater};
 ghost use Rattle.stateful_exec.specs.Boundary.{step_by, Completes, IsRetained};
+ghost use Rattle.stateful_exec.specs.Finalizing.{IsBoundaryOf};
 
-use stateful_types::{Block, Digest, Digested, OutOfMemory, Round};
+use stateful_cache::Cache;
+use stateful_types::{Anchor, Block, Digest, Digested, OutOfMemory, Round};
+use std::alloc::Global;
 use std::collections::BTreeSet;
 use std::marker::Model;
 
@@ -66,6 +69,23 @@ impl Model for FinalizationBoundary {
 }
 
 impl FinalizationBoundary {
+    /// The boundary of the finalization of a block: compatible are the block and its cached descendants of later rounds.
+    pub(crate) fn of<B: Block, U: Drop>(
+        alloc: Global,
+        block: &Digested<B>,
+        cache: &Cache<U>,
+    ) -> Result<FinalizationBoundary, OutOfMemory>
+        ensures { IfOk result (IsBoundaryOf B.header block.now cache.now) }
+    {
+        let mut compatible = cache.descendants(alloc, Anchor::from_block(block))?;
+        compatible.insert(block.digest())?;
+        Ok(FinalizationBoundary {
+            digest: block.digest(),
+            round: block.round(),
+            compatible,
+        })
+    }
+
     /// `Join` exactly for the finalized digest; `Retain` exactly for a later round on a compatible parent, where it isn't
     /// of that digest; else `Reject`.
     pub fn disposition(&self, step: &ExecutionStep) -> Disposition

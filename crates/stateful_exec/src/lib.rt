@@ -1,19 +1,24 @@
 //! Execution of blocks that aren't final yet.
 #![tactic(auto)]
 
+mod anchoring;
 mod boundary;
 mod building;
 mod built;
 mod ending;
 mod error;
+mod finalizing;
+mod front;
 mod handler;
 mod met;
 mod path;
 mod pause;
+mod pausing;
 mod processor;
 mod proposing;
 mod queued;
 mod request;
+mod resuming;
 mod running;
 mod serving;
 mod state;

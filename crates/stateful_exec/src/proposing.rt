@@ -34,7 +34,7 @@ pub type ProposalOf<A> = Proposal<
 
 impl<B: Block + Drop, C: Copy, I: Drop, R: Drop, U: Drop> Tables<B, C, I, R, U> {
     /// The number of the next job is drawn. `Exhausted` exactly where that is the last one.
-    fn draw_job(&mut self) -> Result<u64, ExecError>
+    pub(crate) fn draw_job(&mut self) -> Result<u64, ExecError>
         ensures job { IfOk result (λ job. job ≡ self.old.next_job) }
         ensures left { OnOk result (IsLeft self.old.next_job) }
         ensures ok { OnOk result (self.new

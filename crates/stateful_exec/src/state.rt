@@ -478,19 +478,13 @@ impl<B: Block + Drop, C: Copy, I: Drop, R: Drop, U: Drop> Tables<B, C, I, R, U> 
           runs = put self.old.runs self.old.next_job (record {
             block = block;
             run = run;
-            awaited = false;
           });
           next_job = self.old.next_job + 1;
         }) }
         ensures err { OnErr result (self.new ≡ self.old) }
     {
         let job = self.next_job;
-        let live = LiveRun {
-            block,
-            run,
-            awaited: false,
-        };
-        self.runs.put(job, live)?;
+        self.runs.put(job, LiveRun { block, run })?;
         self.next_job = job + 1;
         Ok(job)
     }

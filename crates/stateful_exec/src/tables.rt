@@ -1,7 +1,7 @@
 //! What execution keeps of live runs and requests.
 
-ghost use Rattle.std.specs.Prelude.{◌≡◌, ◌↔◌, IsTrue};
-ghost use Rattle.stateful_exec.specs.Phase.{is_on};
+ghost use Rattle.std.specs.Prelude.{◌≡◌, ◌↔◌, ℕ, IsTrue, IfSome, IfNone};
+ghost use Rattle.stateful_exec.specs.Phase.{is_on, is_unacquired};
 ghost use Rattle.stateful_exec.specs.Rules.{requested};
 
 use crate::path::ReplayPath;
@@ -14,8 +14,6 @@ use std::alloc::Global;
 pub struct LiveRun<B, R> {
     pub block: Digested<B>,
     pub run: R,
-    /// A pause waits for its end.
-    pub awaited: bool,
 }
 
 /// How far a request has come.
@@ -55,6 +53,29 @@ impl<B> Phase<B> {
     }
 }
 
+impl<B> Phase<B> {
+    /// Whether what the request needs is to be found anew once nothing pauses.
+    pub(crate) fn is_unacquired(&self) -> bool
+        ensures { result ≡ is_unacquired self.now }
+    {
+        match self {
+            Phase::Open | Phase::Waiting => true,
+            _ => false,
+        }
+    }
+
+    /// The number under which a block is fetched, if one is.
+    pub(crate) fn fetch(&self) -> Option<u64>
+        ensures some { IfSome result (λ fetch. self.now ≡ Phase.Fetching fetch) }
+        ensures none { IfNone result ((fetch : ℕ) → self.now ≡ Phase.Fetching fetch → ⊥) }
+    {
+        match self {
+            Phase::Fetching(fetch) => Some(*fetch),
+            _ => None,
+        }
+    }
+}
+
 /// A request that goes on.
 #[derive(Drop)]
 pub struct Requested<B, C, I> {
@@ -74,6 +95,20 @@ impl<B, C, I> Requested<B, C, I> {
             acquired: Items::new(alloc),
             phase: Phase::Open,
         }
+    }
+}
+
+impl<B: Drop, C: Copy, I: Drop> Requested<B, C, I> {
+    /// The same request, for which nothing was acquired.
+    pub(crate) fn anew(self, alloc: Global) -> Requested<B, C, I>
+        ensures { result ≡ requested self.request }
+    {
+        let Requested {
+            request,
+            acquired: _,
+            phase: _,
+        } = self;
+        Requested::new(alloc, request)
     }
 }
 

@@ -77,6 +77,13 @@ impl<V: Drop> Table<V> {
         &self.entries
     }
 
+    /// The numbers with their values, by ascending numbers, and nothing is left of the table.
+    pub fn into_entries(self) -> BTreeMap<u64, V>
+        ensures { result.entries ≡ self }
+    {
+        self.entries
+    }
+
     /// Puts a value at a number, in place of the one that was there. That takes memory only where there was none.
     /// A value put there later leaves nothing of this one.
     pub fn put(&mut self, number: u64, value: V) -> Result<(), OutOfMemory>

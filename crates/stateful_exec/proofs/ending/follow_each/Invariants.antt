@@ -2,6 +2,7 @@ use Rattle.std.proofs.Common.{◌≡◌, ◌≤◌, ℕ}
 use Rattle.stateful_exec.specs.Starting.{Rises}
 use Rattle.stateful_exec.specs.Workings.{workings}
 use Rattle.stateful_exec.specs.Moments.{moment}
+use Rattle.stateful_exec.specs.Ending.{Follows}
 use Rattle.stateful_exec.proofs.Following.{Reached}
 use Rattle.stateful_exec.proofs.ending.follow_each.Given as goal
 
@@ -9,7 +10,7 @@ abbrev pub invariant-loop-next : goal.invariant-loop-next
 invariant-loop-next g l =
     let w = workings g.A.Block.Block.header g.A.Context.Rounded.round_of g.A.Application.works g.A.Databases.DatabaseSet.kind g.A.Databases.DatabaseSet.shows in
     record {
-      reached : Reached w l.block l.how l.fn.released.items
+      reached : Reached (Follows w l.block l.how) l.fn.released.items
           (moment w l.fn.tables (g.A.Databases.DatabaseSet.members l.fn.databases) (g.A.Databases.DatabaseSet.next l.fn.databases) l.fn.marks.items)
           l.yielded l.next-iterator.rest.items
           (moment w l.tables (g.A.Databases.DatabaseSet.members l.databases) (g.A.Databases.DatabaseSet.next l.databases) l.marks.items);

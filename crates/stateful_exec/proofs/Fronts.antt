@@ -1,0 +1,38 @@
+-- Finalizations that go on: their runs, their hooks and their batches.
+use Rattle.std.proofs.Common.{◌≡◌, ◌≢◌, ◌↔◌, ◌⊎◌, inl, inr, ℕ, Option, Some, None, IfNone, MatchOption, Result, Ok, Err, OnOk, IfErr, IfOk, IsErrOf, List, All, Contains, refl, sym, ◌∙◌, ap, subst}
+use Rattle.stateful_types.specs.Names.{Named}
+use Rattle.stateful_types.specs.declared.digest.Digest.{Digest}
+use Rattle.stateful_types.specs.declared.outcome.Moved.{Moved}
+use Rattle.stateful_db.specs.declared.application.AppFault.{AppFault}
+use Rattle.stateful_history.specs.declared.mark.Mark.{Mark}
+use Rattle.stateful_types.specs.declared.anchor.Anchor.{Anchor}
+use Rattle.stateful_cache.specs.Cut.{IsRootOf}
+use Rattle.stateful_cache.specs.declared.cache.Cached.{Cached}
+use Rattle.stateful_exec.specs.Finalizing.{front_at}
+use Rattle.stateful_exec.specs.declared.front.Front.{Front}
+use Rattle.stateful_exec.specs.declared.front.Stage.{Stage}
+
+-- the root wasn't among the entries, where none was taken out
+pub cut_none : {U : Type 0} (root : Anchor) (digest : Digest) (cache : List (Cached U)) (o : Option U) → root.digest ≡ digest
+    → MatchOption o (All (λ e. e.digest ≢ root.digest) cache) (λ batch. IsRootOf root cache batch) → IfNone o (All (λ e. e.digest ≢ digest) cache)
+cut_none root digest cache None is h = subst (λ (d : Digest). All (λ e. e.digest ≢ d) cache) is h
+cut_none root digest cache (Some batch) is h = tt
+
+pub at_none : {X N : Type 0} {o : Option X} → o ≡ None → IfNone o N → N
+at_none {N = N} is h = subst (λ o. IfNone o N) is h
+
+-- a front of this stage
+pub at_stage : {B R U H : Type 0} {front : Option (Front B R U H)} (f : Front B R U H) (stage : Stage R U H) → front ≡ Some f → f.stage ≡ stage → front ≡ front_at f.block stage
+at_stage f stage is come = is ∙ ap (λ s. front_at f.block s) come
+
+-- one digest more, in words of what is kept
+pub with_root : {P Q : Digest → Type 0} (root : Digest) (has : Digest → Type 0) → ((d : Digest) → has d ↔ ((d ≡ root) ⊎ P d)) → ((d : Digest) → P d ↔ Q d) → (d : Digest) → has d ↔ ((d ≡ root) ⊎ Q d)
+with_root {P} {Q} root has more each d = (λ h. into ((more d).0 h), λ q. (more d).1 (out q))
+  where
+    into : (d ≡ root) ⊎ P d → (d ≡ root) ⊎ Q d
+    into (inl is) = inl is
+    into (inr p) = inr ((each d).0 p)
+
+    out : (d ≡ root) ⊎ Q d → (d ≡ root) ⊎ P d
+    out (inl is) = inl is
+    out (inr q) = inr ((each d).1 q)
