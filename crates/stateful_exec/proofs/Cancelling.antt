@@ -1,5 +1,5 @@
 -- Cancels of requests that wait for a run.
-use Rattle.std.proofs.Common.{rules, ◌≡◌, ◌≢◌, ◌⊎◌, ◌==◌, not, ◌++◌, ◌∷◌, [], ℕ, List, Option, Some, None, Result, Ok, Err, OnOk, IsSome, filter, inl, inr, refl, sym, ◌∙◌}
+use Rattle.std.proofs.Common.{rules, ◌≡◌, ◌≢◌, ◌⊎◌, ◌==◌, not, ◌++◌, ◌∷◌, [], ℕ, List, Option, Some, None, Result, Ok, Err, OnOk, filter, refl, sym, ap, ◌∙◌}
 use Rattle.std.proofs.lemmas.List.{append-nil}
 use Rattle.stateful_history.specs.declared.mark.How.TheVariants.{Cancelled}
 use Rattle.stateful_history.specs.declared.mark.Mark.{Mark}
@@ -9,7 +9,10 @@ use Rattle.stateful_exec.specs.Path.{Path}
 use Rattle.stateful_exec.specs.Phase.{tickets_on}
 use Rattle.stateful_exec.specs.Rules.{taken}
 use Rattle.stateful_exec.specs.Fetching.{IsIdle, Cancels, idle, withdraws, leaves, ends, unqueued}
+use Rattle.stateful_exec.specs.Built.{GivesUp, asking}
+use Rattle.stateful_exec.specs.declared.building.Building.{Building}
 use Rattle.stateful_exec.specs.declared.state.Tables.{Tables}
+use Rattle.stateful_exec.proofs.Releasing.{some-injective}
 use Rattle.stateful_exec.specs.declared.tables.Phase.{Phase}
 use Rattle.stateful_exec.specs.declared.tables.Phase.TheVariants.{Open, Waiting, Fetching, Executing, Parked}
 use Rattle.stateful_exec.specs.declared.tables.Requested.{Requested}
@@ -18,16 +21,11 @@ use Rattle.stateful_exec.specs.declared.tables.Requested.{Requested}
 abbrev pub HasCancelled : {B C I R U : Type 0} → (old new : Tables B C I R U) → ℕ → (before after : List (Mark B)) → Type 0
 HasCancelled {B = B} old new t before after = (more : List (Mark B)) × Cancels old new t more × (after ≡ before ++ more)
 
-is_none : {T : Type 0} (o : Option T) → o ≡ None → IsSome o → ⊥
-is_none None is some = search rules
-is_none (Some x) is some = cc
-
 module _ {B C I R U : Type 0} (old new : Tables B C I R U) (t : ℕ) (before : List (Mark B)) where
-  pub unqueue : IsSome (at old.requests t) ⊎ IsSome (at old.queued t) → at old.requests t ≡ None
+  pub unqueue : at old.requests t ≡ None
       → new ≡ record (taken old t) { queued = without old.queued t; recovered = filter (λ u. not (u == t)) old.recovered }
       → HasCancelled old new t before before
-  unqueue (inl some) none is = absurd (is_none (at old.requests t) none some)
-  unqueue (inr some) none is = ([], unqueued none some is refl, sym (append-nil before))
+  unqueue none is = ([], unqueued none is refl, sym (append-nil before))
 
   pub withdrawn : (r : Requested B C I) (fetch : ℕ) → at old.requests t ≡ Some r → r.phase ≡ Fetching fetch → new ≡ taken old t
       → HasCancelled old new t before (before ++ mark.Withdrawn fetch ∷ [])
@@ -51,6 +49,18 @@ module _ {B C I R U : Type 0} (old new : Tables B C I R U) (t : ℕ) (before aft
           let some : tickets_on j (without old.requests t) ≢ [] = (λ none. let no : u ∷ us ≡ [] = sym is ∙ none in cc) in
           let done = left.0 some in
           ([], leaves r j path there phase some done.0 refl, done.1 ∙ sym (append-nil before))
+
+-- the live build isn't for the request, which is given up
+module _ {B C I R U D : Type 0} (old new : Tables B C I R U) (t : ℕ) (before after : List (Mark B)) (build now : Option (Building B C D)) where
+  abbrev pub HasGivenUp : Type 0
+  HasGivenUp = (more : List (Mark B)) × GivesUp old new build now t more × (after ≡ before ++ more)
+
+  pub no_build : build ≡ None → now ≡ build → HasCancelled old new t before after → HasGivenUp
+  no_build none same h = (h.0, asking (λ b is. let no : Some b ≡ None = sym is.live ∙ none in cc) h.1 same, h.2)
+
+  pub other_build : (b : Building B C D) → Some b ≡ build → b.ticket ≢ t → now ≡ build → HasCancelled old new t before after → HasGivenUp
+  other_build b there differs same h =
+      (h.0, asking (λ c is. differs (ap (λ (x : Building B C D). x.ticket) (some-injective (there ∙ is.live)) ∙ is.ticket)) h.1 same, h.2)
 
 -- a phase that waits for nothing
 pub is_idle : {B : Type 0} (phase : Phase B) → (phase ≡ Open) ⊎ ((phase ≡ Waiting) ⊎ ((path : Path B) × (phase ≡ Parked path))) → IsIdle phase

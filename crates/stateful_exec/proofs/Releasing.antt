@@ -19,7 +19,7 @@ use Rattle.stateful_exec.specs.declared.tables.Phase.TheVariants.{Open, Fetching
 use Rattle.stateful_exec.specs.declared.tables.Released.{Released}
 use Rattle.stateful_exec.specs.declared.tables.Requested.{Requested}
 
-some-injective : {X : Type 0} {x y : X} → Some x ≡ Some y → x ≡ y
+pub some-injective : {X : Type 0} {x y : X} → Some x ≡ Some y → x ≡ y
 some-injective e = search
 
 executing : {B : Type 0} {of j : ℕ} {p q : Path B} → Executing j p ≡ Executing of q → p ≡ q

@@ -17,7 +17,7 @@ use Rattle.stateful_db.specs.declared.application.ProposalKind.TheVariants.{Prep
 use Rattle.stateful_db.specs.declared.application.ProposedBlock.{ProposedBlock}
 use Rattle.stateful_history.specs.declared.mark.Decision.{Decision}
 use Rattle.stateful_history.specs.declared.mark.Decision.TheVariants as decision
-use Rattle.stateful_history.specs.declared.mark.How.TheVariants.{Kept, Missed, Nothing}
+use Rattle.stateful_history.specs.declared.mark.How.TheVariants.{Kept, Missed, Nothing, Cancelled}
 use Rattle.stateful_history.specs.declared.mark.Mark.{Mark}
 use Rattle.stateful_history.specs.declared.mark.Mark.TheVariants as mark
 use Rattle.stateful_cache.specs.declared.cache.Cached.{Cached}
@@ -25,6 +25,8 @@ use Rattle.stateful_exec.specs.Errors.{error_of_app}
 use Rattle.stateful_exec.specs.Workings.{Workings, Point}
 use Rattle.stateful_exec.specs.Moments.{Moment, Becomes}
 use Rattle.stateful_exec.specs.Ending.{Takes, ChangesPending}
+use Rattle.stateful_exec.specs.Fetching.{Cancels}
+use Rattle.stateful_exec.specs.declared.state.Tables.{Tables}
 use Rattle.stateful_exec.specs.declared.building.Building.{Building}
 use Rattle.stateful_exec.specs.declared.error.ExecError.{ExecError}
 use Rattle.stateful_exec.specs.declared.error.ExecError.TheVariants.{OutOfMemory, ProposalMismatch, ProposalStale, PendingChanged}
@@ -142,3 +144,14 @@ module _ {B C I P R D H G U : Type 0} (w : Workings B C I P R D H G U) where
           → e ≡ error_of_app fault → FaultsTurn e
       ending : {b : Building B C D} {turned : D} {given : Handoff (ProposedBlock B U)} → IsLiveBuild build j b → HasTurn count m.members b.build turned (Ok (Done given))
           → FaultsGiven (record b { build = turned }) m.state.anchor given m.state.cache e → FaultsTurn e
+
+-- the live build is for the request of this ticket
+pub record IsBuildFor {B C D : Type 0} (build : Option (Building B C D)) (t : ℕ) (b : Building B C D) : Type 0 where
+  pub live : build ≡ Some b
+  pub ticket : b.ticket ≡ t
+
+-- What a cancel leaves, and its marks: the live build ends where it is for the request, and else the request is given up, or its
+-- build isn't queued any more.
+pub data GivesUp {B C I R U D : Type 0} (old new : Tables B C I R U) (before after : Option (Building B C D)) (t : ℕ) (marks : List (Mark B)) : Type 0 where
+  building : {b : Building B C D} → IsBuildFor before t b → new ≡ old → after ≡ None → marks ≡ mark.Ended b.job Cancelled ∷ [] → GivesUp old new before after t marks
+  asking : ((b : Building B C D) → IsBuildFor before t b → ⊥) → Cancels old new t marks → after ≡ before → GivesUp old new before after t marks

@@ -77,6 +77,6 @@ pub data Cancels {B C I R U : Type 0} (old new : Tables B C I R U) (t : ℕ) (ma
   ends : (r : Requested B C I) (j : ℕ) (path : Path B) → at old.requests t ≡ Some r → r.phase ≡ Executing j path
       → tickets_on j (without old.requests t) ≡ [] → new ≡ record (taken old t) { runs = without old.runs j }
       → marks ≡ mark.Ended j Cancelled ∷ [] → Cancels old new t marks
-  unqueued : at old.requests t ≡ None → IsSome (at old.queued t)
+  unqueued : at old.requests t ≡ None
       → new ≡ record (taken old t) { queued = without old.queued t; recovered = filter (λ u. not (u == t)) old.recovered }
       → marks ≡ [] → Cancels old new t marks

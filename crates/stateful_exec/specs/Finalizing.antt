@@ -73,6 +73,10 @@ pub record IsBoundaryOf {B U : Type 0} (header : Header B) (b : Named B) (cache 
 abbrev pub front_at : {B R U H : Type 0} → Named B → Stage R U H → Option (Front B R U H)
 front_at b stage = Some (record { block = b; stage = stage })
 
+-- the finalized block is cached, or its run has led to a batch
+abbrev pub HasStates : {B R U H : Type 0} → Named B → List (Cached U) → Option (Front B R U H) → Type 0
+HasStates b cache front = IsIn cache b.digest ⊎ ((c : Named _) × (batch : _) × (front ≡ front_at c (Ran batch)))
+
 module _ {B C I P R D H G U : Type 0} (w : Workings B C I P R D H G U) where
   -- the run is of the finalized block, in a context of its round, and hasn't had a turn
   pub record IsFinalRun (run : R) (b : Named B) (own : w.Ids) (at : Point w) : Type 0 where
@@ -143,10 +147,6 @@ module _ {B C I P R D H G U : Type 0} (w : Workings B C I P R D H G U) where
     cached : IsRootOf (anchor_by w.header b) cache batch → IsRoot b cache front batch
     ran : {c : Named B} → All (λ e. e.digest ≢ b.digest) cache → front ≡ front_at c (Ran batch) → IsRoot b cache front batch
 
-  -- the finalized block is cached, or its run has led to a batch
-  abbrev pub HasStates : Named B → List (Cached U) → Option (Front B R U H) → Type 0
-  HasStates b cache front = IsIn cache b.digest ⊎ ((c : Named B) × (batch : U) × (front ≡ front_at c (Ran batch)))
-
   -- The finalized block is the anchor, the cache is cut to its descendants of later rounds, and its batch is handed out to be
   -- applied. What the application read of the states before it is handed out too.
   pub record Moves (b : Named B) (m : w.kind.Members) (old new : Tables B C I R U) (before after : Option (Front B R U H)) (batch : U) (captured : G) : Type 0 where
@@ -157,6 +157,12 @@ module _ {B C I P R D H G U : Type 0} (w : Workings B C I P R D H G U) where
     pub context : C
     pub round : w.round_of context ≡ w.header.round b.block
     pub captures : (p : Point w) → w.kind.point m ≡ Some p → w.works.captures captured context b.block p.1
+
+  -- why the anchor doesn't move: memory ran out; or the application failed; or the block has no states
+  pub data FaultsMove (rose : Type 0) (b : Named B) (cache : List (Cached U)) (front : Option (Front B R U H)) (e : ExecError) : Type 0 where
+    no_room : e ≡ OutOfMemory → FaultsMove rose b cache front e
+    not_read : e ≡ Application → rose → FaultsMove rose b cache front e
+    no_states : e ≡ FinalizedRejected b.digest → (HasStates b cache front → ⊥) → FaultsMove rose b cache front e
 
   -- what the application has left to do behind the block, whose states the databases hold, and those before it were these
   pub record IsLeftBehind (b : Named B) (captured : G) (m : w.kind.Members) (hook : Hooked H) : Type 0 where

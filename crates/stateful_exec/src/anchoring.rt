@@ -6,7 +6,7 @@ ghost use Rattle.stateful_types.specs.Causes.{Rose};
 ghost use Rattle.stateful_types.specs.Names.{Named};
 ghost use Rattle.stateful_cache.specs.Cache.{IsIn};
 ghost use Rattle.stateful_cache.specs.Cut.{IsCutTo, IsRootOf};
-ghost use Rattle.stateful_exec.specs.Finalizing.{front_at, IsRoot, Moves, HasStates, Observes, HooksOn, FaultsObserve, IsHookLive, SettlesHook, FaultsSettleHook, TurnsHook, FaultsHook};
+ghost use Rattle.stateful_exec.specs.Finalizing.{front_at, HasStates, IsRoot, Moves, FaultsMove, Observes, HooksOn, FaultsObserve, IsHookLive, SettlesHook, FaultsSettleHook, TurnsHook, FaultsHook};
 ghost use Rattle.stateful_exec.specs.Starting.{IsLeft, Rises};
 ghost use Rattle.stateful_exec.specs.declared.front.Stage.TheVariants as stage;
 
@@ -47,30 +47,28 @@ impl<B: Block + Drop, C: Copy, I: Drop, R: Drop, U: Drop> Tables<B, C, I, R, U> 
     }
 }
 
-/// Takes the batch that the run of a finalized block has led to.
-fn take_ran<A: Application>(front: &mut Option<FrontOf<A>>) -> Batch<A>
-    requires { (b : Named A.Block)
-        × (batch : A.Databases.Merkleized)
-        × (front.old ≡ front_at b (stage.Ran batch)) }
-    ensures { (b : Named A.Block) × (front.old ≡ front_at b (stage.Ran result)) }
+/// Takes the batch that the run of a finalized block has led to, if there is one.
+fn take_ran<A: Application>(front: &mut Option<FrontOf<A>>) -> Option<Batch<A>>
+    ensures some { IfSome result (λ batch. (b : Named A.Block)
+        × (front.old ≡ front_at b (stage.Ran batch))) }
+    ensures none { IfNone result ((b : Named A.Block) (batch : A.Databases.Merkleized)
+        → front.old ≡ front_at b (stage.Ran batch)
+        → ⊥) }
 {
-    let Some(Front { block: _, stage }) = mem::replace(front, None) else {
-        unreachable!();
-    };
-    let Stage::Ran(batch) = stage else {
-        unreachable!();
-    };
-    batch
+    let Front { block: _, stage } = mem::replace(front, None)?;
+    match stage {
+        Stage::Ran(batch) => Some(batch),
+        _ => None,
+    }
 }
 
 /// The batch of a finalized block: that of its entry in the cache, where there is one, and else that of its run. The block
-/// is the anchor from now on.
+/// is the anchor from now on. `FinalizedRejected` exactly where it has no states.
 fn take_root<A: Application>(
     tables: &mut TablesOf<A>,
     front: &mut Option<FrontOf<A>>,
     block: &Digested<A::Block>,
-) -> Result<Batch<A>, OutOfMemory>
-    requires { HasStates ⟦<A as Worked>⟧.workings block.now tables.old.cache front.old }
+) -> Result<Batch<A>, ExecError>
     ensures root { IfOk result (λ batch. IsRoot ⟦<A as Worked>⟧.workings block.now
         tables.old.cache front.old batch) }
     ensures cut { OnOk result (IsCutTo (anchor_by A.Block.header block.now) tables.old.cache
@@ -79,11 +77,19 @@ fn take_root<A: Application>(
       anchor = anchor_by A.Block.header block.now;
       cache = tables.new.cache;
     }) }
+    ensures fault { IfErr result (λ e. (e ≡ ExecError.OutOfMemory)
+        ⊎ ((e ≡ ExecError.FinalizedRejected block.now.digest)
+        × (HasStates block.now tables.old.cache front.old → ⊥))) }
     ensures numbers { Rises tables.old tables.new }
 {
-    match tables.cut(block)? {
+    if let Some(batch) = tables.cut(block)? {
+        return Ok(batch);
+    }
+    match take_ran::<A>(front) {
         Some(batch) => Ok(batch),
-        None => Ok(take_ran::<A>(front)),
+        None => Err(ExecError::FinalizedRejected {
+            digest: block.digest(),
+        }),
     }
 }
 
@@ -96,13 +102,12 @@ pub(crate) fn advance_to<A: Application>(
     front: &mut Option<FrontOf<A>>,
     block: &Digested<A::Block>,
 ) -> Result<(Batch<A>, A::Captured), ExecError>
-    requires { HasStates ⟦<A as Worked>⟧.workings block.now tables.old.cache front.old }
     ensures ok { IfOk result (λ given. Moves ⟦<A as Worked>⟧.workings block.now
         (A.Databases.members databases.now) tables.old tables.new front.old front.new given.0
         given.1) }
-    ensures fault { IfErr result (λ e. (e ≡ ExecError.OutOfMemory)
-        ⊎ ((e ≡ ExecError.Application)
-        × Rose (A.count application.old) (A.count application.new))) }
+    ensures fault { IfErr result (FaultsMove ⟦<A as Worked>⟧.workings
+        (Rose (A.count application.old) (A.count application.new)) block.now tables.old.cache
+        front.old) }
     ensures numbers { Rises tables.old tables.new }
     ensures notes { (IsErrOf result ExecError.OutOfMemory → ⊥)
         → A.notes application.new ≡ A.notes application.old }

@@ -1,7 +1,8 @@
 //! Turns of builds, and the blocks that they give.
 
-ghost use Rattle.std.specs.Prelude.{◌≡◌, ◌++◌, ◌∷◌, [], OnOk, IfOk, IfErr, IfSome, IfNone};
-ghost use Rattle.stateful_exec.specs.Built.{decided, IsOther, IsAskedFor, IsBuilt, FaultsKeep, FaultsBuilt, Gives, EndsBuild, FaultsGiven, TurnsBuild, FaultsTurn};
+ghost use Rattle.std.specs.Prelude.{◌≡◌, ◌++◌, ◌∷◌, [], List, OnOk, IfOk, IfErr, IfSome, IfNone};
+ghost use Rattle.stateful_exec.specs.Built.{decided, IsOther, IsAskedFor, IsBuilt, FaultsKeep, FaultsBuilt, Gives, EndsBuild, FaultsGiven, TurnsBuild, FaultsTurn, GivesUp};
+ghost use Rattle.stateful_history.specs.declared.mark.Mark.{Mark as Marked};
 ghost use Rattle.stateful_exec.specs.Ending.{Takes};
 ghost use Rattle.stateful_exec.specs.Moments.{moment};
 ghost use Rattle.stateful_exec.specs.Starting.{Rises};
@@ -13,7 +14,7 @@ use crate::state::Tables;
 use crate::worked::Worked;
 use stateful_db::{Application, DatabaseSet, ProposalKind, Proposed, ProposedBlock};
 use stateful_history::{Decision, How, Mark};
-use stateful_types::{Block, Digested, Handoff, Moved, Rounded, Share};
+use stateful_types::{Block, Digested, Handoff, Moved, OutOfMemory, Rounded, Share};
 use std::mem;
 
 /// How a block is answered that was handed over so.
@@ -197,4 +198,31 @@ pub(crate) fn turn_build<A: Application>(
         }
         Moved::Done(given) => end_build::<A>(tables, &building, given, marks),
     }
+}
+
+/// Gives up the request of a ticket: the live build ends where it is for it; else the request is given up, or its build isn't
+/// queued any more.
+pub(crate) fn give_up<A: Application>(
+    tables: &mut TablesOf<A>,
+    build: &mut Option<BuildingOf<A>>,
+    ticket: u64,
+    marks: &mut Vec<Mark<A::Block>>,
+) -> Result<(), OutOfMemory>
+    ensures ok { OnOk result ((more : List (Marked A.Block))
+        × GivesUp tables.old tables.new build.old build.new ticket more
+        × (marks.new.items ≡ marks.old.items ++ more)) }
+    ensures numbers { Rises tables.old tables.new }
+{
+    let Some(building) = mem::replace(build, None) else {
+        return tables.cancel(ticket, marks);
+    };
+    if building.ticket != ticket {
+        *build = Some(building);
+        return tables.cancel(ticket, marks);
+    }
+    marks.push(Mark::Ended {
+        job: building.job,
+        how: How::Cancelled,
+    })?;
+    Ok(())
 }

@@ -6,19 +6,18 @@ ghost use Rattle.stateful_types.specs.Causes.{Rose};
 ghost use Rattle.stateful_history.specs.declared.mark.JobKind.TheVariants as job;
 ghost use Rattle.stateful_history.specs.declared.mark.Mark.TheVariants.{Started};
 ghost use Rattle.stateful_exec.specs.Causes.{FaultsStart};
-ghost use Rattle.stateful_exec.specs.Finalizing.{IsRedelivered, Conflicts, MayBegin, FaultsBegin, front_at, RunsFinal, IsFinalBatch, FaultsFinal, IsFinalLive, StepsFinal, FaultsStepFinal, SettlesFinal, FaultsSettleFinal};
+ghost use Rattle.stateful_exec.specs.Finalizing.{IsRedelivered, Conflicts, MayBegin, FaultsBegin, front_at, RunsFinal, IsFinalBatch, FaultsFinal, IsFinalLive, StepsFinal, FaultsStepFinal, SettlesFinal, FaultsSettleFinal, Completes, FaultsComplete, SettlesRun, FaultsSettleRun};
+ghost use Rattle.stateful_exec.specs.Moments.{moment};
 ghost use Rattle.stateful_exec.specs.Starting.{IsLeft, Rises};
 
-use crate::ending::Turned;
+use crate::ending::{Turned, complete, settle};
 use crate::error::ExecError;
 use crate::front::{Front, Stage};
 use crate::running::TablesOf;
 use crate::worked::Worked;
 use stateful_db::{Application, Batch, DatabaseSet};
 use stateful_history::{How, JobKind, Mark};
-use stateful_types::{
-    Ancestry, Anchor, Block, Digested, Finality, Height, Items, Moved, Share,
-};
+use stateful_types::{Ancestry, Anchor, Block, Digested, Finality, Height, Items, Moved, Share};
 use std::mem;
 
 /// A finalization of an application's block.
@@ -218,5 +217,75 @@ fn take_finalized<A: Application>(
             *front = Some(Front { block, stage });
             None
         }
+    }
+}
+
+/// A run of a job has a turn: a candidate's, or that of the finalized block. Where it has ended, what follows is done. Where
+/// the job isn't live nothing changes.
+pub(crate) fn complete_run<A: Application>(
+    application: &mut A,
+    tables: &mut TablesOf<A>,
+    databases: &mut A::Databases,
+    front: &mut Option<FrontOf<A>>,
+    job: u64,
+    marks: &mut Vec<Mark<A::Block>>,
+) -> Result<(), ExecError>
+    ensures ok { OnOk result (let w = ⟦<A as Worked>⟧.workings in Completes w A.Run.count
+        (moment w tables.old (A.Databases.members databases.old) (A.Databases.next databases.old)
+        marks.old.items) front.old job
+        (moment w tables.new (A.Databases.members databases.new) (A.Databases.next databases.new)
+        marks.new.items) front.new) }
+    ensures fault { IfErr result (let w = ⟦<A as Worked>⟧.workings in FaultsComplete w
+        (Rose (A.count application.old) (A.count application.new)) A.Run.count
+        (moment w tables.old (A.Databases.members databases.old) (A.Databases.next databases.old)
+        marks.old.items) front.old job) }
+    ensures members { A.Databases.members databases.new ≡ A.Databases.members databases.old }
+    ensures numbers { Rises tables.old tables.new }
+    ensures counts { (n : ℕ)
+        → A.Databases.counted databases.new n ≡ A.Databases.counted databases.old n }
+    ensures notes { (IsErrOf result ExecError.OutOfMemory → ⊥)
+        → A.notes application.new ≡ A.notes application.old }
+    ensures later { A.count application.old ≤ A.count application.new }
+{
+    if tables.runs.contains(job) {
+        complete(application, tables, databases, job, marks)
+    } else {
+        complete_finalized::<A>(front, databases, job, marks)
+    }
+}
+
+/// Does what follows the last turn of a job's run, which answered this.
+pub(crate) fn settle_run<A: Application>(
+    application: &mut A,
+    tables: &mut TablesOf<A>,
+    databases: &mut A::Databases,
+    front: &mut Option<FrontOf<A>>,
+    job: u64,
+    answer: Turned<A>,
+    marks: &mut Vec<Mark<A::Block>>,
+) -> Result<(), ExecError>
+    ensures ok { OnOk result (let w = ⟦<A as Worked>⟧.workings in SettlesRun w
+        (moment w tables.old (A.Databases.members databases.old) (A.Databases.next databases.old)
+        marks.old.items) front.old job answer
+        (moment w tables.new (A.Databases.members databases.new) (A.Databases.next databases.new)
+        marks.new.items) front.new) }
+    ensures fault { IfErr result (let w = ⟦<A as Worked>⟧.workings in FaultsSettleRun w
+        (Rose (A.count application.old) (A.count application.new))
+        (moment w tables.old (A.Databases.members databases.old) (A.Databases.next databases.old)
+        marks.old.items) front.old job answer) }
+    ensures members { A.Databases.members databases.new ≡ A.Databases.members databases.old }
+    ensures numbers { Rises tables.old tables.new }
+    ensures counts { (n : ℕ)
+        → A.Databases.counted databases.new n ≡ A.Databases.counted databases.old n }
+    ensures notes { (IsErrOf result ExecError.OutOfMemory → ⊥)
+        → A.notes application.new ≡ A.notes application.old }
+    ensures later { A.count application.old ≤ A.count application.new }
+{
+    if tables.runs.contains(job) {
+        return settle(application, tables, databases, job, answer, marks);
+    }
+    match take_finalized::<A>(front, job) {
+        Some((block, run)) => settle_finalized::<A>(front, block, job, run, answer, marks),
+        None => Ok(()),
     }
 }

@@ -1,6 +1,6 @@
 //! Requests to judge blocks and to build them.
 
-ghost use Rattle.std.specs.Prelude.{◌≡◌, ◌⊎◌, ◌++◌, ◌∷◌, [], ◌≤◌, ℕ, List, Some, None, IsSome, OnOk, IfOk, IfErr, IfSome, IfNone, IsErrOf};
+ghost use Rattle.std.specs.Prelude.{◌≡◌, ◌++◌, ◌∷◌, [], ◌≤◌, ℕ, List, None, OnOk, IfOk, IfErr, IfSome, IfNone, IsErrOf};
 ghost use Rattle.stateful_types.specs.Causes.{Rose};
 ghost use Rattle.stateful_history.specs.declared.mark.Mark.{Mark as Marked};
 ghost use Rattle.stateful_table.specs.Table.{at};
@@ -8,64 +8,139 @@ ghost use Rattle.stateful_exec.specs.Moments.{moment};
 ghost use Rattle.stateful_exec.specs.Request.{ticket_by};
 ghost use Rattle.stateful_exec.specs.Starting.{Rises};
 ghost use Rattle.stateful_exec.specs.Rules.{requested, Acquires};
-ghost use Rattle.stateful_exec.specs.Causes.{FaultsAcquire, FaultsAnswer, FaultsStep};
-ghost use Rattle.stateful_exec.specs.Ending.{Steps, SettlesBy};
-ghost use Rattle.stateful_exec.specs.Fetching.{IsFetched, FaultsFetched, Cancels};
+ghost use Rattle.stateful_exec.specs.Causes.{FaultsAcquire};
+ghost use Rattle.stateful_exec.specs.Built.{GivesUp};
+ghost use Rattle.stateful_exec.specs.Fetching.{IsFetched, FaultsFetched};
+ghost use Rattle.stateful_exec.specs.Finalizing.{Completes, FaultsComplete, SettlesRun, FaultsSettleRun};
+ghost use Rattle.stateful_exec.specs.Pausing.{AwaitsRuns, Pauses, Resumes, FaultsResume};
 
-use crate::ending::{Turned, complete, settle};
+use crate::boundary::FinalizationBoundary;
+use crate::built::give_up;
+use crate::ending::Turned;
 use crate::error::ExecError;
-use crate::processor::Processor;
-use crate::proposing::BuildingOf;
+use crate::finalizing::{complete_run, settle_run};
+use crate::pause::Pause;
+use crate::processor::{Execution, Processor};
 use crate::request::Request;
-use crate::running::{TablesOf, acquire, fetched};
+use crate::resuming::resume;
+use crate::running::{acquire, fetched};
+use crate::state::Tables;
 use crate::tables::Requested;
 use crate::worked::Worked;
 use stateful_db::{Application, DatabaseSet};
 use stateful_history::Mark;
-use stateful_types::{BlockStore, Digested, OutOfMemory};
-use std::marker::Model;
+use stateful_types::{Anchor, BlockStore, Digested, OutOfMemory};
+use std::marker::PhantomData;
+
+/// Offers the calls on requests too.
+pub struct Handling;
 
 /// An application with its requests.
-#[derive(Drop)]
-pub struct Handler<A: Application + Drop> {
-    application: A,
-    tables: TablesOf<A>,
-    build: Option<BuildingOf<A>>,
-}
+pub type Handler<A> = Execution<A, Handling>;
 
-impl<A: Application + Drop> Model for Handler<A> {
-    ghost use Rattle.stateful_exec.specs.State.{Owner};
-    ghost use Rattle.std.specs.Prelude.{Option};
-    ghost use Rattle.stateful_exec.specs.declared.building.Building.{Building};
-    ghost use Rattle.stateful_exec.specs.declared.state.Tables.{Tables};
-
-    ghost Value = { Owner A (Tables A.Block A.Context A.Input A.Run A.Databases.Merkleized) (Option (Building A.Block A.Context A.Build)) };
-
-    ghost view = { λ h. record { application = h.application; state = h.tables; build = h.build } };
-}
-
-impl<A: Application + Drop> Handler<A> {
+impl<A: Application + Drop> Execution<A, Handling> {
     /// No request goes on.
     pub fn new(processor: Processor<A>) -> Result<Handler<A>, OutOfMemory>
         ensures { IfOk result (λ h. h ≡ processor) }
     {
-        let Processor {
+        let Execution {
             application,
             tables,
             build,
+            front,
+            offers: _,
         } = processor;
-        Ok(Handler {
+        Ok(Execution {
             application,
             tables,
             build,
+            front,
+            offers: PhantomData,
         })
     }
 
-    /// The next job and the next fetch that will be drawn. They never fall.
-    pub fn numbers(&self) -> (u64, u64)
-        ensures { result ≡ (self.now.state.next_job, self.now.state.next_fetch) }
+    /// Drops all requests, runs, builds and cached states, the finalization that goes on and the pause. The application
+    /// stays. Nothing is cached above this anchor, and jobs and fetches are numbered from these numbers on.
+    pub fn reopen(&mut self, anchor: Anchor, job: u64, fetch: u64)
+        requires { (self.old.state.next_job ≤ job) × (self.old.state.next_fetch ≤ fetch) }
+        ensures application { self.new.application ≡ self.old.application }
+        ensures anchor { self.new.state.anchor ≡ anchor }
+        ensures empty { (self.new.state.cache ≡ [])
+            × (self.new.state.runs ≡ [])
+            × (self.new.state.requests ≡ [])
+            × (self.new.state.queued ≡ [])
+            × (self.new.state.recovered ≡ [])
+            × (self.new.build ≡ None)
+            × (self.new.front ≡ None) }
+        ensures pause { self.new.state.pause ≡ Pause.Free }
+        ensures numbers { (self.new.state.next_job ≡ job) × (self.new.state.next_fetch ≡ fetch) }
     {
-        (self.tables.next_job, self.tables.next_fetch)
+        self.tables = Tables::new(self.tables.alloc, anchor, job, fetch);
+        self.build = None;
+        self.front = None;
+    }
+
+    /// Pauses for a finalization with this boundary, or for a prune without one: the live fetches are withdrawn, by
+    /// ascending numbers. Answers how many live runs it waits for.
+    pub fn pause(
+        &mut self,
+        boundary: Option<FinalizationBoundary>,
+        marks: &mut Vec<Mark<A::Block>>,
+    ) -> Result<usize, ExecError>
+        ensures ok { OnOk result ((more : List (Marked A.Block))
+            × Pauses boundary self.old.state self.new.state more
+            × (marks.new.items ≡ marks.old.items ++ more)) }
+        ensures awaited { IfOk result (AwaitsRuns A.Block.header self.new.state) }
+        ensures memory { IfErr result (λ e. e ≡ ExecError.OutOfMemory) }
+        ensures rest { self.new ≡ record self.old { state = self.new.state } }
+        ensures numbers { Rises self.old.state self.new.state }
+    {
+        self.tables.pause(boundary, marks)?;
+        Ok(self.tables.awaited())
+    }
+
+    /// How many live runs the pause waits for: those that go on over what comes aren't among them.
+    pub fn awaited(&self) -> usize
+        ensures { AwaitsRuns A.Block.header self.now.state result }
+    {
+        self.tables.awaited()
+    }
+
+    /// Goes on behind a pause: parked requests go along their paths, and then all others that wait for no run acquire what
+    /// they need anew, each by ascending tickets.
+    pub fn resume<S: BlockStore<A::Block>>(
+        &mut self,
+        databases: &mut A::Databases,
+        store: &S,
+        marks: &mut Vec<Mark<A::Block>>,
+    ) -> Result<(), ExecError>
+        ensures ok { OnOk result (let w = ⟦<A as Worked>⟧.workings in
+            Resumes w (S.stored store.now)
+            (moment w self.old.state (A.Databases.members databases.old)
+            (A.Databases.next databases.old) marks.old.items)
+            (moment w self.new.state (A.Databases.members databases.new)
+            (A.Databases.next databases.new) marks.new.items)) }
+        ensures fault { IfErr result (let w = ⟦<A as Worked>⟧.workings in
+            FaultsResume w (Rose (A.count self.old.application) (A.count self.new.application))
+            (S.stored store.now)
+            (moment w self.old.state (A.Databases.members databases.old)
+            (A.Databases.next databases.old) marks.old.items)) }
+        ensures works { (self.new.build ≡ self.old.build) × (self.new.front ≡ self.old.front) }
+        ensures members { A.Databases.members databases.new ≡ A.Databases.members databases.old }
+        ensures numbers { Rises self.old.state self.new.state }
+        ensures counts { (n : ℕ)
+            → A.Databases.counted databases.new n ≡ A.Databases.counted databases.old n }
+        ensures notes { (IsErrOf result ExecError.OutOfMemory → ⊥)
+            → A.notes self.new.application ≡ A.notes self.old.application }
+        ensures later { A.count self.old.application ≤ A.count self.new.application }
+    {
+        resume(
+            &mut self.application,
+            &mut self.tables,
+            databases,
+            store,
+            marks,
+        )
     }
 
     /// Takes a request, whose ticket is no other's. It ends at once, or a block is fetched for it, or it waits, or it joins
@@ -89,6 +164,7 @@ impl<A: Application + Drop> Handler<A> {
             (S.stored store.now)
             (moment w self.old.state (A.Databases.members databases.old)
             (A.Databases.next databases.old) marks.old.items) (requested request)) }
+        ensures works { (self.new.build ≡ self.old.build) × (self.new.front ≡ self.old.front) }
         ensures members { A.Databases.members databases.new ≡ A.Databases.members databases.old }
         ensures numbers { Rises self.old.state self.new.state }
         ensures counts { (n : ℕ)
@@ -131,6 +207,7 @@ impl<A: Application + Drop> Handler<A> {
             (S.stored store.now)
             (moment w self.old.state (A.Databases.members databases.old)
             (A.Databases.next databases.old) marks.old.items) fetch answer) }
+        ensures works { (self.new.build ≡ self.old.build) × (self.new.front ≡ self.old.front) }
         ensures members { A.Databases.members databases.new ≡ A.Databases.members databases.old }
         ensures numbers { Rises self.old.state self.new.state }
         ensures counts { (n : ℕ)
@@ -150,26 +227,27 @@ impl<A: Application + Drop> Handler<A> {
         )
     }
 
-    /// The run of a job has one turn. Where it has ended, its end is told, and the requests that waited for it follow, by
-    /// ascending tickets.
+    /// The run of a job has one turn. Where a candidate run has ended, its end is told, and the requests that waited for it
+    /// follow, by ascending tickets; where the run of a finalized block has ended, its batch is there. Where the job isn't
+    /// that of a live run nothing changes.
     pub fn complete(
         &mut self,
         databases: &mut A::Databases,
         job: u64,
         marks: &mut Vec<Mark<A::Block>>,
     ) -> Result<(), ExecError>
-        requires live { IsSome (at self.old.state.runs job) }
         ensures ok { OnOk result (let w = ⟦<A as Worked>⟧.workings in
-            Steps w A.Run.count
+            Completes w A.Run.count
             (moment w self.old.state (A.Databases.members databases.old)
-            (A.Databases.next databases.old) marks.old.items) job
+            (A.Databases.next databases.old) marks.old.items) self.old.front job
             (moment w self.new.state (A.Databases.members databases.new)
-            (A.Databases.next databases.new) marks.new.items)) }
+            (A.Databases.next databases.new) marks.new.items) self.new.front) }
         ensures fault { IfErr result (let w = ⟦<A as Worked>⟧.workings in
-            FaultsStep w (Rose (A.count self.old.application) (A.count self.new.application))
+            FaultsComplete w (Rose (A.count self.old.application) (A.count self.new.application))
             A.Run.count
             (moment w self.old.state (A.Databases.members databases.old)
-            (A.Databases.next databases.old) marks.old.items) job) }
+            (A.Databases.next databases.old) marks.old.items) self.old.front job) }
+        ensures build { self.new.build ≡ self.old.build }
         ensures members { A.Databases.members databases.new ≡ A.Databases.members databases.old }
         ensures numbers { Rises self.old.state self.new.state }
         ensures counts { (n : ℕ)
@@ -178,10 +256,11 @@ impl<A: Application + Drop> Handler<A> {
             → A.notes self.new.application ≡ A.notes self.old.application }
         ensures later { A.count self.old.application ≤ A.count self.new.application }
     {
-        complete(
+        complete_run(
             &mut self.application,
             &mut self.tables,
             databases,
+            &mut self.front,
             job,
             marks,
         )
@@ -195,17 +274,17 @@ impl<A: Application + Drop> Handler<A> {
         answer: Turned<A>,
         marks: &mut Vec<Mark<A::Block>>,
     ) -> Result<(), ExecError>
-        requires live { IsSome (at self.old.state.runs job) }
         ensures ok { OnOk result (let w = ⟦<A as Worked>⟧.workings in
-            SettlesBy w
+            SettlesRun w
             (moment w self.old.state (A.Databases.members databases.old)
-            (A.Databases.next databases.old) marks.old.items) job answer
+            (A.Databases.next databases.old) marks.old.items) self.old.front job answer
             (moment w self.new.state (A.Databases.members databases.new)
-            (A.Databases.next databases.new) marks.new.items)) }
+            (A.Databases.next databases.new) marks.new.items) self.new.front) }
         ensures fault { IfErr result (let w = ⟦<A as Worked>⟧.workings in
-            FaultsAnswer w (Rose (A.count self.old.application) (A.count self.new.application))
+            FaultsSettleRun w (Rose (A.count self.old.application) (A.count self.new.application))
             (moment w self.old.state (A.Databases.members databases.old)
-            (A.Databases.next databases.old) marks.old.items) job answer) }
+            (A.Databases.next databases.old) marks.old.items) self.old.front job answer) }
+        ensures build { self.new.build ≡ self.old.build }
         ensures members { A.Databases.members databases.new ≡ A.Databases.members databases.old }
         ensures numbers { Rises self.old.state self.new.state }
         ensures counts { (n : ℕ)
@@ -214,10 +293,11 @@ impl<A: Application + Drop> Handler<A> {
             → A.notes self.new.application ≡ A.notes self.old.application }
         ensures later { A.count self.old.application ≤ A.count self.new.application }
     {
-        settle(
+        settle_run(
             &mut self.application,
             &mut self.tables,
             databases,
+            &mut self.front,
             job,
             answer,
             marks,
@@ -231,25 +311,26 @@ impl<A: Application + Drop> Handler<A> {
         ensures none { IfNone result (self.old.state.recovered ≡ []) }
         ensures rest { self.new.state
             ≡ record self.old.state { recovered = self.new.state.recovered } }
+        ensures works { (self.new.build ≡ self.old.build) × (self.new.front ≡ self.old.front) }
         ensures application { self.new.application ≡ self.old.application }
     {
         self.tables.ready()
     }
 
-    /// Gives up a request, or a build that is queued.
+    /// Gives up the request of a ticket. The live build ends where it is for it; else the request is given up, its fetch is
+    /// withdrawn, and the run that it was the last to wait for ends; or its build isn't queued any more.
     pub fn cancel(
         &mut self,
         ticket: u64,
         marks: &mut Vec<Mark<A::Block>>,
     ) -> Result<(), OutOfMemory>
-        requires live { IsSome (at self.old.state.requests ticket)
-            ⊎ IsSome (at self.old.state.queued ticket) }
         ensures ok { OnOk result ((more : List (Marked A.Block))
-            × Cancels self.old.state self.new.state ticket more
+            × GivesUp self.old.state self.new.state self.old.build self.new.build ticket more
             × (marks.new.items ≡ marks.old.items ++ more)) }
         ensures numbers { Rises self.old.state self.new.state }
         ensures application { self.new.application ≡ self.old.application }
+        ensures front { self.new.front ≡ self.old.front }
     {
-        self.tables.cancel(ticket, marks)
+        give_up::<A>(&mut self.tables, &mut self.build, ticket, marks)
     }
 }

@@ -96,10 +96,7 @@ impl<B, C, I> Requested<B, C, I> {
 }
 
 /// These fetches are withdrawn, one after another.
-fn withdraw<B: Drop>(
-    fetches: &BTreeSet<u64>,
-    marks: &mut Vec<Mark<B>>,
-) -> Result<(), OutOfMemory>
+fn withdraw<B: Drop>(fetches: &BTreeSet<u64>, marks: &mut Vec<Mark<B>>) -> Result<(), OutOfMemory>
     ensures { OnOk result (marks.new.items
         ≡ marks.old.items ++ map (λ f. mark.Withdrawn f) (keys fetches.now)) }
 {
@@ -200,9 +197,7 @@ impl<B: Block + Drop, C: Copy, I: Drop, R: Drop, U: Drop> Tables<B, C, I, R, U> 
     }
 
     /// Takes the requests out of their table that are to acquire anew what they need, by ascending tickets.
-    pub(crate) fn take_unacquired(
-        &mut self,
-    ) -> Result<Vec<(u64, Requested<B, C, I>)>, OutOfMemory>
+    pub(crate) fn take_unacquired(&mut self) -> Result<Vec<(u64, Requested<B, C, I>)>, OutOfMemory>
         ensures out { IfOk result (λ out. out.items ≡ unacquired_in self.old.requests) }
         ensures rest { OnOk result (self.new ≡ record self.old {
           requests = not_unacquired self.old.requests;

@@ -19,11 +19,7 @@ use stateful_types::BlockStore;
 /// The requests of an application that are to acquire anew what they need.
 type UnacquiredOf<A> = (
     u64,
-    Requested<
-        <A as Application>::Block,
-        <A as Application>::Context,
-        <A as Application>::Input,
-    >,
+    Requested<<A as Application>::Block, <A as Application>::Context, <A as Application>::Input>,
 );
 
 /// The parked requests go along their paths, one after another.
@@ -128,12 +124,5 @@ pub(crate) fn resume<A: Application, S: BlockStore<A::Block>>(
     tables.end_pause();
     advance_each(application, tables, databases, parked, marks)?;
     let unacquired = tables.take_unacquired()?;
-    acquire_each(
-        application,
-        tables,
-        databases,
-        store,
-        unacquired,
-        marks,
-    )
+    acquire_each(application, tables, databases, store, unacquired, marks)
 }

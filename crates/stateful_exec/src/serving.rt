@@ -107,7 +107,6 @@ impl<B: Block + Drop, C: Copy, I: Drop, R: Drop, U: Drop> Tables<B, C, I, R, U> 
         ticket: u64,
         marks: &mut Vec<Mark<B>>,
     ) -> Result<(), OutOfMemory>
-        requires { IsSome (at self.old.requests ticket) ⊎ IsSome (at self.old.queued ticket) }
         ensures ok { OnOk result ((more : List (Mark B))
             × Cancels self.old self.new ticket more
             × (marks.new.items ≡ marks.old.items ++ more)) }

@@ -58,8 +58,13 @@ fn step_in<U>(entry: &Cached<U>) -> ExecutionStep
 }
 
 impl<B: Block + Drop, C: Copy, I: Drop, R: Drop, U: Drop> Tables<B, C, I, R, U> {
-    /// Nothing is cached above the anchor, and nothing goes on. Jobs and fetches are numbered from 0.
-    pub(crate) fn new(alloc: Global, anchor: Anchor) -> Tables<B, C, I, R, U>
+    /// Nothing is cached above the anchor, and nothing goes on. Jobs and fetches are numbered from these numbers on.
+    pub(crate) fn new(
+        alloc: Global,
+        anchor: Anchor,
+        next_job: u64,
+        next_fetch: u64,
+    ) -> Tables<B, C, I, R, U>
         ensures { result ≡ record {
           alloc = alloc;
           anchor = anchor;
@@ -68,8 +73,8 @@ impl<B: Block + Drop, C: Copy, I: Drop, R: Drop, U: Drop> Tables<B, C, I, R, U> 
           requests = [];
           queued = [];
           recovered = [];
-          next_job = 0;
-          next_fetch = 0;
+          next_job = next_job;
+          next_fetch = next_fetch;
           pause = Pause.Free;
         } }
     {
@@ -81,8 +86,8 @@ impl<B: Block + Drop, C: Copy, I: Drop, R: Drop, U: Drop> Tables<B, C, I, R, U> 
             requests: Table::new(alloc),
             queued: Table::new(alloc),
             recovered: Tickets::new(alloc),
-            next_job: 0,
-            next_fetch: 0,
+            next_job,
+            next_fetch,
             pause: Pause::Free,
         }
     }

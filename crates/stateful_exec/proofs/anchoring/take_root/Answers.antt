@@ -2,5 +2,5 @@ use Rattle.stateful_exec.specs.Finalizing.{ran}
 use Rattle.stateful_exec.proofs.Fronts.{at_none}
 use Rattle.stateful_exec.proofs.anchoring.take_root.Goals as goal
 
-pub returns-in-None-clause-root : goal.returns-in-None-clause-root
-returns-in-None-clause-root g c = ran (at_none c.in-None.is c.in_ok-batch.ensures.none) c.take_ran.ensures.1
+pub returns-in-Some-take_ran-clause-root : goal.returns-in-Some-take_ran-clause-root
+returns-in-Some-take_ran-clause-root g c = ran (at_none c.in_default.is c.in_ok-batch.ensures.none) c.in-Some-take_ran.ensures.some.1

@@ -14,7 +14,6 @@ invariant-loop-ticket g l =
           (moment w l.fn.tables (g.A.Databases.DatabaseSet.members l.fn.databases) (g.A.Databases.DatabaseSet.next l.fn.databases) l.fn.marks.items)
           l.yielded l.ticket-iterator.rest.items
           (moment w l.tables (g.A.Databases.DatabaseSet.members l.databases) (g.A.Databases.DatabaseSet.next l.databases) l.marks.items);
-      
       members : g.A.Databases.DatabaseSet.members l.databases ≡ g.A.Databases.DatabaseSet.members l.fn.databases;
       numbers : Rises l.fn.tables l.tables;
       counts : (n : ℕ) → g.A.Databases.DatabaseSet.counted l.databases n ≡ g.A.Databases.DatabaseSet.counted l.fn.databases n;

@@ -4,7 +4,7 @@ use Rattle.stateful_exec.proofs.state.Tables.cancel.Goals as goal
 
 pub returns-in_default-clause-ok : goal.returns-in_default-clause-ok
 returns-in_default-clause-ok g c =
-    unqueue c.args.self.now _ c.args.ticket c.args.marks.now.items c.requires (sym c.remove.ensures.value ∙ c.in_default.is) (rw (c.remove.ensures.others, c.remove-in_default.ensures.others, c.remove-in_default-2.ensures) refl)
+    unqueue c.args.self.now _ c.args.ticket c.args.marks.now.items (sym c.remove.ensures.value ∙ c.in_default.is) (rw (c.remove.ensures.others, c.remove-in_default.ensures.others, c.remove-in_default-2.ensures) refl)
 
 pub returns-in-Fetching-clause-ok : goal.returns-in-Fetching-clause-ok
 returns-in-Fetching-clause-ok g c =
