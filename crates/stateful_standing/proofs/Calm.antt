@@ -30,11 +30,11 @@ pub record IsCalm {B C I S T : Type 0} (s : Setting B S T) (p : Past B C I) (x :
   pub built : (d : Digest) → WasBuilt p d → WasBuilt (x ∷ p) d
   pub kept : kept_by p x ≡ None
 
--- an item that starts, turns and ends no job
-pub record LeavesJobs {B C I : Type 0} (p : Past B C I) (x : Item B C I) : Type 0 where
-  pub live : (j : ℕ) → live_job j (x ∷ p) ≡ live_job j p
-  pub started : (j : ℕ) → started_for j (x ∷ p) ≡ started_for j p
-  pub turns : (j : ℕ) → turns j (x ∷ p) ≡ turns j p
+-- the item neither starts, turns nor ends the job
+pub record LeavesJob {B C I : Type 0} (p : Past B C I) (x : Item B C I) (j : ℕ) : Type 0 where
+  pub live : live_job j (x ∷ p) ≡ live_job j p
+  pub started : started_for j (x ∷ p) ≡ started_for j p
+  pub turns : turns j (x ∷ p) ≡ turns j p
 
 module _ {B C I S T : Type 0} (s : Setting B S T) where
   later-moved : (p q : Past B C I) (b : Named B) → tip_of s.header q ≡ tip_of s.header p → IsPastTip s p b → IsPastTip s q b
@@ -93,10 +93,11 @@ module _ {B C I P R D H G U : Type 0} (w : Workings B C I P R D H G U) where
           knows = λ d. (λ k. (h.knows d).0 (Known-before (setting w stored) k calm), λ b. Known-calm (setting w stored) ((h.knows d).1 b) x calm);
         }
 
-        module _ (cache : List (Cached U)) (jobs : LeavesJobs p x) where
-          IsRunning-calm : (j : ℕ) (run : LiveRun B R) → IsRunning w stored p points next anchor cache j run → IsRunning w stored (x ∷ p) points next anchor cache j run
-          IsRunning-calm j run h = record {
-            job = record { live = jobs.live j ∙ h.job.live; is = jobs.started j ∙ h.job.is };
+        module _ (cache : List (Cached U)) where
+          -- a live run stands for the longer past
+          pub IsRunning-calm : (j : ℕ) (run : LiveRun B R) → LeavesJob p x j → IsRunning w stored p points next anchor cache j run → IsRunning w stored (x ∷ p) points next anchor cache j run
+          IsRunning-calm j run same h = record {
+            job = record { live = same.live ∙ h.job.live; is = same.started ∙ h.job.is };
             met = inr h.met;
             parent = h.parent;
             parent_met = inr h.parent_met;
@@ -108,13 +109,13 @@ module _ {B C I P R D H G U : Type 0} (w : Workings B C I P R D H G U) where
             drawn = h.drawn;
             context = h.context;
             round = h.round;
-            runs = rw (jobs.turns j) h.runs;
+            runs = rw same.turns h.runs;
           }
 
           -- the live runs stand for the longer past
-          pub RunsStand-calm : (runs : List (ℕ × LiveRun B R)) → RunsStand w stored p points next anchor cache runs → RunsStand w stored (x ∷ p) points next anchor cache runs
-          RunsStand-calm runs h = record {
-            each = All-weaker (λ (e : ℕ × LiveRun B R). IsRunning w stored p points next anchor cache e.0 e.1) (λ e. IsRunning w stored (x ∷ p) points next anchor cache e.0 e.1) (λ e r. IsRunning-calm e.0 e.1 r) runs h.each;
+          pub RunsStand-calm : ((j : ℕ) → LeavesJob p x j) → (runs : List (ℕ × LiveRun B R)) → RunsStand w stored p points next anchor cache runs → RunsStand w stored (x ∷ p) points next anchor cache runs
+          RunsStand-calm jobs runs h = record {
+            each = All-weaker (λ (e : ℕ × LiveRun B R). IsRunning w stored p points next anchor cache e.0 e.1) (λ e. IsRunning w stored (x ∷ p) points next anchor cache e.0 e.1) (λ e r. IsRunning-calm e.0 e.1 (jobs e.0) r) runs h.each;
             apart = h.apart;
-            complete = λ j d live. h.complete j d (record { live = sym (jobs.live j) ∙ live.live; is = sym (jobs.started j) ∙ live.is });
+            complete = λ j d live. let same = jobs j in h.complete j d (record { live = sym same.live ∙ live.live; is = sym same.started ∙ live.is });
           }

@@ -1,1 +1,5 @@
 pub mod Calm
+pub mod Asking
+pub mod Removing
+pub mod GivenUp
+pub mod Cancelled

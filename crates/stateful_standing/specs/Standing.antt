@@ -1,12 +1,12 @@
 -- What the tables of execution stand for.
-use Rattle.std.specs.Prelude.{◌≡◌, ◌≢◌, ◌<◌, ℕ, Option, None}
+use Rattle.std.specs.Prelude.{◌≡◌, ◌≢◌, ◌<◌, ℕ, Option, None, IsSome}
 use Rattle.stateful_types.specs.Names.{Named}
 use Rattle.stateful_types.specs.declared.digest.Digest.{Digest}
 use Rattle.stateful_history.specs.Past.{Past}
 use Rattle.stateful_history.specs.Asked.{asked_for}
 use Rattle.stateful_history.specs.Jobs.{started_for}
+use Rattle.stateful_table.specs.Table.{at}
 use Rattle.stateful_exec.specs.Workings.{Workings, Point}
-use Rattle.stateful_exec.specs.Moments.{Moment}
 use Rattle.stateful_exec.specs.declared.state.Tables.{Tables}
 use Rattle.stateful_standing.specs.Caching.{CacheStands}
 use Rattle.stateful_standing.specs.Requesting.{RequestsStand, QueueStands}
@@ -24,5 +24,6 @@ module _ {B C I P R D H G U : Type 0} (w : Workings B C I P R D H G U) (stored :
     pub cache : CacheStands w stored p points next v.anchor v.pause v.cache
     pub runs : RunsStand w stored p points next v.anchor v.cache v.runs
     pub requests : RequestsStand w stored p v.runs v.requests
+    pub once : (t : ℕ) → IsSome (at v.requests t) → at v.queued t ≡ None
     pub queue : QueueStands w stored p v.queued v.recovered
     pub numbers : NumbersStand p v.next_job v.next_fetch
