@@ -1,5 +1,5 @@
 -- Requests stand for a longer past, where the item that is added leaves them as they are.
-use Rattle.std.proofs.Common.{◌≡◌, ◌≢◌, ◌++◌, inr, ℕ, true, List, [], ◌∷◌, All, Option, Some, MatchOption, refl, sym, ◌∙◌}
+use Rattle.std.proofs.Common.{◌≡◌, inr, ℕ, List, ◌∷◌, Option, refl, ◌∙◌}
 use Rattle.std.proofs.lemmas.List.Elements.{All-weaker}
 use Rattle.stateful_types.specs.Names.{Named}
 use Rattle.stateful_history.specs.Past.{Past, Item}

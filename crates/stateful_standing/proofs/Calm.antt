@@ -1,5 +1,5 @@
 -- What stands for a past stands for a longer one, where the item that is added leaves things as they are.
-use Rattle.std.proofs.Common.{◌≡◌, ◌⊎◌, inl, inr, ℕ, List, ◌∷◌, All, Option, None, Some, true, sym, ◌∙◌, subst, MatchOption}
+use Rattle.std.proofs.Common.{◌≡◌, inl, inr, ℕ, List, ◌∷◌, Option, None, sym, ◌∙◌, subst, MatchOption}
 use Rattle.std.proofs.lemmas.List.Elements.{All-weaker}
 use Rattle.stateful_types.specs.Names.{Named}
 use Rattle.stateful_types.specs.Round.{IsLater}
@@ -13,7 +13,7 @@ use Rattle.stateful_history.specs.Asked.{kept_by}
 use Rattle.stateful_history.specs.Joined.{WasBuilt}
 use Rattle.stateful_history.specs.Known.{Known, is_tip, kept, stays, IsPastTip}
 use Rattle.stateful_history.specs.Live.{live_job}
-use Rattle.stateful_history.specs.Jobs.{IsLiveJob, started_for, turns}
+use Rattle.stateful_history.specs.Jobs.{started_for, turns}
 use Rattle.stateful_cache.specs.declared.cache.Cached.{Cached}
 use Rattle.stateful_exec.specs.Workings.{Workings, Point}
 use Rattle.stateful_exec.specs.declared.pause.Pause.{Pause}

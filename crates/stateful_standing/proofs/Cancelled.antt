@@ -1,12 +1,11 @@
 -- The tables stand behind each case of a cancel.
-use Rattle.std.proofs.Common.{◌≡◌, ◌≢◌, ◌==◌, ◌&&◌, not, ℕ, Bool, true, false, List, [], ◌∷◌, All, Option, Some, None, IsSome, MatchOption, get_or, refl, sym, ap, ◌∙◌, subst}
+use Rattle.std.proofs.Common.{◌≡◌, ◌≢◌, ◌==◌, ◌&&◌, not, ℕ, Bool, true, false, [], ◌∷◌, All, Option, Some, None, IsSome, MatchOption, get_or, refl, sym, ap, ◌∙◌, subst}
 use Rattle.std.proofs.lemmas.Bool.{eqb-true, eq-eqb}
 use Rattle.stateful_types.specs.Names.{Named}
 use Rattle.stateful_types.specs.declared.digest.Digest.{Digest}
-use Rattle.stateful_history.specs.Past.{Past, Item, Came, Made}
-use Rattle.stateful_history.specs.Requests.{IsLiveProposal}
+use Rattle.stateful_history.specs.Past.{Past, Came, Made}
 use Rattle.stateful_history.specs.Asked.{asked_for}
-use Rattle.stateful_history.specs.Live.{live_fetch, live_job}
+use Rattle.stateful_history.specs.Live.{live_fetch}
 use Rattle.stateful_history.specs.declared.event.Event.TheVariants.{Cancel}
 use Rattle.stateful_history.specs.declared.mark.How.TheVariants.{Cancelled}
 use Rattle.stateful_history.specs.declared.mark.Mark.TheVariants.{Withdrawn, Ended}
@@ -15,14 +14,13 @@ use Rattle.stateful_exec.specs.Fetching.{IsIdle}
 use Rattle.stateful_exec.specs.Phase.{is_on, tickets_on}
 use Rattle.stateful_exec.specs.Rules.{taken}
 use Rattle.stateful_exec.specs.Workings.{Workings, Point}
-use Rattle.stateful_exec.specs.declared.request.Proposal.{Proposal}
 use Rattle.stateful_exec.specs.declared.state.Tables.{Tables}
 use Rattle.stateful_exec.specs.declared.tables.Phase.{Phase}
-use Rattle.stateful_exec.specs.declared.tables.Phase.TheVariants.{Fetching, Executing}
+use Rattle.stateful_exec.specs.declared.tables.Phase.TheVariants.{Fetching}
 use Rattle.stateful_exec.specs.declared.tables.Requested.{Requested}
 use Rattle.stateful_standing.specs.Setting.{setting}
 use Rattle.stateful_standing.specs.Requesting.{IsInPhase, IsStanding, QueueStands}
-use Rattle.stateful_standing.specs.Standing.{NumbersStand, TablesStand}
+use Rattle.stateful_standing.specs.Standing.{TablesStand}
 use Rattle.stateful_standing.proofs.Calm.{IsCalm, CacheStands-calm, RunsStand-calm}
 use Rattle.stateful_standing.proofs.Asking.{LeavesFetch, IsStanding-calm}
 use Rattle.stateful_standing.proofs.Removing.{differ, at_other, none_at, All-at, All-without, sorted_without, tickets_stay}
@@ -63,15 +61,15 @@ module _ {B C I P R D H G U : Type 0} (w : Workings B C I P R D H G U) (stored :
     pub TablesStand-idle : IsIdle r.phase → TablesStand w stored (Came (Cancel t) ∷ p) points point next (taken old t)
     TablesStand-idle idle = TablesStand-left (λ f is. no_fetch r.phase f idle is) (λ j on. let no : true ≡ false = sym on ∙ no_run r.phase j idle in cc)
 
-and_left : (a b : Bool) → (a && b) ≡ true → a ≡ true
+pub and_left : (a b : Bool) → (a && b) ≡ true → a ≡ true
 and_left true b is = refl
 and_left false b is = cc
 
-and_right : (a b : Bool) → (a && b) ≡ true → b ≡ true
+pub and_right : (a b : Bool) → (a && b) ≡ true → b ≡ true
 and_right true b is = is
 and_right false b is = cc
 
-not_same : (a b : ℕ) → not (a == b) ≡ true → a ≢ b
+pub not_same : (a b : ℕ) → not (a == b) ≡ true → a ≢ b
 not_same a b is e = let same = eq-eqb a b e in let no : false ≡ true = rw same at is in cc
 
 same_ticket : (t u : ℕ) → Some (Some t) ≡ Some (Some u) → t ≡ u
@@ -81,10 +79,10 @@ same_fetch : {B : Type 0} (f g : ℕ) (phase : Phase B) → phase ≡ Fetching f
 same_fetch f g phase a b = let c : Fetching f ≡ Fetching g = sym a ∙ b in search
 
 module _ {B C I S T : Type 0} where
-  withdrawn-IsCalm : (w : _) (p : Past B C I) (f : ℕ) → IsCalm {S = S} {T = T} w p (Made (Withdrawn f))
+  pub withdrawn-IsCalm : (w : _) (p : Past B C I) (f : ℕ) → IsCalm {S = S} {T = T} w p (Made (Withdrawn f))
   withdrawn-IsCalm w p f = record { tip = refl; starts_none = tt; built = λ d h. h; kept = refl }
 
-  ended-IsCalm : (w : _) (p : Past B C I) (j : ℕ) → IsCalm {S = S} {T = T} w p (Made (Ended j Cancelled))
+  pub ended-IsCalm : (w : _) (p : Past B C I) (j : ℕ) → IsCalm {S = S} {T = T} w p (Made (Ended j Cancelled))
   ended-IsCalm w p j = record { tip = refl; starts_none = tt; built = λ d h. h; kept = refl }
 
 module _ {B C I P R D H G U : Type 0} (w : Workings B C I P R D H G U) (stored : ℕ → Option (Named B)) (p : Past B C I) (points : Digest → Point w) (point : Point w) (next : w.Ids) (old : Tables B C I R U) (t : ℕ) (s : TablesStand w stored p points point next old)

@@ -1,26 +1,21 @@
 -- The tables stand behind a cancel.
-use Rattle.std.proofs.Common.{◌≡◌, ◌≢◌, ◌==◌, ◌&&◌, not, ℕ, Bool, true, false, List, [], ◌∷◌, map, filter, All, Option, Some, None, IsSome, MatchOption, if◌then◌else◌, refl, sym, ap, ◌∙◌, subst}
+use Rattle.std.proofs.Common.{◌≡◌, ◌≢◌, ◌==◌, ℕ, Bool, true, false, List, [], ◌∷◌, All, Option, Some, IsSome, MatchOption, refl, sym, ap, ◌∙◌, subst}
 use Rattle.std.proofs.lemmas.Bool.{eqb-true, eq-eqb}
 use Rattle.std.proofs.lemmas.List.Elements.{All-weaker}
 use Rattle.stateful_types.specs.Names.{Named}
-use Rattle.stateful_types.specs.declared.digest.Digest.{Digest}
-use Rattle.stateful_history.specs.Past.{Past, Item, Came, Made}
+use Rattle.stateful_history.specs.Past.{Past, Came}
 use Rattle.stateful_history.specs.Asked.{asked_for}
-use Rattle.stateful_history.specs.Live.{live_fetch, live_job}
-use Rattle.stateful_history.specs.Jobs.{started_for}
+use Rattle.stateful_history.specs.Live.{live_fetch}
 use Rattle.stateful_history.specs.declared.event.Event.TheVariants.{Cancel}
-use Rattle.stateful_history.specs.declared.mark.How.TheVariants.{Cancelled}
-use Rattle.stateful_history.specs.declared.mark.Mark.TheVariants.{Withdrawn, Ended}
 use Rattle.stateful_table.specs.Table.{at, without}
 use Rattle.stateful_exec.specs.Fetching.{IsIdle}
 use Rattle.stateful_exec.specs.Phase.{is_on, tickets_on}
-use Rattle.stateful_exec.specs.Workings.{Workings, Point}
+use Rattle.stateful_exec.specs.Workings.{Workings}
 use Rattle.stateful_exec.specs.declared.tables.LiveRun.{LiveRun}
 use Rattle.stateful_exec.specs.declared.tables.Phase.{Phase}
 use Rattle.stateful_exec.specs.declared.tables.Phase.TheVariants.{Open, Fetching, Waiting, Executing, Parked}
 use Rattle.stateful_exec.specs.declared.tables.Requested.{Requested}
-use Rattle.stateful_standing.specs.Setting.{setting}
-use Rattle.stateful_standing.specs.Requesting.{first_of, IsStanding, RequestsStand}
+use Rattle.stateful_standing.specs.Requesting.{IsStanding, RequestsStand}
 use Rattle.stateful_standing.proofs.Calm.{IsCalm, LeavesJob}
 use Rattle.stateful_standing.proofs.Asking.{LeavesTicket, LeavesFetch, IsStanding-calm}
 use Rattle.stateful_standing.proofs.Removing.{differ, at_other, All-without, sorted_without, tickets_stay}

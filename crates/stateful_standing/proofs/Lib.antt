@@ -3,3 +3,5 @@ pub mod Asking
 pub mod Removing
 pub mod GivenUp
 pub mod Cancelled
+pub mod RunEnded
+pub mod CancelStands
