@@ -7,9 +7,11 @@ use Rattle.stateful_history.specs.Asked.{asked_for}
 use Rattle.stateful_history.specs.Jobs.{started_for}
 use Rattle.stateful_table.specs.Table.{at}
 use Rattle.stateful_exec.specs.Workings.{Workings, Point}
+use Rattle.stateful_exec.specs.Request.{ticket_by}
+use Rattle.stateful_exec.specs.declared.request.Request.{Request}
 use Rattle.stateful_exec.specs.declared.state.Tables.{Tables}
 use Rattle.stateful_standing.specs.Caching.{CacheStands}
-use Rattle.stateful_standing.specs.Requesting.{RequestsStand, QueueStands}
+use Rattle.stateful_standing.specs.Requesting.{IsRequestOf, RequestsStand, QueueStands}
 use Rattle.stateful_standing.specs.Running.{RunsStand}
 
 -- the numbers that are drawn next are above all that were drawn
@@ -27,3 +29,10 @@ module _ {B C I P R D H G U : Type 0} (w : Workings B C I P R D H G U) (stored :
     pub once : (t : ℕ) → IsSome (at v.requests t) → at v.queued t ≡ None
     pub queue : QueueStands w stored p v.queued v.recovered
     pub numbers : NumbersStand p v.next_job v.next_fetch
+
+  -- a live request that is served: it is in no table
+  pub record IsInHand (t : ℕ) (request : Request B C I) (v : Tables B C I R U) : Type 0 where
+    pub absent : at v.requests t ≡ None
+    pub not_queued : at v.queued t ≡ None
+    pub own : ticket_by request ≡ t
+    pub asked : IsRequestOf w stored p t request
