@@ -31,7 +31,7 @@ pub record LeavesFetch {B C I : Type 0} (p : Past B C I) (x : Item B C I) (f : �
   pub asked : asked_for f (x ∷ p) ≡ asked_for f p
 
 module _ {B C I P R D H G U : Type 0} (w : Workings B C I P R D H G U) (stored : ℕ → Option (Named B)) (p : Past B C I) (x : Item B C I) where
-  IsRequestOf-calm : (t : ℕ) (request : Request B C I) → LeavesTicket p x t → IsRequestOf w stored p t request → IsRequestOf w stored (x ∷ p) t request
+  pub IsRequestOf-calm : (t : ℕ) (request : Request B C I) → LeavesTicket p x t → IsRequestOf w stored p t request → IsRequestOf w stored (x ∷ p) t request
   IsRequestOf-calm t (Verify u ancestry) same h = record { live = same.live ∙ h.live; verifies = same.verified ∙ h.verifies }
   IsRequestOf-calm t (Recover u context ancestry input kind) same h = record { live = same.live ∙ h.live; proposes = same.proposed ∙ h.proposes }
 

@@ -72,7 +72,7 @@ and_right false b is = cc
 pub not_same : (a b : ℕ) → not (a == b) ≡ true → a ≢ b
 not_same a b is e = let same = eq-eqb a b e in let no : false ≡ true = rw same at is in cc
 
-same_ticket : (t u : ℕ) → Some (Some t) ≡ Some (Some u) → t ≡ u
+pub same_ticket : (t u : ℕ) → Some (Some t) ≡ Some (Some u) → t ≡ u
 same_ticket t u is = search
 
 same_fetch : {B : Type 0} (f g : ℕ) (phase : Phase B) → phase ≡ Fetching f → phase ≡ Fetching g → f ≡ g

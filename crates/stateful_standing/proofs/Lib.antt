@@ -7,3 +7,4 @@ pub mod RunEnded
 pub mod CancelStands
 pub mod Putting
 pub mod PutStands
+pub mod AskStands

@@ -27,14 +27,14 @@ module _ {B C I P R D H G U : Type 0} (w : Workings B C I P R D H G U) (stored :
   now = record r { phase = phase }
 
   -- a live fetch of another ticket is that one's still
-  fetches-put : (f u : ℕ) → live_fetch f p ≡ true → asked_for f p ≡ Some (Some u) → MatchOption (at (put old.requests t now) u) ⊥ (λ q. q.phase ≡ Fetching f)
+  pub fetches-put : (f u : ℕ) → live_fetch f p ≡ true → asked_for f p ≡ Some (Some u) → MatchOption (at (put old.requests t now) u) ⊥ (λ q. q.phase ≡ Fetching f)
   fetches-put f u live asked = go (u == t) refl (s.requests.fetches f u live asked)
     where
       go : (b : Bool) → (u == t) ≡ b → MatchOption (at old.requests u) ⊥ (λ q. q.phase ≡ Fetching f) → MatchOption (at (put old.requests t now) u) ⊥ (λ q. q.phase ≡ Fetching f)
       go true is has = absurd (subst (λ o. MatchOption o ⊥ (λ (q : Requested B C I). q.phase ≡ Fetching f)) (ap (λ k. at old.requests k) (eqb-true u t is) ∙ hand.absent) has)
       go false is has = subst (λ o. MatchOption o ⊥ (λ (q : Requested B C I). q.phase ≡ Fetching f)) (sym (put_other old.requests t u now (eqb-false u t is))) has
 
-  once-put : (u : ℕ) → IsSome (at (put old.requests t now) u) → at old.queued u ≡ None
+  pub once-put : (u : ℕ) → IsSome (at (put old.requests t now) u) → at old.queued u ≡ None
   once-put u some = go (u == t) refl
     where
       go : (b : Bool) → (u == t) ≡ b → at old.queued u ≡ None
