@@ -95,5 +95,5 @@ module _ {B C I P R D H G U : Type 0} (w : Workings B C I P R D H G U) (stored :
     };
     once = once-put w stored p points point next old t s r hand met (Fetching old.next_fetch);
     queue = record { each = λ k x l. let e = s.queue.each k x l in record { live = e.live; proposes = e.proposes }; ready = s.queue.ready };
-    numbers = record { jobs = s.numbers.jobs; fetches = asked_below };
+    numbers = record { jobs = s.numbers.jobs; unturned = s.numbers.unturned; fetches = asked_below };
   }

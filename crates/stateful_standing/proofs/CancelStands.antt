@@ -76,7 +76,7 @@ module _ {B C I P R D H G U : Type 0} (w : Workings B C I P R D H G U) (stored :
       requests = requests-unqueued;
       once = once-unqueued;
       queue = queue-unqueued;
-      numbers = record { jobs = s.numbers.jobs; fetches = s.numbers.fetches };
+      numbers = record { jobs = s.numbers.jobs; unturned = s.numbers.unturned; fetches = s.numbers.fetches };
     }
 
   -- whatever a cancel leaves stands for the past with it and its marks

@@ -54,7 +54,7 @@ module _ {B C I P R D H G U : Type 0} (w : Workings B C I P R D H G U) (stored :
       requests = RequestsStand-left w stored p t old.runs old.requests s.requests r there fetches_none joined;
       once = once-left;
       queue = queue-left;
-      numbers = record { jobs = s.numbers.jobs; fetches = s.numbers.fetches };
+      numbers = record { jobs = s.numbers.jobs; unturned = s.numbers.unturned; fetches = s.numbers.fetches };
     }
 
     -- behind the cancel of an idle request
@@ -121,7 +121,7 @@ module _ {B C I P R D H G U : Type 0} (w : Workings B C I P R D H G U) (stored :
       };
       once = once-left w stored p points point next old t s r there;
       queue = let q = queue-left w stored p points point next old t s r there in record { each = λ k d l. let e = q.each k d l in record { live = e.live; proposes = e.proposes }; ready = q.ready };
-      numbers = record { jobs = s.numbers.jobs; fetches = s.numbers.fetches };
+      numbers = record { jobs = s.numbers.jobs; unturned = s.numbers.unturned; fetches = s.numbers.fetches };
     }
       where
         others : All (λ e. e.0 ≢ t → IsStanding w stored (Made (Withdrawn f) ∷ given) old.runs e.0 e.1) old.requests

@@ -8,3 +8,5 @@ pub mod CancelStands
 pub mod Putting
 pub mod PutStands
 pub mod AskStands
+pub mod Cutting
+pub mod StartStands

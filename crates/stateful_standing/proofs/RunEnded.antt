@@ -105,5 +105,5 @@ module _ {B C I P R D H G U : Type 0} (w : Workings B C I P R D H G U) (stored :
     requests = requests-ended;
     once = once-left w stored p points point next old t s r there;
     queue = let q = queue-left w stored p points point next old t s r there in record { each = λ k d l. let e = q.each k d l in record { live = e.live; proposes = e.proposes }; ready = q.ready };
-    numbers = record { jobs = s.numbers.jobs; fetches = s.numbers.fetches };
+    numbers = record { jobs = s.numbers.jobs; unturned = s.numbers.unturned; fetches = s.numbers.fetches };
   }

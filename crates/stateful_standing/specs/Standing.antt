@@ -1,10 +1,10 @@
 -- What the tables of execution stand for.
-use Rattle.std.specs.Prelude.{◌≡◌, ◌≢◌, ◌<◌, ℕ, Option, None, IsSome}
+use Rattle.std.specs.Prelude.{◌≡◌, ◌≢◌, ◌<◌, ◌≤◌, ℕ, Option, None, IsSome}
 use Rattle.stateful_types.specs.Names.{Named}
 use Rattle.stateful_types.specs.declared.digest.Digest.{Digest}
 use Rattle.stateful_history.specs.Past.{Past}
 use Rattle.stateful_history.specs.Asked.{asked_for}
-use Rattle.stateful_history.specs.Jobs.{started_for}
+use Rattle.stateful_history.specs.Jobs.{started_for, turns}
 use Rattle.stateful_table.specs.Table.{at}
 use Rattle.stateful_exec.specs.Workings.{Workings, Point}
 use Rattle.stateful_exec.specs.Request.{ticket_by}
@@ -17,6 +17,7 @@ use Rattle.stateful_standing.specs.Running.{RunsStand}
 -- the numbers that are drawn next are above all that were drawn
 pub record NumbersStand {B C I : Type 0} (p : Past B C I) (next_job next_fetch : ℕ) : Type 0 where
   pub jobs : (j : ℕ) → started_for j p ≢ None → j < next_job
+  pub unturned : (j : ℕ) → next_job ≤ j → turns j p ≡ 0
   pub fetches : (f : ℕ) → asked_for f p ≢ None → f < next_fetch
 
 module _ {B C I P R D H G U : Type 0} (w : Workings B C I P R D H G U) (stored : ℕ → Option (Named B)) (p : Past B C I) where
