@@ -10,3 +10,4 @@ pub mod PutStands
 pub mod AskStands
 pub mod Cutting
 pub mod StartStands
+pub mod LaunchStands

@@ -157,7 +157,7 @@ module _ {B C I P R D H G U : Type 0} (w : Workings B C I P R D H G U) (stored :
       IsRunning-calm w stored p (Made (Started old.next_job Candidate b.digest)) calm points now old.anchor old.cache e.0 e.1 (started-LeavesJob p old.next_job b.digest e.0 (new_job e.0 _ runs.job.is))
       (IsRunning-next w stored p points next now starts.keeps old.anchor old.cache e.0 e.1 runs)
 
-  no_run : at old.runs old.next_job ≡ None
+  pub no_run : at old.runs old.next_job ≡ None
   no_run = go (at old.runs old.next_job) refl
     where
       go : (o : Option (LiveRun B R)) → at old.runs old.next_job ≡ o → o ≡ None
