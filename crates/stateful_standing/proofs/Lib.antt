@@ -11,3 +11,4 @@ pub mod AskStands
 pub mod Cutting
 pub mod StartStands
 pub mod LaunchStands
+pub mod ConcludeStands
