@@ -12,3 +12,4 @@ pub mod Cutting
 pub mod StartStands
 pub mod LaunchStands
 pub mod ConcludeStands
+pub mod AdvanceStands
