@@ -13,3 +13,4 @@ pub mod StartStands
 pub mod LaunchStands
 pub mod ConcludeStands
 pub mod AdvanceStands
+pub mod Advanced

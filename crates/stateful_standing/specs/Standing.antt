@@ -1,12 +1,14 @@
 -- What the tables of execution stand for.
-use Rattle.std.specs.Prelude.{◌≡◌, ◌≢◌, ◌<◌, ◌≤◌, ℕ, Option, None, IsSome}
+use Rattle.std.specs.Prelude.{◌≡◌, ◌≢◌, ◌<◌, ◌≤◌, ◌++◌, ℕ, List, Option, None, IsSome}
 use Rattle.stateful_types.specs.Names.{Named}
 use Rattle.stateful_types.specs.declared.digest.Digest.{Digest}
-use Rattle.stateful_history.specs.Past.{Past}
+use Rattle.stateful_history.specs.Past.{Past, after}
+use Rattle.stateful_history.specs.declared.mark.Mark.{Mark}
 use Rattle.stateful_history.specs.Asked.{asked_for}
 use Rattle.stateful_history.specs.Jobs.{started_for, turns}
 use Rattle.stateful_table.specs.Table.{at}
 use Rattle.stateful_exec.specs.Workings.{Workings, Point}
+use Rattle.stateful_exec.specs.Moments.{Moment}
 use Rattle.stateful_exec.specs.Request.{ticket_by}
 use Rattle.stateful_exec.specs.declared.request.Request.{Request}
 use Rattle.stateful_exec.specs.declared.state.Tables.{Tables}
@@ -37,3 +39,10 @@ module _ {B C I P R D H G U : Type 0} (w : Workings B C I P R D H G U) (stored :
     pub not_queued : at v.queued t ≡ None
     pub own : ticket_by request ≡ t
     pub asked : IsRequestOf w stored p t request
+
+-- From one moment to a later one some marks are made, and the tables stand for the past with them. No database moves.
+pub record StandsBehind {B C I P R D H G U : Type 0} (w : Workings B C I P R D H G U) (stored : ℕ → Option (Named B)) (p : Past B C I) (points : Digest → Point w) (point : Point w) (m now : Moment w) : Type 0 where
+  pub more : List (Mark B)
+  pub marks_are : now.marks ≡ m.marks ++ more
+  pub members_are : now.members ≡ m.members
+  pub stands : TablesStand w stored (after p more) points point now.next now.state
