@@ -5,3 +5,5 @@ pub mod GivenUp
 pub mod Cancelled
 pub mod RunEnded
 pub mod CancelStands
+pub mod PauseTables
+pub mod PauseStands
