@@ -7,3 +7,4 @@ pub mod RunEnded
 pub mod CancelStands
 pub mod PauseTables
 pub mod PauseStands
+pub mod PauseKnown
