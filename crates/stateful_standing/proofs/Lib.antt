@@ -8,3 +8,4 @@ pub mod CancelStands
 pub mod PauseTables
 pub mod PauseStands
 pub mod PauseKnown
+pub mod PauseBegins

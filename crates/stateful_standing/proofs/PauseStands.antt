@@ -14,11 +14,12 @@ use Rattle.stateful_history.specs.declared.mark.Mark.TheVariants.{Withdrawn}
 use Rattle.stateful_cache.specs.declared.cache.Cached.{Cached}
 use Rattle.stateful_table.specs.Table.{at}
 use Rattle.stateful_table.proofs.Tables.{is_at_number}
-use Rattle.stateful_exec.specs.Pausing.{Pauses}
+use Rattle.stateful_exec.specs.Boundary.{Boundary}
+use Rattle.stateful_exec.specs.Pausing.{Pauses, pause_for}
 use Rattle.stateful_exec.specs.Phase.{unfetched, dropped}
 use Rattle.stateful_exec.specs.Workings.{Workings, Point}
 use Rattle.stateful_exec.specs.declared.pause.Pause.{Pause}
-use Rattle.stateful_exec.specs.declared.pause.Pause.TheVariants.{Free, Pruning}
+use Rattle.stateful_exec.specs.declared.pause.Pause.TheVariants.{Free}
 use Rattle.stateful_exec.specs.declared.request.Proposal.{Proposal}
 use Rattle.stateful_exec.specs.declared.state.Tables.{Tables}
 use Rattle.stateful_exec.specs.declared.tables.LiveRun.{LiveRun}
@@ -117,12 +118,12 @@ module _ {B C I P R D H G U : Type 0} (w : Workings B C I P R D H G U) (stored :
       wanted = λ j live none. h.wanted j live (sym (tickets_dropped j requests) ∙ none);
     }
 
-  -- the tables stand behind a pause for a prune
-  pub TablesStand-pruning : (p : Past B C I) (points : Digest → Point w) (point : Point w) (next : w.Ids) (old new : Tables B C I R U) (marks : List (Mark B)) → old.pause ≡ Free
-      → TablesStand w stored p points point next old → Pauses None old new marks → TablesStand w stored (after p marks) points point next new
-  TablesStand-pruning p points point next old new marks free s pauses = rw (pauses.state, pauses.marks_are) (record {
+  -- The tables stand behind a pause, where they stand before its marks with that pause.
+  pub TablesStand-paused : (boundary : Option Boundary) (p : Past B C I) (points : Digest → Point w) (point : Point w) (next : w.Ids) (old new : Tables B C I R U) (marks : List (Mark B))
+      → TablesStand w stored p points point next (record old { pause = pause_for boundary }) → Pauses boundary old new marks → TablesStand w stored (after p marks) points point next new
+  TablesStand-paused boundary p points point next old new marks s pauses = rw (pauses.state, pauses.marks_are) (record {
     at_anchor = s.at_anchor;
-    cache = cache-gone points next old.anchor old.cache Pruning p pauses.fetches (pruned (subst (λ pause. CacheStands w stored p points next old.anchor pause old.cache) free s.cache));
+    cache = cache-gone points next old.anchor old.cache (pause_for boundary) p pauses.fetches s.cache;
     runs = runs-gone points next old.anchor old.cache old.runs p pauses.fetches s.runs;
     requests = RequestsStand-gone old.runs p pauses.fetches old.requests (λ f any. (pauses.are.each f).1 any) s.requests;
     once = λ t some. s.once t (still (at old.requests t) (subst (λ o. IsSome o) (at_dropped old.requests t) some));
@@ -130,9 +131,19 @@ module _ {B C I P R D H G U : Type 0} (w : Workings B C I P R D H G U) (stored :
     numbers = numbers-gone old.next_job old.next_fetch p pauses.fetches s.numbers;
   })
     where
-      pruned : CacheStands w stored p points next old.anchor Free old.cache → CacheStands w stored p points next old.anchor Pruning old.cache
-      pruned c = record { each = c.each; in_order = c.in_order; knows = c.knows }
-
       still : (o : Option (Requested B C I)) → IsSome (option_map undone o) → IsSome o
       still None some = some
       still (Some r) some = some
+
+  -- the tables stand behind a pause for a prune
+  pub TablesStand-pruning : (p : Past B C I) (points : Digest → Point w) (point : Point w) (next : w.Ids) (old new : Tables B C I R U) (marks : List (Mark B)) → old.pause ≡ Free
+      → TablesStand w stored p points point next old → Pauses None old new marks → TablesStand w stored (after p marks) points point next new
+  TablesStand-pruning p points point next old new marks free s pauses = TablesStand-paused None p points point next old new marks (record {
+    at_anchor = s.at_anchor;
+    cache = let c = subst (λ pause. CacheStands w stored p points next old.anchor pause old.cache) free s.cache in record { each = c.each; in_order = c.in_order; knows = c.knows };
+    runs = s.runs;
+    requests = s.requests;
+    once = s.once;
+    queue = s.queue;
+    numbers = s.numbers;
+  }) pauses
