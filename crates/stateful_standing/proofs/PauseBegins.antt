@@ -79,7 +79,7 @@ module _ {B C I P R D H G U : Type 0} (w : Workings B C I P R D H G U) (stored :
       knows = Known-began w stored p points next anchor cache old ticket b over boundary is_boundary;
     }
 
-    -- the live runs stand
+    -- the live runs stand too
     pub RunsStand-began : (runs : List (ℕ × LiveRun B R)) → RunsStand w stored p points next anchor cache runs → RunsStand w stored began points next anchor cache runs
     RunsStand-began runs old = record {
       each = All-weaker (λ (e : ℕ × LiveRun B R). IsRunning w stored p points next anchor cache e.0 e.1) (λ e. IsRunning w stored began points next anchor cache e.0 e.1) (λ e h. record {
@@ -101,7 +101,7 @@ module _ {B C I P R D H G U : Type 0} (w : Workings B C I P R D H G U) (stored :
       complete = λ j d live. old.complete j d (record { live = live.live; is = live.is });
     }
 
-  -- a verification that abstains goes on to
+  -- a verification that abstains still does
   abstains-began : (anchor : Anchor) → tip_of w.header p ≡ Some anchor → anchor.height.0 ≤ w.header.height b.block → (t : ℕ) (c : Named B) → Abstains (setting w stored) t p c → Abstains (setting w stored) t began c
   abstains-began anchor tip_is up t c (inl answered) = inl answered
   abstains-began anchor tip_is up t c (inr undecided) = inr (elim (tip_of w.header p) as (λ (o : Option Anchor). o ≡ Some anchor → MatchOption o ⊥ (λ tip. (w.header.height c.block < tip.height.0) × (canonical_by (setting w stored) p (w.header.height c.block) o (anchor_of w.header p) ≡ None)) → IsUndecided (setting w stored) began c) [
@@ -121,7 +121,7 @@ module _ {B C I P R D H G U : Type 0} (w : Workings B C I P R D H G U) (stored :
     wanted = old.wanted;
   }
 
-  -- The tables stand behind a pause for the finalization of a block over the tip, which is the anchor, and no higher than the block.
+  -- The tables stand behind a pause for the finalization of a block that is no lower than the anchor, which is the tip.
   pub TablesStand-finalizing : (points : Digest → Point w) (point : Point w) (next : w.Ids) (old new : Tables B C I R U) (marks : List (Mark B)) (boundary : Boundary) → old.pause ≡ Free
       → IsOverTip (setting w stored) p old.anchor b → old.anchor.height.0 ≤ w.header.height b.block → IsBoundaryOf w.header b old.cache boundary
       → TablesStand w stored p points point next old → Pauses (Some boundary) old new marks → TablesStand w stored (after p (Began ticket b ∷ marks)) points point next new

@@ -36,13 +36,13 @@ use Rattle.stateful_standing.proofs.Asking.{IsStanding-calm}
 use Rattle.stateful_standing.proofs.Cancelled.{withdrawn-IsCalm, and_left, and_right, not_same}
 use Rattle.stateful_standing.proofs.PauseTables.{unfetched_none, undone, keys_dropped, at_dropped, tickets_dropped}
 
--- the marks of these fetches
-abbrev pub gone : {B : Type 0} → List ℕ → List (Mark B)
+-- the marks that withdraw these fetches
+abbrev gone : {B : Type 0} → List ℕ → List (Mark B)
 gone fetches = map (λ f. Withdrawn f) fetches
 
 module _ {B C I : Type 0} where
   -- a fetch that is live behind the marks was live, and isn't one of theirs
-  pub live_before : (f : ℕ) (p : Past B C I) (fs : List ℕ) → live_fetch f (after p (gone fs)) ≡ true → (live_fetch f p ≡ true) × (Contains fs f → ⊥)
+  live_before : (f : ℕ) (p : Past B C I) (fs : List ℕ) → live_fetch f (after p (gone fs)) ≡ true → (live_fetch f p ≡ true) × (Contains fs f → ⊥)
   live_before f p [] live = (live, λ c. absurd (omega (arith, c.1)))
   live_before f p (g ∷ fs) live =
       let rest = live_before f (Made (Withdrawn g) ∷ p) fs live in
@@ -105,7 +105,7 @@ module _ {B C I P R D H G U : Type 0} (w : Workings B C I P R D H G U) (stored :
         phase (Parked path) h = h
 
     -- the requests stand behind the marks of all live fetches
-    pub RequestsStand-gone : (p : Past B C I) (fs : List ℕ) (requests : List (ℕ × Requested B C I)) → ((f : ℕ) → Any (λ (e : ℕ × Requested B C I). e.1.phase ≡ Fetching f) requests → Contains fs f)
+    RequestsStand-gone : (p : Past B C I) (fs : List ℕ) (requests : List (ℕ × Requested B C I)) → ((f : ℕ) → Any (λ (e : ℕ × Requested B C I). e.1.phase ≡ Fetching f) requests → Contains fs f)
         → RequestsStand w stored p runs requests → RequestsStand w stored (after p (gone fs)) runs (map dropped requests)
     RequestsStand-gone p fs requests among h = record {
       ascending = subst (λ ks. IsStrictlySortedBy nat_cmp ks) (sym (keys_dropped requests)) h.ascending;
