@@ -53,7 +53,7 @@ module _ {B C I S T : Type 0} (s : Setting B S T) where
   Known-before (stays o m k old l parent) calm = k
 
 module _ {B C I P R D H G U : Type 0} (w : Workings B C I P R D H G U) where
-  Stacked-led : {points : Digest → Point w} {first : Digest} {L M : w.States → Named B → w.States → Type 0} {d : Digest} {c : List (Point w)} → Stacked w points L first d c
+  pub Stacked-led : {points : Digest → Point w} {first : Digest} {L M : w.States → Named B → w.States → Type 0} {d : Digest} {c : List (Point w)} → Stacked w points L first d c
       → ((t : w.States) (b : Named B) (u : w.States) → L t b u → M t b u) → Stacked w points M first d c
   Stacked-led (here e at) led = here e at
   Stacked-led (further e at s ne l) led = further e at (Stacked-led s led) ne (led _ _ _ l)
