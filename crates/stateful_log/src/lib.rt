@@ -7,10 +7,12 @@ mod field;
 mod log_medium;
 mod longer;
 mod open_log;
+mod reads;
 mod run;
 
 pub use chain::link;
 pub use field::Field;
 pub use log_medium::LogMedium;
+pub use longer::longer as lengthened;
 pub use open_log::OpenLog;
 pub use run::Run;
