@@ -1,0 +1,4 @@
+pub mod Writes
+pub mod Indexing
+pub mod Reading
+pub mod Sealing

@@ -1,0 +1,25 @@
+//! A map that is kept as a log of operations on its keys.
+#![tactic(auto)]
+
+mod applied;
+mod batch;
+mod changes;
+mod database;
+mod index;
+mod medium;
+mod op;
+mod pass;
+mod reads;
+mod seal;
+mod state;
+
+pub use batch::{AnyMerkleized, AnyUnmerkleized};
+pub use changes::{AnyChanges, AnyWritten};
+pub use database::AnyDb;
+pub use medium::AnyMedium;
+pub use op::AnyOp;
+pub use pass::AnyPass;
+pub use state::AnyState;
+
+#[cfg(test)]
+mod tests;
