@@ -1,5 +1,5 @@
 -- indexes of operations, as they grow
-use Rattle.std.proofs.Common.{◌≡◌, ℕ, zero, suc, ◌+◌, ◌-◌, Bool, true, false, cond, List, [], ◌∷◌, ◌++◌, length, drop, Option, Some, None, refl, sym, ap, ◌∙◌, arith, slice_get}
+use Rattle.std.proofs.Common.{◌≡◌, ℕ, zero, suc, ◌+◌, ◌-◌, ◌≤◌, Bool, true, false, cond, List, [], ◌∷◌, ◌++◌, length, drop, Option, Some, None, refl, sym, ap, ◌∙◌, arith, slice_get}
 use Rattle.std.specs.Bool.{if◌then◌else◌}
 use Rattle.std.specs.Map.{lookup}
 use Rattle.std.specs.Option.{option_map, unwrap_or}
@@ -51,3 +51,50 @@ module _ {K V : Type 0} (cmp : K → K → Ordering) where
         | true ↦ refl
         | false ↦ same
       ]
+
+  -- a step along operations
+  pub next_write : (key : K) (from i : ℕ) (ops : List (AnyOp K V)) (op : AnyOp K V) (now before : Option (ℕ × V)) → slice_get ops i ≡ Some op
+      → last_write cmp key (from + i) (drop i ops) now ≡ last_write cmp key from ops before
+      → last_write cmp key (from + (i + 1)) (drop (i + 1) ops) (written cmp key (from + i) op now) ≡ last_write cmp key from ops before
+  next_write key from i ops op now before is same =
+      let later : i + 1 ≡ suc i = omega arith in
+      let at : from + (i + 1) ≡ from + i + 1 = omega arith in
+      ap (λ n. last_write cmp key n (drop (i + 1) ops) (written cmp key (from + i) op now)) at
+      ∙ ap (λ n. last_write cmp key (from + i + 1) (drop n ops) (written cmp key (from + i) op now)) later
+      ∙ sym (ap (λ xs. last_write cmp key (from + i) xs now) (drop-some ops i op is))
+      ∙ same
+
+  -- behind the last
+  pub end_write : (key : K) (at n : ℕ) (ops : List (AnyOp K V)) (now : Option (ℕ × V)) → length ops ≤ n → last_write cmp key at (drop n ops) now ≡ now
+  end_write key at n ops now h = ap (λ xs. last_write cmp key at xs now) (drop-all n ops h)
+    where
+      drop-all : (n : ℕ) (xs : List (AnyOp K V)) → length xs ≤ n → drop n xs ≡ []
+      drop-all zero [] h = refl
+      drop-all zero (x ∷ xs) h = absurd (omega arith)
+      drop-all (suc n) [] h = refl
+      drop-all (suc n) (x ∷ xs) h = drop-all n xs (omega arith)
+
+  -- a step along operations that begin at a location
+  pub index_step : (key : K) (at start : ℕ) (ops : List (AnyOp K V)) (op : AnyOp K V) (now result : Option (ℕ × V)) → start ≤ at → slice_get ops (at - start) ≡ Some op
+      → last_write cmp key at (drop (at - start) ops) now ≡ result → last_write cmp key (at + 1) (drop (at + 1 - start) ops) (written cmp key at op now) ≡ result
+  index_step key at start ops op now result low is same =
+      let later : at + 1 - start ≡ suc (at - start) = omega arith in
+      ap (λ n. last_write cmp key (at + 1) (drop n ops) (written cmp key at op now)) later
+      ∙ sym (ap (λ xs. last_write cmp key at xs now) (drop-some ops (at - start) op is))
+      ∙ same
+
+  -- behind the last one
+  pub index_past : (key : K) (at start : ℕ) (ops : List (AnyOp K V)) (now result : Option (ℕ × V)) → start ≤ at → slice_get ops (at - start) ≡ None
+      → last_write cmp key at (drop (at - start) ops) now ≡ result → last_write cmp key (at + 1) (drop (at + 1 - start) ops) now ≡ result
+  index_past key at start ops now result low none same =
+      let later : at + 1 - start ≡ suc (at - start) = omega arith in
+      ap (λ n. last_write cmp key (at + 1) (drop n ops) now) later
+      ∙ ap (λ xs. last_write cmp key (at + 1) xs now) (past (at - start) ops none)
+      ∙ sym (ap (λ xs. last_write cmp key at xs now) (drop-none ops (at - start) none))
+      ∙ same
+    where
+      past : (n : ℕ) (xs : List (AnyOp K V)) → slice_get xs n ≡ None → drop (suc n) xs ≡ []
+      past zero [] h = refl
+      past zero (x ∷ xs) h = cc
+      past (suc n) [] h = refl
+      past (suc n) (x ∷ xs) h = past n xs h

@@ -1,4 +1,7 @@
 pub mod Writes
 pub mod Indexing
+pub mod Opening
 pub mod Reading
+pub mod Floor
 pub mod Sealing
+pub mod Values

@@ -6,6 +6,8 @@ use Rattle.std.specs.declared.cmp.Ordering.{Ordering}
 use Rattle.std.specs.Cmp.{IsTotalOrder}
 use Rattle.std.proofs.lemmas.Bool.Decides.{nat_tests}
 use Rattle.stateful_db.specs.CheckpointLaws.{slice_get-drop}
+use Rattle.stateful_types.specs.declared.target.Target.{Target}
+use Rattle.stateful_log.specs.Logs.{extended}
 use Rattle.stateful_overlay.specs.Chains.{Leads}
 use Rattle.stateful_any.specs.declared.op.AnyOp.{AnyOp}
 use Rattle.stateful_any.specs.Live.{last_write, passed}
@@ -74,6 +76,24 @@ module _ {K V : Type 0} {cmp : K → K → Ordering} (total : IsTotalOrder cmp) 
       let n = passed cmp (s.kept ++ more) in
       ap (λ xs. last_write cmp key (s.target.start.0 + n) xs None) (kept_after s more)
       ∙ last_write-passed total key s.target.start.0 (s.kept ++ more)
+
+  -- the last writes behind more operations, and then from the first that has to be kept on
+  pub extended_live : (s : State K V) (more : List (AnyOp K V)) (range : Target) (from : ℕ) (key : K) → IsWhole s → from ≡ size_of s → range.start.0 ≡ s.target.start.0 + passed cmp (s.kept ++ more)
+      → live_at cmp (extended s more range) key ≡ last_write cmp key from more (live_at cmp s key)
+  extended_live s more range from key whole at start =
+      let n = passed cmp (s.kept ++ more) in
+      let first = s.target.start.0 in
+      let dropped : range.start.0 - first ≡ n = omega (arith, start) in
+      let joint : first + length s.kept ≡ from = whole ∙ sym at in
+      ap (λ m. last_write cmp key m (drop (range.start.0 - first) (s.kept ++ more)) None) start
+      ∙ ap (λ m. last_write cmp key (first + n) (drop m (s.kept ++ more)) None) dropped
+      ∙ last_write-passed total key first (s.kept ++ more)
+      ∙ last_write-append cmp key first s.kept more None
+      ∙ ap (λ m. last_write cmp key m more (live_at cmp s key)) joint
+
+  -- the state behind a sealed batch
+  pub after_is : (l : Change K V) (s t : State K V) → After cmp spell_key spell_value l s t → extended s l.written.ops l.target ≡ t
+  after_is l s t h = ap (λ (r : Target). extended s l.written.ops r) (h.1.1.1 ∙ ap (λ (x : State K V). x.target) h.1.1.0) ∙ sym h.1.1.0
 
   abbrev Step : Change K V → State K V → State K V → Type 0
   Step = After cmp spell_key spell_value

@@ -23,6 +23,14 @@ use Rattle.stateful_any.specs.Through.{Written, Change, place_through, IsIndexed
 use Rattle.stateful_any.specs.Shown.{Draft, Seal, After, DraftShows, SealShows}
 use Rattle.stateful_any.proofs.Reading.{Reads, reads_through}
 
+pub append_nil : {X : Type 0} (xs : List X) → xs ++ [] ≡ xs
+append_nil [] = refl
+append_nil (x ∷ xs) = ap (λ ys. x ∷ ys) (append_nil xs)
+
+is_some-map : {X : Type 0} (o : Option (ℕ × X)) → is_some (option_map (λ x. x.0) o) ≡ is_some o
+is_some-map None = refl
+is_some-map (Some x) = refl
+
 module _ {K V : Type 0} where
   pub ops_for-agree : (f g : K → Bool) → ((key : K) → f key ≡ g key) → (writes : List (K × Option V)) → ops_for f writes ≡ ops_for g writes
   ops_for-agree f g same [] = refl
@@ -38,10 +46,6 @@ module _ {K V : Type 0} where
     | true ↦ omega (arith, ops_for-le live writes)
     | false ↦ omega (arith, ops_for-le live writes)
   ]
-
-  is_some-map : {X : Type 0} (o : Option (ℕ × X)) → is_some (option_map (λ x. x.0) o) ≡ is_some o
-  is_some-map None = refl
-  is_some-map (Some x) = refl
 
 module _ {K V : Type 0} (cmp : K → K → Ordering) (spell_key : K → List ℕ) (spell_value : V → List ℕ) where
   abbrev Step : Change K V → State K V → State K V → Type 0

@@ -61,15 +61,18 @@ pub(crate) fn longer<K: Field, V: Field>(
 {
     let follows = follows(&db, changes);
     let AnyDb { log, mut index } = db;
-    let medium = if !follows {
-        log.close()
-    } else if note_each(&mut index, changes.written.ops(), changes.written.from()).is_err() {
-        log.close()
-    } else {
-        match lengthened(log, id, changes.written.ops(), changes.target) {
-            Ok(log) => return Ok(AnyDb { log, index }),
-            Err(medium) => medium,
-        }
-    };
-    Err(AnyMedium { medium })
+    if !follows {
+        return Err(AnyMedium {
+            medium: log.close(),
+        });
+    }
+    if note_each(&mut index, changes.written.ops(), changes.written.from()).is_err() {
+        return Err(AnyMedium {
+            medium: log.close(),
+        });
+    }
+    match lengthened(log, id, changes.written.ops(), changes.target) {
+        Ok(log) => Ok(AnyDb { log, index }),
+        Err(medium) => Err(AnyMedium { medium }),
+    }
 }

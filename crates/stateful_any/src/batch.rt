@@ -112,15 +112,19 @@ impl<K: Field, V: Field> AnyUnmerkleized<K, V> {
         if !self.stands_on(at) {
             return Err(BatchError::StaleRead);
         }
-        let none = Vec::new(db.log.allocator());
-        let read = match self.writes.get(key) {
-            Some(value) => duplicate(value),
-            None if self.id == at => value_in(none.as_slice(), db, key),
-            None => value_in(self.below.above(at), db, key),
-        };
-        match read {
-            Ok(value) => Ok(value),
-            Err(_) => Err(BatchError::OutOfMemory),
+        match self.writes.get(key) {
+            Some(value) => match duplicate(value) {
+                Ok(value) => Ok(value),
+                Err(_) => Err(BatchError::OutOfMemory),
+            },
+            None if self.id == at => match db.get(key) {
+                Ok(value) => Ok(value),
+                Err(_) => Err(BatchError::OutOfMemory),
+            },
+            None => match value_in(self.below.above(at), db, key) {
+                Ok(value) => Ok(value),
+                Err(_) => Err(BatchError::OutOfMemory),
+            },
         }
     }
 
@@ -172,10 +176,10 @@ impl<K: Field, V: Field> AnyUnmerkleized<K, V> {
 fn puts<K: Field, V: Field>(writes: &BTreeMap<K, Option<V>>) -> usize
     ensures { (live : K → Bool) → result ≤ length (ops_for live writes.now.entries) }
 {
-    let mut count = 0;
+    let mut count: usize = 0;
     for (_, value) in writes {
         if value.is_some() {
-            count += 1;
+            count = count.saturating_add(1);
         }
     }
     count

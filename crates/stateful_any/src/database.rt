@@ -79,8 +79,10 @@ impl<K: Field, V: Field> AnyDb<K, V> {
     {
         let last = self.log.target().end.0.saturating_sub(1);
         match self.log.get(last) {
-            Some(AnyOp::Commit(Some(metadata))) => Some(metadata),
-            _ => None,
+            Some(AnyOp::Commit(metadata)) => metadata.as_ref(),
+            Some(AnyOp::Update(_, _)) => None,
+            Some(AnyOp::Delete(_)) => None,
+            None => None,
         }
     }
 }

@@ -71,6 +71,8 @@ pub(crate) fn value_in<K: Field, V: Field>(
     };
     match op_in(layers, db, place) {
         Some(AnyOp::Update(_, value)) => Ok(Some(value.duplicate()?)),
-        _ => Ok(None),
+        Some(AnyOp::Commit(_)) => Ok(None),
+        Some(AnyOp::Delete(_)) => Ok(None),
+        None => Ok(None),
     }
 }

@@ -22,19 +22,18 @@ use stateful_overlay::Layer;
 use stateful_types::OutOfMemory;
 use std::collections::BTreeMap;
 
-/// The operations of a batch with these writes, from a location on.
-pub(crate) fn write_all<K: Field, V: Field>(
+/// The operations of written keys, from a location on.
+fn write_keys<K: Field, V: Field>(
     writes: &BTreeMap<K, Option<V>>,
-    metadata: Option<V>,
     layers: &[Layer<AnyChanges<K, V>>],
     db: &AnyDb<K, V>,
     from: u64,
 ) -> Result<AnyWritten<K, V>, OutOfMemory>
-    requires { from + length writes.now.entries + 1 < 2 ^ 64 }
+    requires { from + length writes.now.entries < 2 ^ 64 }
     ensures from { IfOk result (λ w. w.from ≡ from) }
-    ensures ops { IfOk result (λ w. w.ops
-        ≡ ops_for (λ key. is_some (place_through K.cmp layers.now key (lookup (is_at (K.cmp key)) db.now.index.entries)))
-        writes.now.entries ++ Commit metadata ∷ []) }
+    ensures ops { IfOk result (λ w. w.ops ≡ ops_for (λ key. is_some
+        (place_through K.cmp layers.now key (lookup (is_at (K.cmp key)) db.now.index.entries)))
+        writes.now.entries) }
 {
     let mut all = AnyWritten::new(db.log.allocator(), from);
     for (key, value) in writes {
@@ -48,7 +47,26 @@ pub(crate) fn write_all<K: Field, V: Field>(
             None => {}
         }
     }
-    all.push(AnyOp::Commit(metadata))
+    Ok(all)
+}
+
+/// The operations of a batch with these writes, from a location on.
+pub(crate) fn write_all<K: Field, V: Field>(
+    writes: &BTreeMap<K, Option<V>>,
+    metadata: Option<V>,
+    layers: &[Layer<AnyChanges<K, V>>],
+    db: &AnyDb<K, V>,
+    from: u64,
+) -> Result<AnyWritten<K, V>, OutOfMemory>
+    requires { from + length writes.now.entries + 1 < 2 ^ 64 }
+    ensures from { IfOk result (λ w. w.from ≡ from) }
+    ensures ops { IfOk result (λ w. w.ops ≡ ops_for (λ key. is_some
+        (place_through K.cmp layers.now key (lookup (is_at (K.cmp key)) db.now.index.entries)))
+        writes.now.entries ++ Commit metadata ∷ []) }
+{
+    let all = write_keys(writes, layers, db, from)?;
+    let all = all.push(AnyOp::Commit(metadata))?;
+    Ok(all)
 }
 
 /// The operation at a location.
@@ -104,7 +122,9 @@ fn is_live<K: Field, V: Field>(
 {
     match op_of(own, layers, db, at) {
         Some(AnyOp::Update(key, _)) => place_of(own, layers, db, key) == Some(at),
-        _ => false,
+        Some(AnyOp::Commit(_)) => false,
+        Some(AnyOp::Delete(_)) => false,
+        None => false,
     }
 }
 
@@ -125,9 +145,7 @@ pub(crate) fn first_kept<K: Field, V: Field>(
         → start ≡ t.target.start.0
         → result ≡ start + passed K.cmp (t.kept ++ own.now.ops) }
 {
-    let last = own
-        .from
-        .saturating_add((own.ops.len() as u64).saturating_sub(1));
+    let last = (own.from() + own.ops().len() as u64).saturating_sub(1);
     let mut at = start;
     while at < last && !is_live(own, layers, db, at) {
         at += 1;

@@ -22,3 +22,6 @@ invariant-loop-at g l =
           → l.start ≡ t.target.start.0
           → l.start + passed cmp (t.kept ++ l.own.ops) ≡ l.at + passed cmp (drop (l.at - l.start) (t.kept ++ l.own.ops));
     }
+
+abbrev pub decreases-loop-at : goal.decreases-loop-at
+decreases-loop-at g l = l.last - l.at

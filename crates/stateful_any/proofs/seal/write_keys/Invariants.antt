@@ -2,8 +2,8 @@ use Rattle.std.proofs.Common.{◌≡◌, ◌+◌, ◌≤◌, ◌++◌, length, i
 use Rattle.std.specs.Map.{lookup}
 use Rattle.std.specs.BTreeMap.{is_at}
 use Rattle.stateful_any.specs.Any.{ops_for}
-use Rattle.stateful_any.specs.Through.{IsIndexed, place_through}
-use Rattle.stateful_any.proofs.seal.write_all.Given as goal
+use Rattle.stateful_any.specs.Through.{place_through}
+use Rattle.stateful_any.proofs.seal.write_keys.Given as goal
 
 -- the operations so far, and those of the writes that are left, are all
 abbrev pub invariant-loop-key : goal.invariant-loop-key
@@ -13,6 +13,5 @@ invariant-loop-key g l =
     record {
       from : l.all.from ≡ l.fn.from;
       ops : l.all.ops ++ ops_for live l.key-iterator ≡ ops_for live l.writes.entries;
-      indexed : IsIndexed cmp l.all;
       room : length l.all.ops + length l.key-iterator ≤ length l.writes.entries;
     }
