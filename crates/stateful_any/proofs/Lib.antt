@@ -3,5 +3,5 @@ pub mod Indexing
 pub mod Opening
 pub mod Reading
 pub mod Floor
-pub mod Sealing
 pub mod Values
+pub mod Sealing

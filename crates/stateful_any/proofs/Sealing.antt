@@ -18,10 +18,11 @@ use Rattle.stateful_any.specs.declared.op.AnyOp.{AnyOp}
 use Rattle.stateful_any.specs.declared.op.AnyOp.TheVariants.{Commit, Update, Delete}
 use Rattle.stateful_any.specs.Ops.{Changes, op_bytes}
 use Rattle.stateful_any.specs.Live.{passed}
-use Rattle.stateful_any.specs.Any.{State, size_of, IsWhole, live_at, ops_for, ops_of, after, sealed}
+use Rattle.stateful_any.specs.Any.{State, size_of, IsWhole, live_at, value_at, ops_for, ops_of, after, sealed}
 use Rattle.stateful_any.specs.Through.{Written, Change, place_through, IsIndexed}
 use Rattle.stateful_any.specs.Shown.{Draft, Seal, After, DraftShows, SealShows}
 use Rattle.stateful_any.proofs.Reading.{Reads, reads_through}
+use Rattle.stateful_any.proofs.Values.{sealed_value}
 
 pub append_nil : {X : Type 0} (xs : List X) → xs ++ [] ≡ xs
 append_nil [] = refl
@@ -133,3 +134,26 @@ module _ {K V : Type 0} (cmp : K → K → Ordering) (spell_key : K → List ℕ
       let end_is : end ≡ next.target.end.0 = ends ∙ ap (λ (t : Target). t.end.0 + length more) parent in
       let range : l.1.target ≡ next.target = target ∙ (λ i. record { root = root_is i; start = record { 0 = start_is i }; end = record { 0 = end_is i } }) in
       (named ∙ sym h.0, (h.1.0, ((at, (indexed, (is, range ∙ ap (λ (x : State K V). x.target) (sym is)))), h.1.1.0)))
+
+  -- what a batch reads: what it writes at the key itself, or what its parent has there
+  pub draft_written : IsTotalOrder cmp → (u : Draft K V) (p : ℕ × State K V) (c : List (ℕ × State K V)) (key : K) (value : Option V) → DraftShows cmp spell_key spell_value u (p ∷ c) → IsStrictlySortedBy cmp (keys_of u.changes.writes)
+      → lookup (is_at (cmp key)) u.changes.writes ≡ Some value → value_at cmp p.1 key ≡ value
+  draft_written total u p [] key value h sorted is = absurd h
+  draft_written total u p (q ∷ c) key value h sorted is =
+      ap (λ (s : State K V). value_at cmp s key) h.1.1.1.1
+      ∙ sealed_value total spell_key spell_value u.changes q.1 key sorted
+      ∙ ap (λ o. unwrap_or o (value_at cmp q.1 key)) is
+
+  pub draft_below : IsTotalOrder cmp → (u : Draft K V) (p q : ℕ × State K V) (c : List (ℕ × State K V)) (key : K) → DraftShows cmp spell_key spell_value u (p ∷ q ∷ c) → IsStrictlySortedBy cmp (keys_of u.changes.writes)
+      → lookup (is_at (cmp key)) u.changes.writes ≡ None → value_at cmp p.1 key ≡ value_at cmp q.1 key
+  draft_below total u p q c key h sorted none =
+      ap (λ (s : State K V). value_at cmp s key) h.1.1.1.1
+      ∙ sealed_value total spell_key spell_value u.changes q.1 key sorted
+      ∙ ap (λ o. unwrap_or o (value_at cmp q.1 key)) none
+
+  pub draft_read : IsTotalOrder cmp → (u : Draft K V) (p : ℕ × State K V) (c : List (ℕ × State K V)) (n : ℕ) (s : State K V) (key : K) (value : Option V) → DraftShows cmp spell_key spell_value u (p ∷ c) → IsPoint (n, s) (p ∷ c) → u.id ≢ n
+      → IsStrictlySortedBy cmp (keys_of u.changes.writes) → lookup (is_at (cmp key)) u.changes.writes ≡ None
+      → ((t : State K V) → Leads Step (above n u.below.layers) s t → value ≡ value_at cmp t key) → value ≡ value_at cmp p.1 key
+  draft_read total u p [] n s key value h i other sorted none reads = absurd h
+  draft_read total u p (q ∷ c) n s key value h i other sorted none reads =
+      reads q.1 (parent_leads u p q c n s h i other) ∙ sym (draft_below total u p q c key h sorted none)

@@ -115,7 +115,7 @@ itself {K} {cmp} total key = (Equal-is (cmp key key)).1 (tied_itself total key)
 
 module _ {K V : Type 0} {cmp : K → K → Ordering} (total : IsTotalOrder cmp) where
   -- keys that compare alike are written by the same operations
-  same_key : (one two : K) → is_at (cmp one) two ≡ true → (op : AnyOp K V) → writes_key cmp one op ≡ writes_key cmp two op
+  pub same_key : (one two : K) → is_at (cmp one) two ≡ true → (op : AnyOp K V) → writes_key cmp one op ≡ writes_key cmp two op
   same_key one two same (Commit metadata) = refl
   same_key one two same (Update k v) = ap is_eq (alike_right total one two k (equal (cmp one two) same))
   same_key one two same (Delete k) = ap is_eq (alike_right total one two k (equal (cmp one two) same))

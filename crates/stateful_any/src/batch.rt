@@ -1,6 +1,6 @@
 //! Batches over a database of keys.
 
-ghost use Rattle.std.specs.Prelude.{◌≡◌, ◌≢◌, ◌==◌, Bool, ◌||◌, ◌∷◌, [], ◌-◌, ◌^◌, ◌<◌, ◌≤◌, ◌↔◌, ℕ, List, Option, Some, None, IfOk, IfErr, IsErrOf, false, length};
+ghost use Rattle.std.specs.Prelude.{◌≡◌, ◌≢◌, ◌==◌, Bool, ◌||◌, ◌∷◌, [], ◌-◌, ◌^◌, ◌<◌, ◌≤◌, ◌↔◌, ℕ, List, Option, Some, None, IfOk, IfErr, IsErrOf, false, length, map};
 ghost use Rattle.std.specs.BTreeMap.{insert_entry};
 ghost use Rattle.stateful_db.specs.Chain.{has_id, IsPoint};
 ghost use Rattle.stateful_db.specs.Disk.{point};
@@ -126,6 +126,29 @@ impl<K: Field, V: Field> AnyUnmerkleized<K, V> {
                 Err(_) => Err(BatchError::OutOfMemory),
             },
         }
+    }
+
+    /// The values at these keys, in their order. `StaleRead` exactly where the database is at no state of the batch's
+    /// chain.
+    pub fn get_many(&self, db: &AnyDb<K, V>, keys: &[K]) -> Result<Vec<Option<V>>, BatchError>
+        ensures value { IfOk result (λ values. (p : ℕ × State K V) (c : List (ℕ × State K V))
+            → DraftShows K.cmp K.fields.spelling V.fields.spelling self.now (p ∷ c)
+            → IsPoint (point (standing_of db.now)) (p ∷ c)
+            → values.items ≡ map (λ key. value_at K.cmp p.1 key) keys.now) }
+        ensures stale { (c : List (ℕ × State K V))
+            → DraftShows K.cmp K.fields.spelling V.fields.spelling self.now c
+            → (IsErrOf result BatchError.StaleRead ↔ (has_id c (standing_of db.now).id ≡ false)) }
+    {
+        let at = db.log.id();
+        if !self.stands_on(at) {
+            return Err(BatchError::StaleRead);
+        }
+        let mut values = Vec::new(db.log.allocator());
+        for key in keys {
+            let value = self.get(db, key)?;
+            values.push(value)?;
+        }
+        Ok(values)
     }
 
     /// The seal, over a database that isn't at the seal's own state yet.

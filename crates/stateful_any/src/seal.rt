@@ -70,7 +70,7 @@ pub(crate) fn write_all<K: Field, V: Field>(
 }
 
 /// The operation at a location.
-fn op_of<'a, K: Field, V: Field>(
+pub(crate) fn op_of<'a, K: Field, V: Field>(
     own: &'a AnyWritten<K, V>,
     layers: &'a [Layer<AnyChanges<K, V>>],
     db: &'a AnyDb<K, V>,
@@ -88,7 +88,7 @@ fn op_of<'a, K: Field, V: Field>(
 }
 
 /// The location of the last write of a key, where it is live.
-fn place_of<K: Field, V: Field>(
+pub(crate) fn place_of<K: Field, V: Field>(
     own: &AnyWritten<K, V>,
     layers: &[Layer<AnyChanges<K, V>>],
     db: &AnyDb<K, V>,

@@ -2,6 +2,7 @@
 //! media that keep each operation once.
 #![tactic(auto)]
 
+mod bounds;
 mod chain;
 mod field;
 mod log_medium;
@@ -10,6 +11,7 @@ mod open_log;
 mod reads;
 mod run;
 
+pub use bounds::Bounds;
 pub use chain::link;
 pub use field::Field;
 pub use log_medium::LogMedium;
