@@ -17,11 +17,11 @@ use Rattle.stateful_log.specs.Chained.{chained}
 use Rattle.stateful_any.specs.declared.op.AnyOp.{AnyOp}
 use Rattle.stateful_any.specs.declared.op.AnyOp.TheVariants.{Commit, Update, Delete}
 use Rattle.stateful_any.specs.Ops.{Changes, op_bytes}
-use Rattle.stateful_any.specs.Live.{passed}
+use Rattle.stateful_any.specs.Live.{last_write, passed}
 use Rattle.stateful_any.specs.Any.{State, size_of, IsWhole, live_at, value_at, ops_for, ops_of, after, sealed}
 use Rattle.stateful_any.specs.Through.{Written, Change, place_through, IsIndexed}
 use Rattle.stateful_any.specs.Shown.{Draft, Seal, After, DraftShows, SealShows}
-use Rattle.stateful_any.proofs.Reading.{Reads, reads_through}
+use Rattle.stateful_any.proofs.Reading.{Reads, reads_through, live_after}
 use Rattle.stateful_any.proofs.Values.{sealed_value}
 
 pub append_nil : {X : Type 0} (xs : List X) → xs ++ [] ≡ xs
@@ -157,3 +157,39 @@ module _ {K V : Type 0} (cmp : K → K → Ordering) (spell_key : K → List ℕ
   draft_read total u p [] n s key value h i other sorted none reads = absurd h
   draft_read total u p (q ∷ c) n s key value h i other sorted none reads =
       reads q.1 (parent_leads u p q c n s h i other) ∙ sym (draft_below total u p q c key h sorted none)
+
+  -- the ids of a sealed batch's chain are its own and those of the layers below it
+  pub seal_has : (m : Seal K V) (c : List (ℕ × State K V)) (n : ℕ) → SealShows cmp spell_key spell_value m c → has_id c n ≡ ((m.layer.0 == n) || has_layer m.below n)
+  seal_has m c n h = has_id-layers Step m.below.base (m.layer ∷ m.below.layers) c n h ∙ assoc (m.layer.0 == n) _ _
+    where
+      assoc : (x y z : Bool) → ((x || y) || z) ≡ (x || (y || z))
+      assoc true y z = refl
+      assoc false y z = refl
+
+  -- how long its chain is
+  stands_length : (base : ℕ) (ls : List (ℕ × Change K V)) (c : List (ℕ × State K V)) → Stands Step base ls c → length c ≡ length ls + 1
+  stands_length base [] [] h = absurd h
+  stands_length base [] (p ∷ []) h = omega arith
+  stands_length base [] (p ∷ q ∷ c) h = absurd h
+  stands_length base (l ∷ ls) [] h = absurd h
+  stands_length base (l ∷ ls) (p ∷ []) h = absurd h
+  stands_length base (l ∷ ls) (p ∷ q ∷ c) h = omega (arith, stands_length base ls (q ∷ c) h.1.1.1)
+
+  pub seal_length : (m : Seal K V) (c : List (ℕ × State K V)) → SealShows cmp spell_key spell_value m c → length c ≡ length m.below.layers + 1 + 1
+  seal_length m c h = omega (arith, stands_length m.below.base (m.layer ∷ m.below.layers) c h)
+
+  -- what a sealed batch reads, over a database at its own state, or at a point of its parent's chain
+  pub seal_own : (m : Seal K V) (p : ℕ × State K V) (c : List (ℕ × State K V)) (n : ℕ) (s : State K V) → SealShows cmp spell_key spell_value m (p ∷ c) → IsPoint (n, s) (p ∷ c) → m.layer.0 ≡ n → s ≡ p.1
+  seal_own m p c n s h (inl e) same = ap (λ z. z.1) e
+  seal_own m p [] n s h (inr i) same = absurd h
+  seal_own m p (q ∷ c) n s h (inr i) same = let le = below_id m.below.base m.below.layers q c (n, s) h.1.1.1 i in absurd (omega (arith, h.0, h.1.0))
+
+  pub seal_read : IsTotalOrder cmp → (m : Seal K V) (p : ℕ × State K V) (c : List (ℕ × State K V)) (n : ℕ) (s : State K V) (key : K) (value : Option V) → SealShows cmp spell_key spell_value m (p ∷ c) → IsPoint (n, s) (p ∷ c) → m.layer.0 ≢ n
+      → ((t : State K V) → Leads Step (above n m.below.layers) s t → m.layer.1.written.from ≡ size_of t → IsIndexed cmp m.layer.1.written → value ≡ option_map (λ w. w.1) (last_write cmp key t.target.start.0 (t.kept ++ m.layer.1.written.ops) None)) → value ≡ value_at cmp p.1 key
+  seal_read total m p [] n s key value h i other reads = absurd h
+  seal_read total m p (q ∷ c) n s key value h (inl e) other reads = absurd (other (h.0 ∙ ap (λ z. z.0) (sym e)))
+  seal_read total m p (q ∷ c) n s key value h (inr i) other reads =
+      let leads = leads-above Step m.below.base m.below.layers q c n s h.1.1.1 i in
+      let step = h.1.1.0 in
+      reads q.1 leads step.0 step.1.0
+      ∙ sym (ap (λ (x : State K V). value_at cmp x key) step.1.1.0 ∙ ap (λ o. option_map (λ (w : ℕ × V). w.1) o) (live_after total spell_key spell_value q.1 m.layer.1.written.ops key))

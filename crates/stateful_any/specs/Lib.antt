@@ -4,5 +4,6 @@ pub mod Any
 pub mod Through
 pub mod Keyed
 pub mod Shown
+pub mod Staged
 pub mod Stored
 pub mod AnySound

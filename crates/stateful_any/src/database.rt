@@ -18,6 +18,7 @@ use stateful_db::{
 use stateful_log::{Field, LogMedium, OpenLog};
 use stateful_overlay::Layers;
 use stateful_types::{Digest, Faulty, Location, OutOfMemory, Target};
+use std::alloc::Global;
 use std::collections::BTreeMap;
 
 /// A map that is kept as a log of operations, each from its floor on once. The index has the location of each live key's
@@ -63,6 +64,11 @@ impl<K: Field, V: Field> AnyDb<K, V> {
             Ok(value) => Ok(value),
             Err(_) => Err(BatchError::OutOfMemory),
         }
+    }
+
+    /// Its allocator.
+    pub(crate) fn allocator(&self) -> Global {
+        self.log.allocator()
     }
 
     /// Whether the range of its newest checkpoint isn't turned round, as none is.

@@ -11,6 +11,9 @@ mod op;
 mod pass;
 mod reads;
 mod seal;
+mod sealed;
+mod slot;
+mod staged;
 mod state;
 
 pub use batch::{AnyMerkleized, AnyUnmerkleized};
@@ -19,6 +22,8 @@ pub use database::AnyDb;
 pub use medium::AnyMedium;
 pub use op::AnyOp;
 pub use pass::AnyPass;
+pub use slot::Slot;
+pub use staged::AnyStaged;
 pub use state::AnyState;
 
 #[cfg(test)]

@@ -1,6 +1,6 @@
 //! What no clause says: roots and ranges against another program's, and calls that succeed.
 
-use crate::{AnyDb, AnyMedium, AnyMerkleized, AnyUnmerkleized};
+use crate::{AnyDb, AnyMedium, AnyUnmerkleized, Slot};
 use stateful_db::{
     BatchError, DatabaseSet, DbCall, Held, InitError, ManagedDb, Merkleized, Unmerkleized,
 };
@@ -62,6 +62,28 @@ const FOURTH: Target = Target {
     ]),
     start: Location(6),
     end: Location(14),
+};
+
+/// By the reference's program, from the explicit writes.
+const STAGED: Target = Target {
+    root: Digest([
+        0x1a, 0xbb, 0xda, 0x09, 0xde, 0x54, 0xb6, 0xb3, 0x83, 0x1b, 0x72, 0x6f, 0xb8, 0xc3, 0xab,
+        0x69, 0x8e, 0x24, 0x52, 0xcd, 0xca, 0xb6, 0x49, 0xc5, 0x2a, 0xc1, 0x35, 0xea, 0xa1, 0x9e,
+        0x99, 0xf2,
+    ]),
+    start: Location(5),
+    end: Location(10),
+};
+
+/// By the reference's program, behind 40 batches.
+const LONG: Target = Target {
+    root: Digest([
+        0x85, 0x58, 0x01, 0x62, 0x14, 0xf9, 0x33, 0x14, 0xc6, 0x00, 0xbf, 0x55, 0x2a, 0x9e, 0x68,
+        0xaf, 0x3d, 0x25, 0x60, 0x7c, 0x27, 0xae, 0xbf, 0x81, 0xdb, 0x7a, 0xd3, 0xd0, 0x25, 0xe0,
+        0x48, 0x87,
+    ]),
+    start: Location(134),
+    end: Location(157),
 };
 
 /// A database over an empty medium, of whose calls these fail.
@@ -170,5 +192,149 @@ fn a_chain_is_sealed_over_its_layers(rt: HostRuntime) -> Result<(), Fail> {
     database.apply(third)?;
     database.apply(fourth)?;
     assert_eq!(rt; database.committed_targets()?, FOURTH);
+    Ok(())
+}
+
+#[test]
+fn staged_keys(rt: HostRuntime) -> Result<(), Fail> {
+    let mut database = set(rt.alloc())?;
+    put(
+        &mut database,
+        &[(1, Some(10)), (2, Some(20)), (3, Some(30))],
+    )?;
+    let batch = database.new_batches()?;
+    let Held::Here(db) = &database else {
+        return Err("it isn't here".into());
+    };
+    let (values, staged) = batch.stage(db, &[1, 2])?;
+    assert_eq!(rt; values.as_slice(), [Some(10), Some(20)].as_slice());
+    let (range, values, staged) = staged.expand(db, &[9])?;
+    assert_eq!(rt; range, 2..3);
+    assert_eq!(rt; values.as_slice(), [None].as_slice());
+    assert_eq!(rt; staged.len(), 3);
+    let slots = vec![in rt.alloc(); Slot::Put(11), Slot::Delete, Slot::Put(99)]?;
+    let unstaged = vec![in rt.alloc(); (3, Some(33))]?;
+    let batch = staged.with_metadata(5).into_batch(slots, unstaged)?;
+    let batch = batch.merkleize(db)?;
+    assert_eq!(rt; AnyDb::batch_target(&batch), STAGED);
+    assert_eq!(rt; batch.bounds().inactivity_floor, Location(5));
+    assert_eq!(rt; batch.bounds().size, Location(10));
+    Ok(())
+}
+
+#[test]
+fn reads_are_of_the_chain(rt: HostRuntime) -> Result<(), Fail> {
+    let mut database = set(rt.alloc())?;
+    let one = with(database.new_batches()?, &[(1, Some(10)), (2, Some(20))])?;
+    let one = database.seal(one)?;
+    let other = with(database.new_batches()?, &[(1, Some(11))])?;
+    let other = database.seal(other)?;
+    let child = with(database.fork_batches(&one)?, &[(2, None), (3, Some(30))])?;
+    let child = database.seal(child)?;
+    let last = with(database.fork_batches(&child)?, &[(4, Some(40))])?;
+    assert_eq!(rt; child.depth(), 2);
+    database.apply(one)?;
+    let fork = database.fork_batches(&child)?;
+    let fork = database.seal(fork)?;
+    assert_eq!(rt; fork.depth(), 2);
+    let Held::Here(db) = &database else {
+        return Err("it isn't here".into());
+    };
+    let keys: [u64; 4] = [1, 2, 3, 4];
+    let wanted = [Some(10), None, Some(30), Some(40)];
+    assert_eq!(rt;
+        last.get_many(db, keys.as_slice())?.as_slice(),
+        wanted.as_slice()
+    );
+    assert_eq!(rt;
+        last.merkleize(db)?
+            .get_many(db, keys.as_slice())?
+            .as_slice(),
+        wanted.as_slice()
+    );
+    assert_eq!(rt; child.get(db, &1)?, Some(10));
+    assert_eq!(rt; db.get(&2)?, Some(20));
+    assert_eq!(rt; other.get(db, &1).err(), Some(BatchError::StaleRead));
+    Ok(())
+}
+
+#[test]
+fn opens_at_an_expected_target(rt: HostRuntime) -> Result<(), Fail> {
+    let mut database = set(rt.alloc())?;
+    put(
+        &mut database,
+        &[(1, Some(10)), (2, Some(20)), (3, Some(30))],
+    )?;
+    put(&mut database, &[(1, Some(11))])?;
+    let Held::Here(db) = database else {
+        return Err("it isn't here".into());
+    };
+    let db = open(&rt, db.close(), Some(FIRST));
+    assert_eq!(rt; db.sync_target(), FIRST);
+    assert_eq!(rt; db.get(&1)?, Some(10));
+    assert_eq!(rt; db.get_metadata(), None);
+    let (_, why) = AnyDb::init(db.close(), &(), Some(SECOND))
+        .err()
+        .expect(&rt, "it was dropped");
+    assert_eq!(rt; why, InitError::Database);
+    Ok(())
+}
+
+#[test]
+fn listed_calls_fail(rt: HostRuntime) -> Result<(), Fail> {
+    let db = empty(&rt, rt.alloc(), &[(DbCall::Init, 1)])?;
+    let (medium, _) = AnyDb::init(db.close(), &(), None)
+        .err()
+        .expect(&rt, "the second fails");
+    assert_eq!(rt; medium.faults(), 1);
+    assert_eq!(rt; open(&rt, medium, None).faults(), 1);
+    Ok(())
+}
+
+/// A batch of a long run: updates and deletes of some of 13 keys.
+fn long_writes(number: u64) -> [(u64, Option<u64>); 3] {
+    [0, 1, 2].map(|j| {
+        let key = (number * 7 + j * 5) % 13;
+        let value = if (number + j) % 3 == 0 {
+            None
+        } else {
+            Some(number * 100 + j)
+        };
+        (key, value)
+    })
+}
+
+#[test]
+fn a_long_run_of_batches(rt: HostRuntime) -> Result<(), Fail> {
+    let mut database = set(rt.alloc())?;
+    let mut floors = 0;
+    for number in 1..=40 {
+        put(&mut database, long_writes(number).as_slice())?;
+        floors += database.committed_targets()?.start.0;
+    }
+    assert_eq!(rt; database.committed_targets()?, LONG);
+    assert_eq!(rt; floors, 2246);
+    Ok(())
+}
+
+#[test]
+fn a_long_run_over_layers(rt: HostRuntime) -> Result<(), Fail> {
+    let mut database = set(rt.alloc())?;
+    let first = with(database.new_batches()?, long_writes(1).as_slice())?;
+    let mut waiting = database.seal(first)?;
+    for number in 2..=40 {
+        let next = with(
+            database.fork_batches(&waiting)?,
+            long_writes(number).as_slice(),
+        )?;
+        let next = database.seal(next)?;
+        if number % 2 == 0 {
+            database.apply(waiting)?;
+        } else {
+            database.apply(waiting.share()?)?;
+        }
+        waiting = next;
+    }
+    assert_eq!(rt; AnyDb::batch_target(&waiting), LONG);
     Ok(())
 }
