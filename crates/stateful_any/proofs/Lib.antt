@@ -5,3 +5,4 @@ pub mod Reading
 pub mod Floor
 pub mod Values
 pub mod Sealing
+pub mod Staging

@@ -201,7 +201,8 @@ impl<K: Field, V: Field> ManagedDb for AnyDb<K, V> {
         ensures { let s = standing_of database.entry.database.now in
             IfOk result (λ u. s.id < database.entry.id
             → DraftShows K.cmp K.fields.spelling V.fields.spelling u
-            ((database.entry.id, begun K.cmp K.fields.spelling V.fields.spelling s.disk.newest) ∷ point s ∷ [])) }
+            ((database.entry.id, begun K.cmp K.fields.spelling V.fields.spelling s.disk.newest)
+            ∷ point s ∷ [])) }
     {
         let (db, id) = database.into_parts();
         Ok(AnyUnmerkleized {
@@ -219,10 +220,12 @@ impl<K: Field, V: Field> ManagedDb for AnyDb<K, V> {
     ) -> Result<AnyUnmerkleized<K, V>, OutOfMemory>
         ensures { let p = point (standing_of database.entry.database.now) in
             IfOk result (λ u. (q : ℕ × State K V) (above older : List (ℕ × State K V))
-            → SealShows K.cmp K.fields.spelling V.fields.spelling parent.now (q ∷ above ++ p ∷ older)
+            → SealShows K.cmp K.fields.spelling V.fields.spelling parent.now
+            (q ∷ above ++ p ∷ older)
             → q.0 < database.entry.id
             → DraftShows K.cmp K.fields.spelling V.fields.spelling u
-            ((database.entry.id, begun K.cmp K.fields.spelling V.fields.spelling q.1) ∷ q ∷ above ++ p ∷ [])) }
+            ((database.entry.id, begun K.cmp K.fields.spelling V.fields.spelling q.1)
+            ∷ q ∷ above ++ p ∷ [])) }
     {
         let (db, id) = database.into_parts();
         let mut batch = parent.new_batch(id)?;
@@ -242,7 +245,8 @@ impl<K: Field, V: Field> ManagedDb for AnyDb<K, V> {
     /// greater in size than the newest one, which is of no batch on it, is refused as if memory were wanting.
     fn apply(self, batch: AnyMerkleized<K, V>) -> Result<AnyDb<K, V>, Broken<AnyMedium<K, V>>>
         ensures ok { IfOk result (λ db. (p : ℕ × State K V) (c : List (ℕ × State K V))
-            → SealShows K.cmp K.fields.spelling V.fields.spelling batch (p ∷ point (standing_of self) ∷ c)
+            → SealShows K.cmp K.fields.spelling V.fields.spelling batch
+            (p ∷ point (standing_of self) ∷ c)
             → standing_of db
             ≡ record (standing_of self) { id = p.0; disk = applied (standing_of self).disk p.1 }) }
         ensures ok_out { IfOk result (λ db. (standing_of db).out ≡ (standing_of self).out) }
@@ -251,7 +255,8 @@ impl<K: Field, V: Field> ManagedDb for AnyDb<K, V> {
         ensures ok_called { IfOk result (λ db.
             Called DbCall.Apply (calls_here self) (calls_here db)) }
         ensures err { IfErr result (λ b. (p : ℕ × State K V) (c : List (ℕ × State K V))
-            → SealShows K.cmp K.fields.spelling V.fields.spelling batch (p ∷ point (standing_of self) ∷ c)
+            → SealShows K.cmp K.fields.spelling V.fields.spelling batch
+            (p ∷ point (standing_of self) ∷ c)
             → IsEither (standing_of self).disk (applied (standing_of self).disk p.1)
             (disk_of b.medium)) }
         ensures err_next { IfErr result (λ b. next_of b.medium ≡ next_here self) }

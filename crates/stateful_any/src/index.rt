@@ -23,7 +23,8 @@ pub(crate) fn note<K: Field, V: Field>(
 ) -> Result<(), OutOfMemory>
     ensures { OnOk result ((key : K) (before : Option (ℕ × V))
         → lookup (is_at (K.cmp key)) index.old.entries ≡ option_map (λ x. x.0) before
-        → lookup (is_at (K.cmp key)) index.new.entries ≡ option_map (λ x. x.0) (written K.cmp key at op.now before)) }
+        → lookup (is_at (K.cmp key)) index.new.entries
+        ≡ option_map (λ x. x.0) (written K.cmp key at op.now before)) }
 {
     match op {
         AnyOp::Commit(_) => {}

@@ -23,7 +23,8 @@ pub(crate) fn place_in<K: Field, V: Field>(
     db: &AnyDb<K, V>,
     key: &K,
 ) -> Option<u64>
-    ensures { result ≡ place_through K.cmp layers.now key.now (lookup (is_at (K.cmp key.now)) db.now.index.entries) }
+    ensures { result ≡ place_through K.cmp layers.now key.now
+        (lookup (is_at (K.cmp key.now)) db.now.index.entries) }
 {
     for layer in layers {
         if let Some(place) = layer.changes().written.place(key) {
@@ -41,7 +42,8 @@ pub(crate) fn op_in<'a, K: Field, V: Field>(
 ) -> Option<&'a AnyOp<K, V>>
     ensures { let s = (standing_of db.now).disk.newest in
         s.target.start.0 ≤ at
-        → option_copied result ≡ op_through layers.now at (slice_get s.kept (at - s.target.start.0)) }
+        → option_copied result
+        ≡ op_through layers.now at (slice_get s.kept (at - s.target.start.0)) }
 {
     for layer in layers {
         let written = &layer.changes().written;

@@ -95,7 +95,8 @@ pub(crate) fn place_of<K: Field, V: Field>(
     key: &K,
 ) -> Option<u64>
     ensures { result ≡ place_over K.cmp own.now key.now
-        (place_through K.cmp layers.now key.now (lookup (is_at (K.cmp key.now)) db.now.index.entries)) }
+        (place_through K.cmp layers.now key.now
+        (lookup (is_at (K.cmp key.now)) db.now.index.entries)) }
 {
     match own.place(key) {
         Some(place) => place,

@@ -1,6 +1,6 @@
 //! Batches whose keys are read before they are written.
 
-ghost use Rattle.std.specs.Prelude.{◌≡◌, ◌+◌, ◌++◌, ◌∷◌, ◌≤◌, ◌↔◌, ℕ, List, Option, Some, IfOk, IsErrOf, IsTrue, OnOk, false, length, map};
+ghost use Rattle.std.specs.Prelude.{◌≡◌, ◌+◌, ◌++◌, ◌∷◌, [], ◌≤◌, ◌↔◌, ℕ, List, Option, Some, IfOk, IsErrOf, IsTrue, OnOk, false, length, map};
 ghost use Rattle.stateful_db.specs.Chain.{has_id, IsPoint};
 ghost use Rattle.stateful_db.specs.Disk.{point};
 ghost use Rattle.stateful_any.specs.Any.{State, value_at};
@@ -161,17 +161,28 @@ fn put_slots<K: Field, V: Field>(
 {
     let mut batch = batch;
     for (i, slot) in slots.iter().enumerate() {
-        match slot {
-            Slot::Put(value) => {
-                batch = batch.write(keys[i].duplicate()?, Some(value.duplicate()?))?;
-            }
-            Slot::Delete => {
-                batch = batch.write(keys[i].duplicate()?, None)?;
-            }
-            Slot::Keep => {}
-        }
+        batch = put_slot(batch, &keys[i], slot)?;
     }
     Ok(batch)
+}
+
+/// The batch with the write of one staged key.
+fn put_slot<K: Field, V: Field>(
+    batch: AnyUnmerkleized<K, V>,
+    key: &K,
+    slot: &Slot<V>,
+) -> Result<AnyUnmerkleized<K, V>, OutOfMemory>
+    ensures { IfOk result (λ u.
+        u ≡ with_writes K.cmp batch (slot_writes (key.now ∷ []) (slot.now ∷ []))) }
+{
+    match slot {
+        Slot::Put(value) => {
+            let value = value.duplicate()?;
+            batch.write(key.duplicate()?, Some(value))
+        }
+        Slot::Delete => batch.write(key.duplicate()?, None),
+        Slot::Keep => Ok(batch),
+    }
 }
 
 /// The batch with these writes.
