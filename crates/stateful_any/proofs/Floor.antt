@@ -1,5 +1,5 @@
 -- which operations have to be kept, behind those of a batch
-use Rattle.std.proofs.Common.{◌≡◌, ℕ, zero, suc, ◌+◌, ◌-◌, ◌≤◌, ◌<◌, ◌==◌, inl, inr, max, Bool, true, false, not, List, [], ◌∷◌, ◌++◌, length, take, drop, Option, Some, None, refl, sym, ap, ◌∙◌, subst, arith, slice_get, length-take, length-drop}
+use Rattle.std.proofs.Common.{◌≡◌, ℕ, zero, suc, ◌+◌, ◌-◌, ◌≤◌, ◌<◌, ◌==◌, inl, inr, true, false, not, List, [], ◌∷◌, ◌++◌, length, take, drop, Option, Some, None, refl, sym, ap, ◌∙◌, arith, slice_get, length-take, length-drop}
 use Rattle.std.specs.Bool.{if◌then◌else◌}
 use Rattle.std.specs.List.{list_any}
 use Rattle.std.specs.Map.{lookup}
@@ -10,9 +10,9 @@ use Rattle.std.specs.BTreeMap.{is_at}
 use Rattle.std.proofs.lemmas.Bool.Decides.{nat_tests}
 use Rattle.stateful_db.specs.CheckpointLaws.{slice_get-drop}
 use Rattle.stateful_any.specs.declared.op.AnyOp.{AnyOp}
-use Rattle.stateful_any.specs.declared.op.AnyOp.TheVariants.{Commit, Update, Delete}
-use Rattle.stateful_any.specs.Live.{writes_key, last_write, is_last, stays, passed}
-use Rattle.stateful_any.specs.Any.{State, size_of, IsWhole, live_at}
+use Rattle.stateful_any.specs.declared.op.AnyOp.TheVariants.{Update}
+use Rattle.stateful_any.specs.Live.{writes_key, last_write, is_last, passed}
+use Rattle.stateful_any.specs.Any.{State, size_of, live_at}
 use Rattle.stateful_any.specs.Through.{Written, Change, op_over, op_through, place_over, place_through, IsIndexed}
 use Rattle.stateful_any.proofs.Writes.{cases, last_here, last_behind}
 use Rattle.stateful_any.proofs.Reading.{Reads, place_more, op_more}

@@ -1,7 +1,6 @@
 -- chains of batches of keys, and what their seals give
-use Rattle.std.proofs.Common.{◌≡◌, ◌≢◌, ℕ, zero, suc, ◌+◌, ◌-◌, ◌≤◌, ◌<◌, ◌==◌, ◌||◌, ◌⊎◌, inl, inr, Bool, true, false, is_some, List, [], ◌∷◌, ◌++◌, length, Option, Some, None, refl, sym, ap, ◌∙◌, subst, arith, length-append}
+use Rattle.std.proofs.Common.{◌≡◌, ◌≢◌, ℕ, suc, ◌+◌, ◌≤◌, ◌==◌, ◌||◌, inl, inr, Bool, true, false, is_some, List, [], ◌∷◌, ◌++◌, length, Option, Some, None, refl, sym, ap, ◌∙◌, subst, arith, length-append}
 use Rattle.std.specs.Bool.{if◌then◌else◌}
-use Rattle.std.specs.List.{list_any}
 use Rattle.std.specs.List.Sorted.{IsStrictlySortedBy}
 use Rattle.std.specs.Map.{lookup, keys_of}
 use Rattle.std.specs.Option.{option_map, unwrap_or}
@@ -14,14 +13,13 @@ use Rattle.stateful_db.specs.Chain.{IsPoint, has_id}
 use Rattle.stateful_overlay.specs.Stack.{has_layer, above, cut_at}
 use Rattle.stateful_overlay.specs.Chains.{Stands, Leads, has_id-layers, leads-above, stands-cut}
 use Rattle.stateful_log.specs.Chained.{chained}
-use Rattle.stateful_any.specs.declared.op.AnyOp.{AnyOp}
 use Rattle.stateful_any.specs.declared.op.AnyOp.TheVariants.{Commit, Update, Delete}
-use Rattle.stateful_any.specs.Ops.{Changes, op_bytes}
+use Rattle.stateful_any.specs.Ops.{op_bytes}
 use Rattle.stateful_any.specs.Live.{last_write, passed}
-use Rattle.stateful_any.specs.Any.{State, size_of, IsWhole, live_at, value_at, ops_for, ops_of, after, sealed}
-use Rattle.stateful_any.specs.Through.{Written, Change, place_through, IsIndexed}
+use Rattle.stateful_any.specs.Any.{State, size_of, IsWhole, live_at, value_at, ops_for, ops_of, after}
+use Rattle.stateful_any.specs.Through.{Change, place_through, IsIndexed}
 use Rattle.stateful_any.specs.Shown.{Draft, Seal, After, DraftShows, SealShows}
-use Rattle.stateful_any.proofs.Reading.{Reads, reads_through, live_after}
+use Rattle.stateful_any.proofs.Reading.{reads_through, live_after}
 use Rattle.stateful_any.proofs.Values.{sealed_value}
 
 pub append_nil : {X : Type 0} (xs : List X) → xs ++ [] ≡ xs

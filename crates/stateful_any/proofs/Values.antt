@@ -1,5 +1,5 @@
 -- the value at a key, by the location of its last write
-use Rattle.std.proofs.Common.{◌≡◌, ℕ, zero, suc, ◌+◌, ◌-◌, ◌≤◌, ◌<◌, ◌⊎◌, inl, inr, Bool, true, false, cond, not, ◌||◌, List, [], ◌∷◌, ◌++◌, length, Option, Some, None, is_some, refl, sym, ap, ◌∙◌, arith, slice_get}
+use Rattle.std.proofs.Common.{◌≡◌, ℕ, zero, suc, ◌+◌, ◌-◌, ◌≤◌, ◌<◌, ◌⊎◌, inl, inr, Bool, true, false, cond, ◌||◌, List, [], ◌∷◌, ◌++◌, length, Option, Some, None, is_some, refl, sym, ap, ◌∙◌, arith, slice_get}
 use Rattle.std.specs.Bool.{if◌then◌else◌}
 use Rattle.std.specs.List.{list_any, IsDistinct}
 use Rattle.std.specs.List.Sorted.{IsStrictlySortedBy}
@@ -16,7 +16,7 @@ use Rattle.std.specs.BTreeMap.{is_at}
 use Rattle.stateful_any.specs.declared.op.AnyOp.{AnyOp}
 use Rattle.stateful_any.specs.declared.op.AnyOp.TheVariants.{Commit, Update, Delete}
 use Rattle.stateful_any.specs.Ops.{Changes}
-use Rattle.stateful_any.specs.Live.{written, writes_key, last_write}
+use Rattle.stateful_any.specs.Live.{writes_key, last_write}
 use Rattle.stateful_any.specs.Any.{State, live_at, value_at, metadata_of, ops_for, ops_of, sealed}
 use Rattle.stateful_any.proofs.Writes.{cases, last_write-at, last_write-none, last_write-append, same_key}
 use Rattle.stateful_any.proofs.Reading.{live_after}

@@ -1,5 +1,5 @@
 -- The states of a log of keys, and what a batch makes of them.
-use Rattle.std.specs.Prelude.{◌≡◌, ℕ, ◌+◌, Bool, true, false, if◌then◌else◌, List, [], ◌∷◌, ◌++◌, Option, Some, None, is_some, option_map, length}
+use Rattle.std.specs.Prelude.{◌≡◌, ℕ, ◌+◌, Bool, if◌then◌else◌, List, [], ◌∷◌, ◌++◌, Option, Some, None, is_some, option_map, length}
 use Rattle.std.specs.declared.cmp.Ordering.{Ordering}
 use Rattle.stateful_types.specs.declared.target.Target.{Target}
 use Rattle.stateful_medium.specs.declared.checkpoints.Checkpoint.{Checkpoint}

@@ -25,6 +25,3 @@ pub use pass::AnyPass;
 pub use slot::Slot;
 pub use staged::AnyStaged;
 pub use state::AnyState;
-
-#[cfg(test)]
-mod tests;

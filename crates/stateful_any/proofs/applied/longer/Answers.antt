@@ -1,10 +1,10 @@
-use Rattle.std.proofs.Common.{◌≡◌, ◌+◌, ◌++◌, ℕ, List, false, Result, Ok, Err, OnOk, is_err, sym, ap, ◌∙◌}
+use Rattle.std.proofs.Common.{◌≡◌, ◌+◌, ◌++◌, List, false, Result, Ok, Err, OnOk, is_err, sym, ap, ◌∙◌}
 use Rattle.std.specs.Option.{option_map}
 use Rattle.stateful_db.specs.Disk.{Standing}
 use Rattle.stateful_log.specs.Logs.{extended}
 use Rattle.stateful_any.specs.declared.op.AnyOp.{AnyOp}
 use Rattle.stateful_any.specs.Live.{last_write, passed}
-use Rattle.stateful_any.specs.Any.{State, size_of, live_at}
+use Rattle.stateful_any.specs.Any.{State, live_at}
 use Rattle.stateful_any.specs.Through.{Change}
 use Rattle.stateful_any.specs.Stored.{standing_of}
 use Rattle.stateful_any.proofs.Reading.{extended_live}

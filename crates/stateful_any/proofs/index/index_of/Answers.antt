@@ -1,9 +1,9 @@
-use Rattle.std.proofs.Common.{◌≡◌, ℕ, ◌+◌, ◌-◌, ◌≤◌, Option, Some, None, [], drop, length, ap, sym, ◌∙◌, arith, slice_get}
+use Rattle.std.proofs.Common.{◌≡◌, ◌-◌, ◌≤◌, Some, None, length, ap, sym, ◌∙◌, arith, slice_get}
 use Rattle.std.specs.Option.{option_map, option_copied}
 use Rattle.std.specs.Map.{lookup}
 use Rattle.std.specs.BTreeMap.{is_at}
 use Rattle.stateful_log.specs.LogSound.{length_kept}
-use Rattle.stateful_any.specs.Live.{written, last_write}
+use Rattle.stateful_any.specs.Live.{written}
 use Rattle.stateful_any.proofs.Indexing.{end_write, index_step, index_past}
 use Rattle.stateful_any.proofs.index.index_of.Goals as goal
 use Rattle.stateful_any.proofs.index.index_of.Goals.{in-Some+in_ok-note, in_default}

@@ -1,7 +1,7 @@
 use Rattle.std.proofs.Common.{◌≡◌, ◌+◌, ◌-◌, ◌≤◌, ◌<◌, ◌++◌, length, drop, suc, ap, sym, ◌∙◌, arith, length-append}
 use Rattle.stateful_any.specs.Live.{passed}
 use Rattle.stateful_any.specs.Stored.{standing_of}
-use Rattle.stateful_any.proofs.Reading.{Reads, reads_through}
+use Rattle.stateful_any.proofs.Reading.{reads_through}
 use Rattle.stateful_any.proofs.Floor.{front_of, walk_step, walk_live, walk_end}
 use Rattle.stateful_any.proofs.seal.first_kept.Goals as goal
 

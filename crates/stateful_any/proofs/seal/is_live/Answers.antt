@@ -1,10 +1,9 @@
-use Rattle.std.proofs.Common.{◌≡◌, ◌+◌, ◌-◌, ◌≤◌, ◌++◌, ◌∷◌, false, not, Some, None, ap, sym, ◌∙◌, arith, slice_get}
+use Rattle.std.proofs.Common.{◌≡◌, ◌-◌, ◌++◌, ◌∷◌, Some, None, ap, sym, ◌∙◌, arith}
 use Rattle.std.specs.Option.{option_copied}
-use Rattle.stateful_any.specs.declared.op.AnyOp.{AnyOp}
 use Rattle.stateful_any.specs.declared.op.AnyOp.TheVariants.{Commit, Update, Delete}
 use Rattle.stateful_any.specs.Live.{is_last}
 use Rattle.stateful_any.specs.Stored.{standing_of}
-use Rattle.stateful_any.proofs.Reading.{Reads, reads_through}
+use Rattle.stateful_any.proofs.Reading.{reads_through}
 use Rattle.stateful_any.proofs.Floor.{first_is, current, place_flat, op_flat}
 use Rattle.stateful_any.proofs.seal.is_live.Goals as goal
 

@@ -1,8 +1,7 @@
-use Rattle.std.proofs.Common.{◌≡◌, ◌+◌, ◌≤◌, ◌++◌, ◌∷◌, [], length, is_some, ap, sym, ◌∙◌, arith, append_assoc, length-append, Some, None, List, Option}
+use Rattle.std.proofs.Common.{◌++◌, ◌∷◌, [], length, is_some, ap, sym, ◌∙◌, arith, append_assoc, length-append}
 use Rattle.std.specs.Bool.{if◌then◌else◌}
 use Rattle.std.specs.Map.{lookup}
 use Rattle.std.specs.BTreeMap.{is_at}
-use Rattle.stateful_any.specs.declared.op.AnyOp.{AnyOp}
 use Rattle.stateful_any.specs.declared.op.AnyOp.TheVariants.{Update, Delete}
 use Rattle.stateful_any.specs.Any.{ops_for}
 use Rattle.stateful_any.specs.Through.{place_through}

@@ -1,12 +1,11 @@
-use Rattle.std.proofs.Common.{◌≡◌, ◌++◌, Option, Some, None, ap, sym, ◌∙◌, arith}
-use Rattle.std.specs.Option.{option_copied, option_map}
-use Rattle.stateful_any.specs.declared.op.AnyOp.{AnyOp}
+use Rattle.std.proofs.Common.{◌≡◌, ◌++◌, Some, None, ap, sym, ◌∙◌, arith}
+use Rattle.std.specs.Option.{option_copied}
 use Rattle.stateful_any.specs.declared.op.AnyOp.TheVariants.{Commit, Update, Delete}
 use Rattle.stateful_any.specs.Any.{State}
 use Rattle.stateful_any.specs.Stored.{standing_of}
-use Rattle.stateful_any.proofs.Reading.{Reads, reads_through}
+use Rattle.stateful_any.proofs.Reading.{reads_through}
 use Rattle.stateful_any.proofs.Floor.{place_flat, op_flat}
-use Rattle.stateful_any.proofs.Values.{IsThere, value_none, value_some}
+use Rattle.stateful_any.proofs.Values.{value_none, value_some}
 use Rattle.stateful_any.proofs.sealed.value_over.Goals as goal
 
 pub returns-in_default : goal.returns-in_default

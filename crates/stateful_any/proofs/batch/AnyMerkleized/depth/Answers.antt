@@ -1,4 +1,4 @@
-use Rattle.std.proofs.Common.{◌≡◌, ◌+◌, length, arith, ap, sym, ◌∙◌}
+use Rattle.std.proofs.Common.{length, arith, ap, sym}
 use Rattle.stateful_any.specs.Shown.{Seal}
 use Rattle.stateful_any.proofs.Sealing.{seal_length}
 use Rattle.stateful_any.proofs.batch.AnyMerkleized.depth.Goals as goal

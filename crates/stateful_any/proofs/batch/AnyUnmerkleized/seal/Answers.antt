@@ -1,4 +1,4 @@
-use Rattle.std.proofs.Common.{◌≡◌, ◌+◌, ◌++◌, ◌∷◌, [], ◌≤◌, ◌<◌, ◌^◌, ℕ, List, length, is_some, sym, ap, subst, ◌∙◌, arith, length-append}
+use Rattle.std.proofs.Common.{◌≡◌, ◌+◌, ◌++◌, ◌∷◌, [], ℕ, List, length, is_some, sym, ap, subst, ◌∙◌, arith, length-append}
 use Rattle.std.specs.Map.{lookup}
 use Rattle.std.specs.BTreeMap.{is_at}
 use Rattle.stateful_overlay.specs.Stack.{above}
@@ -8,7 +8,7 @@ use Rattle.stateful_any.specs.declared.op.AnyOp.{AnyOp}
 use Rattle.stateful_any.specs.declared.op.AnyOp.TheVariants.{Commit}
 use Rattle.stateful_any.specs.Ops.{op_bytes}
 use Rattle.stateful_any.specs.Live.{passed}
-use Rattle.stateful_any.specs.Any.{State, ops_for}
+use Rattle.stateful_any.specs.Any.{ops_for}
 use Rattle.stateful_any.specs.Through.{Written, Change, IsIndexed, place_through}
 use Rattle.stateful_any.specs.Shown.{Draft, After, DraftShows}
 use Rattle.stateful_any.specs.Stored.{standing_of}

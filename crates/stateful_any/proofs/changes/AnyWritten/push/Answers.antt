@@ -1,7 +1,6 @@
-use Rattle.std.proofs.Common.{◌≡◌, ◌+◌, ◌++◌, ◌∷◌, [], ap, sym, ◌∙◌, arith, length, ℕ, Option, Some, None, cond}
+use Rattle.std.proofs.Common.{◌≡◌, ◌+◌, ap, sym, ◌∙◌, arith, length, ℕ, Option, Some, None, cond}
 use Rattle.std.specs.Map.{lookup}
 use Rattle.std.specs.BTreeMap.{BTreeMap, is_at}
-use Rattle.stateful_any.specs.Through.{IsIndexed}
 use Rattle.stateful_any.proofs.Indexing.{noted, indexed_more}
 use Rattle.stateful_any.proofs.changes.AnyWritten.push.Goals as goal
 use Rattle.stateful_any.proofs.changes.AnyWritten.push.Goals.{in-Commit, in-Update+in_ok-duplicate-in-Update+in_ok-insert-in-Update, in-Delete+in_ok-duplicate-in-Delete+in_ok-insert-in-Delete}

@@ -1,6 +1,5 @@
-use Rattle.std.proofs.Common.{◌≡◌, ℕ, List, [], refl, subst, sym, ◌∙◌}
+use Rattle.std.proofs.Common.{ℕ, List, refl, subst, sym, ◌∙◌}
 use Rattle.stateful_overlay.specs.Chains.{Leads}
-use Rattle.stateful_any.specs.Any.{State}
 use Rattle.stateful_any.specs.Through.{Change}
 use Rattle.stateful_any.specs.Shown.{After}
 use Rattle.stateful_any.specs.Stored.{standing_of}

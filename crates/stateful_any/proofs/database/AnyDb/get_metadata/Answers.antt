@@ -1,10 +1,7 @@
-use Rattle.std.proofs.Common.{◌≡◌, ◌≤◌, ◌<◌, ◌⊎◌, inl, inr, ◌-◌, suc, Option, Some, None, length, sym, ap, ◌∙◌, arith, slice_get}
+use Rattle.std.proofs.Common.{Some, sym, ap, ◌∙◌, arith}
 use Rattle.std.specs.Option.{option_copied}
 use Rattle.stateful_types.specs.declared.target.Target.{Target}
 use Rattle.stateful_log.specs.LogSound.{length_newest}
-use Rattle.stateful_any.specs.Any.{State, metadata_of}
-use Rattle.stateful_any.specs.declared.op.AnyOp.{AnyOp}
-use Rattle.stateful_any.specs.declared.op.AnyOp.TheVariants.{Commit, Update, Delete}
 use Rattle.stateful_any.specs.Stored.{standing_of}
 use Rattle.stateful_any.proofs.Values.{metadata_in, newest_metadata}
 use Rattle.stateful_any.proofs.database.AnyDb.get_metadata.Goals as goal

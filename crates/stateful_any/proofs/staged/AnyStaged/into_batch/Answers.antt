@@ -1,4 +1,4 @@
-use Rattle.std.proofs.Common.{◌≡◌, ◌++◌, List, sym, ap, ◌∙◌}
+use Rattle.std.proofs.Common.{◌++◌, List, sym, ap, ◌∙◌}
 use Rattle.stateful_any.specs.declared.slot.Slot.{Slot}
 use Rattle.stateful_any.specs.Shown.{Draft}
 use Rattle.stateful_any.specs.Staged.{Staging, slot_writes, with_writes}
