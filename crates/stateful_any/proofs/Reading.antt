@@ -10,11 +10,11 @@ use Rattle.stateful_types.specs.declared.target.Target.{Target}
 use Rattle.stateful_log.specs.Logs.{extended}
 use Rattle.stateful_overlay.specs.Chains.{Leads}
 use Rattle.stateful_any.specs.declared.op.AnyOp.{AnyOp}
-use Rattle.stateful_any.specs.Live.{last_write, passed}
+use Rattle.stateful_any.specs.Live.{last_write, stays, passed}
 use Rattle.stateful_any.specs.Any.{State, size_of, IsWhole, live_at, after}
 use Rattle.stateful_any.specs.Through.{Written, Change, op_over, op_through, place_over, place_through, IsIndexed}
 use Rattle.stateful_any.specs.Shown.{After}
-use Rattle.stateful_any.proofs.Writes.{cases, last_write-append, last_write-passed, passed-le}
+use Rattle.stateful_any.proofs.Writes.{cases, last_write-append, last_write-passed, passed-le, first_stays}
 
 slice_get-front : {X : Type 0} (xs ys : List X) (i : ℕ) → i < length xs → slice_get (xs ++ ys) i ≡ slice_get xs i
 slice_get-front [] ys i h = absurd (omega arith)
@@ -76,6 +76,11 @@ module _ {K V : Type 0} {cmp : K → K → Ordering} (total : IsTotalOrder cmp) 
       let n = passed cmp (s.kept ++ more) in
       ap (λ xs. last_write cmp key (s.target.start.0 + n) xs None) (kept_after s more)
       ∙ last_write-passed total key s.target.start.0 (s.kept ++ more)
+
+  pub begins_with : (s : State K V) (more : List (AnyOp K V)) → 0 < length (s.kept ++ more) → (op : AnyOp K V) × ((later : List (AnyOp K V)) × (((after cmp spell_key spell_value s more).kept ≡ op ∷ later) × (stays cmp op later ≡ true)))
+  begins_with s more some =
+      let (op, (later, (is, stay))) = first_stays cmp (s.kept ++ more) some in
+      (op, (later, (kept_after s more ∙ is, stay)))
 
   -- the last writes behind more operations, and then from the first that has to be kept on
   pub extended_live : (s : State K V) (more : List (AnyOp K V)) (range : Target) (from : ℕ) (key : K) → IsWhole s → from ≡ size_of s → range.start.0 ≡ s.target.start.0 + passed cmp (s.kept ++ more)

@@ -1,5 +1,5 @@
 -- the last writes of keys, along lists of operations
-use Rattle.std.proofs.Common.{◌≡◌, ℕ, zero, suc, ◌+◌, ◌-◌, ◌≤◌, ◌⊎◌, inl, inr, Bool, true, false, not, ◌||◌, List, [], ◌∷◌, ◌++◌, length, drop, Option, Some, None, refl, sym, ap, ◌∙◌, arith, slice_get}
+use Rattle.std.proofs.Common.{◌≡◌, ℕ, zero, suc, ◌+◌, ◌-◌, ◌≤◌, ◌<◌, ◌⊎◌, inl, inr, Bool, true, false, not, ◌||◌, List, [], ◌∷◌, ◌++◌, length, drop, Option, Some, None, refl, sym, ap, ◌∙◌, arith, slice_get}
 use Rattle.std.specs.Bool.{if◌then◌else◌}
 use Rattle.std.specs.List.{list_any}
 use Rattle.std.specs.Option.{option_map, unwrap_or}
@@ -97,6 +97,19 @@ module _ {K V : Type 0} (cmp : K → K → Ordering) where
       found (Some w) e h = elim (last_write-at key at ops None w.0 w.1 e) [
         | inl never ↦ cc
         | inr (le, (k, there)) ↦ let same : w.0 ≡ place = cc in omega arith
+      ]
+
+  -- what is passed ends at an operation that has to be kept
+  pub first_stays : (ops : List (AnyOp K V)) → 0 < length ops → (op : AnyOp K V) × ((later : List (AnyOp K V)) × ((drop (passed cmp ops) ops ≡ op ∷ later) × (stays cmp op later ≡ true)))
+  first_stays [] some = absurd (omega arith)
+  first_stays (op ∷ []) some = (op, ([], (refl, refl)))
+  first_stays (op ∷ next ∷ ops) some =
+      elim (cases (stays cmp op (next ∷ ops))) [
+        | inl stay ↦ (op, (next ∷ ops, (ap (λ b. drop (if b then 0 else passed cmp (next ∷ ops) + 1) (op ∷ next ∷ ops)) stay, stay)))
+        | inr dead ↦
+            let (first, (later, (is, stay))) = first_stays (next ∷ ops) (omega arith) in
+            let more : passed cmp (next ∷ ops) + 1 ≡ suc (passed cmp (next ∷ ops)) = omega arith in
+            (first, (later, (ap (λ b. drop (if b then 0 else passed cmp (next ∷ ops) + 1) (op ∷ next ∷ ops)) dead ∙ ap (λ n. drop n (op ∷ next ∷ ops)) more ∙ is, stay)))
       ]
 
   -- how many are passed

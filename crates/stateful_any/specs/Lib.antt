@@ -7,3 +7,4 @@ pub mod Shown
 pub mod Staged
 pub mod Stored
 pub mod AnySound
+pub mod Laws

@@ -69,6 +69,7 @@ impl<K: Field, V: Field> AnyMerkleized<K, V> {
         ensures stale { (c : List (ℕ × State K V))
             → SealShows K.cmp K.fields.spelling V.fields.spelling self.now c
             → (IsErrOf result BatchError.StaleRead ↔ (has_id c (standing_of db.now).id ≡ false)) }
+        ensures within { IsErrOf result BatchError.Exhausted → ⊥ }
     {
         let at = db.log.id();
         if !self.stands_on(at) {
@@ -96,6 +97,7 @@ impl<K: Field, V: Field> AnyMerkleized<K, V> {
         ensures stale { (c : List (ℕ × State K V))
             → SealShows K.cmp K.fields.spelling V.fields.spelling self.now c
             → (IsErrOf result BatchError.StaleRead ↔ (has_id c (standing_of db.now).id ≡ false)) }
+        ensures within { IsErrOf result BatchError.Exhausted → ⊥ }
     {
         let at = db.log.id();
         if !self.stands_on(at) {

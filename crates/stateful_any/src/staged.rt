@@ -49,6 +49,7 @@ impl<K: Field, V: Field> AnyUnmerkleized<K, V> {
         ensures stale { (c : List (ℕ × State K V))
             → DraftShows K.cmp K.fields.spelling V.fields.spelling self c
             → (IsErrOf result BatchError.StaleRead ↔ (has_id c (standing_of db.now).id ≡ false)) }
+        ensures within { IsErrOf result BatchError.Exhausted → ⊥ }
     {
         let values = self.get_many(db, keys)?;
         let mut staged = Vec::new(db.allocator());
@@ -107,6 +108,7 @@ impl<K: Field, V: Field> AnyStaged<K, V> {
         ensures stale { (c : List (ℕ × State K V))
             → DraftShows K.cmp K.fields.spelling V.fields.spelling self.batch c
             → (IsErrOf result BatchError.StaleRead ↔ (has_id c (standing_of db.now).id ≡ false)) }
+        ensures within { IsErrOf result BatchError.Exhausted → ⊥ }
     {
         let AnyStaged {
             batch,
