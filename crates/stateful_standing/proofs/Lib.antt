@@ -5,3 +5,6 @@ pub mod GivenUp
 pub mod Cancelled
 pub mod RunEnded
 pub mod CancelStands
+pub mod EndedLeft
+pub mod EndedRequests
+pub mod EndedRuns
