@@ -8,3 +8,7 @@ pub mod CancelStands
 pub mod EndedLeft
 pub mod EndedRequests
 pub mod EndedRuns
+pub mod EndedKnown
+pub mod EndedPoints
+pub mod EndedStands
+pub mod EndedKept
