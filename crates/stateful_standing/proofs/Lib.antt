@@ -12,3 +12,4 @@ pub mod EndedKnown
 pub mod EndedPoints
 pub mod EndedStands
 pub mod EndedKept
+pub mod EndedTold
