@@ -13,3 +13,4 @@ pub mod EndedPoints
 pub mod EndedStands
 pub mod EndedKept
 pub mod EndedTold
+pub mod EndedRule
