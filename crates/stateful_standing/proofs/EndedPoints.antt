@@ -38,6 +38,14 @@ same_digest-other d e ne = go (same_digest e d) refl
     go true is = absurd (ne (ap (λ (x : List ℕ). record { 0 = x }) ((bytes_eq-Decides e.0 d.0).0 is)))
     go false is = refl
 
+-- two digests are equal or not
+pub same_or_not : (d e : Digest) → (d ≡ e) ⊎ (d ≢ e)
+same_or_not d e = go (same_digest d e) refl
+  where
+    go : (b : Bool) → same_digest d e ≡ b → (d ≡ e) ⊎ (d ≢ e)
+    go true is = inl (ap (λ (x : List ℕ). record { 0 = x }) ((bytes_eq-Decides d.0 e.0).0 is))
+    go false is = inr (λ same. let no : true ≡ false = sym ((bytes_eq-Decides d.0 e.0).1 (ap (λ (x : Digest). x.0) same)) ∙ is in cc)
+
 if_true : {X : Type 0} {b : Bool} (x y : X) → b ≡ true → (if b then x else y) ≡ x
 if_true x y e = rw e refl
 

@@ -93,7 +93,7 @@ module _ {B C I P R D H G U : Type 0} (w : Workings B C I P R D H G U) (stored :
       -- it are in hand.
       pub IsReleased-plain : IsPlain m.state.pause → (count : R → ℕ) (running : Tables B C I R U) → TurnsRun w count m.members j m.state running (Ok (Done o)) → EndsRun w (record m { state = running }) j b o how now
           → IsReleased (Made (Ended j how) ∷ Came (Turn j) ∷ p) point j b now
-      IsReleased-plain plain count running turns ends =
+      IsReleased-plain plain count after turns ends =
           IsReleased-from turns.live turns.live_is turns.turned
           (λ cache pause told crosses. subst (λ x. IsLeftBy w stored p point m.next m.state j turns.live how cache x) (sym (plain_stays w.header turns.live.block m.state.pause pause plain crosses))
           (IsLeftBy-told w stored p points point m.next m.state s j turns.live turns.live_is m.members here turns.turned names round plain tip cache turns.turns told))

@@ -1,5 +1,5 @@
 -- The tables stand behind the end of a run: one that isn't kept, and one whose block was known.
-use Rattle.std.proofs.Common.{◌≡◌, ◌<◌, length, get_or, inl, inr, ℕ, List, [], ◌∷◌, All, Option, Some, None, refl, sym, ap, ◌∙◌, subst}
+use Rattle.std.proofs.Common.{◌≡◌, ◌<◌, ◌↔◌, length, get_or, inl, inr, ℕ, List, [], ◌∷◌, All, Option, Some, None, refl, sym, ap, ◌∙◌, subst}
 use Rattle.std.proofs.lemmas.List.Elements.{Contains-get_or}
 use Rattle.stateful_types.specs.Names.{Named}
 use Rattle.stateful_types.specs.declared.anchor.Anchor.{Anchor}
@@ -86,16 +86,37 @@ module _ {B C I P R D H G U : Type 0} (w : Workings B C I P R D H G U) (stored :
         (CacheStands-calm w stored p (Came (Turn j)) (turn-IsCalm (setting w stored) p j) points next old.anchor old.pause old.cache s.cache))
         runs-same
 
-  -- behind the end of a run that is kept, of a block that was known
-  pub IsLeftBy-known : Known (setting w stored) p live.block.digest → IsLeftBy w stored p point next old j live Kept old.cache old.pause
-  IsLeftBy-known known = IsLeftBy-from Kept points old.cache old.pause s.at_anchor caches (runs-same Kept)
+  -- behind the end of a run that is kept and adds nothing, where nothing becomes known
+  pub IsLeftBy-there : ((d : Digest) → Known (setting w stored) (ended w stored p point next old j live Kept) d → IsKnownBy old.pause old.anchor old.cache d) → IsLeftBy w stored p point next old j live Kept old.cache old.pause
+  IsLeftBy-there known = IsLeftBy-from Kept points old.cache old.pause s.at_anchor caches (runs-same Kept)
     where
       caches : CacheStands w stored (ended w stored p point next old j live Kept) points next old.anchor old.pause old.cache
       caches = record {
         each = λ k d l. IsCached-moved w stored p (ended w stored p point next old j live Kept) points points old.anchor old.cache (Moves-turned w stored p j Kept points old.anchor old.cache) next _ (entry_at_hand old.anchor old.cache k d l) (s.cache.each k d l);
         in_order = s.cache.in_order;
-        knows = λ d. (
-          (λ k. (s.cache.knows d).0 (elim (Known-turned_before (setting w stored) p d live.block.digest j started-own k) [ inl e ↦ subst (λ (x : Digest). Known (setting w stored) p x) (sym e) known | inr before ↦ before ])),
-          (λ b. Known-turned (setting w stored) p d j Kept ((s.cache.knows d).1 b)),
-        );
+        knows = λ d. (known d, λ b. Known-turned (setting w stored) p d j Kept ((s.cache.knows d).1 b));
       }
+
+  -- behind the end of a run that is kept, of a block that was known
+  pub IsLeftBy-known : Known (setting w stored) p live.block.digest → IsLeftBy w stored p point next old j live Kept old.cache old.pause
+  IsLeftBy-known known = IsLeftBy-there (λ d k. (s.cache.knows d).0 (elim (Known-turned_before (setting w stored) p d live.block.digest j started-own k) [
+    | inl e ↦ subst (λ (x : Digest). Known (setting w stored) p x) (sym e) known
+    | inr before ↦ before
+  ]))
+
+  -- what stands with a pause stands with another one that tells the same blocks
+  pub IsLeftBy-pause : (how : How) (cache : List (Cached U)) (pause other : Pause) → ((d : Digest) → IsKnownBy pause old.anchor cache d ↔ IsKnownBy other old.anchor cache d)
+      → IsLeftBy w stored p point next old j live how cache pause → IsLeftBy w stored p point next old j live how cache other
+  IsLeftBy-pause how cache pause other same h = let t = h.tables in record {
+    points = h.points;
+    tables = record {
+      at_anchor = t.at_anchor;
+      cache = record { each = t.cache.each; in_order = t.cache.in_order; knows = λ d. (λ k. (same d).0 ((t.cache.knows d).0 k), λ b. (t.cache.knows d).1 ((same d).1 b)) };
+      runs = t.runs;
+      requests = t.requests;
+      once = t.once;
+      queue = t.queue;
+      numbers = t.numbers;
+    };
+    released = h.released;
+  }

@@ -14,3 +14,4 @@ pub mod EndedStands
 pub mod EndedKept
 pub mod EndedTold
 pub mod EndedRule
+pub mod EndedFinalizing
