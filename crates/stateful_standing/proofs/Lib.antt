@@ -12,6 +12,7 @@ pub mod Cutting
 pub mod StartStands
 pub mod LaunchStands
 pub mod ConcludeStands
+pub mod Served
 pub mod AdvanceStands
 pub mod Advanced
 pub mod PauseTables
