@@ -15,6 +15,7 @@ pub mod ConcludeStands
 pub mod Served
 pub mod AdvanceStands
 pub mod Advanced
+pub mod InTurn
 pub mod PauseTables
 pub mod PauseStands
 pub mod PauseKnown
