@@ -14,6 +14,7 @@ pub mod LaunchStands
 pub mod ConcludeStands
 pub mod AdvanceStands
 pub mod Advanced
+pub mod Acquired
 pub mod PauseTables
 pub mod PauseStands
 pub mod PauseKnown
