@@ -15,6 +15,7 @@ pub mod ConcludeStands
 pub mod AdvanceStands
 pub mod Advanced
 pub mod Acquired
+pub mod FetchStands
 pub mod PauseTables
 pub mod PauseStands
 pub mod PauseKnown
