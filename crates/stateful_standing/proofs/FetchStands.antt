@@ -1,11 +1,10 @@
 -- The tables stand behind the answer of a fetch.
-use Rattle.std.proofs.Common.{◌≡◌, ◌≢◌, ◌==◌, ◌&&◌, not, ◌++◌, ◌<◌, length, ℕ, Bool, true, false, List, [], ◌∷◌, All, Option, Some, None, IsSome, MatchOption, get_or, inl, inr, refl, sym, ap, ◌∙◌, subst}
-use Rattle.std.proofs.lemmas.Bool.{eqb-true, eqb-false, eq-eqb}
+use Rattle.std.proofs.Common.{◌≡◌, ◌≢◌, ◌==◌, not, ℕ, true, List, [], ◌∷◌, All, Option, Some, None, MatchOption, get_or, inl, inr, refl, sym, ap, ◌∙◌, subst}
 use Rattle.std.proofs.lemmas.List.{get_or_default, append-nil}
 use Rattle.std.proofs.lemmas.List.Elements.{All-push}
 use Rattle.stateful_types.specs.Names.{Named}
 use Rattle.stateful_types.specs.declared.digest.Digest.{Digest}
-use Rattle.stateful_history.specs.Past.{Past, Item, Came}
+use Rattle.stateful_history.specs.Past.{Past, Came}
 use Rattle.stateful_history.specs.Met.{Met, TrueNames}
 use Rattle.stateful_history.specs.Asked.{asked_for}
 use Rattle.stateful_history.specs.Fetches.{WasAnsweredNone, Abstains}
@@ -15,7 +14,7 @@ use Rattle.stateful_history.specs.declared.event.Event.TheVariants.{Fetched}
 use Rattle.stateful_table.specs.Table.{at, without}
 use Rattle.stateful_exec.specs.Fetching.{Fetches, IsLiveFetch, with_block, serving, IsFetched, found, waits, declines, dead}
 use Rattle.stateful_exec.specs.Moments.{Moment}
-use Rattle.stateful_exec.specs.Phase.{is_on, tickets_on}
+use Rattle.stateful_exec.specs.Phase.{is_on}
 use Rattle.stateful_exec.specs.Rules.{taken, Needs}
 use Rattle.stateful_exec.specs.Workings.{Workings, Point}
 use Rattle.stateful_exec.specs.declared.request.Verdict.TheVariants.{Invalid}
@@ -24,7 +23,7 @@ use Rattle.stateful_exec.specs.declared.tables.Phase.TheVariants.{Fetching, Wait
 use Rattle.stateful_exec.specs.declared.tables.Requested.{Requested}
 use Rattle.stateful_exec.specs.declared.walk.Acquired.TheVariants.{Waits}
 use Rattle.stateful_standing.specs.Setting.{setting}
-use Rattle.stateful_standing.specs.Requesting.{first_of, IsInPhase, IsStanding, QueueStands}
+use Rattle.stateful_standing.specs.Requesting.{first_of, IsStanding, QueueStands}
 use Rattle.stateful_standing.specs.Standing.{TablesStand, IsInHand, StandsBehind}
 use Rattle.stateful_standing.proofs.Calm.{IsCalm, LeavesJob, CacheStands-calm, RunsStand-calm}
 use Rattle.stateful_standing.proofs.Asking.{LeavesTicket, LeavesFetch, IsRequestOf-calm, IsStanding-calm}
