@@ -1,4 +1,4 @@
--- The tables stand behind a request in hand that acquires what it needs.
+-- The tables stand behind a request in hand that acquires what it needs from what the store holds then.
 use Rattle.std.proofs.Common.{◌≡◌, ◌++◌, ℕ, List, [], ◌∷◌, All, Option, Some, take, refl, sym, ap, ◌∙◌, subst}
 use Rattle.std.proofs.lemmas.List.{append_assoc}
 use Rattle.std.proofs.lemmas.List.Elements.{All-nil, All-cons, All-head, All-tail, All-append, All-take}
@@ -70,28 +70,28 @@ module _ {B C I P R D H G U : Type 0} (w : Workings B C I P R D H G U) (stored :
   }
 
   -- the blocks that a request is ready to run are a way of it
-  pub IsWayOf-ready : (request : Request B C I) (more : List (Named B)) (path : Path B) → All (Met (setting w stored) p) (brought_by request) → All (Met (setting w stored) p) more
-      → IsPrepared w.header anchor cache stored request more (acquired.Ready path) → IsWayOf w stored p request path
-  IsWayOf-ready (Verify t ancestry) more path brought met (walk.runs unjudged (walk.child {more = behind} {parent = parent} chain_is child walks)) =
+  pub IsWayOf-ready : (held : ℕ → Option (Named B)) (request : Request B C I) (more : List (Named B)) (path : Path B) → All (Met (setting w stored) p) (brought_by request) → All (Met (setting w stored) p) more
+      → IsPrepared w.header anchor cache held request more (acquired.Ready path) → IsWayOf w stored p request path
+  IsWayOf-ready held (Verify t ancestry) more path brought met (walk.runs unjudged (walk.child {more = behind} {parent = parent} chain_is child walks)) =
       way_of_verification (Verify t ancestry) parent behind path (All-head (Met (setting w stored) p) ancestry.first ancestry.rest brought)
       (subst (λ l. All (Met (setting w stored) p) l) chain_is
         (All-append (Met (setting w stored) p) (take 1 ancestry.rest) more (All-take (Met (setting w stored) p) 1 ancestry.rest (All-tail (Met (setting w stored) p) ancestry.first ancestry.rest brought)) met))
       child (subst (λ l. Walks w.header anchor cache (ancestry.first ∷ []) l (acquired.Ready path)) chain_is walks)
-  IsWayOf-ready (Recover t context ancestry input kind) more path brought met walks =
+  IsWayOf-ready held (Recover t context ancestry input kind) more path brought met walks =
       way_of_proposal (Recover t context ancestry input kind) more path (All-cons (Met (setting w stored) p) ancestry.first more (All-head (Met (setting w stored) p) ancestry.first ancestry.rest brought) met) walks
 
   -- a request that waits is a verification
-  pub waits-IsVerification : (request : Request B C I) (more : List (Named B)) → IsPrepared w.header anchor cache stored request more acquired.Waits → IsVerification request
-  waits-IsVerification (Verify t ancestry) more prepared = tt
-  waits-IsVerification (Recover t context ancestry input kind) more prepared = prepared
+  pub waits-IsVerification : (held : ℕ → Option (Named B)) (request : Request B C I) (more : List (Named B)) → IsPrepared w.header anchor cache held request more acquired.Waits → IsVerification request
+  waits-IsVerification held (Verify t ancestry) more prepared = tt
+  waits-IsVerification held (Recover t context ancestry input kind) more prepared = prepared
 
 module _ {B C I P R D H G U : Type 0} (w : Workings B C I P R D H G U) (stored : ℕ → Option (Named B)) (p : Past B C I) (points : Digest → Point w) (point : Point w) (m : Moment w) (s : TablesStand w stored p points point m.next m.state)
     (t : ℕ) (r : Requested B C I) (hand : IsInHand w stored p t r.request m.state)
     (names : TrueNames (setting w stored) p) (other_states : (n i : w.Ids) (x y : w.States) (c : List (Point w)) → w.kind.issued n ((i, x) ∷ c) → w.kind.issued n ((i, y) ∷ c))
     (located : w.kind.point m.members ≡ Some point) (drawn : w.kind.issued m.next (point ∷ [])) (met : All (Met (setting w stored) p) r.acquired)
-    (abstains : Needs w stored m r acquired.Waits → Abstains (setting w stored) t p (first_of r.request)) where
+    (held : ℕ → Option (Named B)) (abstains : Needs w held m r acquired.Waits → Abstains (setting w stored) t p (first_of r.request)) where
   -- the tables stand behind a request in hand that acquires what it needs
-  pub StandsBehind-acquires : (now : Moment w) → Acquires w stored m t r now → StandsBehind w stored p points point m now
+  pub StandsBehind-acquires : (now : Moment w) → Acquires w held m t r now → StandsBehind w stored p points point m now
   StandsBehind-acquires now (valid needs concludes) = StandsBehind-concludes w stored p points point m s t r hand verdict.Valid now concludes
   StandsBehind-acquires now (invalid needs concludes) = StandsBehind-concludes w stored p points point m s t r hand verdict.Invalid now concludes
   StandsBehind-acquires now (asks digest needs left becomes) = rw becomes (record {
@@ -104,8 +104,8 @@ module _ {B C I P R D H G U : Type 0} (w : Workings B C I P R D H G U) (stored :
     more = [];
     marks_are = refl;
     members_are = refl;
-    stands = TablesStand-put w stored p points point m.next m.state t s r hand met Waiting (waits-IsVerification w stored p m.state.anchor m.state.cache r.request r.acquired needs, abstains needs);
+    stands = TablesStand-put w stored p points point m.next m.state t s r hand met Waiting (waits-IsVerification w stored p m.state.anchor m.state.cache held r.request r.acquired needs, abstains needs);
   })
   StandsBehind-acquires now (runs {path = path} needs advances) =
       StandsBehind-advances w stored p points point m s t (requested r.request) hand names other_states located drawn (All-nil (Met (setting w stored) p)) path now
-      (IsWayOf-ready w stored p m.state.anchor m.state.cache r.request r.acquired path hand.brought met needs) advances
+      (IsWayOf-ready w stored p m.state.anchor m.state.cache held r.request r.acquired path hand.brought met needs) advances

@@ -135,19 +135,19 @@ module _ {B C I P R D H G U : Type 0} (w : Workings B C I P R D H G U) (stored :
     (f : ℕ) (answer : Option (Named B)) (names : TrueNames (setting w stored) (Came (Fetched f answer) ∷ p))
     (other_states : (n i : w.Ids) (x y : w.States) (c : List (Point w)) → w.kind.issued n ((i, x) ∷ c) → w.kind.issued n ((i, y) ∷ c))
     (located : w.kind.point m.members ≡ Some point) (drawn : w.kind.issued m.next (point ∷ []))
-    (abstains : (t : ℕ) (r : Requested B C I) (b : Named B) → Fetches m.state f t r → answer ≡ Some b → Needs w stored (serving w m t) (with_block r b) Waits
+    (held : ℕ → Option (Named B)) (abstains : (t : ℕ) (r : Requested B C I) (b : Named B) → Fetches m.state f t r → answer ≡ Some b → Needs w held (serving w m t) (with_block r b) Waits
       → Abstains (setting w stored) t (Came (Fetched f answer) ∷ p) (first_of r.request)) where
   -- what stands behind the moment where a request is served stands behind the one before it
   behind_serving : (q : Past B C I) (t : ℕ) (now : Moment w) → StandsBehind w stored q points point (serving w m t) now → StandsBehind w stored q points point m now
   behind_serving q t now h = record { more = h.more; marks_are = h.marks_are; members_are = h.members_are; stands = h.stands }
 
   -- the tables stand behind the answer of a fetch
-  pub StandsBehind-fetched : (now : Moment w) → IsFetched w stored m f answer now → StandsBehind w stored (Came (Fetched f answer) ∷ p) points point m now
+  pub StandsBehind-fetched : (now : Moment w) → IsFetched w held m f answer now → StandsBehind w stored (Came (Fetched f answer) ∷ p) points point m now
   StandsBehind-fetched now (found t r b fetches is acquires) = behind_serving _ t now
       (StandsBehind-acquires w stored (Came (Fetched f answer) ∷ p) points point (serving w m t) (TablesStand-fetched w stored p points point m.next m.state s f answer t r fetches) t (with_block r b)
       (IsInHand-fetched w stored p points point m.next m.state s f answer t r fetches) names other_states located drawn
       (All-push (Met (setting w stored) (Came (Fetched f answer) ∷ p)) r.acquired b (acquired-fetched w stored p points point m.next m.state s f answer t r fetches) (inl is))
-      (abstains t r b fetches is) now acquires)
+      held (abstains t r b fetches is) now acquires)
   StandsBehind-fetched now (waits t r fetches is verification becomes) = rw becomes (record {
     more = [];
     marks_are = refl;
