@@ -20,3 +20,13 @@ pub mod PauseTables
 pub mod PauseStands
 pub mod PauseKnown
 pub mod PauseBegins
+pub mod EndedLeft
+pub mod EndedRequests
+pub mod EndedRuns
+pub mod EndedKnown
+pub mod EndedPoints
+pub mod EndedStands
+pub mod EndedKept
+pub mod EndedTold
+pub mod EndedRule
+pub mod EndedFinalizing
