@@ -16,6 +16,8 @@ pub mod Served
 pub mod AdvanceStands
 pub mod Advanced
 pub mod InTurn
+pub mod Acquired
+pub mod FetchStands
 pub mod PauseTables
 pub mod PauseStands
 pub mod PauseKnown

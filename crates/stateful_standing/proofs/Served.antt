@@ -1,5 +1,6 @@
 -- A request in hand is served, and the others in hand stay so.
 use Rattle.std.proofs.Common.{◌≡◌, ◌≢◌, ◌↔◌, ◌⊎◌, inl, inr, ℕ, true, false, List, [], ◌∷◌, All, Option, Some, refl, ◌∙◌}
+use Rattle.std.proofs.lemmas.List.Elements.{All-weaker}
 use Rattle.stateful_types.specs.Names.{Named}
 use Rattle.stateful_types.specs.declared.digest.Digest.{Digest}
 use Rattle.stateful_history.specs.Past.{Past, Item, Made, after}
@@ -16,7 +17,7 @@ use Rattle.stateful_exec.specs.declared.request.Verdict.{Verdict as Verdicts}
 use Rattle.stateful_exec.specs.declared.tables.Phase.{Phase}
 use Rattle.stateful_exec.specs.declared.tables.Requested.{Requested}
 use Rattle.stateful_standing.specs.Setting.{setting}
-use Rattle.stateful_standing.specs.Requesting.{IsInPhase}
+use Rattle.stateful_standing.specs.Requesting.{brought_by, IsInPhase}
 use Rattle.stateful_standing.specs.Standing.{TablesStand, IsInHand, StandsBehind}
 use Rattle.stateful_standing.proofs.Asking.{LeavesTicket, IsRequestOf-calm}
 use Rattle.stateful_standing.proofs.ConcludeStands.{verdict-TellsOf, declined-TellsOf, TablesStand-concludes}
@@ -39,7 +40,7 @@ module _ {B C I P R D H G U : Type 0} (w : Workings B C I P R D H G U) (stored :
   module _ (s : TablesStand w stored p points point m.next m.state) (t : ℕ) (r : Requested B C I) (hand : IsInHand w stored p t r.request m.state) where
     -- an item that says nothing of the ticket leaves a request in hand
     in_hand-calm : (x : Item B C I) (u : ℕ) (request : Request B C I) → LeavesTicket p x u → IsInHand w stored p u request m.state → IsInHand w stored (x ∷ p) u request m.state
-    in_hand-calm x u request leaves h = record { absent = h.absent; not_queued = h.not_queued; own = h.own; asked = IsRequestOf-calm w stored p x u request leaves h.asked }
+    in_hand-calm x u request leaves h = record { absent = h.absent; not_queued = h.not_queued; own = h.own; brought = All-weaker (Met (setting w stored) p) (Met (setting w stored) (x ∷ p)) (λ b m. inr m) (brought_by request) h.brought; asked = IsRequestOf-calm w stored p x u request leaves h.asked }
 
     met_told : (request : Request B C I) (v : Verdicts) (b : Named B) → Met (setting w stored) (after p (told t request v)) b ↔ Met (setting w stored) p b
     met_told (Verify u ancestry) Valid b = unbrought (setting w stored) p (Made (Verdict t true)) b (λ no. no)
@@ -50,7 +51,7 @@ module _ {B C I P R D H G U : Type 0} (w : Workings B C I P R D H G U) (stored :
     others_told : (request : Request B C I) (v : Verdicts) (u : ℕ) (other : Request B C I) → u ≢ t → IsInHand w stored p u other m.state → IsInHand w stored (after p (told t request v)) u other (ended m.state t request v)
     others_told (Verify k ancestry) Valid u other ne h = in_hand-calm (Made (Verdict t true)) u other ((verdict-TellsOf (setting w stored) p t true).tickets u ne) h
     others_told (Verify k ancestry) Invalid u other ne h = in_hand-calm (Made (Verdict t false)) u other ((verdict-TellsOf (setting w stored) p t false).tickets u ne) h
-    others_told (Recover k context ancestry input kind) Valid u other ne h = record { absent = h.absent; not_queued = put_other m.state.queued t u _ ne ∙ h.not_queued; own = h.own; asked = h.asked }
+    others_told (Recover k context ancestry input kind) Valid u other ne h = record { absent = h.absent; not_queued = put_other m.state.queued t u _ ne ∙ h.not_queued; own = h.own; brought = h.brought; asked = h.asked }
     others_told (Recover k context ancestry input kind) Invalid u other ne h = in_hand-calm (Made (Declined t)) u other ((declined-TellsOf (setting w stored) p t).tickets u ne) h
 
     -- it ended
@@ -68,7 +69,7 @@ module _ {B C I P R D H G U : Type 0} (w : Workings B C I P R D H G U) (stored :
       behind = record { more = []; marks_are = refl; members_are = refl; stands = TablesStand-put w stored p points point m.next m.state t s r hand met phase in_phase };
       met = λ b. (λ k. k, λ k. k);
       drawn = λ d. d;
-      others = λ u other ne h. record { absent = put_other m.state.requests t u _ ne ∙ h.absent; not_queued = h.not_queued; own = h.own; asked = h.asked };
+      others = λ u other ne h. record { absent = put_other m.state.requests t u _ ne ∙ h.absent; not_queued = h.not_queued; own = h.own; brought = h.brought; asked = h.asked };
     })
 
     -- a run was started for it
@@ -82,6 +83,7 @@ module _ {B C I P R D H G U : Type 0} (w : Workings B C I P R D H G U) (stored :
         absent = put_other m.state.requests t u _ ne ∙ h.absent;
         not_queued = h.not_queued;
         own = h.own;
+        brought = All-weaker (Met (setting w stored) p) (Met (setting w stored) (Made (Started m.state.next_job Candidate b.digest) ∷ p)) (λ b m. inr m) (brought_by other) h.brought;
         asked = IsRequestOf-calm w stored p (Made (Started m.state.next_job Candidate b.digest)) u other (record { live = refl; verified = refl; proposed = refl }) h.asked;
       });
     }
