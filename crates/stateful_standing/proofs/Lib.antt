@@ -31,4 +31,5 @@ pub mod EndedStands
 pub mod EndedKept
 pub mod EndedTold
 pub mod EndedRule
+pub mod FollowStands
 pub mod EndedFinalizing
