@@ -31,7 +31,8 @@ use Rattle.stateful_standing.proofs.EndedRequests.{IsTakenOut}
 use Rattle.stateful_standing.proofs.InTurn.{IsReady, IsOnWay, StandsBehind-in_turn}
 use Rattle.stateful_standing.proofs.Served.{Serves, Serves-concludes, Serves-put}
 
-below_apart : (k n : ℕ) → nat_cmp k n ≡ Less → k ≢ n
+-- a number that is below another is another
+pub below_apart : (k n : ℕ) → nat_cmp k n ≡ Less → k ≢ n
 below_apart k n below same = let less : k < n = subst (λ o. MatchOrdering o (k < n) (k ≡ n) (n < k)) below (ranked k n (nat_cmp k n) refl) in omega (arith, less, same)
 
 module _ {B C I : Type 0} (job : ℕ) where

@@ -32,4 +32,5 @@ pub mod EndedKept
 pub mod EndedTold
 pub mod EndedRule
 pub mod FollowStands
+pub mod Parked
 pub mod EndedFinalizing
