@@ -53,7 +53,7 @@ module _ {B C I P R D H G U : Type 0} (w : Workings B C I P R D H G U) (stored :
     pub each : (d : Digest) → Contains boundary.compatible d → (d ≡ boundary.digest) ⊎ IsOver p boundary d
     pub closed : All (λ e. IsRetained boundary (step_in e) → Contains boundary.compatible e.digest) cache
 
-IsLater-after : (a b c : Round) → IsLater a b → IsLater b c → a ≡ c → ⊥
+pub IsLater-after : (a b c : Round) → IsLater a b → IsLater b c → a ≡ c → ⊥
 IsLater-after a b c l m same = let same_epoch : a.epoch.0 ≡ c.epoch.0 = ap (λ (r : Round). r.epoch.0) same in let same_view : a.view.0 ≡ c.view.0 = ap (λ (r : Round). r.view.0) same in go l m same_epoch same_view
   where
     go : IsLater a b → IsLater b c → a.epoch.0 ≡ c.epoch.0 → a.view.0 ≡ c.view.0 → ⊥
@@ -92,7 +92,7 @@ module _ {B C I P R D H G U : Type 0} (w : Workings B C I P R D H G U) (stored :
       }
 
   -- where the run's block is at hand and goes on, it is compatible
-  own_compatible : IsRetained boundary own_step → IsAtHand old.anchor old.cache live.block.digest → Contains boundary.compatible live.block.digest
+  pub own_compatible : IsRetained boundary own_step → IsAtHand old.anchor old.cache live.block.digest → Contains boundary.compatible live.block.digest
   own_compatible r (inl e) = absurd (not_anchor r e)
   own_compatible r (inr (k, y, l, at, is)) =
       let h : IsCached w stored p points next old.anchor y = subst (λ (x : Cached U). IsCached w stored p points next old.anchor x) at (s.cache.each k y l) in
@@ -115,7 +115,7 @@ module _ {B C I P R D H G U : Type 0} (w : Workings B C I P R D H G U) (stored :
           | inr before ↦ inr (a.0, before)
         ]
 
-    closed_crossed : All (λ e. IsRetained new (step_in e) → Contains new.compatible e.digest) old.cache
+    pub closed_crossed : All (λ e. IsRetained new (step_in e) → Contains new.compatible e.digest) old.cache
     closed_crossed k d l kept_on =
         let e = get_or old.cache k d in
         let there = entry_place k d l in

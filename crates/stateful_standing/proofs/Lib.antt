@@ -15,3 +15,4 @@ pub mod EndedKept
 pub mod EndedTold
 pub mod EndedRule
 pub mod EndedFinalizing
+pub mod EndedOver
