@@ -1,5 +1,5 @@
 -- The tables stand behind the end of a run in its turn, by the rules of execution.
-use Rattle.std.proofs.Common.{◌≡◌, ◌<◌, ◌==◌, ℕ, Bool, true, false, List, [], ◌∷◌, All, Option, Some, Result, Ok, cond, refl, sym, ap, ◌∙◌, subst}
+use Rattle.std.proofs.Common.{◌≡◌, ◌≢◌, ◌<◌, ◌==◌, ℕ, Bool, true, false, List, [], ◌∷◌, All, AllPairs, Option, Some, Result, Ok, cond, refl, sym, ap, ◌∙◌, subst}
 use Rattle.std.specs.Ordering.{nat_cmp, match_ordering, MatchOrdering}
 use Rattle.std.specs.declared.cmp.Ordering.{Ordering}
 use Rattle.std.specs.declared.cmp.Ordering.TheVariants.{Less, Equal, Greater}
@@ -56,11 +56,12 @@ plain_stays header b (Finalizing boundary) new plain crosses = absurd plain
 
 module _ {B C I P R D H G U : Type 0} (w : Workings B C I P R D H G U) (stored : ℕ → Option (Named B)) where
   -- What stands behind a past where the run of a job of this block has ended: the tables without the requests that waited for
-  -- it, and these are in hand.
+  -- it, and these are in hand, each of another ticket.
   pub record IsReleased (p : Past B C I) (point : Point w) (j : ℕ) (b : Named B) (m : Moment w) : Type 0 where
     pub points : Digest → Point w
     pub tables : TablesStand w stored p points point m.next (released j m.state)
     pub in_hand : All (IsInHand w stored p (not_on j m.state.requests) m.state.queued b) (released_on j m.state.requests)
+    pub apart : AllPairs (λ r s. r.ticket ≢ s.ticket) (released_on j m.state.requests)
 
   -- a finalization goes on
   pub record GoesOn (p : Past B C I) (m : Moment w) : Type 0 where
@@ -96,6 +97,7 @@ module _ {B C I P R D H G U : Type 0} (w : Workings B C I P R D H G U) (stored :
               points = stands.points;
               tables = rw (without_put m.state.runs j (record live { run = turned })) stands.tables;
               in_hand = subst (λ (c : Named B). All (IsInHand w stored q (not_on j m.state.requests) m.state.queued c) (released_on j m.state.requests)) same_block stands.released;
+              apart = stands.apart;
             })
 
         GoesOn-from : IsLeftOver w stored p point m.next m.state j live how ends.cache ends.pause → GoesOn q now

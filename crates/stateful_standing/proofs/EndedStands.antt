@@ -1,5 +1,5 @@
 -- The tables stand behind the end of a run: one that isn't kept, and one whose block was known.
-use Rattle.std.proofs.Common.{◌≡◌, ◌<◌, ◌↔◌, length, get_or, inl, inr, ℕ, List, [], ◌∷◌, All, Option, Some, None, refl, sym, ap, ◌∙◌, subst}
+use Rattle.std.proofs.Common.{◌≡◌, ◌≢◌, ◌<◌, ◌↔◌, length, get_or, inl, inr, ℕ, List, [], ◌∷◌, All, AllPairs, Option, Some, None, refl, sym, ap, ◌∙◌, subst}
 use Rattle.std.proofs.lemmas.List.Elements.{Contains-get_or}
 use Rattle.stateful_types.specs.Names.{Named}
 use Rattle.stateful_types.specs.declared.anchor.Anchor.{Anchor}
@@ -25,6 +25,7 @@ use Rattle.stateful_standing.specs.Running.{IsRunning, RunsStand}
 use Rattle.stateful_standing.specs.Standing.{TablesStand}
 use Rattle.stateful_standing.proofs.Calm.{IsCalm, CacheStands-calm}
 use Rattle.stateful_standing.proofs.Removing.{All-at}
+use Rattle.stateful_standing.proofs.EndedLeft.{released_apart}
 use Rattle.stateful_standing.proofs.EndedRequests.{IsInHand, RequestsStand-turned, left_before, released-IsInHand, QueueStands-turned}
 use Rattle.stateful_standing.proofs.EndedRuns.{Moves, IsCached-moved, RunsStand-turned}
 use Rattle.stateful_standing.proofs.EndedKnown.{started-by, turn-IsCalm, Known-turned, Known-turned_before}
@@ -43,11 +44,12 @@ module _ {B C I P R D H G U : Type 0} (w : Workings B C I P R D H G U) (stored :
   ended = Made (Ended j how) ∷ Came (Turn j) ∷ p
 
   -- What stands behind the end of the run of a job, with this cache and this pause: the tables over some points, and the
-  -- requests that waited for it are in hand.
+  -- requests that waited for it are in hand, each of another ticket.
   pub record IsLeftBy (cache : List (Cached U)) (pause : Pause) : Type 0 where
     pub points : Digest → Point w
     pub tables : TablesStand w stored ended points point next (left old j cache pause)
     pub released : All (IsInHand w stored ended (not_on j old.requests) old.queued live.block) (released_on j old.requests)
+    pub apart : AllPairs (λ r s. r.ticket ≢ s.ticket) (released_on j old.requests)
 
 module _ {B C I P R D H G U : Type 0} (w : Workings B C I P R D H G U) (stored : ℕ → Option (Named B)) (p : Past B C I) (points : Digest → Point w) (point : Point w) (next : w.Ids) (old : Tables B C I R U) (s : TablesStand w stored p points point next old) (j : ℕ) (live : LiveRun B R) (live_is : at old.runs j ≡ Some live) where
   pub running : IsRunning w stored p points next old.anchor old.cache j live
@@ -73,6 +75,7 @@ module _ {B C I P R D H G U : Type 0} (w : Workings B C I P R D H G U) (stored :
         numbers = record { jobs = s.numbers.jobs; fetches = s.numbers.fetches };
       };
       released = released-IsInHand w stored p old.runs old.requests s.requests j how old.queued s.once live live_is running.met;
+      apart = released_apart j old.requests s.requests.ascending;
     }
 
     runs-same : RunsStand w stored (ended w stored p point next old j live how) points next old.anchor old.cache (without old.runs j)
@@ -119,4 +122,5 @@ module _ {B C I P R D H G U : Type 0} (w : Workings B C I P R D H G U) (stored :
       numbers = t.numbers;
     };
     released = h.released;
+    apart = h.apart;
   }
