@@ -10,7 +10,6 @@ use Rattle.stateful_types.specs.declared.round.Round.{Round}
 use Rattle.stateful_types.specs.declared.outcome.Moved.TheVariants.{Done}
 use Rattle.stateful_history.specs.Anchors.{tip_of}
 use Rattle.stateful_history.specs.Past.{Past, Came, Made}
-use Rattle.stateful_history.specs.Asked.{kept_by}
 use Rattle.stateful_history.specs.Known.{Known, is_tip, kept, stays, IsPastTip}
 use Rattle.stateful_history.specs.Met.{Met, TrueNames}
 use Rattle.stateful_history.specs.declared.event.Event.TheVariants.{Turn}
@@ -21,7 +20,7 @@ use Rattle.stateful_cache.specs.Cache.{IsIn, IsAtHand}
 use Rattle.stateful_cache.specs.declared.cache.Cached.{Cached}
 use Rattle.stateful_table.specs.Table.{at}
 use Rattle.stateful_exec.specs.Boundary.{Boundary, step_by, IsRetained, Completes}
-use Rattle.stateful_exec.specs.Ending.{step_in, Takes, there, added, missed, Crosses, Turns, IsTold, rejected, mismatched, agreed}
+use Rattle.stateful_exec.specs.Ending.{step_in, there, added, missed, Crosses, Turns, IsTold, rejected, mismatched, agreed}
 use Rattle.stateful_exec.specs.Workings.{Workings, Point}
 use Rattle.stateful_exec.specs.declared.boundary.ExecutionStep.{ExecutionStep}
 use Rattle.stateful_exec.specs.declared.pause.Pause.{Pause}
@@ -35,10 +34,10 @@ use Rattle.stateful_standing.specs.Standing.{TablesStand}
 use Rattle.stateful_standing.proofs.Calm.{Known-before}
 use Rattle.stateful_standing.proofs.EndedKnown.{outcome-some, ends-some, turn-IsCalm, Known-turned, Known-turned_before}
 use Rattle.stateful_standing.proofs.EndedPoints.{same_or_not}
-use Rattle.stateful_standing.proofs.EndedStands.{ended, IsLeftBy, running, started-own, IsLeftBy-gone, IsLeftBy-there, IsLeftBy-known, IsLeftBy-pause}
+use Rattle.stateful_standing.proofs.EndedStands.{IsLeftBy, running, started-own, IsLeftBy-gone, IsLeftBy-there, IsLeftBy-known, IsLeftBy-pause}
 use Rattle.stateful_standing.proofs.EndedKept.{IsRoundOf, Any-more, Any-push_cases, Known-own, IsLeftBy-added}
 use Rattle.stateful_standing.proofs.EndedTold.{turned-at, cached_step}
-use Rattle.stateful_standing.proofs.EndedFinalizing.{IsOver, Finalizes, IsLater-after, own_compatible, crossed_known, closed_crossed, Finalizes-crossed, Finalizes-same}
+use Rattle.stateful_standing.proofs.EndedFinalizing.{Finalizes, IsLater-after, own_compatible, crossed_known, closed_crossed, Finalizes-crossed, Finalizes-same}
 
 module _ {B C I P R D H G U : Type 0} (w : Workings B C I P R D H G U) (stored : ℕ → Option (Named B)) (p : Past B C I) (point : Point w) (next : w.Ids) (old : Tables B C I R U) (j : ℕ) (live : LiveRun B R) where
   -- what stands behind the end of a run, and the finalization goes on

@@ -1,5 +1,5 @@
 -- The tables stand behind the end of a run in its turn, by the rules of execution.
-use Rattle.std.proofs.Common.{◌≡◌, ◌≢◌, ◌<◌, ◌==◌, ℕ, Bool, true, false, List, [], ◌∷◌, All, AllPairs, Option, Some, Result, Ok, cond, refl, sym, ap, ◌∙◌, subst}
+use Rattle.std.proofs.Common.{◌≡◌, ◌≢◌, ◌<◌, ◌==◌, ℕ, Bool, true, false, List, [], ◌∷◌, All, AllPairs, Option, Some, Ok, refl, sym, ap, ◌∙◌, subst}
 use Rattle.std.specs.Ordering.{nat_cmp, match_ordering, MatchOrdering}
 use Rattle.std.specs.declared.cmp.Ordering.{Ordering}
 use Rattle.std.specs.declared.cmp.Ordering.TheVariants.{Less, Equal, Greater}
@@ -14,7 +14,6 @@ use Rattle.stateful_history.specs.Met.{TrueNames}
 use Rattle.stateful_history.specs.declared.event.Event.TheVariants.{Turn}
 use Rattle.stateful_history.specs.declared.mark.How.{How}
 use Rattle.stateful_history.specs.declared.mark.Mark.TheVariants.{Ended}
-use Rattle.stateful_cache.specs.declared.cache.Cached.{Cached}
 use Rattle.stateful_table.specs.Table.{at, put, without}
 use Rattle.stateful_table.proofs.Tables.{at-put}
 use Rattle.stateful_exec.specs.Boundary.{Boundary}
@@ -29,7 +28,7 @@ use Rattle.stateful_exec.specs.declared.tables.LiveRun.{LiveRun}
 use Rattle.stateful_standing.specs.Setting.{setting}
 use Rattle.stateful_standing.specs.Standing.{TablesStand}
 use Rattle.stateful_standing.proofs.EndedRequests.{IsInHand}
-use Rattle.stateful_standing.proofs.EndedStands.{left, IsLeftBy}
+use Rattle.stateful_standing.proofs.EndedStands.{IsLeftBy}
 use Rattle.stateful_standing.proofs.EndedKept.{IsRoundOf}
 use Rattle.stateful_standing.proofs.EndedFinalizing.{Finalizes}
 use Rattle.stateful_standing.proofs.EndedOver.{IsLeftOver, IsLeftOver-told}

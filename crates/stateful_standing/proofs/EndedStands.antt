@@ -1,5 +1,5 @@
 -- The tables stand behind the end of a run: one that isn't kept, and one whose block was known.
-use Rattle.std.proofs.Common.{◌≡◌, ◌≢◌, ◌<◌, ◌↔◌, length, get_or, inl, inr, ℕ, List, [], ◌∷◌, All, AllPairs, Option, Some, None, refl, sym, ap, ◌∙◌, subst}
+use Rattle.std.proofs.Common.{◌≡◌, ◌≢◌, ◌<◌, ◌↔◌, length, get_or, inl, inr, ℕ, List, ◌∷◌, All, AllPairs, Option, Some, None, refl, sym, ◌∙◌, subst}
 use Rattle.std.proofs.lemmas.List.Elements.{Contains-get_or}
 use Rattle.stateful_types.specs.Names.{Named}
 use Rattle.stateful_types.specs.declared.anchor.Anchor.{Anchor}
@@ -20,14 +20,14 @@ use Rattle.stateful_exec.specs.declared.pause.Pause.{Pause}
 use Rattle.stateful_exec.specs.declared.state.Tables.{Tables}
 use Rattle.stateful_exec.specs.declared.tables.LiveRun.{LiveRun}
 use Rattle.stateful_standing.specs.Setting.{setting}
-use Rattle.stateful_standing.specs.Caching.{IsKnownBy, IsCached, CacheStands}
+use Rattle.stateful_standing.specs.Caching.{IsKnownBy, CacheStands}
 use Rattle.stateful_standing.specs.Running.{IsRunning, RunsStand}
 use Rattle.stateful_standing.specs.Standing.{TablesStand}
-use Rattle.stateful_standing.proofs.Calm.{IsCalm, CacheStands-calm}
+use Rattle.stateful_standing.proofs.Calm.{CacheStands-calm}
 use Rattle.stateful_standing.proofs.Removing.{All-at}
 use Rattle.stateful_standing.proofs.EndedLeft.{released_apart}
 use Rattle.stateful_standing.proofs.EndedRequests.{IsInHand, RequestsStand-turned, left_before, released-IsInHand, QueueStands-turned}
-use Rattle.stateful_standing.proofs.EndedRuns.{Moves, IsCached-moved, RunsStand-turned}
+use Rattle.stateful_standing.proofs.EndedRuns.{IsCached-moved, RunsStand-turned}
 use Rattle.stateful_standing.proofs.EndedKnown.{started-by, turn-IsCalm, Known-turned, Known-turned_before}
 use Rattle.stateful_standing.proofs.EndedPoints.{Moves-turned}
 

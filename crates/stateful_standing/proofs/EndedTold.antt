@@ -1,5 +1,5 @@
 -- The tables stand behind the end of a run as it is told, where no finalization goes on.
-use Rattle.std.proofs.Common.{◌≡◌, ◌+◌, ◌↔◌, inr, ℕ, List, [], ◌∷◌, Any, Option, Some, None, refl, sym, ap, ◌∙◌, subst, arith}
+use Rattle.std.proofs.Common.{◌≡◌, ◌+◌, ◌↔◌, inr, ℕ, List, [], ◌∷◌, Any, Option, Some, refl, ap, subst}
 use Rattle.stateful_types.specs.Names.{Named}
 use Rattle.stateful_types.specs.declared.anchor.Anchor.{Anchor}
 use Rattle.stateful_types.specs.declared.digest.Digest.{Digest}
@@ -19,7 +19,7 @@ use Rattle.stateful_cache.specs.Cache.{IsIn, IsAtHand}
 use Rattle.stateful_cache.specs.declared.cache.Cached.{Cached}
 use Rattle.stateful_table.specs.Table.{at}
 use Rattle.stateful_exec.specs.Boundary.{step_by}
-use Rattle.stateful_exec.specs.Ending.{step_in, Takes, there, added, missed, Turns, IsTold, rejected, mismatched, agreed}
+use Rattle.stateful_exec.specs.Ending.{step_in, there, added, missed, Turns, IsTold, rejected, mismatched, agreed}
 use Rattle.stateful_exec.specs.Workings.{Workings, Point}
 use Rattle.stateful_exec.specs.declared.pause.Pause.{Pause}
 use Rattle.stateful_exec.specs.declared.pause.Pause.TheVariants.{Free, Finalizing, Pruning}
@@ -32,7 +32,7 @@ use Rattle.stateful_standing.specs.Standing.{TablesStand}
 use Rattle.stateful_standing.proofs.EndedKnown.{outcome-some, ends-some}
 use Rattle.stateful_standing.proofs.EndedPoints.{Stacked-point}
 use Rattle.stateful_standing.proofs.EndedStands.{ended, IsLeftBy, running, IsLeftBy-gone, IsLeftBy-known}
-use Rattle.stateful_standing.proofs.EndedKept.{IsRoundOf, Known-own, IsLeftBy-added, knows-added}
+use Rattle.stateful_standing.proofs.EndedKept.{IsRoundOf, IsLeftBy-added, knows-added}
 
 -- no finalization goes on
 abbrev pub IsPlain : Pause → Type 0
