@@ -1,19 +1,16 @@
 -- The tables stand behind the end of a run while a finalization goes on.
-use Rattle.std.proofs.Common.{◌≡◌, ◌≢◌, ◌⊎◌, ◌↔◌, ◌++◌, ◌<◌, length, inl, inr, ℕ, List, [], ◌∷◌, All, Contains, Option, Some, None, MatchOption, get_or, refl, sym, ap, ◌∙◌, subst, arith}
-use Rattle.std.proofs.lemmas.List.Elements.{All-push, Contains-get_or}
-use Rattle.stateful_types.specs.Names.{Header, Named}
+use Rattle.std.proofs.Common.{◌≡◌, ◌≢◌, ◌⊎◌, ◌↔◌, ◌<◌, length, inl, inr, ℕ, List, ◌∷◌, All, Contains, Option, Some, None, MatchOption, get_or, sym, ap, ◌∙◌, subst, arith}
+use Rattle.std.proofs.lemmas.List.Elements.{Contains-get_or}
+use Rattle.stateful_types.specs.Names.{Named}
 use Rattle.stateful_types.specs.Round.{IsLater}
 use Rattle.stateful_types.specs.declared.anchor.Anchor.{Anchor}
 use Rattle.stateful_types.specs.declared.digest.Digest.{Digest}
 use Rattle.stateful_types.specs.declared.round.Round.{Round}
 use Rattle.stateful_history.specs.Anchors.{tip_of}
 use Rattle.stateful_history.specs.Past.{Past, Came, Made}
-use Rattle.stateful_history.specs.Asked.{kept_by}
-use Rattle.stateful_history.specs.Known.{Known, is_tip, kept, stays, IsPastTip}
 use Rattle.stateful_history.specs.Met.{Met, TrueNames}
 use Rattle.stateful_history.specs.declared.event.Event.TheVariants.{Turn}
 use Rattle.stateful_history.specs.declared.mark.How.{How}
-use Rattle.stateful_history.specs.declared.mark.How.TheVariants.{Kept}
 use Rattle.stateful_history.specs.declared.mark.Mark.TheVariants.{Ended}
 use Rattle.stateful_cache.specs.Cache.{IsIn, IsAtHand}
 use Rattle.stateful_cache.specs.declared.cache.Cached.{Cached}
@@ -22,7 +19,6 @@ use Rattle.stateful_exec.specs.Boundary.{Boundary, step_by, IsRetained, Complete
 use Rattle.stateful_exec.specs.Ending.{step_in}
 use Rattle.stateful_exec.specs.Workings.{Workings, Point}
 use Rattle.stateful_exec.specs.declared.boundary.ExecutionStep.{ExecutionStep}
-use Rattle.stateful_exec.specs.declared.pause.Pause.{Pause}
 use Rattle.stateful_exec.specs.declared.pause.Pause.TheVariants.{Finalizing}
 use Rattle.stateful_exec.specs.declared.state.Tables.{Tables}
 use Rattle.stateful_exec.specs.declared.tables.LiveRun.{LiveRun}
@@ -30,10 +26,8 @@ use Rattle.stateful_standing.specs.Setting.{setting}
 use Rattle.stateful_standing.specs.Caching.{IsKnownBy, IsCached}
 use Rattle.stateful_standing.specs.Running.{IsRunning}
 use Rattle.stateful_standing.specs.Standing.{TablesStand}
-use Rattle.stateful_standing.proofs.Calm.{Known-before}
-use Rattle.stateful_standing.proofs.EndedKnown.{turn-IsCalm}
-use Rattle.stateful_standing.proofs.EndedPoints.{same_or_not, parent_at_hand}
-use Rattle.stateful_standing.proofs.EndedStands.{ended, running, started-own}
+use Rattle.stateful_standing.proofs.EndedPoints.{parent_at_hand}
+use Rattle.stateful_standing.proofs.EndedStands.{running}
 use Rattle.stateful_standing.proofs.EndedKept.{IsRoundOf}
 
 module _ {B C I P R D H G U : Type 0} (w : Workings B C I P R D H G U) (stored : ℕ → Option (Named B)) where
@@ -53,7 +47,7 @@ module _ {B C I P R D H G U : Type 0} (w : Workings B C I P R D H G U) (stored :
     pub each : (d : Digest) → Contains boundary.compatible d → (d ≡ boundary.digest) ⊎ IsOver p boundary d
     pub closed : All (λ e. IsRetained boundary (step_in e) → Contains boundary.compatible e.digest) cache
 
-IsLater-after : (a b c : Round) → IsLater a b → IsLater b c → a ≡ c → ⊥
+pub IsLater-after : (a b c : Round) → IsLater a b → IsLater b c → a ≡ c → ⊥
 IsLater-after a b c l m same = let same_epoch : a.epoch.0 ≡ c.epoch.0 = ap (λ (r : Round). r.epoch.0) same in let same_view : a.view.0 ≡ c.view.0 = ap (λ (r : Round). r.view.0) same in go l m same_epoch same_view
   where
     go : IsLater a b → IsLater b c → a.epoch.0 ≡ c.epoch.0 → a.view.0 ≡ c.view.0 → ⊥
@@ -92,7 +86,7 @@ module _ {B C I P R D H G U : Type 0} (w : Workings B C I P R D H G U) (stored :
       }
 
   -- where the run's block is at hand and goes on, it is compatible
-  own_compatible : IsRetained boundary own_step → IsAtHand old.anchor old.cache live.block.digest → Contains boundary.compatible live.block.digest
+  pub own_compatible : IsRetained boundary own_step → IsAtHand old.anchor old.cache live.block.digest → Contains boundary.compatible live.block.digest
   own_compatible r (inl e) = absurd (not_anchor r e)
   own_compatible r (inr (k, y, l, at, is)) =
       let h : IsCached w stored p points next old.anchor y = subst (λ (x : Cached U). IsCached w stored p points next old.anchor x) at (s.cache.each k y l) in
@@ -115,7 +109,7 @@ module _ {B C I P R D H G U : Type 0} (w : Workings B C I P R D H G U) (stored :
           | inr before ↦ inr (a.0, before)
         ]
 
-    closed_crossed : All (λ e. IsRetained new (step_in e) → Contains new.compatible e.digest) old.cache
+    pub closed_crossed : All (λ e. IsRetained new (step_in e) → Contains new.compatible e.digest) old.cache
     closed_crossed k d l kept_on =
         let e = get_or old.cache k d in
         let there = entry_place k d l in

@@ -1,6 +1,5 @@
 -- What is known behind the end of a run, and what its last turn says.
 use Rattle.std.proofs.Common.{◌≡◌, ◌⊎◌, ◌==◌, if◌then◌else◌, inl, inr, ℕ, [], ◌∷◌, Option, None, Some, Bool, true, false, refl, option_map, arith}
-use Rattle.stateful_types.specs.Names.{Named}
 use Rattle.stateful_types.specs.Round.{IsLater}
 use Rattle.stateful_types.specs.declared.digest.Digest.{Digest}
 use Rattle.stateful_types.specs.declared.round.Round.{Round}

@@ -1,5 +1,5 @@
 -- The requests that wait for no run of a job, and those that do.
-use Rattle.std.proofs.Common.{◌≡◌, ◌≢◌, ◌==◌, not, ℕ, Bool, true, false, List, [], ◌∷◌, filter, filter_map, All, Contains, Option, Some, None, IsSome, MatchOption, refl, sym, ap, ◌∙◌, subst}
+use Rattle.std.proofs.Common.{◌≡◌, ◌≢◌, ◌==◌, not, ℕ, Bool, true, false, List, [], ◌∷◌, filter, All, AllPairs, Some, None, arith, refl, sym, ap, ◌∙◌, subst}
 use Rattle.std.specs.Ordering.{nat_cmp}
 use Rattle.std.specs.BTreeMap.{is_at}
 use Rattle.std.specs.Map.{keys_of}
@@ -9,12 +9,13 @@ use Rattle.std.specs.declared.cmp.Ordering.TheVariants.{Less}
 use Rattle.std.proofs.lemmas.Bool.{eqb-true, eq-eqb}
 use Rattle.std.proofs.lemmas.Cmp.{nat_cmp_total, eq_by_cmp_equiv}
 use Rattle.std.proofs.lemmas.List.Elements.{All-cons, All-head, All-tail, All-nil, All-weaker}
+use Rattle.std.proofs.lemmas.List.Kept.{AllPairs-cons}
 use Rattle.std.proofs.lemmas.Map.Keys.{sorted_head, sorted_tail, IsDistinct-from_sorted}
 use Rattle.std.proofs.lemmas.Map.Entries.{lookup-filter-values, option_filter}
 use Rattle.stateful_table.specs.Table.{at}
 use Rattle.stateful_table.proofs.Tables.{is_at_number}
 use Rattle.stateful_exec.specs.Path.{Path}
-use Rattle.stateful_exec.specs.Phase.{is_on, tickets_on, path_on, released_from, released_on, not_on}
+use Rattle.stateful_exec.specs.Phase.{is_on, tickets_on, path_on, released_on, not_on}
 use Rattle.stateful_exec.specs.declared.tables.Phase.{Phase}
 use Rattle.stateful_exec.specs.declared.tables.Phase.TheVariants.{Open, Fetching, Waiting, Executing, Parked}
 use Rattle.stateful_exec.specs.declared.tables.Released.{Released}
@@ -82,6 +83,35 @@ module _ {B C I : Type 0} (job : ℕ) where
       on k path is false other rest = rw (is, other) rest
 
       by_phase : (phase : Phase B) → e.1.phase ≡ phase → All P (released_on job es) → All P (released_on job (e ∷ es))
+      by_phase (Executing k path) is rest = on k path is (k == job) refl rest
+      by_phase Open is rest = passed (rw is refl) rest
+      by_phase (Fetching f) is rest = passed (rw is refl) rest
+      by_phase Waiting is rest = passed (rw is refl) rest
+      by_phase (Parked path) is rest = passed (rw is refl) rest
+
+  -- each that is released is of another ticket
+  pub released_apart : (es : List (ℕ × Requested B C I)) → IsStrictlySortedBy nat_cmp (keys_of es) → AllPairs (λ r s. r.ticket ≢ s.ticket) (released_on job es)
+  released_apart [] sorted = λ i k d less within. absurd (omega (arith, within))
+  released_apart (e ∷ es) sorted = by_phase e.1.phase refl (released_apart es (sorted_tail nat_cmp e.0 (keys_of es) sorted))
+    where
+      R : Released B C I → Released B C I → Type 0
+      R r s = r.ticket ≢ s.ticket
+
+      below : All (λ x. e.0 ≢ x.0) es
+      below = All-weaker (λ (x : ℕ × Requested B C I). at es x.0 ≡ Some x.1) (λ x. e.0 ≢ x.0) (λ x there same.
+          let less = at_below e.0 es x.0 x.1 (sorted_head nat_cmp e.0 (keys_of es) sorted) there in
+          let off : is_at (nat_cmp x.0) x.0 ≡ false = rw (subst (λ n. nat_cmp n x.0 ≡ Less) same less) refl in
+          let no : true ≡ false = sym (is_at_number x.0 x.0 ∙ eq-eqb x.0 x.0 refl) ∙ off in cc) es (each_at es (sorted_tail nat_cmp e.0 (keys_of es) sorted))
+
+      on : (k : ℕ) (path : Path B) → e.1.phase ≡ Executing k path → (b : Bool) → (k == job) ≡ b → AllPairs R (released_on job es) → AllPairs R (released_on job (e ∷ es))
+      on k path is true same rest =
+          rw (is, same) (AllPairs-cons R (record { ticket = e.0; request = e.1.request; path = path }) (released_on job es) (All-released (λ s. e.0 ≢ s.ticket) es (λ i d l way on_it. below i d l)) rest)
+      on k path is false other rest = rw (is, other) rest
+
+      passed : path_on job e.1.phase ≡ None → AllPairs R (released_on job es) → AllPairs R (released_on job (e ∷ es))
+      passed none rest = rw none rest
+
+      by_phase : (phase : Phase B) → e.1.phase ≡ phase → AllPairs R (released_on job es) → AllPairs R (released_on job (e ∷ es))
       by_phase (Executing k path) is rest = on k path is (k == job) refl rest
       by_phase Open is rest = passed (rw is refl) rest
       by_phase (Fetching f) is rest = passed (rw is refl) rest

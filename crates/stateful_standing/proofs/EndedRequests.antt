@@ -1,12 +1,10 @@
 -- The requests behind the end of a run: those that waited for it are in hand, and the others stand.
-use Rattle.std.proofs.Common.{◌≡◌, ◌≢◌, ◌==◌, not, inr, ℕ, Bool, true, false, List, [], ◌∷◌, filter, All, Option, Some, None, IsSome, MatchOption, get_or, refl, sym, ap, ◌∙◌, subst}
+use Rattle.std.proofs.Common.{◌≡◌, ◌≢◌, not, inr, ℕ, true, false, List, ◌∷◌, All, Option, Some, None, IsSome, MatchOption, get_or, refl, sym, ◌∙◌, subst}
 use Rattle.std.proofs.lemmas.Bool.{eq-eqb}
-use Rattle.std.proofs.lemmas.List.Elements.{All-weaker, All-filter, filter_passes}
+use Rattle.std.proofs.lemmas.List.Elements.{All-filter, filter_passes}
 use Rattle.std.proofs.lemmas.Map.Entries.{option_filter}
 use Rattle.stateful_types.specs.Names.{Named}
-use Rattle.stateful_history.specs.Past.{Past, Item, Came, Made}
-use Rattle.stateful_history.specs.Asked.{asked_for}
-use Rattle.stateful_history.specs.Live.{live_fetch}
+use Rattle.stateful_history.specs.Past.{Past, Came, Made}
 use Rattle.stateful_history.specs.Met.{Met}
 use Rattle.stateful_history.specs.declared.event.Event.TheVariants.{Turn}
 use Rattle.stateful_history.specs.declared.mark.How.{How}
@@ -14,7 +12,7 @@ use Rattle.stateful_history.specs.declared.mark.Mark.TheVariants.{Ended}
 use Rattle.stateful_table.specs.Table.{at, without}
 use Rattle.stateful_table.proofs.Tables.{none_some}
 use Rattle.stateful_exec.specs.Path.{Path}
-use Rattle.stateful_exec.specs.Phase.{is_on, tickets_on, released_on, not_on}
+use Rattle.stateful_exec.specs.Phase.{is_on, released_on, not_on}
 use Rattle.stateful_exec.specs.Request.{ticket_by}
 use Rattle.stateful_exec.specs.Workings.{Workings}
 use Rattle.stateful_exec.specs.declared.request.Proposal.{Proposal}
@@ -26,7 +24,7 @@ use Rattle.stateful_exec.specs.declared.tables.Requested.{Requested}
 use Rattle.stateful_standing.specs.Setting.{setting}
 use Rattle.stateful_standing.specs.Requesting.{brought_by, IsRequestOf, IsWayOf, IsInPhase, IsStanding, RequestsStand, QueueStands}
 use Rattle.stateful_standing.proofs.Asking.{IsStanding-calm}
-use Rattle.stateful_standing.proofs.Removing.{at_other, at_gone, All-at}
+use Rattle.stateful_standing.proofs.Removing.{at_other, at_gone}
 use Rattle.stateful_standing.proofs.RunEnded.{IsStanding-runs}
 use Rattle.stateful_standing.proofs.EndedLeft.{sorted_filter, each_at, All-released, at_not_on, tickets_not_on}
 

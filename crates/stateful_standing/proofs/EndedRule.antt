@@ -1,5 +1,5 @@
 -- The tables stand behind the end of a run in its turn, by the rules of execution.
-use Rattle.std.proofs.Common.{◌≡◌, ◌<◌, ◌==◌, ℕ, Bool, true, false, List, [], ◌∷◌, All, Option, Some, Result, Ok, cond, refl, sym, ap, ◌∙◌, subst}
+use Rattle.std.proofs.Common.{◌≡◌, ◌≢◌, ◌<◌, ◌==◌, ℕ, Bool, true, false, List, [], ◌∷◌, All, AllPairs, Option, Some, Ok, refl, sym, ap, ◌∙◌, subst}
 use Rattle.std.specs.Ordering.{nat_cmp, match_ordering, MatchOrdering}
 use Rattle.std.specs.declared.cmp.Ordering.{Ordering}
 use Rattle.std.specs.declared.cmp.Ordering.TheVariants.{Less, Equal, Greater}
@@ -14,9 +14,9 @@ use Rattle.stateful_history.specs.Met.{TrueNames}
 use Rattle.stateful_history.specs.declared.event.Event.TheVariants.{Turn}
 use Rattle.stateful_history.specs.declared.mark.How.{How}
 use Rattle.stateful_history.specs.declared.mark.Mark.TheVariants.{Ended}
-use Rattle.stateful_cache.specs.declared.cache.Cached.{Cached}
 use Rattle.stateful_table.specs.Table.{at, put, without}
 use Rattle.stateful_table.proofs.Tables.{at-put}
+use Rattle.stateful_exec.specs.Boundary.{Boundary}
 use Rattle.stateful_exec.specs.Ending.{released, Crosses, IsTold, EndsRun, TurnsRun}
 use Rattle.stateful_exec.specs.Moments.{Moment}
 use Rattle.stateful_exec.specs.Phase.{released_on, not_on}
@@ -28,8 +28,10 @@ use Rattle.stateful_exec.specs.declared.tables.LiveRun.{LiveRun}
 use Rattle.stateful_standing.specs.Setting.{setting}
 use Rattle.stateful_standing.specs.Standing.{TablesStand}
 use Rattle.stateful_standing.proofs.EndedRequests.{IsTakenOut}
-use Rattle.stateful_standing.proofs.EndedStands.{left, IsLeftBy}
+use Rattle.stateful_standing.proofs.EndedStands.{IsLeftBy}
 use Rattle.stateful_standing.proofs.EndedKept.{IsRoundOf}
+use Rattle.stateful_standing.proofs.EndedFinalizing.{Finalizes}
+use Rattle.stateful_standing.proofs.EndedOver.{IsLeftOver, IsLeftOver-told}
 use Rattle.stateful_standing.proofs.EndedTold.{IsPlain, IsLeftBy-told}
 
 -- a value that is put, and taken out again
@@ -53,48 +55,73 @@ plain_stays header b (Finalizing boundary) new plain crosses = absurd plain
 
 module _ {B C I P R D H G U : Type 0} (w : Workings B C I P R D H G U) (stored : ℕ → Option (Named B)) where
   -- What stands behind a past where the run of a job of this block has ended: the tables without the requests that waited for
-  -- it, and these are in hand.
+  -- it, and these are in hand, each of another ticket.
   pub record IsReleased (p : Past B C I) (point : Point w) (j : ℕ) (b : Named B) (m : Moment w) : Type 0 where
     pub points : Digest → Point w
     pub tables : TablesStand w stored p points point m.next (released j m.state)
     pub in_hand : All (IsTakenOut w stored p (not_on j m.state.requests) m.state.queued b) (released_on j m.state.requests)
+    pub apart : AllPairs (λ r s. r.ticket ≢ s.ticket) (released_on j m.state.requests)
+
+  -- a finalization goes on
+  pub record GoesOn (p : Past B C I) (m : Moment w) : Type 0 where
+    pub boundary : Boundary
+    pub pause_is : m.state.pause ≡ Finalizing boundary
+    pub goes_on : Finalizes w stored p m.state.anchor m.state.cache boundary
 
   module _ (p : Past B C I) (point : Point w) (m : Moment w) (j : ℕ) (b : Named B) (o : Option U) (how : How) (now : Moment w) where
     abbrev q : Past B C I
     q = Made (Ended j how) ∷ Came (Turn j) ∷ p
 
-    module _ (live : LiveRun B R) (live_is : at m.state.runs j ≡ Some live) (turned : R)
-        (behind : (cache : List (Cached U)) (pause : Pause) → IsTold w m.state.anchor live.block m.state.cache cache o how → Crosses w.header live.block m.state.pause pause → IsLeftBy w stored p point m.next m.state j live how cache pause) where
+    module _ (live : LiveRun B R) (live_is : at m.state.runs j ≡ Some live) (turned : R) where
       abbrev running : Tables B C I R U
       running = record m.state { runs = put m.state.runs j (record live { run = turned }) }
 
-      -- what is left by the end of a run stands behind its rule
-      IsReleased-from : EndsRun w (record m { state = running }) j b o how now → IsReleased q point j b now
-      IsReleased-from ends =
-          subst (λ (n : Moment w). IsReleased q point j b n) (sym ends.becomes) (record {
-            points = stands.points;
-            tables = rw (without_put m.state.runs j (record live { run = turned })) stands.tables;
-            in_hand = subst (λ (c : Named B). All (IsTakenOut w stored q (not_on j m.state.requests) m.state.queued c) (released_on j m.state.requests)) block stands.released;
-          })
-        where
-          same : record live { run = turned } ≡ ends.run
-          same = let found : Some (record live { run = turned }) ≡ Some ends.run = rw (at-put m.state.runs j (record live { run = turned }) j, eq-eqb j j refl) at ends.live in search
+      module _ (ends : EndsRun w (record m { state = running }) j b o how now) where
+        same_run : record live { run = turned } ≡ ends.run
+        same_run = let found : Some (record live { run = turned }) ≡ Some ends.run = rw (at-put m.state.runs j (record live { run = turned }) j, eq-eqb j j refl) at ends.live in search
 
-          block : live.block ≡ b
-          block = ap (λ (r : LiveRun B R). r.block) same ∙ ends.block_is
+        same_block : live.block ≡ b
+        same_block = ap (λ (r : LiveRun B R). r.block) same_run ∙ ends.block_is
 
-          stands : IsLeftBy w stored p point m.next m.state j live how ends.cache ends.pause
-          stands = behind ends.cache ends.pause
-              (subst (λ (c : Named B). IsTold w m.state.anchor c m.state.cache ends.cache o how) (sym block) ends.told)
-              (subst (λ (c : Named B). Crosses w.header c m.state.pause ends.pause) (sym block) ends.crosses)
+        told_so : IsTold w m.state.anchor live.block m.state.cache ends.cache o how
+        told_so = subst (λ (c : Named B). IsTold w m.state.anchor c m.state.cache ends.cache o how) (sym same_block) ends.told
 
-    module _ (points : Digest → Point w) (s : TablesStand w stored p points point m.next m.state) (here : w.kind.point m.members ≡ Some point) (names : TrueNames (setting w stored) p) (round : IsRoundOf w stored p m.state.anchor) (tip : tip_of w.header p ≡ Some m.state.anchor) where
+        crosses_so : Crosses w.header live.block m.state.pause ends.pause
+        crosses_so = subst (λ (c : Named B). Crosses w.header c m.state.pause ends.pause) (sym same_block) ends.crosses
+
+        -- what is left by the end of a run stands behind its rule
+        IsReleased-from : IsLeftBy w stored p point m.next m.state j live how ends.cache ends.pause → IsReleased q point j b now
+        IsReleased-from stands =
+            subst (λ (n : Moment w). IsReleased q point j b n) (sym ends.becomes) (record {
+              points = stands.points;
+              tables = rw (without_put m.state.runs j (record live { run = turned })) stands.tables;
+              in_hand = subst (λ (c : Named B). All (IsTakenOut w stored q (not_on j m.state.requests) m.state.queued c) (released_on j m.state.requests)) same_block stands.released;
+              apart = stands.apart;
+            })
+
+        GoesOn-from : IsLeftOver w stored p point m.next m.state j live how ends.cache ends.pause → GoesOn q now
+        GoesOn-from stands = subst (λ (n : Moment w). GoesOn q n) (sym ends.becomes) (record { boundary = stands.boundary; pause_is = stands.pause_is; goes_on = stands.goes_on })
+
+    module _ (points : Digest → Point w) (s : TablesStand w stored p points point m.next m.state) (here : w.kind.point m.members ≡ Some point) (names : TrueNames (setting w stored) p) (round : IsRoundOf w stored p m.state.anchor) where
       -- The tables stand behind the end of a run in its turn, where no finalization goes on, and the requests that waited for
       -- it are in hand.
-      pub IsReleased-plain : IsPlain m.state.pause → (count : R → ℕ) (running : Tables B C I R U) → TurnsRun w count m.members j m.state running (Ok (Done o)) → EndsRun w (record m { state = running }) j b o how now
+      pub IsReleased-plain : IsPlain m.state.pause → tip_of w.header p ≡ Some m.state.anchor → (count : R → ℕ) (running : Tables B C I R U) → TurnsRun w count m.members j m.state running (Ok (Done o)) → EndsRun w (record m { state = running }) j b o how now
           → IsReleased (Made (Ended j how) ∷ Came (Turn j) ∷ p) point j b now
-      IsReleased-plain plain count after turns ends =
-          IsReleased-from turns.live turns.live_is turns.turned
-          (λ cache pause told crosses. subst (λ x. IsLeftBy w stored p point m.next m.state j turns.live how cache x) (sym (plain_stays w.header turns.live.block m.state.pause pause plain crosses))
-          (IsLeftBy-told w stored p points point m.next m.state s j turns.live turns.live_is m.members here turns.turned names round plain tip cache turns.turns told))
-          (subst (λ (t : Tables B C I R U). EndsRun w (record m { state = t }) j b o how now) turns.state ends)
+      IsReleased-plain plain tip count after turns ends =
+          let e : EndsRun w (record m { state = running turns.live turns.live_is turns.turned }) j b o how now = subst (λ (t : Tables B C I R U). EndsRun w (record m { state = t }) j b o how now) turns.state ends in
+          IsReleased-from turns.live turns.live_is turns.turned e
+          (subst (λ x. IsLeftBy w stored p point m.next m.state j turns.live how e.cache x)
+          (sym (plain_stays w.header turns.live.block m.state.pause e.pause plain (crosses_so turns.live turns.live_is turns.turned e)))
+          (IsLeftBy-told w stored p points point m.next m.state s j turns.live turns.live_is m.members here turns.turned names round plain tip e.cache turns.turns (told_so turns.live turns.live_is turns.turned e)))
+
+      -- The tables stand behind the end of a run in its turn, while a finalization goes on, and the requests that waited for
+      -- it are in hand. The finalization goes on.
+      pub IsReleased-over : GoesOn p m → (count : R → ℕ) (running : Tables B C I R U) → TurnsRun w count m.members j m.state running (Ok (Done o)) → EndsRun w (record m { state = running }) j b o how now
+          → IsReleased (Made (Ended j how) ∷ Came (Turn j) ∷ p) point j b now × GoesOn (Made (Ended j how) ∷ Came (Turn j) ∷ p) now
+      IsReleased-over over count after turns ends =
+          let e : EndsRun w (record m { state = running turns.live turns.live_is turns.turned }) j b o how now = subst (λ (t : Tables B C I R U). EndsRun w (record m { state = t }) j b o how now) turns.state ends in
+          let left : IsLeftOver w stored p point m.next m.state j turns.live how e.cache e.pause =
+              IsLeftOver-told w stored p points point m.next m.state s names round j turns.live turns.live_is over.boundary over.goes_on over.pause_is m.members here turns.turned e.cache e.pause turns.turns
+              (told_so turns.live turns.live_is turns.turned e)
+              (subst (λ x. Crosses w.header turns.live.block x e.pause) over.pause_is (crosses_so turns.live turns.live_is turns.turned e)) in
+          (IsReleased-from turns.live turns.live_is turns.turned e left.leaves, GoesOn-from turns.live turns.live_is turns.turned e left)

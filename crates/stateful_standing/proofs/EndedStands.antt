@@ -1,5 +1,5 @@
 -- The tables stand behind the end of a run: one that isn't kept, and one whose block was known.
-use Rattle.std.proofs.Common.{◌≡◌, ◌<◌, ◌≤◌, ◌↔◌, ◌+◌, ◌==◌, Bool, true, false, if◌then◌else◌, arith, length, get_or, inl, inr, ℕ, List, [], ◌∷◌, All, Option, Some, None, refl, sym, ap, ◌∙◌, subst}
+use Rattle.std.proofs.Common.{◌≡◌, ◌≢◌, ◌<◌, ◌≤◌, ◌↔◌, ◌+◌, ◌==◌, Bool, true, false, if◌then◌else◌, arith, length, get_or, inl, inr, ℕ, List, ◌∷◌, All, AllPairs, Option, Some, None, refl, sym, ◌∙◌, subst}
 use Rattle.std.proofs.lemmas.Bool.{eqb-true}
 use Rattle.std.proofs.lemmas.List.Elements.{Contains-get_or}
 use Rattle.stateful_types.specs.Names.{Named}
@@ -23,13 +23,14 @@ use Rattle.stateful_exec.specs.declared.pause.Pause.{Pause}
 use Rattle.stateful_exec.specs.declared.state.Tables.{Tables}
 use Rattle.stateful_exec.specs.declared.tables.LiveRun.{LiveRun}
 use Rattle.stateful_standing.specs.Setting.{setting}
-use Rattle.stateful_standing.specs.Caching.{IsKnownBy, IsCached, CacheStands}
+use Rattle.stateful_standing.specs.Caching.{IsKnownBy, CacheStands}
 use Rattle.stateful_standing.specs.Running.{IsRunning, RunsStand}
 use Rattle.stateful_standing.specs.Standing.{TablesStand}
-use Rattle.stateful_standing.proofs.Calm.{IsCalm, CacheStands-calm}
+use Rattle.stateful_standing.proofs.Calm.{CacheStands-calm}
 use Rattle.stateful_standing.proofs.Removing.{All-at}
+use Rattle.stateful_standing.proofs.EndedLeft.{released_apart}
 use Rattle.stateful_standing.proofs.EndedRequests.{IsTakenOut, RequestsStand-turned, left_before, released-IsTakenOut, QueueStands-turned}
-use Rattle.stateful_standing.proofs.EndedRuns.{Moves, IsCached-moved, RunsStand-turned}
+use Rattle.stateful_standing.proofs.EndedRuns.{IsCached-moved, RunsStand-turned}
 use Rattle.stateful_standing.proofs.EndedKnown.{started-by, turn-IsCalm, Known-turned, Known-turned_before}
 use Rattle.stateful_standing.proofs.EndedPoints.{Moves-turned}
 
@@ -46,11 +47,12 @@ module _ {B C I P R D H G U : Type 0} (w : Workings B C I P R D H G U) (stored :
   ended = Made (Ended j how) ∷ Came (Turn j) ∷ p
 
   -- What stands behind the end of the run of a job, with this cache and this pause: the tables over some points, and the
-  -- requests that waited for it are in hand.
+  -- requests that waited for it are in hand, each of another ticket.
   pub record IsLeftBy (cache : List (Cached U)) (pause : Pause) : Type 0 where
     pub points : Digest → Point w
     pub tables : TablesStand w stored ended points point next (left old j cache pause)
     pub released : All (IsTakenOut w stored ended (not_on j old.requests) old.queued live.block) (released_on j old.requests)
+    pub apart : AllPairs (λ r s. r.ticket ≢ s.ticket) (released_on j old.requests)
 
 module _ {B C I P R D H G U : Type 0} (w : Workings B C I P R D H G U) (stored : ℕ → Option (Named B)) (p : Past B C I) (points : Digest → Point w) (point : Point w) (next : w.Ids) (old : Tables B C I R U) (s : TablesStand w stored p points point next old) (j : ℕ) (live : LiveRun B R) (live_is : at old.runs j ≡ Some live) where
   pub running : IsRunning w stored p points next old.anchor old.cache j live
@@ -87,6 +89,7 @@ module _ {B C I P R D H G U : Type 0} (w : Workings B C I P R D H G U) (stored :
         numbers = record { jobs = s.numbers.jobs; unturned = unturned_later; fetches = s.numbers.fetches };
       };
       released = released-IsTakenOut w stored p old.runs old.requests s.requests j how old.queued s.once live live_is running.met;
+      apart = released_apart j old.requests s.requests.ascending;
     }
 
     runs-same : RunsStand w stored (ended w stored p point next old j live how) points next old.anchor old.cache (without old.runs j)
@@ -133,4 +136,5 @@ module _ {B C I P R D H G U : Type 0} (w : Workings B C I P R D H G U) (stored :
       numbers = t.numbers;
     };
     released = h.released;
+    apart = h.apart;
   }

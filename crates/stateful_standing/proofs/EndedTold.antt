@@ -1,5 +1,5 @@
 -- The tables stand behind the end of a run as it is told, where no finalization goes on.
-use Rattle.std.proofs.Common.{◌≡◌, ◌+◌, ◌↔◌, inr, ℕ, List, [], ◌∷◌, Any, Option, Some, None, refl, sym, ap, ◌∙◌, subst, arith}
+use Rattle.std.proofs.Common.{◌≡◌, ◌+◌, ◌↔◌, inr, ℕ, List, [], ◌∷◌, Any, Option, Some, refl, ap, subst}
 use Rattle.stateful_types.specs.Names.{Named}
 use Rattle.stateful_types.specs.declared.anchor.Anchor.{Anchor}
 use Rattle.stateful_types.specs.declared.digest.Digest.{Digest}
@@ -19,7 +19,7 @@ use Rattle.stateful_cache.specs.Cache.{IsIn, IsAtHand}
 use Rattle.stateful_cache.specs.declared.cache.Cached.{Cached}
 use Rattle.stateful_table.specs.Table.{at}
 use Rattle.stateful_exec.specs.Boundary.{step_by}
-use Rattle.stateful_exec.specs.Ending.{step_in, Takes, there, added, missed, Turns, IsTold, rejected, mismatched, agreed}
+use Rattle.stateful_exec.specs.Ending.{step_in, there, added, missed, Turns, IsTold, rejected, mismatched, agreed}
 use Rattle.stateful_exec.specs.Workings.{Workings, Point}
 use Rattle.stateful_exec.specs.declared.pause.Pause.{Pause}
 use Rattle.stateful_exec.specs.declared.pause.Pause.TheVariants.{Free, Finalizing, Pruning}
@@ -32,7 +32,7 @@ use Rattle.stateful_standing.specs.Standing.{TablesStand}
 use Rattle.stateful_standing.proofs.EndedKnown.{outcome-some, ends-some}
 use Rattle.stateful_standing.proofs.EndedPoints.{Stacked-point}
 use Rattle.stateful_standing.proofs.EndedStands.{ended, IsLeftBy, running, IsLeftBy-gone, IsLeftBy-known}
-use Rattle.stateful_standing.proofs.EndedKept.{IsRoundOf, Known-own, IsLeftBy-added, knows-added}
+use Rattle.stateful_standing.proofs.EndedKept.{IsRoundOf, IsLeftBy-added, knows-added}
 
 -- no finalization goes on
 abbrev pub IsPlain : Pause → Type 0
@@ -57,14 +57,14 @@ module _ {B C I P R D H G U : Type 0} (w : Workings B C I P R D H G U) (stored :
   run = running w stored p points point next old s j live live_is
 
   -- what the last turn says of the run
-  turned-at : (o : Option U) → Turns w m live.run turned (Done o)
+  pub turned-at : (o : Option U) → Turns w m live.run turned (Done o)
       → Ends (Done o) (outcome w.works.meaning Candidate (points run.parent.digest).1 live.block.block) (λ batch u. w.shows batch ((run.own, u) ∷ points run.parent.digest ∷ run.below))
       (w.works.runs turned (run_of Candidate run.context (record { first = live.block; rest = run.parent ∷ [] }) run.own (points run.parent.digest) run.below) (turns j p + 1))
   turned-at o t =
       t.ends (run_of Candidate run.context (record { first = live.block; rest = run.parent ∷ [] }) run.own (points run.parent.digest) run.below) (turns j p) point run.runs here
       (subst (λ (x : Point w). IsPoint x (points run.parent.digest ∷ run.below)) s.at_anchor (Stacked-point w run.chain))
 
-  cached_step : Any (λ e. step_in e ≡ step_by w.header live.block) old.cache → IsIn old.cache live.block.digest
+  pub cached_step : Any (λ e. step_in e ≡ step_by w.header live.block) old.cache → IsIn old.cache live.block.digest
   cached_step a = (a.0, a.1, a.2, a.3, ap (λ x. x.digest) a.4)
 
   module _ (names : TrueNames (setting w stored) p) (round : IsRoundOf w stored p old.anchor) (plain : IsPlain old.pause) (tip : tip_of w.header p ≡ Some old.anchor) where

@@ -26,7 +26,7 @@ use Rattle.stateful_exec.specs.declared.tables.Requested.{Requested}
 use Rattle.stateful_standing.specs.Setting.{setting}
 use Rattle.stateful_standing.specs.Standing.{StandsBehind}
 use Rattle.stateful_standing.proofs.Advanced.{Serves-advances}
-use Rattle.stateful_standing.proofs.EndedLeft.{at_below, each_at, All-released}
+use Rattle.stateful_standing.proofs.EndedLeft.{released_apart}
 use Rattle.stateful_standing.proofs.EndedRequests.{IsTakenOut}
 use Rattle.stateful_standing.proofs.InTurn.{IsReady, IsOnWay, StandsBehind-in_turn}
 use Rattle.stateful_standing.proofs.Served.{Serves, Serves-concludes, Serves-put}
@@ -34,20 +34,6 @@ use Rattle.stateful_standing.proofs.Served.{Serves, Serves-concludes, Serves-put
 -- a number that is below another is another
 pub below_apart : (k n : ℕ) → nat_cmp k n ≡ Less → k ≢ n
 below_apart k n below same = let less : k < n = subst (λ o. MatchOrdering o (k < n) (k ≡ n) (n < k)) below (ranked k n (nat_cmp k n) refl) in omega (arith, less, same)
-
-module _ {B C I : Type 0} (job : ℕ) where
-  -- the released requests are of different tickets
-  pub released_apart : (es : List (ℕ × Requested B C I)) → IsStrictlySortedBy nat_cmp (keys_of es) → AllPairs (λ x y. x.ticket ≢ y.ticket) (released_on job es)
-  released_apart [] sorted = λ i j d lt within. let no : ⊥ = omega (arith, within) in absurd no
-  released_apart (e ∷ es) sorted = go (path_on job e.1.phase) refl (released_apart es (sorted_tail nat_cmp e.0 (keys_of es) sorted))
-    where
-      others : All (λ (y : Released B C I). e.0 ≢ y.ticket) (released_on job es)
-      others = All-released job (λ (y : Released B C I). e.0 ≢ y.ticket) es (λ k d l path is.
-          below_apart e.0 (get_or es k d).0 (at_below e.0 es (get_or es k d).0 (get_or es k d).1 (sorted_head nat_cmp e.0 (keys_of es) sorted) (each_at es (sorted_tail nat_cmp e.0 (keys_of es) sorted) k d l)))
-
-      go : (o : Option (Path B)) → path_on job e.1.phase ≡ o → AllPairs (λ (x y : Released B C I). x.ticket ≢ y.ticket) (released_on job es) → AllPairs (λ (x y : Released B C I). x.ticket ≢ y.ticket) (released_on job (e ∷ es))
-      go None is rest = rw is rest
-      go (Some path) is rest = rw is (AllPairs-cons (λ (x y : Released B C I). x.ticket ≢ y.ticket) (record { ticket = e.0; request = e.1.request; path = path }) (released_on job es) others rest)
 
 module _ {B C I P R D H G U : Type 0} (w : Workings B C I P R D H G U) (stored : ℕ → Option (Named B)) (points : Digest → Point w) (point : Point w)
     (other_states : (n i : w.Ids) (x y : w.States) (c : List (Point w)) → w.kind.issued n ((i, x) ∷ c) → w.kind.issued n ((i, y) ∷ c)) where

@@ -34,3 +34,4 @@ pub mod EndedRule
 pub mod FollowStands
 pub mod Parked
 pub mod EndedFinalizing
+pub mod EndedOver
