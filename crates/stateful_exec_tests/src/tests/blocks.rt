@@ -54,7 +54,7 @@ pub(super) const LATE: usize = 14;
 /// On `EMPTY`, in one turn.
 pub(super) const AFTER_EMPTY: usize = 15;
 
-/// On genesis, with another target than its states have.
+/// On genesis, in two turns, with another target than its states have.
 pub(super) const WRONG: usize = 16;
 
 /// Another block of genesis' height.
@@ -145,7 +145,11 @@ pub(super) fn blocks(alloc: Global) -> Result<Vec<Digested<FakeBlock>>, Fail> {
             A => block.turns = 2,
             B => block.hook = 2,
             EMPTY | HOLLOW => block.end = End::Nothing,
-            ASKEW | WRONG => block.target = target(alloc, 9),
+            ASKEW => block.target = target(alloc, 9),
+            WRONG => {
+                block.turns = 1;
+                block.target = target(alloc, 9);
+            }
             FAR => block.target = target(alloc, 2),
             RIVAL => block.turns = 1,
             BROKEN => {
