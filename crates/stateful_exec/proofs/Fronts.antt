@@ -1,5 +1,5 @@
 -- Finalizations that go on: their runs, their hooks and their batches.
-use Rattle.std.proofs.Common.{◌≡◌, ◌≢◌, ◌↔◌, ◌⊎◌, inl, inr, ℕ, Option, Some, None, IfNone, MatchOption, Result, Ok, Err, OnOk, IfErr, IfOk, IsErrOf, List, All, Contains, refl, sym, ◌∙◌, ap, subst}
+use Rattle.std.proofs.Common.{◌≡◌, ◌≢◌, ◌↔◌, ◌⊎◌, inl, inr, ℕ, Bool, true, false, is_some, Option, Some, None, IfNone, MatchOption, Result, Ok, Err, OnOk, IfErr, IfOk, IsErrOf, List, All, Contains, refl, sym, ◌∙◌, ap, subst}
 use Rattle.stateful_types.specs.Names.{Named}
 use Rattle.stateful_types.specs.declared.digest.Digest.{Digest}
 use Rattle.stateful_types.specs.declared.outcome.Moved.{Moved}
@@ -36,3 +36,8 @@ with_root {P} {Q} root has more each d = (λ h. into ((more d).0 h), λ q. (more
     out : (d ≡ root) ⊎ Q d → (d ≡ root) ⊎ P d
     out (inl is) = inl is
     out (inr q) = inr ((each d).1 q)
+
+-- nothing is there
+pub none_there : {X : Type 0} (o : Option X) (b : Bool) → b ≡ is_some o → b ≡ false → o ≡ None
+none_there None b is off = refl
+none_there (Some x) b is off = let no : true ≡ false = sym is ∙ off in cc

@@ -1,0 +1,6 @@
+pub mod Setting
+pub mod Chains
+pub mod Caching
+pub mod Running
+pub mod Requesting
+pub mod Standing

@@ -1,0 +1,42 @@
+-- The live candidate runs stand for a past.
+use Rattle.std.specs.Prelude.{◌≡◌, ◌≢◌, ℕ, true, Option, IsSome, List, [], ◌∷◌, All, AllPairs}
+use Rattle.stateful_types.specs.Names.{Named}
+use Rattle.stateful_types.specs.declared.anchor.Anchor.{Anchor}
+use Rattle.stateful_types.specs.declared.digest.Digest.{Digest}
+use Rattle.stateful_types.specs.declared.outcome.Finality.TheVariants as finality
+use Rattle.stateful_db.specs.Works.{run_of}
+use Rattle.stateful_history.specs.Setting.{parent_of}
+use Rattle.stateful_history.specs.Past.{Past}
+use Rattle.stateful_history.specs.Met.{Met}
+use Rattle.stateful_history.specs.Jobs.{IsLiveJob, turns}
+use Rattle.stateful_history.specs.declared.mark.JobKind.TheVariants.{Candidate}
+use Rattle.stateful_cache.specs.Cache.{IsAtHand}
+use Rattle.stateful_cache.specs.declared.cache.Cached.{Cached}
+use Rattle.stateful_table.specs.Table.{at}
+use Rattle.stateful_exec.specs.Workings.{Workings, Point}
+use Rattle.stateful_exec.specs.declared.tables.LiveRun.{LiveRun}
+use Rattle.stateful_standing.specs.Setting.{setting}
+use Rattle.stateful_standing.specs.Chains.{Chain}
+
+module _ {B C I P R D H G U : Type 0} (w : Workings B C I P R D H G U) (stored : ℕ → Option (Named B)) (p : Past B C I) (points : Digest → Point w) (next : w.Ids) (anchor : Anchor) (cache : List (Cached U)) where
+  -- the run of this job is of a block behind its parent, which is at hand, on the parent's chain, and has had the job's turns
+  pub record IsRunning (j : ℕ) (run : LiveRun B R) : Type 0 where
+    pub job : IsLiveJob j Candidate run.block.digest p
+    pub met : Met (setting w stored) p run.block
+    pub parent : Named B
+    pub parent_met : Met (setting w stored) p parent
+    pub parent_is : parent.digest ≡ parent_of (setting w stored) run.block
+    pub at_hand : IsAtHand anchor cache parent.digest
+    pub below : List (Point w)
+    pub chain : Chain w stored p points anchor.digest parent.digest (points parent.digest ∷ below)
+    pub own : w.Ids
+    pub drawn : (s : w.States) → w.kind.issued next ((own, s) ∷ points parent.digest ∷ below)
+    pub context : C
+    pub round : w.round_of context ≡ w.header.round run.block.block
+    pub runs : w.works.runs run.run (run_of finality.Candidate context (record { first = run.block; rest = parent ∷ [] }) own (points parent.digest) below) (turns j p)
+
+  -- each live run stands so, no block has two, and each live job of a candidate is one of them
+  pub record RunsStand (runs : List (ℕ × LiveRun B R)) : Type 0 where
+    pub each : All (λ e. IsRunning e.0 e.1) runs
+    pub apart : AllPairs (λ e f. e.1.block.digest ≢ f.1.block.digest) runs
+    pub complete : (j : ℕ) (d : Digest) → IsLiveJob j Candidate d p → IsSome (at runs j)

@@ -1,0 +1,28 @@
+-- What the tables of execution stand for.
+use Rattle.std.specs.Prelude.{◌≡◌, ◌≢◌, ◌<◌, ℕ, Option, None}
+use Rattle.stateful_types.specs.Names.{Named}
+use Rattle.stateful_types.specs.declared.digest.Digest.{Digest}
+use Rattle.stateful_history.specs.Past.{Past}
+use Rattle.stateful_history.specs.Asked.{asked_for}
+use Rattle.stateful_history.specs.Jobs.{started_for}
+use Rattle.stateful_exec.specs.Workings.{Workings, Point}
+use Rattle.stateful_exec.specs.Moments.{Moment}
+use Rattle.stateful_exec.specs.declared.state.Tables.{Tables}
+use Rattle.stateful_standing.specs.Caching.{CacheStands}
+use Rattle.stateful_standing.specs.Requesting.{RequestsStand, QueueStands}
+use Rattle.stateful_standing.specs.Running.{RunsStand}
+
+-- the numbers that are drawn next are above all that were drawn
+pub record NumbersStand {B C I : Type 0} (p : Past B C I) (next_job next_fetch : ℕ) : Type 0 where
+  pub jobs : (j : ℕ) → started_for j p ≢ None → j < next_job
+  pub fetches : (f : ℕ) → asked_for f p ≢ None → f < next_fetch
+
+module _ {B C I P R D H G U : Type 0} (w : Workings B C I P R D H G U) (stored : ℕ → Option (Named B)) (p : Past B C I) where
+  -- The tables stand for the past, over the points of blocks: that of the anchor is where the databases are.
+  pub record TablesStand (points : Digest → Point w) (point : Point w) (next : w.Ids) (v : Tables B C I R U) : Type 0 where
+    pub at_anchor : points v.anchor.digest ≡ point
+    pub cache : CacheStands w stored p points next v.anchor v.pause v.cache
+    pub runs : RunsStand w stored p points next v.anchor v.cache v.runs
+    pub requests : RequestsStand w stored p v.runs v.requests
+    pub queue : QueueStands w stored p v.queued v.recovered
+    pub numbers : NumbersStand p v.next_job v.next_fetch

@@ -1,0 +1,1 @@
+//! What the tables of execution stand for, over a past. Definitions and their lemmas alone.
