@@ -4,6 +4,9 @@ use Rattle.stateful_types.specs.declared.round.Round.{Round}
 use Rattle.stateful_types.specs.declared.target.Target.{Target}
 use Rattle.stateful_types.specs.declared.outcome.Moved.{Moved}
 use Rattle.stateful_types.specs.declared.outcome.Moved.TheVariants as moved
+use Rattle.stateful_types.specs.declared.outcome.Handoff.{Handoff}
+use Rattle.stateful_types.specs.declared.outcome.Handoff.TheVariants.{Wait, Vote, Stage}
+use Rattle.stateful_db.specs.declared.application.ProposedBlock.{ProposedBlock}
 use Rattle.stateful_db.specs.Works.{Works, RunOf, BuildOf, block_of}
 use Rattle.stateful_plain.specs.Whole.{Whole, begun}
 use Rattle.stateful_plain.specs.Shown.{DraftShows, SealShows}
@@ -26,6 +29,12 @@ abbrev pub EndsWith : Moved (Option PlainMerkleized) → End → ℕ → ℕ × 
 EndsWith moved.Pending end own at below now = Stands now own at below
 EndsWith (moved.Done None) end own at below now = end ≡ Nothing
 EndsWith (moved.Done (Some m)) end own at below now = (end ≢ Nothing) × SealShows m ((own, begun at.1) ∷ at ∷ below)
+
+-- what is handed over has the batch, and its block leads to states
+abbrev pub IsHanded : PlainMerkleized → Handoff (ProposedBlock FakeBlock PlainMerkleized) → Type 0
+IsHanded m Wait = Unit {0}
+IsHanded m (Vote p) = (p.merkleized ≡ m) × (p.block.end ≢ Nothing)
+IsHanded m (Stage p) = (p.merkleized ≡ m) × (p.block.end ≢ Nothing)
 
 abbrev pub FakeRunOf : Type 0
 FakeRunOf = RunOf FakeBlock Round ℕ Whole

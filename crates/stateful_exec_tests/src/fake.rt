@@ -1,16 +1,15 @@
 //! The fake application.
 
-ghost use Rattle.std.specs.Prelude.{◌≡◌, ◌≤◌, ℕ, List, ◌∷◌, IfOk, IsErrOf};
-ghost use Rattle.stateful_types.specs.Causes.{Rose};
+ghost use Rattle.std.specs.Prelude.{◌≡◌, ◌≢◌, ℕ, List, ◌∷◌, IfOk, IsOk};
 ghost use Rattle.stateful_plain.specs.Whole.{Whole, begun};
-ghost use Rattle.stateful_plain.specs.Shown.{DraftShows, SealShows};
-ghost use Rattle.stateful_exec_tests.specs.Works.{IsBuild, built_ends};
+ghost use Rattle.stateful_plain.specs.Shown.{DraftShows};
+ghost use Rattle.stateful_db.specs.Works.{run_of, build_of, asked_for};
+ghost use Rattle.stateful_db.specs.declared.application.ProposalKind.{ProposalKind};
+ghost use Rattle.stateful_exec_tests.specs.Works.{IsRun, IsBuild, IsHanded, FakeBuildOf};
 
 use crate::block::{End, FakeBlock};
 use crate::work::Work;
-use stateful_db::{
-    AppFault, Application, DatabaseSet, Held, Hooked, Input, ManagedDb, ProposedBlock,
-};
+use stateful_db::{AppFault, Application, Held, Hooked, Input, ManagedDb, ProposedBlock};
 use stateful_plain::{Plain, PlainMerkleized, PlainUnmerkleized};
 use stateful_types::{
     Ancestry, Digest, Epoch, Faulty, Finality, Handoff, Height, Moved, OutOfMemory, Round, Share,
@@ -75,7 +74,10 @@ impl Faulty for Fake {
 }
 
 /// A build of this order.
-fn build_of(order: Order, batch: PlainUnmerkleized) -> FakeBuild {
+fn start(order: Order, batch: PlainUnmerkleized) -> FakeBuild
+    ensures { (b : FakeBuildOf) → DraftShows batch ((b.own, begun b.at.1) ∷ b.at ∷ b.below)
+        → IsBuild result b 0 }
+{
     FakeBuild {
         work: Work::new(order.turns, order.end, batch),
         given: order.given,
@@ -86,7 +88,9 @@ fn build_of(order: Order, batch: PlainUnmerkleized) -> FakeBuild {
 fn hand_over(
     given: Handoff<FakeBlock>,
     merkleized: PlainMerkleized,
-) -> Handoff<ProposedBlock<FakeBlock, PlainMerkleized>> {
+) -> Handoff<ProposedBlock<FakeBlock, PlainMerkleized>>
+    ensures { IsHanded merkleized result }
+{
     match given {
         Handoff::Vote(block) if block.end != End::Nothing => {
             Handoff::Vote(ProposedBlock { block, merkleized })
@@ -99,6 +103,12 @@ fn hand_over(
 }
 
 impl Application for Fake {
+    ghost use Rattle.std.specs.Prelude.{◌≡◌, ◌∷◌, ℕ, List, IfOk, IsOk};
+    ghost use Rattle.stateful_db.specs.Works.{asked_for, run_of, build_of};
+    ghost use Rattle.stateful_plain.specs.Whole.{Whole, begun};
+    ghost use Rattle.stateful_plain.specs.Shown.{DraftShows};
+    ghost use Rattle.stateful_exec_tests.specs.Works.{fake_works, IsRun, IsBuild};
+
     type SigningScheme = VoteScheme;
 
     type Context = Round;
@@ -145,39 +155,59 @@ impl Application for Fake {
 
     fn prepare(
         &mut self,
-        _context: Round,
-        _ancestry: Ancestry<FakeBlock>,
+        context: Round,
+        ancestry: Ancestry<FakeBlock>,
         batches: PlainUnmerkleized,
         input: Input<Order, ()>,
-    ) -> Result<FakeBuild, AppFault> {
+    ) -> Result<FakeBuild, AppFault>
+        ensures ok { IsOk result }
+        ensures build { IfOk result (λ build. (i : ℕ) (p : ℕ × Whole) (c : List (ℕ × Whole)) →
+            DraftShows batches ((i, begun p.1) ∷ p ∷ c) →
+            IsBuild build (build_of (asked_for ProposalKind.Prepare context ancestry input.upstream)
+            input.provider i p c) 0) }
+    {
+        let _asked = (context, ancestry);
         let Input {
             upstream,
             provider: (),
         } = input;
-        Ok(build_of(upstream, batches))
+        Ok(start(upstream, batches))
     }
 
     fn propose(
         &mut self,
-        _context: Round,
-        _ancestry: Ancestry<FakeBlock>,
+        context: Round,
+        ancestry: Ancestry<FakeBlock>,
         batches: PlainUnmerkleized,
         input: Input<Order, ()>,
-    ) -> Result<FakeBuild, AppFault> {
+    ) -> Result<FakeBuild, AppFault>
+        ensures ok { IsOk result }
+        ensures build { IfOk result (λ build. (i : ℕ) (p : ℕ × Whole) (c : List (ℕ × Whole)) →
+            DraftShows batches ((i, begun p.1) ∷ p ∷ c) →
+            IsBuild build (build_of (asked_for ProposalKind.Propose context ancestry input.upstream)
+            input.provider i p c) 0) }
+    {
+        let _asked = (context, ancestry);
         let Input {
             upstream,
             provider: (),
         } = input;
-        Ok(build_of(upstream, batches))
+        Ok(start(upstream, batches))
     }
 
     fn process(
         &mut self,
-        _context: Round,
+        context: Round,
         ancestry: Ancestry<FakeBlock>,
         batches: PlainUnmerkleized,
-        _finality: Finality,
-    ) -> Result<Work, AppFault> {
+        finality: Finality,
+    ) -> Result<Work, AppFault>
+        ensures ok { IsOk result }
+        ensures run { IfOk result (λ run. (i : ℕ) (p : ℕ × Whole) (c : List (ℕ × Whole)) →
+            DraftShows batches ((i, begun p.1) ∷ p ∷ c) →
+            IsRun run (run_of finality context ancestry i p c) 0) }
+    {
+        let _of = (context, finality);
         let block = ancestry.first.inner();
         Ok(Work::new(block.turns, block.end, batches))
     }

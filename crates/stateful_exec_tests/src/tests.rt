@@ -71,7 +71,10 @@ fn requests_are_judged(rt: HostRuntime) -> Result<(), Fail> {
         (Call::Verify(C, Some(A)), &[invalid(5)]),
         (Call::Verify(C, None), &[Told::Asked(2, 6, B)]),
         (Call::Fetched(2, Some(A)), &[invalid(6)]),
-        (Call::Verify(AFTER_RIVAL, Some(RIVAL)), &[Told::Asked(3, 7, GENESIS)]),
+        (
+            Call::Verify(AFTER_RIVAL, Some(RIVAL)),
+            &[Told::Asked(3, 7, GENESIS)],
+        ),
         (Call::Fetched(3, Some(A)), &[invalid(7)]),
         // So does a parent's parent that isn't one lower.
         (Call::Verify(AFTER_FAR, Some(FAR)), &[Told::Asked(4, 8, A)]),
@@ -91,7 +94,10 @@ fn requests_are_judged(rt: HostRuntime) -> Result<(), Fail> {
         // where another one comes.
         (Call::Propose(A, proposed(2, B)), &[]),
         (Call::Ready, &[Told::Ready(11)]),
-        (Call::Propose(AFTER_RIVAL, proposed(4, C)), &[Told::Asked(7, 12, RIVAL)]),
+        (
+            Call::Propose(AFTER_RIVAL, proposed(4, C)),
+            &[Told::Asked(7, 12, RIVAL)],
+        ),
         (Call::Fetched(7, None), &[Told::Declined(12)]),
     ];
     play(&rt, rt.alloc(), &over_genesis)?;
@@ -105,12 +111,18 @@ fn requests_are_judged(rt: HostRuntime) -> Result<(), Fail> {
         (Call::Resume, &[valid(0)]),
         // An unknown block no higher than the anchor is no parent, and nothing is built on it.
         (Call::Verify(AFTER_EMPTY, Some(EMPTY)), &[invalid(3)]),
-        (Call::Propose(AFTER_RIVAL, proposed(4, C)), &[Told::Declined(4)]),
+        (
+            Call::Propose(AFTER_RIVAL, proposed(4, C)),
+            &[Told::Declined(4)],
+        ),
         // A proposal recovers its parent.
         (Call::Propose(C, proposed(4, C)), &[Told::Asked(0, 5, B)]),
         (Call::Ready, &[Told::NoneReady]),
         (Call::Fetched(0, Some(B)), &[runs(0, C)]),
-        (Call::Settle(0), &[Told::Ended(0, How::Rejected), Told::Declined(5)]),
+        (
+            Call::Settle(0),
+            &[Told::Ended(0, How::Rejected), Told::Declined(5)],
+        ),
         (Call::Ready, &[Told::NoneReady]),
         (Call::Numbers, &[Told::AreNext(1, 1)]),
     ];
@@ -124,7 +136,10 @@ fn requests_share_runs(rt: HostRuntime) -> Result<(), Fail> {
         (Call::Verify(A, Some(GENESIS)), &[runs(0, A)]),
         (Call::Verify(B, Some(A)), &[Told::Asked(0, 1, GENESIS)]),
         (Call::Fetched(0, Some(GENESIS)), &[]),
-        (Call::Propose(A, proposed(2, B)), &[Told::Asked(1, 2, GENESIS)]),
+        (
+            Call::Propose(A, proposed(2, B)),
+            &[Told::Asked(1, 2, GENESIS)],
+        ),
         (Call::Fetched(1, Some(GENESIS)), &[]),
         (Call::Verify(A, Some(GENESIS)), &[]),
         (Call::IsIdle, &[Told::No]),
@@ -147,21 +162,38 @@ fn requests_share_runs(rt: HostRuntime) -> Result<(), Fail> {
     let bad: [Row<'_>; 20] = [
         (Call::Propose(GENESIS, proposed(1, A)), &[]),
         (Call::Build(0), &[Told::Job(0)]),
-        (Call::TurnBuild(0), &[Told::Built(0, 0, A), Told::Answered(0, Decision::Block, A)]),
+        (
+            Call::TurnBuild(0),
+            &[Told::Built(0, 0, A), Told::Answered(0, Decision::Block, A)],
+        ),
         // A run without states fails all that wait for it.
         (Call::Verify(EMPTY, Some(A)), &[runs(1, EMPTY)]),
-        (Call::Verify(AFTER_EMPTY, Some(EMPTY)), &[Told::Asked(0, 2, A)]),
+        (
+            Call::Verify(AFTER_EMPTY, Some(EMPTY)),
+            &[Told::Asked(0, 2, A)],
+        ),
         (Call::Fetched(0, Some(A)), &[]),
-        (Call::Propose(EMPTY, proposed(3, AFTER_EMPTY)), &[Told::Asked(1, 3, A)]),
+        (
+            Call::Propose(EMPTY, proposed(3, AFTER_EMPTY)),
+            &[Told::Asked(1, 3, A)],
+        ),
         (Call::Fetched(1, Some(A)), &[]),
         (
             Call::Turn(1),
-            &[Told::Ended(1, How::Rejected), invalid(1), invalid(2), Told::Declined(3)],
+            &[
+                Told::Ended(1, How::Rejected),
+                invalid(1),
+                invalid(2),
+                Told::Declined(3),
+            ],
         ),
         (Call::IsCached(EMPTY), &[Told::No]),
         // So does one with another target, and one of a block that isn't later than the anchor.
         (Call::Verify(ASKEW, Some(A)), &[runs(2, ASKEW)]),
-        (Call::Turn(2), &[Told::Ended(2, How::Mismatched), invalid(4)]),
+        (
+            Call::Turn(2),
+            &[Told::Ended(2, How::Mismatched), invalid(4)],
+        ),
         (Call::Verify(EARLY, Some(A)), &[runs(3, EARLY)]),
         (Call::Turn(3), &[Told::Ended(3, How::Missed), invalid(5)]),
         // A block that ended badly is run again.
@@ -177,27 +209,42 @@ fn requests_share_runs(rt: HostRuntime) -> Result<(), Fail> {
     let built_meanwhile: [Row<'_>; 11] = [
         (Call::Propose(GENESIS, proposed(1, A)), &[]),
         (Call::Build(0), &[Told::Job(0)]),
-        (Call::TurnBuild(0), &[Told::Built(0, 0, A), Told::Answered(0, Decision::Block, A)]),
+        (
+            Call::TurnBuild(0),
+            &[Told::Built(0, 0, A), Told::Answered(0, Decision::Block, A)],
+        ),
         // A build caches the block of a run that then ends without states: its requests go on all the same.
         (Call::Verify(HOLLOW, Some(A)), &[runs(1, B)]),
         (Call::Verify(C, Some(HOLLOW)), &[Told::Asked(0, 2, A)]),
         (Call::Fetched(0, Some(A)), &[]),
         (Call::Propose(A, proposed(2, B)), &[]),
         (Call::Build(3), &[Told::Job(2)]),
-        (Call::TurnBuild(2), &[Told::Built(2, 3, B), Told::Answered(3, Decision::Block, B)]),
-        (Call::Turn(1), &[Told::Ended(1, How::Rejected), valid(1), runs(3, C)]),
+        (
+            Call::TurnBuild(2),
+            &[Told::Built(2, 3, B), Told::Answered(3, Decision::Block, B)],
+        ),
+        (
+            Call::Turn(1),
+            &[Told::Ended(1, How::Rejected), valid(1), runs(3, C)],
+        ),
         (Call::Turn(3), &[kept(3), valid(2)]),
     ];
     play(&rt, rt.alloc(), &built_meanwhile)?;
     let changed: [Row<'_>; 8] = [
         (Call::Propose(GENESIS, proposed(1, A)), &[]),
         (Call::Build(0), &[Told::Job(0)]),
-        (Call::TurnBuild(0), &[Told::Built(0, 0, A), Told::Answered(0, Decision::Block, A)]),
+        (
+            Call::TurnBuild(0),
+            &[Told::Built(0, 0, A), Told::Answered(0, Decision::Block, A)],
+        ),
         // A build caches another block of the digest of a run.
         (Call::Verify(TWIN, Some(A)), &[runs(1, B)]),
         (Call::Propose(A, proposed(2, B)), &[]),
         (Call::Build(2), &[Told::Job(2)]),
-        (Call::TurnBuild(2), &[Told::Built(2, 2, B), Told::Answered(2, Decision::Block, B)]),
+        (
+            Call::TurnBuild(2),
+            &[Told::Built(2, 2, B), Told::Answered(2, Decision::Block, B)],
+        ),
         (Call::Turn(1), &[Told::Refused(Why::Changed(2, 7))]),
     ];
     play(&rt, rt.alloc(), &changed)
@@ -242,7 +289,10 @@ fn requests_are_given_up(rt: HostRuntime) -> Result<(), Fail> {
         (Call::Cancel(7), &[Told::Ended(2, How::Cancelled)]),
         (Call::TurnBuild(2), &[]),
         // A proposal that waits for a run leaves it like others.
-        (Call::Propose(A, proposed(2, B)), &[Told::Asked(2, 8, GENESIS)]),
+        (
+            Call::Propose(A, proposed(2, B)),
+            &[Told::Asked(2, 8, GENESIS)],
+        ),
         (Call::Fetched(2, Some(GENESIS)), &[]),
         (Call::Cancel(4), &[]),
         (Call::IsIdle, &[Told::No]),
@@ -254,9 +304,18 @@ fn requests_are_given_up(rt: HostRuntime) -> Result<(), Fail> {
 
 #[test]
 fn blocks_are_built(rt: HostRuntime) -> Result<(), Fail> {
-    let slow = Bid { turns: 1, ..proposed(1, A) };
-    let without = Bid { end: End::Nothing, ..proposed(3, C) };
-    let staged = Bid { given: Handoff::Stage(AFTER_RIVAL), ..proposed(3, AFTER_RIVAL) };
+    let slow = Bid {
+        turns: 1,
+        ..proposed(1, A)
+    };
+    let without = Bid {
+        end: End::Nothing,
+        ..proposed(3, C)
+    };
+    let staged = Bid {
+        given: Handoff::Stage(AFTER_RIVAL),
+        ..proposed(3, AFTER_RIVAL)
+    };
     let good: [Row<'_>; 33] = [
         // A build takes its turns, and those of another job are none. Its block is cached.
         (Call::Propose(GENESIS, slow), &[]),
@@ -267,42 +326,69 @@ fn blocks_are_built(rt: HostRuntime) -> Result<(), Fail> {
         (Call::TurnBuild(0), &[]),
         (Call::TurnBuild(1), &[]),
         (Call::IsCached(A), &[Told::No]),
-        (Call::TurnBuild(0), &[Told::Built(0, 0, A), Told::Answered(0, Decision::Block, A)]),
+        (
+            Call::TurnBuild(0),
+            &[Told::Built(0, 0, A), Told::Answered(0, Decision::Block, A)],
+        ),
         (Call::TurnBuild(0), &[]),
         (Call::IsCached(A), &[Told::Yes]),
         // Proposals whose parents are known are handed out in the order of their tickets.
         (Call::Ready, &[Told::Ready(1)]),
         (Call::Ready, &[Told::NoneReady]),
         (Call::Build(1), &[Told::Job(1)]),
-        (Call::TurnBuild(1), &[Told::Built(1, 1, RIVAL), Told::Answered(1, Decision::Block, RIVAL)]),
+        (
+            Call::TurnBuild(1),
+            &[
+                Told::Built(1, 1, RIVAL),
+                Told::Answered(1, Decision::Block, RIVAL),
+            ],
+        ),
         // One that was to be prepared is answered as it is handed over.
         (Call::Propose(A, prepared(2, Handoff::Vote(B))), &[]),
         (Call::Build(2), &[Told::Job(2)]),
-        (Call::TurnBuild(2), &[Told::Built(2, 2, B), Told::Answered(2, Decision::Vote, B)]),
+        (
+            Call::TurnBuild(2),
+            &[Told::Built(2, 2, B), Told::Answered(2, Decision::Vote, B)],
+        ),
         (Call::Propose(B, prepared(3, Handoff::Stage(C))), &[]),
         (Call::Build(3), &[Told::Job(3)]),
-        (Call::TurnBuild(3), &[Told::Built(3, 3, C), Told::Answered(3, Decision::Stage, C)]),
+        (
+            Call::TurnBuild(3),
+            &[Told::Built(3, 3, C), Told::Answered(3, Decision::Stage, C)],
+        ),
         // One that was to be proposed is answered alike, however it is handed over.
         (Call::Propose(RIVAL, staged), &[]),
         (Call::Build(4), &[Told::Job(4)]),
         (
             Call::TurnBuild(4),
-            &[Told::Built(4, 4, AFTER_RIVAL), Told::Answered(4, Decision::Block, AFTER_RIVAL)],
+            &[
+                Told::Built(4, 4, AFTER_RIVAL),
+                Told::Answered(4, Decision::Block, AFTER_RIVAL),
+            ],
         ),
         // Without a block it is declined.
         (Call::Propose(B, prepared(3, Handoff::Wait)), &[]),
         (Call::Build(5), &[Told::Job(5)]),
-        (Call::TurnBuild(5), &[Told::Ended(5, How::Nothing), Told::Declined(5)]),
+        (
+            Call::TurnBuild(5),
+            &[Told::Ended(5, How::Nothing), Told::Declined(5)],
+        ),
         (Call::Propose(B, without), &[]),
         (Call::Build(6), &[Told::Job(6)]),
-        (Call::TurnBuild(6), &[Told::Ended(6, How::Nothing), Told::Declined(6)]),
+        (
+            Call::TurnBuild(6),
+            &[Told::Ended(6, How::Nothing), Told::Declined(6)],
+        ),
         // A parent that isn't known any more: no build is started.
         (Call::Propose(RIVAL, proposed(3, AFTER_RIVAL)), &[]),
         (Call::Advance(A), &[]),
         (Call::Build(7), &[Told::NoJob]),
     ];
     play(&rt, rt.alloc(), &good)?;
-    let failing = Bid { end: End::Fails, ..proposed(1, A) };
+    let failing = Bid {
+        end: End::Fails,
+        ..proposed(1, A)
+    };
     let refused = [
         // Other targets than the block commits to come first, then another parent, then another round.
         (proposed(9, WRONG), Why::BuiltTargets(0)),
@@ -330,7 +416,10 @@ fn runs_cross_a_pause(rt: HostRuntime) -> Result<(), Fail> {
     let over_a: [Row<'_>; 33] = [
         (Call::Propose(GENESIS, proposed(1, A)), &[]),
         (Call::Build(0), &[Told::Job(0)]),
-        (Call::TurnBuild(0), &[Told::Built(0, 0, A), Told::Answered(0, Decision::Block, A)]),
+        (
+            Call::TurnBuild(0),
+            &[Told::Built(0, 0, A), Told::Answered(0, Decision::Block, A)],
+        ),
         (Call::Verify(B, Some(A)), &[runs(1, B)]),
         (Call::Verify(RIVAL, Some(GENESIS)), &[runs(2, RIVAL)]),
         (Call::Verify(LATE, Some(B)), &[Told::Asked(0, 3, A)]),
@@ -338,10 +427,16 @@ fn runs_cross_a_pause(rt: HostRuntime) -> Result<(), Fail> {
         (Call::Verify(C, None), &[Told::Asked(1, 4, B)]),
         (Call::Verify(C, None), &[Told::Asked(2, 5, B)]),
         (Call::Fetched(1, None), &[]),
-        (Call::Propose(AFTER_FAR, proposed(7, A)), &[Told::Asked(3, 6, FAR)]),
+        (
+            Call::Propose(AFTER_FAR, proposed(7, A)),
+            &[Told::Asked(3, 6, FAR)],
+        ),
         // The fetches are withdrawn. A run of a block that descends from the finalized one isn't awaited, and another is.
         (Call::Begin(A), &[]),
-        (Call::Pause(Some(A)), &[Told::Withdrawn(2), Told::Withdrawn(3), Told::Awaits(1)]),
+        (
+            Call::Pause(Some(A)),
+            &[Told::Withdrawn(2), Told::Withdrawn(3), Told::Awaits(1)],
+        ),
         (Call::Fetched(2, Some(B)), &[]),
         (Call::Turn(2), &[]),
         // The requests of the other block become false, though its run is kept.
@@ -362,7 +457,11 @@ fn runs_cross_a_pause(rt: HostRuntime) -> Result<(), Fail> {
         // What other requests need is found anew, by ascending tickets: the one whose fetch was answered with none first.
         (
             Call::Resume,
-            &[Told::Asked(4, 4, B), Told::Asked(5, 5, B), Told::Asked(6, 6, FAR)],
+            &[
+                Told::Asked(4, 4, B),
+                Told::Asked(5, 5, B),
+                Told::Asked(6, 6, FAR),
+            ],
         ),
         (Call::Fetched(4, Some(B)), &[]),
         (Call::Turn(3), &[kept(3), valid(4), valid(7)]),
@@ -377,7 +476,10 @@ fn runs_cross_a_pause(rt: HostRuntime) -> Result<(), Fail> {
         (Call::Verify(B, Some(A)), &[Told::Asked(0, 1, GENESIS)]),
         (Call::Fetched(0, Some(GENESIS)), &[]),
         (Call::Verify(RIVAL, Some(GENESIS)), &[runs(1, RIVAL)]),
-        (Call::Verify(AFTER_RIVAL, Some(RIVAL)), &[Told::Asked(1, 3, GENESIS)]),
+        (
+            Call::Verify(AFTER_RIVAL, Some(RIVAL)),
+            &[Told::Asked(1, 3, GENESIS)],
+        ),
         (Call::Fetched(1, Some(GENESIS)), &[]),
         (Call::Begin(A), &[]),
         // The finalized block's own run is awaited too. Where it is kept its requests go on.
@@ -398,7 +500,10 @@ fn runs_cross_a_pause(rt: HostRuntime) -> Result<(), Fail> {
     let parked: [Row<'_>; 27] = [
         (Call::Propose(GENESIS, proposed(1, A)), &[]),
         (Call::Build(0), &[Told::Job(0)]),
-        (Call::TurnBuild(0), &[Told::Built(0, 0, A), Told::Answered(0, Decision::Block, A)]),
+        (
+            Call::TurnBuild(0),
+            &[Told::Built(0, 0, A), Told::Answered(0, Decision::Block, A)],
+        ),
         (Call::Begin(A), &[]),
         (Call::Advance(A), &[]),
         (Call::DropRoot, &[]),
@@ -412,10 +517,16 @@ fn runs_cross_a_pause(rt: HostRuntime) -> Result<(), Fail> {
         // Where it isn't kept its requests are parked, until the finalization is over.
         (Call::Turn(1), &[Told::Ended(1, How::Rejected)]),
         (Call::Awaited, &[Told::Awaits(0)]),
-        (Call::RunFinalized(B), &[Told::Started(2, JobKind::Finalized, B)]),
+        (
+            Call::RunFinalized(B),
+            &[Told::Started(2, JobKind::Finalized, B)],
+        ),
         (Call::Turn(2), &[kept(2)]),
         (Call::Advance(B), &[]),
-        (Call::Observe(B), &[Told::Started(3, JobKind::Hook, B), Told::Yes]),
+        (
+            Call::Observe(B),
+            &[Told::Started(3, JobKind::Hook, B), Told::Yes],
+        ),
         (Call::TurnHook(3), &[]),
         (Call::TurnHook(3), &[Told::Ended(3, How::Hooked)]),
         (Call::DropRoot, &[]),
@@ -431,13 +542,19 @@ fn runs_cross_a_pause(rt: HostRuntime) -> Result<(), Fail> {
     let known: [Row<'_>; 14] = [
         (Call::Propose(GENESIS, proposed(1, A)), &[]),
         (Call::Build(0), &[Told::Job(0)]),
-        (Call::TurnBuild(0), &[Told::Built(0, 0, A), Told::Answered(0, Decision::Block, A)]),
+        (
+            Call::TurnBuild(0),
+            &[Told::Built(0, 0, A), Told::Answered(0, Decision::Block, A)],
+        ),
         (Call::Verify(B, Some(A)), &[runs(1, B)]),
         (Call::Verify(LATE, Some(B)), &[Told::Asked(0, 2, A)]),
         (Call::Fetched(0, Some(A)), &[]),
         (Call::Propose(A, proposed(2, B)), &[]),
         (Call::Build(3), &[Told::Job(2)]),
-        (Call::TurnBuild(2), &[Told::Built(2, 3, B), Told::Answered(3, Decision::Block, B)]),
+        (
+            Call::TurnBuild(2),
+            &[Told::Built(2, 3, B), Told::Answered(3, Decision::Block, B)],
+        ),
         (Call::Verify(LATE, Some(B)), &[runs(3, LATE)]),
         (Call::Turn(3), &[kept(3), valid(4)]),
         (Call::Begin(A), &[]),
@@ -460,7 +577,10 @@ fn runs_cross_a_pause(rt: HostRuntime) -> Result<(), Fail> {
         (Call::Turn(0), &[]),
         (Call::Turn(0), &[kept(0)]),
         (Call::Awaited, &[Told::Awaits(0)]),
-        (Call::Resume, &[valid(0), runs(2, B), Told::Asked(2, 3, GENESIS)]),
+        (
+            Call::Resume,
+            &[valid(0), runs(2, B), Told::Asked(2, 3, GENESIS)],
+        ),
         (Call::Turn(2), &[kept(2), valid(1)]),
         (Call::Fetched(2, Some(GENESIS)), &[runs(3, RIVAL)]),
     ];
@@ -472,7 +592,10 @@ fn runs_cross_a_pause(rt: HostRuntime) -> Result<(), Fail> {
         (Call::Turn(0), &[]),
         (Call::Turn(0), &[]),
         (Call::Turn(0), &[kept(0)]),
-        (Call::RunFinalized(RIVAL), &[Told::Started(1, JobKind::Finalized, RIVAL)]),
+        (
+            Call::RunFinalized(RIVAL),
+            &[Told::Started(1, JobKind::Finalized, RIVAL)],
+        ),
         (Call::Turn(1), &[]),
         (Call::Turn(1), &[kept(1)]),
         (Call::Advance(RIVAL), &[]),
@@ -489,13 +612,19 @@ fn blocks_are_finalized(rt: HostRuntime) -> Result<(), Fail> {
         // Which blocks may be final next.
         (Call::Redelivered(GENESIS), &[Told::Yes]),
         (Call::Redelivered(A), &[Told::No]),
-        (Call::Redelivered(NOUGHT), &[Told::Refused(Why::Conflict(GENESIS, NOUGHT))]),
+        (
+            Call::Redelivered(NOUGHT),
+            &[Told::Refused(Why::Conflict(GENESIS, NOUGHT))],
+        ),
         (Call::Begin(B), &[Told::Refused(Why::Skipped(1, 2))]),
         (Call::Begin(FAR), &[Told::Refused(Why::Skipped(1, 5))]),
         (Call::Begin(STRAY), &[Told::Refused(Why::NotOn(GENESIS, A))]),
         // A block that isn't cached is run.
         (Call::Begin(A), &[]),
-        (Call::RunFinalized(A), &[Told::Started(0, JobKind::Finalized, A)]),
+        (
+            Call::RunFinalized(A),
+            &[Told::Started(0, JobKind::Finalized, A)],
+        ),
         (Call::Turn(0), &[]),
         (Call::Turn(1), &[]),
         (Call::Turn(0), &[]),
@@ -507,7 +636,10 @@ fn blocks_are_finalized(rt: HostRuntime) -> Result<(), Fail> {
         (Call::DropRoot, &[]),
         (Call::Redelivered(A), &[Told::Yes]),
         (Call::Redelivered(GENESIS), &[Told::Yes]),
-        (Call::Redelivered(RIVAL), &[Told::Refused(Why::Conflict(A, RIVAL))]),
+        (
+            Call::Redelivered(RIVAL),
+            &[Told::Refused(Why::Conflict(A, RIVAL))],
+        ),
         // The anchor is known: blocks are run on it.
         (Call::Verify(B, Some(A)), &[runs(1, B)]),
         (Call::Turn(1), &[kept(1), valid(0)]),
@@ -519,7 +651,10 @@ fn blocks_are_finalized(rt: HostRuntime) -> Result<(), Fail> {
         (Call::IsCached(B), &[Told::No]),
         (Call::IsCached(C), &[Told::Yes]),
         // Its hook takes its turns, and those of another job are none.
-        (Call::Observe(B), &[Told::Started(3, JobKind::Hook, B), Told::Yes]),
+        (
+            Call::Observe(B),
+            &[Told::Started(3, JobKind::Hook, B), Told::Yes],
+        ),
         (Call::TurnHook(3), &[]),
         (Call::TurnHook(2), &[]),
         (Call::TurnHook(3), &[Told::Ended(3, How::Hooked)]),
@@ -537,16 +672,34 @@ fn blocks_are_finalized(rt: HostRuntime) -> Result<(), Fail> {
     let cut: [Row<'_>; 17] = [
         (Call::Propose(GENESIS, proposed(1, A)), &[]),
         (Call::Build(0), &[Told::Job(0)]),
-        (Call::TurnBuild(0), &[Told::Built(0, 0, A), Told::Answered(0, Decision::Block, A)]),
+        (
+            Call::TurnBuild(0),
+            &[Told::Built(0, 0, A), Told::Answered(0, Decision::Block, A)],
+        ),
         (Call::Propose(GENESIS, proposed(2, RIVAL)), &[]),
         (Call::Build(1), &[Told::Job(1)]),
-        (Call::TurnBuild(1), &[Told::Built(1, 1, RIVAL), Told::Answered(1, Decision::Block, RIVAL)]),
+        (
+            Call::TurnBuild(1),
+            &[
+                Told::Built(1, 1, RIVAL),
+                Told::Answered(1, Decision::Block, RIVAL),
+            ],
+        ),
         (Call::Propose(A, proposed(2, B)), &[]),
         (Call::Build(2), &[Told::Job(2)]),
-        (Call::TurnBuild(2), &[Told::Built(2, 2, B), Told::Answered(2, Decision::Block, B)]),
+        (
+            Call::TurnBuild(2),
+            &[Told::Built(2, 2, B), Told::Answered(2, Decision::Block, B)],
+        ),
         (Call::Propose(B, proposed(1, LATE)), &[]),
         (Call::Build(3), &[Told::Job(3)]),
-        (Call::TurnBuild(3), &[Told::Built(3, 3, LATE), Told::Answered(3, Decision::Block, LATE)]),
+        (
+            Call::TurnBuild(3),
+            &[
+                Told::Built(3, 3, LATE),
+                Told::Answered(3, Decision::Block, LATE),
+            ],
+        ),
         // Of the cached blocks those stay that descend from the finalized one in later rounds.
         (Call::Begin(A), &[]),
         (Call::Advance(A), &[]),
@@ -564,7 +717,10 @@ fn blocks_are_finalized(rt: HostRuntime) -> Result<(), Fail> {
     for (place, why) in runs_of {
         let rows: [Row<'_>; 4] = [
             (Call::Begin(place), &[]),
-            (Call::RunFinalized(place), &[Told::Started(0, JobKind::Finalized, place)]),
+            (
+                Call::RunFinalized(place),
+                &[Told::Started(0, JobKind::Finalized, place)],
+            ),
             (Call::Turn(0), &[]),
             (Call::Turn(0), &[Told::Refused(why)]),
         ];
@@ -581,11 +737,17 @@ fn blocks_are_finalized(rt: HostRuntime) -> Result<(), Fail> {
         (Call::Build(0), &[Told::Job(0)]),
         (
             Call::TurnBuild(0),
-            &[Told::Built(0, 0, BROKEN), Told::Answered(0, Decision::Block, BROKEN)],
+            &[
+                Told::Built(0, 0, BROKEN),
+                Told::Answered(0, Decision::Block, BROKEN),
+            ],
         ),
         (Call::Begin(BROKEN), &[]),
         (Call::Advance(BROKEN), &[]),
-        (Call::Observe(BROKEN), &[Told::Started(1, JobKind::Hook, BROKEN), Told::Yes]),
+        (
+            Call::Observe(BROKEN),
+            &[Told::Started(1, JobKind::Hook, BROKEN), Told::Yes],
+        ),
         (Call::TurnHook(1), &[Told::Refused(Why::Application)]),
     ];
     play(&rt, rt.alloc(), &hook_fails)

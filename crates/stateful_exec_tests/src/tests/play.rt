@@ -1,11 +1,13 @@
 //! Calls of a handler, and what they answer.
 
+ghost use Rattle.std.specs.Prelude.{◌≡◌, None, IfOk};
+ghost use Rattle.stateful_table.specs.Table.{at};
+ghost use Rattle.stateful_exec.specs.Request.{ticket_by};
+
 use super::blocks::{COUNT, blocks, round};
 use crate::{End, Fake, FakeBlock, Order};
 use stateful_db::{DatabaseSet, Held, ProposalKind};
-use stateful_exec::{
-    BuildStart, ExecError, Handler, Processor, ProposalFault, Request,
-};
+use stateful_exec::{BuildStart, ExecError, Handler, Processor, ProposalFault, Request};
 use stateful_history::{Decision, How, JobKind, Mark};
 use stateful_plain::{Plain, PlainMedium};
 use stateful_types::{
@@ -223,8 +225,10 @@ impl Player {
         Ok(Ancestry { first, rest })
     }
 
-    /// The next ticket, for which nothing is asked yet.
-    fn ticket(&mut self, marks: &mut Vec<Mark<FakeBlock>>) -> Result<u64, OutOfMemory> {
+    /// The next ticket. It is given up before it is used, which changes nothing: so it is no request's.
+    fn ticket(&mut self, marks: &mut Vec<Mark<FakeBlock>>) -> Result<u64, OutOfMemory>
+        ensures { IfOk result (λ ticket. at self.new.handler.state.requests ticket ≡ None) }
+    {
         let ticket = self.tickets;
         self.tickets = ticket.saturating_add(1);
         self.handler.cancel(ticket, marks)?;
@@ -236,7 +240,9 @@ impl Player {
         &mut self,
         request: Request<FakeBlock, Round, Order>,
         marks: &mut Vec<Mark<FakeBlock>>,
-    ) -> Result<(), ExecError> {
+    ) -> Result<(), ExecError>
+        requires { at self.old.handler.state.requests (ticket_by request) ≡ None }
+    {
         self.handler
             .schedule(&mut self.databases, &self.store, request, marks)
     }
