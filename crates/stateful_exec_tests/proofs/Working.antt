@@ -66,14 +66,14 @@ build_ends GoesOn b m (Stage p) shown handed = record {
 }
 
 -- a turn of a build, where the database is at a point of its chain
-pub build_turned : (GoesOn : Type 0) (build : FakeBuild) (now : Work) (moved : Moved (Option PlainMerkleized)) (q : ℕ × Whole) (place : Option (ℕ × Whole))
+pub build_turned : (GoesOn : FakeBuildOf → ℕ → Type 0) (build : FakeBuild) (now : Work) (moved : Moved (Option PlainMerkleized)) (q : ℕ × Whole) (place : Option (ℕ × Whole))
     → place ≡ Some q
     → ((own : ℕ) (at : ℕ × Whole) (below : List (ℕ × Whole)) → Stands build.work own at below → IsPoint q (at ∷ below) → EndsWith moved build.work.end own at below now)
     → (m : PlainMerkleized) → moved ≡ Done (Some m)
     → (given : Handoff (ProposedBlock FakeBlock PlainMerkleized)) → IsHanded m given
-    → (b : FakeBuildOf) (n : ℕ) (r : ℕ × Whole) → IsBuild build b n → place ≡ Some r → IsPoint r (b.at ∷ b.below) → BuildEnds fake_works (Done given) SealShows b GoesOn
+    → (b : FakeBuildOf) (n : ℕ) (r : ℕ × Whole) → IsBuild build b n → place ≡ Some r → IsPoint r (b.at ∷ b.below) → BuildEnds fake_works (Done given) SealShows b (GoesOn b n)
 build_turned GoesOn build now moved q place here each m ended given handed b n r is there at =
     let equal : r ≡ q = cc in
     let at_q = subst (λ z. IsPoint z (b.at ∷ b.below)) equal at in
     let turned = subst (λ z. EndsWith z build.work.end b.own b.at b.below now) ended (each b.own b.at b.below is at_q) in
-    build_ends GoesOn b m given turned.1 handed
+    build_ends (GoesOn b n) b m given turned.1 handed

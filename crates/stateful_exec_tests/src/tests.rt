@@ -247,7 +247,22 @@ fn requests_share_runs(rt: HostRuntime) -> Result<(), Fail> {
         ),
         (Call::Turn(1), &[Told::Refused(Why::Changed(2, 7))]),
     ];
-    play(&rt, rt.alloc(), &changed)
+    play(&rt, rt.alloc(), &changed)?;
+    let run_first: [Row<'_>; 8] = [
+        (Call::Propose(GENESIS, proposed(1, A)), &[]),
+        (Call::Build(0), &[Told::Job(0)]),
+        (
+            Call::TurnBuild(0),
+            &[Told::Built(0, 0, A), Told::Answered(0, Decision::Block, A)],
+        ),
+        // A run caches another block of the digest of a build.
+        (Call::Propose(A, proposed(2, B)), &[]),
+        (Call::Build(1), &[Told::Job(1)]),
+        (Call::Verify(TWIN, Some(A)), &[runs(2, B)]),
+        (Call::Turn(2), &[kept(2), valid(2)]),
+        (Call::TurnBuild(1), &[Told::Refused(Why::Changed(7, 2))]),
+    ];
+    play(&rt, rt.alloc(), &run_first)
 }
 
 #[test]
