@@ -1,5 +1,5 @@
 -- A ticket that is given up is nobody's.
-use Rattle.std.proofs.Common.{◌≡◌, ◌==◌, cond, ℕ, true, None, Some, Option, List, refl, sym, ap, ◌∙◌}
+use Rattle.std.proofs.Common.{◌≡◌, ◌==◌, cond, ℕ, None, Some, Option, List, refl, ap, ◌∙◌}
 use Rattle.std.proofs.lemmas.Bool.{eq-eqb}
 use Rattle.stateful_history.specs.declared.mark.Mark.{Mark}
 use Rattle.stateful_table.specs.Table.{at, without}

@@ -6,4 +6,4 @@ pub returns : goal.returns
 returns c =
     let first = c.in_ok-cancel.ensures.ok in
     let second = c.in_ok-cancel-2.ensures.ok in
-    given_up c.args.self.now.tickets _ _ _ _ _ _ _ _ first.1.0 second.1.0
+    given_up c.args.self.now.tickets _ _ _ _ _ _ _ _ first.1 second.1
