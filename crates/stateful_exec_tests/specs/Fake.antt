@@ -1,5 +1,5 @@
 -- What fake blocks say of themselves, and what they do.
-use Rattle.std.specs.Prelude.{ℕ, List, [], ◌∷◌, true, Option, Some, None}
+use Rattle.std.specs.Prelude.{[], ◌∷◌, true, Option, Some, None}
 use Rattle.stateful_types.specs.Names.{Header}
 use Rattle.stateful_types.specs.declared.target.Target.{Target}
 use Rattle.stateful_db.specs.Meaning.{Meaning}

@@ -51,7 +51,7 @@ fn invalid(ticket: u64) -> Told {
 
 #[test]
 fn requests_are_judged(rt: HostRuntime) -> Result<(), Fail> {
-    let over_genesis: [Row<'_>; 30] = [
+    let over_genesis: [Row<'_>; 32] = [
         // At the anchor's height the digest decides.
         (Call::Verify(GENESIS, None), &[valid(0)]),
         (Call::Verify(NOUGHT, None), &[invalid(1)]),
@@ -64,10 +64,10 @@ fn requests_are_judged(rt: HostRuntime) -> Result<(), Fail> {
         (Call::Turn(0), &[]),
         (Call::Turn(0), &[kept(0), runs(1, B)]),
         (Call::Turn(1), &[kept(1), valid(2)]),
-        // A cached block is valid.
+        // A cached block is valid, whatever its ancestry says.
         (Call::Verify(A, None), &[valid(3)]),
-        // A parent of another digest makes a block false: in the ancestry, fetched, or further down.
         (Call::Verify(B, Some(GENESIS)), &[valid(4)]),
+        // A parent of another digest makes a block false: in the ancestry, fetched, or further down.
         (Call::Verify(C, Some(A)), &[invalid(5)]),
         (Call::Verify(C, None), &[Told::Asked(2, 6, B)]),
         (Call::Fetched(2, Some(A)), &[invalid(6)]),
@@ -83,7 +83,7 @@ fn requests_are_judged(rt: HostRuntime) -> Result<(), Fail> {
         (Call::Verify(FAR, Some(A)), &[runs(2, FAR)]),
         (Call::Turn(2), &[kept(2), valid(9)]),
         // An answer with none leaves a verification waiting, and what comes later under its number is nothing. What it needs
-        // is found anew once all others go on.
+        // is found anew at the next resume.
         (Call::Verify(C, None), &[Told::Asked(5, 10, B)]),
         (Call::Fetched(5, None), &[]),
         (Call::Fetched(5, Some(B)), &[]),
@@ -99,6 +99,11 @@ fn requests_are_judged(rt: HostRuntime) -> Result<(), Fail> {
             &[Told::Asked(7, 12, RIVAL)],
         ),
         (Call::Fetched(7, None), &[Told::Declined(12)]),
+        (
+            Call::Propose(AFTER_RIVAL, proposed(4, C)),
+            &[Told::Asked(8, 13, RIVAL)],
+        ),
+        (Call::Fetched(8, Some(A)), &[Told::Declined(13)]),
     ];
     play(&rt, rt.alloc(), &over_genesis)?;
     let over_b: [Row<'_>; 14] = [
@@ -115,7 +120,7 @@ fn requests_are_judged(rt: HostRuntime) -> Result<(), Fail> {
             Call::Propose(AFTER_RIVAL, proposed(4, C)),
             &[Told::Declined(4)],
         ),
-        // A proposal recovers its parent.
+        // A proposal's parent is run, and where its run ends badly the proposal is declined.
         (Call::Propose(C, proposed(4, C)), &[Told::Asked(0, 5, B)]),
         (Call::Ready, &[Told::NoneReady]),
         (Call::Fetched(0, Some(B)), &[runs(0, C)]),
@@ -428,7 +433,7 @@ fn blocks_are_built(rt: HostRuntime) -> Result<(), Fail> {
 
 #[test]
 fn runs_cross_a_pause(rt: HostRuntime) -> Result<(), Fail> {
-    let over_a: [Row<'_>; 33] = [
+    let over_a: [Row<'_>; 35] = [
         (Call::Propose(GENESIS, proposed(1, A)), &[]),
         (Call::Build(0), &[Told::Job(0)]),
         (
@@ -446,7 +451,8 @@ fn runs_cross_a_pause(rt: HostRuntime) -> Result<(), Fail> {
             Call::Propose(AFTER_FAR, proposed(7, A)),
             &[Told::Asked(3, 6, FAR)],
         ),
-        // The fetches are withdrawn. A run of a block that descends from the finalized one isn't awaited, and another is.
+        (Call::Verify(EMPTY, Some(A)), &[runs(3, EMPTY)]),
+        // The fetches are withdrawn. Runs of blocks that descend from the finalized one aren't awaited, and another is.
         (Call::Begin(A), &[]),
         (
             Call::Pause(Some(A)),
@@ -457,19 +463,21 @@ fn runs_cross_a_pause(rt: HostRuntime) -> Result<(), Fail> {
         // The requests of the other block become false, though its run is kept.
         (Call::Turn(2), &[kept(2), invalid(2)]),
         (Call::IsCached(RIVAL), &[Told::Yes]),
+        // So does the request of a block on it, which would be run otherwise.
+        (Call::Verify(AFTER_RIVAL, Some(RIVAL)), &[invalid(8)]),
         (Call::Awaited, &[Told::Awaits(0)]),
         (Call::Advance(A), &[]),
         (Call::IsCached(RIVAL), &[Told::No]),
         // A run goes on over the finalization. Behind it a block of no later round than the finalized one makes its request
         // false, and one of a later round is run: the block of the run goes on over it from now on.
         (Call::Turn(1), &[kept(1), valid(1), invalid(3)]),
-        (Call::Verify(C, Some(B)), &[runs(3, C)]),
+        (Call::Verify(C, Some(B)), &[runs(4, C)]),
+        // Another one ends badly.
+        (Call::Turn(3), &[Told::Ended(3, How::Rejected), invalid(7)]),
         (Call::Awaited, &[Told::Awaits(0)]),
-        // So does a block that doesn't descend from it.
-        (Call::Verify(AFTER_FAR, Some(C)), &[invalid(8)]),
         (Call::Observe(A), &[Told::No]),
         (Call::DropRoot, &[]),
-        // What other requests need is found anew, by ascending tickets: the one whose fetch was answered with none first.
+        // What other requests need is found anew, by ascending tickets.
         (
             Call::Resume,
             &[
@@ -479,14 +487,14 @@ fn runs_cross_a_pause(rt: HostRuntime) -> Result<(), Fail> {
             ],
         ),
         (Call::Fetched(4, Some(B)), &[]),
-        (Call::Turn(3), &[kept(3), valid(4), valid(7)]),
+        (Call::Turn(4), &[kept(4), valid(4), valid(9)]),
         (Call::Fetched(5, Some(B)), &[valid(5)]),
         (Call::Cancel(6), &[Told::Withdrawn(6)]),
         (Call::IsIdle, &[Told::Yes]),
-        (Call::Numbers, &[Told::AreNext(4, 7)]),
+        (Call::Numbers, &[Told::AreNext(5, 7)]),
     ];
     play(&rt, rt.alloc(), &over_a)?;
-    let joined: [Row<'_>; 18] = [
+    let joined: [Row<'_>; 20] = [
         (Call::Verify(A, Some(GENESIS)), &[runs(0, A)]),
         (Call::Verify(B, Some(A)), &[Told::Asked(0, 1, GENESIS)]),
         (Call::Fetched(0, Some(GENESIS)), &[]),
@@ -496,12 +504,15 @@ fn runs_cross_a_pause(rt: HostRuntime) -> Result<(), Fail> {
             &[Told::Asked(1, 3, GENESIS)],
         ),
         (Call::Fetched(1, Some(GENESIS)), &[]),
+        (Call::Verify(EARLY, Some(A)), &[Told::Asked(2, 4, GENESIS)]),
+        (Call::Fetched(2, Some(GENESIS)), &[]),
         (Call::Begin(A), &[]),
-        // The finalized block's own run is awaited too. Where it is kept its requests go on.
+        // The finalized block's own run is awaited too. Where it is kept its requests go on, and a block
+        // of no later round makes its request false.
         (Call::Pause(Some(A)), &[Told::Awaits(2)]),
         (Call::Turn(0), &[]),
         (Call::Turn(0), &[]),
-        (Call::Turn(0), &[kept(0), valid(0), runs(2, B)]),
+        (Call::Turn(0), &[kept(0), valid(0), runs(2, B), invalid(4)]),
         (Call::Awaited, &[Told::Awaits(1)]),
         // A run that is given up isn't awaited.
         (Call::Cancel(2), &[]),
