@@ -100,11 +100,7 @@ fn descends<U: Drop>(root: Anchor, digests: &BTreeSet<Digest>, entry: &Cached<U>
 
 impl<U: Drop> Cache<U> {
     /// The digests of the root's descendants of later rounds.
-    pub fn descendants(
-        &self,
-        alloc: Global,
-        root: Anchor,
-    ) -> Result<BTreeSet<Digest>, OutOfMemory>
+    pub fn descendants(&self, alloc: Global, root: Anchor) -> Result<BTreeSet<Digest>, OutOfMemory>
         ensures { IfOk result (λ digests. AreDescendants root self.now (keys digests)) }
     {
         let mut digests = BTreeSet::new(alloc);

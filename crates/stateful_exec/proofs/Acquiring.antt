@@ -7,9 +7,9 @@ use Rattle.stateful_history.specs.declared.mark.Mark.{Mark}
 use Rattle.stateful_history.specs.declared.mark.Mark.TheVariants as mark
 use Rattle.stateful_exec.specs.Path.{Path}
 use Rattle.stateful_exec.specs.Workings.{Workings}
-use Rattle.stateful_exec.specs.Moments.{Moment, moment, Becomes}
+use Rattle.stateful_exec.specs.Moments.{Moment, moment}
 use Rattle.stateful_exec.specs.Starting.{IsLeft}
-use Rattle.stateful_exec.specs.Rules.{requested, moved, Needs, Advances, Acquires, asks, runs}
+use Rattle.stateful_exec.specs.Rules.{moved, Needs, Acquires, asks}
 use Rattle.stateful_exec.specs.Causes.{FaultsAdvance, FaultsAcquire, memory, no_fetch, running}
 use Rattle.stateful_exec.specs.declared.error.ExecError.{ExecError}
 use Rattle.stateful_exec.specs.declared.error.ExecError.TheVariants.{OutOfMemory, Exhausted}

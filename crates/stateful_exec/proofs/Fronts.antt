@@ -1,10 +1,6 @@
 -- Finalizations that go on: their runs, their hooks and their batches.
-use Rattle.std.proofs.Common.{◌≡◌, ◌≢◌, ◌↔◌, ◌⊎◌, inl, inr, ℕ, Bool, true, false, is_some, Option, Some, None, IfNone, MatchOption, Result, Ok, Err, OnOk, IfErr, IfOk, IsErrOf, List, All, Contains, refl, sym, ◌∙◌, ap, subst}
-use Rattle.stateful_types.specs.Names.{Named}
+use Rattle.std.proofs.Common.{◌≡◌, ◌≢◌, ◌↔◌, ◌⊎◌, inl, inr, Bool, true, false, is_some, Option, Some, None, IfNone, MatchOption, List, All, refl, sym, ◌∙◌, ap, subst}
 use Rattle.stateful_types.specs.declared.digest.Digest.{Digest}
-use Rattle.stateful_types.specs.declared.outcome.Moved.{Moved}
-use Rattle.stateful_db.specs.declared.application.AppFault.{AppFault}
-use Rattle.stateful_history.specs.declared.mark.Mark.{Mark}
 use Rattle.stateful_types.specs.declared.anchor.Anchor.{Anchor}
 use Rattle.stateful_cache.specs.Cut.{IsRootOf}
 use Rattle.stateful_cache.specs.declared.cache.Cached.{Cached}

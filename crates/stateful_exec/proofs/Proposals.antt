@@ -1,13 +1,13 @@
 -- How builds are started.
-use Rattle.std.proofs.Common.{◌≡◌, ◌⊎◌, ◌+◌, ◌∷◌, ℕ, List, Option, Some, None, Result, IfErr, IsErrAnd, refl, sym, ap, ◌∙◌, subst, inl, inr}
+use Rattle.std.proofs.Common.{◌≡◌, ◌⊎◌, ◌+◌, ℕ, List, Option, Some, None, Result, IfErr, IsErrAnd, refl, sym, ap, ◌∙◌, subst, inl, inr}
 use Rattle.std.proofs.lemmas.Result.{err_from_is_err_and}
 use Rattle.stateful_types.specs.Names.{Named}
 use Rattle.stateful_table.specs.Table.{at, without}
 use Rattle.stateful_exec.specs.Workings.{Workings, Point}
 use Rattle.stateful_exec.specs.Starting.{IsLeft, IsOver}
 use Rattle.stateful_exec.specs.Rules.{Knows}
-use Rattle.stateful_exec.specs.Causes.{FaultsBatches, FaultsStart}
-use Rattle.stateful_exec.specs.Building.{unqueued, IsReady, Unqueues, IsNewBuild, Proposes, FaultsPropose, starts, declines, memory, starting}
+use Rattle.stateful_exec.specs.Causes.{FaultsStart}
+use Rattle.stateful_exec.specs.Building.{IsReady, Unqueues, IsNewBuild, Proposes, FaultsPropose, starts, declines, memory, starting}
 use Rattle.stateful_exec.specs.Building.Unqueues.{ready, declined}
 use Rattle.stateful_exec.specs.declared.building.Building.{Building}
 use Rattle.stateful_exec.specs.declared.building.BuildStart.TheVariants.{Started, Declined}

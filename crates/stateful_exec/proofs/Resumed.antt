@@ -1,12 +1,12 @@
 -- What goes on behind a pause, from the parts of a resume.
-use Rattle.std.proofs.Common.{◌≡◌, ℕ, Option, List, sym, ◌∙◌, ap, subst}
+use Rattle.std.proofs.Common.{◌≡◌, ℕ, Option, List, ◌∙◌, ap, subst}
 use Rattle.stateful_types.specs.Names.{Named}
 use Rattle.stateful_history.specs.declared.mark.Mark.{Mark}
 use Rattle.stateful_exec.specs.Workings.{Workings}
 use Rattle.stateful_exec.specs.Moments.{Moment, moment}
 use Rattle.stateful_exec.specs.Phase.{parked_in, not_parked, unacquired_in, not_unacquired}
 use Rattle.stateful_exec.specs.Ending.{InTurn, StopsAt}
-use Rattle.stateful_exec.specs.Pausing.{GoesAlong, AcquiresAnew, Resumes, FaultsAlong, FaultsAnew, FaultsResume, anew, unparked, unsettled}
+use Rattle.stateful_exec.specs.Pausing.{GoesAlong, AcquiresAnew, Resumes, FaultsAnew, FaultsResume, anew, unparked, unsettled}
 use Rattle.stateful_exec.specs.declared.error.ExecError.{ExecError}
 use Rattle.stateful_exec.specs.declared.pause.Pause.TheVariants.{Free}
 use Rattle.stateful_exec.specs.declared.state.Tables.{Tables}

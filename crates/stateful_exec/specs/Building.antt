@@ -1,6 +1,5 @@
 -- The start of a build.
-use Rattle.std.specs.Prelude.{◌≡◌, ◌+◌, ◌∷◌, ℕ, Option, Some, None, List, MatchOption}
-use Rattle.stateful_types.specs.declared.digest.Digest.{Digest}
+use Rattle.std.specs.Prelude.{◌≡◌, ◌+◌, ℕ, Option, Some, None, List}
 use Rattle.stateful_db.specs.Works.{Asked, asked_for, build_of}
 use Rattle.stateful_table.specs.Table.{at, without}
 use Rattle.stateful_exec.specs.Workings.{Workings, Point}

@@ -1,5 +1,5 @@
 -- Answers of fetches, and cancels.
-use Rattle.std.specs.Prelude.{◌≡◌, ◌≢◌, ◌==◌, not, ◌++◌, ◌∷◌, [], ℕ, Option, Some, None, IsSome, List, Any, filter}
+use Rattle.std.specs.Prelude.{◌≡◌, ◌≢◌, ◌==◌, not, ◌++◌, ◌∷◌, [], ℕ, Option, Some, None, List, Any, filter}
 use Rattle.stateful_types.specs.Names.{Named}
 use Rattle.stateful_history.specs.declared.mark.How.TheVariants.{Cancelled}
 use Rattle.stateful_history.specs.declared.mark.Mark.{Mark}
@@ -18,7 +18,7 @@ use Rattle.stateful_exec.specs.declared.request.Request.TheVariants.{Verify, Rec
 use Rattle.stateful_exec.specs.declared.request.Verdict.TheVariants.{Invalid}
 use Rattle.stateful_exec.specs.declared.state.Tables.{Tables}
 use Rattle.stateful_exec.specs.declared.tables.Phase.{Phase}
-use Rattle.stateful_exec.specs.declared.tables.Phase.TheVariants.{Open, Fetching, Waiting, Executing, Parked}
+use Rattle.stateful_exec.specs.declared.tables.Phase.TheVariants.{Fetching, Waiting, Executing}
 use Rattle.stateful_exec.specs.declared.tables.Requested.{Requested}
 
 abbrev pub IsVerification : {B C I : Type 0} → Request B C I → Type 0

@@ -35,7 +35,7 @@ use Rattle.stateful_exec.specs.declared.error.ExecError.TheVariants.{ConflictAtA
 use Rattle.stateful_exec.specs.declared.error.ProposalFault.TheVariants.{Targets}
 use Rattle.stateful_exec.specs.declared.front.Front.{Front}
 use Rattle.stateful_exec.specs.declared.front.Stage.{Stage}
-use Rattle.stateful_exec.specs.declared.front.Stage.TheVariants.{Begun, Running, Ran, Advanced, Hooking}
+use Rattle.stateful_exec.specs.declared.front.Stage.TheVariants.{Running, Ran, Advanced, Hooking}
 use Rattle.stateful_exec.specs.declared.state.Tables.{Tables}
 
 module _ {B : Type 0} (header : Header B) (anchor : Anchor) (b : Named B) where

@@ -1,5 +1,5 @@
 -- Pauses for a finalization or a prune, and what resumes behind them.
-use Rattle.std.specs.Prelude.{◌≡◌, ◌↔◌, ◌⊎◌, ◌+◌, ◌++◌, ◌∷◌, [], ℕ, true, Option, Some, None, List, map, Contains}
+use Rattle.std.specs.Prelude.{◌≡◌, ◌↔◌, ◌+◌, ◌∷◌, [], ℕ, Option, Some, None, List, map, Contains}
 use Rattle.std.specs.List.Sorted.{IsStrictlySortedBy}
 use Rattle.std.specs.Ordering.{nat_cmp}
 use Rattle.stateful_types.specs.Names.{Header, Named}

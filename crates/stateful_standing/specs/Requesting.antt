@@ -1,5 +1,8 @@
 -- Requests stand for a past, each in its phase.
 use Rattle.std.specs.Prelude.{◌≡◌, ◌≢◌, ◌++◌, ℕ, true, Option, Some, IsSome, List, [], ◌∷◌, All, MatchOption}
+use Rattle.std.specs.List.Sorted.{IsStrictlySortedBy}
+use Rattle.std.specs.Map.{keys_of}
+use Rattle.std.specs.Ordering.{nat_cmp}
 use Rattle.stateful_types.specs.Names.{Header, Named}
 use Rattle.stateful_history.specs.Past.{Past}
 use Rattle.stateful_history.specs.Met.{Met}
@@ -66,8 +69,10 @@ module _ {B C I P R D H G U : Type 0} (w : Workings B C I P R D H G U) (stored :
       pub met : All (Met (setting w stored) p) r.acquired
       pub phase : IsInPhase t r.request r.phase
 
-    -- Each request stands so; each live fetch for a ticket is one of theirs; and each live run has a request that waits for it.
+    -- Each request stands so, by ascending tickets; each live fetch for a ticket is one of theirs; and each live run has a
+    -- request that waits for it.
     pub record RequestsStand (requests : List (ℕ × Requested B C I)) : Type 0 where
+      pub ascending : IsStrictlySortedBy nat_cmp (keys_of requests)
       pub each : All (λ e. IsStanding e.0 e.1) requests
       pub fetches : (f t : ℕ) → live_fetch f p ≡ true → asked_for f p ≡ Some (Some t) → MatchOption (at requests t) ⊥ (λ r. r.phase ≡ Fetching f)
       pub wanted : (j : ℕ) → IsSome (at runs j) → tickets_on j requests ≢ []

@@ -1,1 +1,2 @@
 //! What the tables of execution stand for, over a past. Definitions and their lemmas alone.
+#![tactic(auto)]

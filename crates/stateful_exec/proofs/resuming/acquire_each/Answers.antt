@@ -1,4 +1,4 @@
-use Rattle.std.proofs.Common.{◌∙◌, refl, arith, subst, sym}
+use Rattle.std.proofs.Common.{◌∙◌, refl, arith}
 use Rattle.stateful_types.specs.Causes.{Rose}
 use Rattle.stateful_exec.specs.Workings.{workings}
 use Rattle.stateful_exec.specs.Pausing.{AcquiresAnew, FaultsAnew}

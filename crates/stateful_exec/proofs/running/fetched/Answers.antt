@@ -1,5 +1,3 @@
-use Rattle.std.proofs.Common.{◌≡◌}
-use Rattle.stateful_types.specs.Causes.{Rose}
 use Rattle.stateful_exec.specs.Workings.{workings}
 use Rattle.stateful_exec.specs.Moments.{moment}
 use Rattle.stateful_exec.proofs.Answering.{answered, refused, unanswered}

@@ -2,7 +2,7 @@ use Rattle.std.proofs.Common.{ℕ, ◌<◌, ◌^◌, List, length, subst, ◌∙
 use Rattle.stateful_exec.specs.Pausing.{IsAwaited}
 use Rattle.stateful_exec.specs.declared.tables.LiveRun.{LiveRun}
 use Rattle.stateful_exec.proofs.Walking.{refused}
-use Rattle.stateful_exec.proofs.Pauses.{Counts-first, Counts-one, Counts-other, Counts-room, Counts-all}
+use Rattle.stateful_exec.proofs.Pauses.{Counts-first, Counts-one, Counts-other, Counts-all}
 use Rattle.stateful_exec.proofs.state.Tables.awaited.Goals as goal
 
 pub loop-run-init : goal.loop-run-init

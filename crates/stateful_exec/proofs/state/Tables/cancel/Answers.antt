@@ -1,4 +1,4 @@
-use Rattle.std.proofs.Common.{rules, ◌≡◌, ◌∙◌, sym, refl}
+use Rattle.std.proofs.Common.{rules, ◌∙◌, sym, refl}
 use Rattle.stateful_exec.proofs.Cancelling.{unqueue, withdrawn, was_idle, is_idle, run_left}
 use Rattle.stateful_exec.proofs.state.Tables.cancel.Goals as goal
 

@@ -1,6 +1,5 @@
 use Rattle.std.proofs.Common.{◌∙◌}
 use Rattle.std.specs.BTreeSet.{keys}
-use Rattle.stateful_exec.proofs.Fronts.{at_none}
 use Rattle.stateful_exec.proofs.Pauses.{Collects-first, Collects-none, Collects-one, Collects-all, finds_more}
 use Rattle.stateful_exec.proofs.state.Tables.live_fetches.Goals as goal
 

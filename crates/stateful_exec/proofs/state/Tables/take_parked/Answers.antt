@@ -1,4 +1,4 @@
-use Rattle.std.proofs.Common.{◌≡◌, ◌++◌, ◌∷◌, [], ℕ, is_none, refl, sym, ap, subst, ◌∙◌, List}
+use Rattle.std.proofs.Common.{◌++◌, ◌∷◌, [], ℕ, is_none, ap, subst, ◌∙◌, List}
 use Rattle.std.specs.Ordering.{nat_cmp}
 use Rattle.std.specs.Map.{keys_of}
 use Rattle.std.specs.List.Sorted.{IsStrictlySortedBy}
@@ -7,7 +7,7 @@ use Rattle.stateful_exec.specs.Phase.{parked_path, parked_in, not_parked}
 use Rattle.stateful_exec.specs.declared.state.Tables.{Tables}
 use Rattle.stateful_exec.specs.declared.tables.Phase.{Phase}
 use Rattle.stateful_exec.specs.declared.tables.Requested.{Requested}
-use Rattle.stateful_exec.proofs.Rebuilding.{Goes, Goes-first, Goes-next, Goes-last, put_back, left_out}
+use Rattle.stateful_exec.proofs.Rebuilding.{Goes-first, Goes-next, Goes-last, put_back, left_out}
 use Rattle.stateful_exec.proofs.Pauses.{same_numbers, rebuilt, parked_more, parked_same}
 use Rattle.stateful_exec.proofs.state.Tables.take_parked.Goals as goal
 

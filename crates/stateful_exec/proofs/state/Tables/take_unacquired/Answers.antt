@@ -1,4 +1,4 @@
-use Rattle.std.proofs.Common.{◌≡◌, ◌++◌, ◌∷◌, [], ℕ, not, refl, sym, ap, subst, ◌∙◌, List}
+use Rattle.std.proofs.Common.{◌++◌, ◌∷◌, [], ℕ, not, sym, ap, subst, ◌∙◌, List}
 use Rattle.std.specs.Ordering.{nat_cmp}
 use Rattle.std.specs.Map.{keys_of}
 use Rattle.std.specs.List.Sorted.{IsStrictlySortedBy}
@@ -6,7 +6,7 @@ use Rattle.stateful_table.specs.Table.{put}
 use Rattle.stateful_exec.specs.declared.state.Tables.{Tables}
 use Rattle.stateful_exec.specs.Phase.{is_unacquired, unacquired_in, not_unacquired}
 use Rattle.stateful_exec.specs.declared.tables.Requested.{Requested}
-use Rattle.stateful_exec.proofs.Rebuilding.{Goes, Goes-first, Goes-next, Goes-last, put_back, left_out, taken_out}
+use Rattle.stateful_exec.proofs.Rebuilding.{Goes-first, Goes-next, Goes-last, put_back, left_out, taken_out}
 use Rattle.stateful_exec.proofs.Pauses.{same_numbers, rebuilt}
 use Rattle.stateful_exec.proofs.state.Tables.take_unacquired.Goals as goal
 
