@@ -1,176 +1,780 @@
-//! Requests over an empty database.
+//! What calls make, as tables: each row is a call with what it makes.
 
-use stateful_bank::{Ask, BankBlock};
-use stateful_db::{Application, DatabaseSet, Held, ProposalKind};
-use stateful_exec::{Handler, Processor, Request};
-use stateful_history::{How, Mark};
-use stateful_plain::{Plain, PlainMedium, PlainState};
-use stateful_plain_bank::Bank;
-use stateful_types::{
-    Ancestry, Anchor, Digest, Digested, Epoch, Handoff, Height, Items, MemoryStore, Round, Share,
-    View,
-};
-use std::alloc::Global;
+mod blocks;
+mod play;
+
+use crate::End;
+use blocks::*;
+use play::{Bid, Call, Row, Told, Why, play};
+use stateful_db::ProposalKind;
+use stateful_history::{Decision, How, JobKind};
+use stateful_types::Handoff;
 use std::test::Fail;
 
-/// What a mark tells, and its number.
-#[derive(Clone, Copy, Debug, PartialEq, Eq)]
-enum Told {
-    Asked(u64),
-    Withdrawn(u64),
-    Started(u64),
-    Cancelled(u64),
-    True(u64),
-    False(u64),
-    Declined(u64),
-    Other,
-}
-
-fn tell(mark: &Mark<BankBlock>) -> Told {
-    match mark {
-        Mark::Asked { fetch, .. } => Told::Asked(*fetch),
-        Mark::Withdrawn { fetch } => Told::Withdrawn(*fetch),
-        Mark::Started { job, .. } => Told::Started(*job),
-        Mark::Ended { job, how } if *how == How::Cancelled => Told::Cancelled(*job),
-        Mark::Verdict { ticket, valid } if *valid => Told::True(*ticket),
-        Mark::Verdict { ticket, .. } => Told::False(*ticket),
-        Mark::Declined { ticket } => Told::Declined(*ticket),
-        _ => Told::Other,
+/// A block is proposed, of this view, in one turn.
+fn proposed(view: u64, given: usize) -> Bid {
+    Bid {
+        kind: ProposalKind::Propose,
+        view,
+        turns: 0,
+        end: End::States,
+        given: Handoff::Vote(given),
     }
 }
 
-/// A block of this height and view on this one.
-fn block(
-    alloc: Global,
-    parent: Digest,
-    height: u64,
-    view: u64,
-) -> Result<Digested<BankBlock>, Fail> {
-    let mut targets = Items::new(alloc);
-    targets.push(PlainState::empty(alloc).target())?;
-    let mut block = BankBlock::genesis(alloc, targets);
-    block.parent = parent;
-    block.height = Height(height);
-    block.round = Round {
-        epoch: Epoch(0),
-        view: View(view),
-    };
-    Ok(Digested::compute(alloc, block)?)
-}
-
-fn ancestry(
-    alloc: Global,
-    first: &Digested<BankBlock>,
-    parent: Option<&Digested<BankBlock>>,
-) -> Result<Ancestry<BankBlock>, Fail> {
-    let mut rest = Items::new(alloc);
-    if let Some(parent) = parent {
-        rest.push(parent.share()?)?;
+/// A block is prepared, of this view, in one turn.
+fn prepared(view: u64, given: Handoff<usize>) -> Bid {
+    Bid {
+        kind: ProposalKind::Prepare,
+        view,
+        turns: 0,
+        end: End::States,
+        given,
     }
-    Ok(Ancestry {
-        first: first.share()?,
-        rest,
-    })
 }
 
-/// What is asked of requests, one after another.
-#[derive(Clone, Copy)]
-enum Call {
-    /// A verification of the block of this place, with the one of the other place as its parent.
-    Verify(usize, Option<usize>),
-    /// A proposal on the block of this place.
-    Propose(usize),
-    /// A fetch is answered with the block of this place.
-    Fetched(u64, Option<usize>),
-    Cancel(u64),
+fn runs(job: u64, place: usize) -> Told {
+    Told::Started(job, JobKind::Candidate, place)
+}
+
+fn kept(job: u64) -> Told {
+    Told::Ended(job, How::Kept)
+}
+
+fn valid(ticket: u64) -> Told {
+    Told::Verdict(ticket, true)
+}
+
+fn invalid(ticket: u64) -> Told {
+    Told::Verdict(ticket, false)
 }
 
 #[test]
-fn requests_are_served(rt: HostRuntime) -> Result<(), Fail> {
-    let alloc = rt.alloc();
-    let genesis = block(alloc, Digest([0; 32]), 0, 0)?;
-    let a = block(alloc, genesis.digest(), 1, 1)?;
-    let far = block(alloc, a.digest(), 5, 3)?;
-    let child = block(alloc, far.digest(), 6, 4)?;
-    let b = block(alloc, a.digest(), 2, 2)?;
-    let anchor = Anchor::from_block(&genesis);
-    let blocks = [genesis, a, far, child, b];
-
-    let calls: [(Call, &[Told]); 14] = [
-        // The parent of the ancestor `far` isn't one lower, so that its child is false.
-        (Call::Verify(3, Some(2)), &[Told::Asked(0)]),
-        (Call::Fetched(0, Some(1)), &[Told::False(0)]),
-        // A second request of a block joins its run. The last that gives it up ends it.
-        (Call::Verify(1, Some(0)), &[Told::Started(0)]),
-        (Call::Verify(1, None), &[Told::Asked(1)]),
-        (Call::Fetched(1, Some(0)), &[]),
-        (Call::Cancel(1), &[]),
-        (Call::Cancel(2), &[Told::Cancelled(0)]),
-        // A proposal on an unknown parent recovers it, and ends where nothing is found.
-        (Call::Propose(4), &[Told::Asked(2)]),
-        (Call::Fetched(2, None), &[Told::Declined(3)]),
-        // An answer of a fetch that isn't live any more changes nothing.
-        (Call::Fetched(2, None), &[]),
-        // A verification without an answer waits, and a fetch is given up with its request.
-        (Call::Verify(4, None), &[Told::Asked(3)]),
-        (Call::Cancel(4), &[Told::Withdrawn(3)]),
-        // The anchor is valid, and another block of its height isn't.
-        (Call::Verify(0, None), &[Told::True(5)]),
-        (Call::Propose(0), &[]),
+fn requests_are_judged(rt: HostRuntime) -> Result<(), Fail> {
+    let over_genesis: [Row<'_>; 32] = [
+        // At the anchor's height the digest decides.
+        (Call::Verify(GENESIS, None), &[valid(0)]),
+        (Call::Verify(NOUGHT, None), &[invalid(1)]),
+        // A parent that isn't at hand is asked for, and the parent's too, until one is known. What was fetched is run oldest
+        // first, and the block itself last.
+        (Call::Verify(B, None), &[Told::Asked(0, 2, A)]),
+        (Call::Fetched(0, Some(A)), &[Told::Asked(1, 2, GENESIS)]),
+        (Call::Fetched(1, Some(GENESIS)), &[runs(0, A)]),
+        (Call::Turn(0), &[]),
+        (Call::Turn(0), &[]),
+        (Call::Turn(0), &[kept(0), runs(1, B)]),
+        (Call::Turn(1), &[kept(1), valid(2)]),
+        // A cached block is valid, whatever its ancestry says.
+        (Call::Verify(A, None), &[valid(3)]),
+        (Call::Verify(B, Some(GENESIS)), &[valid(4)]),
+        // A parent of another digest makes a block false: in the ancestry, fetched, or further down.
+        (Call::Verify(C, Some(A)), &[invalid(5)]),
+        (Call::Verify(C, None), &[Told::Asked(2, 6, B)]),
+        (Call::Fetched(2, Some(A)), &[invalid(6)]),
+        (
+            Call::Verify(AFTER_RIVAL, Some(RIVAL)),
+            &[Told::Asked(3, 7, GENESIS)],
+        ),
+        (Call::Fetched(3, Some(A)), &[invalid(7)]),
+        // So does a parent's parent that isn't one lower.
+        (Call::Verify(AFTER_FAR, Some(FAR)), &[Told::Asked(4, 8, A)]),
+        (Call::Fetched(4, Some(A)), &[invalid(8)]),
+        // The block's own height isn't compared with its parent's.
+        (Call::Verify(FAR, Some(A)), &[runs(2, FAR)]),
+        (Call::Turn(2), &[kept(2), valid(9)]),
+        // An answer with none leaves a verification waiting, and what comes later under its number is nothing. What it needs
+        // is found anew at the next resume.
+        (Call::Verify(C, None), &[Told::Asked(5, 10, B)]),
+        (Call::Fetched(5, None), &[]),
+        (Call::Fetched(5, Some(B)), &[]),
+        (Call::Resume, &[Told::Asked(6, 10, B)]),
+        (Call::Fetched(6, Some(B)), &[runs(3, C)]),
+        (Call::Turn(3), &[kept(3), valid(10)]),
+        // A proposal on a known block is ready for its build. One on another block is declined where no parent is found, or
+        // where another one comes.
+        (Call::Propose(A, proposed(2, B)), &[]),
+        (Call::Ready, &[Told::Ready(11)]),
+        (
+            Call::Propose(AFTER_RIVAL, proposed(4, C)),
+            &[Told::Asked(7, 12, RIVAL)],
+        ),
+        (Call::Fetched(7, None), &[Told::Declined(12)]),
+        (
+            Call::Propose(AFTER_RIVAL, proposed(4, C)),
+            &[Told::Asked(8, 13, RIVAL)],
+        ),
+        (Call::Fetched(8, Some(A)), &[Told::Declined(13)]),
     ];
+    play(&rt, rt.alloc(), &over_genesis)?;
+    let over_b: [Row<'_>; 14] = [
+        (Call::Reopen(B, 0, 0), &[]),
+        // Below the anchor's height the store decides. Where it has no block there the request waits.
+        (Call::Verify(A, None), &[]),
+        (Call::Store(A), &[]),
+        (Call::Verify(RIVAL, None), &[invalid(1)]),
+        (Call::Verify(A, Some(GENESIS)), &[valid(2)]),
+        (Call::Resume, &[valid(0)]),
+        // An unknown block no higher than the anchor is no parent, and nothing is built on it.
+        (Call::Verify(AFTER_EMPTY, Some(EMPTY)), &[invalid(3)]),
+        (
+            Call::Propose(AFTER_RIVAL, proposed(4, C)),
+            &[Told::Declined(4)],
+        ),
+        // A proposal's parent is run, and where its run ends badly the proposal is declined.
+        (Call::Propose(C, proposed(4, C)), &[Told::Asked(0, 5, B)]),
+        (Call::Ready, &[Told::NoneReady]),
+        (Call::Fetched(0, Some(B)), &[runs(0, C)]),
+        (
+            Call::Settle(0),
+            &[Told::Ended(0, How::Rejected), Told::Declined(5)],
+        ),
+        (Call::Ready, &[Told::NoneReady]),
+        (Call::Numbers, &[Told::AreNext(1, 1)]),
+    ];
+    play(&rt, rt.alloc(), &over_b)
+}
 
-    let store = MemoryStore::new(alloc);
-    let mut databases = Held::<Plain>::Closed(PlainMedium::empty(alloc, Vec::new(alloc)));
-    databases.init(&(), None).ok().ok_or("it opens")?;
-    let processor = Processor::new(alloc, Bank::new(alloc), anchor)?;
-    let mut handler = Handler::<Bank>::new(processor)?;
-    let mut tickets = 0;
-    for (call, expected) in calls {
-        let mut marks = Vec::new(alloc);
-        match call {
-            Call::Verify(first, parent) => {
-                let parent = parent.map(|place| &blocks[place]);
-                let ancestry = ancestry(alloc, &blocks[first], parent)?;
-                let ticket = tickets;
-                tickets += 1;
-                let request = Request::Verify { ticket, ancestry };
-                let scheduled = handler.schedule(&mut databases, &store, request, &mut marks);
-                assert!(rt; scheduled.is_ok());
-            }
-            Call::Propose(parent) => {
-                let request = Request::Recover {
-                    ticket: tickets,
-                    context: blocks[4].round(),
-                    ancestry: ancestry(alloc, &blocks[parent], None)?,
-                    input: Ask {
-                        decision: Handoff::Wait,
-                        ops: Items::new(alloc),
-                    },
-                    kind: ProposalKind::Propose,
-                };
-                tickets += 1;
-                let scheduled = handler.schedule(&mut databases, &store, request, &mut marks);
-                assert!(rt; scheduled.is_ok());
-            }
-            Call::Fetched(fetch, place) => {
-                let answer = match place {
-                    Some(place) => Some(blocks[place].share()?),
-                    None => None,
-                };
-                let fetched = handler.fetched(&mut databases, &store, fetch, answer, &mut marks);
-                assert!(rt; fetched.is_ok());
-            }
-            Call::Cancel(ticket) => handler.cancel(ticket, &mut marks)?,
-        }
-        let mut found = Vec::new(alloc);
-        for mark in &marks {
-            found.push(tell(mark))?;
-        }
-        assert_eq!(rt; found.as_slice(), expected);
+#[test]
+fn requests_share_runs(rt: HostRuntime) -> Result<(), Fail> {
+    let good: [Row<'_>; 19] = [
+        // Requests of a block, and of blocks on it, share its run.
+        (Call::Verify(A, Some(GENESIS)), &[runs(0, A)]),
+        (Call::Verify(B, Some(A)), &[Told::Asked(0, 1, GENESIS)]),
+        (Call::Fetched(0, Some(GENESIS)), &[]),
+        (
+            Call::Propose(A, proposed(2, B)),
+            &[Told::Asked(1, 2, GENESIS)],
+        ),
+        (Call::Fetched(1, Some(GENESIS)), &[]),
+        (Call::Verify(A, Some(GENESIS)), &[]),
+        (Call::IsIdle, &[Told::No]),
+        // They go on by ascending tickets.
+        (Call::Turn(0), &[]),
+        (Call::Turn(0), &[]),
+        (Call::Turn(0), &[kept(0), valid(0), runs(1, B), valid(3)]),
+        (Call::Ready, &[Told::Ready(2)]),
+        (Call::IsCached(A), &[Told::Yes]),
+        (Call::IsCached(B), &[Told::No]),
+        (Call::Turn(1), &[kept(1), valid(1)]),
+        // A job that isn't live has no turn.
+        (Call::Turn(1), &[]),
+        (Call::Settle(1), &[]),
+        (Call::Turn(7), &[]),
+        (Call::IsIdle, &[Told::Yes]),
+        (Call::Numbers, &[Told::AreNext(2, 2)]),
+    ];
+    play(&rt, rt.alloc(), &good)?;
+    let bad: [Row<'_>; 20] = [
+        (Call::Propose(GENESIS, proposed(1, A)), &[]),
+        (Call::Build(0), &[Told::Job(0)]),
+        (
+            Call::TurnBuild(0),
+            &[Told::Built(0, 0, A), Told::Answered(0, Decision::Block, A)],
+        ),
+        // A run without states fails all that wait for it.
+        (Call::Verify(EMPTY, Some(A)), &[runs(1, EMPTY)]),
+        (
+            Call::Verify(AFTER_EMPTY, Some(EMPTY)),
+            &[Told::Asked(0, 2, A)],
+        ),
+        (Call::Fetched(0, Some(A)), &[]),
+        (
+            Call::Propose(EMPTY, proposed(3, AFTER_EMPTY)),
+            &[Told::Asked(1, 3, A)],
+        ),
+        (Call::Fetched(1, Some(A)), &[]),
+        (
+            Call::Turn(1),
+            &[
+                Told::Ended(1, How::Rejected),
+                invalid(1),
+                invalid(2),
+                Told::Declined(3),
+            ],
+        ),
+        (Call::IsCached(EMPTY), &[Told::No]),
+        // So does one with another target, and one of a block that isn't later than the anchor.
+        (Call::Verify(ASKEW, Some(A)), &[runs(2, ASKEW)]),
+        (
+            Call::Turn(2),
+            &[Told::Ended(2, How::Mismatched), invalid(4)],
+        ),
+        (Call::Verify(EARLY, Some(A)), &[runs(3, EARLY)]),
+        (Call::Turn(3), &[Told::Ended(3, How::Missed), invalid(5)]),
+        // A block that ended badly is run again.
+        (Call::Verify(EMPTY, Some(A)), &[runs(4, EMPTY)]),
+        (Call::Turn(4), &[Told::Ended(4, How::Rejected), invalid(6)]),
+        // A run that fails.
+        (Call::Verify(BROKEN, Some(GENESIS)), &[runs(5, BROKEN)]),
+        (Call::Turn(5), &[]),
+        (Call::IsIdle, &[Told::No]),
+        (Call::Turn(5), &[Told::Refused(Why::Application)]),
+    ];
+    play(&rt, rt.alloc(), &bad)?;
+    let built_meanwhile: [Row<'_>; 11] = [
+        (Call::Propose(GENESIS, proposed(1, A)), &[]),
+        (Call::Build(0), &[Told::Job(0)]),
+        (
+            Call::TurnBuild(0),
+            &[Told::Built(0, 0, A), Told::Answered(0, Decision::Block, A)],
+        ),
+        // A build caches the block of a run that then ends without states: its requests go on all the same.
+        (Call::Verify(HOLLOW, Some(A)), &[runs(1, B)]),
+        (Call::Verify(C, Some(HOLLOW)), &[Told::Asked(0, 2, A)]),
+        (Call::Fetched(0, Some(A)), &[]),
+        (Call::Propose(A, proposed(2, B)), &[]),
+        (Call::Build(3), &[Told::Job(2)]),
+        (
+            Call::TurnBuild(2),
+            &[Told::Built(2, 3, B), Told::Answered(3, Decision::Block, B)],
+        ),
+        (
+            Call::Turn(1),
+            &[Told::Ended(1, How::Rejected), valid(1), runs(3, C)],
+        ),
+        (Call::Turn(3), &[kept(3), valid(2)]),
+    ];
+    play(&rt, rt.alloc(), &built_meanwhile)?;
+    let changed: [Row<'_>; 8] = [
+        (Call::Propose(GENESIS, proposed(1, A)), &[]),
+        (Call::Build(0), &[Told::Job(0)]),
+        (
+            Call::TurnBuild(0),
+            &[Told::Built(0, 0, A), Told::Answered(0, Decision::Block, A)],
+        ),
+        // A build caches another block of the digest of a run.
+        (Call::Verify(TWIN, Some(A)), &[runs(1, B)]),
+        (Call::Propose(A, proposed(2, B)), &[]),
+        (Call::Build(2), &[Told::Job(2)]),
+        (
+            Call::TurnBuild(2),
+            &[Told::Built(2, 2, B), Told::Answered(2, Decision::Block, B)],
+        ),
+        (Call::Turn(1), &[Told::Refused(Why::Changed(2, 7))]),
+    ];
+    play(&rt, rt.alloc(), &changed)?;
+    let run_first: [Row<'_>; 8] = [
+        (Call::Propose(GENESIS, proposed(1, A)), &[]),
+        (Call::Build(0), &[Told::Job(0)]),
+        (
+            Call::TurnBuild(0),
+            &[Told::Built(0, 0, A), Told::Answered(0, Decision::Block, A)],
+        ),
+        // A run caches another block of the digest of a build.
+        (Call::Propose(A, proposed(2, B)), &[]),
+        (Call::Build(1), &[Told::Job(1)]),
+        (Call::Verify(TWIN, Some(A)), &[runs(2, B)]),
+        (Call::Turn(2), &[kept(2), valid(2)]),
+        (Call::TurnBuild(1), &[Told::Refused(Why::Changed(7, 2))]),
+    ];
+    play(&rt, rt.alloc(), &run_first)
+}
+
+#[test]
+fn requests_are_given_up(rt: HostRuntime) -> Result<(), Fail> {
+    let rows: [Row<'_>; 35] = [
+        // A request leaves its run, which goes on for the other one. The last one ends it.
+        (Call::Verify(A, Some(GENESIS)), &[runs(0, A)]),
+        (Call::Verify(A, Some(GENESIS)), &[]),
+        (Call::Cancel(0), &[]),
+        (Call::Turn(0), &[]),
+        (Call::Cancel(1), &[Told::Ended(0, How::Cancelled)]),
+        (Call::Turn(0), &[]),
+        (Call::Cancel(1), &[]),
+        (Call::IsIdle, &[Told::Yes]),
+        // A fetch is withdrawn, and its answer is nothing then.
+        (Call::Verify(A, None), &[Told::Asked(0, 2, GENESIS)]),
+        (Call::Cancel(2), &[Told::Withdrawn(0)]),
+        (Call::Fetched(0, Some(GENESIS)), &[]),
+        // A request that waits is gone.
+        (Call::Verify(A, None), &[Told::Asked(1, 3, GENESIS)]),
+        (Call::Fetched(1, None), &[]),
+        (Call::Cancel(3), &[]),
+        (Call::Resume, &[]),
+        // The block is run anew.
+        (Call::Verify(A, Some(GENESIS)), &[runs(1, A)]),
+        // A build that is queued isn't queued any more, whether it was handed out or not.
+        (Call::Propose(GENESIS, proposed(1, A)), &[]),
+        (Call::Cancel(5), &[]),
+        (Call::Ready, &[Told::NoneReady]),
+        (Call::Build(5), &[Told::NoJob]),
+        (Call::Propose(GENESIS, proposed(1, A)), &[]),
+        (Call::Ready, &[Told::Ready(6)]),
+        (Call::Cancel(6), &[]),
+        (Call::Build(6), &[Told::NoJob]),
+        // A live build ends, and another ticket's isn't touched.
+        (Call::Propose(GENESIS, proposed(1, A)), &[]),
+        (Call::Build(7), &[Told::Job(2)]),
+        (Call::Cancel(6), &[]),
+        (Call::Cancel(7), &[Told::Ended(2, How::Cancelled)]),
+        (Call::TurnBuild(2), &[]),
+        // A proposal that waits for a run leaves it like others.
+        (
+            Call::Propose(A, proposed(2, B)),
+            &[Told::Asked(2, 8, GENESIS)],
+        ),
+        (Call::Fetched(2, Some(GENESIS)), &[]),
+        (Call::Cancel(4), &[]),
+        (Call::IsIdle, &[Told::No]),
+        (Call::Cancel(8), &[Told::Ended(1, How::Cancelled)]),
+        (Call::Numbers, &[Told::AreNext(3, 3)]),
+    ];
+    play(&rt, rt.alloc(), &rows)
+}
+
+#[test]
+fn blocks_are_built(rt: HostRuntime) -> Result<(), Fail> {
+    let slow = Bid {
+        turns: 1,
+        ..proposed(1, A)
+    };
+    let without = Bid {
+        end: End::Nothing,
+        ..proposed(3, C)
+    };
+    let staged = Bid {
+        given: Handoff::Stage(AFTER_RIVAL),
+        ..proposed(3, AFTER_RIVAL)
+    };
+    let good: [Row<'_>; 33] = [
+        // A build takes its turns, and those of another job are none. Its block is cached.
+        (Call::Propose(GENESIS, slow), &[]),
+        (Call::Propose(GENESIS, proposed(2, RIVAL)), &[]),
+        (Call::Ready, &[Told::Ready(0)]),
+        (Call::Build(0), &[Told::Job(0)]),
+        (Call::Build(0), &[Told::NoJob]),
+        (Call::TurnBuild(0), &[]),
+        (Call::TurnBuild(1), &[]),
+        (Call::IsCached(A), &[Told::No]),
+        (
+            Call::TurnBuild(0),
+            &[Told::Built(0, 0, A), Told::Answered(0, Decision::Block, A)],
+        ),
+        (Call::TurnBuild(0), &[]),
+        (Call::IsCached(A), &[Told::Yes]),
+        // Proposals whose parents are known are handed out in the order of their tickets.
+        (Call::Ready, &[Told::Ready(1)]),
+        (Call::Ready, &[Told::NoneReady]),
+        (Call::Build(1), &[Told::Job(1)]),
+        (
+            Call::TurnBuild(1),
+            &[
+                Told::Built(1, 1, RIVAL),
+                Told::Answered(1, Decision::Block, RIVAL),
+            ],
+        ),
+        // One that was to be prepared is answered as it is handed over.
+        (Call::Propose(A, prepared(2, Handoff::Vote(B))), &[]),
+        (Call::Build(2), &[Told::Job(2)]),
+        (
+            Call::TurnBuild(2),
+            &[Told::Built(2, 2, B), Told::Answered(2, Decision::Vote, B)],
+        ),
+        (Call::Propose(B, prepared(3, Handoff::Stage(C))), &[]),
+        (Call::Build(3), &[Told::Job(3)]),
+        (
+            Call::TurnBuild(3),
+            &[Told::Built(3, 3, C), Told::Answered(3, Decision::Stage, C)],
+        ),
+        // One that was to be proposed is answered alike, however it is handed over.
+        (Call::Propose(RIVAL, staged), &[]),
+        (Call::Build(4), &[Told::Job(4)]),
+        (
+            Call::TurnBuild(4),
+            &[
+                Told::Built(4, 4, AFTER_RIVAL),
+                Told::Answered(4, Decision::Block, AFTER_RIVAL),
+            ],
+        ),
+        // Without a block it is declined.
+        (Call::Propose(B, prepared(3, Handoff::Wait)), &[]),
+        (Call::Build(5), &[Told::Job(5)]),
+        (
+            Call::TurnBuild(5),
+            &[Told::Ended(5, How::Nothing), Told::Declined(5)],
+        ),
+        (Call::Propose(B, without), &[]),
+        (Call::Build(6), &[Told::Job(6)]),
+        (
+            Call::TurnBuild(6),
+            &[Told::Ended(6, How::Nothing), Told::Declined(6)],
+        ),
+        // A parent that isn't known any more: no build is started.
+        (Call::Propose(RIVAL, proposed(3, AFTER_RIVAL)), &[]),
+        (Call::Advance(A), &[]),
+        (Call::Build(7), &[Told::NoJob]),
+    ];
+    play(&rt, rt.alloc(), &good)?;
+    let failing = Bid {
+        end: End::Fails,
+        ..proposed(1, A)
+    };
+    let refused = [
+        // Other targets than the block commits to come first, then another parent, then another round.
+        (proposed(9, WRONG), Why::BuiltTargets(0)),
+        (proposed(9, ASKEW), Why::BuiltTargets(0)),
+        (proposed(9, STRAY), Why::BuiltParent(GENESIS, A)),
+        (proposed(9, A), Why::BuiltRound(9, 1)),
+        // It is what was asked for, and not later than the anchor.
+        (proposed(0, STALE), Why::Stale(0, 0)),
+        // The build fails.
+        (failing, Why::Application),
+    ];
+    for (bid, why) in refused {
+        let rows: [Row<'_>; 3] = [
+            (Call::Propose(GENESIS, bid), &[]),
+            (Call::Build(0), &[Told::Job(0)]),
+            (Call::TurnBuild(0), &[Told::Refused(why)]),
+        ];
+        play(&rt, rt.alloc(), &rows)?;
     }
-    // The proposal on the known block is ready for its build, once.
-    assert_eq!(rt; handler.ready(), Some(6));
-    assert_eq!(rt; handler.ready(), None);
-    assert_eq!(rt; handler.numbers(), (1, 4));
     Ok(())
+}
+
+#[test]
+fn runs_cross_a_pause(rt: HostRuntime) -> Result<(), Fail> {
+    let over_a: [Row<'_>; 35] = [
+        (Call::Propose(GENESIS, proposed(1, A)), &[]),
+        (Call::Build(0), &[Told::Job(0)]),
+        (
+            Call::TurnBuild(0),
+            &[Told::Built(0, 0, A), Told::Answered(0, Decision::Block, A)],
+        ),
+        (Call::Verify(B, Some(A)), &[runs(1, B)]),
+        (Call::Verify(RIVAL, Some(GENESIS)), &[runs(2, RIVAL)]),
+        (Call::Verify(LATE, Some(B)), &[Told::Asked(0, 3, A)]),
+        (Call::Fetched(0, Some(A)), &[]),
+        (Call::Verify(C, None), &[Told::Asked(1, 4, B)]),
+        (Call::Verify(C, None), &[Told::Asked(2, 5, B)]),
+        (Call::Fetched(1, None), &[]),
+        (
+            Call::Propose(AFTER_FAR, proposed(7, A)),
+            &[Told::Asked(3, 6, FAR)],
+        ),
+        (Call::Verify(EMPTY, Some(A)), &[runs(3, EMPTY)]),
+        // The fetches are withdrawn. Runs of blocks that descend from the finalized one aren't awaited, and another is.
+        (Call::Begin(A), &[]),
+        (
+            Call::Pause(Some(A)),
+            &[Told::Withdrawn(2), Told::Withdrawn(3), Told::Awaits(1)],
+        ),
+        (Call::Fetched(2, Some(B)), &[]),
+        (Call::Turn(2), &[]),
+        // The requests of the other block become false, though its run is kept.
+        (Call::Turn(2), &[kept(2), invalid(2)]),
+        (Call::IsCached(RIVAL), &[Told::Yes]),
+        // So does the request of a block on it, which would be run otherwise.
+        (Call::Verify(AFTER_RIVAL, Some(RIVAL)), &[invalid(8)]),
+        (Call::Awaited, &[Told::Awaits(0)]),
+        (Call::Advance(A), &[]),
+        (Call::IsCached(RIVAL), &[Told::No]),
+        // A run goes on over the finalization. Behind it a block of no later round than the finalized one makes its request
+        // false, and one of a later round is run: the block of the run goes on over it from now on.
+        (Call::Turn(1), &[kept(1), valid(1), invalid(3)]),
+        (Call::Verify(C, Some(B)), &[runs(4, C)]),
+        // Another one ends badly.
+        (Call::Turn(3), &[Told::Ended(3, How::Rejected), invalid(7)]),
+        (Call::Awaited, &[Told::Awaits(0)]),
+        (Call::Observe(A), &[Told::No]),
+        (Call::DropRoot, &[]),
+        // What other requests need is found anew, by ascending tickets.
+        (
+            Call::Resume,
+            &[
+                Told::Asked(4, 4, B),
+                Told::Asked(5, 5, B),
+                Told::Asked(6, 6, FAR),
+            ],
+        ),
+        (Call::Fetched(4, Some(B)), &[]),
+        (Call::Turn(4), &[kept(4), valid(4), valid(9)]),
+        (Call::Fetched(5, Some(B)), &[valid(5)]),
+        (Call::Cancel(6), &[Told::Withdrawn(6)]),
+        (Call::IsIdle, &[Told::Yes]),
+        (Call::Numbers, &[Told::AreNext(5, 7)]),
+    ];
+    play(&rt, rt.alloc(), &over_a)?;
+    let joined: [Row<'_>; 20] = [
+        (Call::Verify(A, Some(GENESIS)), &[runs(0, A)]),
+        (Call::Verify(B, Some(A)), &[Told::Asked(0, 1, GENESIS)]),
+        (Call::Fetched(0, Some(GENESIS)), &[]),
+        (Call::Verify(RIVAL, Some(GENESIS)), &[runs(1, RIVAL)]),
+        (
+            Call::Verify(AFTER_RIVAL, Some(RIVAL)),
+            &[Told::Asked(1, 3, GENESIS)],
+        ),
+        (Call::Fetched(1, Some(GENESIS)), &[]),
+        (Call::Verify(EARLY, Some(A)), &[Told::Asked(2, 4, GENESIS)]),
+        (Call::Fetched(2, Some(GENESIS)), &[]),
+        (Call::Begin(A), &[]),
+        // The finalized block's own run is awaited too. Where it is kept its requests go on, and a block
+        // of no later round makes its request false.
+        (Call::Pause(Some(A)), &[Told::Awaits(2)]),
+        (Call::Turn(0), &[]),
+        (Call::Turn(0), &[]),
+        (Call::Turn(0), &[kept(0), valid(0), runs(2, B), invalid(4)]),
+        (Call::Awaited, &[Told::Awaits(1)]),
+        // A run that is given up isn't awaited.
+        (Call::Cancel(2), &[]),
+        (Call::Cancel(3), &[Told::Ended(1, How::Cancelled)]),
+        (Call::Awaited, &[Told::Awaits(0)]),
+        (Call::Advance(A), &[]),
+        (Call::Turn(2), &[kept(2), valid(1)]),
+        (Call::Resume, &[]),
+    ];
+    play(&rt, rt.alloc(), &joined)?;
+    let parked: [Row<'_>; 27] = [
+        (Call::Propose(GENESIS, proposed(1, A)), &[]),
+        (Call::Build(0), &[Told::Job(0)]),
+        (
+            Call::TurnBuild(0),
+            &[Told::Built(0, 0, A), Told::Answered(0, Decision::Block, A)],
+        ),
+        (Call::Begin(A), &[]),
+        (Call::Advance(A), &[]),
+        (Call::DropRoot, &[]),
+        (Call::Verify(C, None), &[Told::Asked(0, 1, B)]),
+        (Call::Verify(HOLLOW, Some(A)), &[runs(1, B)]),
+        (Call::Verify(C, Some(HOLLOW)), &[Told::Asked(1, 3, A)]),
+        (Call::Fetched(1, Some(A)), &[]),
+        (Call::Verify(HOLLOW, Some(A)), &[]),
+        (Call::Begin(B), &[]),
+        (Call::Pause(Some(B)), &[Told::Withdrawn(0), Told::Awaits(1)]),
+        // Where it isn't kept its requests are parked, until the finalization is over.
+        (Call::Turn(1), &[Told::Ended(1, How::Rejected)]),
+        (Call::Awaited, &[Told::Awaits(0)]),
+        (
+            Call::RunFinalized(B),
+            &[Told::Started(2, JobKind::Finalized, B)],
+        ),
+        (Call::Turn(2), &[kept(2)]),
+        (Call::Advance(B), &[]),
+        (
+            Call::Observe(B),
+            &[Told::Started(3, JobKind::Hook, B), Told::Yes],
+        ),
+        (Call::TurnHook(3), &[]),
+        (Call::TurnHook(3), &[Told::Ended(3, How::Hooked)]),
+        (Call::DropRoot, &[]),
+        // A parked request can be given up. The others go on by ascending tickets, and behind them those whose needs are
+        // found anew.
+        (Call::Cancel(4), &[]),
+        (Call::Resume, &[valid(2), runs(4, C), Told::Asked(2, 1, B)]),
+        (Call::Fetched(2, Some(B)), &[]),
+        (Call::Turn(4), &[kept(4), valid(1), valid(3)]),
+        (Call::Numbers, &[Told::AreNext(5, 3)]),
+    ];
+    play(&rt, rt.alloc(), &parked)?;
+    let known: [Row<'_>; 14] = [
+        (Call::Propose(GENESIS, proposed(1, A)), &[]),
+        (Call::Build(0), &[Told::Job(0)]),
+        (
+            Call::TurnBuild(0),
+            &[Told::Built(0, 0, A), Told::Answered(0, Decision::Block, A)],
+        ),
+        (Call::Verify(B, Some(A)), &[runs(1, B)]),
+        (Call::Verify(LATE, Some(B)), &[Told::Asked(0, 2, A)]),
+        (Call::Fetched(0, Some(A)), &[]),
+        (Call::Propose(A, proposed(2, B)), &[]),
+        (Call::Build(3), &[Told::Job(2)]),
+        (
+            Call::TurnBuild(2),
+            &[Told::Built(2, 3, B), Told::Answered(3, Decision::Block, B)],
+        ),
+        (Call::Verify(LATE, Some(B)), &[runs(3, LATE)]),
+        (Call::Turn(3), &[kept(3), valid(4)]),
+        (Call::Begin(A), &[]),
+        // A block that is cached, of no later round than the finalized one, makes a request false too.
+        (Call::Pause(Some(A)), &[Told::Awaits(0)]),
+        (Call::Turn(1), &[kept(1), valid(1), invalid(2)]),
+    ];
+    play(&rt, rt.alloc(), &known)?;
+    let pruned: [Row<'_>; 15] = [
+        (Call::Verify(A, Some(GENESIS)), &[runs(0, A)]),
+        (Call::Verify(B, Some(A)), &[Told::Asked(0, 1, GENESIS)]),
+        (Call::Fetched(0, Some(GENESIS)), &[]),
+        (Call::Verify(BAD, Some(GENESIS)), &[runs(1, BAD)]),
+        (Call::Verify(RIVAL, None), &[Told::Asked(1, 3, GENESIS)]),
+        // Before a prune all runs are awaited. Where one ends badly its requests are answered, and else they are parked.
+        (Call::Pause(None), &[Told::Withdrawn(1), Told::Awaits(2)]),
+        (Call::Turn(1), &[]),
+        (Call::Turn(1), &[Told::Ended(1, How::Rejected), invalid(2)]),
+        (Call::Turn(0), &[]),
+        (Call::Turn(0), &[]),
+        (Call::Turn(0), &[kept(0)]),
+        (Call::Awaited, &[Told::Awaits(0)]),
+        (
+            Call::Resume,
+            &[valid(0), runs(2, B), Told::Asked(2, 3, GENESIS)],
+        ),
+        (Call::Turn(2), &[kept(2), valid(1)]),
+        (Call::Fetched(2, Some(GENESIS)), &[runs(3, RIVAL)]),
+    ];
+    play(&rt, rt.alloc(), &pruned)?;
+    let lost: [Row<'_>; 12] = [
+        (Call::Verify(B, Some(A)), &[Told::Asked(0, 0, GENESIS)]),
+        (Call::Fetched(0, Some(GENESIS)), &[runs(0, A)]),
+        (Call::Pause(None), &[Told::Awaits(1)]),
+        (Call::Turn(0), &[]),
+        (Call::Turn(0), &[]),
+        (Call::Turn(0), &[kept(0)]),
+        (
+            Call::RunFinalized(RIVAL),
+            &[Told::Started(1, JobKind::Finalized, RIVAL)],
+        ),
+        (Call::Turn(1), &[]),
+        (Call::Turn(1), &[kept(1)]),
+        (Call::Advance(RIVAL), &[]),
+        (Call::DropRoot, &[]),
+        // The next block of a parked request is on one that isn't known any more.
+        (Call::Resume, &[invalid(0)]),
+    ];
+    play(&rt, rt.alloc(), &lost)
+}
+
+#[test]
+fn blocks_are_finalized(rt: HostRuntime) -> Result<(), Fail> {
+    let rows: [Row<'_>; 40] = [
+        // Which blocks may be final next.
+        (Call::Redelivered(GENESIS), &[Told::Yes]),
+        (Call::Redelivered(A), &[Told::No]),
+        (
+            Call::Redelivered(NOUGHT),
+            &[Told::Refused(Why::Conflict(GENESIS, NOUGHT))],
+        ),
+        (Call::Begin(B), &[Told::Refused(Why::Skipped(1, 2))]),
+        (Call::Begin(FAR), &[Told::Refused(Why::Skipped(1, 5))]),
+        (Call::Begin(STRAY), &[Told::Refused(Why::NotOn(GENESIS, A))]),
+        // A block that isn't cached is run.
+        (Call::Begin(A), &[]),
+        (
+            Call::RunFinalized(A),
+            &[Told::Started(0, JobKind::Finalized, A)],
+        ),
+        (Call::Turn(0), &[]),
+        (Call::Turn(1), &[]),
+        (Call::Turn(0), &[]),
+        (Call::IsIdle, &[Told::Yes]),
+        (Call::Turn(0), &[kept(0)]),
+        (Call::Turn(0), &[]),
+        (Call::Advance(A), &[]),
+        (Call::Observe(A), &[Told::No]),
+        (Call::DropRoot, &[]),
+        (Call::Redelivered(A), &[Told::Yes]),
+        (Call::Redelivered(GENESIS), &[Told::Yes]),
+        (
+            Call::Redelivered(RIVAL),
+            &[Told::Refused(Why::Conflict(A, RIVAL))],
+        ),
+        // The anchor is known: blocks are run on it.
+        (Call::Verify(B, Some(A)), &[runs(1, B)]),
+        (Call::Turn(1), &[kept(1), valid(0)]),
+        (Call::Verify(C, Some(B)), &[runs(2, C)]),
+        (Call::Turn(2), &[kept(2), valid(1)]),
+        // A block that is cached isn't run. What descends from it stays cached.
+        (Call::Begin(B), &[]),
+        (Call::Advance(B), &[]),
+        (Call::IsCached(B), &[Told::No]),
+        (Call::IsCached(C), &[Told::Yes]),
+        // Its hook takes its turns, and those of another job are none.
+        (
+            Call::Observe(B),
+            &[Told::Started(3, JobKind::Hook, B), Told::Yes],
+        ),
+        (Call::TurnHook(3), &[]),
+        (Call::TurnHook(2), &[]),
+        (Call::TurnHook(3), &[Told::Ended(3, How::Hooked)]),
+        (Call::TurnHook(3), &[]),
+        (Call::DropRoot, &[]),
+        (Call::Numbers, &[Told::AreNext(4, 0)]),
+        // Anew over the same block: nothing is cached, and numbers go on from these.
+        (Call::Reopen(B, 10, 20), &[]),
+        (Call::IsCached(C), &[Told::No]),
+        (Call::Verify(C, None), &[Told::Asked(20, 2, B)]),
+        (Call::Fetched(20, Some(B)), &[runs(10, C)]),
+        (Call::Turn(10), &[kept(10), valid(2)]),
+    ];
+    play(&rt, rt.alloc(), &rows)?;
+    let cut: [Row<'_>; 17] = [
+        (Call::Propose(GENESIS, proposed(1, A)), &[]),
+        (Call::Build(0), &[Told::Job(0)]),
+        (
+            Call::TurnBuild(0),
+            &[Told::Built(0, 0, A), Told::Answered(0, Decision::Block, A)],
+        ),
+        (Call::Propose(GENESIS, proposed(2, RIVAL)), &[]),
+        (Call::Build(1), &[Told::Job(1)]),
+        (
+            Call::TurnBuild(1),
+            &[
+                Told::Built(1, 1, RIVAL),
+                Told::Answered(1, Decision::Block, RIVAL),
+            ],
+        ),
+        (Call::Propose(A, proposed(2, B)), &[]),
+        (Call::Build(2), &[Told::Job(2)]),
+        (
+            Call::TurnBuild(2),
+            &[Told::Built(2, 2, B), Told::Answered(2, Decision::Block, B)],
+        ),
+        (Call::Propose(B, proposed(1, LATE)), &[]),
+        (Call::Build(3), &[Told::Job(3)]),
+        (
+            Call::TurnBuild(3),
+            &[
+                Told::Built(3, 3, LATE),
+                Told::Answered(3, Decision::Block, LATE),
+            ],
+        ),
+        // Of the cached blocks those stay that descend from the finalized one in later rounds.
+        (Call::Begin(A), &[]),
+        (Call::Advance(A), &[]),
+        (Call::IsCached(B), &[Told::Yes]),
+        (Call::IsCached(LATE), &[Told::No]),
+        (Call::IsCached(RIVAL), &[Told::No]),
+    ];
+    play(&rt, rt.alloc(), &cut)?;
+    let runs_of = [
+        // A finalized block without states, one of another target, and one whose run fails.
+        (BAD, Why::Rejected(BAD)),
+        (WRONG, Why::Mismatch(0)),
+        (BROKEN, Why::Application),
+    ];
+    for (place, why) in runs_of {
+        let rows: [Row<'_>; 4] = [
+            (Call::Begin(place), &[]),
+            (
+                Call::RunFinalized(place),
+                &[Told::Started(0, JobKind::Finalized, place)],
+            ),
+            (Call::Turn(0), &[]),
+            (Call::Turn(0), &[Told::Refused(why)]),
+        ];
+        play(&rt, rt.alloc(), &rows)?;
+    }
+    let never_run: [Row<'_>; 2] = [
+        (Call::Begin(A), &[]),
+        // A block that was neither cached nor run has no states.
+        (Call::Advance(A), &[Told::Refused(Why::Rejected(A))]),
+    ];
+    play(&rt, rt.alloc(), &never_run)?;
+    let hook_fails: [Row<'_>; 7] = [
+        (Call::Propose(GENESIS, proposed(2, BROKEN)), &[]),
+        (Call::Build(0), &[Told::Job(0)]),
+        (
+            Call::TurnBuild(0),
+            &[
+                Told::Built(0, 0, BROKEN),
+                Told::Answered(0, Decision::Block, BROKEN),
+            ],
+        ),
+        (Call::Begin(BROKEN), &[]),
+        (Call::Advance(BROKEN), &[]),
+        (
+            Call::Observe(BROKEN),
+            &[Told::Started(1, JobKind::Hook, BROKEN), Told::Yes],
+        ),
+        (Call::TurnHook(1), &[Told::Refused(Why::Application)]),
+    ];
+    play(&rt, rt.alloc(), &hook_fails)
 }
