@@ -18,3 +18,6 @@ pub mod PauseTables
 pub mod PauseStands
 pub mod PauseKnown
 pub mod PauseBegins
+pub mod EarnedPath
+pub mod EarnedJudged
+pub mod EarnedMarks
