@@ -18,11 +18,10 @@ use Rattle.stateful_exec.specs.Workings.{Workings, Point}
 use Rattle.stateful_exec.specs.declared.request.Request.{Request}
 use Rattle.stateful_exec.specs.declared.request.Request.TheVariants.{Verify, Recover}
 use Rattle.stateful_exec.specs.declared.request.Verdict.TheVariants as verdict
-use Rattle.stateful_exec.specs.declared.request.Verdict.{Verdict}
 use Rattle.stateful_exec.specs.declared.state.Tables.{Tables}
 use Rattle.stateful_exec.specs.declared.tables.Requested.{Requested}
 use Rattle.stateful_standing.specs.Setting.{setting}
-use Rattle.stateful_standing.specs.Requesting.{first_of, steps, IsRequestOf, IsWayOf}
+use Rattle.stateful_standing.specs.Requesting.{first_of, IsRequestOf, IsWayOf}
 use Rattle.stateful_standing.specs.Standing.{TablesStand}
 use Rattle.stateful_standing.proofs.EarnedPath.{IsFolded, Joined-at_hand}
 
@@ -40,7 +39,7 @@ module _ {B C I P R D H G U : Type 0} (w : Workings B C I P R D H G U) (stored :
   told-Earned t (Verify u ancestry) asked true = (subst (λ (o : Option (Named B)). MatchOption o ⊥ (λ b. IsTrue b)) (sym asked.verifies) true, tt)
   told-Earned t (Recover u context ancestry input kind) asked true = tt
 
-  -- nothing else that is told is a true verdict
+  -- what is told of a request that ends otherwise is no true verdict
   pub told-invalid : (t : ℕ) (request : Request B C I) → AreEarned (told t request verdict.Invalid)
   told-invalid t (Verify u ancestry) = (tt, tt)
   told-invalid t (Recover u context ancestry input kind) = (tt, tt)
@@ -77,7 +76,8 @@ module _ {B C I P R D H G U : Type 0} (w : Workings B C I P R D H G U) (stored :
     pub concludes-Earned : (now : Moment w) → IsTrue (first_of r.request) → Concludes w m t r verdict.Valid now → EarnsBehind m now
     concludes-Earned now true is = rw is (record { more = _; marks_are = refl; each = told-Earned t r.request asked true })
 
-    concludes-invalid : (now : Moment w) → Concludes w m t r verdict.Invalid now → EarnsBehind m now
+    -- nor does a request that ends otherwise break the rule
+    pub concludes-invalid : (now : Moment w) → Concludes w m t r verdict.Invalid now → EarnsBehind m now
     concludes-invalid now is = rw is (record { more = _; marks_are = refl; each = told-invalid t r.request })
 
     -- each mark of a request that goes along its path keeps the rule

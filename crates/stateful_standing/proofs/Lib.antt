@@ -21,3 +21,4 @@ pub mod PauseBegins
 pub mod EarnedPath
 pub mod EarnedJudged
 pub mod EarnedMarks
+pub mod EarnedAcquired
