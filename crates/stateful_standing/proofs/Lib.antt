@@ -22,3 +22,4 @@ pub mod EarnedPath
 pub mod EarnedJudged
 pub mod EarnedMarks
 pub mod EarnedAcquired
+pub mod EarnedPaused
