@@ -53,7 +53,7 @@ module _ {B C I P R D H G U : Type 0} (w : Workings B C I P R D H G U) (stored :
 
   module _ (top : Named B) (top_met : Met (setting w stored) p top) (named : anchor ≡ anchor_by w.header top) where
     -- the anchor's block doesn't go on over the finalization of one of a later round
-    anchor-unretained : (boundary : Boundary) (b : Named B) → Met (setting w stored) p b → IsLater anchor.round boundary.round → IsRetained boundary (step_by w.header b) → b.digest ≢ anchor.digest
+    pub anchor-unretained : (boundary : Boundary) (b : Named B) → Met (setting w stored) p b → IsLater anchor.round boundary.round → IsRetained boundary (step_by w.header b) → b.digest ≢ anchor.digest
     anchor-unretained boundary b met later retained e =
         let same : b ≡ top = names b top met top_met (e ∙ ap (λ (a : Anchor). a.digest) named) in
         let round_is : w.header.round b.block ≡ anchor.round = ap (λ (y : Named B). w.header.round y.block) same ∙ sym (ap (λ (a : Anchor). a.round) named) in

@@ -23,3 +23,4 @@ pub mod EarnedJudged
 pub mod EarnedMarks
 pub mod EarnedAcquired
 pub mod EarnedPaused
+pub mod EarnedClosed
