@@ -62,7 +62,7 @@ module _ {B C I P R D H G U : Type 0} (w : Workings B C I P R D H G U) (stored :
     at e among retained = (All-contains (λ k. IsRetained boundary (step_in k) → Contains boundary.compatible k.digest) old e closed among) retained
 
     -- a cached block that goes on is compatible
-    cached-compatible : IsRetained boundary (step_by w.header b) → IsIn old b.digest → Contains boundary.compatible b.digest
+    pub cached-compatible : IsRetained boundary (step_by w.header b) → IsIn old b.digest → Contains boundary.compatible b.digest
     cached-compatible on any =
         let among : Contains old any.1 = (any.0, any.2, any.3) in
         let h : IsCached w stored p points next anchor any.1 = All-contains (IsCached w stored p points next anchor) old any.1 s.each among in

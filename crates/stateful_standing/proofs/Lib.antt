@@ -24,3 +24,4 @@ pub mod EarnedMarks
 pub mod EarnedAcquired
 pub mod EarnedPaused
 pub mod EarnedClosed
+pub mod EarnedFollows
