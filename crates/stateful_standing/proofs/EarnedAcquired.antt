@@ -1,4 +1,4 @@
--- True verdicts are earned: those of a request that acquires what it needs, where execution isn't paused.
+-- True verdicts are earned: those of a request that acquires what it needs, where what is at hand is known.
 use Rattle.std.proofs.Common.{◌≡◌, [], ℕ, List, Option, refl, subst, sym}
 use Rattle.stateful_types.specs.Names.{Named}
 use Rattle.stateful_types.specs.declared.digest.Digest.{Digest}
@@ -11,7 +11,6 @@ use Rattle.stateful_exec.specs.Rules.{Needs, Concludes, Acquires, valid, invalid
 use Rattle.stateful_exec.specs.Walk.{IsNeeded, child, IsVerified, IsPrepared}
 use Rattle.stateful_exec.specs.Walk as walk
 use Rattle.stateful_exec.specs.Workings.{Workings, Point}
-use Rattle.stateful_exec.specs.declared.pause.Pause.TheVariants.{Free}
 use Rattle.stateful_exec.specs.declared.request.Request.{Request}
 use Rattle.stateful_exec.specs.declared.request.Request.TheVariants.{Verify, Recover}
 use Rattle.stateful_exec.specs.declared.request.Verdict.TheVariants as verdict
@@ -21,18 +20,18 @@ use Rattle.stateful_standing.specs.Setting.{setting}
 use Rattle.stateful_standing.specs.Requesting.{first_of, IsRequestOf, IsWayOf}
 use Rattle.stateful_standing.specs.Standing.{TablesStand}
 use Rattle.stateful_standing.proofs.EarnedPath.{IsFolded}
-use Rattle.stateful_standing.proofs.EarnedJudged.{IsStoredNow, Known-at_hand, Earned-judged}
+use Rattle.stateful_standing.proofs.EarnedJudged.{IsStoredNow, Earned-judged}
 use Rattle.stateful_standing.proofs.EarnedMarks.{EarnsBehind, IsTrue, concludes-Earned, concludes-invalid, advances-Earned}
 
 module _ {B C I P R D H G U : Type 0} (w : Workings B C I P R D H G U) (stored : ℕ → Option (Named B)) (base : w.States) (p : Past B C I) (points : Digest → Point w) (point : Point w) (m : Moment w) (s : TablesStand w stored p points point m.next m.state)
-    (t : ℕ) (free : m.state.pause ≡ Free) (folded : IsFolded w stored base p m.state.anchor m.state.anchor point) (stored_now : ℕ → Option (Named B)) (stored_is : IsStoredNow stored p stored_now) where
+    (t : ℕ) (knows : (d : Digest) → IsAtHand m.state.anchor m.state.cache d → Known (setting w stored) p d) (folded : IsFolded w stored base p m.state.anchor m.state.anchor point) (stored_now : ℕ → Option (Named B)) (stored_is : IsStoredNow stored p stored_now) where
   -- what is walked from ends with no verdict that is true
   not_needed : {b : Named B} {chain : List (Named B)} → IsNeeded w.header m.state.anchor m.state.cache b chain acquired.Valid → ⊥
   not_needed (child e is walks) = walks
 
   -- a block that needs nothing is joined or final
   verified-Earned : {b : Named B} {chain : List (Named B)} → IsVerified w.header m.state.anchor m.state.cache stored_now b chain acquired.Valid → IsTrue w stored base p b
-  verified-Earned {b = b} (walk.valid judged) = Earned-judged w stored base p points point m.next m.state s free folded stored_now stored_is b judged
+  verified-Earned {b = b} (walk.valid judged) = Earned-judged w stored base p points point m.next m.state s knows folded stored_now stored_is b judged
   verified-Earned (walk.runs judged needed) = absurd (not_needed needed)
 
   -- a request that needs nothing is of a block that is joined or final, or is a proposal
@@ -51,10 +50,6 @@ module _ {B C I P R D H G U : Type 0} (w : Workings B C I P R D H G U) (stored :
   ready-at_hand (Verify u ancestry) found path needs = verified-at_hand needs
   ready-at_hand (Recover u context ancestry input kind) found path needs = needs.4
 
-  -- a block at hand is known
-  known : (d : Digest) → IsAtHand m.state.anchor m.state.cache d → Known (setting w stored) p d
-  known d here = Known-at_hand w stored base p points point m.next m.state s free d here
-
   -- each mark of a request that acquires what it needs keeps the rule
   pub acquires-Earned : (r : Requested B C I) (now : Moment w) → IsRequestOf w stored p t r.request → ((path : Path B) → Needs w stored_now m r (acquired.Ready path) → IsWayOf w stored p r.request path) → Acquires w stored_now m t r now → EarnsBehind w stored base p m now
   acquires-Earned r now asked ways (valid needs concludes) = valid-Earned r now asked r.request refl needs concludes
@@ -63,4 +58,4 @@ module _ {B C I P R D H G U : Type 0} (w : Workings B C I P R D H G U) (stored :
   acquires-Earned r now asked ways (waits needs becomes) = rw becomes (record { more = []; marks_are = refl; each = tt })
   acquires-Earned r now asked ways (runs {path = path} needs advances) =
       advances-Earned w stored base p points point m s t (requested r.request) asked m.state.anchor folded path now
-      (λ b met passed. known b.digest passed.1) (λ none. let here = ready-at_hand r.request r.acquired path needs in (known path.parent.digest here, here)) (ways path needs) advances
+      (λ b met passed. knows b.digest passed.1) (λ none. let here = ready-at_hand r.request r.acquired path needs in (knows path.parent.digest here, here)) (ways path needs) advances

@@ -15,7 +15,7 @@ use Rattle.stateful_cache.specs.Judgement.{IsDecided, IsJudged}
 use Rattle.stateful_cache.specs.declared.judgement.Judgement.TheVariants.{Valid}
 use Rattle.stateful_exec.specs.Workings.{Workings, Point}
 use Rattle.stateful_exec.specs.declared.pause.Pause.{Pause}
-use Rattle.stateful_exec.specs.declared.pause.Pause.TheVariants.{Free}
+use Rattle.stateful_exec.specs.declared.pause.Pause.TheVariants.{Free, Pruning}
 use Rattle.stateful_exec.specs.declared.state.Tables.{Tables}
 use Rattle.stateful_standing.specs.Setting.{setting}
 use Rattle.stateful_standing.specs.Caching.{IsKnownBy}
@@ -60,20 +60,23 @@ module _ {B C I S T : Type 0} (s : Setting B S T) (p : Past B C I) (anchor : Anc
         canonical-by n ∙ canonical_by-below n l ∙ cond_same (λ (b : Named B). b.digest) (nat_lt n (pruned_below p)) (s.stored n)
         ∙ ap (λ (o : Option (Named B)). option_map (λ (b : Named B). b.digest) o) (sym (stored_is n) ∙ is)
 
-module _ {B C I P R D H G U : Type 0} (w : Workings B C I P R D H G U) (stored : ℕ → Option (Named B)) (base : w.States) (p : Past B C I) (points : Digest → Point w) (point : Point w) (next : w.Ids) (v : Tables B C I R U) (s : TablesStand w stored p points point next v) (free : v.pause ≡ Free) where
-  -- where execution isn't paused, what is known is what is at hand
-  pub Known-at_hand : (d : Digest) → IsAtHand v.anchor v.cache d → Known (setting w stored) p d
-  Known-at_hand d h = (s.cache.knows d).1 (subst (λ (x : Pause). IsKnownBy x v.anchor v.cache d) (sym free) h)
+module _ {B C I P R D H G U : Type 0} (w : Workings B C I P R D H G U) (stored : ℕ → Option (Named B)) (base : w.States) (p : Past B C I) (points : Digest → Point w) (point : Point w) (next : w.Ids) (v : Tables B C I R U) (s : TablesStand w stored p points point next v) where
+  known-as : (pause : Pause) → v.pause ≡ pause → (d : Digest) → IsKnownBy pause v.anchor v.cache d → Known (setting w stored) p d
+  known-as pause is d h = (s.cache.knows d).1 (subst (λ (x : Pause). IsKnownBy x v.anchor v.cache d) (sym is) h)
 
-  pub at_hand-Known : (d : Digest) → Known (setting w stored) p d → IsAtHand v.anchor v.cache d
-  at_hand-Known d k = subst (λ (x : Pause). IsKnownBy x v.anchor v.cache d) free ((s.cache.knows d).0 k)
+  -- what is at hand is known, where execution isn't paused
+  pub Known-free : v.pause ≡ Free → (d : Digest) → IsAtHand v.anchor v.cache d → Known (setting w stored) p d
+  Known-free is d h = known-as Free is d h
 
-  module _ (tip : Anchor) (folded : IsFolded w stored base p v.anchor tip point) where
-    -- a block at hand is joined
-    pub Joined-free : (d : Digest) → IsAtHand v.anchor v.cache d → Joined (setting w stored) base p d
-    Joined-free d h = Joined-at_hand w stored base p points point next v s tip folded d (Known-at_hand d h) h
+  -- and where it is paused for a prune
+  pub Known-pruning : v.pause ≡ Pruning → (d : Digest) → IsAtHand v.anchor v.cache d → Known (setting w stored) p d
+  Known-pruning is d h = known-as Pruning is d h
 
-  module _ (folded : IsFolded w stored base p v.anchor v.anchor point) (stored_now : ℕ → Option (Named B)) (stored_is : IsStoredNow stored p stored_now) (b : Named B) where
+  -- what is known is at hand, where execution isn't paused
+  pub at_hand-free : v.pause ≡ Free → (d : Digest) → Known (setting w stored) p d → IsAtHand v.anchor v.cache d
+  at_hand-free is d k = subst (λ (x : Pause). IsKnownBy x v.anchor v.cache d) is ((s.cache.knows d).0 k)
+
+  module _ (knows : (d : Digest) → IsAtHand v.anchor v.cache d → Known (setting w stored) p d) (folded : IsFolded w stored base p v.anchor v.anchor point) (stored_now : ℕ → Option (Named B)) (stored_is : IsStoredNow stored p stored_now) (b : Named B) where
     -- the block of a decided height is the finalized one
     decided : IsDecided w.header v.anchor v.cache stored_now b (λ d. d ≡ b.digest) → IsCanonical (setting w stored) p b
     decided (inl e) = canonical-at (setting w stored) p v.anchor folded.anchor_is folded.tip_is _ e.0 ∙ ap (λ (x : Digest). Some x) e.1
@@ -81,5 +84,5 @@ module _ {B C I P R D H G U : Type 0} (w : Workings B C I P R D H G U) (stored :
 
     -- a block that is judged valid is joined or final
     pub Earned-judged : IsJudged w.header v.anchor v.cache stored_now b Valid → Joined (setting w stored) base p b.digest ⊎ IsCanonical (setting w stored) p b
-    Earned-judged (inl any) = inl (Joined-free v.anchor folded b.digest (inr any))
+    Earned-judged (inl any) = inl (Joined-at_hand w stored base p points point next v s v.anchor folded b.digest (knows b.digest (inr any)) (inr any))
     Earned-judged (inr e) = inr (decided e)

@@ -25,3 +25,4 @@ pub mod EarnedAcquired
 pub mod EarnedPaused
 pub mod EarnedClosed
 pub mod EarnedFollows
+pub mod EarnedTogether
