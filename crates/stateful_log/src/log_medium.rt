@@ -72,6 +72,11 @@ impl<Op: Drop> LogMedium<Op> {
         }
     }
 
+    /// Its allocator.
+    pub fn allocator(&self) -> Global {
+        self.medium.allocator()
+    }
+
     /// The number of the kept checkpoint of this target, or of the latest. This is a call of the kind `Init`; `Database`
     /// exactly where it is listed as a failing one, or no kept checkpoint has the expected end.
     pub fn number_to_open(&mut self, expected: Option<Target>) -> Result<usize, InitError>

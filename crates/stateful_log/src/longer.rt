@@ -11,7 +11,7 @@ use stateful_types::{Share, Target};
 
 /// The log with these operations behind it, and with their checkpoint. It is given back where memory is wanting, or the
 /// range isn't that of a batch on it.
-pub(crate) fn longer<Op: Share + Drop>(
+pub fn longer<Op: Share + Drop>(
     log: OpenLog<Op>,
     id: u64,
     more: &[Op],

@@ -90,6 +90,29 @@ impl<Op: Drop> OpenLog<Op> {
         self.opened.draw()
     }
 
+    /// Makes a call of this kind. It fails exactly where it is listed as a failing one.
+    pub fn begin(self, call: DbCall) -> Result<OpenLog<Op>, Broken<LogMedium<Op>>>
+        ensures ok { IfOk result (λ o. standing_of o ≡ standing_of self) }
+        ensures ok_next { IfOk result (λ o. next_here o ≡ next_here self) }
+        ensures ok_count { IfOk result (λ o. (calls_here self).faults ≤ (calls_here o).faults) }
+        ensures ok_called { IfOk result (λ o. Called call (calls_here self) (calls_here o)) }
+        ensures err { IfErr result (λ b. disk_of b.medium ≡ (standing_of self).disk) }
+        ensures err_next { IfErr result (λ b. next_of b.medium ≡ next_here self) }
+        ensures err_count { IfErr result (λ b. (calls_here self).faults ≤ (calls_of b.medium).faults) }
+        ensures err_called { IfErr result (λ b. Called call (calls_here self) (calls_of b.medium)) }
+        ensures failed { IfErr result (λ b.
+            Rose (calls_here self).faults (calls_of b.medium).faults) }
+        ensures why { IfErr result (λ b. b.why ≡ Why.Failed) }
+        ensures err_listed { IfErr result (λ _. IsListed (calls_here self) call) }
+        ensures ok_listed { IfOk result (λ _. IsListed (calls_here self) call → ⊥) }
+    {
+        let OpenLog { opened, first, ops } = self;
+        match opened.begin(call) {
+            Ok(opened) => Ok(OpenLog { opened, first, ops }),
+            Err(change) => Err(broken(change, first, ops)),
+        }
+    }
+
     /// Takes no memory. One token more is out, for all checkpoints.
     pub fn finalize(self) -> Result<(OpenLog<Op>, FlushToken), Broken<LogMedium<Op>>>
         requires { length (standing_of self).out < 2 }

@@ -1,6 +1,6 @@
 //! The layers of a chain.
 
-ghost use Rattle.std.specs.Prelude.{◌≡◌, ◌==◌, ◌∷◌, [], ◌++◌, ℕ, IfOk, OnOk, length, position};
+ghost use Rattle.std.specs.Prelude.{◌≡◌, ◌==◌, ◌∷◌, [], ◌++◌, ◌<◌, ◌^◌, ℕ, IfOk, OnOk, length, position};
 ghost use Rattle.stateful_overlay.specs.Stack.{Stack, above, cut_at, has_layer};
 
 use crate::layer::Layer;
@@ -70,7 +70,8 @@ impl<C> Layers<C> {
 
     /// How many layers there are.
     pub fn count(&self) -> usize
-        ensures { result ≡ length self.now.layers }
+        ensures count { result ≡ length self.now.layers }
+        ensures small { result < 2 ^ 63 }
     {
         self.layers.len()
     }

@@ -36,7 +36,7 @@ module _ {B : Type 0} (header : Header B) where
   LeadsDown-child (x ∷ []) b parent ys h = h.1.0.0
   LeadsDown-child (x ∷ y ∷ xs) b parent ys h = Descends-child (y ∷ xs) b parent ys h.1
 
-All-front : {X : Type 0} (P : X → Type 0) (xs ys : List X) → All P (xs ++ ys) → All P xs
+pub All-front : {X : Type 0} (P : X → Type 0) (xs ys : List X) → All P (xs ++ ys) → All P xs
 All-front P [] ys all = All-nil P
 All-front P (x ∷ xs) ys all = All-cons P x xs (All-head P x (xs ++ ys) all) (All-front P xs ys (All-tail P x (xs ++ ys) all))
 

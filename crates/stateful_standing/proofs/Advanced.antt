@@ -1,4 +1,4 @@
--- The tables stand behind a request in hand that goes along its path.
+-- A request in hand goes along its path.
 use Rattle.std.proofs.Common.{◌≡◌, ◌≢◌, ◌++◌, ℕ, List, [], ◌∷◌, All, Option, Some, None, MatchOption, refl, sym, ap, ◌∙◌, subst}
 use Rattle.std.proofs.lemmas.List.{append-nil}
 use Rattle.stateful_types.specs.Names.{Named}
@@ -20,16 +20,15 @@ use Rattle.stateful_standing.specs.Requesting.{IsWayOf}
 use Rattle.stateful_standing.specs.Running.{IsRunning}
 use Rattle.stateful_standing.specs.Standing.{TablesStand, IsInHand, StandsBehind}
 use Rattle.stateful_standing.proofs.AdvanceStands.{reached_met, reached_parent_met, reached_child, reached_way}
-use Rattle.stateful_standing.proofs.ConcludeStands.{TablesStand-concludes}
 use Rattle.stateful_standing.proofs.LaunchStands.{TablesStand-launches}
-use Rattle.stateful_standing.proofs.PutStands.{TablesStand-put}
 use Rattle.stateful_standing.proofs.Removing.{All-at}
+use Rattle.stateful_standing.proofs.Served.{Serves, Serves-concludes, Serves-put, Serves-launches}
 
 module _ {B C I P R D H G U : Type 0} (w : Workings B C I P R D H G U) (stored : ℕ → Option (Named B)) (p : Past B C I) (points : Digest → Point w) (point : Point w) (m : Moment w) (s : TablesStand w stored p points point m.next m.state)
     (t : ℕ) (r : Requested B C I) (hand : IsInHand w stored p t r.request m.state) where
   -- a request in hand ends
   pub StandsBehind-concludes : (v : Verdict) (now : Moment w) → Concludes w m t r v now → StandsBehind w stored p points point m now
-  StandsBehind-concludes v now is = rw is (record { more = _; marks_are = refl; members_are = refl; stands = TablesStand-concludes w stored p points point m.next m.state t s r.request v hand })
+  StandsBehind-concludes v now is = (Serves-concludes w stored p points point m s t r hand v now is).behind
 
   module _ (names : TrueNames (setting w stored) p) (other_states : (n i : w.Ids) (x y : w.States) (c : List (Point w)) → w.kind.issued n ((i, x) ∷ c) → w.kind.issued n ((i, y) ∷ c))
       (located : w.kind.point m.members ≡ Some point) (drawn : w.kind.issued m.next (point ∷ [])) (met : All (Met (setting w stored) p) r.acquired) where
@@ -43,24 +42,20 @@ module _ {B C I P R D H G U : Type 0} (w : Workings B C I P R D H G U) (stored :
             let running = All-at (λ (e : ℕ × LiveRun B R). IsRunning w stored p points m.next m.state.anchor m.state.cache e.0 e.1) m.state.runs j run there s.runs.each in
             names run.block b running.met b_met is
 
+    -- a request in hand goes along its path
+    pub Serves-advances : (path : Path B) (now : Moment w) → IsWayOf w stored p r.request path → Advances w m t r path now → Serves w stored p points point m t now
+    Serves-advances path now way (arrives all concludes) = Serves-concludes w stored p points point m s t r hand _ now concludes
+    Serves-advances path now way (leaves reaches off concludes) = Serves-concludes w stored p points point m s t r hand _ now concludes
+    Serves-advances path now way (joins {left = left} {b = b} {parent = parent} j reaches on unknown has becomes) =
+        Serves-put w stored p points point m s t r hand (Executing j (record { blocks = left; parent = b })) now met
+        (run_is b j (reached_met w stored p m.state r.request path way left b parent reaches) has, reached_way w stored p m.state r.request path way left b parent reaches) becomes
+    Serves-advances path now way (starts {left = left} {b = b} {parent = parent} reaches on unknown unrun known launches) =
+        Serves-launches w stored p points point m s t r hand now launches
+        (rw launches.state (TablesStand-launches w stored p points point m.next now.next m.state launches.running s other_states m.members located drawn b parent launches.starts
+            (reached_met w stored p m.state r.request path way left b parent reaches) (reached_parent_met w stored p m.state r.request path way left b parent reaches)
+            (reached_child w stored p m.state r.request path way left b parent reaches) known unrun t r hand met left (reached_way w stored p m.state r.request path way left b parent reaches)))
+    Serves-advances path now way (misses reaches on unknown unrun known concludes) = Serves-concludes w stored p points point m s t r hand _ now concludes
+
     -- the tables stand behind a request that goes along its path
     pub StandsBehind-advances : (path : Path B) (now : Moment w) → IsWayOf w stored p r.request path → Advances w m t r path now → StandsBehind w stored p points point m now
-    StandsBehind-advances path now way (arrives all concludes) = StandsBehind-concludes _ now concludes
-    StandsBehind-advances path now way (leaves reaches off concludes) = StandsBehind-concludes _ now concludes
-    StandsBehind-advances path now way (joins {left = left} {b = b} {parent = parent} j reaches on unknown has becomes) =
-        rw becomes (record {
-          more = [];
-          marks_are = refl;
-          members_are = refl;
-          stands = TablesStand-put w stored p points point m.next m.state t s r hand met (Executing j (record { blocks = left; parent = b }))
-              (run_is b j (reached_met w stored p m.state r.request path way left b parent reaches) has, reached_way w stored p m.state r.request path way left b parent reaches);
-        })
-    StandsBehind-advances path now way (starts {left = left} {b = b} {parent = parent} reaches on unknown unrun known launches) = record {
-      more = _;
-      marks_are = launches.marks;
-      members_are = launches.members;
-      stands = rw launches.state (TablesStand-launches w stored p points point m.next now.next m.state launches.running s other_states m.members located drawn b parent launches.starts
-          (reached_met w stored p m.state r.request path way left b parent reaches) (reached_parent_met w stored p m.state r.request path way left b parent reaches)
-          (reached_child w stored p m.state r.request path way left b parent reaches) known unrun t r hand met left (reached_way w stored p m.state r.request path way left b parent reaches));
-    }
-    StandsBehind-advances path now way (misses reaches on unknown unrun known concludes) = StandsBehind-concludes _ now concludes
+    StandsBehind-advances path now way advances = (Serves-advances path now way advances).behind

@@ -60,6 +60,7 @@ module _ {B C I P R D H G U : Type 0} (w : Workings B C I P R D H G U) (stored :
   own = record {
     own = hand.own;
     asked = IsRequestOf-calm w stored p (Made (Asked old.next_fetch (Some t) d)) t r.request (record { live = refl; verified = refl; proposed = refl }) hand.asked;
+    brought = λ k x l. inr (hand.brought k x l);
     met = λ k x l. inr (met k x l);
     phase = (rw (eq-eqb old.next_fetch old.next_fetch refl) refl, rw (eq-eqb old.next_fetch old.next_fetch refl) refl);
   }

@@ -17,7 +17,7 @@ use Rattle.stateful_exec.specs.declared.tables.Phase.{Phase}
 use Rattle.stateful_exec.specs.declared.tables.Phase.TheVariants.{Open, Fetching, Waiting, Executing, Parked}
 use Rattle.stateful_exec.specs.declared.tables.Requested.{Requested}
 use Rattle.stateful_standing.specs.Setting.{setting}
-use Rattle.stateful_standing.specs.Requesting.{first_of, steps, IsRequestOf, IsWayOf, IsInPhase, IsStanding}
+use Rattle.stateful_standing.specs.Requesting.{first_of, brought_by, steps, IsRequestOf, IsWayOf, IsInPhase, IsStanding}
 
 -- the item changes nothing of a ticket
 pub record LeavesTicket {B C I : Type 0} (p : Past B C I) (x : Item B C I) (t : ℕ) : Type 0 where
@@ -58,6 +58,7 @@ module _ {B C I P R D H G U : Type 0} (w : Workings B C I P R D H G U) (stored :
   IsStanding-calm runs t r ticket fetch abstains h = record {
     own = h.own;
     asked = IsRequestOf-calm t r.request ticket h.asked;
+    brought = All-weaker (Met (setting w stored) p) (Met (setting w stored) (x ∷ p)) (λ b m. inr m) (brought_by r.request) h.brought;
     met = All-weaker (Met (setting w stored) p) (Met (setting w stored) (x ∷ p)) (λ b m. inr m) r.acquired h.met;
     phase = IsInPhase-calm runs t r.request abstains r.phase fetch h.phase;
   }

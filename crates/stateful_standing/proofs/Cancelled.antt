@@ -28,7 +28,7 @@ use Rattle.stateful_standing.proofs.GivenUp.{cancel-IsCalm, cancel-LeavesJob, ca
 
 module _ {B C I P R D H G U : Type 0} (w : Workings B C I P R D H G U) (stored : ℕ → Option (Named B)) (p : Past B C I) (points : Digest → Point w) (point : Point w) (next : w.Ids) (old : Tables B C I R U) (t : ℕ) (s : TablesStand w stored p points point next old) where
   module _ (r : Requested B C I) (there : at old.requests t ≡ Some r) where
-    not_queued : at old.queued t ≡ None
+    pub not_queued : at old.queued t ≡ None
     not_queued = s.once t (rw there refl)
 
     pub queue-left : QueueStands w stored (Came (Cancel t) ∷ p) old.queued old.recovered
@@ -75,7 +75,7 @@ not_same a b is e = let same = eq-eqb a b e in let no : false ≡ true = rw same
 pub same_ticket : (t u : ℕ) → Some (Some t) ≡ Some (Some u) → t ≡ u
 same_ticket t u is = search
 
-same_fetch : {B : Type 0} (f g : ℕ) (phase : Phase B) → phase ≡ Fetching f → phase ≡ Fetching g → f ≡ g
+pub same_fetch : {B : Type 0} (f g : ℕ) (phase : Phase B) → phase ≡ Fetching f → phase ≡ Fetching g → f ≡ g
 same_fetch f g phase a b = let c : Fetching f ≡ Fetching g = sym a ∙ b in search
 
 module _ {B C I S T : Type 0} where
@@ -90,14 +90,14 @@ module _ {B C I P R D H G U : Type 0} (w : Workings B C I P R D H G U) (stored :
   abbrev given : Past B C I
   given = Came (Cancel t) ∷ p
 
-  own : IsStanding w stored p old.runs t r
+  pub own : IsStanding w stored p old.runs t r
   own = All-at (λ (e : ℕ × Requested B C I). IsStanding w stored p old.runs e.0 e.1) old.requests t r there s.requests.each
 
   module _ (f : ℕ) (fetching : r.phase ≡ Fetching f) where
-    own_fetch : asked_for f p ≡ Some (Some t)
+    pub own_fetch : asked_for f p ≡ Some (Some t)
     own_fetch = let h = subst (λ phase. IsInPhase w stored p old.runs t r.request phase) fetching own.phase in h.1
 
-    other_fetch : (u g : ℕ) (q : Requested B C I) → u ≢ t → q.phase ≡ Fetching g → IsStanding w stored p old.runs u q → g ≢ f
+    pub other_fetch : (u g : ℕ) (q : Requested B C I) → u ≢ t → q.phase ≡ Fetching g → IsStanding w stored p old.runs u q → g ≢ f
     other_fetch u g q ne is stands same =
         let h = subst (λ phase. IsInPhase w stored p old.runs u q.request phase) is stands.phase in
         ne (same_ticket u t (sym h.1 ∙ ap (λ k. asked_for k p) same ∙ own_fetch))

@@ -70,6 +70,7 @@ module _ {B C I P R D H G U : Type 0} (w : Workings B C I P R D H G U) (stored :
   own = record {
     own = hand.own;
     asked = IsRequestOf-calm w stored p (Made (Started old.next_job Candidate b.digest)) t r.request (record { live = refl; verified = refl; proposed = refl }) hand.asked;
+    brought = λ k x l. inr (hand.brought k x l);
     met = λ k x l. inr (acquired k x l);
     phase = (rw (put_here old.runs old.next_job live) refl, IsWayOf-calm w stored p (Made (Started old.next_job Candidate b.digest)) r.request path way);
   }

@@ -95,7 +95,7 @@ module _ {B C I P R D H G U : Type 0} (w : Workings B C I P R D H G U) (stored :
 
     -- a request stands without its fetch
     standing-undone : (p : Past B C I) (t : ℕ) (r : Requested B C I) → IsStanding w stored p runs t r → IsStanding w stored p runs t (undone r)
-    standing-undone p t r h = record { own = h.own; asked = h.asked; met = h.met; phase = phase r.phase h.phase }
+    standing-undone p t r h = record { own = h.own; asked = h.asked; brought = h.brought; met = h.met; phase = phase r.phase h.phase }
       where
         phase : (q : Phase B) → IsInPhase w stored p runs t r.request q → IsInPhase w stored p runs t r.request (unfetched q)
         phase Open h = tt

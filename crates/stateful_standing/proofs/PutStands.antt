@@ -49,7 +49,7 @@ module _ {B C I P R D H G U : Type 0} (w : Workings B C I P R D H G U) (stored :
     runs = s.runs;
     requests = record {
       ascending = sorted_put old.requests t now s.requests.ascending;
-      each = All-put (λ (e : ℕ × Requested B C I). IsStanding w stored p old.runs e.0 e.1) old.requests t now s.requests.each (record { own = hand.own; asked = hand.asked; met = met; phase = in_phase });
+      each = All-put (λ (e : ℕ × Requested B C I). IsStanding w stored p old.runs e.0 e.1) old.requests t now s.requests.each (record { own = hand.own; asked = hand.asked; brought = hand.brought; met = met; phase = in_phase });
       fetches = fetches-put;
       wanted = λ j live. tickets_more j t old.requests now hand.absent (s.requests.wanted j live);
     };

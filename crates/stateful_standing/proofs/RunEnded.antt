@@ -35,7 +35,7 @@ module _ {B C I P R D H G U : Type 0} (w : Workings B C I P R D H G U) (stored :
   -- a request stands over other runs, as long as the one that it waits for stays
   pub IsStanding-runs : (runs now : List (ℕ × LiveRun B R)) (t : ℕ) (r : Requested B C I) → ((j : ℕ) (path : Path B) → r.phase ≡ Executing j path → at now j ≡ at runs j)
       → IsStanding w stored p runs t r → IsStanding w stored p now t r
-  IsStanding-runs runs now t r stays h = record { own = h.own; asked = h.asked; met = h.met; phase = phase r.phase stays h.phase }
+  IsStanding-runs runs now t r stays h = record { own = h.own; asked = h.asked; brought = h.brought; met = h.met; phase = phase r.phase stays h.phase }
     where
       phase : (q : Phase B) → ((j : ℕ) (path : Path B) → q ≡ Executing j path → at now j ≡ at runs j) → IsInPhase w stored p runs t r.request q → IsInPhase w stored p now t r.request q
       phase Open s h = tt

@@ -31,6 +31,11 @@ abbrev pub first_of : {B C I : Type 0} → Request B C I → Named B
 first_of (Verify t ancestry) = ancestry.first
 first_of (Recover t context ancestry input kind) = ancestry.first
 
+-- the blocks that a request came with
+abbrev pub brought_by : {B C I : Type 0} → Request B C I → List (Named B)
+brought_by (Verify t ancestry) = ancestry.first ∷ ancestry.rest
+brought_by (Recover t context ancestry input kind) = ancestry.first ∷ ancestry.rest
+
 -- the blocks of a path with the parent of the last one, the newest first
 abbrev pub steps : {B : Type 0} → Path B → List (Named B)
 steps path = path.blocks ++ path.parent ∷ []
@@ -62,10 +67,11 @@ module _ {B C I P R D H G U : Type 0} (w : Workings B C I P R D H G U) (stored :
     IsInPhase t request (Executing j path) = MatchOption (at runs j) ⊥ (λ run. run.block ≡ path.parent) × IsWayOf request path
     IsInPhase t request (Parked path) = IsWayOf request path
 
-    -- the request of this ticket stands for the past, with what was acquired for it
+    -- the request of this ticket stands for the past, with the blocks that it came with and those that were acquired for it
     pub record IsStanding (t : ℕ) (r : Requested B C I) : Type 0 where
       pub own : ticket_by r.request ≡ t
       pub asked : IsRequestOf t r.request
+      pub brought : All (Met (setting w stored) p) (brought_by r.request)
       pub met : All (Met (setting w stored) p) r.acquired
       pub phase : IsInPhase t r.request r.phase
 

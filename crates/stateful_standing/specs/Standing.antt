@@ -1,8 +1,9 @@
 -- What the tables of execution stand for.
-use Rattle.std.specs.Prelude.{◌≡◌, ◌≢◌, ◌<◌, ◌≤◌, ◌++◌, ℕ, List, Option, None, IsSome}
+use Rattle.std.specs.Prelude.{◌≡◌, ◌≢◌, ◌<◌, ◌≤◌, ◌++◌, ℕ, List, Option, None, IsSome, All}
 use Rattle.stateful_types.specs.Names.{Named}
 use Rattle.stateful_types.specs.declared.digest.Digest.{Digest}
 use Rattle.stateful_history.specs.Past.{Past, after}
+use Rattle.stateful_history.specs.Met.{Met}
 use Rattle.stateful_history.specs.declared.mark.Mark.{Mark}
 use Rattle.stateful_history.specs.Asked.{asked_for}
 use Rattle.stateful_history.specs.Jobs.{started_for, turns}
@@ -12,8 +13,9 @@ use Rattle.stateful_exec.specs.Moments.{Moment}
 use Rattle.stateful_exec.specs.Request.{ticket_by}
 use Rattle.stateful_exec.specs.declared.request.Request.{Request}
 use Rattle.stateful_exec.specs.declared.state.Tables.{Tables}
+use Rattle.stateful_standing.specs.Setting.{setting}
 use Rattle.stateful_standing.specs.Caching.{CacheStands}
-use Rattle.stateful_standing.specs.Requesting.{IsRequestOf, RequestsStand, QueueStands}
+use Rattle.stateful_standing.specs.Requesting.{brought_by, IsRequestOf, RequestsStand, QueueStands}
 use Rattle.stateful_standing.specs.Running.{RunsStand}
 
 -- the numbers that are drawn next are above all that were drawn
@@ -39,6 +41,7 @@ module _ {B C I P R D H G U : Type 0} (w : Workings B C I P R D H G U) (stored :
     pub not_queued : at v.queued t ≡ None
     pub own : ticket_by request ≡ t
     pub asked : IsRequestOf w stored p t request
+    pub brought : All (Met (setting w stored) p) (brought_by request)
 
 -- From one moment to a later one some marks are made, and the tables stand for the past with them. No database moves.
 pub record StandsBehind {B C I P R D H G U : Type 0} (w : Workings B C I P R D H G U) (stored : ℕ → Option (Named B)) (p : Past B C I) (points : Digest → Point w) (point : Point w) (m now : Moment w) : Type 0 where

@@ -1,0 +1,10 @@
+pub mod Ops
+pub mod Live
+pub mod Any
+pub mod Through
+pub mod Keyed
+pub mod Shown
+pub mod Staged
+pub mod Stored
+pub mod AnySound
+pub mod Laws

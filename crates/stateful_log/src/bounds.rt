@@ -1,0 +1,10 @@
+//! The range of a sealed batch.
+
+use stateful_types::Location;
+
+/// Where the range of a sealed batch begins and ends.
+#[derive(Clone, Copy, Debug, PartialEq, Eq)]
+pub struct Bounds {
+    pub inactivity_floor: Location,
+    pub size: Location,
+}

@@ -1,0 +1,100 @@
+-- The tables stand behind the end of a run in its turn, by the rules of execution.
+use Rattle.std.proofs.Common.{◌≡◌, ◌<◌, ◌==◌, ℕ, Bool, true, false, List, [], ◌∷◌, All, Option, Some, Result, Ok, cond, refl, sym, ap, ◌∙◌, subst}
+use Rattle.std.specs.Ordering.{nat_cmp, match_ordering, MatchOrdering}
+use Rattle.std.specs.declared.cmp.Ordering.{Ordering}
+use Rattle.std.specs.declared.cmp.Ordering.TheVariants.{Less, Equal, Greater}
+use Rattle.std.proofs.lemmas.Bool.{eq-eqb, eqb-false}
+use Rattle.std.proofs.lemmas.Cmp.{ranked}
+use Rattle.stateful_types.specs.Names.{Header, Named}
+use Rattle.stateful_types.specs.declared.digest.Digest.{Digest}
+use Rattle.stateful_types.specs.declared.outcome.Moved.TheVariants.{Done}
+use Rattle.stateful_history.specs.Anchors.{tip_of}
+use Rattle.stateful_history.specs.Past.{Past, Came, Made}
+use Rattle.stateful_history.specs.Met.{TrueNames}
+use Rattle.stateful_history.specs.declared.event.Event.TheVariants.{Turn}
+use Rattle.stateful_history.specs.declared.mark.How.{How}
+use Rattle.stateful_history.specs.declared.mark.Mark.TheVariants.{Ended}
+use Rattle.stateful_cache.specs.declared.cache.Cached.{Cached}
+use Rattle.stateful_table.specs.Table.{at, put, without}
+use Rattle.stateful_table.proofs.Tables.{at-put}
+use Rattle.stateful_exec.specs.Ending.{released, Crosses, IsTold, EndsRun, TurnsRun}
+use Rattle.stateful_exec.specs.Moments.{Moment}
+use Rattle.stateful_exec.specs.Phase.{released_on, not_on}
+use Rattle.stateful_exec.specs.Workings.{Workings, Point}
+use Rattle.stateful_exec.specs.declared.pause.Pause.{Pause}
+use Rattle.stateful_exec.specs.declared.pause.Pause.TheVariants.{Free, Finalizing, Pruning}
+use Rattle.stateful_exec.specs.declared.state.Tables.{Tables}
+use Rattle.stateful_exec.specs.declared.tables.LiveRun.{LiveRun}
+use Rattle.stateful_standing.specs.Setting.{setting}
+use Rattle.stateful_standing.specs.Standing.{TablesStand}
+use Rattle.stateful_standing.proofs.EndedRequests.{IsInHand}
+use Rattle.stateful_standing.proofs.EndedStands.{left, IsLeftBy}
+use Rattle.stateful_standing.proofs.EndedKept.{IsRoundOf}
+use Rattle.stateful_standing.proofs.EndedTold.{IsPlain, IsLeftBy-told}
+
+-- a value that is put, and taken out again
+pub without_put : {V : Type 0} (es : List (ℕ × V)) (t : ℕ) (v : V) → without (put es t v) t ≡ without es t
+without_put [] t v = rw (eq-eqb t t refl) refl
+without_put {V = V} (e ∷ es) t v = go (nat_cmp t e.0) (ranked t e.0 (nat_cmp t e.0) refl) (e.0 == t) refl (without_put es t v)
+  where
+    go : (o : Ordering) → MatchOrdering o (t < e.0) (t ≡ e.0) (e.0 < t) → (b : Bool) → (e.0 == t) ≡ b → without (put es t v) t ≡ without es t
+        → without (match_ordering o ((t, v) ∷ e ∷ es) ((e.0, v) ∷ es) (e ∷ put es t v)) t ≡ without (e ∷ es) t
+    go Less lt b is rest = rw (eq-eqb t t refl) refl
+    go Equal same true is rest = rw is refl
+    go Equal same false is rest = absurd (eqb-false e.0 t is (sym same))
+    go Greater gt true is rest = rw is rest
+    go Greater gt false is rest = rw is (ap (λ es. e ∷ es) rest)
+
+-- where no finalization goes on, the pause stays
+pub plain_stays : {B : Type 0} (header : Header B) (b : Named B) (old new : Pause) → IsPlain old → Crosses header b old new → new ≡ old
+plain_stays header b Free new plain crosses = crosses
+plain_stays header b Pruning new plain crosses = crosses
+plain_stays header b (Finalizing boundary) new plain crosses = absurd plain
+
+module _ {B C I P R D H G U : Type 0} (w : Workings B C I P R D H G U) (stored : ℕ → Option (Named B)) where
+  -- What stands behind a past where the run of a job of this block has ended: the tables without the requests that waited for
+  -- it, and these are in hand.
+  pub record IsReleased (p : Past B C I) (point : Point w) (j : ℕ) (b : Named B) (m : Moment w) : Type 0 where
+    pub points : Digest → Point w
+    pub tables : TablesStand w stored p points point m.next (released j m.state)
+    pub in_hand : All (IsInHand w stored p (not_on j m.state.requests) m.state.queued b) (released_on j m.state.requests)
+
+  module _ (p : Past B C I) (point : Point w) (m : Moment w) (j : ℕ) (b : Named B) (o : Option U) (how : How) (now : Moment w) where
+    abbrev q : Past B C I
+    q = Made (Ended j how) ∷ Came (Turn j) ∷ p
+
+    module _ (live : LiveRun B R) (live_is : at m.state.runs j ≡ Some live) (turned : R)
+        (behind : (cache : List (Cached U)) (pause : Pause) → IsTold w m.state.anchor live.block m.state.cache cache o how → Crosses w.header live.block m.state.pause pause → IsLeftBy w stored p point m.next m.state j live how cache pause) where
+      abbrev running : Tables B C I R U
+      running = record m.state { runs = put m.state.runs j (record live { run = turned }) }
+
+      -- what is left by the end of a run stands behind its rule
+      IsReleased-from : EndsRun w (record m { state = running }) j b o how now → IsReleased q point j b now
+      IsReleased-from ends =
+          subst (λ (n : Moment w). IsReleased q point j b n) (sym ends.becomes) (record {
+            points = stands.points;
+            tables = rw (without_put m.state.runs j (record live { run = turned })) stands.tables;
+            in_hand = subst (λ (c : Named B). All (IsInHand w stored q (not_on j m.state.requests) m.state.queued c) (released_on j m.state.requests)) block stands.released;
+          })
+        where
+          same : record live { run = turned } ≡ ends.run
+          same = let found : Some (record live { run = turned }) ≡ Some ends.run = rw (at-put m.state.runs j (record live { run = turned }) j, eq-eqb j j refl) at ends.live in search
+
+          block : live.block ≡ b
+          block = ap (λ (r : LiveRun B R). r.block) same ∙ ends.block_is
+
+          stands : IsLeftBy w stored p point m.next m.state j live how ends.cache ends.pause
+          stands = behind ends.cache ends.pause
+              (subst (λ (c : Named B). IsTold w m.state.anchor c m.state.cache ends.cache o how) (sym block) ends.told)
+              (subst (λ (c : Named B). Crosses w.header c m.state.pause ends.pause) (sym block) ends.crosses)
+
+    module _ (points : Digest → Point w) (s : TablesStand w stored p points point m.next m.state) (here : w.kind.point m.members ≡ Some point) (names : TrueNames (setting w stored) p) (round : IsRoundOf w stored p m.state.anchor) (tip : tip_of w.header p ≡ Some m.state.anchor) where
+      -- The tables stand behind the end of a run in its turn, where no finalization goes on, and the requests that waited for
+      -- it are in hand.
+      pub IsReleased-plain : IsPlain m.state.pause → (count : R → ℕ) (running : Tables B C I R U) → TurnsRun w count m.members j m.state running (Ok (Done o)) → EndsRun w (record m { state = running }) j b o how now
+          → IsReleased (Made (Ended j how) ∷ Came (Turn j) ∷ p) point j b now
+      IsReleased-plain plain count after turns ends =
+          IsReleased-from turns.live turns.live_is turns.turned
+          (λ cache pause told crosses. subst (λ x. IsLeftBy w stored p point m.next m.state j turns.live how cache x) (sym (plain_stays w.header turns.live.block m.state.pause pause plain crosses))
+          (IsLeftBy-told w stored p points point m.next m.state s j turns.live turns.live_is m.members here turns.turned names round plain tip cache turns.turns told))
+          (subst (λ (t : Tables B C I R U). EndsRun w (record m { state = t }) j b o how now) turns.state ends)

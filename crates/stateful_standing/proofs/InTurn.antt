@@ -1,0 +1,69 @@
+-- Requests in hand are served in turn.
+use Rattle.std.proofs.Common.{◌≡◌, ◌≢◌, ◌++◌, ◌↔◌, ℕ, suc, get_or, arith, List, [], ◌∷◌, All, AllPairs, Option, Some, refl, sym, ap, ◌∙◌, subst}
+use Rattle.std.proofs.lemmas.List.{append_assoc, append-nil}
+use Rattle.std.proofs.lemmas.List.Elements.{All-weaker, All-head, All-tail}
+use Rattle.stateful_types.specs.Names.{Named}
+use Rattle.stateful_types.specs.declared.digest.Digest.{Digest}
+use Rattle.stateful_history.specs.Past.{Past, after}
+use Rattle.stateful_history.specs.Met.{Met, TrueNames}
+use Rattle.stateful_history.proofs.Marks.{after-append}
+use Rattle.stateful_exec.specs.Ending.{InTurn, none, next}
+use Rattle.stateful_exec.specs.Moments.{Moment}
+use Rattle.stateful_exec.specs.Path.{Path}
+use Rattle.stateful_exec.specs.Workings.{Workings, Point}
+use Rattle.stateful_exec.specs.declared.request.Request.{Request}
+use Rattle.stateful_standing.specs.Setting.{setting}
+use Rattle.stateful_standing.specs.Requesting.{steps, IsWayOf}
+use Rattle.stateful_standing.specs.Standing.{TablesStand, IsInHand, StandsBehind}
+use Rattle.stateful_standing.proofs.Served.{Serves}
+
+module _ {B C I P R D H G U : Type 0} (w : Workings B C I P R D H G U) (stored : ℕ → Option (Named B)) (points : Digest → Point w) (point : Point w) where
+  -- what is asked of the databases and of the past
+  pub record IsReady (p : Past B C I) (m : Moment w) : Type 0 where
+    pub stands : TablesStand w stored p points point m.next m.state
+    pub names : TrueNames (setting w stored) p
+    pub located : w.kind.point m.members ≡ Some point
+    pub drawn : w.kind.issued m.next (point ∷ [])
+
+  module _ {X : Type 0} (ticket : X → ℕ) (request : X → Request B C I) (path : X → Path B) where
+    -- the request is in hand, and its way leads down its path
+    pub record IsOnWay (p : Past B C I) (m : Moment w) (x : X) : Type 0 where
+      pub hand : IsInHand w stored p (ticket x) (request x) m.state
+      pub way : IsWayOf w stored p (request x) (path x)
+
+    module _ (Rule : X → Moment w → Moment w → Type 0)
+        (serves : (p : Past B C I) (m now : Moment w) (x : X) → IsReady p m → IsOnWay p m x → Rule x m now → Serves w stored p points point m (ticket x) now) where
+      still_ready : (p : Past B C I) (m now : Moment w) (t : ℕ) → IsReady p m → (v : Serves w stored p points point m t now) → IsReady (after p v.behind.more) now
+      still_ready p m now t ready v = record {
+        stands = v.behind.stands;
+        names = λ x y has_x has_y. ready.names x y ((v.met x).0 has_x) ((v.met y).0 has_y);
+        located = rw v.behind.members_are ready.located;
+        drawn = v.drawn ready.drawn;
+      }
+
+      still_on_way : (p : Past B C I) (m now : Moment w) (t : ℕ) (v : Serves w stored p points point m t now) (x : X) → ticket x ≢ t → IsOnWay p m x → IsOnWay (after p v.behind.more) now x
+      still_on_way p m now t v x ne h = record {
+        hand = v.others (ticket x) (request x) ne h.hand;
+        way = record {
+          met = All-weaker (Met (setting w stored) p) (Met (setting w stored) (after p v.behind.more)) (λ b met. (v.met b).1 met) (steps (path x)) h.way.met;
+          leads = h.way.leads;
+          begins = h.way.begins;
+        };
+      }
+
+      -- the tables stand behind all of them
+      pub StandsBehind-in_turn : (xs : List X) (p : Past B C I) (m last : Moment w) → IsReady p m → All (IsOnWay p m) xs → AllPairs (λ x y. ticket x ≢ ticket y) xs → InTurn Rule xs m last → StandsBehind w stored p points point m last
+      StandsBehind-in_turn [] p m _ ready each apart none = record { more = []; marks_are = sym (append-nil m.marks); members_are = refl; stands = ready.stands }
+      StandsBehind-in_turn (x ∷ xs) p m last ready each apart (next {n = n} rule rules) =
+          let served : Serves w stored p points point m (ticket x) n = serves p m n x ready (All-head (IsOnWay p m) x xs each) rule in
+          let others : All (λ y. ticket y ≢ ticket x) xs = λ k y within same. apart 0 (suc k) y (omega arith) (omega (arith, within)) (sym same) in
+          let behind : StandsBehind w stored (after p served.behind.more) points point n last =
+              StandsBehind-in_turn xs (after p served.behind.more) n last (still_ready p m n (ticket x) ready served)
+              (λ k y within. still_on_way p m n (ticket x) served (get_or xs k y) (others k y within) (All-tail (IsOnWay p m) x xs each k y within))
+              (λ i j y lt within. apart (suc i) (suc j) y (omega (arith, lt)) (omega (arith, within))) rules in
+          record {
+            more = served.behind.more ++ behind.more;
+            marks_are = behind.marks_are ∙ ap (λ marks. marks ++ behind.more) served.behind.marks_are ∙ append_assoc m.marks served.behind.more behind.more;
+            members_are = behind.members_are ∙ served.behind.members_are;
+            stands = rw (after-append p served.behind.more behind.more) behind.stands;
+          }
