@@ -1,8 +1,9 @@
 -- True verdicts are earned: those of a request that acquires what it needs, where what is at hand is known.
-use Rattle.std.proofs.Common.{◌≡◌, [], ℕ, List, Option, refl, subst, sym}
+use Rattle.std.proofs.Common.{◌≡◌, [], ℕ, List, All, Option, refl, subst, sym}
 use Rattle.stateful_types.specs.Names.{Named}
 use Rattle.stateful_types.specs.declared.digest.Digest.{Digest}
 use Rattle.stateful_history.specs.Known.{Known}
+use Rattle.stateful_history.specs.Met.{Met}
 use Rattle.stateful_history.specs.Past.{Past}
 use Rattle.stateful_cache.specs.Cache.{IsAtHand}
 use Rattle.stateful_exec.specs.Moments.{Moment}
@@ -17,8 +18,9 @@ use Rattle.stateful_exec.specs.declared.request.Verdict.TheVariants as verdict
 use Rattle.stateful_exec.specs.declared.tables.Requested.{Requested}
 use Rattle.stateful_exec.specs.declared.walk.Acquired.TheVariants as acquired
 use Rattle.stateful_standing.specs.Setting.{setting}
-use Rattle.stateful_standing.specs.Requesting.{first_of, IsRequestOf, IsWayOf}
-use Rattle.stateful_standing.specs.Standing.{TablesStand}
+use Rattle.stateful_standing.specs.Requesting.{first_of, IsRequestOf}
+use Rattle.stateful_standing.specs.Standing.{TablesStand, IsInHand}
+use Rattle.stateful_standing.proofs.Acquired.{IsWayOf-ready}
 use Rattle.stateful_standing.proofs.EarnedPath.{IsFolded}
 use Rattle.stateful_standing.proofs.EarnedJudged.{IsStoredNow, Earned-judged}
 use Rattle.stateful_standing.proofs.EarnedMarks.{EarnsBehind, IsTrue, concludes-Earned, concludes-invalid, advances-Earned}
@@ -51,11 +53,11 @@ module _ {B C I P R D H G U : Type 0} (w : Workings B C I P R D H G U) (stored :
   ready-at_hand (Recover u context ancestry input kind) found path needs = needs.4
 
   -- each mark of a request that acquires what it needs keeps the rule
-  pub acquires-Earned : (r : Requested B C I) (now : Moment w) → IsRequestOf w stored p t r.request → ((path : Path B) → Needs w stored_now m r (acquired.Ready path) → IsWayOf w stored p r.request path) → Acquires w stored_now m t r now → EarnsBehind w stored base p m now
-  acquires-Earned r now asked ways (valid needs concludes) = valid-Earned r now asked r.request refl needs concludes
-  acquires-Earned r now asked ways (invalid needs concludes) = concludes-invalid w stored base p points point m s t r asked now concludes
-  acquires-Earned r now asked ways (asks digest needs left becomes) = rw becomes (record { more = _; marks_are = refl; each = (tt, tt) })
-  acquires-Earned r now asked ways (waits needs becomes) = rw becomes (record { more = []; marks_are = refl; each = tt })
-  acquires-Earned r now asked ways (runs {path = path} needs advances) =
-      advances-Earned w stored base p points point m s t (requested r.request) asked m.state.anchor folded path now
-      (λ b met passed. knows b.digest passed.1) (λ none. let here = ready-at_hand r.request r.acquired path needs in (knows path.parent.digest here, here)) (ways path needs) advances
+  pub acquires-Earned : (r : Requested B C I) (now : Moment w) → IsInHand w stored p t r.request m.state → All (Met (setting w stored) p) r.acquired → Acquires w stored_now m t r now → EarnsBehind w stored base p m now
+  acquires-Earned r now hand met (valid needs concludes) = valid-Earned r now hand.asked r.request refl needs concludes
+  acquires-Earned r now hand met (invalid needs concludes) = concludes-invalid w stored base p points point m s t r hand.asked now concludes
+  acquires-Earned r now hand met (asks digest needs left becomes) = rw becomes (record { more = _; marks_are = refl; each = (tt, tt) })
+  acquires-Earned r now hand met (waits needs becomes) = rw becomes (record { more = []; marks_are = refl; each = tt })
+  acquires-Earned r now hand met (runs {path = path} needs advances) =
+      advances-Earned w stored base p points point m s t (requested r.request) hand.asked m.state.anchor folded path now
+      (λ b b_met passed. knows b.digest passed.1) (λ none. let here = ready-at_hand r.request r.acquired path needs in (knows path.parent.digest here, here)) (IsWayOf-ready w stored p m.state.anchor m.state.cache stored_now r.request r.acquired path hand.brought met needs) advances

@@ -22,6 +22,7 @@ use Rattle.stateful_exec.specs.declared.pause.Pause.{Pause}
 use Rattle.stateful_exec.specs.declared.pause.Pause.TheVariants.{Free, Finalizing, Pruning}
 use Rattle.stateful_standing.specs.Setting.{setting}
 use Rattle.stateful_standing.specs.Caching.{IsCached, CacheStands}
+use Rattle.stateful_standing.proofs.EndedKept.{IsRoundOf}
 use Rattle.stateful_standing.proofs.EarnedPaused.{IsClosed, IsClosedBy, anchor-unretained}
 
 -- what is true of each contained element is true of each
@@ -56,7 +57,7 @@ module _ {U : Type 0} where
           (is.each e.digest).1 (inr (Any-from (λ (k : Cached U). k.digest ≡ e.digest) is.kept e kept refl))
 
 module _ {B C I P R D H G U : Type 0} (w : Workings B C I P R D H G U) (stored : ℕ → Option (Named B)) (p : Past B C I) (points : Digest → Point w) (next : w.Ids) (anchor : Anchor) (old : List (Cached U)) (names : TrueNames (setting w stored) p)
-    (top : Named B) (top_met : Met (setting w stored) p top) (named : anchor ≡ anchor_by w.header top) (b : Named B) (met : Met (setting w stored) p b) where
+    (round : IsRoundOf w stored p anchor) (b : Named B) (met : Met (setting w stored) p b) where
   module _ (boundary : Boundary) (s : CacheStands w stored p points next anchor (Finalizing boundary) old) (closed : IsClosed boundary old) (later : IsLater anchor.round boundary.round) where
     at : (e : Cached U) → Contains old e → IsRetained boundary (step_in e) → Contains boundary.compatible e.digest
     at e among retained = (All-contains (λ k. IsRetained boundary (step_in k) → Contains boundary.compatible k.digest) old e closed among) retained
@@ -80,7 +81,7 @@ module _ {B C I P R D H G U : Type 0} (w : Workings B C I P R D H G U) (stored :
         from : (e : Cached U) → Contains old e → (e.parent ≡ b.digest) ⊎ Contains boundary.compatible e.parent → Contains boundary.compatible e.parent
         from e among (inr c) = c
         from e among (inl is) = elim (parent-at_hand anchor.digest old s.in_order e among) [
-          | inl a ↦ absurd (anchor-unretained w stored p points next anchor old names top top_met named boundary b met later on (sym is ∙ a))
+          | inl a ↦ absurd (anchor-unretained w stored p points next anchor old names round boundary b met later on (sym is ∙ a))
           | inr any ↦ subst (λ (d : Digest). Contains boundary.compatible d) (sym is) (cached-compatible on (subst (λ (d : Digest). IsIn old d) is any))
         ]
 

@@ -2,7 +2,6 @@
 use Rattle.std.proofs.Common.{◌≡◌, ◌≢◌, inl, inr, ℕ, List, All, Contains, Option, sym, ap, ◌∙◌, subst, arith}
 use Rattle.std.proofs.lemmas.List.Elements.{All-weaker, All-contains}
 use Rattle.stateful_types.specs.Names.{Named}
-use Rattle.stateful_types.specs.Anchor.{anchor_by}
 use Rattle.stateful_types.specs.Round.{IsLater}
 use Rattle.stateful_types.specs.declared.anchor.Anchor.{Anchor}
 use Rattle.stateful_types.specs.declared.digest.Digest.{Digest}
@@ -21,6 +20,7 @@ use Rattle.stateful_exec.specs.declared.pause.Pause.{Pause}
 use Rattle.stateful_exec.specs.declared.pause.Pause.TheVariants.{Free, Finalizing, Pruning}
 use Rattle.stateful_standing.specs.Setting.{setting}
 use Rattle.stateful_standing.specs.Caching.{IsCached, CacheStands}
+use Rattle.stateful_standing.proofs.EndedKept.{IsRoundOf}
 
 -- each cached block that goes on over the finalization is compatible with it
 abbrev pub IsClosed : {U : Type 0} → Boundary → List (Cached U) → Type 0
@@ -51,13 +51,11 @@ module _ {B C I P R D H G U : Type 0} (w : Workings B C I P R D H G U) (stored :
         (sym h.parent_is ∙ ap (λ (y : Named B). w.header.parent y.block) one ∙ k.parent_is, sym h.round_is ∙ ap (λ (y : Named B). w.header.round y.block) one ∙ k.round_is);
   }
 
-  module _ (top : Named B) (top_met : Met (setting w stored) p top) (named : anchor ≡ anchor_by w.header top) where
+  module _ (round : IsRoundOf w stored p anchor) where
     -- the anchor's block doesn't go on over the finalization of one of a later round
     pub anchor-unretained : (boundary : Boundary) (b : Named B) → Met (setting w stored) p b → IsLater anchor.round boundary.round → IsRetained boundary (step_by w.header b) → b.digest ≢ anchor.digest
     anchor-unretained boundary b met later retained e =
-        let same : b ≡ top = names b top met top_met (e ∙ ap (λ (a : Anchor). a.digest) named) in
-        let round_is : w.header.round b.block ≡ anchor.round = ap (λ (y : Named B). w.header.round y.block) same ∙ sym (ap (λ (a : Anchor). a.round) named) in
-        later_than anchor.round boundary.round later (subst (λ (r : Round). IsLater boundary.round r) round_is retained.later)
+        later_than anchor.round boundary.round later (subst (λ (r : Round). IsLater boundary.round r) (round b met e) retained.later)
 
     -- what a path passes is known
     pub passed-Known : (pause : Pause) → CacheStands w stored p points next anchor pause cache → IsClosedBy pause anchor cache → (b : Named B) → Met (setting w stored) p b → GoesOn w.header pause b → IsAtHand anchor cache b.digest → Known (setting w stored) p b.digest
