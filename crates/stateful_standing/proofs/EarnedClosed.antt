@@ -23,6 +23,7 @@ use Rattle.stateful_exec.specs.declared.pause.Pause.TheVariants.{Free, Finalizin
 use Rattle.stateful_standing.specs.Setting.{setting}
 use Rattle.stateful_standing.specs.Caching.{IsCached, CacheStands}
 use Rattle.stateful_standing.proofs.EndedKept.{IsRoundOf}
+use Rattle.stateful_standing.proofs.EndedFinalizing.{Finalizes}
 use Rattle.stateful_standing.proofs.EarnedPaused.{IsClosed, IsClosedBy, anchor-unretained}
 
 -- what is true of each contained element is true of each
@@ -120,3 +121,7 @@ module _ {B C I P R D H G U : Type 0} (w : Workings B C I P R D H G U) (stored :
   IsClosedBy-ended (Finalizing boundary) Pruning new ended how s closed told crosses = tt
   IsClosedBy-ended Free after new ended how s closed told crosses = subst (λ (x : Pause). IsClosedBy x anchor new) (sym crosses) tt
   IsClosedBy-ended Pruning after new ended how s closed told crosses = subst (λ (x : Pause). IsClosedBy x anchor new) (sym crosses) tt
+
+-- a finalization that goes on is one of a later round than the anchor, and what is cached and goes on is compatible with it
+pub IsClosedBy-finalizes : {B C I P R D H G U : Type 0} (w : Workings B C I P R D H G U) (stored : ℕ → Option (Named B)) (p : Past B C I) (anchor : Anchor) (cache : List (Cached U)) (boundary : Boundary) → Finalizes w stored p anchor cache boundary → IsClosedBy (Finalizing boundary) anchor cache
+IsClosedBy-finalizes w stored p anchor cache boundary f = (f.closed, f.behind)

@@ -40,3 +40,4 @@ pub mod EarnedPaused
 pub mod EarnedClosed
 pub mod EarnedFollows
 pub mod EarnedTogether
+pub mod EarnedCarried
