@@ -41,3 +41,4 @@ pub mod EarnedClosed
 pub mod EarnedFollows
 pub mod EarnedTogether
 pub mod EarnedCarried
+pub mod EarnedLeft
