@@ -42,3 +42,4 @@ pub mod EarnedFollows
 pub mod EarnedTogether
 pub mod EarnedCarried
 pub mod EarnedLeft
+pub mod EarnedInTurn
