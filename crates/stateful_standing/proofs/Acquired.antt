@@ -1,34 +1,37 @@
 -- The tables stand behind a request in hand that acquires what it needs from what the store holds then.
-use Rattle.std.proofs.Common.{◌≡◌, ◌++◌, ℕ, List, [], ◌∷◌, All, Option, Some, take, refl, sym, ap, ◌∙◌, subst}
+use Rattle.std.proofs.Common.{◌≡◌, ◌++◌, ◌+◌, inr, ℕ, List, [], ◌∷◌, All, Option, Some, take, refl, sym, ap, ◌∙◌, subst}
 use Rattle.std.proofs.lemmas.List.{append_assoc}
-use Rattle.std.proofs.lemmas.List.Elements.{All-nil, All-cons, All-head, All-tail, All-append, All-take}
+use Rattle.std.proofs.lemmas.List.Elements.{All-nil, All-cons, All-head, All-tail, All-append, All-take, All-weaker}
 use Rattle.stateful_types.specs.Names.{Header, Named}
 use Rattle.stateful_types.specs.declared.anchor.Anchor.{Anchor}
 use Rattle.stateful_types.specs.declared.digest.Digest.{Digest}
 use Rattle.stateful_cache.specs.declared.cache.Cached.{Cached}
-use Rattle.stateful_history.specs.Past.{Past}
+use Rattle.stateful_history.specs.Past.{Past, Made}
 use Rattle.stateful_history.specs.Met.{Met, TrueNames}
 use Rattle.stateful_history.specs.Fetches.{Abstains}
+use Rattle.stateful_history.specs.declared.mark.Mark.TheVariants.{Asked}
 use Rattle.stateful_exec.specs.Fetching.{IsVerification}
-use Rattle.stateful_exec.specs.Moments.{Moment}
+use Rattle.stateful_exec.specs.Moments.{Moment, Becomes}
 use Rattle.stateful_exec.specs.Path.{Path, Descends}
-use Rattle.stateful_exec.specs.Rules.{requested, first_or, Needs, Acquires, valid, invalid, asks, waits, runs}
+use Rattle.stateful_exec.specs.Rules.{moved, requested, first_or, Needs, Acquires, valid, invalid, asks, waits, runs}
 use Rattle.stateful_exec.specs.Walk.{Walks, IsPrepared}
 use Rattle.stateful_exec.specs.Walk as walk
 use Rattle.stateful_exec.specs.Workings.{Workings, Point}
 use Rattle.stateful_exec.specs.declared.request.Request.{Request}
 use Rattle.stateful_exec.specs.declared.request.Request.TheVariants.{Verify, Recover}
 use Rattle.stateful_exec.specs.declared.request.Verdict.TheVariants as verdict
-use Rattle.stateful_exec.specs.declared.tables.Phase.TheVariants.{Waiting}
+use Rattle.stateful_exec.specs.declared.tables.Phase.TheVariants.{Fetching, Waiting}
 use Rattle.stateful_exec.specs.declared.tables.Requested.{Requested}
 use Rattle.stateful_exec.specs.declared.walk.Acquired.TheVariants as acquired
 use Rattle.stateful_standing.specs.Setting.{setting}
 use Rattle.stateful_standing.specs.Requesting.{first_of, brought_by, LeadsDown, IsWayOf}
 use Rattle.stateful_standing.specs.Standing.{TablesStand, IsInHand, StandsBehind}
 use Rattle.stateful_standing.proofs.AdvanceStands.{All-front}
-use Rattle.stateful_standing.proofs.Advanced.{StandsBehind-concludes, StandsBehind-advances}
+use Rattle.stateful_standing.proofs.Advanced.{Serves-advances}
 use Rattle.stateful_standing.proofs.AskStands.{TablesStand-asks}
-use Rattle.stateful_standing.proofs.PutStands.{TablesStand-put}
+use Rattle.stateful_standing.proofs.Asking.{IsRequestOf-calm}
+use Rattle.stateful_standing.proofs.Putting.{put_other}
+use Rattle.stateful_standing.proofs.Served.{unbrought, Serves, Serves-concludes, Serves-put}
 
 -- the missing blocks and the end of a walk begin with the first block that was walked from
 first_walked : {B : Type 0} (missing : List (Named B)) (last : Named B) (rest : List (Named B)) (first : Named B) (more : List (Named B)) → first ∷ more ≡ missing ++ last ∷ rest → first_or last missing ≡ first
@@ -90,22 +93,32 @@ module _ {B C I P R D H G U : Type 0} (w : Workings B C I P R D H G U) (stored :
     (names : TrueNames (setting w stored) p) (other_states : (n i : w.Ids) (x y : w.States) (c : List (Point w)) → w.kind.issued n ((i, x) ∷ c) → w.kind.issued n ((i, y) ∷ c))
     (located : w.kind.point m.members ≡ Some point) (drawn : w.kind.issued m.next (point ∷ [])) (met : All (Met (setting w stored) p) r.acquired)
     (held : ℕ → Option (Named B)) (abstains : Needs w held m r acquired.Waits → Abstains (setting w stored) t p (first_of r.request)) where
-  -- the tables stand behind a request in hand that acquires what it needs
-  pub StandsBehind-acquires : (now : Moment w) → Acquires w held m t r now → StandsBehind w stored p points point m now
-  StandsBehind-acquires now (valid needs concludes) = StandsBehind-concludes w stored p points point m s t r hand verdict.Valid now concludes
-  StandsBehind-acquires now (invalid needs concludes) = StandsBehind-concludes w stored p points point m s t r hand verdict.Invalid now concludes
-  StandsBehind-acquires now (asks digest needs left becomes) = rw becomes (record {
-    more = _;
-    marks_are = refl;
-    members_are = refl;
-    stands = TablesStand-asks w stored p points point m.next m.state t s r hand met digest;
+  -- a block is asked for, for it
+  Serves-asks : (digest : Digest) (now : Moment w) → Becomes w m (record (moved m.state t r (Fetching m.state.next_fetch)) { next_fetch = m.state.next_fetch + 1 }) (Asked m.state.next_fetch (Some t) digest ∷ []) now → Serves w stored p points point m t now
+  Serves-asks digest now is = rw is (record {
+    behind = record { more = _; marks_are = refl; members_are = refl; stands = TablesStand-asks w stored p points point m.next m.state t s r hand met digest };
+    met = λ b. unbrought (setting w stored) p (Made (Asked m.state.next_fetch (Some t) digest)) b (λ no. no);
+    drawn = λ d. d;
+    others = λ u other ne h. record {
+      absent = put_other m.state.requests t u _ ne ∙ h.absent;
+      not_queued = h.not_queued;
+      own = h.own;
+      brought = All-weaker (Met (setting w stored) p) (Met (setting w stored) (Made (Asked m.state.next_fetch (Some t) digest) ∷ p)) (λ b m. inr m) (brought_by other) h.brought;
+      asked = IsRequestOf-calm w stored p (Made (Asked m.state.next_fetch (Some t) digest)) u other (record { live = refl; verified = refl; proposed = refl }) h.asked;
+    };
   })
-  StandsBehind-acquires now (waits needs becomes) = rw becomes (record {
-    more = [];
-    marks_are = refl;
-    members_are = refl;
-    stands = TablesStand-put w stored p points point m.next m.state t s r hand met Waiting (waits-IsVerification w stored p m.state.anchor m.state.cache held r.request r.acquired needs, abstains needs);
-  })
-  StandsBehind-acquires now (runs {path = path} needs advances) =
-      StandsBehind-advances w stored p points point m s t (requested r.request) hand names other_states located drawn (All-nil (Met (setting w stored) p)) path now
+
+  -- a request in hand acquires what it needs
+  pub Serves-acquires : (now : Moment w) → Acquires w held m t r now → Serves w stored p points point m t now
+  Serves-acquires now (valid needs concludes) = Serves-concludes w stored p points point m s t r hand verdict.Valid now concludes
+  Serves-acquires now (invalid needs concludes) = Serves-concludes w stored p points point m s t r hand verdict.Invalid now concludes
+  Serves-acquires now (asks digest needs left becomes) = Serves-asks digest now becomes
+  Serves-acquires now (waits needs becomes) =
+      Serves-put w stored p points point m s t r hand Waiting now met (waits-IsVerification w stored p m.state.anchor m.state.cache held r.request r.acquired needs, abstains needs) becomes
+  Serves-acquires now (runs {path = path} needs advances) =
+      Serves-advances w stored p points point m s t (requested r.request) hand names other_states located drawn (All-nil (Met (setting w stored) p)) path now
       (IsWayOf-ready w stored p m.state.anchor m.state.cache held r.request r.acquired path hand.brought met needs) advances
+
+  -- the tables stand behind it
+  pub StandsBehind-acquires : (now : Moment w) → Acquires w held m t r now → StandsBehind w stored p points point m now
+  StandsBehind-acquires now acquires = (Serves-acquires now acquires).behind

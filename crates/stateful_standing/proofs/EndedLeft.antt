@@ -40,7 +40,8 @@ module _ {V : Type 0} (keep : ℕ × V → Bool) where
       go false is rest = rw is rest
 
 module _ {V : Type 0} where
-  at_below : (k : ℕ) (es : List (ℕ × V)) (t : ℕ) (v : V) → AllByRecursion (λ y. nat_cmp k y ≡ Less) (keys_of es) → at es t ≡ Some v → nat_cmp k t ≡ Less
+  -- the numbers of entries above a number are above it
+  pub at_below : (k : ℕ) (es : List (ℕ × V)) (t : ℕ) (v : V) → AllByRecursion (λ y. nat_cmp k y ≡ Less) (keys_of es) → at es t ≡ Some v → nat_cmp k t ≡ Less
   at_below k [] t v h there = let no : None ≡ Some v = there in cc
   at_below k (e ∷ es) t v h there = go (e.0 == t) refl (at_below k es t v h.1)
     where

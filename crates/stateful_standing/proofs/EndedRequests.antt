@@ -24,7 +24,7 @@ use Rattle.stateful_exec.specs.declared.tables.Phase.TheVariants.{Fetching, Exec
 use Rattle.stateful_exec.specs.declared.tables.Released.{Released}
 use Rattle.stateful_exec.specs.declared.tables.Requested.{Requested}
 use Rattle.stateful_standing.specs.Setting.{setting}
-use Rattle.stateful_standing.specs.Requesting.{IsRequestOf, IsWayOf, IsInPhase, IsStanding, RequestsStand, QueueStands}
+use Rattle.stateful_standing.specs.Requesting.{brought_by, IsRequestOf, IsWayOf, IsInPhase, IsStanding, RequestsStand, QueueStands}
 use Rattle.stateful_standing.proofs.Asking.{IsStanding-calm}
 use Rattle.stateful_standing.proofs.Removing.{at_other, at_gone, All-at}
 use Rattle.stateful_standing.proofs.RunEnded.{IsStanding-runs}
@@ -33,9 +33,10 @@ use Rattle.stateful_standing.proofs.EndedLeft.{sorted_filter, each_at, All-relea
 module _ {B C I P R D H G U : Type 0} (w : Workings B C I P R D H G U) (stored : ℕ → Option (Named B)) (p : Past B C I) (requests : List (ℕ × Requested B C I)) (queued : List (ℕ × Proposal B C I)) (b : Named B) where
   -- A request that waited for the run of this block is in hand: it is of its ticket and live, its way leads down to the block,
   -- which is one of the history, and it is in no table.
-  pub record IsInHand (r : Released B C I) : Type 0 where
+  pub record IsTakenOut (r : Released B C I) : Type 0 where
     pub own : ticket_by r.request ≡ r.ticket
     pub asked : IsRequestOf w stored p r.ticket r.request
+    pub brought : All (Met (setting w stored) p) (brought_by r.request)
     pub way : IsWayOf w stored p r.request r.path
     pub leads : r.path.parent ≡ b
     pub met : Met (setting w stored) p b
@@ -86,8 +87,8 @@ module _ {B C I P R D H G U : Type 0} (w : Workings B C I P R D H G U) (stored :
 
   module _ (queued : List (ℕ × Proposal B C I)) (once : (t : ℕ) → IsSome (at requests t) → at queued t ≡ None) (live : LiveRun B R) (live_is : at runs j ≡ Some live) (met : Met (setting w stored) p live.block) where
     -- those that waited for it are in hand
-    pub released-IsInHand : All (IsInHand w stored ended (not_on j requests) queued live.block) (released_on j requests)
-    released-IsInHand = All-released j (IsInHand w stored ended (not_on j requests) queued live.block) requests (λ k d l path is.
+    pub released-IsTakenOut : All (IsTakenOut w stored ended (not_on j requests) queued live.block) (released_on j requests)
+    released-IsTakenOut = All-released j (IsTakenOut w stored ended (not_on j requests) queued live.block) requests (λ k d l path is.
         let e = get_or requests k d in
         let s = standing e.0 e.1 (h.each k d l) in
         let there = each_at requests h.ascending k d l in
@@ -97,6 +98,7 @@ module _ {B C I P R D H G U : Type 0} (w : Workings B C I P R D H G U) (stored :
         record {
           own = s.own;
           asked = s.asked;
+          brought = s.brought;
           way = phase.1;
           leads = sym block;
           met = inr (inr met);

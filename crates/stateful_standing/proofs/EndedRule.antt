@@ -27,7 +27,7 @@ use Rattle.stateful_exec.specs.declared.state.Tables.{Tables}
 use Rattle.stateful_exec.specs.declared.tables.LiveRun.{LiveRun}
 use Rattle.stateful_standing.specs.Setting.{setting}
 use Rattle.stateful_standing.specs.Standing.{TablesStand}
-use Rattle.stateful_standing.proofs.EndedRequests.{IsInHand}
+use Rattle.stateful_standing.proofs.EndedRequests.{IsTakenOut}
 use Rattle.stateful_standing.proofs.EndedStands.{left, IsLeftBy}
 use Rattle.stateful_standing.proofs.EndedKept.{IsRoundOf}
 use Rattle.stateful_standing.proofs.EndedTold.{IsPlain, IsLeftBy-told}
@@ -57,7 +57,7 @@ module _ {B C I P R D H G U : Type 0} (w : Workings B C I P R D H G U) (stored :
   pub record IsReleased (p : Past B C I) (point : Point w) (j : ℕ) (b : Named B) (m : Moment w) : Type 0 where
     pub points : Digest → Point w
     pub tables : TablesStand w stored p points point m.next (released j m.state)
-    pub in_hand : All (IsInHand w stored p (not_on j m.state.requests) m.state.queued b) (released_on j m.state.requests)
+    pub in_hand : All (IsTakenOut w stored p (not_on j m.state.requests) m.state.queued b) (released_on j m.state.requests)
 
   module _ (p : Past B C I) (point : Point w) (m : Moment w) (j : ℕ) (b : Named B) (o : Option U) (how : How) (now : Moment w) where
     abbrev q : Past B C I
@@ -74,7 +74,7 @@ module _ {B C I P R D H G U : Type 0} (w : Workings B C I P R D H G U) (stored :
           subst (λ (n : Moment w). IsReleased q point j b n) (sym ends.becomes) (record {
             points = stands.points;
             tables = rw (without_put m.state.runs j (record live { run = turned })) stands.tables;
-            in_hand = subst (λ (c : Named B). All (IsInHand w stored q (not_on j m.state.requests) m.state.queued c) (released_on j m.state.requests)) block stands.released;
+            in_hand = subst (λ (c : Named B). All (IsTakenOut w stored q (not_on j m.state.requests) m.state.queued c) (released_on j m.state.requests)) block stands.released;
           })
         where
           same : record live { run = turned } ≡ ends.run

@@ -28,7 +28,7 @@ use Rattle.stateful_standing.specs.Running.{IsRunning, RunsStand}
 use Rattle.stateful_standing.specs.Standing.{TablesStand}
 use Rattle.stateful_standing.proofs.Calm.{IsCalm, CacheStands-calm}
 use Rattle.stateful_standing.proofs.Removing.{All-at}
-use Rattle.stateful_standing.proofs.EndedRequests.{IsInHand, RequestsStand-turned, left_before, released-IsInHand, QueueStands-turned}
+use Rattle.stateful_standing.proofs.EndedRequests.{IsTakenOut, RequestsStand-turned, left_before, released-IsTakenOut, QueueStands-turned}
 use Rattle.stateful_standing.proofs.EndedRuns.{Moves, IsCached-moved, RunsStand-turned}
 use Rattle.stateful_standing.proofs.EndedKnown.{started-by, turn-IsCalm, Known-turned, Known-turned_before}
 use Rattle.stateful_standing.proofs.EndedPoints.{Moves-turned}
@@ -50,7 +50,7 @@ module _ {B C I P R D H G U : Type 0} (w : Workings B C I P R D H G U) (stored :
   pub record IsLeftBy (cache : List (Cached U)) (pause : Pause) : Type 0 where
     pub points : Digest → Point w
     pub tables : TablesStand w stored ended points point next (left old j cache pause)
-    pub released : All (IsInHand w stored ended (not_on j old.requests) old.queued live.block) (released_on j old.requests)
+    pub released : All (IsTakenOut w stored ended (not_on j old.requests) old.queued live.block) (released_on j old.requests)
 
 module _ {B C I P R D H G U : Type 0} (w : Workings B C I P R D H G U) (stored : ℕ → Option (Named B)) (p : Past B C I) (points : Digest → Point w) (point : Point w) (next : w.Ids) (old : Tables B C I R U) (s : TablesStand w stored p points point next old) (j : ℕ) (live : LiveRun B R) (live_is : at old.runs j ≡ Some live) where
   pub running : IsRunning w stored p points next old.anchor old.cache j live
@@ -86,7 +86,7 @@ module _ {B C I P R D H G U : Type 0} (w : Workings B C I P R D H G U) (stored :
         queue = QueueStands-turned w stored p old.runs old.requests s.requests j how old.queued old.recovered s.queue;
         numbers = record { jobs = s.numbers.jobs; unturned = unturned_later; fetches = s.numbers.fetches };
       };
-      released = released-IsInHand w stored p old.runs old.requests s.requests j how old.queued s.once live live_is running.met;
+      released = released-IsTakenOut w stored p old.runs old.requests s.requests j how old.queued s.once live live_is running.met;
     }
 
     runs-same : RunsStand w stored (ended w stored p point next old j live how) points next old.anchor old.cache (without old.runs j)

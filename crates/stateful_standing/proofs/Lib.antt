@@ -31,6 +31,8 @@ pub mod EndedStands
 pub mod EndedKept
 pub mod EndedTold
 pub mod EndedRule
+pub mod FollowStands
+pub mod Parked
 pub mod EndedFinalizing
 pub mod EarnedPath
 pub mod EarnedJudged

@@ -25,7 +25,7 @@ use Rattle.stateful_standing.proofs.Putting.{put_other}
 use Rattle.stateful_standing.proofs.PutStands.{TablesStand-put}
 
 -- what the item doesn't bring was there before
-unbrought : {B C I S T : Type 0} (s : _) (p : Past B C I) (x : Item B C I) (b : Named B) → (Brings x b → ⊥) → Met {S = S} {T = T} s (x ∷ p) b ↔ Met s p b
+pub unbrought : {B C I S T : Type 0} (s : _) (p : Past B C I) (x : Item B C I) (b : Named B) → (Brings x b → ⊥) → Met {S = S} {T = T} s (x ∷ p) b ↔ Met s p b
 unbrought s p x b none = (λ m. elim m [ | inl new ↦ absurd (none new) | inr old ↦ old ], λ m. inr m)
 
 module _ {B C I P R D H G U : Type 0} (w : Workings B C I P R D H G U) (stored : ℕ → Option (Named B)) (p : Past B C I) (points : Digest → Point w) (point : Point w) (m : Moment w) where
