@@ -53,7 +53,8 @@ module _ {B C I : Type 0} where
 
 module _ {B C I P R D H G U : Type 0} (w : Workings B C I P R D H G U) (stored : ℕ → Option (Named B)) (points : Digest → Point w) (point : Point w)
     (other_states : (n i : w.Ids) (x y : w.States) (c : List (Point w)) → w.kind.issued n ((i, x) ∷ c) → w.kind.issued n ((i, y) ∷ c)) where
-  Serves-follows : (b : Named B) (how : How) (p : Past B C I) (m now : Moment w) (r : Released B C I) → IsReady w stored points point p m → IsOnWay w stored points point ticket_of request_of path_of p m r
+  -- a request that waited for a run of the block is served
+  pub Serves-follows : (b : Named B) (how : How) (p : Past B C I) (m now : Moment w) (r : Released B C I) → IsReady w stored points point p m → IsOnWay w stored points point ticket_of request_of path_of p m r
       → Follows w b how r m now → Serves w stored p points point m r.ticket now
   Serves-follows b how p m now r ready on (given_up up concludes) = Serves-concludes w stored p points point m ready.stands r.ticket (requested r.request) on.hand _ now concludes
   Serves-follows b how p m now r ready on (held is becomes) =

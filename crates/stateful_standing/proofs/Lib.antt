@@ -35,3 +35,14 @@ pub mod FollowStands
 pub mod Parked
 pub mod EndedFinalizing
 pub mod EndedOver
+pub mod EarnedPath
+pub mod EarnedJudged
+pub mod EarnedMarks
+pub mod EarnedAcquired
+pub mod EarnedPaused
+pub mod EarnedClosed
+pub mod EarnedFollows
+pub mod EarnedTogether
+pub mod EarnedCarried
+pub mod EarnedLeft
+pub mod EarnedInTurn
