@@ -78,7 +78,7 @@ module _ {B C I P R D H G U : Type 0} (w : Workings B C I P R D H G U) (stored :
   IsWayOf-ready held (Verify t ancestry) more path brought met (walk.runs unjudged (walk.child {more = behind} {parent = parent} chain_is child walks)) =
       way_of_verification (Verify t ancestry) parent behind path (All-head (Met (setting w stored) p) ancestry.first ancestry.rest brought)
       (subst (λ l. All (Met (setting w stored) p) l) chain_is
-        (All-append (Met (setting w stored) p) (take 1 ancestry.rest) more (All-take (Met (setting w stored) p) 1 ancestry.rest (All-tail (Met (setting w stored) p) ancestry.first ancestry.rest brought)) met))
+      (All-append (Met (setting w stored) p) (take 1 ancestry.rest) more (All-take (Met (setting w stored) p) 1 ancestry.rest (All-tail (Met (setting w stored) p) ancestry.first ancestry.rest brought)) met))
       child (subst (λ l. Walks w.header anchor cache (ancestry.first ∷ []) l (acquired.Ready path)) chain_is walks)
   IsWayOf-ready held (Recover t context ancestry input kind) more path brought met walks =
       way_of_proposal (Recover t context ancestry input kind) more path (All-cons (Met (setting w stored) p) ancestry.first more (All-head (Met (setting w stored) p) ancestry.first ancestry.rest brought) met) walks

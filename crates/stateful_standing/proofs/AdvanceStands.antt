@@ -1,19 +1,18 @@
 -- The tables stand behind a request that goes along its path.
-use Rattle.std.proofs.Common.{rules, ◌≡◌, ◌≢◌, ◌++◌, ℕ, List, [], ◌∷◌, All, Option, Some, None, MatchOption, inl, inr, refl, sym, ap, ◌∙◌, subst}
-use Rattle.std.proofs.lemmas.List.{append_assoc, append-nil}
+use Rattle.std.proofs.Common.{◌≡◌, ◌++◌, ℕ, List, [], ◌∷◌, All, Option, refl, sym, ap, ◌∙◌, subst}
+use Rattle.std.proofs.lemmas.List.{append_assoc}
 use Rattle.std.proofs.lemmas.List.Elements.{All-nil, All-cons, All-head, All-tail}
 use Rattle.stateful_types.specs.Names.{Header, Named}
-use Rattle.stateful_types.specs.declared.digest.Digest.{Digest}
 use Rattle.stateful_history.specs.Setting.{parent_of}
-use Rattle.stateful_history.specs.Past.{Past, after}
+use Rattle.stateful_history.specs.Past.{Past}
 use Rattle.stateful_history.specs.Met.{Met}
 use Rattle.stateful_exec.specs.Path.{Path, Descends}
 use Rattle.stateful_exec.specs.Rules.{first_or, Reaches}
-use Rattle.stateful_exec.specs.Workings.{Workings, Point}
+use Rattle.stateful_exec.specs.Workings.{Workings}
 use Rattle.stateful_exec.specs.declared.request.Request.{Request}
 use Rattle.stateful_exec.specs.declared.state.Tables.{Tables}
 use Rattle.stateful_standing.specs.Setting.{setting}
-use Rattle.stateful_standing.specs.Requesting.{first_of, steps, LeadsDown, IsWayOf}
+use Rattle.stateful_standing.specs.Requesting.{steps, LeadsDown, IsWayOf}
 
 module _ {B : Type 0} (header : Header B) where
   Descends-front : (xs ys : List (Named B)) → Descends header (xs ++ ys) → Descends header xs

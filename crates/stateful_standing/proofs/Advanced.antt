@@ -1,15 +1,13 @@
 -- A request in hand goes along its path.
-use Rattle.std.proofs.Common.{◌≡◌, ◌≢◌, ◌++◌, ℕ, List, [], ◌∷◌, All, Option, Some, None, MatchOption, refl, sym, ap, ◌∙◌, subst}
-use Rattle.std.proofs.lemmas.List.{append-nil}
+use Rattle.std.proofs.Common.{◌≡◌, ℕ, List, [], ◌∷◌, All, Option, Some, None, MatchOption, refl}
 use Rattle.stateful_types.specs.Names.{Named}
 use Rattle.stateful_types.specs.declared.digest.Digest.{Digest}
 use Rattle.stateful_history.specs.Past.{Past}
 use Rattle.stateful_history.specs.Met.{Met, TrueNames}
-use Rattle.stateful_history.specs.declared.mark.Mark.{Mark}
 use Rattle.stateful_table.specs.Table.{at}
-use Rattle.stateful_exec.specs.Moments.{Moment, Becomes}
+use Rattle.stateful_exec.specs.Moments.{Moment}
 use Rattle.stateful_exec.specs.Path.{Path}
-use Rattle.stateful_exec.specs.Rules.{HasRun, Concludes, Launches, Advances, arrives, leaves, joins, starts, misses}
+use Rattle.stateful_exec.specs.Rules.{HasRun, Concludes, Advances, arrives, leaves, joins, starts, misses}
 use Rattle.stateful_exec.specs.Workings.{Workings, Point}
 use Rattle.stateful_exec.specs.declared.request.Verdict.{Verdict}
 use Rattle.stateful_exec.specs.declared.tables.LiveRun.{LiveRun}
@@ -52,8 +50,8 @@ module _ {B C I P R D H G U : Type 0} (w : Workings B C I P R D H G U) (stored :
     Serves-advances path now way (starts {left = left} {b = b} {parent = parent} reaches on unknown unrun known launches) =
         Serves-launches w stored p points point m s t r hand now launches
         (rw launches.state (TablesStand-launches w stored p points point m.next now.next m.state launches.running s other_states m.members located drawn b parent launches.starts
-            (reached_met w stored p m.state r.request path way left b parent reaches) (reached_parent_met w stored p m.state r.request path way left b parent reaches)
-            (reached_child w stored p m.state r.request path way left b parent reaches) known unrun t r hand met left (reached_way w stored p m.state r.request path way left b parent reaches)))
+        (reached_met w stored p m.state r.request path way left b parent reaches) (reached_parent_met w stored p m.state r.request path way left b parent reaches)
+        (reached_child w stored p m.state r.request path way left b parent reaches) known unrun t r hand met left (reached_way w stored p m.state r.request path way left b parent reaches)))
     Serves-advances path now way (misses reaches on unknown unrun known concludes) = Serves-concludes w stored p points point m s t r hand _ now concludes
 
     -- the tables stand behind a request that goes along its path

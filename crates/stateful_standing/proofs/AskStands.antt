@@ -1,6 +1,6 @@
 -- The tables stand behind a block that is asked for.
-use Rattle.std.proofs.Common.{rules, ◌≡◌, ◌≢◌, ◌==◌, ◌||◌, ◌+◌, ◌<◌, ℕ, Bool, true, false, List, [], ◌∷◌, All, Option, Some, None, IsSome, MatchOption, get_or, if◌then◌else◌, inr, refl, sym, ap, ◌∙◌, subst, arith}
-use Rattle.std.proofs.lemmas.Bool.{eqb-true, eqb-false, eq-eqb}
+use Rattle.std.proofs.Common.{◌≡◌, ◌≢◌, ◌==◌, ◌+◌, ◌<◌, ℕ, Bool, true, false, ◌∷◌, All, Option, Some, None, MatchOption, get_or, inr, refl, sym, ap, ◌∙◌, subst, arith}
+use Rattle.std.proofs.lemmas.Bool.{eqb-true, eq-eqb}
 use Rattle.stateful_types.specs.Names.{Named}
 use Rattle.stateful_types.specs.declared.digest.Digest.{Digest}
 use Rattle.stateful_history.specs.Past.{Past, Item, Made}
@@ -17,8 +17,8 @@ use Rattle.stateful_exec.specs.declared.tables.Requested.{Requested}
 use Rattle.stateful_standing.specs.Setting.{setting}
 use Rattle.stateful_standing.specs.Requesting.{IsInPhase, IsStanding}
 use Rattle.stateful_standing.specs.Standing.{TablesStand, IsInHand}
-use Rattle.stateful_standing.proofs.Calm.{IsCalm, LeavesJob, CacheStands-calm, RunsStand-calm}
-use Rattle.stateful_standing.proofs.Asking.{LeavesTicket, LeavesFetch, IsRequestOf-calm, IsStanding-calm}
+use Rattle.stateful_standing.proofs.Calm.{IsCalm, CacheStands-calm, RunsStand-calm}
+use Rattle.stateful_standing.proofs.Asking.{LeavesFetch, IsRequestOf-calm, IsStanding-calm}
 use Rattle.stateful_standing.proofs.Cancelled.{same_ticket}
 use Rattle.stateful_standing.proofs.Removing.{differ}
 use Rattle.stateful_standing.proofs.Putting.{sorted_put, All-put, put_here, tickets_more}

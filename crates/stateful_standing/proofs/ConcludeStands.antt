@@ -1,16 +1,11 @@
 -- The tables stand behind the end of a request.
-use Rattle.std.proofs.Common.{rules, ◌≡◌, ◌≢◌, ◌==◌, ◌++◌, ℕ, Bool, true, false, List, [], ◌∷◌, All, Option, Some, None, IsSome, MatchOption, get_or, if◌then◌else◌, refl, sym, ap, ◌∙◌, subst}
-use Rattle.std.proofs.lemmas.Bool.{eqb-true, eqb-false, eq-eqb}
+use Rattle.std.proofs.Common.{◌≡◌, ◌≢◌, ◌==◌, ◌++◌, ℕ, Bool, true, false, [], ◌∷◌, Option, None, IsSome, get_or, refl, sym, ◌∙◌, subst}
+use Rattle.std.proofs.lemmas.Bool.{eqb-true, eqb-false}
 use Rattle.std.proofs.lemmas.List.Elements.{All-push, All-weaker}
 use Rattle.stateful_types.specs.Names.{Named}
-use Rattle.stateful_types.specs.declared.block.Ancestry.{Ancestry}
 use Rattle.stateful_types.specs.declared.digest.Digest.{Digest}
-use Rattle.stateful_db.specs.declared.application.ProposalKind.{ProposalKind}
 use Rattle.stateful_history.specs.Past.{Past, Item, Made, after}
-use Rattle.stateful_history.specs.Asked.{asked_for}
 use Rattle.stateful_history.specs.Fetches.{Abstains}
-use Rattle.stateful_history.specs.Live.{live_fetch}
-use Rattle.stateful_history.specs.Jobs.{started_for, turns}
 use Rattle.stateful_history.specs.Requests.{IsLiveProposal}
 use Rattle.stateful_history.specs.declared.mark.Mark.TheVariants.{Verdict, Declined}
 use Rattle.stateful_table.specs.Table.{at, put}
@@ -22,10 +17,8 @@ use Rattle.stateful_exec.specs.declared.request.Request.TheVariants.{Verify, Rec
 use Rattle.stateful_exec.specs.declared.request.Verdict.TheVariants as verdict
 use Rattle.stateful_exec.specs.declared.request.Verdict.{Verdict as Verdicts}
 use Rattle.stateful_exec.specs.declared.state.Tables.{Tables}
-use Rattle.stateful_exec.specs.declared.tables.Phase.TheVariants.{Fetching}
-use Rattle.stateful_exec.specs.declared.tables.Requested.{Requested}
 use Rattle.stateful_standing.specs.Setting.{setting}
-use Rattle.stateful_standing.specs.Requesting.{first_of, IsStanding, QueueStands}
+use Rattle.stateful_standing.specs.Requesting.{first_of}
 use Rattle.stateful_standing.specs.Standing.{TablesStand, IsInHand}
 use Rattle.stateful_standing.proofs.Calm.{IsCalm, LeavesJob, CacheStands-calm, RunsStand-calm}
 use Rattle.stateful_standing.proofs.Asking.{LeavesTicket, LeavesFetch, IsStanding-calm}

@@ -52,9 +52,9 @@ module _ {U : Type 0} where
       each : (e : Cached U) → Contains cache e → IsRetained boundary (step_in e) → Contains boundary.compatible e.digest
       each e among retained =
           let whole : e.digest ≢ b.digest → IsLater (header.round b.block) e.round → GoesOn (anchor_by header b) is.kept e → Contains is.kept e =
-              All-contains (λ k. k.digest ≢ b.digest → IsLater (header.round b.block) k.round → GoesOn (anchor_by header b) is.kept k → Contains is.kept k) cache e (is.cut.whole anchor named) among in
+          All-contains (λ k. k.digest ≢ b.digest → IsLater (header.round b.block) k.round → GoesOn (anchor_by header b) is.kept k → Contains is.kept k) cache e (is.cut.whole anchor named) among in
           let kept : Contains is.kept e =
-              whole (λ same. retained.other (same ∙ sym is.digest_is)) (subst (λ (r : Round). IsLater r e.round) is.round_is retained.later) ((is.each e.parent).0 retained.parent) in
+          whole (λ same. retained.other (same ∙ sym is.digest_is)) (subst (λ (r : Round). IsLater r e.round) is.round_is retained.later) ((is.each e.parent).0 retained.parent) in
           (is.each e.digest).1 (inr (Any-from (λ (k : Cached U). k.digest ≡ e.digest) is.kept e kept refl))
 
 module _ {B C I P R D H G U : Type 0} (w : Workings B C I P R D H G U) (stored : ℕ → Option (Named B)) (p : Past B C I) (points : Digest → Point w) (next : w.Ids) (anchor : Anchor) (old : List (Cached U)) (names : TrueNames (setting w stored) p)

@@ -40,8 +40,11 @@ module _ {B C I P R D H G U : Type 0} (w : Workings B C I P R D H G U) (stored :
         go : (x : Bool) → list_any (same b.digest) boundary.compatible ≡ x → (y : Bool) → same b.digest boundary.digest ≡ y → Known (setting w stored) p b.digest
         go true is y same_is = (s.knows b.digest).1 (inr (any, (finds b.digest boundary.compatible).0 is))
         go false is true same_is = (s.knows b.digest).1 (inl (same_digest b.digest boundary.digest same_is))
-        go false is false same_is = absurd (kept (other, λ on.
-            let found = (finds b.digest boundary.compatible).1 (cached-compatible w stored p points next anchor cache names round b met boundary s closed.0 closed.1 on any) in cc))
+        go false is false same_is = absurd (kept (
+          other,
+          λ on.
+              let found = (finds b.digest boundary.compatible).1 (cached-compatible w stored p points next anchor cache names round b met boundary s closed.0 closed.1 on any) in cc,
+        ))
           where
             other : b.digest ≢ boundary.digest
             other e = let true_is : same b.digest boundary.digest ≡ true = same_itself b.digest boundary.digest e in cc

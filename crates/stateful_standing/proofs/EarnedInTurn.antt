@@ -112,8 +112,8 @@ module _ {B C I P R D H G U : Type 0} (w : Workings B C I P R D H G U) (stored :
   EarnsBehind-follows b how serves rs p m last ready turns =
       EarnsBehind-served (λ (x : Released B C I). x.ticket) (λ x. x.request) (λ x. x.path) (λ pause anchor cache x. x.path.parent ≡ b) (Follows w b how) serves (λ m now r rule. LeavesBehind-follows w b how r m now rule)
       (λ p m now r ready f on is rule.
-          let met : Met (setting w stored) p r.path.parent = All-last (Met (setting w stored) p) r.path.blocks r.path.parent on.way.met in
-          follows-Earned w stored p ready.names base points point m ready.stands f.closed tip f.folded f.round b how r now (subst (λ (x : Named B). Met (setting w stored) p x) is met) is on.hand.asked on.way rule)
+      let met : Met (setting w stored) p r.path.parent = All-last (Met (setting w stored) p) r.path.blocks r.path.parent on.way.met in
+      follows-Earned w stored p ready.names base points point m ready.stands f.closed tip f.folded f.round b how r now (subst (λ (x : Named B). Met (setting w stored) p x) is met) is on.hand.asked on.way rule)
       rs p m last ready turns
 
   -- execution isn't paused, and a path of no blocks begins at a block at hand
@@ -126,6 +126,6 @@ module _ {B C I P R D H G U : Type 0} (w : Workings B C I P R D H G U) (stored :
   EarnsBehind-along serves rs p m last ready turns =
       EarnsBehind-served (λ (x : Released B C I). x.ticket) (λ x. x.request) (λ x. x.path) BeginsAtHand (GoesAlong w) serves (λ m now r rule. LeavesBehind-advances w m now r.ticket (requested r.request) r.path rule)
       (λ p m now r ready f on begins rule.
-          advances-paused w stored p ready.names base points point m ready.stands f.closed tip f.folded f.round r.ticket (requested r.request) r.path now on.hand.asked on.way
-          (λ none. let here = begins.1 none in (Known-free w stored base p points point m.next m.state ready.stands begins.0 r.path.parent.digest here, here)) rule)
+      advances-paused w stored p ready.names base points point m ready.stands f.closed tip f.folded f.round r.ticket (requested r.request) r.path now on.hand.asked on.way
+      (λ none. let here = begins.1 none in (Known-free w stored base p points point m.next m.state ready.stands begins.0 r.path.parent.digest here, here)) rule)
       rs p m last ready turns

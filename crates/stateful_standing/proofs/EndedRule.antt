@@ -121,7 +121,7 @@ module _ {B C I P R D H G U : Type 0} (w : Workings B C I P R D H G U) (stored :
       IsReleased-over over count after turns ends =
           let e : EndsRun w (record m { state = running turns.live turns.live_is turns.turned }) j b o how now = subst (λ (t : Tables B C I R U). EndsRun w (record m { state = t }) j b o how now) turns.state ends in
           let left : IsLeftOver w stored p point m.next m.state j turns.live how e.cache e.pause =
-              IsLeftOver-told w stored p points point m.next m.state s names round j turns.live turns.live_is over.boundary over.goes_on over.pause_is m.members here turns.turned e.cache e.pause turns.turns
-              (told_so turns.live turns.live_is turns.turned e)
-              (subst (λ x. Crosses w.header turns.live.block x e.pause) over.pause_is (crosses_so turns.live turns.live_is turns.turned e)) in
+          IsLeftOver-told w stored p points point m.next m.state s names round j turns.live turns.live_is over.boundary over.goes_on over.pause_is m.members here turns.turned e.cache e.pause turns.turns
+          (told_so turns.live turns.live_is turns.turned e)
+          (subst (λ x. Crosses w.header turns.live.block x e.pause) over.pause_is (crosses_so turns.live turns.live_is turns.turned e)) in
           (IsReleased-from turns.live turns.live_is turns.turned e left.leaves, GoesOn-from turns.live turns.live_is turns.turned e left)

@@ -136,7 +136,7 @@ module _ {B C I P R D H G U : Type 0} (w : Workings B C I P R D H G U) (stored :
     (other_states : (n i : w.Ids) (x y : w.States) (c : List (Point w)) → w.kind.issued n ((i, x) ∷ c) → w.kind.issued n ((i, y) ∷ c))
     (located : w.kind.point m.members ≡ Some point) (drawn : w.kind.issued m.next (point ∷ []))
     (held : ℕ → Option (Named B)) (abstains : (t : ℕ) (r : Requested B C I) (b : Named B) → Fetches m.state f t r → answer ≡ Some b → Needs w held (serving w m t) (with_block r b) Waits
-      → Abstains (setting w stored) t (Came (Fetched f answer) ∷ p) (first_of r.request)) where
+    → Abstains (setting w stored) t (Came (Fetched f answer) ∷ p) (first_of r.request)) where
   -- what stands behind the moment where a request is served stands behind the one before it
   behind_serving : (q : Past B C I) (t : ℕ) (now : Moment w) → StandsBehind w stored q points point (serving w m t) now → StandsBehind w stored q points point m now
   behind_serving q t now h = record { more = h.more; marks_are = h.marks_are; members_are = h.members_are; stands = h.stands }

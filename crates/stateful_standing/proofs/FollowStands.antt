@@ -1,14 +1,10 @@
 -- The tables stand behind the requests that waited for a run that has ended.
-use Rattle.std.proofs.Common.{◌≡◌, ◌≢◌, ◌++◌, inl, inr, ap, ◌<◌, ℕ, arith, get_or, List, [], ◌∷◌, All, AllPairs, Option, Some, None, refl, sym, subst, ◌∙◌}
-use Rattle.std.specs.Map.{keys_of}
-use Rattle.std.specs.List.Sorted.{IsStrictlySortedBy}
+use Rattle.std.proofs.Common.{◌≡◌, ◌≢◌, ◌++◌, inl, inr, ap, ◌<◌, ℕ, arith, List, [], ◌∷◌, Option, Some, refl, subst, ◌∙◌}
 use Rattle.std.specs.Ordering.{nat_cmp, MatchOrdering}
 use Rattle.std.specs.declared.cmp.Ordering.TheVariants.{Less}
 use Rattle.std.proofs.lemmas.List.{append_assoc}
 use Rattle.std.proofs.lemmas.Cmp.{ranked}
 use Rattle.std.proofs.lemmas.List.Elements.{All-nil, All-weaker}
-use Rattle.std.proofs.lemmas.List.Kept.{AllPairs-cons}
-use Rattle.std.proofs.lemmas.Map.Keys.{sorted_head, sorted_tail}
 use Rattle.stateful_types.specs.Names.{Named}
 use Rattle.stateful_types.specs.declared.digest.Digest.{Digest}
 use Rattle.stateful_history.specs.Past.{Past, Came, Made, after}
@@ -21,13 +17,12 @@ use Rattle.stateful_exec.specs.declared.state.Tables.{Tables}
 use Rattle.stateful_exec.specs.Ending.{InTurn, released, Follows, given_up, held, failed, parked, goes_on}
 use Rattle.stateful_exec.specs.Moments.{Moment, Becomes}
 use Rattle.stateful_exec.specs.Path.{Path}
-use Rattle.stateful_exec.specs.Phase.{path_on, released_on, not_on}
+use Rattle.stateful_exec.specs.Phase.{released_on, not_on}
 use Rattle.stateful_exec.specs.Rules.{requested}
 use Rattle.stateful_exec.specs.Workings.{Workings, Point}
 use Rattle.stateful_exec.specs.declared.request.Request.{Request}
 use Rattle.stateful_exec.specs.declared.tables.Phase.TheVariants.{Parked}
 use Rattle.stateful_exec.specs.declared.tables.Released.{Released}
-use Rattle.stateful_exec.specs.declared.tables.Requested.{Requested}
 use Rattle.stateful_standing.specs.Setting.{setting}
 use Rattle.stateful_standing.specs.Standing.{TablesStand, StandsBehind}
 use Rattle.stateful_standing.proofs.Advanced.{Serves-advances}
@@ -76,8 +71,8 @@ module _ {B C I P R D H G U : Type 0} (w : Workings B C I P R D H G U) (stored :
       StandsBehind-in_turn w stored r.points point ticket_of request_of path_of (Follows w b how) (Serves-follows w stored r.points point other_states b how) (released_on job done.state.requests) p
       (record done { state = released job done.state }) last (record { stands = r.tables; names = names; located = located; drawn = drawn })
       (All-weaker (IsTakenOut w stored p (not_on job done.state.requests) done.state.queued b) (IsOnWay w stored r.points point ticket_of request_of path_of p (record done { state = released job done.state }))
-          (λ x t. record { hand = record { absent = t.gone; not_queued = t.unqueued; own = t.own; brought = t.brought; asked = t.asked }; way = t.way })
-          (released_on job done.state.requests) r.in_hand)
+      (λ x t. record { hand = record { absent = t.gone; not_queued = t.unqueued; own = t.own; brought = t.brought; asked = t.asked }; way = t.way })
+      (released_on job done.state.requests) r.in_hand)
       r.apart rules
 
   -- What stands behind the last turn of a run: the tables, over some points, and behind the mark that it ended those of the

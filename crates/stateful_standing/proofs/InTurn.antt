@@ -1,5 +1,5 @@
 -- Requests in hand are served in turn.
-use Rattle.std.proofs.Common.{◌≡◌, ◌≢◌, ◌++◌, ◌↔◌, ℕ, suc, get_or, arith, List, [], ◌∷◌, All, AllPairs, Option, Some, refl, sym, ap, ◌∙◌, subst}
+use Rattle.std.proofs.Common.{◌≡◌, ◌≢◌, ◌++◌, ℕ, suc, get_or, arith, List, [], ◌∷◌, All, AllPairs, Option, Some, refl, sym, ap, ◌∙◌}
 use Rattle.std.proofs.lemmas.List.{append_assoc, append-nil}
 use Rattle.std.proofs.lemmas.List.Elements.{All-weaker, All-head, All-tail}
 use Rattle.stateful_types.specs.Names.{Named}
@@ -58,9 +58,9 @@ module _ {B C I P R D H G U : Type 0} (w : Workings B C I P R D H G U) (stored :
           let served : Serves w stored p points point m (ticket x) n = serves p m n x ready (All-head (IsOnWay p m) x xs each) rule in
           let others : All (λ y. ticket y ≢ ticket x) xs = λ k y within same. apart 0 (suc k) y (omega arith) (omega (arith, within)) (sym same) in
           let behind : StandsBehind w stored (after p served.behind.more) points point n last =
-              StandsBehind-in_turn xs (after p served.behind.more) n last (still_ready p m n (ticket x) ready served)
-              (λ k y within. still_on_way p m n (ticket x) served (get_or xs k y) (others k y within) (All-tail (IsOnWay p m) x xs each k y within))
-              (λ i j y lt within. apart (suc i) (suc j) y (omega (arith, lt)) (omega (arith, within))) rules in
+          StandsBehind-in_turn xs (after p served.behind.more) n last (still_ready p m n (ticket x) ready served)
+          (λ k y within. still_on_way p m n (ticket x) served (get_or xs k y) (others k y within) (All-tail (IsOnWay p m) x xs each k y within))
+          (λ i j y lt within. apart (suc i) (suc j) y (omega (arith, lt)) (omega (arith, within))) rules in
           record {
             more = served.behind.more ++ behind.more;
             marks_are = behind.marks_are ∙ ap (λ marks. marks ++ behind.more) served.behind.marks_are ∙ append_assoc m.marks served.behind.more behind.more;

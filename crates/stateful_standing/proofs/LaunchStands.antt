@@ -1,10 +1,10 @@
 -- The tables stand behind a run that is started for a request.
-use Rattle.std.proofs.Common.{rules, ◌≡◌, ◌≢◌, ◌==◌, ◌||◌, ◌+◌, ◌<◌, ◌≤◌, ℕ, Bool, true, false, List, [], ◌∷◌, All, Option, Some, None, IsSome, MatchOption, get_or, if◌then◌else◌, inr, refl, sym, ap, ◌∙◌, subst, arith}
+use Rattle.std.proofs.Common.{◌≡◌, ◌≢◌, ◌==◌, ◌+◌, ◌<◌, ℕ, Bool, true, false, List, [], ◌∷◌, All, Option, Some, None, IsSome, MatchOption, get_or, inr, refl, sym, ap, ◌∙◌, subst, arith}
 use Rattle.std.proofs.lemmas.Bool.{eqb-true, eqb-false, eq-eqb}
 use Rattle.stateful_types.specs.Names.{Named}
 use Rattle.stateful_types.specs.declared.digest.Digest.{Digest}
 use Rattle.stateful_history.specs.Setting.{parent_of}
-use Rattle.stateful_history.specs.Past.{Past, Item, Made}
+use Rattle.stateful_history.specs.Past.{Past, Made}
 use Rattle.stateful_history.specs.Met.{Met}
 use Rattle.stateful_history.specs.Jobs.{started_for}
 use Rattle.stateful_history.specs.declared.mark.JobKind.TheVariants.{Candidate}
@@ -18,7 +18,7 @@ use Rattle.stateful_exec.specs.Starting.{StartsRun}
 use Rattle.stateful_exec.specs.Workings.{Workings, Point}
 use Rattle.stateful_exec.specs.declared.state.Tables.{Tables}
 use Rattle.stateful_exec.specs.declared.tables.LiveRun.{LiveRun}
-use Rattle.stateful_exec.specs.declared.tables.Phase.TheVariants.{Executing, Fetching}
+use Rattle.stateful_exec.specs.declared.tables.Phase.TheVariants.{Executing}
 use Rattle.stateful_exec.specs.declared.tables.Requested.{Requested}
 use Rattle.stateful_standing.specs.Setting.{setting}
 use Rattle.stateful_standing.specs.Requesting.{IsInPhase, IsStanding, IsWayOf}

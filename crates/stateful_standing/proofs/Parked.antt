@@ -1,5 +1,5 @@
 -- The parked requests are taken out of their table.
-use Rattle.std.proofs.Common.{◌≡◌, ◌≢◌, ◌==◌, not, ℕ, arith, get_or, is_none, Bool, true, false, List, [], ◌∷◌, filter, All, AllPairs, Option, Some, None, IsSome, MatchOption, refl, sym, ap, ◌∙◌, subst}
+use Rattle.std.proofs.Common.{◌≡◌, ◌≢◌, ℕ, arith, get_or, Bool, true, false, List, [], ◌∷◌, filter, All, AllPairs, Option, Some, None, IsSome, MatchOption, refl, sym, ap, ◌∙◌, subst}
 use Rattle.std.specs.Map.{keys_of}
 use Rattle.std.specs.List.Sorted.{IsStrictlySortedBy}
 use Rattle.std.specs.Ordering.{nat_cmp}
@@ -11,21 +11,17 @@ use Rattle.std.proofs.lemmas.Map.Keys.{sorted_head, sorted_tail, IsDistinct-from
 use Rattle.stateful_types.specs.Names.{Named}
 use Rattle.stateful_types.specs.declared.digest.Digest.{Digest}
 use Rattle.stateful_history.specs.Past.{Past}
-use Rattle.stateful_history.specs.Asked.{asked_for}
-use Rattle.stateful_history.specs.Live.{live_fetch}
 use Rattle.stateful_table.specs.Table.{at}
 use Rattle.stateful_exec.specs.Path.{Path}
-use Rattle.stateful_exec.specs.Phase.{is_on, tickets_on, parked_path, parked_in, not_parked}
+use Rattle.stateful_exec.specs.Phase.{is_on, tickets_on, parked_path, parked_in}
 use Rattle.stateful_exec.specs.Workings.{Workings, Point}
 use Rattle.stateful_exec.specs.declared.state.Tables.{Tables}
-use Rattle.stateful_exec.specs.declared.tables.LiveRun.{LiveRun}
 use Rattle.stateful_exec.specs.declared.tables.Phase.{Phase}
 use Rattle.stateful_exec.specs.declared.tables.Phase.TheVariants.{Open, Fetching, Waiting, Executing, Parked}
 use Rattle.stateful_exec.specs.declared.tables.Released.{Released}
 use Rattle.stateful_exec.specs.declared.tables.Requested.{Requested}
-use Rattle.stateful_standing.specs.Setting.{setting}
-use Rattle.stateful_standing.specs.Requesting.{IsInPhase, IsStanding, RequestsStand}
-use Rattle.stateful_standing.specs.Standing.{TablesStand, IsInHand}
+use Rattle.stateful_standing.specs.Requesting.{IsStanding}
+use Rattle.stateful_standing.specs.Standing.{TablesStand}
 use Rattle.stateful_standing.proofs.EndedLeft.{sorted_filter, at_below, each_at}
 use Rattle.stateful_standing.proofs.FollowStands.{below_apart}
 

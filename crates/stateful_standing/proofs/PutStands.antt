@@ -1,25 +1,23 @@
 -- The tables stand with a request more that was in hand.
-use Rattle.std.proofs.Common.{◌≡◌, ◌≢◌, ◌==◌, ◌||◌, ◌+◌, ◌<◌, ℕ, Bool, true, false, List, [], ◌∷◌, All, Option, Some, None, IsSome, MatchOption, get_or, if◌then◌else◌, refl, sym, ap, ◌∙◌, subst, arith}
-use Rattle.std.proofs.lemmas.Bool.{eqb-true, eqb-false, eq-eqb}
+use Rattle.std.proofs.Common.{◌≡◌, ◌==◌, ℕ, Bool, true, false, All, Option, Some, None, IsSome, MatchOption, refl, sym, ap, ◌∙◌, subst}
+use Rattle.std.proofs.lemmas.Bool.{eqb-true, eqb-false}
 use Rattle.stateful_types.specs.Names.{Named}
 use Rattle.stateful_types.specs.declared.digest.Digest.{Digest}
-use Rattle.stateful_history.specs.Past.{Past, Item, Made}
+use Rattle.stateful_history.specs.Past.{Past}
 use Rattle.stateful_history.specs.Met.{Met}
 use Rattle.stateful_history.specs.Asked.{asked_for}
 use Rattle.stateful_history.specs.Live.{live_fetch}
-use Rattle.stateful_history.specs.declared.mark.Mark.TheVariants.{Asked}
 use Rattle.stateful_table.specs.Table.{at, put}
-use Rattle.stateful_exec.specs.Phase.{is_on, tickets_on}
 use Rattle.stateful_exec.specs.Rules.{moved}
 use Rattle.stateful_exec.specs.Workings.{Workings, Point}
 use Rattle.stateful_exec.specs.declared.state.Tables.{Tables}
 use Rattle.stateful_exec.specs.declared.tables.Phase.{Phase}
-use Rattle.stateful_exec.specs.declared.tables.Phase.TheVariants.{Open, Fetching, Waiting, Executing, Parked}
+use Rattle.stateful_exec.specs.declared.tables.Phase.TheVariants.{Fetching}
 use Rattle.stateful_exec.specs.declared.tables.Requested.{Requested}
 use Rattle.stateful_standing.specs.Setting.{setting}
-use Rattle.stateful_standing.specs.Requesting.{IsInPhase, IsStanding, RequestsStand}
+use Rattle.stateful_standing.specs.Requesting.{IsInPhase, IsStanding}
 use Rattle.stateful_standing.specs.Standing.{TablesStand, IsInHand}
-use Rattle.stateful_standing.proofs.Putting.{sorted_put, All-put, put_other, put_here, tickets_more}
+use Rattle.stateful_standing.proofs.Putting.{sorted_put, All-put, put_other, tickets_more}
 
 module _ {B C I P R D H G U : Type 0} (w : Workings B C I P R D H G U) (stored : ℕ → Option (Named B)) (p : Past B C I) (points : Digest → Point w) (point : Point w) (next : w.Ids) (old : Tables B C I R U) (t : ℕ) (s : TablesStand w stored p points point next old)
     (r : Requested B C I) (hand : IsInHand w stored p t r.request old) (met : All (Met (setting w stored) p) r.acquired) (phase : Phase B) where

@@ -1,5 +1,5 @@
 -- A request in hand is served, and the others in hand stay so.
-use Rattle.std.proofs.Common.{◌≡◌, ◌≢◌, ◌↔◌, ◌⊎◌, inl, inr, ℕ, true, false, List, [], ◌∷◌, All, Option, Some, refl, ◌∙◌}
+use Rattle.std.proofs.Common.{◌≢◌, ◌↔◌, inl, inr, ℕ, true, false, List, [], ◌∷◌, All, Option, refl, ◌∙◌}
 use Rattle.std.proofs.lemmas.List.Elements.{All-weaker}
 use Rattle.stateful_types.specs.Names.{Named}
 use Rattle.stateful_types.specs.declared.digest.Digest.{Digest}
@@ -26,7 +26,7 @@ use Rattle.stateful_standing.proofs.PutStands.{TablesStand-put}
 
 -- what the item doesn't bring was there before
 pub unbrought : {B C I S T : Type 0} (s : _) (p : Past B C I) (x : Item B C I) (b : Named B) → (Brings x b → ⊥) → Met {S = S} {T = T} s (x ∷ p) b ↔ Met s p b
-unbrought s p x b none = (λ m. elim m [ | inl new ↦ absurd (none new) | inr old ↦ old ], λ m. inr m)
+unbrought s p x b none = (λ m. elim m [ inl new ↦ absurd (none new) | inr old ↦ old ], λ m. inr m)
 
 module _ {B C I P R D H G U : Type 0} (w : Workings B C I P R D H G U) (stored : ℕ → Option (Named B)) (p : Past B C I) (points : Digest → Point w) (point : Point w) (m : Moment w) where
   -- The request of a ticket was served: the tables stand behind it, no block was brought, what was drawn stays so, and the

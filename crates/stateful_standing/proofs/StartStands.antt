@@ -1,28 +1,26 @@
 -- The tables stand behind a run that is started.
-use Rattle.std.proofs.Common.{rules, ◌≡◌, ◌≢◌, ◌==◌, ◌||◌, ◌+◌, ◌<◌, ◌≤◌, ◌++◌, ◌⊎◌, ℕ, suc, Bool, true, false, List, [], ◌∷◌, All, AllPairs, Option, Some, None, IsSome, MatchOption, Contains, get_or, if◌then◌else◌, inl, inr, refl, sym, ap, ◌∙◌, subst, arith}
+use Rattle.std.proofs.Common.{◌≡◌, ◌≢◌, ◌==◌, ◌<◌, ◌++◌, ◌⊎◌, ℕ, suc, Bool, true, false, List, [], ◌∷◌, All, AllPairs, Option, Some, None, IsSome, get_or, inl, inr, refl, sym, ap, ◌∙◌, subst, arith}
 use Rattle.std.specs.Ordering.{nat_cmp, match_ordering, MatchOrdering}
 use Rattle.std.specs.declared.cmp.Ordering.{Ordering}
 use Rattle.std.specs.declared.cmp.Ordering.TheVariants.{Less, Equal, Greater}
 use Rattle.std.proofs.lemmas.Bool.{eqb-true, eqb-false, eq-eqb}
 use Rattle.std.proofs.lemmas.Cmp.{ranked}
-use Rattle.std.proofs.lemmas.List.Elements.{All-weaker, All-head, All-tail, All-cons, All-contains}
+use Rattle.std.proofs.lemmas.List.Elements.{All-weaker, All-head, All-tail, All-contains}
 use Rattle.std.proofs.lemmas.List.Kept.{AllPairs-cons}
 use Rattle.stateful_types.specs.Names.{Named}
 use Rattle.stateful_types.specs.declared.anchor.Anchor.{Anchor}
 use Rattle.stateful_types.specs.declared.digest.Digest.{Digest}
 use Rattle.stateful_types.specs.declared.outcome.Finality.TheVariants as finality
 use Rattle.stateful_history.specs.Setting.{parent_of}
-use Rattle.stateful_history.specs.Past.{Past, Item, Made}
+use Rattle.stateful_history.specs.Past.{Past, Made}
 use Rattle.stateful_history.specs.Met.{Met}
-use Rattle.stateful_history.specs.Live.{live_job}
-use Rattle.stateful_history.specs.Jobs.{IsLiveJob, job_of, started_for, turns}
+use Rattle.stateful_history.specs.Jobs.{IsLiveJob, started_for}
 use Rattle.stateful_history.specs.declared.mark.JobKind.TheVariants.{Candidate}
 use Rattle.stateful_history.specs.declared.mark.Mark.TheVariants.{Started}
 use Rattle.stateful_cache.specs.Cache.{IsAtHand}
 use Rattle.stateful_cache.specs.declared.cache.Cached.{Cached}
 use Rattle.stateful_table.specs.Table.{at, put}
 use Rattle.stateful_table.proofs.Tables.{is_at_number}
-use Rattle.stateful_exec.specs.Path.{Path}
 use Rattle.stateful_exec.specs.Starting.{IsOver, databases, batch, IsFresh, StartsRun}
 use Rattle.stateful_exec.specs.Workings.{Workings, Point}
 use Rattle.stateful_exec.specs.declared.state.Tables.{Tables}
@@ -69,7 +67,16 @@ module _ {B C I P R D H G U : Type 0} (w : Workings B C I P R D H G U) (stored :
   CacheStands-next : (pause : _) (cache : List (Cached U)) → CacheStands w stored p points next anchor pause cache → CacheStands w stored p points now anchor pause cache
   CacheStands-next pause cache h = record {
     each = All-weaker (IsCached w stored p points next anchor) (IsCached w stored p points now anchor) (λ e c. record {
-      block = c.block; met = c.met; digest_is = c.digest_is; parent_is = c.parent_is; round_is = c.round_is; other = c.other; below = c.below; chain = c.chain; drawn = keeps _ c.drawn; shows = c.shows;
+      block = c.block;
+      met = c.met;
+      digest_is = c.digest_is;
+      parent_is = c.parent_is;
+      round_is = c.round_is;
+      other = c.other;
+      below = c.below;
+      chain = c.chain;
+      drawn = keeps _ c.drawn;
+      shows = c.shows;
     }) cache h.each;
     in_order = h.in_order;
     knows = h.knows;
@@ -77,8 +84,19 @@ module _ {B C I P R D H G U : Type 0} (w : Workings B C I P R D H G U) (stored :
 
   IsRunning-next : (cache : List (Cached U)) (j : ℕ) (run : LiveRun B R) → IsRunning w stored p points next anchor cache j run → IsRunning w stored p points now anchor cache j run
   IsRunning-next cache j run h = record {
-    job = h.job; met = h.met; parent = h.parent; parent_met = h.parent_met; parent_is = h.parent_is; at_hand = h.at_hand; below = h.below; chain = h.chain; own = h.own;
-    drawn = λ x. keeps _ (h.drawn x); context = h.context; round = h.round; runs = h.runs;
+    job = h.job;
+    met = h.met;
+    parent = h.parent;
+    parent_met = h.parent_met;
+    parent_is = h.parent_is;
+    at_hand = h.at_hand;
+    below = h.below;
+    chain = h.chain;
+    own = h.own;
+    drawn = λ x. keeps _ (h.drawn x);
+    context = h.context;
+    round = h.round;
+    runs = h.runs;
   }
 
 module _ {B C I P R D H G U : Type 0} (w : Workings B C I P R D H G U) (stored : ℕ → Option (Named B)) (p : Past B C I) (points : Digest → Point w) (point : Point w) (next now : w.Ids) (old new : Tables B C I R U) (s : TablesStand w stored p points point next old)
