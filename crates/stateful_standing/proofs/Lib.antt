@@ -33,6 +33,7 @@ pub mod EndedTold
 pub mod EndedRule
 pub mod FollowStands
 pub mod Parked
+pub mod ResumeStands
 pub mod EndedFinalizing
 pub mod EndedOver
 pub mod EarnedPath
