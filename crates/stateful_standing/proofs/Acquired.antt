@@ -99,6 +99,7 @@ module _ {B C I P R D H G U : Type 0} (w : Workings B C I P R D H G U) (stored :
     behind = record { more = _; marks_are = refl; members_are = refl; stands = TablesStand-asks w stored p points point m.next m.state t s r hand met digest };
     met = λ b. unbrought (setting w stored) p (Made (Asked m.state.next_fetch (Some t) digest)) b (λ no. no);
     drawn = λ d. d;
+    abstains = λ u b a. a;
     others = λ u other ne h. record {
       absent = put_other m.state.requests t u _ ne ∙ h.absent;
       not_queued = h.not_queued;

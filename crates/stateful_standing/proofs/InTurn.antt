@@ -25,14 +25,15 @@ module _ {B C I P R D H G U : Type 0} (w : Workings B C I P R D H G U) (stored :
     pub located : w.kind.point m.members ≡ Some point
     pub drawn : w.kind.issued m.next (point ∷ [])
 
-  module _ {X : Type 0} (ticket : X → ℕ) (request : X → Request B C I) (path : X → Path B) where
-    -- the request is in hand, and its way leads down its path
-    pub record IsOnWay (p : Past B C I) (m : Moment w) (x : X) : Type 0 where
+  module _ {X : Type 0} (ticket : X → ℕ) (request : X → Request B C I) (Fits : Past B C I → Moment w → X → Type 0) where
+    -- the request is in hand, and what is asked of it holds
+    pub record IsFit (p : Past B C I) (m : Moment w) (x : X) : Type 0 where
       pub hand : IsInHand w stored p (ticket x) (request x) m.state
-      pub way : IsWayOf w stored p (request x) (path x)
+      pub fits : Fits p m x
 
     module _ (Rule : X → Moment w → Moment w → Type 0)
-        (serves : (p : Past B C I) (m now : Moment w) (x : X) → IsReady p m → IsOnWay p m x → Rule x m now → Serves w stored p points point m (ticket x) now) where
+        (serves : (p : Past B C I) (m now : Moment w) (x : X) → IsReady p m → IsFit p m x → Rule x m now → Serves w stored p points point m (ticket x) now)
+        (keeps : (p : Past B C I) (m now : Moment w) (x : X) → Rule x m now → (v : Serves w stored p points point m (ticket x) now) → (y : X) → Fits p m y → Fits (after p v.behind.more) now y) where
       still_ready : (p : Past B C I) (m now : Moment w) (t : ℕ) → IsReady p m → (v : Serves w stored p points point m t now) → IsReady (after p v.behind.more) now
       still_ready p m now t ready v = record {
         stands = v.behind.stands;
@@ -41,29 +42,46 @@ module _ {B C I P R D H G U : Type 0} (w : Workings B C I P R D H G U) (stored :
         drawn = v.drawn ready.drawn;
       }
 
-      still_on_way : (p : Past B C I) (m now : Moment w) (t : ℕ) (v : Serves w stored p points point m t now) (x : X) → ticket x ≢ t → IsOnWay p m x → IsOnWay (after p v.behind.more) now x
-      still_on_way p m now t v x ne h = record {
-        hand = v.others (ticket x) (request x) ne h.hand;
-        way = record {
-          met = All-weaker (Met (setting w stored) p) (Met (setting w stored) (after p v.behind.more)) (λ b met. (v.met b).1 met) (steps (path x)) h.way.met;
-          leads = h.way.leads;
-          begins = h.way.begins;
-        };
-      }
-
       -- the tables stand behind all of them
-      pub StandsBehind-in_turn : (xs : List X) (p : Past B C I) (m last : Moment w) → IsReady p m → All (IsOnWay p m) xs → AllPairs (λ x y. ticket x ≢ ticket y) xs → InTurn Rule xs m last → StandsBehind w stored p points point m last
-      StandsBehind-in_turn [] p m _ ready each apart none = record { more = []; marks_are = sym (append-nil m.marks); members_are = refl; stands = ready.stands }
-      StandsBehind-in_turn (x ∷ xs) p m last ready each apart (next {n = n} rule rules) =
-          let served : Serves w stored p points point m (ticket x) n = serves p m n x ready (All-head (IsOnWay p m) x xs each) rule in
+      pub StandsBehind-each : (xs : List X) (p : Past B C I) (m last : Moment w) → IsReady p m → All (IsFit p m) xs → AllPairs (λ x y. ticket x ≢ ticket y) xs → InTurn Rule xs m last → StandsBehind w stored p points point m last
+      StandsBehind-each [] p _ _ ready each apart (none {m = m}) = record { more = []; marks_are = sym (append-nil m.marks); members_are = refl; stands = ready.stands }
+      StandsBehind-each (x ∷ xs) p m last ready each apart (next {n = n} rule rules) =
+          let served : Serves w stored p points point m (ticket x) n = serves p m n x ready (All-head (IsFit p m) x xs each) rule in
           let others : All (λ y. ticket y ≢ ticket x) xs = λ k y within same. apart 0 (suc k) y (omega arith) (omega (arith, within)) (sym same) in
           let behind : StandsBehind w stored (after p served.behind.more) points point n last =
-          StandsBehind-in_turn xs (after p served.behind.more) n last (still_ready p m n (ticket x) ready served)
-          (λ k y within. still_on_way p m n (ticket x) served (get_or xs k y) (others k y within) (All-tail (IsOnWay p m) x xs each k y within))
-          (λ i j y lt within. apart (suc i) (suc j) y (omega (arith, lt)) (omega (arith, within))) rules in
+              StandsBehind-each xs (after p served.behind.more) n last (still_ready p m n (ticket x) ready served)
+              (λ k y within. let fit = All-tail (IsFit p m) x xs each k y within in record {
+                hand = served.others (ticket (get_or xs k y)) (request (get_or xs k y)) (others k y within) fit.hand;
+                fits = keeps p m n x rule served (get_or xs k y) fit.fits;
+              })
+              (λ i j y lt within. apart (suc i) (suc j) y (omega (arith, lt)) (omega (arith, within))) rules in
           record {
             more = served.behind.more ++ behind.more;
             marks_are = behind.marks_are ∙ ap (λ marks. marks ++ behind.more) served.behind.marks_are ∙ append_assoc m.marks served.behind.more behind.more;
             members_are = behind.members_are ∙ served.behind.members_are;
             stands = rw (after-append p served.behind.more behind.more) behind.stands;
           }
+
+  module _ {X : Type 0} (ticket : X → ℕ) (request : X → Request B C I) (path : X → Path B) where
+    -- the request is in hand, and its way leads down its path
+    pub record IsOnWay (p : Past B C I) (m : Moment w) (x : X) : Type 0 where
+      pub hand : IsInHand w stored p (ticket x) (request x) m.state
+      pub way : IsWayOf w stored p (request x) (path x)
+
+    module _ (Rule : X → Moment w → Moment w → Type 0)
+        (serves : (p : Past B C I) (m now : Moment w) (x : X) → IsReady p m → IsOnWay p m x → Rule x m now → Serves w stored p points point m (ticket x) now) where
+      abbrev has_way : Past B C I → Moment w → X → Type 0
+      has_way p m x = IsWayOf w stored p (request x) (path x)
+
+      -- the tables stand behind all requests that go along their ways
+      pub StandsBehind-in_turn : (xs : List X) (p : Past B C I) (m last : Moment w) → IsReady p m → All (IsOnWay p m) xs → AllPairs (λ x y. ticket x ≢ ticket y) xs → InTurn Rule xs m last → StandsBehind w stored p points point m last
+      StandsBehind-in_turn xs p m last ready each apart rules =
+          StandsBehind-each ticket request has_way Rule
+          (λ q n now x r fit rule. serves q n now x r (record { hand = fit.hand; way = fit.fits }) rule)
+          (λ q n now x rule v y way. record {
+            met = All-weaker (Met (setting w stored) q) (Met (setting w stored) (after q v.behind.more)) (λ b met. (v.met b).1 met) (steps (path y)) way.met;
+            leads = way.leads;
+            begins = way.begins;
+          })
+          xs p m last ready
+          (All-weaker (IsOnWay p m) (IsFit ticket request has_way p m) (λ x on. record { hand = on.hand; fits = on.way }) xs each) apart rules

@@ -4,6 +4,7 @@ use Rattle.std.proofs.lemmas.List.Elements.{All-weaker}
 use Rattle.stateful_types.specs.Names.{Named}
 use Rattle.stateful_types.specs.declared.digest.Digest.{Digest}
 use Rattle.stateful_history.specs.Past.{Past, Item, Made, after}
+use Rattle.stateful_history.specs.Fetches.{Abstains}
 use Rattle.stateful_history.specs.Met.{Met, Brings}
 use Rattle.stateful_history.specs.declared.mark.JobKind.TheVariants.{Candidate}
 use Rattle.stateful_history.specs.declared.mark.Mark.TheVariants.{Declined, Started, Verdict}
@@ -35,6 +36,7 @@ module _ {B C I P R D H G U : Type 0} (w : Workings B C I P R D H G U) (stored :
     pub behind : StandsBehind w stored p points point m now
     pub met : (b : Named B) → Met (setting w stored) (after p behind.more) b ↔ Met (setting w stored) p b
     pub drawn : w.kind.issued m.next (point ∷ []) → w.kind.issued now.next (point ∷ [])
+    pub abstains : (u : ℕ) (b : Named B) → Abstains (setting w stored) u p b → Abstains (setting w stored) u (after p behind.more) b
     pub others : (u : ℕ) (request : Request B C I) → u ≢ t → IsInHand w stored p u request m.state → IsInHand w stored (after p behind.more) u request now.state
 
   module _ (s : TablesStand w stored p points point m.next m.state) (t : ℕ) (r : Requested B C I) (hand : IsInHand w stored p t r.request m.state) where
@@ -54,12 +56,19 @@ module _ {B C I P R D H G U : Type 0} (w : Workings B C I P R D H G U) (stored :
     others_told (Recover k context ancestry input kind) Valid u other ne h = record { absent = h.absent; not_queued = put_other m.state.queued t u _ ne ∙ h.not_queued; own = h.own; brought = h.brought; asked = h.asked }
     others_told (Recover k context ancestry input kind) Invalid u other ne h = in_hand-calm (Made (Declined t)) u other ((declined-TellsOf (setting w stored) p t).tickets u ne) h
 
+    abstains_told : (request : Request B C I) (v : Verdicts) (u : ℕ) (b : Named B) → Abstains (setting w stored) u p b → Abstains (setting w stored) u (after p (told t request v)) b
+    abstains_told (Verify k ancestry) Valid u b a = a
+    abstains_told (Verify k ancestry) Invalid u b a = a
+    abstains_told (Recover k context ancestry input kind) Valid u b a = a
+    abstains_told (Recover k context ancestry input kind) Invalid u b a = a
+
     -- it ended
     pub Serves-concludes : (v : Verdicts) (now : Moment w) → Concludes w m t r v now → Serves t now
     Serves-concludes v now is = rw is (record {
       behind = record { more = _; marks_are = refl; members_are = refl; stands = TablesStand-concludes w stored p points point m.next m.state t s r.request v hand };
       met = met_told r.request v;
       drawn = λ d. d;
+      abstains = abstains_told r.request v;
       others = others_told r.request v;
     })
 
@@ -69,6 +78,7 @@ module _ {B C I P R D H G U : Type 0} (w : Workings B C I P R D H G U) (stored :
       behind = record { more = []; marks_are = refl; members_are = refl; stands = TablesStand-put w stored p points point m.next m.state t s r hand met phase in_phase };
       met = λ b. (λ k. k, λ k. k);
       drawn = λ d. d;
+      abstains = λ u b a. a;
       others = λ u other ne h. record { absent = put_other m.state.requests t u _ ne ∙ h.absent; not_queued = h.not_queued; own = h.own; brought = h.brought; asked = h.asked };
     })
 
@@ -79,6 +89,7 @@ module _ {B C I P R D H G U : Type 0} (w : Workings B C I P R D H G U) (stored :
       behind = record { more = _; marks_are = l.marks; members_are = l.members; stands = stands };
       met = λ c. unbrought (setting w stored) p (Made (Started m.state.next_job Candidate b.digest)) c (λ no. no);
       drawn = l.starts.keeps (point ∷ []);
+      abstains = λ u c a. a;
       others = λ u other ne h. rw (l.state, l.starts.state) (record {
         absent = put_other m.state.requests t u _ ne ∙ h.absent;
         not_queued = h.not_queued;
