@@ -46,4 +46,5 @@ pub mod EarnedFollows
 pub mod EarnedTogether
 pub mod EarnedCarried
 pub mod EarnedLeft
+pub mod AnewStands
 pub mod EarnedInTurn

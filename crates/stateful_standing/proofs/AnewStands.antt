@@ -1,0 +1,95 @@
+-- The tables stand behind the requests that acquire anew what they need.
+use Rattle.std.proofs.Common.{◌≡◌, ◌≢◌, not, ℕ, arith, get_or, Bool, true, false, List, [], ◌∷◌, filter, All, AllPairs, Option, Some, refl, sym, subst}
+use Rattle.std.specs.Map.{keys_of}
+use Rattle.std.specs.List.Sorted.{IsStrictlySortedBy}
+use Rattle.std.specs.Ordering.{nat_cmp}
+use Rattle.std.proofs.lemmas.List.Elements.{All-nil, All-filter, filter_passes}
+use Rattle.std.proofs.lemmas.List.Kept.{AllPairs-cons, AllPairs-filter}
+use Rattle.std.proofs.lemmas.Map.Keys.{sorted_head, sorted_tail}
+use Rattle.stateful_types.specs.Names.{Named}
+use Rattle.stateful_types.specs.declared.digest.Digest.{Digest}
+use Rattle.stateful_history.specs.Past.{Past, after}
+use Rattle.stateful_history.specs.Fetches.{Abstains}
+use Rattle.stateful_history.specs.Met.{Met, TrueNames}
+use Rattle.stateful_table.specs.Table.{at}
+use Rattle.stateful_exec.specs.Ending.{InTurn}
+use Rattle.stateful_exec.specs.Moments.{Moment}
+use Rattle.stateful_exec.specs.Pausing.{AcquiresAnew, unsettled}
+use Rattle.stateful_exec.specs.Phase.{is_unacquired, unacquired_in, not_unacquired}
+use Rattle.stateful_exec.specs.Rules.{requested, Needs}
+use Rattle.stateful_exec.specs.Workings.{Workings, Point}
+use Rattle.stateful_exec.specs.declared.request.Request.{Request}
+use Rattle.stateful_exec.specs.declared.tables.Requested.{Requested}
+use Rattle.stateful_exec.specs.declared.walk.Acquired.TheVariants as acquired
+use Rattle.stateful_standing.specs.Setting.{setting}
+use Rattle.stateful_standing.specs.Requesting.{first_of, IsStanding}
+use Rattle.stateful_standing.specs.Standing.{TablesStand, StandsBehind}
+use Rattle.stateful_standing.proofs.Acquired.{Serves-acquires}
+use Rattle.stateful_standing.proofs.EarnedLeft.{LeavesBehind-acquires}
+use Rattle.stateful_standing.proofs.EndedLeft.{at_below, each_at}
+use Rattle.stateful_standing.proofs.FollowStands.{below_apart}
+use Rattle.stateful_standing.proofs.InTurn.{IsReady, IsFit, StandsBehind-each}
+use Rattle.stateful_standing.proofs.Parked.{at_kept, TablesStand-kept}
+use Rattle.stateful_standing.proofs.Served.{Serves}
+
+-- entries of a table are of different numbers
+entries_apart : {V : Type 0} (es : List (ℕ × V)) → IsStrictlySortedBy nat_cmp (keys_of es) → AllPairs (λ e f. e.0 ≢ f.0) es
+entries_apart [] sorted = λ i j d lt within. let no : ⊥ = omega (arith, within) in absurd no
+entries_apart {V = V} (e ∷ es) sorted = AllPairs-cons (λ (e f : ℕ × V). e.0 ≢ f.0) e es
+    (λ k d l. below_apart e.0 (get_or es k d).0 (at_below e.0 es (get_or es k d).0 (get_or es k d).1 (sorted_head nat_cmp e.0 (keys_of es) sorted) (each_at es (sorted_tail nat_cmp e.0 (keys_of es) sorted) k d l)))
+    (entries_apart es (sorted_tail nat_cmp e.0 (keys_of es) sorted))
+
+module _ {B C I P R D H G U : Type 0} (w : Workings B C I P R D H G U) (stored held : ℕ → Option (Named B)) (points : Digest → Point w) (point : Point w)
+    (other_states : (n i : w.Ids) (x y : w.States) (c : List (Point w)) → w.kind.issued n ((i, x) ∷ c) → w.kind.issued n ((i, y) ∷ c)) where
+  abbrev ticket_at : ℕ × Requested B C I → ℕ
+  ticket_at e = e.0
+
+  abbrev request_at : ℕ × Requested B C I → Request B C I
+  request_at e = e.1.request
+
+  -- a request that would have to wait waits for nothing that was begun
+  abbrev pub MayWait : Past B C I → Moment w → ℕ × Requested B C I → Type 0
+  MayWait p m e = Needs w held m (requested e.1.request) acquired.Waits → Abstains (setting w stored) e.0 p (first_of e.1.request)
+
+  serves_anew : (p : Past B C I) (m now : Moment w) (e : ℕ × Requested B C I) → IsReady w stored points point p m → IsFit w stored points point ticket_at request_at MayWait p m e → AcquiresAnew w held e m now
+      → Serves w stored p points point m e.0 now
+  serves_anew p m now e ready fit acquires =
+      Serves-acquires w stored p points point m ready.stands e.0 (requested e.1.request) fit.hand ready.names other_states ready.located ready.drawn (All-nil (Met (setting w stored) p)) held fit.fits now acquires
+
+  may_still_wait : (p : Past B C I) (m now : Moment w) (e : ℕ × Requested B C I) → AcquiresAnew w held e m now → (v : Serves w stored p points point m e.0 now) (y : ℕ × Requested B C I) → MayWait p m y → MayWait (after p v.behind.more) now y
+  may_still_wait p m now e acquires v y may needs =
+      let left = (LeavesBehind-acquires w held m now e.0 (requested e.1.request) acquires).left in
+      v.abstains y.0 (first_of y.1.request) (may (rw (sym left.anchor, sym left.cache) needs))
+
+  module _ (p : Past B C I) (m : Moment w) (s : TablesStand w stored p points point m.next m.state) (may : All (MayWait p (unsettled w m)) (unacquired_in m.state.requests)) where
+    -- they are taken out, and in hand
+    out : All (IsFit w stored points point ticket_at request_at MayWait p (unsettled w m)) (unacquired_in m.state.requests)
+    out = λ k d l.
+        let e = get_or (unacquired_in m.state.requests) k d in
+        let unacquired = filter_passes (λ (x : ℕ × Requested B C I). is_unacquired x.1.phase) m.state.requests k d l in
+        let standing = All-filter (λ (x : ℕ × Requested B C I). is_unacquired x.1.phase) (λ x. IsStanding w stored p m.state.runs x.0 x.1) m.state.requests s.requests.each k d l in
+        let there = All-filter (λ (x : ℕ × Requested B C I). is_unacquired x.1.phase) (λ x. at m.state.requests x.0 ≡ Some x.1) m.state.requests (each_at m.state.requests s.requests.ascending) k d l in
+        let leaves : not (is_unacquired e.1.phase) ≡ false = rw unacquired refl in
+        record {
+          hand = record {
+            absent = rw (at_kept (λ phase. not (is_unacquired phase)) (λ j way. refl) (λ f. refl) m.state.requests e.0 s.requests.ascending, there, leaves) refl;
+            not_queued = s.once e.0 (rw there refl);
+            own = standing.own;
+            brought = standing.brought;
+            asked = standing.asked;
+          };
+          fits = may k d l;
+        }
+
+    -- the tables stand behind all of them
+    pub StandsBehind-anew : TrueNames (setting w stored) p → w.kind.point m.members ≡ Some point → w.kind.issued m.next (point ∷ []) → (last : Moment w)
+        → InTurn (AcquiresAnew w held) (unacquired_in m.state.requests) (unsettled w m) last → StandsBehind w stored p points point (unsettled w m) last
+    StandsBehind-anew names located drawn last rules =
+        StandsBehind-each w stored points point ticket_at request_at MayWait (AcquiresAnew w held) serves_anew may_still_wait (unacquired_in m.state.requests) p (unsettled w m) last
+        (record {
+          stands = TablesStand-kept (λ phase. not (is_unacquired phase)) (λ j way. refl) (λ f. refl) w stored p points point m.next m.state s;
+          names = names;
+          located = located;
+          drawn = drawn;
+        })
+        out (AllPairs-filter (λ (e f : ℕ × Requested B C I). e.0 ≢ f.0) (λ e. is_unacquired e.1.phase) m.state.requests (entries_apart m.state.requests s.requests.ascending)) rules
