@@ -1,8 +1,9 @@
 -- The tables stand behind the requests that acquire anew what they need.
-use Rattle.std.proofs.Common.{◌≡◌, ◌≢◌, not, ℕ, arith, get_or, Bool, true, false, List, [], ◌∷◌, filter, All, AllPairs, Option, Some, refl, sym, subst}
+use Rattle.std.proofs.Common.{◌≡◌, ◌≢◌, ◌++◌, ◌∙◌, ap, not, ℕ, arith, get_or, false, List, [], ◌∷◌, All, AllPairs, Option, Some, refl, sym}
 use Rattle.std.specs.Map.{keys_of}
 use Rattle.std.specs.List.Sorted.{IsStrictlySortedBy}
 use Rattle.std.specs.Ordering.{nat_cmp}
+use Rattle.std.proofs.lemmas.List.{append_assoc}
 use Rattle.std.proofs.lemmas.List.Elements.{All-nil, All-filter, filter_passes}
 use Rattle.std.proofs.lemmas.List.Kept.{AllPairs-cons, AllPairs-filter}
 use Rattle.std.proofs.lemmas.Map.Keys.{sorted_head, sorted_tail}
@@ -11,13 +12,15 @@ use Rattle.stateful_types.specs.declared.digest.Digest.{Digest}
 use Rattle.stateful_history.specs.Past.{Past, after}
 use Rattle.stateful_history.specs.Fetches.{Abstains}
 use Rattle.stateful_history.specs.Met.{Met, TrueNames}
+use Rattle.stateful_history.proofs.Marks.{after-append}
 use Rattle.stateful_table.specs.Table.{at}
 use Rattle.stateful_exec.specs.Ending.{InTurn}
 use Rattle.stateful_exec.specs.Moments.{Moment}
-use Rattle.stateful_exec.specs.Pausing.{AcquiresAnew, unsettled}
-use Rattle.stateful_exec.specs.Phase.{is_unacquired, unacquired_in, not_unacquired}
+use Rattle.stateful_exec.specs.Pausing.{AcquiresAnew, Resumes, unparked, unsettled}
+use Rattle.stateful_exec.specs.Phase.{is_unacquired, unacquired_in}
 use Rattle.stateful_exec.specs.Rules.{requested, Needs}
 use Rattle.stateful_exec.specs.Workings.{Workings, Point}
+use Rattle.stateful_exec.specs.declared.pause.Pause.TheVariants.{Free}
 use Rattle.stateful_exec.specs.declared.request.Request.{Request}
 use Rattle.stateful_exec.specs.declared.tables.Requested.{Requested}
 use Rattle.stateful_exec.specs.declared.walk.Acquired.TheVariants as acquired
@@ -28,8 +31,9 @@ use Rattle.stateful_standing.proofs.Acquired.{Serves-acquires}
 use Rattle.stateful_standing.proofs.EarnedLeft.{LeavesBehind-acquires}
 use Rattle.stateful_standing.proofs.EndedLeft.{at_below, each_at}
 use Rattle.stateful_standing.proofs.FollowStands.{below_apart}
-use Rattle.stateful_standing.proofs.InTurn.{IsReady, IsFit, StandsBehind-each}
+use Rattle.stateful_standing.proofs.InTurn.{IsReady, AreServed, IsFit, AreServed-each}
 use Rattle.stateful_standing.proofs.Parked.{at_kept, TablesStand-kept}
+use Rattle.stateful_standing.proofs.ResumeStands.{AreServed-along}
 use Rattle.stateful_standing.proofs.Served.{Serves}
 
 -- entries of a table are of different numbers
@@ -81,11 +85,11 @@ module _ {B C I P R D H G U : Type 0} (w : Workings B C I P R D H G U) (stored h
           fits = may k d l;
         }
 
-    -- the tables stand behind all of them
-    pub StandsBehind-anew : TrueNames (setting w stored) p → w.kind.point m.members ≡ Some point → w.kind.issued m.next (point ∷ []) → (last : Moment w)
-        → InTurn (AcquiresAnew w held) (unacquired_in m.state.requests) (unsettled w m) last → StandsBehind w stored p points point (unsettled w m) last
-    StandsBehind-anew names located drawn last rules =
-        StandsBehind-each w stored points point ticket_at request_at MayWait (AcquiresAnew w held) serves_anew may_still_wait (unacquired_in m.state.requests) p (unsettled w m) last
+    -- all of them are served
+    pub AreServed-anew : TrueNames (setting w stored) p → w.kind.point m.members ≡ Some point → w.kind.issued m.next (point ∷ []) → (last : Moment w)
+        → InTurn (AcquiresAnew w held) (unacquired_in m.state.requests) (unsettled w m) last → AreServed w stored points point p (unsettled w m) last
+    AreServed-anew names located drawn last rules =
+        AreServed-each w stored points point ticket_at request_at MayWait (AcquiresAnew w held) serves_anew may_still_wait (unacquired_in m.state.requests) p (unsettled w m) last
         (record {
           stands = TablesStand-kept (λ phase. not (is_unacquired phase)) (λ j way. refl) (λ f. refl) w stored p points point m.next m.state s;
           names = names;
@@ -93,3 +97,20 @@ module _ {B C I P R D H G U : Type 0} (w : Workings B C I P R D H G U) (stored h
           drawn = drawn;
         })
         out (AllPairs-filter (λ (e f : ℕ × Requested B C I). e.0 ≢ f.0) (λ e. is_unacquired e.1.phase) m.state.requests (entries_apart m.state.requests s.requests.ascending)) rules
+
+  -- The tables stand behind a resume: where they stand without a pause, and what would have to wait in the middle of it waits for
+  -- nothing that was begun.
+  pub StandsBehind-resumes : (p : Past B C I) (m now : Moment w) → TablesStand w stored p points point m.next (record m.state { pause = Free }) → TrueNames (setting w stored) p → w.kind.point m.members ≡ Some point → w.kind.issued m.next (point ∷ [])
+      → (r : Resumes w held m now) → ((first : AreServed w stored points point p (unparked w m) r.mid) → All (MayWait (after p first.behind.more) (unsettled w r.mid)) (unacquired_in r.mid.state.requests))
+      → StandsBehind w stored p points point m now
+  StandsBehind-resumes p m now s names located drawn r may =
+      let first = AreServed-along w stored points point other_states p m s names located drawn r.mid r.along in
+      let q = after p first.behind.more in
+      let ready = first.ready in
+      let second = AreServed-anew q r.mid ready.stands (may first) ready.names ready.located ready.drawn now r.anew in
+      record {
+        more = first.behind.more ++ second.behind.more;
+        marks_are = second.behind.marks_are ∙ ap (λ marks. marks ++ second.behind.more) first.behind.marks_are ∙ append_assoc m.marks first.behind.more second.behind.more;
+        members_are = second.behind.members_are ∙ first.behind.members_are;
+        stands = rw (after-append p first.behind.more second.behind.more) second.behind.stands;
+      }

@@ -28,7 +28,7 @@ use Rattle.stateful_standing.specs.Standing.{TablesStand, StandsBehind}
 use Rattle.stateful_standing.proofs.Advanced.{Serves-advances}
 use Rattle.stateful_standing.proofs.EndedRequests.{IsTakenOut}
 use Rattle.stateful_standing.proofs.EndedRule.{IsReleased}
-use Rattle.stateful_standing.proofs.InTurn.{IsReady, IsOnWay, StandsBehind-in_turn}
+use Rattle.stateful_standing.proofs.InTurn.{IsReady, IsOnWay, AreServed-in_turn}
 use Rattle.stateful_standing.proofs.Served.{Serves, Serves-concludes, Serves-put}
 
 -- a number that is below another is another
@@ -68,12 +68,12 @@ module _ {B C I P R D H G U : Type 0} (w : Workings B C I P R D H G U) (stored :
       → InTurn (Follows w b how) (released_on job done.state.requests) (record done { state = released job done.state }) last
       → StandsBehind w stored p r.points point (record done { state = released job done.state }) last
   StandsBehind-follow b how p job done last r names located drawn rules =
-      StandsBehind-in_turn w stored r.points point ticket_of request_of path_of (Follows w b how) (Serves-follows w stored r.points point other_states b how) (released_on job done.state.requests) p
+      (AreServed-in_turn w stored r.points point ticket_of request_of path_of (Follows w b how) (Serves-follows w stored r.points point other_states b how) (released_on job done.state.requests) p
       (record done { state = released job done.state }) last (record { stands = r.tables; names = names; located = located; drawn = drawn })
       (All-weaker (IsTakenOut w stored p (not_on job done.state.requests) done.state.queued b) (IsOnWay w stored r.points point ticket_of request_of path_of p (record done { state = released job done.state }))
       (λ x t. record { hand = record { absent = t.gone; not_queued = t.unqueued; own = t.own; brought = t.brought; asked = t.asked }; way = t.way })
       (released_on job done.state.requests) r.in_hand)
-      r.apart rules
+      r.apart rules).behind
 
   -- What stands behind the last turn of a run: the tables, over some points, and behind the mark that it ended those of the
   -- requests that waited for it.

@@ -16,11 +16,11 @@ use Rattle.stateful_exec.specs.declared.tables.Phase.TheVariants.{Parked}
 use Rattle.stateful_exec.specs.declared.tables.Released.{Released}
 use Rattle.stateful_standing.specs.Setting.{setting}
 use Rattle.stateful_standing.specs.Requesting.{IsInPhase}
-use Rattle.stateful_standing.specs.Standing.{TablesStand, StandsBehind}
+use Rattle.stateful_standing.specs.Standing.{TablesStand}
 use Rattle.stateful_standing.proofs.Advanced.{Serves-advances}
 use Rattle.stateful_standing.proofs.EndedLeft.{each_at}
 use Rattle.stateful_standing.proofs.FollowStands.{ticket_of, request_of, path_of}
-use Rattle.stateful_standing.proofs.InTurn.{IsReady, IsOnWay, StandsBehind-in_turn}
+use Rattle.stateful_standing.proofs.InTurn.{IsReady, AreServed, IsOnWay, AreServed-in_turn}
 use Rattle.stateful_standing.proofs.Parked.{All-parked, parked_apart, at_kept, TablesStand-kept}
 use Rattle.stateful_standing.proofs.Served.{Serves}
 
@@ -51,11 +51,11 @@ module _ {B C I P R D H G U : Type 0} (w : Workings B C I P R D H G U) (stored :
           way = phase;
         })
 
-    -- Where the tables stand without a pause, they do so behind the parked requests.
-    pub StandsBehind-along : TrueNames (setting w stored) p → w.kind.point m.members ≡ Some point → w.kind.issued m.next (point ∷ []) → (last : Moment w) → InTurn (GoesAlong w) (parked_in m.state.requests) (unparked w m) last
-        → StandsBehind w stored p points point (unparked w m) last
-    StandsBehind-along names located drawn last rules =
-        StandsBehind-in_turn w stored points point ticket_of request_of path_of (GoesAlong w) Serves-along (parked_in m.state.requests) p (unparked w m) last
+    -- where the tables stand without a pause, the parked requests are served
+    pub AreServed-along : TrueNames (setting w stored) p → w.kind.point m.members ≡ Some point → w.kind.issued m.next (point ∷ []) → (last : Moment w) → InTurn (GoesAlong w) (parked_in m.state.requests) (unparked w m) last
+        → AreServed w stored points point p (unparked w m) last
+    AreServed-along names located drawn last rules =
+        AreServed-in_turn w stored points point ticket_of request_of path_of (GoesAlong w) Serves-along (parked_in m.state.requests) p (unparked w m) last
         (record {
           stands = TablesStand-kept (λ phase. is_none (parked_path phase)) (λ j way. refl) (λ f. refl) w stored p points point m.next (record m.state { pause = Free }) s;
           names = names;
