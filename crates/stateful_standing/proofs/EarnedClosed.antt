@@ -1,6 +1,6 @@
 -- Each cached block that goes on over a finalization is compatible with it: from its beginning on, and behind the end of a run.
-use Rattle.std.proofs.Common.{◌≡◌, ◌≢◌, ◌++◌, ◌⊎◌, inl, inr, ℕ, List, [], ◌∷◌, All, Contains, Option, refl, sym, ap, ◌∙◌, subst}
-use Rattle.std.proofs.lemmas.List.Elements.{All-nil, All-cons, All-head, All-tail, All-push, All-weaker, All-contains, All-contains_itself}
+use Rattle.std.proofs.Common.{◌≡◌, ◌≢◌, ◌⊎◌, inl, inr, ℕ, List, All, Contains, Option, refl, sym, ap, ◌∙◌, subst}
+use Rattle.std.proofs.lemmas.List.Elements.{All-push, All-weaker, All-contains, All-contains_itself}
 use Rattle.stateful_types.specs.Names.{Header, Named}
 use Rattle.stateful_types.specs.Anchor.{anchor_by}
 use Rattle.stateful_types.specs.Round.{IsLater}
@@ -10,7 +10,7 @@ use Rattle.stateful_types.specs.declared.round.Round.{Round}
 use Rattle.stateful_history.specs.Met.{Met, TrueNames}
 use Rattle.stateful_history.specs.Past.{Past}
 use Rattle.stateful_history.specs.declared.mark.How.{How}
-use Rattle.stateful_cache.specs.Cache.{IsIn, InOrder}
+use Rattle.stateful_cache.specs.Cache.{IsIn}
 use Rattle.stateful_cache.specs.Cut.{AreNamed, GoesOn}
 use Rattle.stateful_cache.specs.declared.cache.Cached.{Cached}
 use Rattle.stateful_cache.proofs.Cutting.{Any-from}
@@ -22,6 +22,7 @@ use Rattle.stateful_exec.specs.declared.pause.Pause.{Pause}
 use Rattle.stateful_exec.specs.declared.pause.Pause.TheVariants.{Free, Finalizing, Pruning}
 use Rattle.stateful_standing.specs.Setting.{setting}
 use Rattle.stateful_standing.specs.Caching.{IsCached, CacheStands}
+use Rattle.stateful_standing.proofs.EndedPoints.{parent_at_hand}
 use Rattle.stateful_standing.proofs.EndedKept.{IsRoundOf}
 use Rattle.stateful_standing.proofs.EndedFinalizing.{Finalizes}
 use Rattle.stateful_standing.proofs.EarnedPaused.{IsClosed, IsClosedBy, anchor-unretained}
@@ -31,20 +32,6 @@ each_of : {X : Type 0} (P : X → Type 0) (xs : List X) → ((x : X) → Contain
 each_of P xs f = All-weaker (λ x. Contains xs x) P f xs (All-contains_itself xs)
 
 module _ {U : Type 0} where
-  -- the parent of each entry is the anchor, or cached
-  at_hand_from : (anchor : Digest) (cache : List (Cached U)) (earlier : List Digest) (es : List (Cached U)) → All (λ d. IsIn cache d) earlier → All (λ k. Contains cache k) es → InOrder anchor earlier es → All (λ k. (k.parent ≡ anchor) ⊎ IsIn cache k.parent) es
-  at_hand_from anchor cache earlier [] known among order = All-nil (λ (k : Cached U). (k.parent ≡ anchor) ⊎ IsIn cache k.parent)
-  at_hand_from anchor cache earlier (e ∷ es) known among order =
-      All-cons (λ (k : Cached U). (k.parent ≡ anchor) ⊎ IsIn cache k.parent) e es
-      (elim order.0 [ inl is ↦ inl is | inr c ↦ inr (All-contains (λ d. IsIn cache d) earlier e.parent known c) ])
-      (at_hand_from anchor cache (earlier ++ e.digest ∷ []) es
-      (All-push (λ d. IsIn cache d) earlier e.digest known (Any-from (λ (k : Cached U). k.digest ≡ e.digest) cache e (All-head (λ k. Contains cache k) e es among) refl))
-      (All-tail (λ k. Contains cache k) e es among) order.1)
-
-  parent-at_hand : (anchor : Digest) (cache : List (Cached U)) → InOrder anchor [] cache → (e : Cached U) → Contains cache e → (e.parent ≡ anchor) ⊎ IsIn cache e.parent
-  parent-at_hand anchor cache order e among =
-      All-contains (λ k. (k.parent ≡ anchor) ⊎ IsIn cache k.parent) cache e (at_hand_from anchor cache [] cache (All-nil (λ d. IsIn cache d)) (All-contains_itself cache) order) among
-
   -- a finalization begins so
   pub IsClosed-begins : {B : Type 0} (header : Header B) (b : Named B) (anchor : Digest) (cache : List (Cached U)) (boundary : Boundary) → AreNamed anchor cache → IsBoundaryOf header b cache boundary → IsClosed boundary cache
   IsClosed-begins header b anchor cache boundary named is = each_of (λ e. IsRetained boundary (step_in e) → Contains boundary.compatible e.digest) cache each
@@ -81,7 +68,7 @@ module _ {B C I P R D H G U : Type 0} (w : Workings B C I P R D H G U) (stored :
       where
         from : (e : Cached U) → Contains old e → (e.parent ≡ b.digest) ⊎ Contains boundary.compatible e.parent → Contains boundary.compatible e.parent
         from e among (inr c) = c
-        from e among (inl is) = elim (parent-at_hand anchor.digest old s.in_order e among) [
+        from e among (inl is) = elim (parent_at_hand anchor.digest old s.in_order among.0 e among.1 among.2) [
           | inl a ↦ absurd (anchor-unretained w stored p points next anchor old names round boundary b met later on (sym is ∙ a))
           | inr any ↦ subst (λ (d : Digest). Contains boundary.compatible d) (sym is) (cached-compatible on (subst (λ (d : Digest). IsIn old d) is any))
         ]
