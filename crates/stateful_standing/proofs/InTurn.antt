@@ -54,12 +54,12 @@ module _ {B C I P R D H G U : Type 0} (w : Workings B C I P R D H G U) (stored :
           let served : Serves w stored p points point m (ticket x) n = serves p m n x ready (All-head (IsFit p m) x xs each) rule in
           let others : All (λ y. ticket y ≢ ticket x) xs = λ k y within same. apart 0 (suc k) y (omega arith) (omega (arith, within)) (sym same) in
           let rest : AreServed (after p served.behind.more) n last =
-              AreServed-each xs (after p served.behind.more) n last (still_ready p m n (ticket x) ready served)
-              (λ k y within. let fit = All-tail (IsFit p m) x xs each k y within in record {
-                hand = served.others (ticket (get_or xs k y)) (request (get_or xs k y)) (others k y within) fit.hand;
-                fits = keeps p m n x rule served (get_or xs k y) fit.fits;
-              })
-              (λ i j y lt within. apart (suc i) (suc j) y (omega (arith, lt)) (omega (arith, within))) rules in
+          AreServed-each xs (after p served.behind.more) n last (still_ready p m n (ticket x) ready served)
+          (λ k y within. let fit = All-tail (IsFit p m) x xs each k y within in record {
+            hand = served.others (ticket (get_or xs k y)) (request (get_or xs k y)) (others k y within) fit.hand;
+            fits = keeps p m n x rule served (get_or xs k y) fit.fits;
+          })
+          (λ i j y lt within. apart (suc i) (suc j) y (omega (arith, lt)) (omega (arith, within))) rules in
           let behind = rest.behind in
           record {
             behind = record {
