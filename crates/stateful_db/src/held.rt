@@ -122,6 +122,8 @@ impl<D: ManagedDb> DatabaseSet for Held<D> {
         ensures closed { let set = ⟦<Held<D> as DatabaseSet>⟧ in OnErr result (
             IsOpenable (set.members self.old) → IsOpenable (set.members self.new)) }
         ensures index { IfErr result (λ e. e.index < 1) }
+        ensures none_away { let set = ⟦<Held<D> as DatabaseSet>⟧ in
+            set.kind.NoneAway (set.members self.old) → set.kind.NoneAway (set.members self.new) }
         ensures next { let set = ⟦<Held<D> as DatabaseSet>⟧ in
             set.next self.new ≡ set.next self.old }
         ensures later { let set = ⟦<Held<D> as DatabaseSet>⟧ in

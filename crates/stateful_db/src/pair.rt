@@ -90,6 +90,8 @@ impl<A: ManagedDb, R: DatabaseSet> DatabaseSet for (Held<A>, R) {
             set.kind.Openable (set.members self.old) → set.kind.Openable (set.members self.new)) }
         ensures index { let set = ⟦<(Held<A>, R) as DatabaseSet>⟧ in
             IfErr result (λ e. e.index < set.kind.count) }
+        ensures none_away { let set = ⟦<(Held<A>, R) as DatabaseSet>⟧ in
+            set.kind.NoneAway (set.members self.old) → set.kind.NoneAway (set.members self.new) }
         ensures next { let set = ⟦<(Held<A>, R) as DatabaseSet>⟧ in
             set.next self.new ≡ set.next self.old }
         ensures later { let set = ⟦<(Held<A>, R) as DatabaseSet>⟧ in

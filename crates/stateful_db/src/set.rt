@@ -116,6 +116,7 @@ pub trait DatabaseSet: Sized {
         ensures closed { OnErr result (kind.Openable (members self.old)
             → kind.Openable (members self.new)) }
         ensures index { IfErr result (λ e. e.index < kind.count) }
+        ensures none_away { kind.NoneAway (members self.old) → kind.NoneAway (members self.new) }
         ensures next { next self.new ≡ next self.old }
         ensures later { (n : ℕ) → counted self.old n ≤ counted self.new n };
 
@@ -232,6 +233,7 @@ pub trait DatabaseSet: Sized {
         ensures here { OnOk result (kind.point (members self.new) ≡ None → ⊥) }
         ensures tokens { OnOk result ((i : ℕ)
             → kind.tokens (members self.new) i ≡ kind.tokens (members self.old) i) }
+        ensures none_away { kind.NoneAway (members self.old) → kind.NoneAway (members self.new) }
         ensures next { next self.new ≡ next self.old }
         ensures fault { (n : ℕ) (k : DbCall) → IsErrOf result (SetError.DatabaseFault n k)
             → kind.count < 2 ^ 64
@@ -265,6 +267,7 @@ pub trait DatabaseSet: Sized {
             kind.count) }
         ensures lost { IsErrOf result SetError.Lost → ⊥ }
         ensures exhausted { IsErrOf result SetError.Exhausted → ⊥ }
+        ensures none_away { kind.NoneAway (members self.old) → kind.NoneAway (members self.new) }
         ensures next { next self.new ≡ next self.old }
         ensures fault { (n : ℕ) (k : DbCall)
             → IsErrOf result (SetError.DatabaseFault n k)
@@ -295,6 +298,7 @@ pub trait DatabaseSet: Sized {
             → open_at barrier i ≡ Some (record { place = kind.place (members self.old) i })) }
         ensures lost { IsErrOf result SetError.Lost → ⊥ }
         ensures exhausted { IsErrOf result SetError.Exhausted → ⊥ }
+        ensures none_away { kind.NoneAway (members self.old) → kind.NoneAway (members self.new) }
         ensures next { next self.new ≡ next self.old }
         ensures fault { (n : ℕ) (k : DbCall)
             → IsErrOf result (SetError.DatabaseFault n k)
@@ -330,6 +334,7 @@ pub trait DatabaseSet: Sized {
             ≡ kind.flushed (members self.old) index token.place) }
         ensures lost { IsErrOf result SetError.Lost → ⊥ }
         ensures exhausted { IsErrOf result SetError.Exhausted → ⊥ }
+        ensures none_away { kind.NoneAway (members self.old) → kind.NoneAway (members self.new) }
         ensures next { next self.new ≡ next self.old }
         ensures fault { (n : ℕ) (k : DbCall) → IsErrOf result (SetError.DatabaseFault n k)
             → (k ≡ DbCall.Flush) × (n ≡ index) × Rose (counted self.old n) (counted self.new n)
@@ -349,6 +354,7 @@ pub trait DatabaseSet: Sized {
         ensures ok { OnOk result (members self.new ≡ kind.pruned (members self.old) targets.now) }
         ensures lost { IsErrOf result SetError.Lost → ⊥ }
         ensures exhausted { IsErrOf result SetError.Exhausted → ⊥ }
+        ensures none_away { kind.NoneAway (members self.old) → kind.NoneAway (members self.new) }
         ensures next { next self.new ≡ next self.old }
         ensures fault { (n : ℕ) (k : DbCall) → IsErrOf result (SetError.DatabaseFault n k)
             → kind.count < 2 ^ 64

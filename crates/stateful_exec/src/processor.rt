@@ -1,6 +1,7 @@
 //! An application with the states of blocks that aren't final yet.
 
 ghost use Rattle.std.specs.Prelude.{◌≡◌, ◌↔◌, ◌<◌, ◌≤◌, ◌++◌, ◌∷◌, ◌⊎◌, [], ℕ, true, false, None, OnOk, OnErr, IfOk, IfErr, IsErrOf, IsTrue};
+ghost use Rattle.std.specs.Option.{option_copied};
 ghost use Rattle.stateful_types.specs.Causes.{Rose};
 ghost use Rattle.stateful_cache.specs.Cache.{IsIn};
 ghost use Rattle.stateful_history.specs.declared.mark.JobKind.TheVariants as job;
@@ -111,6 +112,20 @@ impl<A: Application + Drop, M> Execution<A, M> {
         self.tables.runs.len() == 0
     }
 
+    /// The build that goes on.
+    pub fn build(&self) -> Option<&BuildingOf<A>>
+        ensures { option_copied result ≡ self.now.build }
+    {
+        self.build.as_ref()
+    }
+
+    /// The finalization that goes on, and how far it has come.
+    pub fn front(&self) -> Option<&FrontOf<A>>
+        ensures { option_copied result ≡ self.now.front }
+    {
+        self.front.as_ref()
+    }
+
     /// The next job and the next fetch that will be drawn. They never fall.
     pub fn numbers(&self) -> (u64, u64)
         ensures { result ≡ (self.now.state.next_job, self.now.state.next_fetch) }
@@ -134,6 +149,7 @@ impl<A: Application + Drop, M> Execution<A, M> {
             (Rose (A.count self.old.application) (A.count self.new.application)) ticket
             (A.Databases.members databases.old) (A.Databases.next databases.old)
             self.old.state) }
+        ensures front { self.new.front ≡ self.old.front }
         ensures members { A.Databases.members databases.new ≡ A.Databases.members databases.old }
         ensures numbers { Rises self.old.state self.new.state }
         ensures counts { (n : ℕ)
@@ -170,6 +186,7 @@ impl<A: Application + Drop, M> Execution<A, M> {
             FaultsTurn w A.Build.count
             (moment w self.old.state (A.Databases.members databases.now)
             (A.Databases.next databases.now) marks.old.items) self.old.build job) }
+        ensures front { self.new.front ≡ self.old.front }
         ensures numbers { Rises self.old.state self.new.state }
         ensures application { self.new.application ≡ self.old.application }
     {
