@@ -39,6 +39,7 @@ module _ {B C I R U H : Type 0} (w : Workings B R H U) (stored : ℕ → Option 
   pub Register-new : (register : Register) → IsBlank register → RegisterStands {B = B} {C = C} {I = I} (numbered w.kind.count) [] register
   Register-new register blank = record {
     tickets = blank.tickets;
+    proposals = blank.proposals;
     jobs = blank.jobs;
     fetches = blank.fetches;
     flushes = blank.flushes;

@@ -1,1 +1,5 @@
 pub mod Changes
+pub mod Ending
+pub mod Listed
+pub mod Proposals
+pub mod Room

@@ -1,5 +1,5 @@
 -- What events and marks do to the live work.
-use Rattle.std.specs.Prelude.{ℕ, ◌+◌, max, Bool, true, false, not, ◌==◌, ◌&&◌, ◌||◌, nat_lt, if◌then◌else◌, Option, Some, None}
+use Rattle.std.specs.Prelude.{ℕ, ◌+◌, max, Bool, true, false, not, ◌==◌, ◌&&◌, ◌||◌, nat_lt, if◌then◌else◌, Option, Some, None, List, ◌∷◌, map}
 use Rattle.stateful_history.specs.declared.ticket.Ticket.{Ticket}
 use Rattle.stateful_history.specs.declared.ticket.Ticket.TheVariants.{Request, Receipt}
 use Rattle.stateful_history.specs.declared.event.Event.{Event}
@@ -7,12 +7,12 @@ use Rattle.stateful_history.specs.declared.event.Event.TheVariants.{Verify, Prep
 use Rattle.stateful_history.specs.declared.mark.Mark.{Mark}
 use Rattle.stateful_history.specs.declared.mark.Mark.TheVariants.{Asked, Withdrawn, Started, Ended, Built, Verdict, Answered, Declined, Databases, BarrierBegun, BarrierDone, Acknowledged, Dropped, Stopped}
 use Rattle.stateful_register.specs.declared.change.Change.{Change}
-use Rattle.stateful_register.specs.declared.change.Change.TheVariants.{Opens, Closes, Asks, EndsFetch, StartsJob, EndsJob, BeginsBarrier, Flushes, EndsBarrier, Starts, Stops, Keeps}
+use Rattle.stateful_register.specs.declared.change.Change.TheVariants.{Opens, Proposes, Closes, Asks, EndsFetch, StartsJob, EndsJob, BeginsBarrier, Flushes, EndsBarrier, Starts, Stops, Keeps}
 
 abbrev pub change_by_event : {B C I : Type 0} → Event B C I → Change
 change_by_event (Verify t ancestry) = Opens t Request
-change_by_event (Prepare t context ancestry input) = Opens t Request
-change_by_event (Propose t context ancestry input) = Opens t Request
+change_by_event (Prepare t context ancestry input) = Proposes t
+change_by_event (Propose t context ancestry input) = Proposes t
 change_by_event (Subscribe t) = Opens t Request
 change_by_event (Finalized t b) = Opens t Receipt
 change_by_event (Cancel t) = Closes t
@@ -38,11 +38,28 @@ change_by_mark (BarrierDone k height good) = EndsBarrier k
 change_by_mark Stopped = Stops
 change_by_mark mark = Keeps
 
+-- what an event and its marks change, one after another
+abbrev pub changes_of : {B C I : Type 0} → Event B C I → List (Mark B) → List Change
+changes_of event marks = change_by_event event ∷ map change_by_mark marks
+
+-- a barrier begins by the change
+abbrev pub begins_barrier : Change → Bool
+begins_barrier (BeginsBarrier k) = true
+begins_barrier change = false
+
 -- what a ticket stands for after a change
 abbrev pub ticket_after : Change → ℕ → Option Ticket → Option Ticket
 ticket_after (Opens u kind) t was = if t == u then Some kind else was
+ticket_after (Proposes u) t was = if t == u then Some Request else was
 ticket_after (Closes u) t was = if t == u then None else was
 ticket_after change t was = was
+
+-- whether a ticket is that of a live request to build after a change
+abbrev pub proposal_after : Change → ℕ → Bool → Bool
+proposal_after (Opens u kind) t was = not (t == u) && was
+proposal_after (Proposes u) t was = (t == u) || was
+proposal_after (Closes u) t was = not (t == u) && was
+proposal_after change t was = was
 
 -- whether a job is live after a change
 abbrev pub job_after : Change → ℕ → Bool → Bool
@@ -68,6 +85,7 @@ flush_after count change k i was = was
 -- the least new ticket after a change
 abbrev pub bound_after : Change → ℕ → ℕ
 bound_after (Opens t kind) was = max (t + 1) was
+bound_after (Proposes t) was = max (t + 1) was
 bound_after change was = was
 
 -- whether the machine is down after a change

@@ -1,15 +1,20 @@
 //! What events and marks do to the live work.
 
-ghost use Rattle.std.specs.Prelude.{◌≡◌};
-ghost use Rattle.stateful_register.specs.Change.{change_by_event, change_by_mark};
+ghost use Rattle.std.specs.Prelude.{◌≡◌, IfOk};
+ghost use Rattle.std.specs.List.{list_any};
+ghost use Rattle.stateful_register.specs.Change.{change_by_event, change_by_mark, changes_of, begins_barrier};
 
 use stateful_history::{Event, Mark, Ticket};
+use stateful_types::OutOfMemory;
+use std::alloc::Global;
 
 /// One change of the live work.
 #[derive(Clone, Copy, Debug, PartialEq, Eq)]
 pub(crate) enum Change {
     /// A new ticket stands for this from now on.
     Opens { ticket: u64, stands_for: Ticket },
+    /// A new ticket stands for a request to build from now on.
+    Proposes { ticket: u64 },
     /// A ticket is answered, dropped or cancelled.
     Closes { ticket: u64 },
     /// A block is fetched.
@@ -40,13 +45,13 @@ impl Change {
         ensures { result ≡ change_by_event event.now }
     {
         match event {
-            Event::Verify { ticket, .. }
-            | Event::Prepare { ticket, .. }
-            | Event::Propose { ticket, .. }
-            | Event::Subscribe { ticket } => Change::Opens {
+            Event::Verify { ticket, .. } | Event::Subscribe { ticket } => Change::Opens {
                 ticket: *ticket,
                 stands_for: Ticket::Request,
             },
+            Event::Prepare { ticket, .. } | Event::Propose { ticket, .. } => {
+                Change::Proposes { ticket: *ticket }
+            }
             Event::Finalized { ticket, .. } => Change::Opens {
                 ticket: *ticket,
                 stands_for: Ticket::Receipt,
@@ -63,6 +68,16 @@ impl Change {
             },
             Event::Restart { .. } => Change::Starts,
             Event::Turn { .. } | Event::Progress { .. } | Event::Stop => Change::Keeps,
+        }
+    }
+
+    /// Whether a barrier begins by it.
+    pub(crate) fn begins_barrier(self) -> bool
+        ensures { result ≡ begins_barrier self }
+    {
+        match self {
+            Change::BeginsBarrier { .. } => true,
+            _ => false,
         }
     }
 
@@ -94,4 +109,27 @@ impl Change {
             | Mark::Completed { .. } => Change::Keeps,
         }
     }
+}
+
+/// What an event and its marks change, one after another.
+pub(crate) fn changes_of<B, C, I>(
+    alloc: Global,
+    event: &Event<B, C, I>,
+    marks: &[Mark<B>],
+) -> Result<Vec<Change>, OutOfMemory>
+    ensures { IfOk result (λ changes. changes.items ≡ changes_of event.now marks.now) }
+{
+    let mut changes = Vec::new(alloc);
+    changes.push(Change::by_event(event))?;
+    for mark in marks {
+        changes.push(Change::by_mark(mark))?;
+    }
+    Ok(changes)
+}
+
+/// Whether a barrier begins by some of these changes.
+pub(crate) fn begins_some_barrier(changes: &[Change]) -> bool
+    ensures { result ≡ list_any begins_barrier changes.now }
+{
+    changes.iter().any(|change| change.begins_barrier())
 }

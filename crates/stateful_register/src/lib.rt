@@ -2,7 +2,9 @@
 #![tactic(auto)]
 
 mod change;
+mod ends;
 mod flushes;
+mod live;
 mod register;
 
 pub use register::Register;

@@ -1,13 +1,9 @@
-use Rattle.std.proofs.Common.{take}
-use Rattle.stateful_history.specs.Past.{after_entry}
-use Rattle.stateful_history.proofs.Marks.{after-take}
-use Rattle.stateful_register.proofs.Changes.{RegisterStands-came, RegisterStands-made}
+use Rattle.std.proofs.Common.{◌∙◌}
+use Rattle.stateful_register.proofs.Changes.{RegisterStands-taken}
 use Rattle.stateful_register.proofs.register.Register.record.Goals as goal
 
-pub loop-mark-init : goal.loop-mark-init
-loop-mark-init g c = λ p stands. RegisterStands-came c.args.count p _ _ stands _ (rw c.by_event.ensures at c.in_ok-apply.ensures.ok)
-
-pub loop-mark-preserved : goal.loop-mark-preserved
-loop-mark-preserved g c = λ p stands.
-    rw (after-take _ c.args.marks.now c.loop-mark.mark-index _ c.loop-mark-test.true c.mark-item.is)
-    (RegisterStands-made c.args.count (after_entry p c.args.event.now (take c.loop-mark.mark-index c.args.marks.now)) _ _ (c.loop-mark.invariant p stands) _ (rw c.by_mark.ensures at c.in_ok-apply-2.ensures.ok))
+pub returns-clause-ok : goal.returns-clause-ok
+returns-clause-ok g c =
+    RegisterStands-taken _ c.args.count c.args.self.now _ _ c.args.event.now c.args.marks.now
+    (rw (c.as_slice.ensures.value ∙ c.in_ok-changes.ensures) at c.take_in-taken.ensures.ok)
+    c.release_each.ensures
