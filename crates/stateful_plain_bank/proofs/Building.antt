@@ -1,5 +1,5 @@
 -- One turn of a build.
-use Rattle.std.proofs.Common.{◌≡◌, ℕ, zero, suc, ◌+◌, ◌<◌, true, List, ◌∷◌, Option, Some, None, IsSomeAnd, inr, refl, ap, sym, ◌∙◌, subst, arith}
+use Rattle.std.proofs.Common.{◌≡◌, ℕ, ◌+◌, ◌<◌, true, List, ◌∷◌, Option, Some, None, IsSomeAnd, inr, refl, ap, sym, ◌∙◌, subst}
 use Rattle.stateful_types.specs.declared.target.Target.{Target}
 use Rattle.stateful_types.specs.declared.outcome.Handoff.{Handoff}
 use Rattle.stateful_types.specs.declared.outcome.Handoff.TheVariants.{Wait, Vote, Stage}
@@ -19,13 +19,12 @@ use Rattle.stateful_plain.specs.declared.batch.PlainUnmerkleized.{PlainUnmerklei
 use Rattle.stateful_plain.specs.declared.batch.PlainMerkleized.{PlainMerkleized}
 use Rattle.stateful_plain_bank.specs.Stepped.{bank_meaning, stepped}
 use Rattle.stateful_plain_bank.specs.Progress.{Shows, HasDone, Advances}
-use Rattle.stateful_plain_bank.specs.Builds.{BankBuildOf, IsBuild, EachBuild, EachBuildAt, proposal_of, targets_after, bank_gives, build_turns}
+use Rattle.stateful_plain_bank.specs.Builds.{BankBuildOf, IsBuild, EachBuild, EachBuildAt, proposal_of, targets_after, bank_gives}
 use Rattle.stateful_plain_bank.specs.Works.{bank_works}
 use Rattle.stateful_plain_bank.specs.declared.progress.Progress.{Progress}
 use Rattle.stateful_plain_bank.specs.declared.progress.Advanced.{Advanced}
 use Rattle.stateful_plain_bank.specs.declared.progress.Advanced.TheVariants.{Refused, Further, Complete}
 use Rattle.stateful_plain_bank.specs.declared.build.BankBuild.{BankBuild}
-use Rattle.stateful_plain_bank.proofs.Declining.{declined, undeclined}
 
 -- the same where the database is at that point
 pub build_at : (build : BankBuild) (q : ℕ × Whole) (place : Option (ℕ × Whole)) (Holds : BankBuildOf → ℕ → Type 0) → place ≡ Some q → EachBuild build q Holds → EachBuildAt build place Holds
@@ -86,10 +85,6 @@ module _ (b : BankBuildOf) where
       pub staged : p.decision ≡ Stage tt → Hands bank_works SealShows b (Stage block) block m
       staged decision = hands_stage p same batch shows targets block m asked good (targets_are (b.own, state_of b shows.entries) (b.at ∷ b.below) shown) block_is shown decision
 
--- the test of a proposal that isn't declined
-turns_of : (p : Proposal) (whole : Whole) → (IsDeclined p → ⊥) → build_turns p whole ≡ run_turns whole.entries p.ops
-turns_of p whole asked = rw (undeclined p asked) refl
-
 module _ (build : BankBuild) (b : BankBuildOf) (turns : ℕ) (is : IsBuild build b turns) (p : Proposal) (progress : Progress) (held : build.work ≡ Some (p, progress)) where
   both : ◌≡◌ {A = Proposal × Progress} (p, progress) (proposal_of b.asked, is.progress)
   both = let kept = is.work_is in cc
@@ -100,19 +95,7 @@ module _ (build : BankBuild) (b : BankBuildOf) (turns : ℕ) (is : IsBuild build
   count : progress.done ≡ turns
   count = ap (λ z. z.1.done) both ∙ is.turns_are
 
-  pub declined_cost : IsDeclined p → build_turns (proposal_of b.asked) b.at.1 ≡ turns + 1
-  declined_cost h =
-      let here : IsDeclined (proposal_of b.asked) = subst IsDeclined same h in
-      rw (declined (proposal_of b.asked) here) (first turns (λ some. is.asked some here))
-    where
-      first : (n : ℕ) → (0 < n → ⊥) → 1 ≡ n + 1
-      first zero none = omega arith
-      first (suc n) none = absurd (none (omega arith))
-
-  module _ (asked : IsDeclined p → ⊥) (ops : List Op) (ops_are : ops ≡ p.ops) (q : ℕ × Whole) (at : IsPoint q (b.at ∷ b.below)) (advanced : Advanced) (next : (id : ℕ) (r : ℕ × Whole) (c : List (ℕ × Whole)) → HasDone progress ops id r c → IsPoint q (r ∷ c) → Advances advanced progress.done ops id r c) where
-    asked_here : IsDeclined (proposal_of b.asked) → ⊥
-    asked_here h = asked (subst IsDeclined (sym same) h)
-
+  module _ (ops : List Op) (ops_are : ops ≡ p.ops) (q : ℕ × Whole) (at : IsPoint q (b.at ∷ b.below)) (advanced : Advanced) (next : (id : ℕ) (r : ℕ × Whole) (c : List (ℕ × Whole)) → HasDone progress ops id r c → IsPoint q (r ∷ c) → Advances advanced progress.done ops id r c) where
     ops_of : ops ≡ (proposal_of b.asked).ops
     ops_of = ops_are ∙ ap (λ z. z.ops) same
 
@@ -128,8 +111,8 @@ module _ (build : BankBuild) (b : BankBuildOf) (turns : ℕ) (is : IsBuild build
     pub refused_ends : advanced ≡ Refused → bank_gives b.asked b.at.1 Wait
     refused_ends reached = HasNoStates (λ targets. rw (went_to Refused reached).0 refl)
 
-    pub refused_cost : advanced ≡ Refused → build_turns (proposal_of b.asked) b.at.1 ≡ turns + 1
-    refused_cost reached = turns_of (proposal_of b.asked) b.at.1 asked_here ∙ (went_to Refused reached).1 ∙ ap (λ n. n + 1) count
+    pub refused_cost : advanced ≡ Refused → run_turns b.at.1.entries b.asked.input.ops ≡ turns + 1
+    refused_cost reached = (went_to Refused reached).1 ∙ ap (λ n. n + 1) count
 
     -- the build goes on behind an allowed operation
     pub further_build : (left : Progress) (new : BankBuild) → advanced ≡ Further left → new.work ≡ Some (p, left) → IsBuild new b (turns + 1)
@@ -139,21 +122,18 @@ module _ (build : BankBuild) (b : BankBuildOf) (turns : ℕ) (is : IsBuild build
           progress = left;
           work_is = held_now ∙ ap (λ z. Some (z, left)) same;
           turns_are = behind.1 ∙ ap (λ n. n + 1) count;
-          asked = λ some. asked_here;
           done = behind.0;
         }
 
-    pub further_cost : (left : Progress) → advanced ≡ Further left → turns + 1 < build_turns (proposal_of b.asked) b.at.1
-    further_cost left reached =
-        let more = subst (λ n. n + 1 < run_turns b.at.1.entries (proposal_of b.asked).ops) count (went_to (Further left) reached).2 in
-        subst (λ n. turns + 1 < n) (sym (turns_of (proposal_of b.asked) b.at.1 asked_here)) more
+    pub further_cost : (left : Progress) → advanced ≡ Further left → turns + 1 < run_turns b.at.1.entries b.asked.input.ops
+    further_cost left reached = subst (λ n. n + 1 < run_turns b.at.1.entries b.asked.input.ops) count (went_to (Further left) reached).2
 
     module _ (batch : PlainUnmerkleized) (reached : advanced ≡ Complete batch) where
       pub complete_shows : Shows batch p.ops b.own b.at b.below
       complete_shows = subst (λ z. Shows batch z.ops b.own b.at b.below) (sym same) (went_to (Complete batch) reached).0
 
-      pub complete_cost : build_turns (proposal_of b.asked) b.at.1 ≡ turns + 1
-      complete_cost = turns_of (proposal_of b.asked) b.at.1 asked_here ∙ (went_to (Complete batch) reached).1 ∙ ap (λ n. n + 1) count
+      pub complete_cost : run_turns b.at.1.entries b.asked.input.ops ≡ turns + 1
+      complete_cost = (went_to (Complete batch) reached).1 ∙ ap (λ n. n + 1) count
 
 -- what ends a build hangs on nothing behind it
 pub ends : (given : Handoff (ProposedBlock BankBlock PlainMerkleized)) (b : BankBuildOf) (Left : Type 0) → BuildEnds bank_works (Done given) SealShows b ⊥ → BuildEnds bank_works (Done given) SealShows b Left

@@ -3,5 +3,4 @@ pub mod Drafting
 pub mod Outcomes
 pub mod Turning
 pub mod Running
-pub mod Declining
 pub mod Building

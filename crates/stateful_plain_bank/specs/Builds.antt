@@ -1,5 +1,5 @@
--- Builds of blocks: what is asked for, what they stand on, and how many turns they take.
-use Rattle.std.specs.Prelude.{◌≡◌, ℕ, ◌+◌, ◌^◌, ◌<◌, ◌==◌, ◌||◌, nat_lt, nat_le, if◌then◌else◌, Bool, true, false, List, [], ◌∷◌, length, Option, Some}
+-- Builds of blocks: what is asked for, and what they stand on.
+use Rattle.std.specs.Prelude.{◌≡◌, ℕ, List, [], ◌∷◌, Option, Some}
 use Rattle.sha2.specs.Sha256.{sha256}
 use Rattle.stateful_types.specs.declared.round.Round.{Round}
 use Rattle.stateful_types.specs.declared.target.Target.{Target}
@@ -14,9 +14,8 @@ use Rattle.stateful_db.specs.declared.application.ProposalKind.TheVariants.{Prep
 use Rattle.stateful_bank.specs.declared.ask.Ask.{Ask}
 use Rattle.stateful_bank.specs.declared.block.BankBlock.{BankBlock}
 use Rattle.stateful_bank.specs.declared.proposal.Proposal.{Proposal}
-use Rattle.stateful_bank.specs.Balances.{run_turns}
 use Rattle.stateful_bank.specs.BankBlock.{block_bytes}
-use Rattle.stateful_bank.specs.Proposal.{IsDeclined, Gives}
+use Rattle.stateful_bank.specs.Proposal.{Gives}
 use Rattle.stateful_plain.specs.Whole.{Whole, target_of}
 use Rattle.stateful_plain_bank.specs.Stepped.{bank_meaning}
 use Rattle.stateful_plain_bank.specs.Progress.{HasDone}
@@ -46,20 +45,6 @@ targets_after whole = target_of whole ∷ []
 abbrev pub bank_gives : Asked BankBlock Round Ask → Whole → Handoff BankBlock → Type 0
 bank_gives a whole given = Gives bank_meaning.step targets_after (proposal_of a) whole given
 
--- nothing is handed over
-abbrev pub is_wait : Handoff (Unit {0}) → Bool
-is_wait Wait = true
-is_wait (Vote value) = false
-is_wait (Stage value) = false
-
--- nothing is built, whatever the state is
-abbrev pub is_declined : Proposal → Bool
-is_declined p = is_wait p.decision || (length p.ops == 0) || nat_lt 16 (length p.ops) || nat_le (2 ^ 64) (p.height.0 + 1)
-
--- the turns of a build: one where nothing is built whatever the state is, and else one for each operation that is begun
-abbrev pub build_turns : Proposal → Whole → ℕ
-build_turns p whole = if is_declined p then 1 else run_turns whole.entries p.ops
-
 -- what builds of the bank are of
 abbrev pub BankBuildOf : Type 0
 BankBuildOf = BuildOf BankBlock Round Ask (Unit {0}) ℕ Whole
@@ -69,7 +54,6 @@ pub record IsBuild (build : BankBuild) (b : BankBuildOf) (turns : ℕ) : Type 0 
   pub progress : Progress
   pub work_is : build.work ≡ Some (proposal_of b.asked, progress)
   pub turns_are : progress.done ≡ turns
-  pub asked : 0 < turns → IsDeclined (proposal_of b.asked) → ⊥
   pub done : HasDone progress (proposal_of b.asked).ops b.own b.at b.below
 
 -- what holds of all that the build may be of, where the database is at this point of its chain

@@ -9,20 +9,20 @@ use Rattle.stateful_bank.specs.Balances.{run_turns}
 use Rattle.stateful_plain.specs.Whole.{Whole}
 use Rattle.stateful_plain_bank.specs.Stepped.{bank_meaning}
 use Rattle.stateful_plain_bank.specs.Runs.{IsRun}
-use Rattle.stateful_plain_bank.specs.Builds.{bank_gives, build_turns, proposal_of, IsBuild}
+use Rattle.stateful_plain_bank.specs.Builds.{bank_gives, IsBuild}
 use Rattle.stateful_plain_bank.specs.Hooks.{IsLeft}
 use Rattle.stateful_plain_bank.specs.declared.run.BankRun.{BankRun}
 use Rattle.stateful_plain_bank.specs.declared.build.BankBuild.{BankBuild}
 use Rattle.stateful_plain_bank.specs.declared.hook.BankHook.{BankHook}
 
--- It reads nothing before a block is applied, and keeps nothing of the blocks that were finalized. A hook takes as many
--- turns as its block says.
+-- It reads nothing before a block is applied, and keeps nothing of the blocks that were finalized. A build takes as many
+-- turns as a run of its operations, also where it is declined. A hook takes as many as its block says.
 abbrev pub bank_works : Works BankBlock Round Ask (Unit {0}) ℕ Whole Target BankRun BankBuild BankHook (Unit {0})
 bank_works = record {
   meaning = bank_meaning;
   gives = bank_gives;
   run_cost = λ finality whole block. Some (run_turns whole.entries block.ops);
-  build_cost = λ asked whole. Some (build_turns (proposal_of asked) whole);
+  build_cost = λ asked whole. Some (run_turns whole.entries asked.input.ops);
   hook_cost = λ block whole. Some block.slow;
   runs = IsRun;
   building = IsBuild;

@@ -116,7 +116,7 @@ impl Application for Bank {
     ghost use Rattle.stateful_plain_bank.specs.Stepped.{bank_meaning};
     ghost use Rattle.stateful_plain_bank.specs.Hooks.{IsLeft, GoesOn};
     ghost use Rattle.stateful_plain_bank.specs.Runs.{IsRun, EachRunAt, IsSealed, counted};
-    ghost use Rattle.stateful_plain_bank.specs.Builds.{IsBuild, EachBuildAt, IsBuilt, proposal_of, build_turns};
+    ghost use Rattle.stateful_plain_bank.specs.Builds.{IsBuild, EachBuildAt, IsBuilt};
     ghost use Rattle.stateful_plain_bank.specs.Works.{bank_works};
 
     type SigningScheme = VoteScheme;
@@ -261,7 +261,7 @@ impl Application for Bank {
             BuildEnds bank_works moved SealShows b (IsBuild build.new b (n + 1)))) }
         ensures cost { let set = ⟦<Held<Plain> as DatabaseSet>⟧ in IfOk result (λ moved.
             EachBuildAt build.old (set.kind.point (set.members databases.now)) (λ b n.
-            Costs (Some (build_turns (proposal_of b.asked) b.at.1)) moved n)) }
+            Costs (Some (run_turns b.at.1.entries b.asked.input.ops)) moved n)) }
 
         // It fails exactly where the state would end at the last number, but for want of memory.
         ensures exhausted { let set = ⟦<Held<Plain> as DatabaseSet>⟧ in

@@ -5,13 +5,13 @@ ghost use Rattle.stateful_types.specs.declared.outcome.Moved.{Moved};
 ghost use Rattle.stateful_db.specs.Chain.{IsPoint};
 ghost use Rattle.stateful_db.specs.Disk.{point};
 ghost use Rattle.stateful_db.specs.Works.{BuildEnds, Costs};
-ghost use Rattle.stateful_bank.specs.Proposal.{IsDeclined};
+ghost use Rattle.stateful_bank.specs.Balances.{run_turns};
 ghost use Rattle.stateful_plain.specs.Whole.{Whole, begun};
 ghost use Rattle.stateful_plain.specs.Stored.{standing_of};
 ghost use Rattle.stateful_plain.specs.Shown.{DraftShows, SealShows};
 ghost use Rattle.stateful_plain_bank.specs.Progress.{Shows};
 ghost use Rattle.stateful_plain_bank.specs.Runs.{counted};
-ghost use Rattle.stateful_plain_bank.specs.Builds.{BankBuildOf, IsBuild, EachBuild, IsBuilt, proposal_of, build_turns, targets_after};
+ghost use Rattle.stateful_plain_bank.specs.Builds.{BankBuildOf, IsBuild, EachBuild, IsBuilt, proposal_of, targets_after};
 ghost use Rattle.stateful_plain_bank.specs.Works.{bank_works};
 
 use crate::progress::{Advanced, Progress, seal};
@@ -24,7 +24,7 @@ use std::alloc::Global;
 /// A block of the bank that was built, with its sealed batch.
 type Built = ProposedBlock<BankBlock, PlainMerkleized>;
 
-/// A build of a block: it does one operation a turn, and seals its batch at the last one.
+/// A build of a block: it does one operation a turn, and at the last one it is declined or seals its batch.
 #[derive(Drop)]
 pub struct BankBuild {
     alloc: Global,
@@ -52,8 +52,8 @@ fn targets_of(alloc: Global, batch: &PlainMerkleized) -> Result<Items<Target>, O
     Ok(targets)
 }
 
-/// The block over the batch with all its operations, handed over as it was asked for. Nothing is where they aren't
-/// acceptable, or where the batch is stale.
+/// The block over the batch with all its operations, handed over as it was asked for. Nothing is where it is declined
+/// whatever the state is, where they aren't acceptable, or where the batch is stale.
 fn finish(
     alloc: Global,
     proposal: Proposal,
@@ -61,7 +61,6 @@ fn finish(
     database: &Plain,
     faults: &mut u64,
 ) -> Result<Handoff<Built>, AppFault>
-    requires { IsDeclined proposal → ⊥ }
     ensures ok { IfOk result (λ given. (b : BankBuildOf) →
         proposal ≡ proposal_of b.asked →
         Shows batch proposal.ops b.own b.at b.below →
@@ -77,7 +76,7 @@ fn finish(
     ensures faults { faults.new ≡ counted result faults.old }
     ensures later { faults.old ≤ faults.new }
 {
-    if !is_acceptable(proposal.ops.as_slice()) {
+    if proposal.is_declined() || !is_acceptable(proposal.ops.as_slice()) {
         return Ok(Handoff::Wait);
     }
     let Some(merkleized) = seal(batch, database, faults)? else {
@@ -118,7 +117,7 @@ impl BankBuild {
         ensures ok { IfOk result (λ moved. EachBuild self.old (point (standing_of database.now))
             (λ b n. BuildEnds bank_works moved SealShows b (IsBuild self.new b (n + 1)))) }
         ensures cost { IfOk result (λ moved. EachBuild self.old (point (standing_of database.now))
-            (λ b n. Costs (Some (build_turns (proposal_of b.asked) b.at.1)) moved n)) }
+            (λ b n. Costs (Some (run_turns b.at.1.entries b.asked.input.ops)) moved n)) }
 
         // It fails exactly where the state would end at the last number, but for want of memory.
         ensures exhausted { IsErrOf result AppFault.Failed
@@ -133,9 +132,6 @@ impl BankBuild {
         let Some((proposal, progress)) = self.work.take() else {
             return Ok(Moved::Done(Handoff::Wait));
         };
-        if proposal.is_declined() {
-            return Ok(Moved::Done(Handoff::Wait));
-        }
         match progress.advance(database, proposal.ops.as_slice()) {
             Ok(Advanced::Refused) => Ok(Moved::Done(Handoff::Wait)),
             Ok(Advanced::Further(progress)) => {

@@ -93,18 +93,21 @@ fn run(
     Ok((None, 0))
 }
 
-/// Builds a block of these operations on genesis, and gives what is handed over and the turns that it takes.
+/// Builds a block of these operations on genesis, or on the same block at another height, and gives what is handed over and
+/// the turns that it takes.
 fn build(
     rt: &impl Abort,
     alloc: Global,
+    height: u64,
     kind: ProposalKind,
     decision: Handoff<()>,
     ops: &[Op],
 ) -> Result<(Handoff<Proposed<Bank>>, u64), Fail> {
     let mut databases = empty(rt, alloc);
     let mut bank = Bank::new(alloc);
-    let genesis = bank.genesis().ok().expect(rt, "memory");
-    let first = Digested::compute(alloc, genesis).ok().expect(rt, "memory");
+    let mut parent = bank.genesis().ok().expect(rt, "memory");
+    parent.height = Height(height);
+    let first = Digested::compute(alloc, parent).ok().expect(rt, "memory");
     let rest = Items::new(alloc);
     let ancestry = Ancestry { first, rest };
     let batches = databases.new_batches().ok().expect(rt, "it is here");
@@ -135,7 +138,7 @@ fn build(
 fn builds_a_block(rt: HostRuntime) -> Result<(), Fail> {
     let alloc = rt.alloc();
     let ops = [mint(1, 40), mint(1, 60)];
-    let (given, turns) = build(&rt, alloc, ProposalKind::Propose, Handoff::Wait, &ops)?;
+    let (given, turns) = build(&rt, alloc, 0, ProposalKind::Propose, Handoff::Wait, &ops)?;
     assert_eq!(rt; turns, 2);
     match given {
         Handoff::Vote(built) => {
@@ -153,18 +156,23 @@ fn builds_a_block(rt: HostRuntime) -> Result<(), Fail> {
 #[test]
 fn declines(rt: HostRuntime) -> Result<(), Fail> {
     let alloc = rt.alloc();
-    let cases: [(Handoff<()>, &[Op], u64); 4] = [
-        (Handoff::Wait, &[mint(1, 1)], 1),
-        (Handoff::Vote(()), &[], 1),
+    let many = [mint(1, 1); 17];
+    let cases: [(u64, Handoff<()>, &[Op], u64); 7] = [
+        (0, Handoff::Wait, &[mint(1, 1), mint(1, 1)], 2),
+        (0, Handoff::Wait, &[pay(1, 2, 1), mint(1, 1)], 1),
+        (0, Handoff::Vote(()), &[], 1),
+        (0, Handoff::Vote(()), &many, 17),
+        (u64::MAX, Handoff::Vote(()), &[mint(1, 1), mint(1, 1)], 2),
         (
+            0,
             Handoff::Stage(()),
             &[mint(1, 1), pay(1, 2, 2), mint(1, 1)],
             2,
         ),
-        (Handoff::Stage(()), &[mint(1, 0), mint(1, 1)], 2),
+        (0, Handoff::Stage(()), &[mint(1, 0), mint(1, 1)], 2),
     ];
-    for (decision, ops, want) in cases {
-        let (given, turns) = build(&rt, alloc, ProposalKind::Prepare, decision, ops)?;
+    for (height, decision, ops, want) in cases {
+        let (given, turns) = build(&rt, alloc, height, ProposalKind::Prepare, decision, ops)?;
         assert!(rt; given.is_wait());
         assert_eq!(rt; turns, want);
     }

@@ -1,6 +1,8 @@
 use Rattle.std.proofs.Common.{◌≡◌, ◌∷◌, true, Err, inr, ap, sym, ◌∙◌}
+use Rattle.std.proofs.lemmas.Bool.{false≢true}
 use Rattle.stateful_db.specs.declared.application.AppFault.TheVariants.{Failed}
 use Rattle.stateful_bank.specs.Op.{accept}
+use Rattle.stateful_bank.specs.Proposal.{IsDeclined}
 use Rattle.stateful_plain_bank.proofs.Building.{state_of, is_sealed, voted, staged}
 use Rattle.stateful_plain_bank.proofs.build.finish.Goals as goal
 
@@ -17,8 +19,9 @@ returns-in_default-clause-ok c = λ b same shows at.
 
 pub returns-in-Vote-clause-ok : goal.returns-in-Vote-clause-ok
 returns-in-Vote-clause-ok c = λ b same shows at.
+    let asked : IsDeclined c.args.proposal → ⊥ = λ declined. absurd (false≢true (c.if-is_declined.ensures.1 declined)) in
     let good : accept c.args.proposal.ops ≡ true = sym (c.if-not-is_acceptable.ensures ∙ ap accept c.as_slice.ensures) in
-    voted b c.args.proposal same c.args.batch shows _ at c.in_ok-merkleized.field-0 c.in_ok-merkleized.ensures.ok c.in-Some.merkleized c.in-Some.is c.in-Ok.targets c.in-Ok.ensures c.into_block-block.result c.into_block-block.ensures c.requires good c.in-Vote.is
+    voted b c.args.proposal same c.args.batch shows _ at c.in_ok-merkleized.field-0 c.in_ok-merkleized.ensures.ok c.in-Some.merkleized c.in-Some.is c.in-Ok.targets c.in-Ok.ensures c.into_block-block.result c.into_block-block.ensures asked good c.in-Vote.is
 
 pub returns-in-Vote-clause-within : goal.returns-in-Vote-clause-within
 returns-in-Vote-clause-within c = λ built b shows at.
@@ -26,8 +29,9 @@ returns-in-Vote-clause-within c = λ built b shows at.
 
 pub returns-in-Stage-clause-ok : goal.returns-in-Stage-clause-ok
 returns-in-Stage-clause-ok c = λ b same shows at.
+    let asked : IsDeclined c.args.proposal → ⊥ = λ declined. absurd (false≢true (c.if-is_declined.ensures.1 declined)) in
     let good : accept c.args.proposal.ops ≡ true = sym (c.if-not-is_acceptable.ensures ∙ ap accept c.as_slice.ensures) in
-    staged b c.args.proposal same c.args.batch shows _ at c.in_ok-merkleized.field-0 c.in_ok-merkleized.ensures.ok c.in-Some.merkleized c.in-Some.is c.in-Ok.targets c.in-Ok.ensures c.into_block-block.result c.into_block-block.ensures c.requires good c.in-Stage.is
+    staged b c.args.proposal same c.args.batch shows _ at c.in_ok-merkleized.field-0 c.in_ok-merkleized.ensures.ok c.in-Some.merkleized c.in-Some.is c.in-Ok.targets c.in-Ok.ensures c.into_block-block.result c.into_block-block.ensures asked good c.in-Stage.is
 
 pub returns-in-Stage-clause-within : goal.returns-in-Stage-clause-within
 returns-in-Stage-clause-within c = λ built b shows at.

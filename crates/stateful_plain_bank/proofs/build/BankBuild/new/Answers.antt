@@ -1,4 +1,4 @@
-use Rattle.std.proofs.Common.{ap, Some, arith}
+use Rattle.std.proofs.Common.{ap, Some}
 use Rattle.stateful_plain_bank.specs.Builds.{proposal_of}
 use Rattle.stateful_plain_bank.proofs.build.BankBuild.new.Goals as goal
 
@@ -8,6 +8,5 @@ returns-clause-build c = λ b same shown.
       progress = c.begin.result;
       work_is = ap (λ z. Some (z, c.begin.result)) same;
       turns_are = c.begin.ensures.done;
-      asked = λ some declined. absurd (omega arith);
       done = c.begin.ensures.shown (proposal_of b.asked).ops b.own b.at b.below shown;
     }
