@@ -3,7 +3,6 @@
 ghost use Rattle.std.specs.Prelude.{◌≡◌, ◌++◌, ◌∷◌, [], ◌≤◌, ℕ, List, None, OnOk, IfOk, IfErr, IfSome, IfNone, IsErrOf};
 ghost use Rattle.stateful_types.specs.Causes.{Rose};
 ghost use Rattle.stateful_history.specs.declared.mark.Mark.{Mark as Marked};
-ghost use Rattle.stateful_table.specs.Table.{at};
 ghost use Rattle.stateful_exec.specs.Moments.{moment};
 ghost use Rattle.stateful_exec.specs.Request.{ticket_by};
 ghost use Rattle.stateful_exec.specs.Starting.{Rises};
@@ -143,7 +142,7 @@ impl<A: Application + Drop> Execution<A, Handling> {
         )
     }
 
-    /// Takes a request, whose ticket is no other's. It ends at once, or a block is fetched for it, or it waits, or it joins
+    /// Takes a request, whose ticket should be no other's. It ends at once, or a block is fetched for it, or it waits, or it joins
     /// a run or starts one.
     pub fn schedule<S: BlockStore<A::Block>>(
         &mut self,
@@ -152,7 +151,6 @@ impl<A: Application + Drop> Execution<A, Handling> {
         request: Request<A::Block, A::Context, A::Input>,
         marks: &mut Vec<Mark<A::Block>>,
     ) -> Result<(), ExecError>
-        requires new { at self.old.state.requests (ticket_by request) ≡ None }
         ensures ok { OnOk result (let w = ⟦<A as Worked>⟧.workings in
             Acquires w (S.stored store.now)
             (moment w self.old.state (A.Databases.members databases.old)
