@@ -3,9 +3,13 @@ pub mod Cuts
 pub mod Numbers
 pub mod Decimal
 pub mod ItemsLeft
+pub mod NumbersLeft
 pub mod LinesLeft
 pub mod FromLines
 pub mod ToLines
 pub mod WholeText
-pub mod Forms
+pub mod Found
+pub mod ItemsKept
+pub mod EventsKept
+pub mod BlocksKept
 pub mod Plans
