@@ -91,8 +91,8 @@ named_by s head items fields said block from says plans q h =
       few = rw is.ops fits.0;
       slow = rw is.slow fits.1;
       build = λ all.
-        let b = said_for_build items all said says in
-        (above s.blocks head.parent said.height b.height block.height is.height, is.slow ∙ b.slow, is.wrong ∙ b.right);
+          let b = said_for_build items all said says in
+          (above s.blocks head.parent said.height b.height block.height is.height, is.slow ∙ b.slow, is.wrong ∙ b.right);
     }
 
 pub items_name : (s : Script) (head : Head) (items : List Item) (fields : Fields) → items_of fields ≡ Some items → Has (λ q. Names s q head items) (with_items s head items)

@@ -210,10 +210,7 @@ fn ops_among(alloc: Global, items: &[Item]) -> Result<Vec<Op>, AllocError>
 fn heights_among(alloc: Global, items: &[Item]) -> Result<Vec<u64>, AllocError>
     ensures { IfOk result (λ heights. heights.items ≡ filter_map height_of items.now) }
 {
-    items
-        .iter()
-        .filter_map(|item| item.height())
-        .collect(alloc)
+    items.iter().filter_map(|item| item.height()).collect(alloc)
 }
 
 fn epochs_among(alloc: Global, items: &[Item]) -> Result<Vec<u64>, AllocError>

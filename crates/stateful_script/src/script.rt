@@ -47,7 +47,10 @@ pub struct PlannedBlock {
 #[derive(Debug, Drop)]
 pub enum PlannedEvent {
     /// A request to verify this block, which brings its parent too unless the block comes alone.
-    Verify { block: usize, alone: bool },
+    Verify {
+        block: usize,
+        alone: bool,
+    },
     /// A request to build a block on this parent ahead of its proposal, and to hand it over in this way. The build would
     /// give this block.
     Prepare {
@@ -56,7 +59,10 @@ pub enum PlannedEvent {
         decision: Handoff<()>,
     },
     /// A request to build a block on this parent. The build would give this block.
-    Propose { parent: usize, block: usize },
+    Propose {
+        parent: usize,
+        block: usize,
+    },
     /// This block is final.
     Finalize(usize),
     /// A request to be told when the databases are there.
@@ -64,7 +70,10 @@ pub enum PlannedEvent {
     /// The request of this ticket is given up.
     Cancel(u64),
     /// This fetch is answered, with this block or with none.
-    Fetched { fetch: u64, answer: Option<usize> },
+    Fetched {
+        fetch: u64,
+        answer: Option<usize>,
+    },
     /// One turn of this job.
     Turn(u64),
     /// This database has flushed for this barrier, or it was stopped before it had.
