@@ -9,6 +9,7 @@ pub mod FromLines
 pub mod ToLines
 pub mod WholeText
 pub mod Found
+pub mod Got
 pub mod ItemsKept
 pub mod EventsKept
 pub mod BlocksKept

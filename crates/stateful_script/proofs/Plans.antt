@@ -28,6 +28,7 @@ use Rattle.stateful_script.specs.declared.script.PlannedEvent.{PlannedEvent}
 use Rattle.stateful_script.specs.declared.script.PlannedEvent.TheVariants as event
 use Rattle.stateful_script.specs.declared.script.Script.{Script}
 use Rattle.stateful_script.proofs.Found.{Has, this, chosen, where_true, bound}
+use Rattle.stateful_script.proofs.Got.{got_before, got_behind, height_stays}
 use Rattle.stateful_script.proofs.ItemsKept.{build_items}
 use Rattle.stateful_script.proofs.EventsKept.{event_kept}
 use Rattle.stateful_script.proofs.BlocksKept.{IsHead, head_kept, Names, items_name}
@@ -129,20 +130,6 @@ parents_stay blocks block le parents i within d =
           let last : i ≡ length blocks = omega (arith, within, simp length-append at within) in
           rw (last, get_or-append_seam blocks block [] d) le
     ]
-
--- what stands in a list stands there behind it too
-got_before : {X : Type 0} (xs ys : List X) (i : ℕ) → i < length xs → slice_get (xs ++ ys) i ≡ slice_get xs i
-got_before [] ys i lt = absurd (omega arith)
-got_before (x ∷ xs) ys zero lt = refl
-got_before (x ∷ xs) ys (suc i) lt = got_before xs ys i (omega arith)
-
-got_behind : {X : Type 0} (xs : List X) (x : X) → slice_get (xs ++ x ∷ []) (length xs) ≡ Some x
-got_behind [] x = refl
-got_behind (y ∷ xs) x = got_behind xs x
-
-height_stays : (blocks : List PlannedBlock) (block : PlannedBlock) (parent : ℕ) → parent ≤ length blocks → height_in (blocks ++ block ∷ []) parent ≡ height_in blocks parent
-height_stays blocks block zero le = refl
-height_stays blocks block (suc i) le = ap (λ o. option_map_or (λ b. b.height.0) o 0) (got_before blocks (block ∷ []) i (omega arith))
 
 build_stays : (blocks : List PlannedBlock) (block : PlannedBlock) (parent place : ℕ) → AreParentsBefore blocks → IsBuild blocks parent place → IsBuild (blocks ++ block ∷ []) parent place
 build_stays blocks block parent place parents b =
