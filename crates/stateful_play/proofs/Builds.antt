@@ -123,8 +123,8 @@ same_with height above round parent digest slow ops wrong o after h p k w e =
     rw (same, p, k, w, e) refl
 
 module _ (kind : ProposalKind) (decision : Handoff (Unit {0})) (parent : Planned) (c : PlannedBlock)
-         (above : c.height.0 ≡ parent.block.block.height.0 + 1) (slow : c.slow ≡ 0) (right : c.wrong ≡ false)
-         (digest : parent.block.digest ≡ record { 0 = sha256 (block_bytes parent.block.block) }) where
+    (above : c.height.0 ≡ parent.block.block.height.0 + 1) (slow : c.slow ≡ 0) (right : c.wrong ≡ false)
+    (digest : parent.block.digest ≡ record { 0 = sha256 (block_bytes parent.block.block) }) where
   -- the block over the target of this state
   over : (after : Whole) → state_after parent c ≡ Some after → block_on parent c ≡ built_block (proposal_of (asked kind decision parent (child parent c))) (targets_after after)
   unfolding child block_on

@@ -1,6 +1,6 @@
 //! The events of a script.
 
-ghost use Rattle.std.specs.Prelude.{◌≡◌, ◌≤◌, ◌<◌, ◌-◌, ◌^◌, IfOk, IfSome, All, length, option_map};
+ghost use Rattle.std.specs.Prelude.{◌≡◌, ◌≤◌, ◌<◌, ◌-◌, ◌^◌, true, IfOk, IfSome, All, length, option_map};
 ghost use Rattle.stateful_script.specs.Laws.{IsNamedBelow};
 ghost use Rattle.stateful_play.specs.Events.{restart, planned_at, list_of, ancestry_of, ask_for, flushed, event_of, takes_ticket, ticket_after, events_of};
 
@@ -128,6 +128,45 @@ fn flushed(stopped: bool) -> Flushed
     }
 }
 
+/// A request to build this block on this parent ahead of its proposal, and to hand it over in this way.
+fn prepare(
+    alloc: Global,
+    ticket: u64,
+    parent: &Planned,
+    block: &Planned,
+    decision: Handoff<()>,
+) -> Result<BankEvent, OutOfMemory>
+    ensures { IfOk result (λ made. made
+        ≡ Event.Prepare ticket block.now.block.block.round (ancestry_of true parent.now)
+        (ask_for decision block.now)) }
+{
+    Ok(Event::Prepare {
+        ticket,
+        context: block.block.inner().round,
+        ancestry: ancestry(alloc, true, parent)?,
+        input: ask_for(decision, block)?,
+    })
+}
+
+/// A request to build this block on this parent.
+fn propose(
+    alloc: Global,
+    ticket: u64,
+    parent: &Planned,
+    block: &Planned,
+) -> Result<BankEvent, OutOfMemory>
+    ensures { IfOk result (λ made. made
+        ≡ Event.Propose ticket block.now.block.block.round (ancestry_of true parent.now)
+        (ask_for (Handoff.Vote tt) block.now)) }
+{
+    Ok(Event::Propose {
+        ticket,
+        context: block.block.inner().round,
+        ancestry: ancestry(alloc, true, parent)?,
+        input: ask_for(Handoff::Vote(()), block)?,
+    })
+}
+
 /// A planned event, with this ticket if it takes one.
 fn event(
     alloc: Global,
@@ -147,25 +186,20 @@ fn event(
             parent,
             block,
             decision,
-        } => Ok(Event::Prepare {
-            ticket,
-            context: planned[*block].block.inner().round,
-            ancestry: ancestry(alloc, true, &planned[*parent])?,
-            input: ask_for(*decision, &planned[*block])?,
-        }),
-        PlannedEvent::Propose { parent, block } => Ok(Event::Propose {
-            ticket,
-            context: planned[*block].block.inner().round,
-            ancestry: ancestry(alloc, true, &planned[*parent])?,
-            input: ask_for(Handoff::Vote(()), &planned[*block])?,
-        }),
+        } => prepare(alloc, ticket, &planned[*parent], &planned[*block], *decision),
+        PlannedEvent::Propose { parent, block } => {
+            propose(alloc, ticket, &planned[*parent], &planned[*block])
+        }
         PlannedEvent::Finalize(block) => Ok(Event::Finalized {
             ticket,
             block: planned[*block].block.share()?,
         }),
         PlannedEvent::Subscribe => Ok(Event::Subscribe { ticket }),
         PlannedEvent::Cancel(ticket) => Ok(Event::Cancel { ticket: *ticket }),
-        PlannedEvent::Fetched { fetch, answer: place } => Ok(Event::Fetched {
+        PlannedEvent::Fetched {
+            fetch,
+            answer: place,
+        } => Ok(Event::Fetched {
             fetch: *fetch,
             answer: answer(planned, *place)?,
         }),

@@ -92,12 +92,12 @@ fn block_over(
     target: Target,
 ) -> Result<BankBlock, OutOfMemory>
     ensures { IfOk result (λ made. made ≡ record {
-        height = block.now.height;
-        round = block.now.round;
-        parent = parent.now.block.digest;
-        slow = block.now.slow;
-        ops = block.now.ops;
-        targets = committed block.now.wrong target ∷ [];
+      height = block.now.height;
+      round = block.now.round;
+      parent = parent.now.block.digest;
+      slow = block.now.slow;
+      ops = block.now.ops;
+      targets = committed block.now.wrong target ∷ [];
     }) }
 {
     Ok(BankBlock {
