@@ -63,7 +63,7 @@ module _ {B C I P R D H G U : Type 0} (w : Workings B C I P R D H G U) (stored :
   others = λ k x l.
       let e = get_or old.requests k x in
       let stands = s.requests.each k x l in
-      IsStanding-calm w stored p (Made (Started old.next_job Candidate b.digest)) (put old.runs old.next_job live) e.0 e.1 (record { live = refl; verified = refl; proposed = refl }) (λ g is. record { live = refl; asked = refl }) (λ a. a)
+      IsStanding-calm w stored p (Made (Started old.next_job Candidate b.digest)) (put old.runs old.next_job live) e.0 e.1 (record { live = refl; verified = refl; proposed = refl }) (λ g is. record { live = refl; asked = refl })
       (IsStanding-runs w stored p old.runs (put old.runs old.next_job live) e.0 e.1 (stays e.0 e.1 stands) stands)
 
   own : IsStanding w stored given (put old.runs old.next_job live) t executing

@@ -48,3 +48,11 @@ pub mod EarnedCarried
 pub mod EarnedLeft
 pub mod AnewStands
 pub mod EarnedInTurn
+pub mod Replacing
+pub mod Spared
+pub mod TurnedStands
+pub mod StepsStand
+pub mod OverChain
+pub mod Drawn
+pub mod Sparing
+pub mod Abstaining

@@ -29,10 +29,10 @@ IsLater-self r (inl l) = omega arith
 IsLater-self r (inr l) = omega (arith, l.1)
 
 -- the element of an `Any`, with what is true of each
-Any-found : {X : Type 0} (P Q : X → Type 0) (xs : List X) → All P xs → Any Q xs → (x : X) × P x × Q x
+pub Any-found : {X : Type 0} (P Q : X → Type 0) (xs : List X) → All P xs → Any Q xs → (x : X) × P x × Q x
 Any-found P Q xs all any = (any.1, subst P any.3 (all any.0 any.1 any.2), any.4)
 
-Any-contains : {X : Type 0} (Q : X → Type 0) (xs : List X) (x : X) → Contains xs x → Q x → Any Q xs
+pub Any-contains : {X : Type 0} (Q : X → Type 0) (xs : List X) (x : X) → Contains xs x → Q x → Any Q xs
 Any-contains Q xs x c h = (c.0, x, c.1, c.2, h)
 
 some_digest : (x y : Anchor) → Some x ≡ Some y → y.digest ≡ x.digest
