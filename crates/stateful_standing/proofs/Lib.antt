@@ -55,4 +55,10 @@ pub mod StepsStand
 pub mod OverChain
 pub mod Drawn
 pub mod Sparing
+pub mod BuildLeft
+pub mod BuildStarts
+pub mod BuildTurns
+pub mod BuiltKnown
+pub mod BuiltStands
+pub mod BuildEnds
 pub mod Abstaining
