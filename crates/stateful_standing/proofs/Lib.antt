@@ -61,4 +61,12 @@ pub mod BuildTurns
 pub mod BuiltKnown
 pub mod BuiltStands
 pub mod BuildEnds
+pub mod FrontLeft
+pub mod FrontRuns
+pub mod FrontHooks
+pub mod Rooting
+pub mod AnchorCut
+pub mod AnchorStands
+pub mod AnchorMoves
 pub mod Abstaining
+pub mod Retained

@@ -3,5 +3,6 @@ pub mod Chains
 pub mod Caching
 pub mod Running
 pub mod Building
+pub mod Fronting
 pub mod Requesting
 pub mod Standing
