@@ -25,12 +25,12 @@ use Rattle.stateful_standing.specs.Setting.{setting}
 use Rattle.stateful_standing.specs.Chains.{Chain, Leads}
 use Rattle.stateful_standing.specs.Caching.{IsCached, CacheStands}
 use Rattle.stateful_standing.proofs.EndedKnown.{IsLater-self}
-use Rattle.stateful_standing.proofs.EndedKept.{IsRoundOf}
-use Rattle.stateful_standing.proofs.EndedFinalizing.{Finalizes, IsLater-after}
+use Rattle.stateful_standing.proofs.EndedFinalizing.{Finalizes}
 use Rattle.stateful_standing.proofs.FrontLeft.{begun-tip, begun-Met}
 use Rattle.stateful_standing.proofs.PauseKnown.{Any-found, Any-contains}
 use Rattle.stateful_standing.proofs.Rooting.{Stacked-root, Stacked-child}
 use Rattle.stateful_standing.proofs.Spared.{knows-calm}
+use Rattle.stateful_standing.proofs.Naming.{named_apart}
 
 -- what holds of the tip, and goes over from the parent of a known block to it, holds of each known block
 pub Known-each : {B C I S T : Type 0} (s : Setting B S T) (P : Digest → Type 0) {p : Past B C I} {d : Digest} → Known s p d → ((tip : Anchor) → tip_of s.header p ≡ Some tip → P tip.digest)
@@ -40,7 +40,7 @@ Known-each s P (kept {b = x} m k l parent) base step = step x m (kept m k l pare
 Known-each s P (stays {b = x} o m k old l parent) base step = step x (inr m) (stays o m k old l parent) l (Known-each s P parent base step)
 
 module _ {B C I P R D H G U : Type 0} (w : Workings B C I P R D H G U) (stored : ℕ → Option (Named B)) (p : Past B C I) (points : Digest → Point w) (next : w.Ids) (anchor : Anchor) (cache : List (Cached U)) (boundary : Boundary)
-    (old : CacheStands w stored p points next anchor (Finalizing boundary) cache) (names : TrueNames (setting w stored) p) (round : IsRoundOf w stored p anchor) (f : Finalizes w stored p anchor cache boundary)
+    (old : CacheStands w stored p points next anchor (Finalizing boundary) cache) (names : TrueNames (setting w stored) p) (f : Finalizes w stored p anchor cache boundary)
     (b : Named B) (begun_is : begun p ≡ Some b) (kept_entries : List (Cached U)) (cut : IsCutTo (anchor_by w.header b) cache kept_entries) where
   abbrev now : Past B C I
   now = Made (Applied b) ∷ p
@@ -65,10 +65,7 @@ module _ {B C I P R D H G U : Type 0} (w : Workings B C I P R D H G U) (stored :
 
   -- a compatible block isn't the old anchor
   pub compatible_other : (d : Digest) → Contains boundary.compatible d → d ≢ anchor.digest
-  compatible_other d has e = elim (f.each d has) [
-    | inl is ↦ IsLater-self anchor.round (subst (λ r. IsLater anchor.round r) (sym own_boundary.1 ∙ round b root-Met (own_boundary.0 ∙ sym is ∙ e)) f.behind)
-    | inr over ↦ IsLater-after anchor.round boundary.round (w.header.round over.block.block) f.behind over.retained.later (sym (round over.block over.met (over.is ∙ e)))
-  ]
+  compatible_other d has e = f.other (subst (λ (x : Digest). Contains boundary.compatible x) e has)
 
   pub root_other : b.digest ≢ anchor.digest
   root_other = compatible_other b.digest (subst (λ (d : Digest). Contains boundary.compatible d) (sym own_boundary.0) f.own)
@@ -131,18 +128,6 @@ module _ {B C I P R D H G U : Type 0} (w : Workings B C I P R D H G U) (stored :
   carried = walk [] kept_entries (All-nil Fits)
       (All-weaker (Contains cache) (λ k. Entry k × Closed k) (λ e among. (All-contains Entry cache e old.each among, All-contains Closed cache e f.closed among)) kept_entries cut.among) cut.later cut.in_order
 
-  -- entries of one digest are of one block
-  named_apart : AreNamed anchor.digest cache
-  named_apart = record {
-    in_order = old.in_order;
-    other = All-weaker Entry (λ e. e.digest ≢ anchor.digest) (λ e h. h.other) cache old.each;
-    same = λ e g among_e among_g is.
-        let h : Entry e = All-contains Entry cache e old.each among_e in
-        let k : Entry g = All-contains Entry cache g old.each among_g in
-        let one : h.block ≡ k.block = names h.block k.block h.met k.met (h.digest_is ∙ is ∙ sym k.digest_is) in
-        (sym h.parent_is ∙ ap (λ (y : Named B). w.header.parent y.block) one ∙ k.parent_is, sym h.round_is ∙ ap (λ (y : Named B). w.header.round y.block) one ∙ k.round_is);
-  }
-
   -- a known block of a later round, whose parent stays, is kept
   found : (x : Named B) → Met (setting w stored) p x → Known (setting w stored) p x.digest → IsPastTip (setting w stored) p x → (w.header.parent x.block ≡ b.digest) ⊎ IsIn kept_entries (w.header.parent x.block)
       → (x.digest ≡ b.digest) ⊎ IsIn kept_entries x.digest
@@ -150,7 +135,7 @@ module _ {B C I P R D H G U : Type 0} (w : Workings B C I P R D H G U) (stored :
     | inl is ↦ inl (is ∙ sym own_boundary.0)
     | inr any ↦
         let later : Later x = subst (λ (o : Option Anchor). MatchOption o ⊥ (λ tip. IsLater tip.round (w.header.round x.block))) tip_is late in
-        let e = Any-found (λ c. Entry c × (c.digest ≢ b.digest → IsLater (w.header.round b.block) c.round → GoesOn (anchor_by w.header b) kept_entries c → Contains kept_entries c)) (λ c. c.digest ≡ x.digest) cache (λ i d l. (old.each i d l, cut.whole anchor.digest named_apart i d l)) any.0 in
+        let e = Any-found (λ c. Entry c × (c.digest ≢ b.digest → IsLater (w.header.round b.block) c.round → GoesOn (anchor_by w.header b) kept_entries c → Contains kept_entries c)) (λ c. c.digest ≡ x.digest) cache (λ i d l. (old.each i d l, cut.whole anchor.digest (named_apart w stored p points next anchor cache names old.each old.in_order) i d l)) any.0 in
         let h : Entry e.0 = e.1.0 in
         let same : h.block ≡ x = names h.block x h.met met (h.digest_is ∙ e.2) in
         let parent_is : e.0.parent ≡ w.header.parent x.block = sym h.parent_is ∙ ap (λ (y : Named B). w.header.parent y.block) same in

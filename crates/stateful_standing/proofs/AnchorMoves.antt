@@ -29,7 +29,6 @@ use Rattle.stateful_standing.specs.Standing.{TablesStand}
 use Rattle.stateful_standing.proofs.EndedRuns.{Moves as Goes, IsCached-moved, IsRunning-moved}
 use Rattle.stateful_standing.proofs.EndedPoints.{with_point, with_point-at, with_point-other, Moves-to}
 use Rattle.stateful_standing.proofs.EndedStands.{entry_at_hand}
-use Rattle.stateful_standing.proofs.EndedKept.{IsRoundOf}
 use Rattle.stateful_standing.proofs.EndedFinalizing.{Finalizes}
 use Rattle.stateful_standing.proofs.PauseKnown.{Any-found}
 use Rattle.stateful_standing.proofs.Rooting.{OnFirst, on_first}
@@ -49,17 +48,17 @@ module _ {B C I P R D H G U : Type 0} (w : Workings B C I P R D H G U) (stored :
     pub tables : TablesStand w stored (Made (Applied b) ∷ p) points (points b.digest) next new
 
 module _ {B C I P R D H G U : Type 0} (w : Workings B C I P R D H G U) (stored : ℕ → Option (Named B)) (p : Past B C I) (points : Digest → Point w) (point : Point w) (next : w.Ids) (old : Tables B C I R U) (s : TablesStand w stored p points point next old)
-    (boundary : Boundary) (paused : old.pause ≡ Finalizing boundary) (names : TrueNames (setting w stored) p) (round : IsRoundOf w stored p old.anchor) (f : Finalizes w stored p old.anchor old.cache boundary)
+    (boundary : Boundary) (paused : old.pause ≡ Finalizing boundary) (names : TrueNames (setting w stored) p) (f : Finalizes w stored p old.anchor old.cache boundary)
     (b : Named B) (begun_is : begun p ≡ Some b) (child : parent_of (setting w stored) b ≡ old.anchor.digest) (kept_entries : List (Cached U)) (cut : IsCutTo (anchor_by w.header b) old.cache kept_entries)
     (retained : All (λ e. IsRetained boundary (step_by w.header e.1.block)) old.runs) where
   abbrev moved : Tables B C I R U
   moved = record old { anchor = anchor_by w.header b; cache = kept_entries }
 
   met_b : Met (setting w stored) p b
-  met_b = root-Met w stored p points next old.anchor old.cache boundary (subst (λ pause. CacheStands w stored p points next old.anchor pause old.cache) paused s.cache) names round f b begun_is kept_entries cut
+  met_b = root-Met w stored p points next old.anchor old.cache boundary (subst (λ pause. CacheStands w stored p points next old.anchor pause old.cache) paused s.cache) names f b begun_is kept_entries cut
 
   not_anchor : b.digest ≢ old.anchor.digest
-  not_anchor = root_other w stored p points next old.anchor old.cache boundary (subst (λ pause. CacheStands w stored p points next old.anchor pause old.cache) paused s.cache) names round f b begun_is kept_entries cut
+  not_anchor = root_other w stored p points next old.anchor old.cache boundary (subst (λ pause. CacheStands w stored p points next old.anchor pause old.cache) paused s.cache) names f b begun_is kept_entries cut
 
   -- the block's entry shows its states on those of the databases
   pub IsApplied-cached : (batch : U) → IsRootOf (anchor_by w.header b) old.cache batch → IsApplied w stored p point next b moved batch
@@ -75,7 +74,7 @@ module _ {B C I P R D H G U : Type 0} (w : Workings B C I P R D H G U) (stored :
         shows = subst (λ (l : List (Point w)). w.shows batch l) root_chain (subst (λ (x : U). w.shows x (points e.0.digest ∷ h.below)) e.2.1 h.shows);
         matches = subst (λ (x : Point w). Matches (setting w stored) x.1 b (points b.digest).1) s.at_anchor (subst (λ (d : Digest). Matches (setting w stored) (points old.anchor.digest).1 b (points d).1) e.2.0 on.leads.matches);
         drawn = subst (λ (l : List (Point w)). w.kind.issued next l) root_chain h.drawn;
-        tables = TablesStand-applied w stored p points point next old s boundary paused names round f b begun_is kept_entries cut retained;
+        tables = TablesStand-applied w stored p points point next old s boundary paused names f b begun_is kept_entries cut retained;
       }
 
   module _ (batch : U) (uncached : All (λ e. e.digest ≢ b.digest) old.cache) (r : IsRunTo w stored p point next b batch) where
@@ -124,11 +123,11 @@ module _ {B C I P R D H G U : Type 0} (w : Workings B C I P R D H G U) (stored :
       shows = subst (λ (x : Point w). w.shows batch (x ∷ point ∷ [])) (sym own) r.shows;
       matches = subst (λ (x : Point w). Matches (setting w stored) point.1 b x.1) (sym own) r.matches;
       drawn = subst (λ (x : Point w). w.kind.issued next (x ∷ point ∷ [])) (sym own) r.drawn;
-      tables = TablesStand-applied w stored p now point next old stands boundary paused names round f b begun_is kept_entries cut retained;
+      tables = TablesStand-applied w stored p now point next old stands boundary paused names f b begun_is kept_entries cut retained;
     }
 
 module _ {B C I P R D H G U : Type 0} (w : Workings B C I P R D H G U) (stored : ℕ → Option (Named B)) (p : Past B C I) (points : Digest → Point w) (point : Point w) (next : w.Ids) (old new : Tables B C I R U) (s : TablesStand w stored p points point next old)
-    (boundary : Boundary) (paused : old.pause ≡ Finalizing boundary) (names : TrueNames (setting w stored) p) (round : IsRoundOf w stored p old.anchor) (f : Finalizes w stored p old.anchor old.cache boundary)
+    (boundary : Boundary) (paused : old.pause ≡ Finalizing boundary) (names : TrueNames (setting w stored) p) (f : Finalizes w stored p old.anchor old.cache boundary)
     (retained : All (λ e. IsRetained boundary (step_by w.header e.1.block)) old.runs)
     (b : Named B) (from : IsBegun w stored p point next old.anchor b) (members : w.kind.Members) (before after : Option (Front B R U H)) (front : FrontStands w stored p point next old.anchor before) (batch : U) (captured : G)
     (moves : Moves w b members old new before after batch captured) where
@@ -141,8 +140,8 @@ module _ {B C I P R D H G U : Type 0} (w : Workings B C I P R D H G U) (stored :
       subst (λ (x : Named B). IsRunTo w stored p point next x batch) same h.at_stage.1
 
   applied_with : IsRoot w b old.cache before batch → IsApplied w stored p point next b (record old { anchor = anchor_by w.header b; cache = new.cache }) batch
-  applied_with (cached root) = IsApplied-cached w stored p points point next old s boundary paused names round f b from.begun_is from.parent_is new.cache moves.cut retained batch root
-  applied_with (ran {c = c} uncached is) = IsApplied-ran w stored p points point next old s boundary paused names round f b from.begun_is from.parent_is new.cache moves.cut retained batch uncached (front_ran c is)
+  applied_with (cached root) = IsApplied-cached w stored p points point next old s boundary paused names f b from.begun_is from.parent_is new.cache moves.cut retained batch root
+  applied_with (ran {c = c} uncached is) = IsApplied-ran w stored p points point next old s boundary paused names f b from.begun_is from.parent_is new.cache moves.cut retained batch uncached (front_ran c is)
 
   -- the tables stand behind the anchor's move, where its batch is applied
   pub IsApplied-moves : IsApplied w stored p point next b new batch

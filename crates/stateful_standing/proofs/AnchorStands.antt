@@ -1,5 +1,5 @@
 -- The tables stand behind the anchor's move to the finalized block, once it is applied.
-use Rattle.std.proofs.Common.{◌≡◌, inr, ℕ, List, ◌∷◌, All, Contains, Option, Some, get_or, refl, sym, subst}
+use Rattle.std.proofs.Common.{◌≡◌, inr, ℕ, List, ◌∷◌, All, Contains, Option, Some, get_or, refl, sym, ◌∙◌, subst}
 use Rattle.stateful_types.specs.Names.{Named}
 use Rattle.stateful_types.specs.Anchor.{anchor_by}
 use Rattle.stateful_types.specs.declared.digest.Digest.{Digest}
@@ -20,12 +20,11 @@ use Rattle.stateful_standing.specs.Caching.{CacheStands}
 use Rattle.stateful_standing.specs.Running.{IsRunning}
 use Rattle.stateful_standing.specs.Standing.{TablesStand}
 use Rattle.stateful_standing.proofs.Asking.{IsStanding-calm}
-use Rattle.stateful_standing.proofs.EndedKept.{IsRoundOf}
 use Rattle.stateful_standing.proofs.EndedFinalizing.{Finalizes}
-use Rattle.stateful_standing.proofs.AnchorCut.{stays_at_hand, restacks, CacheStands-cut}
+use Rattle.stateful_standing.proofs.AnchorCut.{root_is, stays_at_hand, restacks, CacheStands-cut}
 
 module _ {B C I P R D H G U : Type 0} (w : Workings B C I P R D H G U) (stored : ℕ → Option (Named B)) (p : Past B C I) (points : Digest → Point w) (point : Point w) (next : w.Ids) (old : Tables B C I R U) (s : TablesStand w stored p points point next old)
-    (boundary : Boundary) (paused : old.pause ≡ Finalizing boundary) (names : TrueNames (setting w stored) p) (round : IsRoundOf w stored p old.anchor) (f : Finalizes w stored p old.anchor old.cache boundary)
+    (boundary : Boundary) (paused : old.pause ≡ Finalizing boundary) (names : TrueNames (setting w stored) p) (f : Finalizes w stored p old.anchor old.cache boundary)
     (b : Named B) (begun_is : begun p ≡ Some b) (kept_entries : List (Cached U)) (cut : IsCutTo (anchor_by w.header b) old.cache kept_entries)
     (retained : All (λ e. IsRetained boundary (step_by w.header e.1.block)) old.runs) where
   abbrev now : Past B C I
@@ -39,16 +38,17 @@ module _ {B C I P R D H G U : Type 0} (w : Workings B C I P R D H G U) (stored :
   running-moved j run kept_on h =
       let compatible : Contains boundary.compatible h.parent.digest = subst (λ (d : Digest). Contains boundary.compatible d) (sym h.parent_is) kept_on.parent in
       let at_hand : IsAtHand (anchor_by w.header b) kept_entries h.parent.digest =
-      stays_at_hand w stored p points next old.anchor old.cache boundary cache names round f b begun_is kept_entries cut h.parent.digest compatible h.at_hand in
+      stays_at_hand w stored p points next old.anchor old.cache boundary cache names f b begun_is kept_entries cut h.parent.digest compatible h.at_hand in
       record {
         job = record { live = h.job.live; is = h.job.is };
         met = inr h.met;
+        other = λ e. kept_on.other (e ∙ root_is w stored p points next old.anchor old.cache boundary cache names f b begun_is kept_entries cut);
         parent = h.parent;
         parent_met = inr h.parent_met;
         parent_is = h.parent_is;
         at_hand = at_hand;
         below = h.below;
-        chain = restacks w stored p points next old.anchor old.cache boundary cache names round f b begun_is kept_entries cut h.parent.digest at_hand _ h.chain;
+        chain = restacks w stored p points next old.anchor old.cache boundary cache names f b begun_is kept_entries cut h.parent.digest at_hand _ h.chain;
         own = h.own;
         drawn = h.drawn;
         context = h.context;
@@ -61,7 +61,7 @@ module _ {B C I P R D H G U : Type 0} (w : Workings B C I P R D H G U) (stored :
   TablesStand-applied = record {
     at_anchor = refl;
     cache = subst (λ pause. CacheStands w stored now points next (anchor_by w.header b) pause kept_entries) (sym paused)
-        (CacheStands-cut w stored p points next old.anchor old.cache boundary cache names round f b begun_is kept_entries cut);
+        (CacheStands-cut w stored p points next old.anchor old.cache boundary cache names f b begun_is kept_entries cut);
     runs = record {
       ascending = s.runs.ascending;
       each = λ k d l. let e = get_or old.runs k d in running-moved e.0 e.1 (retained k d l) (s.runs.each k d l);

@@ -99,6 +99,7 @@ module _ {B C I P R D H G U : Type 0} (w : Workings B C I P R D H G U) where
           IsRunning-calm j run same h = record {
             job = record { live = same.live ∙ h.job.live; is = same.started ∙ h.job.is };
             met = inr h.met;
+            other = h.other;
             parent = h.parent;
             parent_met = inr h.parent_met;
             parent_is = h.parent_is;

@@ -37,7 +37,7 @@ use Rattle.stateful_standing.proofs.EndedPoints.{same_or_not}
 use Rattle.stateful_standing.proofs.EndedStands.{IsLeftBy, running, started-own, IsLeftBy-gone, IsLeftBy-there, IsLeftBy-known, IsLeftBy-pause}
 use Rattle.stateful_standing.proofs.EndedKept.{IsRoundOf, Any-more, Any-push_cases, Known-own, IsLeftBy-added}
 use Rattle.stateful_standing.proofs.EndedTold.{turned-at, cached_step}
-use Rattle.stateful_standing.proofs.EndedFinalizing.{Finalizes, IsLater-after, own_compatible, crossed_known, closed_crossed, Finalizes-crossed, Finalizes-same}
+use Rattle.stateful_standing.proofs.EndedFinalizing.{Finalizes, own_compatible, crossed_known, closed_crossed, Finalizes-crossed, Finalizes-same}
 
 module _ {B C I P R D H G U : Type 0} (w : Workings B C I P R D H G U) (stored : ℕ → Option (Named B)) (p : Past B C I) (point : Point w) (next : w.Ids) (old : Tables B C I R U) (j : ℕ) (live : LiveRun B R) where
   -- what stands behind the end of a run, and the finalization goes on
@@ -153,10 +153,7 @@ module _ {B C I P R D H G U : Type 0} (w : Workings B C I P R D H G U) (stored :
       -- a compatible block that is at hand is known
       parent_known : (d : Digest) → Contains boundary.compatible d → IsAtHand old.anchor old.cache d → Known (setting w stored) p d
       parent_known d has (inr a) = (knows d).1 (inr (a, has))
-      parent_known d has (inl e) = elim (f.each d has) [
-        | inl is ↦ (knows d).1 (inl is)
-        | inr over ↦ absurd (IsLater-after old.anchor.round boundary.round (w.header.round over.block.block) f.behind over.retained.later (sym (round over.block over.met (over.is ∙ e))))
-      ]
+      parent_known d has (inl e) = absurd (f.other (subst (λ (x : Digest). Contains boundary.compatible x) e has))
 
       known_own : Known (setting w stored) (q Kept) live.block.digest
       known_own =

@@ -59,6 +59,7 @@ module _ {B C I P R D H G U : Type 0} (w : Workings B C I P R D H G U) (stored :
           record {
             job = record { live = live ∙ h.job.live; is = started ∙ h.job.is };
             met = moves.met run.block h.met;
+            other = h.other;
             parent = h.parent;
             parent_met = moves.met h.parent h.parent_met;
             parent_is = h.parent_is;

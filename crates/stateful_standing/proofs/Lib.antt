@@ -70,3 +70,4 @@ pub mod AnchorStands
 pub mod AnchorMoves
 pub mod Abstaining
 pub mod Retained
+pub mod Naming

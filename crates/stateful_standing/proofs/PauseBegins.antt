@@ -86,6 +86,7 @@ module _ {B C I P R D H G U : Type 0} (w : Workings B C I P R D H G U) (stored :
       each = All-weaker (λ (e : ℕ × LiveRun B R). IsRunning w stored p points next anchor cache e.0 e.1) (λ e. IsRunning w stored began points next anchor cache e.0 e.1) (λ e h. record {
         job = record { live = h.job.live; is = h.job.is };
         met = inr h.met;
+        other = h.other;
         parent = h.parent;
         parent_met = inr h.parent_met;
         parent_is = h.parent_is;

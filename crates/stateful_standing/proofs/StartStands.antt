@@ -85,6 +85,7 @@ module _ {B C I P R D H G U : Type 0} (w : Workings B C I P R D H G U) (stored :
   IsRunning-next cache j run h = record {
     job = h.job;
     met = h.met;
+    other = h.other;
     parent = h.parent;
     parent_met = h.parent_met;
     parent_is = h.parent_is;
@@ -102,7 +103,7 @@ module _ {B C I P R D H G U : Type 0} (w : Workings B C I P R D H G U) (stored :
     (other_states : (n i : w.Ids) (x y : w.States) (c : List (Point w)) → w.kind.issued n ((i, x) ∷ c) → w.kind.issued n ((i, y) ∷ c))
     (members : w.kind.Members) (located : w.kind.point members ≡ Some point) (drawn : w.kind.issued next (point ∷ []))
     (b parent : Named B) (starts : StartsRun w b parent members next now old new) (met : Met (setting w stored) p b) (parent_met : Met (setting w stored) p parent)
-    (parent_is : parent.digest ≡ parent_of (setting w stored) b) (at_hand : IsAtHand old.anchor old.cache parent.digest) (unrun : All (λ e. e.1.block.digest ≢ b.digest) old.runs) where
+    (parent_is : parent.digest ≡ parent_of (setting w stored) b) (at_hand : IsAtHand old.anchor old.cache parent.digest) (other : b.digest ≢ old.anchor.digest) (unrun : All (λ e. e.1.block.digest ≢ b.digest) old.runs) where
   abbrev given : Past B C I
   given = Made (Started old.next_job Candidate b.digest) ∷ p
 
@@ -119,6 +120,7 @@ module _ {B C I P R D H G U : Type 0} (w : Workings B C I P R D H G U) (stored :
   is_running o = record {
     job = record { live = rw (eq-eqb old.next_job old.next_job refl) refl; is = rw (eq-eqb old.next_job old.next_job refl) refl };
     met = inr met;
+    other = other;
     parent = parent;
     parent_met = inr parent_met;
     parent_is = parent_is;

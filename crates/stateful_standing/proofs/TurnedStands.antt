@@ -111,6 +111,7 @@ module _ {B C I P R D H G U : Type 0} (w : Workings B C I P R D H G U) (stored :
     own = record {
       job = record { live = run.job.live; is = run.job.is };
       met = inr run.met;
+      other = run.other;
       parent = run.parent;
       parent_met = inr run.parent_met;
       parent_is = run.parent_is;

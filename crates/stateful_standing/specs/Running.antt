@@ -22,10 +22,12 @@ use Rattle.stateful_standing.specs.Setting.{setting}
 use Rattle.stateful_standing.specs.Chains.{Chain}
 
 module _ {B C I P R D H G U : Type 0} (w : Workings B C I P R D H G U) (stored : ℕ → Option (Named B)) (p : Past B C I) (points : Digest → Point w) (next : w.Ids) (anchor : Anchor) (cache : List (Cached U)) where
-  -- the run of this job is of a block behind its parent, which is at hand, on the parent's chain, and has had the job's turns
+  -- the run of this job is of a block, another one than the anchor, behind its parent, which is at hand, on the parent's chain;
+  -- and it has had the job's turns
   pub record IsRunning (j : ℕ) (run : LiveRun B R) : Type 0 where
     pub job : IsLiveJob j Candidate run.block.digest p
     pub met : Met (setting w stored) p run.block
+    pub other : run.block.digest ≢ anchor.digest
     pub parent : Named B
     pub parent_met : Met (setting w stored) p parent
     pub parent_is : parent.digest ≡ parent_of (setting w stored) run.block
