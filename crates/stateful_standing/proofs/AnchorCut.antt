@@ -63,6 +63,9 @@ module _ {B C I P R D H G U : Type 0} (w : Workings B C I P R D H G U) (stored :
   pub root_is : b.digest ≡ boundary.digest
   root_is = own_boundary.0
 
+  pub root_round : w.header.round b.block ≡ boundary.round
+  root_round = own_boundary.1
+
   -- a compatible block isn't the old anchor
   pub compatible_other : (d : Digest) → Contains boundary.compatible d → d ≢ anchor.digest
   compatible_other d has e = f.other (subst (λ (x : Digest). Contains boundary.compatible x) e has)

@@ -32,8 +32,9 @@ use Rattle.stateful_standing.proofs.EndedStands.{entry_at_hand}
 use Rattle.stateful_standing.proofs.EndedFinalizing.{Finalizes}
 use Rattle.stateful_standing.proofs.PauseKnown.{Any-found}
 use Rattle.stateful_standing.proofs.Rooting.{OnFirst, on_first}
-use Rattle.stateful_standing.proofs.AnchorCut.{root-Met, root_other}
+use Rattle.stateful_standing.proofs.AnchorCut.{root-Met, root_is, root_round, root_other, kept_compatible}
 use Rattle.stateful_standing.proofs.AnchorStands.{TablesStand-applied}
+use Rattle.stateful_standing.proofs.MovedStands.{HasMovedSo}
 
 module _ {B C I P R D H G U : Type 0} (w : Workings B C I P R D H G U) (stored : ℕ → Option (Named B)) (p : Past B C I) (point : Point w) (next : w.Ids) (b : Named B) (new : Tables B C I R U) where
   -- What stands behind the anchor's move to a finalized block, where its batch is applied: the batch shows a point with the
@@ -154,3 +155,18 @@ module _ {B C I P R D H G U : Type 0} (w : Workings B C I P R D H G U) (stored :
     runs = λ j d live. no_run j d (record { live = live.live; is = live.is });
     hooks = λ j d live. no_hook j d (record { live = live.live; is = live.is });
   })
+
+  -- the anchor has moved, and each cached block is compatible with it
+  pub HasMovedSo-moves : HasMovedSo new
+  HasMovedSo-moves =
+      let cache : CacheStands w stored p points next old.anchor (Finalizing boundary) old.cache = subst (λ pause. CacheStands w stored p points next old.anchor pause old.cache) paused s.cache in
+      subst (λ (v : Tables B C I R U). HasMovedSo v) (sym moves.state) (record {
+        boundary = boundary;
+        pause_is = paused;
+        moved = record {
+          digest_is = root_is w stored p points next old.anchor old.cache boundary cache names f b from.begun_is new.cache moves.cut;
+          round_is = root_round w stored p points next old.anchor old.cache boundary cache names f b from.begun_is new.cache moves.cut;
+          own = f.own;
+          compatible = kept_compatible w stored p points next old.anchor old.cache boundary cache names f b from.begun_is new.cache moves.cut;
+        };
+      })

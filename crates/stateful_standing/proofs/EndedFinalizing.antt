@@ -47,7 +47,7 @@ module _ {B C I P R D H G U : Type 0} (w : Workings B C I P R D H G U) (stored :
     pub each : (d : Digest) → Contains boundary.compatible d → (d ≡ boundary.digest) ⊎ IsOver p boundary d
     pub closed : All (λ e. IsRetained boundary (step_in e) → Contains boundary.compatible e.digest) cache
 
-IsRetained-crossed : (old new : Boundary) (digest : Digest) (step : ExecutionStep) → Completes digest old new → IsRetained old step → IsRetained new step
+pub IsRetained-crossed : (old new : Boundary) (digest : Digest) (step : ExecutionStep) → Completes digest old new → IsRetained old step → IsRetained new step
 IsRetained-crossed old new digest step c r = record {
   other = λ e. r.other (e ∙ c.of);
   later = subst (λ (x : Round). IsLater x step.round) (sym c.round) r.later;

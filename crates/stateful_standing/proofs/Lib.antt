@@ -71,3 +71,5 @@ pub mod AnchorMoves
 pub mod Abstaining
 pub mod Retained
 pub mod Naming
+pub mod FinalizesBegins
+pub mod MovedStands

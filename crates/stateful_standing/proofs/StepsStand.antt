@@ -21,7 +21,14 @@ use Rattle.stateful_standing.proofs.EndedKept.{IsRoundOf}
 use Rattle.stateful_standing.proofs.EndedRule.{GoesOn, IsReleased-plain, IsReleased-over}
 use Rattle.stateful_standing.proofs.EndedTold.{IsPlain}
 use Rattle.stateful_standing.proofs.FollowStands.{IsSettled, IsSettled-from}
+use Rattle.stateful_standing.proofs.MovedStands.{HasMovedSo, IsReleased-moved}
 use Rattle.stateful_standing.proofs.TurnedStands.{TablesStand-goes_on}
+
+-- how execution is paused: for no finalization; for one that goes on; or for one to whose block the anchor has moved
+pub data IsPaused {B C I P R D H G U : Type 0} (w : Workings B C I P R D H G U) (stored : ℕ → Option (Named B)) (p : Past B C I) (m : Moment w) : Type 0 where
+  plain : IsPlain m.state.pause → tip_of w.header p ≡ Some m.state.anchor → IsPaused w stored p m
+  goes : GoesOn w stored p m → IsPaused w stored p m
+  has_moved : HasMovedSo m.state → tip_of w.header p ≡ Some m.state.anchor → IsPaused w stored p m
 
 module _ {B C I P R D H G U : Type 0} (w : Workings B C I P R D H G U) (stored : ℕ → Option (Named B)) (point : Point w)
     (other_states : (n i : w.Ids) (x y : w.States) (c : List (Point w)) → w.kind.issued n ((i, x) ∷ c) → w.kind.issued n ((i, y) ∷ c)) where
@@ -39,17 +46,20 @@ module _ {B C I P R D H G U : Type 0} (w : Workings B C I P R D H G U) (stored :
         let stands : TablesStand w stored (Came (Turn j) ∷ p) points point m.next running = rw turns.state (TablesStand-goes_on w stored p points point m.next m.state s j turns.live turns.live_is m.members located turns.turned turns.turns) in
         rw is (record { more = []; marks_are = sym (append-nil m.marks); members_are = refl; stands = stands; waiting = λ a. rw turns.state a })
 
-    stepped : (IsPlain m.state.pause × (tip_of w.header p ≡ Some m.state.anchor)) ⊎ GoesOn w stored p m → (running : Tables B C I R U) (answer : Result (Moved (Option U)) AppFault)
+    stepped : IsPaused w stored p m → (running : Tables B C I R U) (answer : Result (Moved (Option U)) AppFault)
         → TurnsRun w count m.members j m.state running answer → SettlesBy w (record m { state = running }) j answer now → IsStepped p points m j now
     stepped paused running (Ok Pending) turns settles = goes_on (StandsBehind-turned running turns settles)
-    stepped (inl free) running (Ok (Done o)) turns settles =
+    stepped (plain free tip) running (Ok (Done o)) turns settles =
         has_ended settles.how (IsSettled-from w stored point other_states p m names located drawn j settles.block settles.how _ settles.done now
-        (IsReleased-plain w stored p point m j settles.block o settles.how settles.done points s located names round free.0 free.1 count running turns settles.ends) settles.ends.becomes (ap (λ (v : Tables B C I R U). v.requests) turns.state) settles.follow)
-    stepped (inr over) running (Ok (Done o)) turns settles =
+        (IsReleased-plain w stored p point m j settles.block o settles.how settles.done points s located names round free tip count running turns settles.ends) settles.ends.becomes (ap (λ (v : Tables B C I R U). v.requests) turns.state) settles.follow)
+    stepped (goes over) running (Ok (Done o)) turns settles =
         has_ended settles.how (IsSettled-from w stored point other_states p m names located drawn j settles.block settles.how _ settles.done now
         (IsReleased-over w stored p point m j settles.block o settles.how settles.done points s located names round over count running turns settles.ends).0 settles.ends.becomes (ap (λ (v : Tables B C I R U). v.requests) turns.state) settles.follow)
+    stepped (has_moved moved tip) running (Ok (Done o)) turns settles =
+        has_ended settles.how (IsSettled-from w stored point other_states p m names located drawn j settles.block settles.how _ settles.done now
+        (IsReleased-moved w stored p point m j settles.block o settles.how settles.done points s located names round tip moved count running turns settles.ends) settles.ends.becomes (ap (λ (v : Tables B C I R U). v.requests) turns.state) settles.follow)
     stepped paused running (Err fault) turns settles = absurd settles
 
-    -- the tables stand behind a turn of a candidate run, be it that no finalization goes on, or that one does
-    pub IsStepped-by : (IsPlain m.state.pause × (tip_of w.header p ≡ Some m.state.anchor)) ⊎ GoesOn w stored p m → Steps w count m j now → IsStepped p points m j now
+    -- the tables stand behind a turn of a candidate run
+    pub IsStepped-by : IsPaused w stored p m → Steps w count m j now → IsStepped p points m j now
     IsStepped-by paused steps = stepped paused steps.running steps.answer steps.turns steps.settles
