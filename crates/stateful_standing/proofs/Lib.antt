@@ -73,3 +73,5 @@ pub mod Retained
 pub mod Naming
 pub mod FinalizesBegins
 pub mod MovedStands
+pub mod Passing
+pub mod PassingRules
