@@ -30,7 +30,7 @@ use Rattle.stateful_standing.specs.Running.{IsRunning}
 use Rattle.stateful_standing.specs.Standing.{TablesStand}
 use Rattle.stateful_standing.proofs.EndedKept.{IsRoundOf}
 use Rattle.stateful_standing.proofs.EndedKnown.{IsLater-self}
-use Rattle.stateful_standing.proofs.EndedRule.{IsReleased, IsReleased-plain}
+use Rattle.stateful_standing.proofs.EndedRule.{IsReleasedFrom, IsReleasedFrom-plain}
 use Rattle.stateful_standing.proofs.PauseKnown.{Any-found}
 use Rattle.stateful_standing.proofs.EndedStands.{running}
 use Rattle.stateful_standing.proofs.Putting.{put_here}
@@ -148,8 +148,8 @@ module _ {B C I P R D H G U : Type 0} (w : Workings B C I P R D H G U) (stored :
     becomes = ap (λ (n : Moment w). record n { state = record n.state { pause = Free } }) ends.becomes;
   }
 
-  released_free : IsReleased w stored (Made (Ended j how) ∷ Came (Turn j) ∷ p) point j b freed
-  released_free = IsReleased-plain w stored p point free j b o how freed points (TablesStand-free w stored p points point m.next m.state h.boundary h.pause_is h.moved s) located names round tt tip count turned turns_free ends_free
+  released_free : IsReleasedFrom w stored p points free.state (Made (Ended j how) ∷ Came (Turn j) ∷ p) point j b freed
+  released_free = IsReleasedFrom-plain w stored p point free j b o how freed points (TablesStand-free w stored p points point m.next m.state h.boundary h.pause_is h.moved s) located names round tt tip count turned turns_free ends_free
 
   -- the run's block is one of the history
   own_round : b.digest ≡ m.state.anchor.digest → w.header.round b.block ≡ m.state.anchor.round
@@ -176,12 +176,17 @@ module _ {B C I P R D H G U : Type 0} (w : Workings B C I P R D H G U) (stored :
 
   -- The tables stand behind the end of a run in its turn, once the anchor has moved, and the requests that waited for it are in
   -- hand.
-  pub IsReleased-moved : IsReleased w stored (Made (Ended j how) ∷ Came (Turn j) ∷ p) point j b now
-  IsReleased-moved = record {
-    points = released_free.points;
-    tables = TablesStand-pause w stored (Made (Ended j how) ∷ Came (Turn j) ∷ p) released_free.points point now.next (released j freed.state) now.state.pause
-        (subst (λ pause. (d : Digest) → IsAtHand now.state.anchor now.state.cache d ↔ IsKnownBy pause now.state.anchor now.state.cache d) (sym HasMoved-ended.pause_is)
-        (λ d. let k = known_moved now.state.anchor now.state.cache HasMoved-ended.boundary HasMoved-ended.moved d in (k.1, k.0))) released_free.tables;
-    in_hand = released_free.in_hand;
-    apart = released_free.apart;
-  }
+  pub IsReleasedFrom-moved : IsReleasedFrom w stored p points m.state (Made (Ended j how) ∷ Came (Turn j) ∷ p) point j b now
+  IsReleasedFrom-moved =
+      let r = released_free.released in
+      record {
+        moves = released_free.moves;
+        released = record {
+          points = r.points;
+          tables = TablesStand-pause w stored (Made (Ended j how) ∷ Came (Turn j) ∷ p) r.points point now.next (released j freed.state) now.state.pause
+              (subst (λ pause. (d : Digest) → IsAtHand now.state.anchor now.state.cache d ↔ IsKnownBy pause now.state.anchor now.state.cache d) (sym HasMoved-ended.pause_is)
+              (λ d. let k = known_moved now.state.anchor now.state.cache HasMoved-ended.boundary HasMoved-ended.moved d in (k.1, k.0))) r.tables;
+          in_hand = r.in_hand;
+          apart = r.apart;
+        };
+      }

@@ -18,10 +18,10 @@ use Rattle.stateful_exec.specs.declared.state.Tables.{Tables}
 use Rattle.stateful_standing.specs.Setting.{setting}
 use Rattle.stateful_standing.specs.Standing.{TablesStand, StandsBehind}
 use Rattle.stateful_standing.proofs.EndedKept.{IsRoundOf}
-use Rattle.stateful_standing.proofs.EndedRule.{GoesOn, IsReleased-plain, IsReleased-over}
+use Rattle.stateful_standing.proofs.EndedRule.{GoesOn, IsReleasedFrom-plain, IsReleasedFrom-over}
 use Rattle.stateful_standing.proofs.EndedTold.{IsPlain}
 use Rattle.stateful_standing.proofs.FollowStands.{IsSettled, IsSettled-from}
-use Rattle.stateful_standing.proofs.MovedStands.{HasMovedSo, IsReleased-moved}
+use Rattle.stateful_standing.proofs.MovedStands.{HasMovedSo, IsReleasedFrom-moved}
 use Rattle.stateful_standing.proofs.TurnedStands.{TablesStand-goes_on}
 
 -- how execution is paused: for no finalization; for one that goes on; or for one to whose block the anchor has moved
@@ -51,13 +51,13 @@ module _ {B C I P R D H G U : Type 0} (w : Workings B C I P R D H G U) (stored :
     stepped paused running (Ok Pending) turns settles = goes_on (StandsBehind-turned running turns settles)
     stepped (plain free tip) running (Ok (Done o)) turns settles =
         has_ended settles.how (IsSettled-from w stored point other_states p m names located drawn j settles.block settles.how _ settles.done now
-        (IsReleased-plain w stored p point m j settles.block o settles.how settles.done points s located names round free tip count running turns settles.ends) settles.ends.becomes (ap (λ (v : Tables B C I R U). v.requests) turns.state) settles.follow)
+        (IsReleasedFrom-plain w stored p point m j settles.block o settles.how settles.done points s located names round free tip count running turns settles.ends).released settles.ends.becomes (ap (λ (v : Tables B C I R U). v.requests) turns.state) settles.follow)
     stepped (goes over) running (Ok (Done o)) turns settles =
         has_ended settles.how (IsSettled-from w stored point other_states p m names located drawn j settles.block settles.how _ settles.done now
-        (IsReleased-over w stored p point m j settles.block o settles.how settles.done points s located names round over count running turns settles.ends).0 settles.ends.becomes (ap (λ (v : Tables B C I R U). v.requests) turns.state) settles.follow)
+        (IsReleasedFrom-over w stored p point m j settles.block o settles.how settles.done points s located names round over count running turns settles.ends).0.released settles.ends.becomes (ap (λ (v : Tables B C I R U). v.requests) turns.state) settles.follow)
     stepped (has_moved moved tip) running (Ok (Done o)) turns settles =
         has_ended settles.how (IsSettled-from w stored point other_states p m names located drawn j settles.block settles.how _ settles.done now
-        (IsReleased-moved w stored p point m j settles.block o settles.how settles.done points s located names round tip moved count running turns settles.ends) settles.ends.becomes (ap (λ (v : Tables B C I R U). v.requests) turns.state) settles.follow)
+        (IsReleasedFrom-moved w stored p point m j settles.block o settles.how settles.done points s located names round tip moved count running turns settles.ends).released settles.ends.becomes (ap (λ (v : Tables B C I R U). v.requests) turns.state) settles.follow)
     stepped paused running (Err fault) turns settles = absurd settles
 
     -- the tables stand behind a turn of a candidate run
