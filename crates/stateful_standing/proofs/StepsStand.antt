@@ -36,7 +36,7 @@ module _ {B C I P R D H G U : Type 0} (w : Workings B C I P R D H G U) (stored :
   -- tables behind what follows.
   pub data IsStepped (p : Past B C I) (points : Digest → Point w) (m : Moment w) (j : ℕ) (now : Moment w) : Type 0 where
     goes_on : StandsBehind w stored (Came (Turn j) ∷ p) points point m now → IsStepped p points m j now
-    has_ended : (how : How) → IsSettled w stored point other_states p m now j how → IsStepped p points m j now
+    has_ended : (how : How) → IsSettled w stored point other_states p points m now j how → IsStepped p points m j now
 
   module _ (p : Past B C I) (points : Digest → Point w) (m : Moment w) (s : TablesStand w stored p points point m.next m.state) (names : TrueNames (setting w stored) p) (round : IsRoundOf w stored p m.state.anchor)
       (located : w.kind.point m.members ≡ Some point) (drawn : w.kind.issued m.next (point ∷ [])) (count : R → ℕ) (j : ℕ) (now : Moment w) where
@@ -50,14 +50,14 @@ module _ {B C I P R D H G U : Type 0} (w : Workings B C I P R D H G U) (stored :
         → TurnsRun w count m.members j m.state running answer → SettlesBy w (record m { state = running }) j answer now → IsStepped p points m j now
     stepped paused running (Ok Pending) turns settles = goes_on (StandsBehind-turned running turns settles)
     stepped (plain free tip) running (Ok (Done o)) turns settles =
-        has_ended settles.how (IsSettled-from w stored point other_states p m names located drawn j settles.block settles.how _ settles.done now
-        (IsReleasedFrom-plain w stored p point m j settles.block o settles.how settles.done points s located names round free tip count running turns settles.ends).released settles.ends.becomes (ap (λ (v : Tables B C I R U). v.requests) turns.state) settles.follow)
+        has_ended settles.how (IsSettled-from w stored point other_states p m names located drawn points j settles.block settles.how _ settles.done now
+        (IsReleasedFrom-plain w stored p point m j settles.block o settles.how settles.done points s located names round free tip count running turns settles.ends) settles.ends.becomes (ap (λ (v : Tables B C I R U). v.requests) turns.state) settles.follow)
     stepped (goes over) running (Ok (Done o)) turns settles =
-        has_ended settles.how (IsSettled-from w stored point other_states p m names located drawn j settles.block settles.how _ settles.done now
-        (IsReleasedFrom-over w stored p point m j settles.block o settles.how settles.done points s located names round over count running turns settles.ends).0.released settles.ends.becomes (ap (λ (v : Tables B C I R U). v.requests) turns.state) settles.follow)
+        has_ended settles.how (IsSettled-from w stored point other_states p m names located drawn points j settles.block settles.how _ settles.done now
+        (IsReleasedFrom-over w stored p point m j settles.block o settles.how settles.done points s located names round over count running turns settles.ends).0 settles.ends.becomes (ap (λ (v : Tables B C I R U). v.requests) turns.state) settles.follow)
     stepped (has_moved moved tip) running (Ok (Done o)) turns settles =
-        has_ended settles.how (IsSettled-from w stored point other_states p m names located drawn j settles.block settles.how _ settles.done now
-        (IsReleasedFrom-moved w stored p point m j settles.block o settles.how settles.done points s located names round tip moved count running turns settles.ends).released settles.ends.becomes (ap (λ (v : Tables B C I R U). v.requests) turns.state) settles.follow)
+        has_ended settles.how (IsSettled-from w stored point other_states p m names located drawn points j settles.block settles.how _ settles.done now
+        (IsReleasedFrom-moved w stored p point m j settles.block o settles.how settles.done points s located names round tip moved count running turns settles.ends) settles.ends.becomes (ap (λ (v : Tables B C I R U). v.requests) turns.state) settles.follow)
     stepped paused running (Err fault) turns settles = absurd settles
 
     -- the tables stand behind a turn of a candidate run
