@@ -26,7 +26,7 @@ use Rattle.stateful_standing.proofs.Asking.{LeavesTicket}
 use Rattle.stateful_standing.proofs.Removing.{at_other, at_gone, All-at}
 use Rattle.stateful_standing.proofs.ConcludeStands.{declined-TellsOf, TablesStand-told}
 use Rattle.stateful_standing.proofs.OverChain.{IsOnChain, on_chain}
-use Rattle.stateful_standing.proofs.Drawn.{started_none, TablesStand-next, TablesStand-unqueued}
+use Rattle.stateful_standing.proofs.Drawn.{TablesStand-next, TablesStand-unqueued}
 use Rattle.stateful_standing.proofs.Spared.{Moves-longer, TablesStand-spared}
 use Rattle.stateful_standing.proofs.Sparing.{started-Spares, runs_below}
 use Rattle.stateful_standing.proofs.BuildLeft.{BuildStands-spared, BuildStands-tables}
@@ -99,14 +99,12 @@ module _ {B C I P R D H G U : Type 0} (w : Workings B C I P R D H G U) (stored :
     abbrev started : Tables B C I R U
     started = record old { queued = without old.queued t; next_job = old.next_job + 1 }
 
-    never : started_for old.next_job p ≡ None
-    never = started_none p old.next_job old.next_fetch s.numbers
 
     -- the tables stand behind the start of a build
     pub TablesStand-builds : TablesStand w stored (Made (Started old.next_job Build starts.proposal.ancestry.first.digest) ∷ p) points point now new
     TablesStand-builds = rw starts.state
         (TablesStand-spared w stored p (Made (Started old.next_job Build parent.digest)) points point now started
-        (started-Spares w stored p old.next_job Build parent.digest (λ is. cc) never started (runs_below w stored p points point next old s) (omega arith))
+        (started-Spares w stored p old.next_job Build parent.digest (λ is. cc) started (runs_below w stored p points point next old s) (omega arith))
         (TablesStand-next w stored p points point next started now starts.keeps (TablesStand-unqueued w stored p points point next old t (old.next_job + 1) (omega arith) taken s)))
 
     live_proposal : IsLiveProposal t p (record { kind = proposal.kind; context = proposal.context; parent = parent; input = proposal.input })

@@ -21,14 +21,6 @@ module _ {B C I : Type 0} (p : Past B C I) where
   pub started_below : (job fetch j : ℕ) (o : JobOf) → NumbersStand p job fetch → started_for j p ≡ Some o → j < job
   started_below job fetch j o h is = h.jobs j (λ none. let no : Some o ≡ None = sym is ∙ none in cc)
 
-  -- nothing was started under the next number
-  pub started_none : (job fetch : ℕ) → NumbersStand p job fetch → started_for job p ≡ None
-  started_none job fetch h = go (started_for job p) refl
-    where
-      go : (o : Option JobOf) → started_for job p ≡ o → o ≡ None
-      go None is = refl
-      go (Some o) is = let l = started_below job fetch job o h is in let no : ⊥ = omega (arith, l) in absurd no
-
   pub NumbersStand-more : (job more fetch : ℕ) → job ≤ more → NumbersStand p job fetch → NumbersStand p more fetch
   NumbersStand-more job more fetch up h = record {
     jobs = λ j some. let l = h.jobs j some in omega (arith, l, up);

@@ -18,7 +18,7 @@ use Rattle.stateful_exec.specs.declared.front.Stage.TheVariants.{Advanced, Hooki
 use Rattle.stateful_exec.specs.declared.state.Tables.{Tables}
 use Rattle.stateful_standing.specs.Fronting.{IsHooking, FrontStands}
 use Rattle.stateful_standing.specs.Standing.{TablesStand}
-use Rattle.stateful_standing.proofs.Drawn.{started_none, TablesStand-numbered}
+use Rattle.stateful_standing.proofs.Drawn.{TablesStand-numbered}
 use Rattle.stateful_standing.proofs.Spared.{knows-calm, TablesStand-spared}
 use Rattle.stateful_standing.proofs.Sparing.{live-started_other, live-ended_other, started-Spares, ended-Spares, runs_below}
 use Rattle.stateful_standing.proofs.BuildTurns.{no_candidate, TablesStand-turn_other}
@@ -29,14 +29,12 @@ module _ {B C I P R D H G U : Type 0} (w : Workings B C I P R D H G U) (stored :
   FrontStands-drops f = record { at_stage = tt; runs = λ j d live. f.runs j d live; hooks = λ j d live. f.hooks j d live }
 
   module _ (f : FrontStands w stored p point next old.anchor (front_at b Advanced)) where
-    never : started_for old.next_job p ≡ None
-    never = started_none p old.next_job old.next_fetch s.numbers
 
     -- the tables stand behind the start of a hook
     pub TablesStand-hooks : TablesStand w stored (Made (Started old.next_job Hook b.digest) ∷ p) points point next (record old { next_job = old.next_job + 1 })
     TablesStand-hooks =
         TablesStand-spared w stored p (Made (Started old.next_job Hook b.digest)) points point next (record old { next_job = old.next_job + 1 })
-        (started-Spares w stored p old.next_job Hook b.digest (λ is. cc) never (record old { next_job = old.next_job + 1 }) (runs_below w stored p points point next old s) (omega arith))
+        (started-Spares w stored p old.next_job Hook b.digest (λ is. cc) (record old { next_job = old.next_job + 1 }) (runs_below w stored p points point next old s) (omega arith))
         (TablesStand-numbered w stored p points point next old (old.next_job + 1) (omega arith) s)
 
     -- the finalization stands with the hook, which costs some turn
@@ -54,7 +52,7 @@ module _ {B C I P R D H G U : Type 0} (w : Workings B C I P R D H G U) (stored :
           unfinished = λ n is. rw (s.numbers.unturned old.next_job (omega arith)) (costs n is);
         },
       );
-      runs = λ j d live. f.runs j d (live-started_other p old.next_job Hook b.digest never Finalized (λ is. cc) j d live);
+      runs = λ j d live. f.runs j d (live-started_other p old.next_job Hook b.digest Finalized (λ is. cc) j d live);
       hooks = λ j d live. own j d live (j == old.next_job) refl;
     }
       where

@@ -1,5 +1,5 @@
 -- The finalization that goes on stands behind what says nothing of it; and what its begin says of the past.
-use Rattle.std.proofs.Common.{◌≡◌, ◌⊎◌, inl, inr, ℕ, List, ◌∷◌, [], Option, Some, None, IfSome, refl, ap, ◌∙◌}
+use Rattle.std.proofs.Common.{◌≡◌, ◌⊎◌, inl, inr, ℕ, List, ◌∷◌, [], Option, Some, None, IfSome, refl, ap, ◌∙◌, subst}
 use Rattle.stateful_types.specs.Names.{Header, Named}
 use Rattle.stateful_types.specs.Anchor.{anchor_by}
 use Rattle.stateful_types.specs.declared.anchor.Anchor.{Anchor}
@@ -87,3 +87,22 @@ module _ {B C I P R D H G U : Type 0} (w : Workings B C I P R D H G U) (stored :
     runs = λ j d live. h.runs j d (spares.runs j d live);
     hooks = λ j d live. h.hooks j d (spares.hooks j d live);
   }
+
+module _ {B C I P R D H G U : Type 0} (w : Workings B C I P R D H G U) (stored : ℕ → Option (Named B)) (p : Past B C I) (point : Point w) (next ids : w.Ids) (keeps : (c : List (Point w)) → w.kind.issued next c → w.kind.issued ids c) (anchor : Anchor) where
+  -- ids that are drawn leave how far a finalization has come
+  pub stage-drawn : (b : Named B) (stage : Stage R U H) → IsAtStage w stored p point next anchor b stage → IsAtStage w stored p point ids anchor b stage
+  stage-drawn b Begun h = record { begun_is = h.begun_is; parent_is = h.parent_is }
+  stage-drawn b (Running j run) h = (record { begun_is = h.0.begun_is; parent_is = h.0.parent_is }, record { job = h.1.job; own = h.1.own; drawn = λ s. keeps _ (h.1.drawn s); context = h.1.context; round = h.1.round; runs = h.1.runs })
+  stage-drawn b (Ran batch) h = (record { begun_is = h.0.begun_is; parent_is = h.0.parent_is }, record { own = h.1.own; states = h.1.states; drawn = keeps _ h.1.drawn; matches = h.1.matches; shows = h.1.shows })
+  stage-drawn b Advanced h = h
+  stage-drawn b (Hooking j hook) h = (h.0, record { job = h.1.job; context = h.1.context; round = h.1.round; before = h.1.before; hooks = h.1.hooks; unfinished = h.1.unfinished })
+
+  -- its run or hook is a live job
+  pub stage-live : (b : Named B) (stage : Stage R U H) → IsAtStage w stored p point next anchor b stage → (k : ℕ) → RunsAs k stage ⊎ HooksAs k stage → (d : Digest) × (IsLiveJob k Finalized d p ⊎ IsLiveJob k Hook d p)
+  stage-live b Begun h k own = absurd (elim own [ inl off ↦ off | inr off ↦ off ])
+  stage-live b (Running j run) h k (inl is) = (b.digest, inl (subst (λ n. IsLiveJob n Finalized b.digest p) is h.1.job))
+  stage-live b (Running j run) h k (inr off) = absurd off
+  stage-live b (Ran batch) h k own = absurd (elim own [ inl off ↦ off | inr off ↦ off ])
+  stage-live b Advanced h k own = absurd (elim own [ inl off ↦ off | inr off ↦ off ])
+  stage-live b (Hooking j hook) h k (inl off) = absurd off
+  stage-live b (Hooking j hook) h k (inr is) = (b.digest, inr (subst (λ n. IsLiveJob n Hook b.digest p) is h.1.job))

@@ -26,7 +26,7 @@ use Rattle.stateful_standing.specs.Fronting.{IsRunFinal, FrontStands}
 use Rattle.stateful_standing.specs.Standing.{TablesStand}
 use Rattle.stateful_standing.proofs.Calm.{Known-calm, Known-before}
 use Rattle.stateful_standing.proofs.EndedKnown.{ends-some, started-by, turn-IsCalm, Known-turned, Known-turned_before}
-use Rattle.stateful_standing.proofs.Drawn.{started_none, TablesStand-next, TablesStand-numbered}
+use Rattle.stateful_standing.proofs.Drawn.{TablesStand-next, TablesStand-numbered}
 use Rattle.stateful_standing.proofs.Spared.{KnowsSame, TablesStand-spared}
 use Rattle.stateful_standing.proofs.Sparing.{live-started_other, live-ended_other, started-Spares, ended-Spares, runs_below}
 use Rattle.stateful_standing.proofs.BuildTurns.{no_candidate, TablesStand-turn_other}
@@ -46,14 +46,12 @@ module _ {B C I P R D H G U : Type 0} (w : Workings B C I P R D H G U) (stored :
     abbrev given : Past B C I
     given = Made (Started old.next_job Finalized b.digest) ∷ p
 
-    never : started_for old.next_job p ≡ None
-    never = started_none p old.next_job old.next_fetch s.numbers
 
     -- the tables stand behind the start of a run of the finalized block
     pub TablesStand-runs_final : TablesStand w stored (Made (Started old.next_job Finalized b.digest) ∷ p) points point now new
     TablesStand-runs_final = rw starts.state
         (TablesStand-spared w stored p (Made (Started old.next_job Finalized b.digest)) points point now (record old { next_job = old.next_job + 1 })
-        (started-Spares w stored p old.next_job Finalized b.digest (λ is. cc) never (record old { next_job = old.next_job + 1 }) (runs_below w stored p points point next old s) (omega arith))
+        (started-Spares w stored p old.next_job Finalized b.digest (λ is. cc) (record old { next_job = old.next_job + 1 }) (runs_below w stored p points point next old s) (omega arith))
         (TablesStand-next w stored p points point next (record old { next_job = old.next_job + 1 }) now starts.keeps (TablesStand-numbered w stored p points point next old (old.next_job + 1) (omega arith) s)))
 
     -- the finalization stands with this run
@@ -73,7 +71,7 @@ module _ {B C I P R D H G U : Type 0} (w : Workings B C I P R D H G U) (stored :
             },
           );
           runs = λ j d live. own j d live (j == old.next_job) refl;
-          hooks = λ j d live. f.hooks j d (live-started_other p old.next_job Finalized b.digest never Hook (λ is. cc) j d live);
+          hooks = λ j d live. f.hooks j d (live-started_other p old.next_job Finalized b.digest Hook (λ is. cc) j d live);
         })
       where
         own : (j : ℕ) (d : Digest) → IsLiveJob j Finalized d given → (v : Bool) → (j == old.next_job) ≡ v → old.next_job ≡ j

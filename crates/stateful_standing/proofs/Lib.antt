@@ -75,3 +75,5 @@ pub mod FinalizesBegins
 pub mod MovedStands
 pub mod Passing
 pub mod PassingRules
+pub mod BuildPasses
+pub mod FrontPasses

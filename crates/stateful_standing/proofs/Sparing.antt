@@ -39,8 +39,8 @@ module _ {B C I : Type 0} (p : Past B C I) where
   ended-LeavesJob j how k ne = record { live = rw (differ k j (λ e. ne (sym e))) refl; started = refl; turns = refl }
 
   -- the live jobs of a kind behind the start of one of another kind
-  pub live-started_other : (n : ℕ) (kind : JobKind) (d : Digest) → started_for n p ≡ None → (other : JobKind) → (kind ≢ other) → (j : ℕ) (e : Digest) → IsLiveJob j other e (Made (Started n kind d) ∷ p) → IsLiveJob j other e p
-  live-started_other n kind d none other ne j e live = go (j == n) refl
+  pub live-started_other : (n : ℕ) (kind : JobKind) (d : Digest) (other : JobKind) → kind ≢ other → (j : ℕ) (e : Digest) → IsLiveJob j other e (Made (Started n kind d) ∷ p) → IsLiveJob j other e p
+  live-started_other n kind d other ne j e live = go (j == n) refl
     where
       go : (b : Bool) → (j == n) ≡ b → IsLiveJob j other e p
       go true is = let same : Some (job_of kind d) ≡ Some (job_of other e) = rw is at live.is in absurd (ne (one_kind kind other d e same))
@@ -83,12 +83,12 @@ module _ {B C I S T : Type 0} (s : Setting B S T) (p : Past B C I) (t : ℕ) whe
 
 module _ {B C I P R D H G U : Type 0} (w : Workings B C I P R D H G U) (stored : ℕ → Option (Named B)) (p : Past B C I) where
   -- the start of a job that is no candidate's
-  pub started-Spares : (n : ℕ) (kind : JobKind) (d : Digest) → kind ≢ Candidate → started_for n p ≡ None → (v : Tables B C I R U) → All (λ e. e.0 ≢ n) v.runs → n < v.next_job → Spares w stored p (Made (Started n kind d)) v
-  started-Spares n kind d other none v apart below = record {
+  pub started-Spares : (n : ℕ) (kind : JobKind) (d : Digest) → kind ≢ Candidate → (v : Tables B C I R U) → All (λ e. e.0 ≢ n) v.runs → n < v.next_job → Spares w stored p (Made (Started n kind d)) v
+  started-Spares n kind d other v apart below = record {
     built = λ e h. h;
     known = knows-calm w stored p (Made (Started n kind d)) (record { tip = refl; starts_none = tt; built = λ e h. h; kept = refl });
     runs = λ k e l. started-LeavesJob p n kind d _ (apart k e l);
-    candidates = live-started_other p n kind d none Candidate other;
+    candidates = live-started_other p n kind d Candidate other;
     requests = λ k e l. record { live = refl; verified = refl; proposed = refl };
     queued = λ k e l. record { live = refl; verified = refl; proposed = refl };
     fetches = λ f. record { live = refl; asked = refl };
