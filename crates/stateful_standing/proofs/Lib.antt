@@ -77,3 +77,4 @@ pub mod Passing
 pub mod PassingRules
 pub mod BuildPasses
 pub mod FrontPasses
+pub mod BuildRules
