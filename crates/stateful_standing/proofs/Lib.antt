@@ -78,3 +78,4 @@ pub mod PassingRules
 pub mod BuildPasses
 pub mod FrontPasses
 pub mod BuildRules
+pub mod FrontRules
