@@ -79,3 +79,4 @@ pub mod BuildPasses
 pub mod FrontPasses
 pub mod BuildRules
 pub mod FrontRules
+pub mod Arrivals
