@@ -80,3 +80,4 @@ pub mod FrontPasses
 pub mod BuildRules
 pub mod FrontRules
 pub mod Arrivals
+pub mod EventsPass
