@@ -15,7 +15,7 @@ use Rattle.stateful_history.specs.Known.{Known, is_tip, kept, stays, IsPastTip}
 use Rattle.stateful_history.specs.Met.{Met, TrueNames}
 use Rattle.stateful_history.specs.declared.mark.Mark.TheVariants.{Applied}
 use Rattle.stateful_cache.specs.Cache.{IsIn, IsAtHand, InOrder}
-use Rattle.stateful_cache.specs.Cut.{GoesOn, AreNamed, IsCutTo}
+use Rattle.stateful_cache.specs.Cut.{GoesOn, IsCutTo}
 use Rattle.stateful_cache.specs.declared.cache.Cached.{Cached}
 use Rattle.stateful_exec.specs.Boundary.{Boundary, IsRetained}
 use Rattle.stateful_exec.specs.Ending.{step_in}

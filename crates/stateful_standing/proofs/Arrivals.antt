@@ -1,6 +1,6 @@
 -- Requests and finalizations that come, and the machine's own marks, say nothing of what the tables hold; and a request that comes
 -- is in hand.
-use Rattle.std.proofs.Common.{◌≡◌, ◌≢◌, ◌+◌, ◌<◌, ◌≤◌, ◌==◌, not, nat_lt, max, if◌then◌else◌, ◌⊎◌, Contains, inl, inr, ℕ, Bool, true, false, List, [], ◌∷◌, All, Option, Some, None, refl, sym, ◌∙◌, subst, arith}
+use Rattle.std.proofs.Common.{◌≡◌, ◌+◌, ◌<◌, ◌≤◌, ◌==◌, max, if◌then◌else◌, ◌⊎◌, Contains, inl, inr, ℕ, Bool, true, false, [], ◌∷◌, All, Option, Some, None, refl, sym, ◌∙◌, arith}
 use Rattle.std.proofs.lemmas.Bool.{eqb-true, eq-eqb}
 use Rattle.std.proofs.lemmas.Bool.Decides.{nat_tests}
 use Rattle.std.proofs.lemmas.List.Elements.{All-cons, All-weaker, All-contains_itself}

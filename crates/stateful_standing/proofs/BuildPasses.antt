@@ -1,11 +1,11 @@
 -- The live build stands behind the rules that say nothing of it.
-use Rattle.std.proofs.Common.{◌≡◌, ◌≢◌, ◌++◌, ◌==◌, inl, inr, ℕ, List, [], ◌∷◌, All, Option, None, Some, IfSome, MatchOption, refl, sym, ap, ◌∙◌, subst}
-use Rattle.std.proofs.lemmas.List.{append_assoc, append_cancel_left}
+use Rattle.std.proofs.Common.{◌≡◌, ◌++◌, inl, inr, ℕ, List, [], ◌∷◌, All, Option, None, Some, IfSome, MatchOption, refl, sym, ◌∙◌, subst}
+use Rattle.std.proofs.lemmas.List.{append_cancel_left}
 use Rattle.std.proofs.lemmas.List.Elements.{All-head, All-tail}
 use Rattle.stateful_types.specs.Names.{Named}
 use Rattle.stateful_types.specs.declared.digest.Digest.{Digest}
 use Rattle.stateful_history.specs.Past.{Past, Came, Made, after}
-use Rattle.stateful_history.specs.Jobs.{IsLiveJob, job_of}
+use Rattle.stateful_history.specs.Jobs.{job_of}
 use Rattle.stateful_history.specs.declared.event.Event.TheVariants.{Turn}
 use Rattle.stateful_history.specs.declared.mark.How.{How}
 use Rattle.stateful_history.specs.declared.mark.JobKind.TheVariants.{Candidate, Build}
@@ -18,11 +18,10 @@ use Rattle.stateful_exec.specs.declared.building.Building.{Building}
 use Rattle.stateful_exec.specs.declared.state.Tables.{Tables}
 use Rattle.stateful_standing.specs.Setting.{setting}
 use Rattle.stateful_standing.specs.Building.{IsElsewhere, BuildStands}
-use Rattle.stateful_standing.specs.Standing.{TablesStand, StandsBehind}
+use Rattle.stateful_standing.specs.Standing.{TablesStand}
 use Rattle.stateful_standing.proofs.ConcludeStands.{verdict-TellsOf, declined-TellsOf}
 use Rattle.stateful_standing.proofs.Drawn.{started_below}
 use Rattle.stateful_standing.proofs.Removing.{differ}
-use Rattle.stateful_standing.proofs.EndedRuns.{Moves}
 use Rattle.stateful_standing.proofs.FollowStands.{IsSettled}
 use Rattle.stateful_standing.proofs.Passing.{IsBeside, PassesBy, AreDrawn}
 use Rattle.stateful_standing.proofs.PassingRules.{AreElsewhere}

@@ -1,5 +1,5 @@
 -- The tables and the live build stand behind each rule of a build.
-use Rattle.std.proofs.Common.{◌≡◌, ◌≢◌, ◌++◌, inr, ℕ, List, [], ◌∷◌, All, Option, Some, None, IfSome, MatchOption, Ok, refl, sym, ap, ◌∙◌, subst}
+use Rattle.std.proofs.Common.{◌≡◌, ◌++◌, inr, ℕ, List, [], ◌∷◌, Option, Some, None, MatchOption, Ok, refl, sym, ap, ◌∙◌, subst}
 use Rattle.std.proofs.lemmas.List.{append-nil}
 use Rattle.stateful_types.specs.Names.{Named}
 use Rattle.stateful_types.specs.Anchor.{anchor_by}
@@ -16,11 +16,10 @@ use Rattle.stateful_history.specs.declared.event.Event.TheVariants.{Cancel, Turn
 use Rattle.stateful_history.specs.declared.mark.Decision.{Decision}
 use Rattle.stateful_history.specs.declared.mark.JobKind.TheVariants.{Build}
 use Rattle.stateful_history.specs.declared.mark.Mark.{Mark}
-use Rattle.stateful_history.specs.declared.mark.Mark.TheVariants.{Built, Answered, Declined, Started}
+use Rattle.stateful_history.specs.declared.mark.Mark.TheVariants.{Built, Answered}
 use Rattle.stateful_history.proofs.Marks.{TrueNames-before}
 use Rattle.stateful_table.specs.Table.{at}
-use Rattle.stateful_exec.specs.Building.{Proposes, starts, declines}
-use Rattle.stateful_exec.specs.Built.{HasTurn, IsLiveBuild, EndsBuild, TurnsBuild, other, goes_on, ends, IsBuildFor, GivesUp, building, asking}
+use Rattle.stateful_exec.specs.Built.{HasTurn, EndsBuild, TurnsBuild, other, goes_on, ends, IsBuildFor, GivesUp, building, asking}
 use Rattle.stateful_exec.specs.Fetching.{Cancels}
 use Rattle.stateful_exec.specs.Moments.{Moment}
 use Rattle.stateful_exec.specs.Path.{Path}

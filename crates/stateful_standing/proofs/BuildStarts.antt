@@ -6,7 +6,7 @@ use Rattle.stateful_types.specs.declared.digest.Digest.{Digest}
 use Rattle.stateful_history.specs.Setting.{Setting}
 use Rattle.stateful_history.specs.Past.{Past, Came, Made}
 use Rattle.stateful_history.specs.Met.{Met}
-use Rattle.stateful_history.specs.Jobs.{IsLiveJob, started_for}
+use Rattle.stateful_history.specs.Jobs.{IsLiveJob}
 use Rattle.stateful_history.specs.Requests.{Proposal as Asked, IsLiveProposal, proposed}
 use Rattle.stateful_history.specs.declared.event.Event.TheVariants.{Prepare, Propose}
 use Rattle.stateful_history.specs.declared.mark.JobKind.TheVariants.{Build}
@@ -98,7 +98,6 @@ module _ {B C I P R D H G U : Type 0} (w : Workings B C I P R D H G U) (stored :
 
     abbrev started : Tables B C I R U
     started = record old { queued = without old.queued t; next_job = old.next_job + 1 }
-
 
     -- the tables stand behind the start of a build
     pub TablesStand-builds : TablesStand w stored (Made (Started old.next_job Build starts.proposal.ancestry.first.digest) ∷ p) points point now new

@@ -1,5 +1,5 @@
 -- The tables stand behind the end of a run while a finalization goes on.
-use Rattle.std.proofs.Common.{◌≡◌, ◌≢◌, ◌⊎◌, ◌↔◌, ◌<◌, length, inl, inr, ℕ, List, ◌∷◌, All, Contains, Option, Some, None, MatchOption, get_or, sym, ap, ◌∙◌, subst, arith}
+use Rattle.std.proofs.Common.{◌≡◌, ◌⊎◌, ◌↔◌, ◌<◌, length, inl, inr, ℕ, List, ◌∷◌, All, Contains, Option, Some, None, MatchOption, get_or, sym, ap, ◌∙◌, subst}
 use Rattle.std.proofs.lemmas.List.Elements.{Contains-get_or}
 use Rattle.stateful_types.specs.Names.{Named}
 use Rattle.stateful_types.specs.Round.{IsLater}

@@ -98,12 +98,15 @@ module _ {B C I P R D H G U : Type 0} (w : Workings B C I P R D H G U) (stored :
         -- what is left by the end of a run stands behind its rule
         IsReleasedFrom-left : (points : Digest → Point w) → IsLeftBy w stored p point m.next m.state j live how points ends.cache ends.pause → IsReleasedFrom p points m.state q point j b now
         IsReleasedFrom-left points stands =
-            subst (λ (n : Moment w). IsReleasedFrom p points m.state q point j b n) (sym ends.becomes) (record { moves = stands.moves; released = record {
-              points = stands.points;
-              tables = rw (without_put m.state.runs j (record live { run = turned })) stands.tables;
-              in_hand = subst (λ (c : Named B). All (IsTakenOut w stored q (not_on j m.state.requests) m.state.queued c) (released_on j m.state.requests)) same_block stands.released;
-              apart = stands.apart;
-            } })
+            subst (λ (n : Moment w). IsReleasedFrom p points m.state q point j b n) (sym ends.becomes) (record {
+              moves = stands.moves;
+              released = record {
+                points = stands.points;
+                tables = rw (without_put m.state.runs j (record live { run = turned })) stands.tables;
+                in_hand = subst (λ (c : Named B). All (IsTakenOut w stored q (not_on j m.state.requests) m.state.queued c) (released_on j m.state.requests)) same_block stands.released;
+                apart = stands.apart;
+              };
+            })
 
         GoesOn-from : (points : Digest → Point w) → IsLeftOver w stored p point m.next m.state j live points how ends.cache ends.pause → GoesOn q now
         GoesOn-from points stands = subst (λ (n : Moment w). GoesOn q n) (sym ends.becomes) (record { boundary = stands.boundary; pause_is = stands.pause_is; goes_on = stands.goes_on })

@@ -1,5 +1,5 @@
 -- The live build and the finalization that goes on stand behind items that say nothing of jobs.
-use Rattle.std.proofs.Common.{◌≡◌, ◌≢◌, ◌⊎◌, ℕ, List, ◌∷◌, Option, Some, None, IfSome, sym, ◌∙◌}
+use Rattle.std.proofs.Common.{◌≡◌, ◌≢◌, ◌⊎◌, ℕ, ◌∷◌, Option, Some, None, IfSome, sym, ◌∙◌}
 use Rattle.stateful_types.specs.Names.{Named}
 use Rattle.stateful_types.specs.declared.digest.Digest.{Digest}
 use Rattle.stateful_history.specs.Past.{Past, Item}
@@ -10,7 +10,6 @@ use Rattle.stateful_history.specs.declared.mark.JobKind.TheVariants.{Build, Fina
 use Rattle.stateful_exec.specs.Workings.{Workings, Point}
 use Rattle.stateful_exec.specs.declared.building.Building.{Building}
 use Rattle.stateful_exec.specs.declared.front.Front.{Front}
-use Rattle.stateful_exec.specs.declared.front.Stage.{Stage}
 use Rattle.stateful_exec.specs.declared.state.Tables.{Tables}
 use Rattle.stateful_standing.specs.Setting.{setting}
 use Rattle.stateful_standing.specs.Building.{BuildStands}
@@ -20,7 +19,7 @@ use Rattle.stateful_standing.proofs.Calm.{IsCalm, LeavesJob}
 use Rattle.stateful_standing.proofs.Asking.{LeavesTicket}
 use Rattle.stateful_standing.proofs.ConcludeStands.{TellsOf}
 use Rattle.stateful_standing.proofs.BuildLeft.{SparesBuild, BuildStands-spared}
-use Rattle.stateful_standing.proofs.FrontLeft.{SparesFront, FrontStands-spared}
+use Rattle.stateful_standing.proofs.FrontLeft.{FrontStands-spared}
 
 -- where an item says nothing of jobs, the live ones of each kind are those before
 jobs_before : {B C I : Type 0} (p : Past B C I) (x : Item B C I) → ((j : ℕ) → LeavesJob p x j) → (kind : JobKind) (j : ℕ) (d : Digest) → IsLiveJob j kind d (x ∷ p) → IsLiveJob j kind d p

@@ -7,7 +7,7 @@ use Rattle.stateful_types.specs.declared.outcome.Moved.TheVariants.{Pending}
 use Rattle.stateful_db.specs.Works.{hook_of}
 use Rattle.stateful_db.specs.declared.application.Hooked.TheVariants as hooked
 use Rattle.stateful_history.specs.Past.{Past, Came, Made}
-use Rattle.stateful_history.specs.Jobs.{IsLiveJob, started_for, turns}
+use Rattle.stateful_history.specs.Jobs.{IsLiveJob, turns}
 use Rattle.stateful_history.specs.declared.event.Event.TheVariants.{Turn}
 use Rattle.stateful_history.specs.declared.mark.How.TheVariants.{Hooked}
 use Rattle.stateful_history.specs.declared.mark.JobKind.TheVariants.{Finalized, Hook}
@@ -29,7 +29,6 @@ module _ {B C I P R D H G U : Type 0} (w : Workings B C I P R D H G U) (stored :
   FrontStands-drops f = record { at_stage = tt; runs = λ j d live. f.runs j d live; hooks = λ j d live. f.hooks j d live }
 
   module _ (f : FrontStands w stored p point next old.anchor (front_at b Advanced)) where
-
     -- the tables stand behind the start of a hook
     pub TablesStand-hooks : TablesStand w stored (Made (Started old.next_job Hook b.digest) ∷ p) points point next (record old { next_job = old.next_job + 1 })
     TablesStand-hooks =

@@ -9,7 +9,7 @@ use Rattle.stateful_db.specs.Works.{run_of}
 use Rattle.stateful_history.specs.Setting.{parent_of}
 use Rattle.stateful_history.specs.Past.{Past, Came, Made}
 use Rattle.stateful_history.specs.Asked.{started}
-use Rattle.stateful_history.specs.Jobs.{IsLiveJob, started_for, turns}
+use Rattle.stateful_history.specs.Jobs.{IsLiveJob, turns}
 use Rattle.stateful_history.specs.Known.{Known, is_tip}
 use Rattle.stateful_history.specs.declared.event.Event.TheVariants.{Turn}
 use Rattle.stateful_history.specs.declared.mark.How.TheVariants.{Kept}
@@ -45,7 +45,6 @@ module _ {B C I P R D H G U : Type 0} (w : Workings B C I P R D H G U) (stored :
       (members : w.kind.Members) (located : w.kind.point members ≡ Some point) (drawn : w.kind.issued next (point ∷ [])) (now : w.Ids) (new : Tables B C I R U) (front : Option (Front B R U H)) (starts : RunsFinal w b members next now old new front) where
     abbrev given : Past B C I
     given = Made (Started old.next_job Finalized b.digest) ∷ p
-
 
     -- the tables stand behind the start of a run of the finalized block
     pub TablesStand-runs_final : TablesStand w stored (Made (Started old.next_job Finalized b.digest) ∷ p) points point now new

@@ -1,5 +1,5 @@
 -- The tables stand between the anchor's move and the resume: as without the pause, and behind the end of a run.
-use Rattle.std.proofs.Common.{◌≡◌, ◌≢◌, ◌⊎◌, ◌↔◌, inl, inr, ℕ, List, [], ◌∷◌, All, Any, Contains, Option, Some, Ok, refl, sym, ap, ◌∙◌, subst}
+use Rattle.std.proofs.Common.{◌≡◌, ◌↔◌, inl, inr, ℕ, List, ◌∷◌, All, Contains, Option, Some, Ok, refl, sym, ap, ◌∙◌, subst}
 use Rattle.std.proofs.lemmas.List.Elements.{All-push, All-weaker}
 use Rattle.stateful_types.specs.Names.{Named}
 use Rattle.stateful_types.specs.Round.{IsLater}
@@ -26,7 +26,6 @@ use Rattle.stateful_exec.specs.declared.state.Tables.{Tables}
 use Rattle.stateful_exec.specs.declared.tables.LiveRun.{LiveRun}
 use Rattle.stateful_standing.specs.Setting.{setting}
 use Rattle.stateful_standing.specs.Caching.{IsKnownBy}
-use Rattle.stateful_standing.specs.Running.{IsRunning}
 use Rattle.stateful_standing.specs.Standing.{TablesStand}
 use Rattle.stateful_standing.proofs.EndedKept.{IsRoundOf}
 use Rattle.stateful_standing.proofs.EndedKnown.{IsLater-self}
@@ -107,18 +106,26 @@ module _ {B C I P R D H G U : Type 0} (w : Workings B C I P R D H G U) (anchor :
     HasMoved-told : (pause : Pause) → Crosses w.header b (Finalizing boundary) pause → (more : Boundary) × (pause ≡ Finalizing more) × HasMoved anchor new more
     HasMoved-told Free crosses = absurd crosses
     HasMoved-told Pruning crosses = absurd crosses
-    HasMoved-told (Finalizing more) (inl over) = (more, refl, record {
-      digest_is = h.digest_is ∙ sym over.1.of;
-      round_is = h.round_is ∙ sym over.1.round;
-      own = (over.1.more more.digest).1 (inr (subst (λ (d : Digest). Contains boundary.compatible d) (sym over.1.of) h.own));
-      compatible = told_over more (λ d has. (over.1.more d).1 (inr has)) (λ r. (over.1.more b.digest).1 (inl refl));
-    })
-    HasMoved-told (Finalizing more) (inr off) = (boundary, ap (λ x. Finalizing x) off.1, record {
-      digest_is = h.digest_is;
-      round_is = h.round_is;
-      own = h.own;
-      compatible = told_over boundary (λ d has. has) (λ r. absurd (off.0 r));
-    })
+    HasMoved-told (Finalizing more) (inl over) = (
+      more,
+      refl,
+      record {
+        digest_is = h.digest_is ∙ sym over.1.of;
+        round_is = h.round_is ∙ sym over.1.round;
+        own = (over.1.more more.digest).1 (inr (subst (λ (d : Digest). Contains boundary.compatible d) (sym over.1.of) h.own));
+        compatible = told_over more (λ d has. (over.1.more d).1 (inr has)) (λ r. (over.1.more b.digest).1 (inl refl));
+      },
+    )
+    HasMoved-told (Finalizing more) (inr off) = (
+      boundary,
+      ap (λ x. Finalizing x) off.1,
+      record {
+        digest_is = h.digest_is;
+        round_is = h.round_is;
+        own = h.own;
+        compatible = told_over boundary (λ d has. has) (λ r. absurd (off.0 r));
+      },
+    )
 
 module _ {B C I P R D H G U : Type 0} (w : Workings B C I P R D H G U) (stored : ℕ → Option (Named B)) (p : Past B C I) (point : Point w) (m : Moment w) (j : ℕ) (b : Named B) (o : Option U) (how : How) (now : Moment w)
     (points : Digest → Point w) (s : TablesStand w stored p points point m.next m.state) (located : w.kind.point m.members ≡ Some point) (names : TrueNames (setting w stored) p) (round : IsRoundOf w stored p m.state.anchor) (tip : tip_of w.header p ≡ Some m.state.anchor)

@@ -1,5 +1,5 @@
 -- What else happens to requests and candidate runs says nothing of other jobs and other tickets.
-use Rattle.std.proofs.Common.{◌≡◌, ◌≢◌, ◌==◌, ◌++◌, not, inl, inr, ℕ, Bool, true, false, List, [], ◌∷◌, filter, map, is_none, option_map, All, Option, None, Some, Result, Ok, Err, refl, sym, ap, ◌∙◌, subst, arith}
+use Rattle.std.proofs.Common.{◌≡◌, ◌==◌, ◌++◌, not, ℕ, Bool, true, false, List, [], ◌∷◌, filter, map, is_none, option_map, All, Option, None, Some, Result, Ok, Err, refl, sym, ap, ◌∙◌, arith}
 use Rattle.std.proofs.lemmas.List.{append-nil}
 use Rattle.std.proofs.lemmas.List.Elements.{All-filter, All-map, All-nil}
 use Rattle.stateful_types.specs.Names.{Named}
@@ -13,7 +13,7 @@ use Rattle.stateful_history.specs.declared.mark.Mark.{Mark}
 use Rattle.stateful_history.specs.declared.mark.Mark.TheVariants.{Withdrawn, Ended}
 use Rattle.stateful_cache.specs.Cache.{IsIn}
 use Rattle.stateful_cache.specs.declared.cache.Cached.{Cached}
-use Rattle.stateful_table.specs.Table.{at, without}
+use Rattle.stateful_table.specs.Table.{at}
 use Rattle.stateful_table.proofs.Tables.{is_at_number}
 use Rattle.stateful_exec.specs.Boundary.{Boundary}
 use Rattle.stateful_exec.specs.Ending.{InTurn, there, added, missed, IsTold, rejected, mismatched, agreed, released, EndsRun, TurnsRun, Follows, Settles, SettlesBy, Steps}
@@ -21,16 +21,15 @@ use Rattle.stateful_exec.specs.Fetching.{Fetches, serving, with_block, IsFetched
 use Rattle.stateful_exec.specs.Moments.{Moment}
 use Rattle.stateful_exec.specs.Path.{Path}
 use Rattle.stateful_exec.specs.Pausing.{Pauses, GoesAlong, AcquiresAnew, unparked, unsettled, Resumes}
-use Rattle.stateful_exec.specs.Phase.{is_on, released_on, not_on, parked_path, parked_in, not_parked, is_unacquired, unacquired_in, not_unacquired, dropped}
+use Rattle.stateful_exec.specs.Phase.{is_on, released_on, parked_path, parked_in, is_unacquired, unacquired_in}
 use Rattle.stateful_exec.specs.Rules.{taken, requested}
 use Rattle.stateful_exec.specs.Workings.{Workings}
 use Rattle.stateful_exec.specs.declared.request.Verdict.TheVariants.{Invalid}
 use Rattle.stateful_exec.specs.declared.state.Tables.{Tables}
 use Rattle.stateful_exec.specs.declared.tables.Phase.TheVariants.{Waiting, Executing}
-use Rattle.stateful_exec.specs.declared.tables.Released.{Released}
 use Rattle.stateful_exec.specs.declared.tables.Requested.{Requested}
 use Rattle.stateful_standing.specs.Building.{IsElsewhere}
-use Rattle.stateful_standing.proofs.Removing.{at_other, none_at}
+use Rattle.stateful_standing.proofs.Removing.{none_at}
 use Rattle.stateful_standing.proofs.EndedKept.{Any-more}
 use Rattle.stateful_standing.proofs.EndedLeft.{All-released}
 use Rattle.stateful_standing.proofs.FollowStands.{ticket_of}

@@ -1,6 +1,6 @@
 -- What is known once a finalization has begun: the finalized block, and what is cached and compatible with it.
 use Rattle.std.proofs.Common.{◌≡◌, ◌≢◌, ◌++◌, ◌↔◌, ◌⊎◌, inl, inr, ℕ, List, [], ◌∷◌, All, Any, Contains, Option, Some, refl, sym, ap, ◌∙◌, subst, arith, MatchOption}
-use Rattle.std.proofs.lemmas.List.Elements.{All-weaker, All-nil, All-cons, All-head, All-tail, All-push, All-contains}
+use Rattle.std.proofs.lemmas.List.Elements.{All-nil, All-cons, All-head, All-tail, All-push, All-contains}
 use Rattle.stateful_types.specs.Names.{Named}
 use Rattle.stateful_types.specs.Anchor.{anchor_by}
 use Rattle.stateful_types.specs.Round.{IsLater}
@@ -14,7 +14,7 @@ use Rattle.stateful_history.specs.Met.{Met, TrueNames}
 use Rattle.stateful_history.specs.Known.{Known, is_tip, kept, stays, IsPastTip}
 use Rattle.stateful_history.specs.declared.mark.Mark.TheVariants.{Began}
 use Rattle.stateful_cache.specs.Cache.{IsIn, InOrder}
-use Rattle.stateful_cache.specs.Cut.{GoesOn, AreNamed}
+use Rattle.stateful_cache.specs.Cut.{GoesOn}
 use Rattle.stateful_cache.specs.declared.cache.Cached.{Cached}
 use Rattle.stateful_exec.specs.Boundary.{Boundary}
 use Rattle.stateful_exec.specs.Finalizing.{IsBoundaryOf}
