@@ -81,3 +81,4 @@ pub mod BuildRules
 pub mod FrontRules
 pub mod Arrivals
 pub mod EventsPass
+pub mod BuildMarks
