@@ -27,6 +27,7 @@ use Rattle.stateful_exec.specs.declared.building.Building.{Building}
 use Rattle.stateful_standing.specs.Setting.{setting}
 use Rattle.stateful_standing.specs.Chains.{Leads}
 use Rattle.stateful_standing.specs.Building.{IsBuilding, BuildStands}
+use Rattle.stateful_standing.specs.Requesting.{AllAbstain}
 use Rattle.stateful_standing.specs.Standing.{TablesStand}
 use Rattle.stateful_standing.proofs.Cancelled.{and_left, and_right, not_same}
 use Rattle.stateful_standing.proofs.EndedKept.{IsRoundOf}
@@ -46,6 +47,7 @@ module _ {B C I P R D H G U : Type 0} (w : Workings B C I P R D H G U) (stored :
     pub points_now : Digest → Point w
     pub tables : TablesStand w stored (after (Came (Turn b.job) ∷ p) (Built b.job b.ticket block ∷ Answered b.ticket decision block ∷ [])) points_now point now.next now.state
     pub build : BuildStands w stored (after (Came (Turn b.job) ∷ p) (Built b.job b.ticket block ∷ Answered b.ticket decision block ∷ [])) points_now now.next now.state None
+    pub waiting : AllAbstain w stored (Came (Turn b.job) ∷ p) m.state.requests → AllAbstain w stored (after (Came (Turn b.job) ∷ p) (Built b.job b.ticket block ∷ Answered b.ticket decision block ∷ [])) now.state.requests
     pub known : Known (setting w stored) (Made (Built b.job b.ticket block) ∷ Came (Turn b.job) ∷ p) block.digest
     pub cached : IsIn now.state.cache block.digest
     pub states : w.States
@@ -105,6 +107,7 @@ module _ {B C I P R D H G U : Type 0} (w : Workings B C I P R D H G U) (stored :
         complete = λ j d live.
             not_same j b.job (and_left (not (j == b.job)) (live_job j p) live.live) (sym (h.complete j d (record { live = and_right (not (j == b.job)) (live_job j p) live.live; is = live.is })));
       };
+      waiting = λ a. a;
       known = behind.known;
       cached = behind.cached;
       states = hands.states;

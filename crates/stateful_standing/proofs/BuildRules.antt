@@ -31,7 +31,7 @@ use Rattle.stateful_exec.specs.declared.tables.Phase.TheVariants.{Executing}
 use Rattle.stateful_exec.specs.declared.tables.Requested.{Requested}
 use Rattle.stateful_standing.specs.Setting.{setting}
 use Rattle.stateful_standing.specs.Building.{BuildStands}
-use Rattle.stateful_standing.specs.Requesting.{IsInPhase, IsStanding}
+use Rattle.stateful_standing.specs.Requesting.{AllAbstain, IsInPhase, IsStanding}
 use Rattle.stateful_standing.specs.Standing.{TablesStand}
 use Rattle.stateful_standing.proofs.Removing.{All-at}
 use Rattle.stateful_standing.proofs.GivenUp.{cancel-LeavesJob, cancel-LeavesTicket}
@@ -52,7 +52,7 @@ IsRoundOf-named w stored p anchor top names met named b has is =
 
 module _ {B C I P R D H G U : Type 0} (w : Workings B C I P R D H G U) (stored : ℕ → Option (Named B)) (point : Point w) where
   -- What stands behind a rule of a build, over a past that has the rule's event: some marks are made, no database moves, and the
-  -- tables and the live build stand for the past with these marks, over some points.
+  -- tables and the live build stand for the past with these marks, over some points; requests that wait abstain as they did.
   pub record StandsWithBuild (p : Past B C I) (m now : Moment w) (build : Option (Building B C D)) : Type 0 where
     pub points : Digest → Point w
     pub more : List (Mark B)
@@ -60,12 +60,13 @@ module _ {B C I P R D H G U : Type 0} (w : Workings B C I P R D H G U) (stored :
     pub members_are : now.members ≡ m.members
     pub tables : TablesStand w stored (after p more) points point now.next now.state
     pub builds : BuildStands w stored (after p more) points now.next now.state build
+    pub waiting : AllAbstain w stored p m.state.requests → AllAbstain w stored (after p more) now.state.requests
 
 module _ {B C I P R D H G U : Type 0} (w : Workings B C I P R D H G U) (stored : ℕ → Option (Named B)) (p : Past B C I) (points : Digest → Point w) (point : Point w) (m : Moment w) (s : TablesStand w stored p points point m.next m.state)
     (plain : IsPlain m.state.pause) (tip : tip_of w.header p ≡ Some m.state.anchor) (top : Named B) (top_met : Met (setting w stored) p top) (named : m.state.anchor ≡ anchor_by w.header top) (located : w.kind.point m.members ≡ Some point)
     (b : Building B C D) (h : BuildStands w stored p points m.next m.state (Some b)) (now : Moment w) (names : (more : List (Mark B)) → now.marks ≡ m.marks ++ more → TrueNames (setting w stored) (after (Came (Turn b.job) ∷ p) more)) where
   answered : {given : Handoff B} {decision : Decision} → IsAnsweredWith w stored p points point m b given decision now → StandsWithBuild w stored point (Came (Turn b.job) ∷ p) m now None
-  answered a = record { points = a.points_now; more = _; marks_are = a.marks_are; members_are = a.members_are; tables = a.tables; builds = a.build }
+  answered a = record { points = a.points_now; more = _; marks_are = a.marks_are; members_are = a.members_are; tables = a.tables; builds = a.build; waiting = a.waiting }
 
   -- names are true where the block was just built
   names_built : (block : Named B) (decision : Decision) → now.marks ≡ m.marks ++ Built b.job b.ticket block ∷ Answered b.ticket decision block ∷ [] → TrueNames (setting w stored) (Made (Built b.job b.ticket block) ∷ Came (Turn b.job) ∷ p)
@@ -79,6 +80,7 @@ module _ {B C I P R D H G U : Type 0} (w : Workings B C I P R D H G U) (stored :
     members_are = refl;
     tables = TablesStand-nothing w stored p points point m.next m.state s b h;
     builds = BuildStands-nothing w stored p points point m.next m.state s b h;
+    waiting = λ a. a;
   })
   ended count turned (Vote proposed) had gives =
       let true_names = names_built gives.block _ (ap (λ (n : Moment w). n.marks) gives.becomes) in
@@ -103,6 +105,7 @@ module _ {B C I P R D H G U : Type 0} (w : Workings B C I P R D H G U) (stored :
         tables = TablesStand-turn_other w stored p points point m.next m.state s b.job Build b.parent.digest h.each.job.is (λ x. cc);
         builds = subst (λ (x : Building B C D). BuildStands w stored (Came (Turn b.job) ∷ p) points m.next m.state (Some (record x { build = turned }))) same
             (BuildStands-goes_on w stored p points point m.next m.state s b h count m.members located turned (subst (λ (x : Building B C D). HasTurn w count m.members x.build turned (Ok Pending)) (sym same) had));
+        waiting = λ a. a;
       })
   StandsWithBuild-turns count _ (ends {b = c} {turned = turned} {given = given} live had gives after_is) =
       let own : Some b ≡ Some c = live.live in

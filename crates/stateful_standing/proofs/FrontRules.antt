@@ -20,6 +20,7 @@ use Rattle.stateful_exec.specs.Workings.{Workings, Point}
 use Rattle.stateful_exec.specs.declared.front.Front.{Front}
 use Rattle.stateful_exec.specs.declared.front.Stage.TheVariants.{Begun, Running, Advanced, Hooking}
 use Rattle.stateful_standing.specs.Fronting.{FrontStands}
+use Rattle.stateful_standing.specs.Requesting.{AllAbstain}
 use Rattle.stateful_standing.specs.Standing.{TablesStand}
 use Rattle.stateful_standing.proofs.FrontHooks.{TablesStand-hooks, FrontStands-hooks, TablesStand-turns_hook, FrontStands-hook_goes_on, TablesStand-hooked, FrontStands-hooked}
 use Rattle.stateful_standing.proofs.FrontRuns.{TablesStand-runs_final, FrontStands-runs, TablesStand-turns_final, FrontStands-goes_on, TablesStand-ran, FrontStands-ran}
@@ -33,16 +34,18 @@ module _ {B C I P R D H G U : Type 0} (w : Workings B C I P R D H G U) (stored :
     pub members_are : now.members ≡ m.members
     pub tables : TablesStand w stored (after p more) points point now.next now.state
     pub fronts : FrontStands w stored (after p more) point now.next now.state.anchor front
+    pub waiting : AllAbstain w stored p m.state.requests → AllAbstain w stored (after p more) now.state.requests
 
   -- marks alone are made
-  marked : (q : Past B C I) (m now : Moment w) (front : Option (Front B R U H)) (more : List (Mark B)) → now ≡ record m { marks = now.marks } → now.marks ≡ m.marks ++ more
+  marked : (q : Past B C I) (m now : Moment w) (front : Option (Front B R U H)) (more : List (Mark B)) → now ≡ record m { marks = now.marks } → now.marks ≡ m.marks ++ more → (AllAbstain w stored q m.state.requests → AllAbstain w stored (after q more) m.state.requests)
       → TablesStand w stored (after q more) points point m.next m.state → FrontStands w stored (after q more) point m.next m.state.anchor front → StandsWithFront q m now front
-  marked q m now front more same is t f = record {
+  marked q m now front more same is waits t f = record {
     more = more;
     marks_are = is;
     members_are = ap (λ (n : Moment w). n.members) same;
     tables = subst (λ (n : Moment w). TablesStand w stored (after q more) points point n.next n.state) (sym same) t;
     fronts = subst (λ (n : Moment w). FrontStands w stored (after q more) point n.next n.state.anchor front) (sym same) f;
+    waiting = subst (λ (n : Moment w). AllAbstain w stored q m.state.requests → AllAbstain w stored (after q more) n.state.requests) (sym same) waits;
   }
 
   module _ (p : Past B C I) (m now : Moment w) (s : TablesStand w stored p points point m.next m.state) (located : w.kind.point m.members ≡ Some point) where
@@ -59,14 +62,15 @@ module _ {B C I P R D H G U : Type 0} (w : Workings B C I P R D H G U) (stored :
           tables = TablesStand-runs_final w stored p points point m.next m.state s b other_states m.members located drawn now.next now.state front starts;
           fronts = subst (λ a. FrontStands w stored (Made (Started m.state.next_job job.Finalized b.digest) ∷ p) point now.next a front) (sym anchored)
               (FrontStands-runs w stored p points point m.next m.state s b other_states m.members located drawn now.next now.state front starts f);
+          waiting = λ a. rw starts.state a;
         }
 
     settled_final : (j : ℕ) (b : Named B) (run next_run : R) (answer : Result (Moved (Option U)) AppFault) (after_turn : Option (Front B R U H)) (count : R → ℕ) → FrontStands w stored p point m.next m.state.anchor (front_at b (Running j run))
         → HasRunOn w count m.members run next_run answer → SettlesFinal w j b next_run answer m.marks now.marks after_turn → now ≡ record m { marks = now.marks } → StandsWithFront (Came (Turn j) ∷ p) m now after_turn
-    settled_final j b run next_run (Ok Pending) after_turn count f had is same = marked (Came (Turn j) ∷ p) m now after_turn [] same (is.0 ∙ sym (append-nil m.marks))
+    settled_final j b run next_run (Ok Pending) after_turn count f had is same = marked (Came (Turn j) ∷ p) m now after_turn [] same (is.0 ∙ sym (append-nil m.marks)) (λ a. a)
         (TablesStand-turns_final w stored p points point m.next m.state s b j run next_run f m.members located)
         (subst (λ o. FrontStands w stored (Came (Turn j) ∷ p) point m.next m.state.anchor o) (sym is.1) (FrontStands-goes_on w stored p points point m.next m.state s b j run next_run f m.members located had.turns))
-    settled_final j b run next_run (Ok (Done ended)) after_turn count f had is same = marked (Came (Turn j) ∷ p) m now after_turn _ same is.2
+    settled_final j b run next_run (Ok (Done ended)) after_turn count f had is same = marked (Came (Turn j) ∷ p) m now after_turn _ same is.2 (λ a. a)
         (TablesStand-ran w stored p points point m.next m.state s b j run next_run f m.members located)
         (subst (λ o. FrontStands w stored (Made (Ended j how.Kept) ∷ Came (Turn j) ∷ p) point m.next m.state.anchor o) (sym is.3) (FrontStands-ran w stored p points point m.next m.state s b j run next_run f m.members located ended is.0 had.turns is.1))
     settled_final j b run next_run (Err fault) after_turn count f had is same = absurd is
@@ -80,10 +84,10 @@ module _ {B C I P R D H G U : Type 0} (w : Workings B C I P R D H G U) (stored :
 
     settled_hook : (j : ℕ) (b : Named B) (hook next_hook : H) (answer : Result (Moved Unit) AppFault) (after_turn : Option (Front B R U H)) (count : H → ℕ) → FrontStands w stored p point m.next m.state.anchor (front_at b (Hooking j hook))
         → HasHooked w count m.members hook next_hook answer → SettlesHook w j b next_hook answer m.marks now.marks after_turn → now ≡ record m { marks = now.marks } → StandsWithFront (Came (Turn j) ∷ p) m now after_turn
-    settled_hook j b hook next_hook (Ok Pending) after_turn count f had is same = marked (Came (Turn j) ∷ p) m now after_turn [] same (is.0 ∙ sym (append-nil m.marks))
+    settled_hook j b hook next_hook (Ok Pending) after_turn count f had is same = marked (Came (Turn j) ∷ p) m now after_turn [] same (is.0 ∙ sym (append-nil m.marks)) (λ a. a)
         (TablesStand-turns_hook w stored p points point m.next m.state s b j hook next_hook f)
         (subst (λ o. FrontStands w stored (Came (Turn j) ∷ p) point m.next m.state.anchor o) (sym is.1) (FrontStands-hook_goes_on w stored p points point m.next m.state s b j hook next_hook f count m.members located had))
-    settled_hook j b hook next_hook (Ok (Done ended)) after_turn count f had is same = marked (Came (Turn j) ∷ p) m now after_turn _ same is.0
+    settled_hook j b hook next_hook (Ok (Done ended)) after_turn count f had is same = marked (Came (Turn j) ∷ p) m now after_turn _ same is.0 (λ a. a)
         (TablesStand-hooked w stored p points point m.next m.state s b j hook next_hook f)
         (subst (λ o. FrontStands w stored (Made (Ended j how.Hooked) ∷ Came (Turn j) ∷ p) point m.next m.state.anchor o) (sym is.1) (FrontStands-hooked w stored p points point m.next m.state s b j hook next_hook f))
     settled_hook j b hook next_hook (Err fault) after_turn count f had is same = absurd is
@@ -103,6 +107,7 @@ module _ {B C I P R D H G U : Type 0} (w : Workings B C I P R D H G U) (stored :
       members_are = members;
       tables = rw (is.0, next) s;
       fronts = rw (is.0, is.2, next) f;
+      waiting = λ a. rw is.0 a;
     }
     observed b captured (hooked.Pending hook) front live left before read is members next f = record {
       more = _;
@@ -110,6 +115,7 @@ module _ {B C I P R D H G U : Type 0} (w : Workings B C I P R D H G U) (stored :
       members_are = members;
       tables = rw (is.0, next) (TablesStand-hooks w stored p points point m.next m.state s b f);
       fronts = rw (is.0, is.3, next) (FrontStands-hooks w stored p points point m.next m.state s b f m.members located captured hook left before read);
+      waiting = λ a. rw is.0 a;
     }
 
     -- Behind what the application observes of the finalized block, and the hook that it may leave, where what it has read was in the
