@@ -1,6 +1,5 @@
 -- The marks of builds keep their rules.
-use Rattle.std.proofs.Common.{◌≡◌, ◌≢◌, ◌⊎◌, ◌++◌, ◌==◌, if◌then◌else◌, inl, inr, ℕ, Bool, true, false, List, [], ◌∷◌, Option, Some, None, IfSome, MatchOption, Ok, refl, sym, ap, ◌∙◌, subst}
-use Rattle.std.proofs.lemmas.Bool.{eqb-false}
+use Rattle.std.proofs.Common.{◌≡◌, inl, inr, ℕ, [], ◌∷◌, Option, Some, None, Ok, refl, sym, ap, ◌∙◌, subst}
 use Rattle.stateful_types.specs.Names.{Named}
 use Rattle.stateful_types.specs.declared.digest.Digest.{Digest}
 use Rattle.stateful_types.specs.declared.outcome.Handoff.{Handoff}
@@ -8,13 +7,12 @@ use Rattle.stateful_types.specs.declared.outcome.Handoff.TheVariants as handed
 use Rattle.stateful_types.specs.declared.outcome.Moved.TheVariants.{Done}
 use Rattle.stateful_db.specs.declared.application.ProposalKind.{ProposalKind}
 use Rattle.stateful_db.specs.declared.application.ProposalKind.TheVariants as kinds
-use Rattle.stateful_db.specs.declared.application.ProposedBlock.{ProposedBlock}
 use Rattle.stateful_history.specs.Answers.{EndsLive, IsGiven, AnsweredIsBuilt}
 use Rattle.stateful_history.specs.Declines.{DeclinedHasReason}
 use Rattle.stateful_history.specs.Jobs.{IsLiveJob, job_of, started_for}
 use Rattle.stateful_history.specs.Known.{Known}
-use Rattle.stateful_history.specs.Past.{Past, Came, Made, EachMark, EachNext}
-use Rattle.stateful_history.specs.Requests.{Proposal as Asks, IsLiveProposal, proposed}
+use Rattle.stateful_history.specs.Past.{Past, Came, EachMark, EachNext}
+use Rattle.stateful_history.specs.Requests.{Proposal as Asks, IsLiveProposal}
 use Rattle.stateful_history.specs.Runs.{StartsWell, EndsAsItsKind, CancelledHasCause, BuildIsAnswered}
 use Rattle.stateful_history.specs.States.{HasState}
 use Rattle.stateful_history.specs.Telling.{telling_of}
@@ -23,7 +21,6 @@ use Rattle.stateful_history.specs.declared.mark.Decision.{Decision}
 use Rattle.stateful_history.specs.declared.mark.Decision.TheVariants as decision
 use Rattle.stateful_history.specs.declared.mark.How.TheVariants.{Cancelled, Nothing}
 use Rattle.stateful_history.specs.declared.mark.JobKind.TheVariants.{Build}
-use Rattle.stateful_history.specs.declared.mark.Mark.{Mark}
 use Rattle.stateful_history.specs.declared.mark.Mark.TheVariants.{Started, Ended, Built, Answered, Declined}
 use Rattle.stateful_exec.specs.Building.{StartsBuild}
 use Rattle.stateful_exec.specs.Built.{decided, HasTurn}
@@ -48,8 +45,7 @@ module _ {B C I P R D H G U : Type 0} (w : Workings B C I P R D H G U) (stored :
   pub started-StartsWell : (t : ℕ) (provider : P) (members : w.kind.Members) (now : w.Ids) (new : Tables B C I R U) (build : Option (Building B C D)) (starts : StartsBuild w t provider members next now v new build) → IsPlain v.pause → BuildStands w stored p points next v None
       → StartsWell (setting w stored) p (Started v.next_job Build starts.proposal.ancestry.first.digest)
   started-StartsWell t provider members now new build starts plain none =
-      let asked = All-at (λ (e : ℕ × _). IsLiveProposal e.0 p (record { kind = e.1.kind; context = e.1.context; parent = e.1.ancestry.first; input = e.1.input })) v.queued t starts.proposal starts.ready.queued s.queue.each in
-      (
+      let asked = All-at (λ (e : ℕ × _). IsLiveProposal e.0 p (record { kind = e.1.kind; context = e.1.context; parent = e.1.ancestry.first; input = e.1.input })) v.queued t starts.proposal starts.ready.queued s.queue.each in (
         (known_at_hand v.anchor (λ d. Known (setting w stored) p d) v.pause plain v.cache s.cache.knows starts.proposal.ancestry.first.digest).1 starts.ready.known,
         λ k e live. none.complete k e live,
         (t, record { kind = starts.proposal.kind; context = starts.proposal.context; parent = starts.proposal.ancestry.first; input = starts.proposal.input }, asked, refl),
@@ -94,29 +90,41 @@ module _ {B C I P R D H G U : Type 0} (w : Workings B C I P R D H G U) (stored :
     module _ (has_state : HasState (setting w stored) base (Came (Turn b.job) ∷ p) b.parent.digest (points b.parent.digest).1) where
       pub nothing-DeclinedHasReason : (count : D → ℕ) (m : w.kind.Members) → w.kind.point m ≡ Some point → (turned : D) → HasTurn w count m b.build turned (Ok (Done handed.Wait))
           → EachMark (DeclinedHasReason (setting w stored) (telling_of w.works) base (Turn b.job) (Ended b.job Nothing ∷ Declined b.ticket ∷ [])) (Came (Turn b.job) ∷ p) (Ended b.job Nothing ∷ Declined b.ticket ∷ [])
-      nothing-DeclinedHasReason count m located turned had = (tt, (rw building.proposal.proposes (inr (inr (inr (inr (record {
-        job = b.job;
-        before = q;
-        ended = refl;
-        started = building.job.is;
-        state = (points b.parent.digest).1;
-        has_state = has_state;
-        declines = had.ends _ _ point building.builds located (build-IsPoint w stored p points point next v s b h);
-      }))))), tt))
+      nothing-DeclinedHasReason count m located turned had = (
+        tt,
+        (
+          rw building.proposal.proposes (inr (inr (inr (inr (record {
+            job = b.job;
+            before = q;
+            ended = refl;
+            started = building.job.is;
+            state = (points b.parent.digest).1;
+            has_state = has_state;
+            declines = had.ends _ _ point building.builds located (build-IsPoint w stored p points point next v s b h);
+          }))))),
+          tt,
+        ),
+      )
 
       -- a block that was built answers the request as it was handed over
       pub built-AnsweredIsBuilt : (block : Named B) (given : Handoff B) (d : Decision) → IsHandedAs given d block.block → w.works.gives (record { kind = b.kind; context = b.context; parent = b.parent.block; input = building.input }) (points b.parent.digest).1 given
           → EachMark (AnsweredIsBuilt (setting w stored) (telling_of w.works) base) (Came (Turn b.job) ∷ p) (Built b.job b.ticket block ∷ Answered b.ticket (decided b.kind d) block ∷ [])
-      built-AnsweredIsBuilt block given d handed_as gives = (tt, (record {
-        job = b.job;
-        before = q;
-        built = refl;
-        request = asks;
-        asked = building.proposal.proposes;
-        state = (points b.parent.digest).1;
-        has_state = has_state;
-        given = by b.kind given d handed_as gives;
-      }, tt))
+      built-AnsweredIsBuilt block given d handed_as gives = (
+        tt,
+        (
+          record {
+            job = b.job;
+            before = q;
+            built = refl;
+            request = asks;
+            asked = building.proposal.proposes;
+            state = (points b.parent.digest).1;
+            has_state = has_state;
+            given = by b.kind given d handed_as gives;
+          },
+          tt,
+        ),
+      )
         where
           by : (kind : ProposalKind) (x : Handoff B) (e : Decision) → IsHandedAs x e block.block → w.works.gives (record { kind = kind; context = b.context; parent = b.parent.block; input = building.input }) (points b.parent.digest).1 x
               → IsGiven (setting w stored) (telling_of w.works) (record { kind = kind; context = b.context; parent = b.parent; input = building.input }) (points b.parent.digest).1 (decided kind e) block

@@ -79,6 +79,7 @@ pub mod BuildPasses
 pub mod FrontPasses
 pub mod BuildRules
 pub mod FrontRules
+pub mod Tells
 pub mod Arrivals
 pub mod EventsPass
 pub mod BuildMarks
