@@ -1,5 +1,5 @@
--- A finalization goes on once it has begun, and behind what says nothing of the tip.
-use Rattle.std.proofs.Common.{◌≡◌, ◌≢◌, inl, inr, ℕ, List, [], ◌∷◌, Contains, Option, MatchOption, map, sym, ap, ◌∙◌, subst, arith}
+-- A finalization goes on once it has begun, and for later pasts with the same tip.
+use Rattle.std.proofs.Common.{◌≡◌, ◌≢◌, inl, inr, ℕ, List, [], ◌∷◌, Contains, Option, MatchOption, map, sym, ap, ◌∙◌, subst, arith, refl}
 use Rattle.std.proofs.lemmas.List.Elements.{All-contains}
 use Rattle.stateful_types.specs.Names.{Named}
 use Rattle.stateful_types.specs.Round.{IsLater}
@@ -8,7 +8,9 @@ use Rattle.stateful_types.specs.declared.digest.Digest.{Digest}
 use Rattle.stateful_types.specs.declared.round.Round.{Round}
 use Rattle.stateful_history.specs.Anchors.{tip_of}
 use Rattle.stateful_history.specs.Finalizations.{IsChildOf}
+use Rattle.stateful_history.specs.Met.{Met}
 use Rattle.stateful_history.specs.Past.{Past, Item, Made, after}
+use Rattle.stateful_history.proofs.Marks.{Met-after}
 use Rattle.stateful_history.specs.declared.mark.Mark.{Mark}
 use Rattle.stateful_history.specs.declared.mark.Mark.TheVariants.{Withdrawn, Began}
 use Rattle.stateful_cache.specs.Cache.{IsIn}
@@ -36,30 +38,25 @@ module _ {B C I P R D H G U : Type 0} (w : Workings B C I P R D H G U) (stored :
       let height : anchor.height.0 ≡ w.header.height b.block = ap (λ (a : Anchor). a.height.0) over.named ∙ ap (λ (c : Named B). w.header.height c.block) (sym same) in
       omega (arith, height, child.0)
 
-  -- a finalization goes on behind an item that leaves the tip
-  pub Finalizes-longer : (x : Item B C I) (anchor : Anchor) (cache : List (Cached U)) (boundary : Boundary) → tip_of w.header (x ∷ p) ≡ tip_of w.header p → Finalizes w stored p anchor cache boundary → Finalizes w stored (x ∷ p) anchor cache boundary
-  Finalizes-longer x anchor cache boundary same f = record {
+  -- a finalization goes on for a past with the same tip and at least these blocks
+  pub Finalizes-later : (q : Past B C I) → tip_of w.header q ≡ tip_of w.header p → ((b : Named B) → Met (setting w stored) p b → Met (setting w stored) q b) → (anchor : Anchor) (cache : List (Cached U)) (boundary : Boundary) → Finalizes w stored p anchor cache boundary → Finalizes w stored q anchor cache boundary
+  Finalizes-later q same met anchor cache boundary f = record {
     tip = subst (λ o. MatchOption o ⊥ (λ (t : Anchor). (t.digest ≡ boundary.digest) × (t.round ≡ boundary.round))) (sym same) f.tip;
     other = f.other;
     own = f.own;
-    each = λ d has. elim (f.each d has) [ inl is ↦ inl is | inr over ↦ inr (record { block = over.block; met = inr over.met; is = over.is; retained = over.retained }) ];
+    each = λ d has. elim (f.each d has) [ inl is ↦ inl is | inr over ↦ inr (record { block = over.block; met = met over.block over.met; is = over.is; retained = over.retained }) ];
     closed = f.closed;
   }
 
   module _ (anchor : Anchor) (cache : List (Cached U)) (boundary : Boundary) where
-    withdrawn : (q : Past B C I) (fs : List ℕ) → Finalizes w stored q anchor cache boundary → Finalizes w stored (after q (map (λ f. Withdrawn f) fs)) anchor cache boundary
-    withdrawn q [] f = f
-    withdrawn q (x ∷ fs) f = withdrawn (Made (Withdrawn x) ∷ q) fs (record {
-      tip = f.tip;
-      other = f.other;
-      own = f.own;
-      each = λ d has. elim (f.each d has) [ inl is ↦ inl is | inr over ↦ inr (record { block = over.block; met = inr over.met; is = over.is; retained = over.retained }) ];
-      closed = f.closed;
-    })
+    withdrawn : (q : Past B C I) (fs : List ℕ) → tip_of w.header (after q (map (λ f. Withdrawn f) fs)) ≡ tip_of w.header q
+    withdrawn q [] = refl
+    withdrawn q (x ∷ fs) = withdrawn (Made (Withdrawn x) ∷ q) fs
 
     -- it goes on behind the marks of a pause
-    pub Finalizes-paused : (q : Past B C I) (marks : List (Mark B)) (old new : Tables B C I R U) (b : Option Boundary) → Pauses b old new marks → Finalizes w stored q anchor cache boundary → Finalizes w stored (after q marks) anchor cache boundary
-    Finalizes-paused q marks old new b pauses f = rw pauses.marks_are (withdrawn q pauses.fetches f)
+    pub Finalizes-paused : (marks : List (Mark B)) (old new : Tables B C I R U) (b : Option Boundary) → Pauses b old new marks → Finalizes w stored p anchor cache boundary → Finalizes w stored (after p marks) anchor cache boundary
+    Finalizes-paused marks old new b pauses f = rw pauses.marks_are
+        (Finalizes-later (after p (map (λ x. Withdrawn x) pauses.fetches)) (withdrawn p pauses.fetches) (Met-after (setting w stored) p (map (λ x. Withdrawn x) pauses.fetches)) anchor cache boundary f)
 
   module _ (points : Digest → Point w) (next : w.Ids) (anchor : Anchor) (cache : List (Cached U)) (old : CacheStands w stored p points next anchor Free cache)
       (ticket : ℕ) (b : Named B) (over : IsOverTip (setting w stored) p anchor b) (boundary : Boundary) (is : IsBoundaryOf w.header b cache boundary) where

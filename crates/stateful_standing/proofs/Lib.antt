@@ -83,3 +83,4 @@ pub mod Tells
 pub mod Arrivals
 pub mod EventsPass
 pub mod BuildMarks
+pub mod PausedSteps
