@@ -9,7 +9,7 @@ use Rattle.stateful_types.specs.declared.round.Round.{Round}
 use Rattle.stateful_history.specs.Anchors.{tip_of}
 use Rattle.stateful_history.specs.Finalizations.{IsChildOf}
 use Rattle.stateful_history.specs.Met.{Met}
-use Rattle.stateful_history.specs.Past.{Past, Item, Made, after}
+use Rattle.stateful_history.specs.Past.{Past, Made, after}
 use Rattle.stateful_history.proofs.Marks.{Met-after}
 use Rattle.stateful_history.specs.declared.mark.Mark.{Mark}
 use Rattle.stateful_history.specs.declared.mark.Mark.TheVariants.{Withdrawn, Began}

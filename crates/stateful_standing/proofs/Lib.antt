@@ -84,3 +84,4 @@ pub mod Arrivals
 pub mod EventsPass
 pub mod BuildMarks
 pub mod PausedSteps
+pub mod OpenedStands

@@ -19,7 +19,6 @@ use Rattle.stateful_exec.specs.Ending.{InTurn, none, next, released, TurnsRun, F
 use Rattle.stateful_exec.specs.Moments.{Moment}
 use Rattle.stateful_exec.specs.Phase.{released_on}
 use Rattle.stateful_exec.specs.Workings.{Workings, Point}
-use Rattle.stateful_exec.specs.declared.pause.Pause.{Pause}
 use Rattle.stateful_exec.specs.declared.state.Tables.{Tables}
 use Rattle.stateful_exec.specs.declared.tables.Released.{Released}
 use Rattle.stateful_standing.specs.Setting.{setting}
@@ -27,10 +26,10 @@ use Rattle.stateful_standing.specs.Standing.{TablesStand}
 use Rattle.stateful_standing.proofs.EarnedCarried.{IsMild, as_before}
 use Rattle.stateful_standing.proofs.EarnedLeft.{IsLeft, LeavesBehind, LeavesBehind-follows}
 use Rattle.stateful_standing.proofs.EndedKept.{IsRoundOf}
-use Rattle.stateful_standing.proofs.EndedRule.{GoesOn, plain_stays, IsReleasedFrom-over}
+use Rattle.stateful_standing.proofs.EndedRule.{plain_stays, IsReleasedFrom-over}
 use Rattle.stateful_standing.proofs.EndedTold.{IsPlain}
 use Rattle.stateful_standing.proofs.FinalizesBegins.{Finalizes-later}
-use Rattle.stateful_standing.proofs.MovedStands.{HasMoved, HasMovedSo, HasMoved-ended}
+use Rattle.stateful_standing.proofs.MovedStands.{HasMoved-ended}
 use Rattle.stateful_standing.proofs.StepsStand.{IsPaused, plain, goes, has_moved}
 
 -- the tip stays behind marks that begin and open nothing
