@@ -30,7 +30,7 @@ use Rattle.stateful_standing.proofs.AdvanceStands.{All-front}
 use Rattle.stateful_standing.proofs.Advanced.{Serves-advances}
 use Rattle.stateful_standing.proofs.AskStands.{TablesStand-asks}
 use Rattle.stateful_standing.proofs.Asking.{IsRequestOf-calm}
-use Rattle.stateful_standing.proofs.Putting.{put_other}
+use Rattle.stateful_standing.proofs.Putting.{All-put, put_other}
 use Rattle.stateful_standing.proofs.Served.{unbrought, Serves, Serves-concludes, Serves-put}
 
 -- the missing blocks and the end of a walk begin with the first block that was walked from
@@ -96,7 +96,13 @@ module _ {B C I P R D H G U : Type 0} (w : Workings B C I P R D H G U) (stored :
   -- a block is asked for, for it
   Serves-asks : (digest : Digest) (now : Moment w) → Becomes w m (record (moved m.state t r (Fetching m.state.next_fetch)) { next_fetch = m.state.next_fetch + 1 }) (Asked m.state.next_fetch (Some t) digest ∷ []) now → Serves w stored p points point m t now
   Serves-asks digest now is = rw is (record {
-    behind = record { more = _; marks_are = refl; members_are = refl; stands = TablesStand-asks w stored p points point m.next m.state t s r hand met digest };
+    behind = record {
+      more = _;
+      marks_are = refl;
+      members_are = refl;
+      stands = TablesStand-asks w stored p points point m.next m.state t s r hand met digest;
+      waiting = λ h. All-put (λ (e : ℕ × Requested B C I). e.1.phase ≡ Waiting → Abstains (setting w stored) e.0 p (first_of e.1.request)) m.state.requests t _ h (λ is. absurd (cc));
+    };
     met = λ b. unbrought (setting w stored) p (Made (Asked m.state.next_fetch (Some t) digest)) b (λ no. no);
     drawn = λ d. d;
     abstains = λ u b a. a;
@@ -115,7 +121,7 @@ module _ {B C I P R D H G U : Type 0} (w : Workings B C I P R D H G U) (stored :
   Serves-acquires now (invalid needs concludes) = Serves-concludes w stored p points point m s t r hand verdict.Invalid now concludes
   Serves-acquires now (asks digest needs left becomes) = Serves-asks digest now becomes
   Serves-acquires now (waits needs becomes) =
-      Serves-put w stored p points point m s t r hand Waiting now met (waits-IsVerification w stored p m.state.anchor m.state.cache held r.request r.acquired needs, abstains needs) becomes
+      Serves-put w stored p points point m s t r hand Waiting now met (waits-IsVerification w stored p m.state.anchor m.state.cache held r.request r.acquired needs) (λ is. abstains needs) becomes
   Serves-acquires now (runs {path = path} needs advances) =
       Serves-advances w stored p points point m s t (requested r.request) hand names other_states located drawn (All-nil (Met (setting w stored) p)) path now
       (IsWayOf-ready w stored p m.state.anchor m.state.cache held r.request r.acquired path hand.brought met needs) advances
