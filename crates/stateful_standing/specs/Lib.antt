@@ -4,3 +4,5 @@ pub mod Caching
 pub mod Running
 pub mod Requesting
 pub mod Standing
+pub mod Gathering
+pub mod Ways

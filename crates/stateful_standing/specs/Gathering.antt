@@ -1,0 +1,31 @@
+-- What was gathered for a request: its block with those of its ancestors that came with it or were fetched.
+use Rattle.std.specs.Prelude.{◌≡◌, ℕ, ◌++◌, List, [], ◌∷◌, Any, take}
+use Rattle.stateful_types.specs.Names.{Named}
+use Rattle.stateful_types.specs.declared.digest.Digest.{Digest}
+use Rattle.stateful_history.specs.Fetches.{WasAsked}
+use Rattle.stateful_history.specs.Past.{Past}
+use Rattle.stateful_history.specs.Setting.{Setting, parent_of}
+use Rattle.stateful_history.specs.Honest.{Descends}
+use Rattle.stateful_exec.specs.declared.request.Request.{Request}
+use Rattle.stateful_exec.specs.declared.request.Request.TheVariants.{Verify, Recover}
+
+-- the first block of what is asked, and its ancestors in the order in which they are walked
+abbrev pub gathered : {B C I : Type 0} → Request B C I → List (Named B) → List (Named B)
+gathered (Verify t ancestry) acquired = ancestry.first ∷ (take 1 ancestry.rest ++ acquired)
+gathered (Recover t context ancestry input kind) acquired = ancestry.first ∷ acquired
+
+-- each of these blocks is the parent of the one before it
+abbrev pub AreLinked : {B S T : Type 0} → Setting B S T → List (Named B) → Type 0
+AreLinked s [] = Unit {0}
+AreLinked s (b ∷ bs) = Descends s b bs
+
+-- these blocks without the last one
+abbrev pub but_last : {T : Type 0} → List T → List T
+but_last [] = []
+but_last (x ∷ []) = []
+but_last (x ∷ y ∷ xs) = x ∷ but_last (y ∷ xs)
+
+module _ {B C I S T : Type 0} (s : Setting B S T) (p : Past B C I) where
+  -- what was asked for the ticket, since something was applied or pruned, is the parent of one of these blocks
+  abbrev pub AsksParents : ℕ → List (Named B) → Type 0
+  AsksParents t blocks = (d : Digest) → WasAsked t d p → Any (λ b. d ≡ parent_of s b) blocks
