@@ -65,6 +65,8 @@ pub mod WaysKept
 pub mod WaysAcquired
 pub mod ReasonFollowed
 pub mod ReasonResumed
+pub mod OnPath
+pub mod RequestsWait
 pub mod ReasonFetched
 pub mod ReasonSettled
 pub mod ReasonTurned

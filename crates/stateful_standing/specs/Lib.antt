@@ -6,3 +6,4 @@ pub mod Requesting
 pub mod Standing
 pub mod Gathering
 pub mod Ways
+pub mod Outstanding
