@@ -71,3 +71,7 @@ pub mod ReasonFetched
 pub mod ReasonSettled
 pub mod ReasonTurned
 pub mod ReasonResumes
+pub mod PlaceMarks
+pub mod PlaceStarts
+pub mod Circular
+pub mod PlaceAsks
