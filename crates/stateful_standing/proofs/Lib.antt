@@ -75,3 +75,5 @@ pub mod PlaceMarks
 pub mod PlaceStarts
 pub mod Circular
 pub mod PlaceAsks
+pub mod PlaceCancelled
+pub mod RunsWanted
