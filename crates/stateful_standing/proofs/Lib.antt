@@ -77,3 +77,6 @@ pub mod Circular
 pub mod PlaceAsks
 pub mod PlaceCancelled
 pub mod RunsWanted
+pub mod PlacePaused
+pub mod ServedMarks
+pub mod SpentRuns

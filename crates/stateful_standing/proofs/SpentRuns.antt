@@ -1,0 +1,58 @@
+-- A run that ended in vain is started again only for another request: that is kept over the marks of requests.
+use Rattle.std.proofs.Common.{◌≡◌, ◌≢◌, ◌⊎◌, ◌++◌, inl, inr, ℕ, zero, suc, List, [], ◌∷◌, Any, Option, None, Some, MatchOption, refl, sym, ap, ◌∙◌, subst, arith}
+use Rattle.stateful_types.specs.Names.{Named}
+use Rattle.stateful_types.specs.declared.digest.Digest.{Digest}
+use Rattle.stateful_history.specs.Known.{IsUnknown}
+use Rattle.stateful_history.specs.Past.{Past, Item, Came, Made, after}
+use Rattle.stateful_history.specs.Requests.{subject, StandsOn}
+use Rattle.stateful_history.specs.Runs.{ended_by, EndsOn, IsSpent, MayRunAgain}
+use Rattle.stateful_history.specs.Setting.{Setting}
+use Rattle.stateful_history.specs.declared.mark.How.{How}
+use Rattle.stateful_history.specs.declared.mark.JobKind.TheVariants.{Candidate}
+use Rattle.stateful_history.specs.declared.mark.Mark.{Mark}
+use Rattle.stateful_history.specs.declared.mark.Mark.TheVariants.{Asked, Started, Ended, Verdict, Declined}
+use Rattle.stateful_standing.proofs.PlaceCancelled.{StandsOn-longer}
+use Rattle.stateful_standing.proofs.ServedMarks.{IsServedBy, AreServedBy}
+
+Any-more_first : {X : Type 0} (P Q : X → Type 0) (x : X) (xs : List X) → ((y : X) → P y → Q y) → Any P xs → Any Q (x ∷ xs)
+Any-more_first P Q x xs f any = (suc any.0, any.1, (let l = any.2 in omega arith), any.3, f any.1 any.4)
+
+ends_none : {B : Type 0} (t : ℕ) (mark : Mark B) → IsServedBy t mark → (j : ℕ) (how : How) → mark ≡ Ended j how → ⊥
+ends_none t (Verdict v good) is j how e = cc
+ends_none t (Declined v) is j how e = cc
+ends_none t (Asked f (Some v) d) is j how e = cc
+ends_none t (Started k Candidate d) is j how e = cc
+ends_none t mark is j how e = absurd is
+
+module _ {B C I S T : Type 0} (s : Setting B S T) where
+  module _ (p : Past B C I) (mark : Mark B) where
+    -- a request that ended on a block did so for the longer past too
+    ends_still : (d : Digest) (item : Item B C I) → EndsOn s p d item → EndsOn s (Made mark ∷ p) d item
+    ends_still d item h = go (ended_by item) h
+      where
+        go : (o : Option ℕ) → MatchOption o ⊥ (λ t. StandsOn s p t d) → MatchOption o ⊥ (λ t. StandsOn s (Made mark ∷ p) t d)
+        go None h = h
+        go (Some t) h = StandsOn-longer s p (Made mark) t d refl h
+
+    again_from : (d : Digest) → MayRunAgain s p d → (later : List (Item B C I)) (q : Past B C I) (j : ℕ) (how : How) → (mark ≡ Ended j how → ⊥) → Made mark ∷ p ≡ later ++ Made (Ended j how) ∷ q → IsSpent s d q j how → Any (EndsOn s (Made mark ∷ p) d) later
+    again_from d again [] q j how other is spent = absurd (other cc)
+    again_from d again (x ∷ later) q j how other is spent =
+        let rest : p ≡ later ++ Made (Ended j how) ∷ q = cc in
+        Any-more_first (EndsOn s p d) (EndsOn s (Made mark ∷ p) d) x later (λ item h. ends_still d item h) (again later q j how rest spent)
+
+    -- a mark that ends no run leaves it so
+    pub MayRunAgain-mark : (d : Digest) → ((j : ℕ) (how : How) → mark ≡ Ended j how → ⊥) → MayRunAgain s p d → MayRunAgain s (Made mark ∷ p) d
+    MayRunAgain-mark d other again later q j how is spent = again_from d again later q j how (other j how) is spent
+
+    -- and where a request ends by it that stands on the block, the block may be run again anyway
+    pub MayRunAgain-ended : (d : Digest) (t : ℕ) → ended_by {B = B} {C = C} {I = I} (Made mark) ≡ Some t → StandsOn s p t d → ((j : ℕ) (how : How) → mark ≡ Ended j how → ⊥) → MayRunAgain s (Made mark ∷ p) d
+    MayRunAgain-ended d t ends stands other [] q j how is spent = absurd (other j how cc)
+    MayRunAgain-ended d t ends stands other (x ∷ later) q j how is spent =
+        let first : x ≡ Made mark = cc in
+        let here : EndsOn s (Made mark ∷ p) d (Made mark) = subst (λ (o : Option ℕ). MatchOption o ⊥ (λ u. StandsOn s (Made mark ∷ p) u d)) (sym ends) (StandsOn-longer s p (Made mark) t d refl stands) in
+        (zero, x, omega arith, refl, subst (λ (y : Item B C I). EndsOn s (Made mark ∷ p) d y) (sym first) here)
+
+  -- so it is behind the marks of a request that is served
+  pub MayRunAgain-served : (p : Past B C I) (t : ℕ) (marks : List (Mark B)) → AreServedBy t p marks → (d : Digest) → MayRunAgain s p d → MayRunAgain s (after p marks) d
+  MayRunAgain-served p t [] are d again = again
+  MayRunAgain-served p t (mark ∷ marks) are d again = MayRunAgain-served (Made mark ∷ p) t marks are.1 d (MayRunAgain-mark p mark d (λ j how e. ends_none t mark are.0 j how e) again)
