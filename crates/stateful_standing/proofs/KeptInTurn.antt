@@ -67,13 +67,13 @@ module _ {B C I P R D H G U : Type 0} (w : Workings B C I P R D H G U) (stored :
         same : IsSamePast (setting w stored) p q
         same = IsCarried-served.same
 
-  module _ (Rule : Past B C I → Mark B → Type 0) {X : Type 0} (ticket : X → ℕ) (request : X → Request B C I) (Also : Past B C I → Pause → Anchor → List (Cached U) → X → Type 0) (Stays : Past B C I → Moment w → Type 0) where
+  module _ (Rule : Past B C I → Mark B → Type 0) {X : Type 0} (ticket : X → ℕ) (request : X → Request B C I) (Also : Past B C I → Pause → Anchor → List (Cached U) → X → Type 0) where
     -- what is asked of each, over the tables' pause, anchor and cache
     abbrev pub Fits : Past B C I → Moment w → X → Type 0
     Fits p m x = Also p m.state.pause m.state.anchor m.state.cache x
 
     -- the requests are in hand, each of a ticket of its own, what is asked of each holds, and what stays
-    pub record AreGrounded (xs : List X) (p : Past B C I) (m : Moment w) : Type 0 where
+    pub record AreGrounded (Stays : Past B C I → Moment w → Type 0) (xs : List X) (p : Past B C I) (m : Moment w) : Type 0 where
       pub grounded : IsGrounded p m
       pub stays : Stays p m
       pub hands : All (λ x. IsInHand w stored p (ticket x) (request x) m.state) xs
@@ -86,38 +86,43 @@ module _ {B C I P R D H G U : Type 0} (w : Workings B C I P R D H G U) (stored :
     module _ (Step : X → Moment w → Moment w → Type 0)
         (serves : (p : Past B C I) (m now : Moment w) (x : X) → IsReady w stored points point p m → IsInHand w stored p (ticket x) (request x) m.state → Fits p m x → Step x m now → Serves w stored p points point m (ticket x) now)
         (leaves : (m now : Moment w) (x : X) → Step x m now → LeavesBehind w m now)
-        (carry : (p q : Past B C I) (pause : Pause) (anchor : Anchor) (cache : List (Cached U)) (x : X) → IsCarried w stored p q → Also p pause anchor cache x → Also q pause anchor cache x)
-        (stay : (p : Past B C I) (m now : Moment w) (x : X) (more : List (Mark B)) → now.marks ≡ m.marks ++ more → IsGrounded p m → IsInHand w stored p (ticket x) (request x) m.state → Fits p m x → Step x m now → IsCarried w stored p (after p more) → Stays p m → Stays (after p more) now)
-        (keeps : (p : Past B C I) (m now : Moment w) (x : X) → IsGrounded p m → IsInHand w stored p (ticket x) (request x) m.state → Fits p m x → Step x m now → KeepsBehind w Rule p m now) where
-      one : (x : X) (xs : List X) (p : Past B C I) (m now : Moment w) → AreGrounded (x ∷ xs) p m → Step x m now → KeepsReady w Rule Step AreGrounded xs p m now
-      one x xs p m now r step = record {
-        more = v.behind.more;
-        marks_are = v.behind.marks_are;
-        each = EachMark-behind w Rule p m now v.behind.more v.behind.marks_are (keeps p m now x r.grounded hand fits step);
-        ready = record {
-          grounded = IsGrounded-served p m now (ticket x) v l r.grounded;
-          stays = stay p m now x v.behind.more v.behind.marks_are r.grounded hand fits step (IsCarried-served p m now (ticket x) v l) r.stays;
-          hands = λ k y within. v.others (ticket (get_or xs k y)) (request (get_or xs k y)) (λ same. r.apart 0 (suc k) y (omega arith) (omega (arith, within)) (sym same)) (All-tail (λ z. IsInHand w stored p (ticket z) (request z) m.state) x xs r.hands k y within);
-          apart = λ i j y lt within. r.apart (suc i) (suc j) y (omega (arith, lt)) (omega (arith, within));
-          also = λ k y within. moved (get_or xs k y) (All-tail (Fits p m) x xs r.also k y within);
-        };
-      }
-        where
-          hand : IsInHand w stored p (ticket x) (request x) m.state
-          hand = All-head (λ z. IsInHand w stored p (ticket z) (request z) m.state) x xs r.hands
+        (carry : (p q : Past B C I) (pause : Pause) (anchor : Anchor) (cache : List (Cached U)) (x : X) → IsCarried w stored p q → Also p pause anchor cache x → Also q pause anchor cache x) where
+      module _ (Stays Then : Past B C I → Moment w → Type 0)
+          (stay : (p : Past B C I) (m now : Moment w) (x : X) (more : List (Mark B)) → now.marks ≡ m.marks ++ more → IsGrounded p m → IsInHand w stored p (ticket x) (request x) m.state → Fits p m x → Step x m now → IsCarried w stored p (after p more) → Stays p m → Then (after p more) now)
+          (keeps : (p : Past B C I) (m now : Moment w) (x : X) → IsGrounded p m → IsInHand w stored p (ticket x) (request x) m.state → Fits p m x → Stays p m → Step x m now → KeepsBehind w Rule p m now) where
+        -- one of them is served: its marks keep the rule, and the others are ready behind it
+        pub AreGrounded-one : (x : X) (xs : List X) (p : Past B C I) (m now : Moment w) → AreGrounded Stays (x ∷ xs) p m → Step x m now → KeepsReady w Rule Step (AreGrounded Then) xs p m now
+        AreGrounded-one x xs p m now r step = record {
+          more = v.behind.more;
+          marks_are = v.behind.marks_are;
+          each = EachMark-behind w Rule p m now v.behind.more v.behind.marks_are (keeps p m now x r.grounded hand fits r.stays step);
+          ready = record {
+            grounded = IsGrounded-served p m now (ticket x) v l r.grounded;
+            stays = stay p m now x v.behind.more v.behind.marks_are r.grounded hand fits step (IsCarried-served p m now (ticket x) v l) r.stays;
+            hands = λ k y within. v.others (ticket (get_or xs k y)) (request (get_or xs k y)) (λ same. r.apart 0 (suc k) y (omega arith) (omega (arith, within)) (sym same)) (All-tail (λ z. IsInHand w stored p (ticket z) (request z) m.state) x xs r.hands k y within);
+            apart = λ i j y lt within. r.apart (suc i) (suc j) y (omega (arith, lt)) (omega (arith, within));
+            also = λ k y within. moved (get_or xs k y) (All-tail (Fits p m) x xs r.also k y within);
+          };
+        }
+          where
+            hand : IsInHand w stored p (ticket x) (request x) m.state
+            hand = All-head (λ z. IsInHand w stored p (ticket z) (request z) m.state) x xs r.hands
 
-          fits : Fits p m x
-          fits = All-head (Fits p m) x xs r.also
+            fits : Fits p m x
+            fits = All-head (Fits p m) x xs r.also
 
-          v : Serves w stored p points point m (ticket x) now
-          v = serves p m now x r.grounded.ready hand fits step
+            v : Serves w stored p points point m (ticket x) now
+            v = serves p m now x r.grounded.ready hand fits step
 
-          l : LeavesBehind w m now
-          l = leaves m now x step
+            l : LeavesBehind w m now
+            l = leaves m now x step
 
-          moved : (y : X) → Fits p m y → Fits (after p v.behind.more) now y
-          moved y h = fits_left (after p v.behind.more) m now l.left y (carry p (after p v.behind.more) m.state.pause m.state.anchor m.state.cache y (IsCarried-served p m now (ticket x) v l) h)
+            moved : (y : X) → Fits p m y → Fits (after p v.behind.more) now y
+            moved y h = fits_left (after p v.behind.more) m now l.left y (carry p (after p v.behind.more) m.state.pause m.state.anchor m.state.cache y (IsCarried-served p m now (ticket x) v l) h)
 
-      -- each mark that is made keeps the rule, and the ground is there behind them
-      pub AreGrounded-in_turn : (xs : List X) (p : Past B C I) (m last : Moment w) → AreGrounded xs p m → InTurn Step xs m last → KeepsReady w Rule Step AreGrounded [] p m last
-      AreGrounded-in_turn xs p m last r turns = KeepsReady-in_turn w Rule Step AreGrounded one xs p m last r turns
+      module _ (Stays : Past B C I → Moment w → Type 0)
+          (stay : (p : Past B C I) (m now : Moment w) (x : X) (more : List (Mark B)) → now.marks ≡ m.marks ++ more → IsGrounded p m → IsInHand w stored p (ticket x) (request x) m.state → Fits p m x → Step x m now → IsCarried w stored p (after p more) → Stays p m → Stays (after p more) now)
+          (keeps : (p : Past B C I) (m now : Moment w) (x : X) → IsGrounded p m → IsInHand w stored p (ticket x) (request x) m.state → Fits p m x → Stays p m → Step x m now → KeepsBehind w Rule p m now) where
+        -- each mark that is made keeps the rule, and the ground is there behind them
+        pub AreGrounded-in_turn : (xs : List X) (p : Past B C I) (m last : Moment w) → AreGrounded Stays xs p m → InTurn Step xs m last → KeepsReady w Rule Step (AreGrounded Stays) [] p m last
+        AreGrounded-in_turn xs p m last r turns = KeepsReady-in_turn w Rule Step (AreGrounded Stays) (AreGrounded-one Stays Stays stay keeps) xs p m last r turns

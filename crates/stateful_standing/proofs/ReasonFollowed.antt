@@ -79,9 +79,9 @@ module _ {B C I P R D H G U : Type 0} (w : Workings B C I P R D H G U) (stored :
     pub AreWaiting-follow : (b : Named B) (how : How) (rs : List (Released B C I)) (p : Past B C I) (m last : Moment w) → AreWaiting b how rs p m → InTurn (Follows w b how) rs m last
         → KeepsReady w (HasItsReason w stored base event marks) (Follows w b how) (AreWaiting b how) [] p m last
     AreWaiting-follow b how rs p m last ready turns =
-        AreGrounded-in_turn w stored base points point tip (HasItsReason w stored base event marks) ticket_of request_of (HasWaited b how) Waits (Follows w b how)
+        AreGrounded-in_turn w stored base points point tip (HasItsReason w stored base event marks) ticket_of request_of (HasWaited b how) (Follows w b how)
         (λ p m now r ready hand h rule. Serves-follows w stored points point other_states b how p m now r ready (record { hand = hand; way = h.way }) rule)
         (λ m now r rule. LeavesBehind-follows w b how r m now rule)
-        (λ p q pause anchor cache r c h. HasWaited-same b how p q pause anchor cache r c h)
+        (λ p q pause anchor cache r c h. HasWaited-same b how p q pause anchor cache r c h) Waits
         (λ p m now r more is g hand h rule c stays. WaysStand-follows w stored tip p (after p more) c.same m now stays b how r h.leads h.off h.unsettled rule)
-        (keeps b how) rs p m last ready turns
+        (λ p m now r g hand h stays rule. keeps b how p m now r g hand h rule) rs p m last ready turns

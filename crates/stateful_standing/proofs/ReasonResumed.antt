@@ -117,21 +117,21 @@ module _ {B C I P R D H G U : Type 0} (w : Workings B C I P R D H G U) (stored h
     -- each mark of the parked requests that go along their paths keeps the rule, and the ways stay open
     pub AreParked-along : (rs : List (Released B C I)) (p : Past B C I) (m last : Moment w) → AreParked rs p m → InTurn (GoesAlong w) rs m last → KeepsReady w Rule (GoesAlong w) AreParked [] p m last
     AreParked-along rs p m last ready turns =
-        AreGrounded-in_turn w stored base points point tip Rule ticket_of request_of HasParked Waits (GoesAlong w)
+        AreGrounded-in_turn w stored base points point tip Rule ticket_of request_of HasParked (GoesAlong w)
         (λ p m now r ready hand h rule. Serves-along w stored points point other_states p m now r ready (record { hand = hand; way = h.way }) rule)
         (λ m now r rule. LeavesBehind-advances w m now r.ticket (requested r.request) r.path rule)
-        HasParked-same
+        HasParked-same Waits
         (λ p m now r more is g hand h rule c stays. WaysStand-advances w stored tip p (after p more) c.same m now stays r.ticket (requested r.request) r.path h.off (λ some. h.unsettled) rule)
-        (λ p m now r g hand h rule. advances-free w stored base event marks p m h.free r.ticket (requested r.request) r.path now h.at_hand rule)
+        (λ p m now r g hand h stays rule. advances-free w stored base event marks p m h.free r.ticket (requested r.request) r.path now h.at_hand rule)
         rs p m last ready turns
 
     -- and each mark of those that acquire anew what they need
     pub AreUnacquired-anew : (es : List (ℕ × Requested B C I)) (p : Past B C I) (m last : Moment w) → AreUnacquired es p m → InTurn (AcquiresAnew w held) es m last → KeepsReady w Rule (AcquiresAnew w held) AreUnacquired [] p m last
     AreUnacquired-anew es p m last ready turns =
-        AreGrounded-in_turn w stored base points point tip Rule (λ e. e.0) (λ e. e.1.request) MayAcquire Waits (AcquiresAnew w held)
+        AreGrounded-in_turn w stored base points point tip Rule (λ e. e.0) (λ e. e.1.request) MayAcquire (AcquiresAnew w held)
         (λ p m now e ready hand h rule. Serves-acquires w stored p points point m ready.stands e.0 (requested e.1.request) hand ready.names other_states ready.located ready.drawn (All-nil (Met (setting w stored) p)) held h.may_wait now rule)
         (λ m now e rule. LeavesBehind-acquires w held m now e.0 (requested e.1.request) rule)
-        MayAcquire-same
+        MayAcquire-same Waits
         (λ p m now e more is g hand h rule c stays. WaysStand-acquires w stored base held tip p (after p more) c.same points point m now g.ground h.free stays e.0 (requested e.1.request) hand (All-nil (Met (setting w stored) p)) rule)
-        (λ p m now e g hand h rule. acquires-reason w stored base event marks p points point m.next tip m g.ground h.free held h.stored_is e.0 (requested e.1.request) now hand (All-nil (Met (setting w stored) p)) h.linked h.straight rule)
+        (λ p m now e g hand h stays rule. acquires-reason w stored base event marks p points point m.next tip m g.ground h.free held h.stored_is e.0 (requested e.1.request) now hand (All-nil (Met (setting w stored) p)) h.linked h.straight rule)
         es p m last ready turns
