@@ -39,16 +39,19 @@ module _ {B C I P R D H G U : Type 0} (w : Workings B C I P R D H G U) (Rule : P
       pub each : EachMark Rule p more
       pub ready : Ready xs (after p more) now
 
+    -- from one moment over another one to a third, with what is ready then
+    pub KeepsReady-then : (xs : List X) (p : Past B C I) (m mid now : Moment w) (more : List (Mark B)) → mid.marks ≡ m.marks ++ more → EachMark Rule p more → KeepsReady xs (after p more) mid now → KeepsReady xs p m now
+    KeepsReady-then xs p m mid now more is each rest = record {
+      more = more ++ rest.more;
+      marks_are = rest.marks_are ∙ ap (λ (ms : List (Mark B)). ms ++ rest.more) is ∙ append_assoc m.marks more rest.more;
+      each = EachMark-append Rule p more rest.more each rest.each;
+      ready = subst (λ (q : Past B C I). Ready xs q now) (sym (after-append p more rest.more)) rest.ready;
+    }
+
     module _ (keeps : (x : X) (xs : List X) (p : Past B C I) (m now : Moment w) → Ready (x ∷ xs) p m → Step x m now → KeepsReady xs p m now) where
       -- one step after another
       pub KeepsReady-in_turn : (xs : List X) (p : Past B C I) (m last : Moment w) → Ready xs p m → InTurn Step xs m last → KeepsReady [] p m last
       KeepsReady-in_turn [] p m _ ready none = record { more = []; marks_are = sym (append-nil m.marks); each = tt; ready = ready }
       KeepsReady-in_turn (x ∷ xs) p m last ready (next {n = n} rule rules) =
           let one : KeepsReady xs p m n = keeps x xs p m n ready rule in
-          let rest : KeepsReady [] (after p one.more) n last = KeepsReady-in_turn xs (after p one.more) n last one.ready rules in
-          record {
-            more = one.more ++ rest.more;
-            marks_are = rest.marks_are ∙ ap (λ (ms : List (Mark B)). ms ++ rest.more) one.marks_are ∙ append_assoc m.marks one.more rest.more;
-            each = EachMark-append Rule p one.more rest.more one.each rest.each;
-            ready = subst (λ (q : Past B C I). Ready [] q last) (sym (after-append p one.more rest.more)) rest.ready;
-          }
+          KeepsReady-then [] p m n last one.more one.marks_are one.each (KeepsReady-in_turn xs (after p one.more) n last one.ready rules)

@@ -80,3 +80,4 @@ pub mod RunsWanted
 pub mod PlacePaused
 pub mod ServedMarks
 pub mod SpentRuns
+pub mod PlaceFollowed

@@ -48,7 +48,7 @@ module _ {B C I P R D H G U : Type 0} (w : Workings B C I P R D H G U) (stored :
     pub unsettled : IsUnsettled w stored p tip r.request
     pub ended : HasEnded w stored base p anchor cache b how
 
-  HasWaited-same : (b : Named B) (how : How) (p q : Past B C I) (pause : Pause) (anchor : Anchor) (cache : List (Cached U)) (r : Released B C I) → IsCarried w stored p q → HasWaited b how p pause anchor cache r → HasWaited b how q pause anchor cache r
+  pub HasWaited-same : (b : Named B) (how : How) (p q : Past B C I) (pause : Pause) (anchor : Anchor) (cache : List (Cached U)) (r : Released B C I) → IsCarried w stored p q → HasWaited b how p pause anchor cache r → HasWaited b how q pause anchor cache r
   HasWaited-same b how p q pause anchor cache r c h = record {
     way = record {
       met = All-weaker (Met (setting w stored) p) (Met (setting w stored) q) (λ x met. (c.same.met x).1 met) (steps r.path) h.way.met;
