@@ -81,3 +81,4 @@ pub mod PlacePaused
 pub mod ServedMarks
 pub mod SpentRuns
 pub mod PlaceFollowed
+pub mod PlaceTurned

@@ -103,10 +103,10 @@ module _ {B C I P R D H G U : Type 0} (w : Workings B C I P R D H G U) (stored :
         subst (λ (phase : Phase B). IsOnOpenWay w stored q tip ends.pause m.state.anchor ends.cache e.1.request phase) is (open_now k d l))
 
     module _ (event : Event B C I) (marks : List (Mark B)) (other_states : (n i : w.Ids) (x y : w.States) (c : List (Point w)) → w.kind.issued n ((i, x) ∷ c) → w.kind.issued n ((i, y) ∷ c)) where
-      abbrev Now : Moment w
+      abbrev pub Now : Moment w
       Now = moment w left m.members m.next (m.marks ++ Ended j how ∷ [])
 
-      waiting : (rel : IsReleased w stored q point j b Now) → AreWaiting w stored base tip rel.points point event marks other_states b how (released_on j m.state.requests) q (record Now { state = released j left })
+      pub waiting : (rel : IsReleased w stored q point j b Now) → AreWaiting w stored base tip rel.points point event marks other_states b how (released_on j m.state.requests) q (record Now { state = released j left })
       waiting rel = record {
         grounded = record {
           ready = record { stands = rel.tables; names = names; located = located; drawn = drawn };

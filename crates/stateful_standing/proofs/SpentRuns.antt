@@ -1,12 +1,14 @@
 -- A run that ended in vain is started again only for another request: that is kept over the marks of requests.
-use Rattle.std.proofs.Common.{◌≡◌, ◌≢◌, ◌⊎◌, ◌++◌, inl, inr, ℕ, zero, suc, List, [], ◌∷◌, Any, Option, None, Some, MatchOption, refl, sym, ap, ◌∙◌, subst, arith}
+use Rattle.std.proofs.Common.{◌≡◌, ◌≢◌, ◌⊎◌, ◌++◌, inl, inr, ℕ, zero, suc, List, [], ◌∷◌, Any, Option, None, Some, option_map, MatchOption, refl, sym, ap, ◌∙◌, subst, arith}
 use Rattle.stateful_types.specs.Names.{Named}
 use Rattle.stateful_types.specs.declared.digest.Digest.{Digest}
-use Rattle.stateful_history.specs.Known.{IsUnknown}
+use Rattle.stateful_history.specs.Jobs.{JobOf, job_of, started_for}
+use Rattle.stateful_history.specs.Known.{Known, IsUnknown}
 use Rattle.stateful_history.specs.Past.{Past, Item, Came, Made, after}
 use Rattle.stateful_history.specs.Requests.{subject, StandsOn}
 use Rattle.stateful_history.specs.Runs.{ended_by, EndsOn, IsSpent, MayRunAgain}
 use Rattle.stateful_history.specs.Setting.{Setting}
+use Rattle.stateful_history.specs.declared.event.Event.TheVariants.{Turn}
 use Rattle.stateful_history.specs.declared.mark.How.{How}
 use Rattle.stateful_history.specs.declared.mark.JobKind.TheVariants.{Candidate}
 use Rattle.stateful_history.specs.declared.mark.Mark.{Mark}
@@ -25,20 +27,20 @@ ends_none t (Started k Candidate d) is j how e = cc
 ends_none t mark is j how e = absurd is
 
 module _ {B C I S T : Type 0} (s : Setting B S T) where
-  module _ (p : Past B C I) (mark : Mark B) where
-    -- a request that ended on a block did so for the longer past too
-    ends_still : (d : Digest) (item : Item B C I) → EndsOn s p d item → EndsOn s (Made mark ∷ p) d item
-    ends_still d item h = go (ended_by item) h
-      where
-        go : (o : Option ℕ) → MatchOption o ⊥ (λ t. StandsOn s p t d) → MatchOption o ⊥ (λ t. StandsOn s (Made mark ∷ p) t d)
-        go None h = h
-        go (Some t) h = StandsOn-longer s p (Made mark) t d refl h
+  -- a request that ended on a block did so for a longer past too
+  ends_still : (p : Past B C I) (x : Item B C I) → ((t : ℕ) → subject t (x ∷ p) ≡ subject t p) → (d : Digest) (item : Item B C I) → EndsOn s p d item → EndsOn s (x ∷ p) d item
+  ends_still p x same d item h = go (ended_by item) h
+    where
+      go : (o : Option ℕ) → MatchOption o ⊥ (λ t. StandsOn s p t d) → MatchOption o ⊥ (λ t. StandsOn s (x ∷ p) t d)
+      go None h = h
+      go (Some t) h = StandsOn-longer s p x t d (same t) h
 
+  module _ (p : Past B C I) (mark : Mark B) where
     again_from : (d : Digest) → MayRunAgain s p d → (later : List (Item B C I)) (q : Past B C I) (j : ℕ) (how : How) → (mark ≡ Ended j how → ⊥) → Made mark ∷ p ≡ later ++ Made (Ended j how) ∷ q → IsSpent s d q j how → Any (EndsOn s (Made mark ∷ p) d) later
     again_from d again [] q j how other is spent = absurd (other cc)
     again_from d again (x ∷ later) q j how other is spent =
         let rest : p ≡ later ++ Made (Ended j how) ∷ q = cc in
-        Any-more_first (EndsOn s p d) (EndsOn s (Made mark ∷ p) d) x later (λ item h. ends_still d item h) (again later q j how rest spent)
+        Any-more_first (EndsOn s p d) (EndsOn s (Made mark ∷ p) d) x later (λ item h. ends_still p (Made mark) (λ t. refl) d item h) (again later q j how rest spent)
 
     -- a mark that ends no run leaves it so
     pub MayRunAgain-mark : (d : Digest) → ((j : ℕ) (how : How) → mark ≡ Ended j how → ⊥) → MayRunAgain s p d → MayRunAgain s (Made mark ∷ p) d
@@ -56,3 +58,34 @@ module _ {B C I S T : Type 0} (s : Setting B S T) where
   pub MayRunAgain-served : (p : Past B C I) (t : ℕ) (marks : List (Mark B)) → AreServedBy t p marks → (d : Digest) → MayRunAgain s p d → MayRunAgain s (after p marks) d
   MayRunAgain-served p t [] are d again = again
   MayRunAgain-served p t (mark ∷ marks) are d again = MayRunAgain-served (Made mark ∷ p) t marks are.1 d (MayRunAgain-mark p mark d (λ j how e. ends_none t mark are.0 j how e) again)
+
+  -- behind the end of a run, as long as it isn't the run's block, or that is known
+  pub MayRunAgain-turned : (p : Past B C I) (j : ℕ) (how : How) (b : Digest) → started_for j p ≡ Some (job_of Candidate b) → ((d : Digest) → MayRunAgain s p d)
+      → (d : Digest) → (d ≢ b) ⊎ Known s (Made (Ended j how) ∷ Came (Turn j) ∷ p) b → MayRunAgain s (Made (Ended j how) ∷ Came (Turn j) ∷ p) d
+  MayRunAgain-turned p j how b started again d may [] q i other is spent = absurd (go may)
+    where
+      behind : Came (Turn j) ∷ p ≡ q
+      behind = cc
+
+      same_job : j ≡ i
+      same_job = cc
+
+      own : d ≡ b
+      own =
+          let run : started_for i q ≡ Some (job_of Candidate d) = spent.run in
+          let here : started_for j (Came (Turn j) ∷ p) ≡ Some (job_of Candidate d) = subst (λ (n : ℕ). started_for n (Came (Turn j) ∷ p) ≡ Some (job_of Candidate d)) (sym same_job) (subst (λ (x : Past B C I). started_for i x ≡ Some (job_of Candidate d)) (sym behind) run) in
+          let one : Some (job_of Candidate b) ≡ Some (job_of Candidate d) = sym started ∙ here in
+          let digests : Some b ≡ Some d = ap (λ (o : Option JobOf). option_map (λ (x : JobOf). x.digest) o) one in
+          cc
+
+      go : (d ≢ b) ⊎ Known s (Made (Ended j how) ∷ Came (Turn j) ∷ p) b → ⊥
+      go (inl ne) = ne own
+      go (inr known) =
+          let unknown : IsUnknown s (Made (Ended i other) ∷ q) d = spent.unknown in
+          let there : Made (Ended j how) ∷ Came (Turn j) ∷ p ≡ Made (Ended i other) ∷ q = is in
+          unknown (subst (λ (x : Past B C I). Known s x d) there (subst (λ (x : Digest). Known s (Made (Ended j how) ∷ Came (Turn j) ∷ p) x) (sym own) known))
+  MayRunAgain-turned p j how b started again d may (x ∷ []) q i other is spent = let no : Came (Turn j) ∷ p ≡ Made (Ended i other) ∷ q = cc in cc
+  MayRunAgain-turned p j how b started again d may (x ∷ y ∷ later) q i other is spent =
+      let rest : p ≡ later ++ Made (Ended i other) ∷ q = cc in
+      Any-more_first (EndsOn s (Came (Turn j) ∷ p) d) (EndsOn s (Made (Ended j how) ∷ Came (Turn j) ∷ p) d) x (y ∷ later) (λ item h. ends_still (Came (Turn j) ∷ p) (Made (Ended j how)) (λ t. refl) d item h)
+      (Any-more_first (EndsOn s p d) (EndsOn s (Came (Turn j) ∷ p) d) y later (λ item h. ends_still p (Came (Turn j)) (λ t. refl) d item h) (again d later q i other rest spent))
