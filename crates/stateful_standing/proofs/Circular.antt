@@ -13,7 +13,7 @@ use Rattle.stateful_standing.specs.Requesting.{LeadsDown}
 use Rattle.stateful_standing.proofs.Acquired.{leads_down}
 use Rattle.stateful_standing.proofs.OnPath.{Up-along}
 
-but_last-push : {T : Type 0} (xs : List T) (x : T) → but_last (xs ++ x ∷ []) ≡ xs
+pub but_last-push : {T : Type 0} (xs : List T) (x : T) → but_last (xs ++ x ∷ []) ≡ xs
 but_last-push [] x = refl
 but_last-push (y ∷ []) x = refl
 but_last-push (y ∷ z ∷ xs) x = ap (λ l. y ∷ l) (but_last-push (z ∷ xs) x)

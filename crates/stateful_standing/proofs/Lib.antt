@@ -82,3 +82,4 @@ pub mod ServedMarks
 pub mod SpentRuns
 pub mod PlaceFollowed
 pub mod PlaceTurned
+pub mod AsksKept

@@ -1,6 +1,6 @@
 -- The blocks that are asked for requests are needed, and the marks of one that acquires what it needs stand in their places.
 use Rattle.std.proofs.Common.{◌≡◌, ◌≢◌, ◌<◌, ◌↔◌, ◌++◌, inl, inr, ℕ, List, [], ◌∷◌, All, Any, Option, Some, MatchOption, refl, sym, ap, ◌∙◌, subst, take}
-use Rattle.std.proofs.lemmas.List.Elements.{All-head, All-tail}
+use Rattle.std.proofs.lemmas.List.Elements.{All-head, All-tail, Contains-push, Contains-append_left}
 use Rattle.stateful_types.specs.Names.{Named}
 use Rattle.stateful_types.specs.Anchor.{anchor_by}
 use Rattle.stateful_types.specs.declared.anchor.Anchor.{Anchor}
@@ -8,7 +8,7 @@ use Rattle.stateful_types.specs.declared.digest.Digest.{Digest}
 use Rattle.stateful_history.specs.Fetches.{AskedIsNeeded}
 use Rattle.stateful_history.specs.Known.{Known}
 use Rattle.stateful_history.specs.Met.{Met}
-use Rattle.stateful_history.specs.Past.{Past}
+use Rattle.stateful_history.specs.Past.{Past, Made}
 use Rattle.stateful_history.specs.Reasons.{Missing, itself}
 use Rattle.stateful_history.specs.Runs.{MayRunAgain}
 use Rattle.stateful_history.specs.Setting.{parent_of}
@@ -32,7 +32,7 @@ use Rattle.stateful_standing.specs.Outstanding.{TicketsApart}
 use Rattle.stateful_standing.specs.Requesting.{first_of, LeadsDown}
 use Rattle.stateful_standing.specs.Standing.{TablesStand, IsInHand}
 use Rattle.stateful_standing.proofs.Acquired.{IsWayOf-ready, leads_down, leads_from, first_walked}
-use Rattle.stateful_standing.proofs.Circular.{IsCircular-again}
+use Rattle.stateful_standing.proofs.Circular.{but_last-push, IsCircular-again}
 use Rattle.stateful_standing.proofs.EarnedPath.{IsFolded}
 use Rattle.stateful_standing.proofs.KeptMarks.{KeepsBehind}
 use Rattle.stateful_standing.proofs.OnPath.{subject-first}
@@ -127,3 +127,15 @@ module _ {B C I P R D H G U : Type 0} (w : Workings B C I P R D H G U) (stored :
         let here = ready-at_hand w.header m.state.anchor m.state.cache held r.request r.acquired path needs in
         advances-in_place w stored base p points point tip m s g apart t (requested r.request) hand.asked path
         (IsWayOf-ready w stored p m.state.anchor m.state.cache held r.request r.acquired path hand.brought met needs) ((Knows_free path.parent.digest).1 here, here) again now advances
+
+    Any-in_front : (P : Named B → Type 0) (front : List (Named B)) (last : Named B) → Any P front → Any P (front ++ last ∷ [])
+    Any-in_front P front last any = let c = Contains-append_left front (last ∷ []) any.1 (any.0, any.2, any.3) in (c.0, any.1, c.1, c.2, any.4)
+
+    -- What is asked for a request, now or before, is the parent of one of the blocks that were gathered for it.
+    pub asked_along : (f : ℕ) (d : Digest) → IsPrepared w.header m.state.anchor m.state.cache held r.request r.acquired (acquired.Ask d) → AsksParents (setting w stored) (Made (Asked f (Some t) d) ∷ p) t (gathered r.request r.acquired)
+    asked_along f d needs e was =
+        let h : AsksBehind (first_of r.request) (gathered r.request r.acquired) d = asks_behind r.request r.acquired d (gathered-met w stored p r.request r.acquired hand.brought met) needs in
+        subst (λ (l : List (Named B)). Any (λ x. e ≡ parent_of (setting w stored) x) l) (sym h.parts) (elim was [
+          | inl own ↦ (let c = Contains-push h.front h.last in (c.0, h.last, c.1, c.2, own.1 ∙ h.is))
+          | inr before ↦ Any-in_front (λ x. e ≡ parent_of (setting w stored) x) h.front h.last (subst (λ (l : List (Named B)). Any (λ x. e ≡ parent_of (setting w stored) x) l) (ap but_last h.parts ∙ but_last-push h.front h.last) (asked e before))
+        ])

@@ -1,13 +1,16 @@
 -- What was gathered for a request: its block with those of its ancestors that came with it or were fetched.
-use Rattle.std.specs.Prelude.{◌≡◌, ℕ, ◌++◌, List, [], ◌∷◌, Any, take}
+use Rattle.std.specs.Prelude.{◌≡◌, ℕ, ◌++◌, List, [], ◌∷◌, All, Any, IsSome, take}
 use Rattle.stateful_types.specs.Names.{Named}
 use Rattle.stateful_types.specs.declared.digest.Digest.{Digest}
 use Rattle.stateful_history.specs.Fetches.{WasAsked}
 use Rattle.stateful_history.specs.Past.{Past}
 use Rattle.stateful_history.specs.Setting.{Setting, parent_of}
 use Rattle.stateful_history.specs.Honest.{Descends}
+use Rattle.stateful_table.specs.Table.{at}
 use Rattle.stateful_exec.specs.declared.request.Request.{Request}
 use Rattle.stateful_exec.specs.declared.request.Request.TheVariants.{Verify, Recover}
+use Rattle.stateful_exec.specs.declared.tables.Phase.TheVariants.{Fetching}
+use Rattle.stateful_exec.specs.declared.tables.Requested.{Requested}
 
 -- the first block of what is asked, and its ancestors in the order in which they are walked
 abbrev pub gathered : {B C I : Type 0} → Request B C I → List (Named B) → List (Named B)
@@ -29,3 +32,15 @@ module _ {B C I S T : Type 0} (s : Setting B S T) (p : Past B C I) where
   -- what was asked for the ticket, since something was applied or pruned, is the parent of one of these blocks
   abbrev pub AsksParents : ℕ → List (Named B) → Type 0
   AsksParents t blocks = (d : Digest) → WasAsked t d p → Any (λ b. d ≡ parent_of s b) blocks
+
+  -- and so it is for each request that fetches, with what was gathered for it
+  abbrev pub AsksAlong : List (ℕ × Requested B C I) → Type 0
+  AsksAlong requests = All (λ e. (f : ℕ) → e.1.phase ≡ Fetching f → AsksParents e.0 (gathered e.1.request e.1.acquired)) requests
+
+  -- nothing was asked for any ticket since something was applied or pruned
+  abbrev pub AsksNothing : Type 0
+  AsksNothing = (t : ℕ) (d : Digest) → WasAsked t d p → ⊥
+
+  -- or it was for a request of the table
+  abbrev pub AsksForThese : List (ℕ × Requested B C I) → Type 0
+  AsksForThese requests = (t : ℕ) (d : Digest) → WasAsked t d p → IsSome (at requests t)
