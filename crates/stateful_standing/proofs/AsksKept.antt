@@ -1,5 +1,5 @@
 -- What was asked for requests stays the parents of what was gathered for them, behind a request that is served.
-use Rattle.std.proofs.Common.{◌≡◌, ◌≢◌, ◌==◌, ◌++◌, ℕ, Bool, true, false, List, [], ◌∷◌, All, Option, None, Some, IsSome, get_or, refl, sym, ap, ◌∙◌, subst, arith}
+use Rattle.std.proofs.Common.{◌≡◌, ◌≢◌, ◌==◌, ◌++◌, inl, inr, ℕ, Bool, true, false, List, [], ◌∷◌, All, Option, None, Some, IsSome, get_or, refl, sym, ap, ◌∙◌, subst, arith}
 use Rattle.std.proofs.lemmas.Bool.{eqb-true, eqb-false}
 use Rattle.std.proofs.lemmas.List.{append_cancel_left}
 use Rattle.stateful_types.specs.Names.{Named}
@@ -14,7 +14,7 @@ use Rattle.stateful_table.specs.Table.{at, put}
 use Rattle.stateful_exec.specs.Ending.{Follows, given_up, held, failed, parked, goes_on}
 use Rattle.stateful_exec.specs.Moments.{Moment}
 use Rattle.stateful_exec.specs.Path.{Path}
-use Rattle.stateful_exec.specs.Rules.{ended, requested, Needs, Concludes, Advances, arrives, leaves, joins, starts, misses, Acquires, valid, invalid, asks, waits, runs}
+use Rattle.stateful_exec.specs.Rules.{told, ended, requested, Needs, Concludes, Advances, arrives, leaves, joins, starts, misses, Acquires, valid, invalid, asks, waits, runs}
 use Rattle.stateful_exec.specs.Workings.{Workings}
 use Rattle.stateful_exec.specs.declared.request.Request.{Request}
 use Rattle.stateful_exec.specs.declared.request.Request.TheVariants.{Verify, Recover}
@@ -27,7 +27,7 @@ use Rattle.stateful_exec.specs.declared.tables.Released.{Released}
 use Rattle.stateful_exec.specs.declared.tables.Requested.{Requested}
 use Rattle.stateful_exec.specs.declared.walk.Acquired.TheVariants as acquired
 use Rattle.stateful_standing.specs.Setting.{setting}
-use Rattle.stateful_standing.specs.Gathering.{gathered, AsksParents, AsksAlong}
+use Rattle.stateful_standing.specs.Gathering.{gathered, AsksParents, AsksAlong, AsksForThese}
 use Rattle.stateful_standing.proofs.Putting.{All-put, put_here, put_other}
 use Rattle.stateful_standing.proofs.Removing.{none_at}
 use Rattle.stateful_standing.proofs.ServedMarks.{AreServedBy, WasAsked-before}
@@ -120,3 +120,36 @@ module _ {B C I P R D H G U : Type 0} (w : Workings B C I P R D H G U) (m now : 
   there-acquires stored_now r (asks d needs left becomes) u some = rw becomes (put_stays _ u some)
   there-acquires stored_now r (waits needs becomes) u some = rw becomes (put_stays _ u some)
   there-acquires stored_now r (runs {path = path} needs advances) u some = there-advances (requested r.request) path advances u some
+
+module _ {B C I P R D H G U : Type 0} (w : Workings B C I P R D H G U) (stored : ℕ → Option (Named B)) (p : Past B C I) (m now : Moment w) (t : ℕ) (more : List (Mark B)) (marks_are : now.marks ≡ m.marks ++ more) (h : AsksForThese (setting w stored) p m.state.requests) where
+  told_none : (u : ℕ) (d : Digest) (request : Request B C I) (x : said.Verdict) → WasAsked u d (after p (told t request x)) → WasAsked u d p
+  told_none u d (Verify k ancestry) verdict.Valid was = was
+  told_none u d (Verify k ancestry) verdict.Invalid was = was
+  told_none u d (Recover k context ancestry input kind) verdict.Valid was = was
+  told_none u d (Recover k context ancestry input kind) verdict.Invalid was = was
+
+  -- the marks that were made are these
+  made : (ms : List (Mark B)) → now.marks ≡ m.marks ++ ms → (u : ℕ) (d : Digest) → WasAsked u d (after p more) → WasAsked u d (after p ms)
+  made ms is u d was = subst (λ (l : List (Mark B)). WasAsked u d (after p l)) (append_cancel_left m.marks more ms (sym marks_are ∙ is)) was
+
+  concludes-these : (r : Requested B C I) (x : said.Verdict) → Concludes w m t r x now → AsksForThese (setting w stored) (after p more) now.state.requests
+  concludes-these r x is u d was = concludes-stays w m now t r x is u (h u d (told_none u d r.request x (made (told t r.request x) (ap (λ (n : Moment w). n.marks) is) u d was)))
+
+  -- what was asked for was so for a request of the table, behind one that goes along its path
+  pub AsksForThese-advances : (r : Requested B C I) (path : Path B) → Advances w m t r path now → AsksForThese (setting w stored) (after p more) now.state.requests
+  AsksForThese-advances r path (arrives all concludes) u d was = concludes-these r verdict.Valid concludes u d was
+  AsksForThese-advances r path (leaves reaches out concludes) u d was = concludes-these r verdict.Invalid concludes u d was
+  AsksForThese-advances r path (joins j reaches on unknown has becomes) u d was = there-advances w m now t r path (joins j reaches on unknown has becomes) u (h u d (made [] (ap (λ (n : Moment w). n.marks) becomes) u d was))
+  AsksForThese-advances r path (starts reaches on unknown unrun known launches) u d was = there-advances w m now t r path (starts reaches on unknown unrun known launches) u (h u d (made _ launches.marks u d was))
+  AsksForThese-advances r path (misses reaches on unknown unrun out concludes) u d was = concludes-these r verdict.Invalid concludes u d was
+
+  -- and behind one that acquires what it needs
+  pub AsksForThese-acquires : (stored_now : ℕ → Option (Named B)) (r : Requested B C I) → Acquires w stored_now m t r now → AsksForThese (setting w stored) (after p more) now.state.requests
+  AsksForThese-acquires stored_now r (valid needs concludes) u d was = concludes-these r verdict.Valid concludes u d was
+  AsksForThese-acquires stored_now r (invalid needs concludes) u d was = concludes-these r verdict.Invalid concludes u d was
+  AsksForThese-acquires stored_now r (asks x needs left becomes) u d was = elim (made (Asked m.state.next_fetch (Some t) x ∷ []) (ap (λ (n : Moment w). n.marks) becomes) u d was) [
+    | inl own ↦ rw (becomes, own.0, put_here m.state.requests t (record r { phase = Fetching m.state.next_fetch })) refl
+    | inr before ↦ there-acquires w m now t stored_now r (asks x needs left becomes) u (h u d before)
+  ]
+  AsksForThese-acquires stored_now r (waits needs becomes) u d was = there-acquires w m now t stored_now r (waits needs becomes) u (h u d (made [] (ap (λ (n : Moment w). n.marks) becomes) u d was))
+  AsksForThese-acquires stored_now r (runs {path = path} needs advances) u d was = AsksForThese-advances (requested r.request) path advances u d was

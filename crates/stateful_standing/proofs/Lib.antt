@@ -83,3 +83,4 @@ pub mod SpentRuns
 pub mod PlaceFollowed
 pub mod PlaceTurned
 pub mod AsksKept
+pub mod PlaceResumed

@@ -77,7 +77,7 @@ module _ {B C I P R D H G U : Type 0} (w : Workings B C I P R D H G U) (stored h
     back = record { ancestor = c.back.ancestor; up = up_same p q same c.back.up; is = c.back.is };
   }
 
-  HasParked-same : (p q : Past B C I) (pause : Pause) (anchor : Anchor) (cache : List (Cached U)) (r : Released B C I) → IsCarried w stored p q → HasParked p pause anchor cache r → HasParked q pause anchor cache r
+  pub HasParked-same : (p q : Past B C I) (pause : Pause) (anchor : Anchor) (cache : List (Cached U)) (r : Released B C I) → IsCarried w stored p q → HasParked p pause anchor cache r → HasParked q pause anchor cache r
   HasParked-same p q pause anchor cache r c h = record {
     way = record {
       met = All-weaker (Met (setting w stored) p) (Met (setting w stored) q) (λ x met. (c.same.met x).1 met) (steps r.path) h.way.met;
@@ -90,7 +90,7 @@ module _ {B C I P R D H G U : Type 0} (w : Workings B C I P R D H G U) (stored h
     unsettled = IsUnsettled-same w stored tip p q c.same r.request h.unsettled;
   }
 
-  MayAcquire-same : (p q : Past B C I) (pause : Pause) (anchor : Anchor) (cache : List (Cached U)) (e : ℕ × Requested B C I) → IsCarried w stored p q → MayAcquire p pause anchor cache e → MayAcquire q pause anchor cache e
+  pub MayAcquire-same : (p q : Past B C I) (pause : Pause) (anchor : Anchor) (cache : List (Cached U)) (e : ℕ × Requested B C I) → IsCarried w stored p q → MayAcquire p pause anchor cache e → MayAcquire q pause anchor cache e
   MayAcquire-same p q pause anchor cache e c h = record {
     free = h.free;
     linked = h.linked;

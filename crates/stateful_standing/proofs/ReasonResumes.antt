@@ -40,7 +40,7 @@ module _ {B C I P R D H G U : Type 0} (w : Workings B C I P R D H G U) (stored h
     Open_way e = IsOnOpenWay w stored p tip Free m.state.anchor m.state.cache e.1.request e.1.phase
 
     -- the parked requests are taken out, and in hand
-    parked : AreParked w stored held base tip points point event marks other_states (parked_in m.state.requests) p (unparked w m)
+    pub parked : AreParked w stored held base tip points point event marks other_states (parked_in m.state.requests) p (unparked w m)
     parked = record {
       grounded = record {
         ready = record { stands = TablesStand-kept (λ phase. is_none (parked_path phase)) (λ j way. refl) (λ f. refl) w stored p points point m.next (record m.state { pause = Free }) s; names = g.names; located = located; drawn = drawn };
