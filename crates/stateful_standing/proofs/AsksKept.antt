@@ -121,7 +121,7 @@ module _ {B C I P R D H G U : Type 0} (w : Workings B C I P R D H G U) (m now : 
   there-acquires stored_now r (waits needs becomes) u some = rw becomes (put_stays _ u some)
   there-acquires stored_now r (runs {path = path} needs advances) u some = there-advances (requested r.request) path advances u some
 
-module _ {B C I P R D H G U : Type 0} (w : Workings B C I P R D H G U) (stored : ℕ → Option (Named B)) (p : Past B C I) (m now : Moment w) (t : ℕ) (more : List (Mark B)) (marks_are : now.marks ≡ m.marks ++ more) (h : AsksForThese (setting w stored) p m.state.requests) where
+module _ {B C I P R D H G U : Type 0} (w : Workings B C I P R D H G U) (stored : ℕ → Option (Named B)) (p : Past B C I) (m now : Moment w) (t : ℕ) (more : List (Mark B)) (marks_are : now.marks ≡ m.marks ++ more) where
   told_none : (u : ℕ) (d : Digest) (request : Request B C I) (x : said.Verdict) → WasAsked u d (after p (told t request x)) → WasAsked u d p
   told_none u d (Verify k ancestry) verdict.Valid was = was
   told_none u d (Verify k ancestry) verdict.Invalid was = was
@@ -132,24 +132,24 @@ module _ {B C I P R D H G U : Type 0} (w : Workings B C I P R D H G U) (stored :
   made : (ms : List (Mark B)) → now.marks ≡ m.marks ++ ms → (u : ℕ) (d : Digest) → WasAsked u d (after p more) → WasAsked u d (after p ms)
   made ms is u d was = subst (λ (l : List (Mark B)). WasAsked u d (after p l)) (append_cancel_left m.marks more ms (sym marks_are ∙ is)) was
 
-  concludes-these : (r : Requested B C I) (x : said.Verdict) → Concludes w m t r x now → AsksForThese (setting w stored) (after p more) now.state.requests
-  concludes-these r x is u d was = concludes-stays w m now t r x is u (h u d (told_none u d r.request x (made (told t r.request x) (ap (λ (n : Moment w). n.marks) is) u d was)))
+  concludes-none : (r : Requested B C I) (x : said.Verdict) → Concludes w m t r x now → (u : ℕ) (d : Digest) → WasAsked u d (after p more) → WasAsked u d p
+  concludes-none r x is u d was = told_none u d r.request x (made (told t r.request x) (ap (λ (n : Moment w). n.marks) is) u d was)
 
-  -- what was asked for was so for a request of the table, behind one that goes along its path
-  pub AsksForThese-advances : (r : Requested B C I) (path : Path B) → Advances w m t r path now → AsksForThese (setting w stored) (after p more) now.state.requests
-  AsksForThese-advances r path (arrives all concludes) u d was = concludes-these r verdict.Valid concludes u d was
-  AsksForThese-advances r path (leaves reaches out concludes) u d was = concludes-these r verdict.Invalid concludes u d was
-  AsksForThese-advances r path (joins j reaches on unknown has becomes) u d was = there-advances w m now t r path (joins j reaches on unknown has becomes) u (h u d (made [] (ap (λ (n : Moment w). n.marks) becomes) u d was))
-  AsksForThese-advances r path (starts reaches on unknown unrun known launches) u d was = there-advances w m now t r path (starts reaches on unknown unrun known launches) u (h u d (made _ launches.marks u d was))
-  AsksForThese-advances r path (misses reaches on unknown unrun out concludes) u d was = concludes-these r verdict.Invalid concludes u d was
+  -- a request that goes along its path asks for nothing
+  pub advances-none : (r : Requested B C I) (path : Path B) → Advances w m t r path now → (u : ℕ) (d : Digest) → WasAsked u d (after p more) → WasAsked u d p
+  advances-none r path (arrives all concludes) u d was = concludes-none r verdict.Valid concludes u d was
+  advances-none r path (leaves reaches out concludes) u d was = concludes-none r verdict.Invalid concludes u d was
+  advances-none r path (joins j reaches on unknown has becomes) u d was = made [] (ap (λ (n : Moment w). n.marks) becomes) u d was
+  advances-none r path (starts reaches on unknown unrun known launches) u d was = made _ launches.marks u d was
+  advances-none r path (misses reaches on unknown unrun out concludes) u d was = concludes-none r verdict.Invalid concludes u d was
 
-  -- and behind one that acquires what it needs
-  pub AsksForThese-acquires : (stored_now : ℕ → Option (Named B)) (r : Requested B C I) → Acquires w stored_now m t r now → AsksForThese (setting w stored) (after p more) now.state.requests
-  AsksForThese-acquires stored_now r (valid needs concludes) u d was = concludes-these r verdict.Valid concludes u d was
-  AsksForThese-acquires stored_now r (invalid needs concludes) u d was = concludes-these r verdict.Invalid concludes u d was
-  AsksForThese-acquires stored_now r (asks x needs left becomes) u d was = elim (made (Asked m.state.next_fetch (Some t) x ∷ []) (ap (λ (n : Moment w). n.marks) becomes) u d was) [
+  -- What was asked for was so for requests of the table: that stays behind one that acquires what it needs.
+  pub AsksForThese-acquires : AsksForThese (setting w stored) p m.state.requests → (stored_now : ℕ → Option (Named B)) (r : Requested B C I) → Acquires w stored_now m t r now → AsksForThese (setting w stored) (after p more) now.state.requests
+  AsksForThese-acquires h stored_now r (valid needs concludes) u d was = concludes-stays w m now t r verdict.Valid concludes u (h u d (concludes-none r verdict.Valid concludes u d was))
+  AsksForThese-acquires h stored_now r (invalid needs concludes) u d was = concludes-stays w m now t r verdict.Invalid concludes u (h u d (concludes-none r verdict.Invalid concludes u d was))
+  AsksForThese-acquires h stored_now r (asks x needs left becomes) u d was = elim (made (Asked m.state.next_fetch (Some t) x ∷ []) (ap (λ (n : Moment w). n.marks) becomes) u d was) [
     | inl own ↦ rw (becomes, own.0, put_here m.state.requests t (record r { phase = Fetching m.state.next_fetch })) refl
     | inr before ↦ there-acquires w m now t stored_now r (asks x needs left becomes) u (h u d before)
   ]
-  AsksForThese-acquires stored_now r (waits needs becomes) u d was = there-acquires w m now t stored_now r (waits needs becomes) u (h u d (made [] (ap (λ (n : Moment w). n.marks) becomes) u d was))
-  AsksForThese-acquires stored_now r (runs {path = path} needs advances) u d was = AsksForThese-advances (requested r.request) path advances u d was
+  AsksForThese-acquires h stored_now r (waits needs becomes) u d was = there-acquires w m now t stored_now r (waits needs becomes) u (h u d (made [] (ap (λ (n : Moment w). n.marks) becomes) u d was))
+  AsksForThese-acquires h stored_now r (runs {path = path} needs advances) u d was = there-advances w m now t (requested r.request) path advances u (h u d (advances-none (requested r.request) path advances u d was))

@@ -84,3 +84,5 @@ pub mod PlaceFollowed
 pub mod PlaceTurned
 pub mod AsksKept
 pub mod PlaceResumed
+pub mod PlaceResumes
+pub mod PlaceFetched

@@ -18,10 +18,10 @@ use Rattle.stateful_exec.specs.Workings.{Workings, Point}
 use Rattle.stateful_exec.specs.declared.tables.Released.{Released}
 use Rattle.stateful_exec.specs.declared.tables.Requested.{Requested}
 use Rattle.stateful_standing.specs.Setting.{setting}
-use Rattle.stateful_standing.specs.Gathering.{gathered, but_last, AsksParents, AsksAlong, AsksForThese}
+use Rattle.stateful_standing.specs.Gathering.{gathered, but_last, AsksParents, AsksAlong, AsksNothing, AsksForThese}
 use Rattle.stateful_standing.specs.Standing.{IsInHand}
 use Rattle.stateful_standing.proofs.Acquired.{Serves-acquires}
-use Rattle.stateful_standing.proofs.AsksKept.{AsksAlong-advances, AsksAlong-acquires, AsksForThese-advances, AsksForThese-acquires}
+use Rattle.stateful_standing.proofs.AsksKept.{AsksAlong-advances, AsksAlong-acquires, advances-none, AsksForThese-acquires}
 use Rattle.stateful_standing.proofs.EarnedLeft.{LeavesBehind-advances, LeavesBehind-acquires}
 use Rattle.stateful_standing.proofs.FollowStands.{ticket_of, request_of, path_of}
 use Rattle.stateful_standing.proofs.KeptInTurn.{IsCarried, IsGrounded, AreGrounded, AreGrounded-in_turn}
@@ -36,8 +36,14 @@ use Rattle.stateful_standing.proofs.ResumeStands.{Serves-along}
 use Rattle.stateful_standing.proofs.ServedMarks.{IsServedBy, AreServedBy, advances-marks, acquires-marks}
 
 module _ {B C I P R D H G U : Type 0} (w : Workings B C I P R D H G U) (stored stored_now : ℕ → Option (Named B)) (base : w.States) (tip : Anchor) where
-  -- A ticket is that of one event, and no run is started again in vain; what was asked for, since something was applied or
-  -- pruned, was so for requests of the table, and is the parent of what was gathered for them.
+  -- A ticket is that of one event, and no run is started again in vain; and nothing was asked for, since something was applied or
+  -- pruned.
+  pub record IsOrderlyNew (p : Past B C I) (m : Moment w) : Type 0 where
+    pub orderly : IsOrderly w stored p
+    pub along : AsksAlong (setting w stored) p m.state.requests
+    pub nothing : AsksNothing (setting w stored) p
+
+  -- or what was asked for was so for requests of the table, and is the parent of what was gathered for them
   pub record IsOrderlyWith (p : Past B C I) (m : Moment w) : Type 0 where
     pub orderly : IsOrderly w stored p
     pub along : AsksAlong (setting w stored) p m.state.requests
@@ -49,16 +55,16 @@ module _ {B C I P R D H G U : Type 0} (w : Workings B C I P R D H G U) (stored s
     Rule = IsInPlace w stored base
 
     abbrev pub AreParkedOn : List (Released B C I) → Past B C I → Moment w → Type 0
-    AreParkedOn = AreGrounded w stored base points point tip Rule ticket_of request_of (HasParked w stored stored_now base tip) IsOrderlyWith
+    AreParkedOn = AreGrounded w stored base points point tip Rule ticket_of request_of (HasParked w stored stored_now base tip) IsOrderlyNew
 
     abbrev pub AreToAcquire : List (ℕ × Requested B C I) → Past B C I → Moment w → Type 0
     AreToAcquire = AreGrounded w stored base points point tip Rule (λ e. e.0) (λ e. e.1.request) (MayAcquire w stored stored_now base tip) IsOrderlyWith
 
-    stay_along : (p : Past B C I) (m now : Moment w) (r : Released B C I) (more : List (Mark B)) → now.marks ≡ m.marks ++ more → IsInHand w stored p r.ticket r.request m.state → GoesAlong w r m now → IsOrderlyWith p m → IsOrderlyWith (after p more) now
+    stay_along : (p : Past B C I) (m now : Moment w) (r : Released B C I) (more : List (Mark B)) → now.marks ≡ m.marks ++ more → IsInHand w stored p r.ticket r.request m.state → GoesAlong w r m now → IsOrderlyNew p m → IsOrderlyNew (after p more) now
     stay_along p m now r more is hand rule o = record {
       orderly = IsOrderly-served w stored p r.ticket more are o.orderly;
       along = AsksAlong-advances w stored p m now r.ticket hand.absent more are is o.along (requested r.request) r.path rule;
-      these = AsksForThese-advances w stored p m now r.ticket more is o.these (requested r.request) r.path rule;
+      nothing = λ u d was. o.nothing u d (advances-none w stored p m now r.ticket more is (requested r.request) r.path rule u d was);
     }
       where
         are : AreServedBy r.ticket p more
@@ -70,7 +76,7 @@ module _ {B C I P R D H G U : Type 0} (w : Workings B C I P R D H G U) (stored s
         AreGrounded-in_turn w stored base points point tip Rule ticket_of request_of (HasParked w stored stored_now base tip) (GoesAlong w)
         (λ p m now r ready hand h rule. Serves-along w stored points point other_states p m now r ready (record { hand = hand; way = h.way }) rule)
         (λ m now r rule. LeavesBehind-advances w m now r.ticket (requested r.request) r.path rule)
-        (HasParked-same w stored stored_now base tip) IsOrderlyWith
+        (HasParked-same w stored stored_now base tip) IsOrderlyNew
         (λ p m now r more is g hand h rule c o. stay_along p m now r more is hand rule o)
         (λ p m now r g hand h o rule.
         advances-in_place w stored base p points point tip m g.ready.stands g.ground o.orderly.apart r.ticket (requested r.request) hand.asked r.path h.way
