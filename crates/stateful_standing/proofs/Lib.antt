@@ -86,3 +86,4 @@ pub mod AsksKept
 pub mod PlaceResumed
 pub mod PlaceResumes
 pub mod PlaceFetched
+pub mod ReasonBuilt
