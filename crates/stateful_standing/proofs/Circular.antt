@@ -1,5 +1,5 @@
 -- A block that is asked for a second time is an ancestor of itself.
-use Rattle.std.proofs.Common.{◌≡◌, ◌++◌, ◌⊎◌, ◌<◌, inl, inr, ℕ, zero, suc, List, [], ◌∷◌, All, Any, length, get_or, refl, sym, ap, ◌∙◌, subst, arith}
+use Rattle.std.proofs.Common.{◌≡◌, ◌++◌, ◌⊎◌, ◌<◌, inl, inr, ℕ, zero, suc, List, [], ◌∷◌, All, Any, Some, length, get_or, refl, sym, ap, ◌∙◌, subst, arith}
 use Rattle.std.proofs.lemmas.List.Elements.{All-head, All-tail}
 use Rattle.stateful_types.specs.Names.{Named}
 use Rattle.stateful_types.specs.declared.digest.Digest.{Digest}
@@ -8,7 +8,7 @@ use Rattle.stateful_history.specs.Met.{Met}
 use Rattle.stateful_history.specs.Past.{Past}
 use Rattle.stateful_history.specs.Setting.{Setting, parent_of}
 use Rattle.stateful_exec.specs.Rules.{first_or}
-use Rattle.stateful_standing.specs.Gathering.{but_last}
+use Rattle.stateful_standing.specs.Gathering.{but_last, last_of}
 use Rattle.stateful_standing.specs.Requesting.{LeadsDown}
 use Rattle.stateful_standing.proofs.Acquired.{leads_down}
 use Rattle.stateful_standing.proofs.OnPath.{Up-along}
@@ -17,6 +17,11 @@ pub but_last-push : {T : Type 0} (xs : List T) (x : T) → but_last (xs ++ x ∷
 but_last-push [] x = refl
 but_last-push (y ∷ []) x = refl
 but_last-push (y ∷ z ∷ xs) x = ap (λ l. y ∷ l) (but_last-push (z ∷ xs) x)
+
+pub last_of-push : {T : Type 0} (xs : List T) (x : T) → last_of (xs ++ x ∷ []) ≡ Some x
+last_of-push [] x = refl
+last_of-push (y ∷ []) x = refl
+last_of-push (y ∷ z ∷ xs) x = last_of-push (z ∷ xs) x
 
 Any-head_or_tail : {X : Type 0} (P : X → Type 0) (x : X) (xs : List X) → Any P (x ∷ xs) → P x ⊎ Any P xs
 Any-head_or_tail P x xs (zero, y, l, at, h) = inl (subst P (sym at) h)

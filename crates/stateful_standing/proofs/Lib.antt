@@ -87,3 +87,4 @@ pub mod PlaceResumed
 pub mod PlaceResumes
 pub mod PlaceFetched
 pub mod ReasonBuilt
+pub mod Gathered

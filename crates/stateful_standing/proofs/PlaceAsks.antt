@@ -27,12 +27,12 @@ use Rattle.stateful_exec.specs.declared.request.Verdict.TheVariants as verdict
 use Rattle.stateful_exec.specs.declared.tables.Requested.{Requested}
 use Rattle.stateful_exec.specs.declared.walk.Acquired.TheVariants as acquired
 use Rattle.stateful_standing.specs.Setting.{setting}
-use Rattle.stateful_standing.specs.Gathering.{gathered, but_last, AsksParents}
+use Rattle.stateful_standing.specs.Gathering.{gathered, but_last, last_of, AsksParents}
 use Rattle.stateful_standing.specs.Outstanding.{TicketsApart}
 use Rattle.stateful_standing.specs.Requesting.{first_of, LeadsDown}
 use Rattle.stateful_standing.specs.Standing.{TablesStand, IsInHand}
 use Rattle.stateful_standing.proofs.Acquired.{IsWayOf-ready, leads_down, leads_from, first_walked}
-use Rattle.stateful_standing.proofs.Circular.{but_last-push, IsCircular-again}
+use Rattle.stateful_standing.proofs.Circular.{but_last-push, last_of-push, IsCircular-again}
 use Rattle.stateful_standing.proofs.EarnedPath.{IsFolded}
 use Rattle.stateful_standing.proofs.KeptMarks.{KeepsBehind}
 use Rattle.stateful_standing.proofs.OnPath.{subject-first}
@@ -139,3 +139,9 @@ module _ {B C I P R D H G U : Type 0} (w : Workings B C I P R D H G U) (stored :
           | inl own ↦ (let c = Contains-push h.front h.last in (c.0, h.last, c.1, c.2, own.1 ∙ h.is))
           | inr before ↦ Any-in_front (λ x. e ≡ parent_of (setting w stored) x) h.front h.last (subst (λ (l : List (Named B)). Any (λ x. e ≡ parent_of (setting w stored) x) l) (ap but_last h.parts ∙ but_last-push h.front h.last) (asked e before))
         ])
+
+    -- what is asked for is the parent of the last block
+    pub asked-last : (d : Digest) → IsPrepared w.header m.state.anchor m.state.cache held r.request r.acquired (acquired.Ask d) → MatchOption (last_of (gathered r.request r.acquired)) ⊥ (λ b. d ≡ parent_of (setting w stored) b)
+    asked-last d needs =
+        let h : AsksBehind (first_of r.request) (gathered r.request r.acquired) d = asks_behind r.request r.acquired d (gathered-met w stored p r.request r.acquired hand.brought met) needs in
+        subst (λ (o : Option (Named B)). MatchOption o ⊥ (λ b. d ≡ parent_of (setting w stored) b)) (sym (ap last_of h.parts ∙ last_of-push h.front h.last)) h.is

@@ -1,11 +1,12 @@
 -- What was gathered for a request: its block with those of its ancestors that came with it or were fetched.
-use Rattle.std.specs.Prelude.{◌≡◌, ℕ, ◌++◌, List, [], ◌∷◌, All, Any, IsSome, take}
+use Rattle.std.specs.Prelude.{◌≡◌, ℕ, ◌++◌, Option, None, Some, List, [], ◌∷◌, All, Any, IsSome, MatchOption, take}
 use Rattle.stateful_types.specs.Names.{Named}
 use Rattle.stateful_types.specs.declared.digest.Digest.{Digest}
+use Rattle.stateful_history.specs.Asked.{asked_digest}
 use Rattle.stateful_history.specs.Fetches.{WasAsked}
 use Rattle.stateful_history.specs.Past.{Past}
 use Rattle.stateful_history.specs.Setting.{Setting, parent_of}
-use Rattle.stateful_history.specs.Honest.{Descends}
+use Rattle.stateful_history.specs.Honest.{Descends, IsHonest, IsAnswered}
 use Rattle.stateful_table.specs.Table.{at}
 use Rattle.stateful_exec.specs.declared.request.Request.{Request}
 use Rattle.stateful_exec.specs.declared.request.Request.TheVariants.{Verify, Recover}
@@ -28,6 +29,12 @@ but_last [] = []
 but_last (x ∷ []) = []
 but_last (x ∷ y ∷ xs) = x ∷ but_last (y ∷ xs)
 
+-- the last of these
+abbrev pub last_of : {T : Type 0} → List T → Option T
+last_of [] = None
+last_of (x ∷ []) = Some x
+last_of (x ∷ y ∷ xs) = last_of (y ∷ xs)
+
 module _ {B C I S T : Type 0} (s : Setting B S T) (p : Past B C I) where
   -- what was asked for the ticket, since something was applied or pruned, is the parent of one of these blocks
   abbrev pub AsksParents : ℕ → List (Named B) → Type 0
@@ -44,3 +51,13 @@ module _ {B C I S T : Type 0} (s : Setting B S T) (p : Past B C I) where
   -- or it was for a request of the table
   abbrev pub AsksForThese : List (ℕ × Requested B C I) → Type 0
   AsksForThese requests = (t : ℕ) (d : Digest) → WasAsked t d p → IsSome (at requests t)
+
+  -- What was gathered for a request is linked, where ancestries are and fetches were answered with the asked blocks; and the
+  -- block that is fetched for it is the parent of the last one.
+  pub record IsGathered (r : Requested B C I) : Type 0 where
+    pub linked : IsHonest s p → IsAnswered p → AreLinked s (gathered r.request r.acquired)
+    pub fetched : (f : ℕ) → r.phase ≡ Fetching f → MatchOption (last_of (gathered r.request r.acquired)) ⊥ (λ b. asked_digest f p ≡ Some (parent_of s b))
+
+  -- so it is for each request
+  abbrev pub GatheringsStand : List (ℕ × Requested B C I) → Type 0
+  GatheringsStand requests = All (λ e. IsGathered e.1) requests
