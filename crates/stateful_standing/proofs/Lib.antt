@@ -88,3 +88,5 @@ pub mod PlaceResumes
 pub mod PlaceFetched
 pub mod ReasonBuilt
 pub mod Gathered
+pub mod WaysBegun
+pub mod WaysMoved
