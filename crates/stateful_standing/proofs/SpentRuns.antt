@@ -2,6 +2,7 @@
 use Rattle.std.proofs.Common.{◌≡◌, ◌≢◌, ◌⊎◌, ◌++◌, inl, inr, ℕ, zero, suc, List, [], ◌∷◌, Any, Option, None, Some, option_map, MatchOption, refl, sym, ap, ◌∙◌, subst, arith}
 use Rattle.stateful_types.specs.Names.{Named}
 use Rattle.stateful_types.specs.declared.digest.Digest.{Digest}
+use Rattle.stateful_history.specs.Ancestors.{IsOnPath}
 use Rattle.stateful_history.specs.Jobs.{JobOf, job_of, started_for}
 use Rattle.stateful_history.specs.Known.{Known, IsUnknown}
 use Rattle.stateful_history.specs.Past.{Past, Item, Came, Made, after}
@@ -27,24 +28,33 @@ ends_none t (Started k Candidate d) is j how e = cc
 ends_none t mark is j how e = absurd is
 
 module _ {B C I S T : Type 0} (s : Setting B S T) where
-  -- a request that ended on a block did so for a longer past too
-  ends_still : (p : Past B C I) (x : Item B C I) → ((t : ℕ) → subject t (x ∷ p) ≡ subject t p) → (d : Digest) (item : Item B C I) → EndsOn s p d item → EndsOn s (x ∷ p) d item
+  -- a request that ended on a block did so for a longer past too, where that leaves what requests ask for
+  ends_still : (p : Past B C I) (x : Item B C I) → ((t : ℕ) (b : Named B) → subject t p ≡ Some b → subject t (x ∷ p) ≡ Some b) → (d : Digest) (item : Item B C I) → EndsOn s p d item → EndsOn s (x ∷ p) d item
   ends_still p x same d item h = go (ended_by item) h
     where
+      still : (t : ℕ) (o : Option (Named B)) → subject t p ≡ o → MatchOption o ⊥ (λ b. IsOnPath s p b d) → StandsOn s p t d → StandsOn s (x ∷ p) t d
+      still t None is none on = absurd none
+      still t (Some b) is some on = StandsOn-longer s p x t d (same t b is ∙ sym is) on
+
       go : (o : Option ℕ) → MatchOption o ⊥ (λ t. StandsOn s p t d) → MatchOption o ⊥ (λ t. StandsOn s (x ∷ p) t d)
       go None h = h
-      go (Some t) h = StandsOn-longer s p x t d (same t) h
+      go (Some t) h = still t (subject t p) refl h h
+
+  module _ (p : Past B C I) (x : Item B C I) (same : (t : ℕ) (b : Named B) → subject t p ≡ Some b → subject t (x ∷ p) ≡ Some b) (other : (j : ℕ) (how : How) → x ≡ Made (Ended j how) → ⊥) where
+    again_from : (d : Digest) → MayRunAgain s p d → (later : List (Item B C I)) (q : Past B C I) (j : ℕ) (how : How) → x ∷ p ≡ later ++ Made (Ended j how) ∷ q → IsSpent s d q j how → Any (EndsOn s (x ∷ p) d) later
+    again_from d again [] q j how is spent = absurd (other j how cc)
+    again_from d again (y ∷ later) q j how is spent =
+        let rest : p ≡ later ++ Made (Ended j how) ∷ q = cc in
+        Any-more_first (EndsOn s p d) (EndsOn s (x ∷ p) d) y later (λ item h. ends_still p x same d item h) (again later q j how rest spent)
+
+    -- An item that ends no run leaves it so, where it leaves what requests ask for.
+    pub MayRunAgain-item : (d : Digest) → MayRunAgain s p d → MayRunAgain s (x ∷ p) d
+    MayRunAgain-item d again later q j how is spent = again_from d again later q j how is spent
 
   module _ (p : Past B C I) (mark : Mark B) where
-    again_from : (d : Digest) → MayRunAgain s p d → (later : List (Item B C I)) (q : Past B C I) (j : ℕ) (how : How) → (mark ≡ Ended j how → ⊥) → Made mark ∷ p ≡ later ++ Made (Ended j how) ∷ q → IsSpent s d q j how → Any (EndsOn s (Made mark ∷ p) d) later
-    again_from d again [] q j how other is spent = absurd (other cc)
-    again_from d again (x ∷ later) q j how other is spent =
-        let rest : p ≡ later ++ Made (Ended j how) ∷ q = cc in
-        Any-more_first (EndsOn s p d) (EndsOn s (Made mark ∷ p) d) x later (λ item h. ends_still p (Made mark) (λ t. refl) d item h) (again later q j how rest spent)
-
-    -- a mark that ends no run leaves it so
+    -- so does a mark that ends none
     pub MayRunAgain-mark : (d : Digest) → ((j : ℕ) (how : How) → mark ≡ Ended j how → ⊥) → MayRunAgain s p d → MayRunAgain s (Made mark ∷ p) d
-    MayRunAgain-mark d other again later q j how is spent = again_from d again later q j how (other j how) is spent
+    MayRunAgain-mark d other again = MayRunAgain-item p (Made mark) (λ t b is. is) (λ j how e. other j how cc) d again
 
     -- and where a request ends by it that stands on the block, the block may be run again anyway
     pub MayRunAgain-ended : (d : Digest) (t : ℕ) → ended_by {B = B} {C = C} {I = I} (Made mark) ≡ Some t → StandsOn s p t d → ((j : ℕ) (how : How) → mark ≡ Ended j how → ⊥) → MayRunAgain s (Made mark ∷ p) d
@@ -87,5 +97,5 @@ module _ {B C I S T : Type 0} (s : Setting B S T) where
   MayRunAgain-turned p j how b started again d may (x ∷ []) q i other is spent = let no : Came (Turn j) ∷ p ≡ Made (Ended i other) ∷ q = cc in cc
   MayRunAgain-turned p j how b started again d may (x ∷ y ∷ later) q i other is spent =
       let rest : p ≡ later ++ Made (Ended i other) ∷ q = cc in
-      Any-more_first (EndsOn s (Came (Turn j) ∷ p) d) (EndsOn s (Made (Ended j how) ∷ Came (Turn j) ∷ p) d) x (y ∷ later) (λ item h. ends_still (Came (Turn j) ∷ p) (Made (Ended j how)) (λ t. refl) d item h)
-      (Any-more_first (EndsOn s p d) (EndsOn s (Came (Turn j) ∷ p) d) y later (λ item h. ends_still p (Came (Turn j)) (λ t. refl) d item h) (again d later q i other rest spent))
+      Any-more_first (EndsOn s (Came (Turn j) ∷ p) d) (EndsOn s (Made (Ended j how) ∷ Came (Turn j) ∷ p) d) x (y ∷ later) (λ item h. ends_still (Came (Turn j) ∷ p) (Made (Ended j how)) (λ t x is. is) d item h)
+      (Any-more_first (EndsOn s p d) (EndsOn s (Came (Turn j) ∷ p) d) y later (λ item h. ends_still p (Came (Turn j)) (λ t x is. is) d item h) (again d later q i other rest spent))
