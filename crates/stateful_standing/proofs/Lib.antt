@@ -51,6 +51,7 @@ pub mod EarnedInTurn
 pub mod KeptMarks
 pub mod ReasonMissing
 pub mod ReasonGround
+pub mod ReasonKnown
 pub mod ReasonStuck
 pub mod ReasonMarks
 pub mod SamePast

@@ -40,7 +40,8 @@ use Rattle.stateful_standing.proofs.PlaceMarks.{IsInPlace, asked-next, concludes
 use Rattle.stateful_standing.proofs.PlaceStarts.{live-request, advances-in_place}
 use Rattle.stateful_standing.proofs.ReadyWalks.{ready-at_hand}
 use Rattle.stateful_standing.proofs.ReasonAcquired.{gathered-met}
-use Rattle.stateful_standing.proofs.ReasonGround.{IsGround, top_is, folded_free, knows_free}
+use Rattle.stateful_standing.proofs.ReasonGround.{IsGround, top_is}
+use Rattle.stateful_standing.proofs.ReasonKnown.{folded_free, knows_free}
 use Rattle.stateful_standing.proofs.ReasonMissing.{Missing-child}
 use Rattle.stateful_standing.proofs.ReasonWalked.{IsWalkedTo, IsWalkedTo-leads, unknown_out, unknown_above}
 

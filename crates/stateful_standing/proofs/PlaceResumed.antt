@@ -30,7 +30,7 @@ use Rattle.stateful_standing.proofs.PlaceAsks.{acquires-in_place, asked_along}
 use Rattle.stateful_standing.proofs.PlaceFollowed.{IsOrderly, IsOrderly-served}
 use Rattle.stateful_standing.proofs.PlaceMarks.{IsInPlace}
 use Rattle.stateful_standing.proofs.PlaceStarts.{advances-in_place}
-use Rattle.stateful_standing.proofs.ReasonGround.{knows_free}
+use Rattle.stateful_standing.proofs.ReasonKnown.{knows_free}
 use Rattle.stateful_standing.proofs.ReasonResumed.{HasParked, MayAcquire, HasParked-same, MayAcquire-same}
 use Rattle.stateful_standing.proofs.ResumeStands.{Serves-along}
 use Rattle.stateful_standing.proofs.ServedMarks.{IsServedBy, AreServedBy, advances-marks, acquires-marks}

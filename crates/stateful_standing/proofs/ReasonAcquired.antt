@@ -37,7 +37,8 @@ use Rattle.stateful_standing.proofs.ReadyWalks.{ready-at_hand}
 use Rattle.stateful_standing.proofs.EarnedJudged.{IsStoredNow}
 use Rattle.stateful_standing.proofs.EarnedPath.{IsFolded}
 use Rattle.stateful_standing.proofs.KeptMarks.{KeepsBehind}
-use Rattle.stateful_standing.proofs.ReasonGround.{IsGround, top_is, folded_free, knows_free}
+use Rattle.stateful_standing.proofs.ReasonGround.{IsGround, top_is}
+use Rattle.stateful_standing.proofs.ReasonKnown.{folded_free, knows_free}
 use Rattle.stateful_standing.proofs.ReasonMarks.{HasItsReason, MayEnd, concludes-ended, concludes-valid}
 use Rattle.stateful_standing.proofs.ReasonWalked.{HasReason-judged, HasWalked, HasWalked-invalid, IsOutOfReach-walked, HasReason-walked, unknown_above, unfinal_above, AreLinked-rest}
 

@@ -32,7 +32,8 @@ use Rattle.stateful_standing.proofs.AdvanceStands.{All-front, All-back, reached_
 use Rattle.stateful_standing.proofs.EarnedPaused.{IsClosedBy, passed-Known}
 use Rattle.stateful_standing.proofs.KeptMarks.{KeepsBehind}
 use Rattle.stateful_standing.proofs.ReasonMissing.{Missing-along, Missing-first}
-use Rattle.stateful_standing.proofs.ReasonGround.{IsFinal, IsGround, chain_of, HasState-on, round_of_top, tip_known, unretained_late, unretained_unknown, anchor_unknown, unknown_up}
+use Rattle.stateful_standing.proofs.ReasonGround.{IsFinal, IsGround, chain_of, HasState-on, round_of_top}
+use Rattle.stateful_standing.proofs.ReasonKnown.{tip_known, unretained_late, unretained_unknown, anchor_unknown, unknown_up}
 use Rattle.stateful_standing.proofs.ReasonStuck.{IsStuck}
 use Rattle.stateful_standing.proofs.ReasonMarks.{HasItsReason, MayEnd, MayEnd-stuck, concludes-ended, concludes-valid}
 

@@ -32,7 +32,8 @@ use Rattle.stateful_standing.proofs.EarnedFollows.{kept-Known}
 use Rattle.stateful_standing.proofs.EarnedInTurn.{All-last}
 use Rattle.stateful_standing.proofs.KeptMarks.{KeepsBehind}
 use Rattle.stateful_standing.proofs.ReasonMissing.{Missing-first}
-use Rattle.stateful_standing.proofs.ReasonGround.{IsGround, IsFinal, chain_of, HasState-on, round_of_top, later_than_tip, unretained_late, unretained_unknown}
+use Rattle.stateful_standing.proofs.ReasonGround.{IsGround, IsFinal, chain_of, HasState-on, round_of_top}
+use Rattle.stateful_standing.proofs.ReasonKnown.{later_than_tip, unretained_late, unretained_unknown}
 use Rattle.stateful_standing.proofs.ReasonStuck.{IsStuck, stuck_on}
 use Rattle.stateful_standing.proofs.ReasonMarks.{HasItsReason, MayEnd-stuck, concludes-ended}
 use Rattle.stateful_standing.proofs.ReasonAdvances.{missing_way, not_final, closed_by, first_off, advances-reason}

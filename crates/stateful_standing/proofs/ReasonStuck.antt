@@ -19,7 +19,8 @@ use Rattle.stateful_exec.specs.declared.pause.Pause.{Pause}
 use Rattle.stateful_standing.specs.Setting.{setting}
 use Rattle.stateful_standing.specs.Chains.{here, further, Chain}
 use Rattle.stateful_standing.proofs.ReasonMissing.{Missing-last, Missing-first}
-use Rattle.stateful_standing.proofs.ReasonGround.{IsGround, block_of, chain_of, parent_at, HasState-on, top_is, known_or_not, anchor_low, cached_late}
+use Rattle.stateful_standing.proofs.ReasonGround.{IsGround, block_of, chain_of, parent_at, HasState-on, top_is}
+use Rattle.stateful_standing.proofs.ReasonKnown.{known_or_not, anchor_low, cached_late}
 
 module _ {B C I P R D H G U : Type 0} (w : Workings B C I P R D H G U) (stored : ℕ → Option (Named B)) (base : w.States) (p : Past B C I) (anchor : Anchor) where
   -- the anchor is missing of the block, and is no higher than the tip

@@ -25,7 +25,8 @@ use Rattle.stateful_standing.specs.Requesting.{first_of, brought_by}
 use Rattle.stateful_standing.specs.Standing.{IsInHand}
 use Rattle.stateful_standing.specs.Ways.{KeepOff, IsUnsettled, WaysStand}
 use Rattle.stateful_standing.proofs.Acquired.{IsWayOf-ready}
-use Rattle.stateful_standing.proofs.ReasonGround.{IsGround, top_is, folded_free}
+use Rattle.stateful_standing.proofs.ReasonGround.{IsGround, top_is}
+use Rattle.stateful_standing.proofs.ReasonKnown.{folded_free}
 use Rattle.stateful_standing.proofs.ReasonWalked.{unfinal_above}
 use Rattle.stateful_standing.proofs.SamePast.{IsSamePast}
 use Rattle.stateful_standing.proofs.WaysKept.{WaysStand-concludes, put_ways, WaysStand-advances}
