@@ -1,5 +1,5 @@
 -- A block that is asked for a second time is an ancestor of itself.
-use Rattle.std.proofs.Common.{◌≡◌, ◌++◌, ◌⊎◌, ◌<◌, inl, inr, ℕ, zero, suc, List, [], ◌∷◌, All, Any, Some, length, get_or, refl, sym, ap, ◌∙◌, subst, arith}
+use Rattle.std.proofs.Common.{◌≡◌, ◌++◌, ◌⊎◌, inl, inr, zero, suc, List, [], ◌∷◌, All, Any, Some, refl, sym, ap, ◌∙◌, subst, arith}
 use Rattle.std.proofs.lemmas.List.Elements.{All-head, All-tail}
 use Rattle.stateful_types.specs.Names.{Named}
 use Rattle.stateful_types.specs.declared.digest.Digest.{Digest}
@@ -7,7 +7,6 @@ use Rattle.stateful_history.specs.Ancestors.{Up, itself, above, IsCircular}
 use Rattle.stateful_history.specs.Met.{Met}
 use Rattle.stateful_history.specs.Past.{Past}
 use Rattle.stateful_history.specs.Setting.{Setting, parent_of}
-use Rattle.stateful_exec.specs.Rules.{first_or}
 use Rattle.stateful_standing.specs.Gathering.{but_last, last_of}
 use Rattle.stateful_standing.specs.Requesting.{LeadsDown}
 use Rattle.stateful_standing.proofs.Acquired.{leads_down}

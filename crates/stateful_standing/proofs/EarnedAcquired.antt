@@ -7,7 +7,6 @@ use Rattle.stateful_history.specs.Met.{Met}
 use Rattle.stateful_history.specs.Past.{Past}
 use Rattle.stateful_cache.specs.Cache.{IsAtHand}
 use Rattle.stateful_exec.specs.Moments.{Moment}
-use Rattle.stateful_exec.specs.Path.{Path}
 use Rattle.stateful_exec.specs.Rules.{Needs, Concludes, Acquires, valid, invalid, asks, waits, runs, requested}
 use Rattle.stateful_exec.specs.Walk.{IsNeeded, child, IsVerified, IsPrepared}
 use Rattle.stateful_exec.specs.Walk as walk

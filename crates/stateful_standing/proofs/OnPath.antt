@@ -1,13 +1,12 @@
 -- The blocks of a way are the first one of its request and ancestors of it.
-use Rattle.std.proofs.Common.{◌≡◌, ◌≢◌, ◌++◌, ℕ, List, [], ◌∷◌, All, Option, None, Some, MatchOption, refl, sym, ap, ◌∙◌, subst}
+use Rattle.std.proofs.Common.{◌≡◌, ◌++◌, ℕ, List, [], ◌∷◌, All, Option, None, Some, MatchOption, refl, sym, ◌∙◌, subst}
 use Rattle.std.proofs.lemmas.List.Elements.{All-head, All-tail}
 use Rattle.stateful_types.specs.Names.{Named}
-use Rattle.stateful_types.specs.declared.digest.Digest.{Digest}
 use Rattle.stateful_history.specs.Ancestors.{Up, itself, above, IsOnPath}
 use Rattle.stateful_history.specs.Asked.{verified}
 use Rattle.stateful_history.specs.Met.{Met}
 use Rattle.stateful_history.specs.Past.{Past}
-use Rattle.stateful_history.specs.Requests.{Proposal, proposed, subject, StandsOn}
+use Rattle.stateful_history.specs.Requests.{subject, StandsOn}
 use Rattle.stateful_history.specs.Setting.{Setting, parent_of}
 use Rattle.stateful_exec.specs.Path.{Path}
 use Rattle.stateful_exec.specs.Rules.{first_or}

@@ -1,5 +1,5 @@
 -- The blocks that are asked for requests are needed, and the marks of one that acquires what it needs stand in their places.
-use Rattle.std.proofs.Common.{◌≡◌, ◌≢◌, ◌<◌, ◌↔◌, ◌++◌, inl, inr, ℕ, List, [], ◌∷◌, All, Any, Option, Some, MatchOption, refl, sym, ap, ◌∙◌, subst, take}
+use Rattle.std.proofs.Common.{◌≡◌, ◌↔◌, ◌++◌, inl, inr, ℕ, List, [], ◌∷◌, All, Any, Option, Some, MatchOption, refl, sym, ap, ◌∙◌, subst, take}
 use Rattle.std.proofs.lemmas.List.Elements.{All-head, All-tail, Contains-push, Contains-append_left}
 use Rattle.stateful_types.specs.Names.{Named}
 use Rattle.stateful_types.specs.Anchor.{anchor_by}
@@ -15,7 +15,6 @@ use Rattle.stateful_history.specs.Setting.{parent_of}
 use Rattle.stateful_history.specs.declared.mark.Mark.TheVariants.{Asked}
 use Rattle.stateful_cache.specs.Cache.{IsAtHand}
 use Rattle.stateful_exec.specs.Moments.{Moment}
-use Rattle.stateful_exec.specs.Path.{Path}
 use Rattle.stateful_exec.specs.Rules.{requested, Acquires, valid, invalid, asks, waits, runs}
 use Rattle.stateful_exec.specs.Walk.{Walks, IsPrepared}
 use Rattle.stateful_exec.specs.Walk as walk

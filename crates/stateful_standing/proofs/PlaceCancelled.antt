@@ -1,21 +1,18 @@
 -- The marks of a cancel have their cause, and so does the mark that a run ended.
-use Rattle.std.proofs.Common.{◌≡◌, inl, inr, ℕ, List, [], ◌∷◌, Bool, true, Option, None, Some, MatchOption, refl, sym, ap, ◌∙◌, subst}
+use Rattle.std.proofs.Common.{◌≡◌, inl, inr, ℕ, List, ◌∷◌, true, Option, None, Some, MatchOption, refl, sym, subst}
 use Rattle.stateful_types.specs.Names.{Named}
 use Rattle.stateful_types.specs.declared.digest.Digest.{Digest}
 use Rattle.stateful_history.specs.Ancestors.{Up, itself, above, IsOnPath}
 use Rattle.stateful_history.specs.Fetches.{WithdrawnHasCause}
 use Rattle.stateful_history.specs.Jobs.{JobOf, job_of, started_for}
-use Rattle.stateful_history.specs.Live.{live_job}
-use Rattle.stateful_history.specs.Met.{Met}
-use Rattle.stateful_history.specs.Past.{Past, Item, Came, Made, EachMark}
+use Rattle.stateful_history.specs.Past.{Past, Item, Came, EachMark}
 use Rattle.stateful_history.specs.Prunes.{PruneRule}
 use Rattle.stateful_history.specs.Requests.{subject, StandsOn}
 use Rattle.stateful_history.specs.Runs.{fits, EndsAsItsKind, CancelledHasCause, IsWorkFor}
 use Rattle.stateful_history.specs.Setting.{Setting}
-use Rattle.stateful_history.specs.declared.event.Event.{Event}
 use Rattle.stateful_history.specs.declared.event.Event.TheVariants.{Cancel, Turn}
 use Rattle.stateful_history.specs.declared.mark.How.{How}
-use Rattle.stateful_history.specs.declared.mark.How.TheVariants.{Kept, Rejected, Mismatched, Missed, Cancelled}
+use Rattle.stateful_history.specs.declared.mark.How.TheVariants.{Cancelled}
 use Rattle.stateful_history.specs.declared.mark.JobKind.TheVariants.{Candidate}
 use Rattle.stateful_history.specs.declared.mark.Mark.{Mark}
 use Rattle.stateful_history.specs.declared.mark.Mark.TheVariants.{Withdrawn, Ended}
@@ -25,7 +22,6 @@ use Rattle.stateful_exec.specs.Ending.{Takes, there, added, missed, IsTold, reje
 use Rattle.stateful_exec.specs.Fetching.{Cancels, idle, withdraws, leaves, ends, unqueued}
 use Rattle.stateful_exec.specs.Path.{Path}
 use Rattle.stateful_exec.specs.Workings.{Workings, Point}
-use Rattle.stateful_exec.specs.declared.request.Request.{Request}
 use Rattle.stateful_exec.specs.declared.state.Tables.{Tables}
 use Rattle.stateful_exec.specs.declared.tables.LiveRun.{LiveRun}
 use Rattle.stateful_exec.specs.declared.tables.Phase.{Phase}
@@ -33,7 +29,7 @@ use Rattle.stateful_exec.specs.declared.tables.Phase.TheVariants.{Fetching, Exec
 use Rattle.stateful_exec.specs.declared.tables.Requested.{Requested}
 use Rattle.stateful_standing.specs.Setting.{setting}
 use Rattle.stateful_standing.specs.Outstanding.{TicketsApart}
-use Rattle.stateful_standing.specs.Requesting.{IsRequestOf, IsWayOf, IsInPhase, IsStanding}
+use Rattle.stateful_standing.specs.Requesting.{IsInPhase, IsStanding}
 use Rattle.stateful_standing.specs.Running.{IsRunning}
 use Rattle.stateful_standing.specs.Standing.{TablesStand}
 use Rattle.stateful_standing.proofs.Cancelled.{own}
@@ -95,10 +91,11 @@ module _ {B C I P R D H G U : Type 0} (w : Workings B C I P R D H G U) (stored :
     ended-cause apart r j path is_there executing =
         let h : HasRunOf t j = HasRunOf-executing apart t j path r is_there executing in
         let live : IsRunning w stored p points next old.anchor old.cache j h.run = running w stored p points point next old s j h.run h.there in
-        let job : started_for j given ≡ Some (job_of Candidate h.run.block.digest) = live.job.is in
-        (tt,
-        (live.job.live, subst (λ (o : Option JobOf). MatchOption o ⊥ (λ k. fits k.kind Cancelled ≡ true)) (sym job) refl, inl refl),
-        inl (t, refl, subst (λ (o : Option JobOf). MatchOption o ⊥ (IsWorkFor (setting w stored) given t)) (sym job) (inl (refl, StandsOn-longer (setting w stored) p (Came (Cancel t)) t h.run.block.digest refl h.stands))))
+        let job : started_for j given ≡ Some (job_of Candidate h.run.block.digest) = live.job.is in (
+          tt,
+          (live.job.live, subst (λ (o : Option JobOf). MatchOption o ⊥ (λ k. fits k.kind Cancelled ≡ true)) (sym job) refl, inl refl),
+          inl (t, refl, subst (λ (o : Option JobOf). MatchOption o ⊥ (IsWorkFor (setting w stored) given t)) (sym job) (inl (refl, StandsOn-longer (setting w stored) p (Came (Cancel t)) t h.run.block.digest refl h.stands))),
+        )
 
     -- So do the marks of a cancel.
     pub cancels-cause : TicketsApart p → (new : Tables B C I R U) (marks : List (Mark B)) → Cancels old new t marks → EachMark HasCause given marks

@@ -1,5 +1,5 @@
 -- Marks stand in their places: those behind the answer of a fetch.
-use Rattle.std.proofs.Common.{◌≡◌, ◌++◌, inl, inr, ℕ, List, [], ◌∷◌, All, Any, Option, None, Some, refl, sym, ap, ◌∙◌, subst, take}
+use Rattle.std.proofs.Common.{◌≡◌, ◌++◌, inl, ℕ, List, [], ◌∷◌, Any, Option, None, Some, refl, sym, ap, ◌∙◌, subst, take}
 use Rattle.std.proofs.lemmas.List.{append_assoc}
 use Rattle.std.proofs.lemmas.List.Elements.{All-push}
 use Rattle.stateful_types.specs.Names.{Named}
@@ -8,12 +8,10 @@ use Rattle.stateful_types.specs.declared.digest.Digest.{Digest}
 use Rattle.stateful_history.specs.Fetches.{WasAsked}
 use Rattle.stateful_history.specs.Met.{Met, TrueNames}
 use Rattle.stateful_history.specs.Past.{Past, Came}
-use Rattle.stateful_history.specs.Runs.{MayRunAgain}
 use Rattle.stateful_history.specs.Setting.{parent_of}
 use Rattle.stateful_history.specs.declared.event.Event.TheVariants.{Fetched}
 use Rattle.stateful_exec.specs.Fetching.{Fetches, with_block, serving, IsFetched, found, waits, declines, dead}
 use Rattle.stateful_exec.specs.Moments.{Moment}
-use Rattle.stateful_exec.specs.Rules.{taken}
 use Rattle.stateful_exec.specs.Workings.{Workings, Point}
 use Rattle.stateful_exec.specs.declared.pause.Pause.TheVariants.{Free}
 use Rattle.stateful_exec.specs.declared.request.Request.{Request}
@@ -53,11 +51,11 @@ module _ {B C I P R D H G U : Type 0} (w : Workings B C I P R D H G U) (stored :
   pub fetched-in_place : IsOrderly w stored given → ((t : ℕ) (r : Requested B C I) → Fetches m.state f t r → AsksParents (setting w stored) p t (gathered r.request r.acquired)) → (now : Moment w) → IsFetched w stored_now m f answer now → KeepsBehind w (IsInPlace w stored base) given m now
   fetched-in_place orderly asked now (found t r b fetches is acquires) =
       let k : KeepsBehind w (IsInPlace w stored base) given (serving w m t) now =
-          acquires-in_place w stored base given points point tip (serving w m t) (IsGround-fetched w stored base p points point tip m s g free f answer [] names t r fetches) free stored_now
-          (TablesStand-fetched w stored p points point m.next m.state s f answer t r fetches) orderly.apart orderly.again t (with_block r b)
-          (IsInHand-fetched w stored p points point m.next m.state s f answer t r fetches)
-          (All-push (Met (setting w stored) given) r.acquired b (acquired-fetched w stored p points point m.next m.state s f answer t r fetches) (inl is))
-          (asked_before t r b (λ d was. asked_given d answer was) (asked t r fetches)) now acquires in
+      acquires-in_place w stored base given points point tip (serving w m t) (IsGround-fetched w stored base p points point tip m s g free f answer [] names t r fetches) free stored_now
+      (TablesStand-fetched w stored p points point m.next m.state s f answer t r fetches) orderly.apart orderly.again t (with_block r b)
+      (IsInHand-fetched w stored p points point m.next m.state s f answer t r fetches)
+      (All-push (Met (setting w stored) given) r.acquired b (acquired-fetched w stored p points point m.next m.state s f answer t r fetches) (inl is))
+      (asked_before t r b (λ d was. asked_given d answer was) (asked t r fetches)) now acquires in
       record { more = k.more; marks_are = k.marks_are; each = k.each }
     where
       asked_given : (d : Digest) (o : Option (Named B)) → WasAsked t d (Came (Fetched f o) ∷ p) → WasAsked t d p
@@ -66,6 +64,6 @@ module _ {B C I P R D H G U : Type 0} (w : Workings B C I P R D H G U) (stored :
   fetched-in_place orderly asked now (waits t r fetches is verification becomes) = rw becomes (record { more = []; marks_are = refl; each = tt })
   fetched-in_place orderly asked now (declines t r fetches is proposal concludes) =
       let k : KeepsBehind w (IsInPlace w stored base) given (serving w m t) now =
-          concludes-in_place w stored base given (serving w m t) t r verdict.Invalid now (IsInHand-fetched w stored p points point m.next m.state s f answer t r fetches).asked concludes in
+      concludes-in_place w stored base given (serving w m t) t r verdict.Invalid now (IsInHand-fetched w stored p points point m.next m.state s f answer t r fetches).asked concludes in
       record { more = k.more; marks_are = k.marks_are; each = k.each }
   fetched-in_place orderly asked now (dead none is) = KeepsBehind-same w (IsInPlace w stored base) given m now (ap (λ (n : Moment w). n.marks) is)

@@ -1,6 +1,6 @@
 -- Marks stand in their places: those of all requests that waited for a run that has ended.
-use Rattle.std.proofs.Common.{◌≡◌, ◌≢◌, ◌⊎◌, ◌++◌, inl, inr, ℕ, List, [], ◌∷◌, All, Option, Some, refl, sym, ap, ◌∙◌, subst}
-use Rattle.std.proofs.lemmas.List.{append-nil, append_cancel_left}
+use Rattle.std.proofs.Common.{◌≡◌, ◌≢◌, ◌⊎◌, ◌++◌, inl, inr, ℕ, List, [], ◌∷◌, Option, refl, sym, ap, ◌∙◌, subst}
+use Rattle.std.proofs.lemmas.List.{append_cancel_left}
 use Rattle.stateful_types.specs.Names.{Named}
 use Rattle.stateful_types.specs.declared.anchor.Anchor.{Anchor}
 use Rattle.stateful_types.specs.declared.digest.Digest.{Digest}
@@ -12,7 +12,6 @@ use Rattle.stateful_history.specs.Runs.{MayRunAgain}
 use Rattle.stateful_history.specs.declared.mark.How.{How}
 use Rattle.stateful_history.specs.declared.mark.Mark.{Mark}
 use Rattle.stateful_cache.specs.Cache.{IsIn, IsAtHand}
-use Rattle.stateful_cache.specs.declared.cache.Cached.{Cached}
 use Rattle.stateful_exec.specs.Ending.{InTurn, next, IsGivenUp, IsHeld, Follows, given_up, held, failed, parked, goes_on}
 use Rattle.stateful_exec.specs.Moments.{Moment}
 use Rattle.stateful_exec.specs.Rules.{told, requested, Concludes}
@@ -30,9 +29,9 @@ use Rattle.stateful_standing.proofs.EarnedFollows.{kept-Known}
 use Rattle.stateful_standing.proofs.EarnedInTurn.{All-last}
 use Rattle.stateful_standing.proofs.EarnedLeft.{LeavesBehind-follows}
 use Rattle.stateful_standing.proofs.EndedPoints.{same_or_not}
-use Rattle.stateful_standing.proofs.FollowStands.{ticket_of, request_of, path_of, Serves-follows}
+use Rattle.stateful_standing.proofs.FollowStands.{ticket_of, request_of, Serves-follows}
 use Rattle.stateful_standing.proofs.InTurn.{IsReady}
-use Rattle.stateful_standing.proofs.KeptInTurn.{IsCarried, IsGrounded, AreGrounded, AreGrounded-one, AreGrounded-in_turn}
+use Rattle.stateful_standing.proofs.KeptInTurn.{IsGrounded, AreGrounded, AreGrounded-one, AreGrounded-in_turn}
 use Rattle.stateful_standing.proofs.KeptMarks.{KeepsBehind, EachMark-behind, KeepsReady, KeepsReady-then}
 use Rattle.stateful_standing.proofs.OnPath.{StandsOn-way}
 use Rattle.stateful_standing.proofs.PlaceMarks.{IsInPlace, concludes-in_place}

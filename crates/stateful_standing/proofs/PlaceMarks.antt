@@ -1,5 +1,5 @@
 -- The rules on the marks that requests make, but for why: which tickets they name, new numbers, what is asked and what is started.
-use Rattle.std.proofs.Common.{◌≡◌, ◌≢◌, ◌<◌, ℕ, List, [], ◌∷◌, Option, None, Some, refl, sym, ap, ◌∙◌, subst, option_map, arith}
+use Rattle.std.proofs.Common.{◌≡◌, ℕ, Option, None, Some, refl, sym, ◌∙◌, arith}
 use Rattle.stateful_history.specs.Answers.{EndsLive}
 use Rattle.stateful_history.specs.Asked.{started, asked_for}
 use Rattle.stateful_history.specs.Fetches.{AskedIsNeeded}

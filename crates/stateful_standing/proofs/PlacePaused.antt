@@ -1,5 +1,5 @@
 -- The marks of a pause have their cause: each names a live fetch.
-use Rattle.std.proofs.Common.{◌≡◌, ◌≢◌, ◌⊎◌, ◌==◌, ◌&&◌, not, inl, inr, ℕ, Bool, true, List, [], ◌∷◌, All, Any, Contains, Option, None, Some, map, refl, sym, subst}
+use Rattle.std.proofs.Common.{◌≡◌, ◌≢◌, ◌⊎◌, inl, inr, ℕ, true, List, [], ◌∷◌, All, Any, Contains, Option, None, Some, map, sym, subst}
 use Rattle.std.specs.List.{AllByRecursion}
 use Rattle.std.specs.List.Sorted.{IsStrictlySortedBy}
 use Rattle.std.specs.Ordering.{nat_cmp}
@@ -8,7 +8,6 @@ use Rattle.std.proofs.lemmas.List.Elements.{All-nil, All-cons, All-head, All-tai
 use Rattle.std.proofs.lemmas.Map.Keys.{sorted_head, sorted_tail}
 use Rattle.stateful_types.specs.Names.{Named}
 use Rattle.stateful_types.specs.declared.digest.Digest.{Digest}
-use Rattle.stateful_history.specs.Asked.{asked_for}
 use Rattle.stateful_history.specs.Fetches.{IsBegan, MayWithdraw, WithdrawnHasCause}
 use Rattle.stateful_history.specs.Live.{live_fetch}
 use Rattle.stateful_history.specs.Past.{Past, Made, EachMark}
@@ -57,9 +56,10 @@ module _ {B C I S T : Type 0} (s : Setting B S T) (rule : Option (PruneRule T)) 
 
   withdrawn_each : (fs : List ℕ) (p : Past B C I) → IsStrictlySortedBy nat_cmp fs → All (λ f. live_fetch f p ≡ true) fs → Pauses_for p → EachMark (WithdrawnHasCause s rule event all) p (map (λ f. Withdrawn f) fs)
   withdrawn_each [] p sorted live cause = tt
-  withdrawn_each (f ∷ fs) p sorted live cause =
-      ((All-head (λ x. live_fetch x p ≡ true) f fs live, may_withdraw p f cause),
-      withdrawn_each fs (Made (Withdrawn f) ∷ p) (sorted_tail nat_cmp f fs sorted) (live_still f p fs (sorted_head nat_cmp f fs sorted) (All-tail (λ x. live_fetch x p ≡ true) f fs live)) (still_for f p cause))
+  withdrawn_each (f ∷ fs) p sorted live cause = (
+    (All-head (λ x. live_fetch x p ≡ true) f fs live, may_withdraw p f cause),
+    withdrawn_each fs (Made (Withdrawn f) ∷ p) (sorted_tail nat_cmp f fs sorted) (live_still f p fs (sorted_head nat_cmp f fs sorted) (All-tail (λ x. live_fetch x p ≡ true) f fs live)) (still_for f p cause),
+  )
 
 module _ {B C I P R D H G U : Type 0} (w : Workings B C I P R D H G U) (stored : ℕ → Option (Named B)) (p : Past B C I) (points : Digest → Point w) (point : Point w) (next : w.Ids) (old : Tables B C I R U) (s : TablesStand w stored p points point next old) where
   live-fetched : (f : ℕ) → IsLiveFetch old f → live_fetch f p ≡ true

@@ -1,19 +1,17 @@
 -- Marks stand in their places: those of all requests that go on behind a pause.
-use Rattle.std.proofs.Common.{◌≡◌, ◌≢◌, ◌++◌, ℕ, List, [], ◌∷◌, All, Option, None, Some, IsSome, refl, sym, ap, ◌∙◌, subst}
+use Rattle.std.proofs.Common.{◌≡◌, ◌++◌, ℕ, List, [], ◌∷◌, Option, IsSome}
 use Rattle.std.proofs.lemmas.List.Elements.{All-nil}
 use Rattle.stateful_types.specs.Names.{Named}
 use Rattle.stateful_types.specs.declared.anchor.Anchor.{Anchor}
 use Rattle.stateful_types.specs.declared.digest.Digest.{Digest}
-use Rattle.stateful_history.specs.Known.{Known}
 use Rattle.stateful_history.specs.Met.{Met}
 use Rattle.stateful_history.specs.Past.{Past, after}
 use Rattle.stateful_history.specs.declared.mark.Mark.{Mark}
-use Rattle.stateful_cache.specs.Cache.{IsAtHand}
 use Rattle.stateful_table.specs.Table.{at}
 use Rattle.stateful_exec.specs.Ending.{InTurn}
 use Rattle.stateful_exec.specs.Moments.{Moment}
 use Rattle.stateful_exec.specs.Pausing.{GoesAlong, AcquiresAnew}
-use Rattle.stateful_exec.specs.Rules.{requested, Acquires}
+use Rattle.stateful_exec.specs.Rules.{requested}
 use Rattle.stateful_exec.specs.Workings.{Workings, Point}
 use Rattle.stateful_exec.specs.declared.tables.Released.{Released}
 use Rattle.stateful_exec.specs.declared.tables.Requested.{Requested}
@@ -23,9 +21,9 @@ use Rattle.stateful_standing.specs.Standing.{IsInHand}
 use Rattle.stateful_standing.proofs.Acquired.{Serves-acquires}
 use Rattle.stateful_standing.proofs.AsksKept.{AsksAlong-advances, AsksAlong-acquires, advances-none, AsksForThese-acquires}
 use Rattle.stateful_standing.proofs.EarnedLeft.{LeavesBehind-advances, LeavesBehind-acquires}
-use Rattle.stateful_standing.proofs.FollowStands.{ticket_of, request_of, path_of}
-use Rattle.stateful_standing.proofs.KeptInTurn.{IsCarried, IsGrounded, AreGrounded, AreGrounded-in_turn}
-use Rattle.stateful_standing.proofs.KeptMarks.{KeepsBehind, EachMark-behind, KeepsReady}
+use Rattle.stateful_standing.proofs.FollowStands.{ticket_of, request_of}
+use Rattle.stateful_standing.proofs.KeptInTurn.{IsGrounded, AreGrounded, AreGrounded-in_turn}
+use Rattle.stateful_standing.proofs.KeptMarks.{EachMark-behind, KeepsReady}
 use Rattle.stateful_standing.proofs.PlaceAsks.{acquires-in_place, asked_along}
 use Rattle.stateful_standing.proofs.PlaceFollowed.{IsOrderly, IsOrderly-served}
 use Rattle.stateful_standing.proofs.PlaceMarks.{IsInPlace}

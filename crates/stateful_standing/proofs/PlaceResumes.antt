@@ -1,14 +1,13 @@
 -- Marks stand in their places: the rule of what goes on behind a pause.
-use Rattle.std.proofs.Common.{◌≡◌, ◌≢◌, ◌++◌, ℕ, not, List, [], ◌∷◌, All, Option, Some, refl, subst, is_none}
+use Rattle.std.proofs.Common.{◌≡◌, ◌≢◌, ℕ, not, List, [], ◌∷◌, All, Option, Some, refl, is_none}
 use Rattle.std.proofs.lemmas.List.Elements.{All-filter}
 use Rattle.std.proofs.lemmas.List.Kept.{AllPairs-filter}
 use Rattle.stateful_types.specs.Names.{Named}
 use Rattle.stateful_types.specs.declared.anchor.Anchor.{Anchor}
 use Rattle.stateful_types.specs.declared.digest.Digest.{Digest}
-use Rattle.stateful_history.specs.Past.{Past, EachMark, after}
+use Rattle.stateful_history.specs.Past.{Past, after}
 use Rattle.stateful_history.specs.declared.event.Event.{Event}
 use Rattle.stateful_history.specs.declared.mark.Mark.{Mark}
-use Rattle.stateful_exec.specs.Ending.{InTurn}
 use Rattle.stateful_exec.specs.Moments.{Moment}
 use Rattle.stateful_exec.specs.Pausing.{GoesAlong, AcquiresAnew, unparked, unsettled, Resumes}
 use Rattle.stateful_exec.specs.Phase.{parked_path, parked_in, is_unacquired, unacquired_in}

@@ -1,5 +1,5 @@
 -- False verdicts and declines have their reasons: those of a request that acquires what it needs, where nothing pauses.
-use Rattle.std.proofs.Common.{◌≡◌, ◌≢◌, ◌<◌, ◌↔◌, ◌++◌, inl, inr, ℕ, List, [], ◌∷◌, All, Option, refl, sym, ap, ◌∙◌, subst, take}
+use Rattle.std.proofs.Common.{◌≡◌, ◌↔◌, ◌++◌, inl, inr, ℕ, List, [], ◌∷◌, All, Option, refl, sym, subst, take}
 use Rattle.std.proofs.lemmas.List.Elements.{All-head, All-tail, All-cons, All-append, All-take}
 use Rattle.stateful_types.specs.Names.{Named}
 use Rattle.stateful_types.specs.Anchor.{anchor_by}
@@ -10,12 +10,10 @@ use Rattle.stateful_history.specs.Known.{Known}
 use Rattle.stateful_history.specs.Met.{Met}
 use Rattle.stateful_history.specs.Past.{Past}
 use Rattle.stateful_history.specs.Reasons.{HasReason}
-use Rattle.stateful_history.specs.Setting.{parent_of}
 use Rattle.stateful_history.specs.declared.event.Event.{Event}
 use Rattle.stateful_history.specs.declared.mark.Mark.{Mark}
 use Rattle.stateful_cache.specs.Cache.{IsAtHand}
 use Rattle.stateful_cache.specs.Judgement.{IsJudged}
-use Rattle.stateful_cache.specs.declared.cache.Cached.{Cached}
 use Rattle.stateful_cache.specs.declared.judgement.Judgement.TheVariants as judged
 use Rattle.stateful_exec.specs.Moments.{Moment}
 use Rattle.stateful_exec.specs.Path.{Path}
@@ -24,14 +22,14 @@ use Rattle.stateful_exec.specs.Walk.{IsNeeded, IsVerified, IsPrepared}
 use Rattle.stateful_exec.specs.Walk as walk
 use Rattle.stateful_exec.specs.Workings.{Workings, Point}
 use Rattle.stateful_exec.specs.declared.pause.Pause.{Pause}
-use Rattle.stateful_exec.specs.declared.pause.Pause.TheVariants.{Free, Finalizing, Pruning}
+use Rattle.stateful_exec.specs.declared.pause.Pause.TheVariants.{Free}
 use Rattle.stateful_exec.specs.declared.request.Request.{Request}
 use Rattle.stateful_exec.specs.declared.request.Request.TheVariants.{Verify, Recover}
 use Rattle.stateful_exec.specs.declared.tables.Requested.{Requested}
 use Rattle.stateful_exec.specs.declared.walk.Acquired.TheVariants as acquired
 use Rattle.stateful_standing.specs.Setting.{setting}
 use Rattle.stateful_standing.specs.Gathering.{gathered, AreLinked}
-use Rattle.stateful_standing.specs.Requesting.{first_of, brought_by, IsRequestOf}
+use Rattle.stateful_standing.specs.Requesting.{first_of, brought_by}
 use Rattle.stateful_standing.specs.Standing.{IsInHand}
 use Rattle.stateful_standing.proofs.ReadyWalks.{ready-at_hand}
 use Rattle.stateful_standing.proofs.EarnedJudged.{IsStoredNow}
@@ -40,7 +38,7 @@ use Rattle.stateful_standing.proofs.KeptMarks.{KeepsBehind}
 use Rattle.stateful_standing.proofs.ReasonGround.{IsGround, top_is}
 use Rattle.stateful_standing.proofs.ReasonKnown.{folded_free, knows_free}
 use Rattle.stateful_standing.proofs.ReasonMarks.{HasItsReason, MayEnd, concludes-ended, concludes-valid}
-use Rattle.stateful_standing.proofs.ReasonWalked.{HasReason-judged, HasWalked, HasWalked-invalid, IsOutOfReach-walked, HasReason-walked, unknown_above, unfinal_above, AreLinked-rest}
+use Rattle.stateful_standing.proofs.ReasonWalked.{HasReason-judged, HasWalked-invalid, IsOutOfReach-walked, HasReason-walked, unknown_above, unfinal_above, AreLinked-rest}
 
 module _ {B C I P R D H G U : Type 0} (w : Workings B C I P R D H G U) (stored : ℕ → Option (Named B)) (p : Past B C I) where
   -- what was gathered for a request is of the history

@@ -1,5 +1,5 @@
 -- False verdicts and declines have their reasons: those of a request that goes along its path.
-use Rattle.std.proofs.Common.{◌≡◌, ◌≢◌, ◌⊎◌, ◌++◌, inl, inr, ℕ, List, [], ◌∷◌, All, Option, refl, sym, ap, ◌∙◌, subst}
+use Rattle.std.proofs.Common.{◌≡◌, ◌≢◌, ◌++◌, inl, inr, ℕ, List, [], ◌∷◌, All, Option, refl, sym, ap, ◌∙◌, subst}
 use Rattle.std.proofs.lemmas.List.{append_assoc}
 use Rattle.std.proofs.lemmas.List.Elements.{All-head}
 use Rattle.stateful_types.specs.Names.{Named}
@@ -19,7 +19,7 @@ use Rattle.stateful_cache.specs.declared.cache.Cached.{Cached}
 use Rattle.stateful_exec.specs.Boundary.{Boundary, step_by, IsRetained}
 use Rattle.stateful_exec.specs.Moments.{Moment}
 use Rattle.stateful_exec.specs.Path.{Path}
-use Rattle.stateful_exec.specs.Rules.{IsPassed, Knows, GoesOn, Reaches, first_or, Advances, arrives, leaves, joins, starts, misses}
+use Rattle.stateful_exec.specs.Rules.{IsPassed, GoesOn, Reaches, first_or, Advances, arrives, leaves, joins, starts, misses}
 use Rattle.stateful_exec.specs.Workings.{Workings, Point}
 use Rattle.stateful_exec.specs.declared.pause.Pause.{Pause}
 use Rattle.stateful_exec.specs.declared.pause.Pause.TheVariants.{Free, Finalizing, Pruning}
@@ -35,7 +35,7 @@ use Rattle.stateful_standing.proofs.ReasonMissing.{Missing-along, Missing-first}
 use Rattle.stateful_standing.proofs.ReasonGround.{IsFinal, IsGround, chain_of, HasState-on, round_of_top}
 use Rattle.stateful_standing.proofs.ReasonKnown.{tip_known, unretained_late, unretained_unknown, anchor_unknown, unknown_up}
 use Rattle.stateful_standing.proofs.ReasonStuck.{IsStuck}
-use Rattle.stateful_standing.proofs.ReasonMarks.{HasItsReason, MayEnd, MayEnd-stuck, concludes-ended, concludes-valid}
+use Rattle.stateful_standing.proofs.ReasonMarks.{HasItsReason, MayEnd-stuck, concludes-ended, concludes-valid}
 
 module _ {B C I P R D H G U : Type 0} (w : Workings B C I P R D H G U) (stored : ℕ → Option (Named B)) (p : Past B C I) where
   -- the first block of a request is the first of its way

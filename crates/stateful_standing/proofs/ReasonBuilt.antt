@@ -1,5 +1,5 @@
 -- Declines have their reasons: that of a build that ended without a block.
-use Rattle.std.proofs.Common.{◌≡◌, ◌+◌, inl, inr, ℕ, List, [], ◌∷◌, Option, Some, Ok, MatchOption, refl, sym, ap, ◌∙◌, subst}
+use Rattle.std.proofs.Common.{◌≡◌, inl, inr, ℕ, List, ◌∷◌, Option, Some, Ok, MatchOption, refl, sym, subst}
 use Rattle.stateful_types.specs.Names.{Named}
 use Rattle.stateful_types.specs.declared.anchor.Anchor.{Anchor}
 use Rattle.stateful_types.specs.declared.digest.Digest.{Digest}
@@ -8,7 +8,7 @@ use Rattle.stateful_types.specs.declared.outcome.Moved.TheVariants.{Done}
 use Rattle.stateful_db.specs.Chain.{IsPoint}
 use Rattle.stateful_db.specs.Works.{build_of}
 use Rattle.stateful_history.specs.Declines.{MayDecline, DeclinedHasReason}
-use Rattle.stateful_history.specs.Jobs.{job_of, IsLiveJob}
+use Rattle.stateful_history.specs.Jobs.{IsLiveJob}
 use Rattle.stateful_history.specs.Past.{Past, Came, Made}
 use Rattle.stateful_history.specs.Requests.{Proposal, asked_by, IsLiveProposal}
 use Rattle.stateful_history.specs.Runs.{BuildIsAnswered, EndsAsItsKind}
@@ -20,12 +20,10 @@ use Rattle.stateful_history.specs.declared.mark.How.TheVariants.{Nothing}
 use Rattle.stateful_history.specs.declared.mark.JobKind.TheVariants.{Build}
 use Rattle.stateful_history.specs.declared.mark.Mark.{Mark}
 use Rattle.stateful_history.specs.declared.mark.Mark.TheVariants.{Ended, Declined}
-use Rattle.stateful_cache.specs.declared.cache.Cached.{Cached}
 use Rattle.stateful_exec.specs.Built.{HasTurn, EndsBuild}
 use Rattle.stateful_exec.specs.Moments.{Moment}
 use Rattle.stateful_exec.specs.Workings.{Workings, Point}
 use Rattle.stateful_exec.specs.declared.building.Building.{Building}
-use Rattle.stateful_exec.specs.declared.pause.Pause.{Pause}
 use Rattle.stateful_standing.specs.Setting.{setting}
 use Rattle.stateful_standing.specs.Chains.{Chain}
 use Rattle.stateful_standing.proofs.EndedPoints.{Stacked-point}

@@ -1,5 +1,5 @@
 -- What the end of a run says of its block: it is cached, or what is wrong with it on its parent's states.
-use Rattle.std.proofs.Common.{◌≡◌, ◌≢◌, ◌⊎◌, ◌++◌, inl, inr, ℕ, Bool, true, false, List, [], ◌∷◌, Any, Option, None, Some, refl, sym, ap, ◌∙◌, subst, arith}
+use Rattle.std.proofs.Common.{◌≡◌, ◌≢◌, ◌⊎◌, ◌++◌, inl, inr, ℕ, Bool, true, false, List, [], ◌∷◌, Option, None, Some, refl, subst}
 use Rattle.std.proofs.lemmas.List.Elements.{Contains-push}
 use Rattle.stateful_types.specs.Names.{Named}
 use Rattle.stateful_types.specs.Round.{IsLater}
@@ -7,25 +7,17 @@ use Rattle.stateful_types.specs.declared.anchor.Anchor.{Anchor}
 use Rattle.stateful_types.specs.declared.digest.Digest.{Digest}
 use Rattle.stateful_types.specs.declared.outcome.Finality.TheVariants.{Candidate}
 use Rattle.stateful_types.specs.declared.outcome.Moved.TheVariants.{Done}
-use Rattle.stateful_types.specs.declared.round.Round.{Round}
 use Rattle.stateful_db.specs.Meaning.{Meaning, outcome}
-use Rattle.stateful_history.specs.Met.{Met}
-use Rattle.stateful_history.specs.Past.{Past, Came, Made}
-use Rattle.stateful_history.specs.Reasons.{IsBad}
+use Rattle.stateful_history.specs.Past.{Past}
 use Rattle.stateful_history.specs.Setting.{parent_of, step_of}
 use Rattle.stateful_history.specs.States.{HasState}
-use Rattle.stateful_history.specs.States as states
-use Rattle.stateful_history.specs.declared.event.Event.TheVariants.{Turn}
 use Rattle.stateful_history.specs.declared.mark.How.{How}
 use Rattle.stateful_history.specs.declared.mark.How.TheVariants.{Kept}
-use Rattle.stateful_history.specs.declared.mark.Mark.TheVariants.{Ended}
 use Rattle.stateful_cache.specs.Cache.{IsIn, IsAtHand}
 use Rattle.stateful_cache.specs.declared.cache.Cached.{Cached}
 use Rattle.stateful_table.specs.Table.{at}
-use Rattle.stateful_exec.specs.Boundary.{step_by}
-use Rattle.stateful_exec.specs.Ending.{step_in, there, added, missed, Turns, IsTold, rejected, mismatched, agreed}
+use Rattle.stateful_exec.specs.Ending.{there, added, missed, Turns, IsTold, rejected, mismatched, agreed}
 use Rattle.stateful_exec.specs.Workings.{Workings, Point}
-use Rattle.stateful_exec.specs.declared.pause.Pause.{Pause}
 use Rattle.stateful_exec.specs.declared.state.Tables.{Tables}
 use Rattle.stateful_exec.specs.declared.tables.LiveRun.{LiveRun}
 use Rattle.stateful_standing.specs.Setting.{setting}

@@ -1,5 +1,5 @@
 -- False verdicts and declines have their reasons: those of all requests that waited for a run that has ended.
-use Rattle.std.proofs.Common.{◌≡◌, ◌↔◌, inl, inr, ℕ, List, [], ◌∷◌, All, AllPairs, Option, refl, sym, ap, ◌∙◌, subst}
+use Rattle.std.proofs.Common.{◌≡◌, inl, inr, ℕ, List, [], ◌∷◌, Option, subst}
 use Rattle.std.proofs.lemmas.List.Elements.{All-weaker}
 use Rattle.stateful_types.specs.Names.{Named}
 use Rattle.stateful_types.specs.declared.anchor.Anchor.{Anchor}
@@ -22,7 +22,7 @@ use Rattle.stateful_standing.specs.Standing.{IsInHand}
 use Rattle.stateful_standing.specs.Ways.{KeepOff, IsUnsettled, WaysStand}
 use Rattle.stateful_standing.proofs.EarnedInTurn.{All-last}
 use Rattle.stateful_standing.proofs.EarnedLeft.{LeavesBehind-follows}
-use Rattle.stateful_standing.proofs.FollowStands.{ticket_of, request_of, path_of, Serves-follows}
+use Rattle.stateful_standing.proofs.FollowStands.{ticket_of, request_of, Serves-follows}
 use Rattle.stateful_standing.proofs.KeptInTurn.{IsCarried, IsGrounded, AreGrounded, AreGrounded-in_turn}
 use Rattle.stateful_standing.proofs.KeptMarks.{KeepsBehind, KeepsReady}
 use Rattle.stateful_standing.proofs.ReasonEnded.{HasEnded}

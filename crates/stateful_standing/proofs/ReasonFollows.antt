@@ -1,5 +1,5 @@
 -- False verdicts and declines have their reasons: those of the requests that waited for a run that has ended.
-use Rattle.std.proofs.Common.{◌≡◌, ◌≢◌, ◌⊎◌, inl, inr, ℕ, List, [], All, Option, refl, sym, ap, ◌∙◌, subst, arith}
+use Rattle.std.proofs.Common.{◌≡◌, ◌≢◌, inl, inr, ℕ, List, [], All, Option, refl, sym, ap, ◌∙◌, subst, arith}
 use Rattle.stateful_types.specs.Names.{Named}
 use Rattle.stateful_types.specs.Round.{IsLater}
 use Rattle.stateful_types.specs.declared.anchor.Anchor.{Anchor}
@@ -7,7 +7,7 @@ use Rattle.stateful_types.specs.declared.digest.Digest.{Digest}
 use Rattle.stateful_types.specs.declared.round.Round.{Round}
 use Rattle.stateful_history.specs.Canonical.{IsCanonical}
 use Rattle.stateful_history.specs.Known.{Known, IsUnknown, IsPastTip}
-use Rattle.stateful_history.specs.Met.{Met, TrueNames}
+use Rattle.stateful_history.specs.Met.{Met}
 use Rattle.stateful_history.specs.Past.{Past}
 use Rattle.stateful_history.specs.Reasons.{Missing, IsBad}
 use Rattle.stateful_history.specs.Setting.{parent_of}
@@ -19,7 +19,6 @@ use Rattle.stateful_cache.specs.Cache.{IsIn, IsAtHand}
 use Rattle.stateful_cache.specs.declared.cache.Cached.{Cached}
 use Rattle.stateful_exec.specs.Ending.{IsGivenUp, IsHeld, Follows, given_up, held, failed, parked, goes_on}
 use Rattle.stateful_exec.specs.Moments.{Moment}
-use Rattle.stateful_exec.specs.Path.{Path}
 use Rattle.stateful_exec.specs.Rules.{requested, Concludes}
 use Rattle.stateful_exec.specs.declared.request.Verdict.TheVariants as verdict
 use Rattle.stateful_exec.specs.Workings.{Workings, Point}
@@ -34,7 +33,7 @@ use Rattle.stateful_standing.proofs.KeptMarks.{KeepsBehind}
 use Rattle.stateful_standing.proofs.ReasonMissing.{Missing-first}
 use Rattle.stateful_standing.proofs.ReasonGround.{IsGround, IsFinal, chain_of, HasState-on, round_of_top}
 use Rattle.stateful_standing.proofs.ReasonKnown.{later_than_tip, unretained_late, unretained_unknown}
-use Rattle.stateful_standing.proofs.ReasonStuck.{IsStuck, stuck_on}
+use Rattle.stateful_standing.proofs.ReasonStuck.{stuck_on}
 use Rattle.stateful_standing.proofs.ReasonMarks.{HasItsReason, MayEnd-stuck, concludes-ended}
 use Rattle.stateful_standing.proofs.ReasonAdvances.{missing_way, not_final, closed_by, first_off, advances-reason}
 use Rattle.stateful_standing.proofs.ReasonEnded.{IsFlawed, HasEnded}

@@ -1,20 +1,15 @@
 -- What is known on the ground on which reasons are found, while a finalization goes on and else.
-use Rattle.std.proofs.Common.{◌≡◌, ◌≢◌, ◌≤◌, ◌⊎◌, ◌↔◌, inl, inr, ℕ, Bool, true, false, List, [], ◌∷◌, All, Contains, Option, Some, MatchOption, refl, sym, ap, ◌∙◌, subst, arith}
+use Rattle.std.proofs.Common.{◌≡◌, ◌≢◌, ◌≤◌, ◌⊎◌, ◌↔◌, inl, inr, ℕ, Bool, true, false, List, Contains, Option, Some, MatchOption, refl, sym, ap, ◌∙◌, subst, arith}
 use Rattle.std.specs.List.{list_any}
-use Rattle.std.proofs.lemmas.List.Elements.{All-contains}
 use Rattle.stateful_types.specs.Names.{Named}
-use Rattle.stateful_types.specs.Anchor.{anchor_by}
 use Rattle.stateful_types.specs.Round.{IsLater}
 use Rattle.stateful_types.specs.declared.anchor.Anchor.{Anchor}
 use Rattle.stateful_types.specs.declared.digest.Digest.{Digest}
 use Rattle.stateful_types.specs.declared.round.Round.{Round}
-use Rattle.stateful_history.specs.Anchors.{applied, anchor_of, tip_of}
 use Rattle.stateful_history.specs.Known.{Known, is_tip, IsUnknown, IsPastTip}
-use Rattle.stateful_history.specs.Met.{Met, TrueNames}
+use Rattle.stateful_history.specs.Met.{Met}
 use Rattle.stateful_history.specs.Past.{Past}
 use Rattle.stateful_history.specs.Setting.{parent_of}
-use Rattle.stateful_history.specs.States.{HasState}
-use Rattle.stateful_history.specs.States as states
 use Rattle.stateful_cache.specs.Cache.{IsIn, IsAtHand}
 use Rattle.stateful_cache.specs.declared.cache.Cached.{Cached}
 use Rattle.stateful_cache.proofs.Digests.{same, finds}
@@ -23,15 +18,11 @@ use Rattle.stateful_exec.specs.Workings.{Workings, Point}
 use Rattle.stateful_exec.specs.declared.pause.Pause.{Pause}
 use Rattle.stateful_exec.specs.declared.pause.Pause.TheVariants.{Free, Finalizing, Pruning}
 use Rattle.stateful_standing.specs.Setting.{setting}
-use Rattle.stateful_standing.specs.Chains.{here, further, Chain}
-use Rattle.stateful_standing.specs.Caching.{IsCached, CacheStands}
 use Rattle.stateful_standing.proofs.EarnedPath.{IsFolded}
-use Rattle.stateful_standing.proofs.EarnedPaused.{IsClosed}
 use Rattle.stateful_standing.proofs.EarnedClosed.{cached-compatible}
-use Rattle.stateful_standing.proofs.EndedKept.{IsRoundOf}
 use Rattle.stateful_standing.proofs.EndedKnown.{IsLater-self}
-use Rattle.stateful_standing.proofs.EndedPoints.{parent_at_hand, same_or_not}
-use Rattle.stateful_standing.proofs.ReasonGround.{IsFinal, IsGround, entry_of, round_of_top, uncached_anchor}
+use Rattle.stateful_standing.proofs.EndedPoints.{same_or_not}
+use Rattle.stateful_standing.proofs.ReasonGround.{IsFinal, IsGround, round_of_top, uncached_anchor}
 use Rattle.stateful_standing.proofs.ReasonMissing.{Known-above}
 
 module _ {B C I P R D H G U : Type 0} (w : Workings B C I P R D H G U) (stored : ℕ → Option (Named B)) (base : w.States) (p : Past B C I) (points : Digest → Point w) (point : Point w) (next : w.Ids) (tip : Anchor) where

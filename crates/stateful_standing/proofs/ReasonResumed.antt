@@ -1,5 +1,5 @@
 -- False verdicts and declines have their reasons: those of all requests that go on behind a pause.
-use Rattle.std.proofs.Common.{◌≡◌, ◌≢◌, ◌++◌, inl, inr, ℕ, List, [], ◌∷◌, All, AllPairs, Option, refl, sym, ap, ◌∙◌, subst}
+use Rattle.std.proofs.Common.{◌≡◌, ℕ, List, [], ◌∷◌, Option}
 use Rattle.std.proofs.lemmas.List.Elements.{All-weaker, All-nil}
 use Rattle.stateful_types.specs.Names.{Named}
 use Rattle.stateful_types.specs.declared.anchor.Anchor.{Anchor}
@@ -27,15 +27,13 @@ use Rattle.stateful_exec.specs.declared.walk.Acquired.TheVariants as acquired
 use Rattle.stateful_standing.specs.Setting.{setting}
 use Rattle.stateful_standing.specs.Gathering.{gathered, AreLinked}
 use Rattle.stateful_standing.specs.Requesting.{first_of, steps, IsWayOf}
-use Rattle.stateful_standing.specs.Standing.{IsInHand}
 use Rattle.stateful_standing.specs.Ways.{KeepOff, IsUnsettled, WaysStand}
 use Rattle.stateful_standing.proofs.Acquired.{Serves-acquires}
 use Rattle.stateful_standing.proofs.EarnedJudged.{IsStoredNow}
 use Rattle.stateful_standing.proofs.EarnedLeft.{LeavesBehind-advances, LeavesBehind-acquires}
-use Rattle.stateful_standing.proofs.FollowStands.{ticket_of, request_of, path_of}
-use Rattle.stateful_standing.proofs.InTurn.{IsReady}
-use Rattle.stateful_standing.proofs.KeptInTurn.{IsCarried, IsGrounded, AreGrounded, AreGrounded-in_turn}
-use Rattle.stateful_standing.proofs.KeptMarks.{KeepsBehind, KeepsReady}
+use Rattle.stateful_standing.proofs.FollowStands.{ticket_of, request_of}
+use Rattle.stateful_standing.proofs.KeptInTurn.{IsCarried, AreGrounded, AreGrounded-in_turn}
+use Rattle.stateful_standing.proofs.KeptMarks.{KeepsReady}
 use Rattle.stateful_standing.proofs.ReasonAcquired.{advances-free, acquires-reason}
 use Rattle.stateful_standing.proofs.ReasonMarks.{HasItsReason}
 use Rattle.stateful_standing.proofs.ResumeStands.{Serves-along}

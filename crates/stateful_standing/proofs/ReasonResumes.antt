@@ -1,5 +1,5 @@
 -- False verdicts and declines have their reasons: the rule of what goes on behind a pause.
-use Rattle.std.proofs.Common.{◌≡◌, ◌≢◌, ◌++◌, ℕ, not, List, [], ◌∷◌, All, Option, Some, get_or, refl, subst, is_none}
+use Rattle.std.proofs.Common.{◌≡◌, ◌≢◌, ℕ, not, List, [], ◌∷◌, All, Option, Some, get_or, refl, subst, is_none}
 use Rattle.std.proofs.lemmas.List.Elements.{All-filter}
 use Rattle.std.proofs.lemmas.List.Kept.{AllPairs-filter}
 use Rattle.stateful_types.specs.Names.{Named}
@@ -8,7 +8,6 @@ use Rattle.stateful_types.specs.declared.digest.Digest.{Digest}
 use Rattle.stateful_history.specs.Past.{Past, after}
 use Rattle.stateful_history.specs.declared.event.Event.{Event}
 use Rattle.stateful_history.specs.declared.mark.Mark.{Mark}
-use Rattle.stateful_exec.specs.Ending.{InTurn}
 use Rattle.stateful_exec.specs.Moments.{Moment}
 use Rattle.stateful_exec.specs.Pausing.{GoesAlong, AcquiresAnew, unparked, unsettled, Resumes}
 use Rattle.stateful_exec.specs.Phase.{parked_path, parked_in, is_unacquired, unacquired_in}
@@ -26,7 +25,7 @@ use Rattle.stateful_standing.proofs.KeptMarks.{KeepsBehind, KeepsBehind-then, Ke
 use Rattle.stateful_standing.proofs.Parked.{All-parked, parked_apart, TablesStand-kept}
 use Rattle.stateful_standing.proofs.ReasonGround.{IsGround}
 use Rattle.stateful_standing.proofs.ReasonMarks.{HasItsReason}
-use Rattle.stateful_standing.proofs.ReasonResumed.{HasParked, MayAcquire, AreParked, AreUnacquired, AreParked-along, AreUnacquired-anew}
+use Rattle.stateful_standing.proofs.ReasonResumed.{MayAcquire, AreParked, AreUnacquired, AreParked-along, AreUnacquired-anew}
 use Rattle.stateful_standing.proofs.ResumeStands as along
 
 module _ {B C I P R D H G U : Type 0} (w : Workings B C I P R D H G U) (stored held : ℕ → Option (Named B)) (base : w.States) (tip : Anchor) (points : Digest → Point w) (point : Point w) (event : Event B C I) (marks : List (Mark B))

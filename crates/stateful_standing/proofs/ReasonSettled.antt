@@ -1,32 +1,28 @@
 -- False verdicts and declines have their reasons: those behind the last turn of a run.
-use Rattle.std.proofs.Common.{◌≡◌, ◌≢◌, ◌⊎◌, ◌↔◌, ◌++◌, inl, inr, ℕ, List, [], ◌∷◌, All, Contains, Option, Some, refl, sym, ap, ◌∙◌, subst}
-use Rattle.std.proofs.lemmas.List.Elements.{All-weaker, All-filter, Contains-append_left}
-use Rattle.stateful_types.specs.Names.{Header, Named}
+use Rattle.std.proofs.Common.{◌≡◌, inl, inr, ℕ, List, ◌∷◌, Contains, Option, refl, sym, ap, ◌∙◌, subst}
+use Rattle.stateful_types.specs.Names.{Named}
 use Rattle.stateful_types.specs.declared.anchor.Anchor.{Anchor}
 use Rattle.stateful_types.specs.declared.digest.Digest.{Digest}
-use Rattle.stateful_types.specs.declared.outcome.Moved.TheVariants.{Done}
-use Rattle.stateful_history.specs.Met.{Met, TrueNames}
+use Rattle.stateful_history.specs.Met.{Met}
 use Rattle.stateful_history.specs.Past.{Past, Came, Made}
 use Rattle.stateful_history.specs.declared.event.Event.TheVariants.{Turn}
 use Rattle.stateful_history.specs.declared.mark.How.{How}
 use Rattle.stateful_history.specs.declared.mark.Mark.TheVariants.{Ended}
-use Rattle.stateful_cache.specs.Cache.{IsIn, IsAtHand}
+use Rattle.stateful_cache.specs.Cache.{IsIn}
 use Rattle.stateful_cache.specs.declared.cache.Cached.{Cached}
 use Rattle.stateful_exec.specs.Boundary.{Boundary}
 use Rattle.stateful_exec.specs.Ending.{Takes, there, added, missed, IsTold, rejected, mismatched, agreed, Crosses}
-use Rattle.stateful_exec.specs.Workings.{Workings, Point}
+use Rattle.stateful_exec.specs.Workings.{Workings}
 use Rattle.stateful_exec.specs.declared.pause.Pause.{Pause}
 use Rattle.stateful_exec.specs.declared.pause.Pause.TheVariants.{Free, Finalizing, Pruning}
 use Rattle.stateful_exec.specs.declared.request.Request.{Request}
 use Rattle.stateful_exec.specs.declared.tables.Phase.{Phase}
 use Rattle.stateful_exec.specs.declared.tables.Phase.TheVariants.{Open, Fetching, Waiting, Executing, Parked}
-use Rattle.stateful_standing.specs.Setting.{setting}
 use Rattle.stateful_standing.specs.Ways.{IsParkedOn, IsOnOpenWay}
 use Rattle.stateful_standing.proofs.EarnedPaused.{IsClosedBy}
 use Rattle.stateful_standing.proofs.EndedKept.{Any-more}
-use Rattle.stateful_standing.proofs.ReasonGround.{IsTipBy, IsFinal}
+use Rattle.stateful_standing.proofs.ReasonGround.{IsTipBy}
 use Rattle.stateful_standing.proofs.SamePast.{IsSamePast}
-use Rattle.stateful_standing.proofs.WaysKept.{on_open_way}
 
 module _ {B C I S T : Type 0} (s : _) (p : Past B C I) (j : ℕ) (how : How) where
   -- the last turn of a run, and the mark that it ended, leave the past the same

@@ -1,39 +1,35 @@
 -- False verdicts and declines have their reasons: the rule of the last turn of a run, and of what follows it.
-use Rattle.std.proofs.Common.{◌≡◌, ◌≢◌, ◌++◌, inl, inr, ℕ, not, get_or, List, [], ◌∷◌, All, Option, Some, Result, Ok, refl, sym, ap, ◌∙◌, subst}
+use Rattle.std.proofs.Common.{◌≡◌, ◌++◌, inr, ℕ, not, get_or, List, [], ◌∷◌, All, Option, Some, Ok, refl, ◌∙◌, subst}
 use Rattle.std.proofs.lemmas.List.{append_assoc}
 use Rattle.std.proofs.lemmas.List.Elements.{All-weaker, All-filter}
 use Rattle.stateful_types.specs.Names.{Named}
 use Rattle.stateful_types.specs.declared.anchor.Anchor.{Anchor}
 use Rattle.stateful_types.specs.declared.digest.Digest.{Digest}
 use Rattle.stateful_types.specs.declared.outcome.Moved.TheVariants.{Done}
-use Rattle.stateful_history.specs.Met.{Met, TrueNames}
-use Rattle.stateful_history.specs.Past.{Past, Came, Made, after}
+use Rattle.stateful_history.specs.Met.{TrueNames}
+use Rattle.stateful_history.specs.Past.{Past, Came, Made}
 use Rattle.stateful_history.specs.declared.event.Event.{Event}
 use Rattle.stateful_history.specs.declared.event.Event.TheVariants.{Turn}
 use Rattle.stateful_history.specs.declared.mark.How.{How}
 use Rattle.stateful_history.specs.declared.mark.Mark.{Mark}
 use Rattle.stateful_history.specs.declared.mark.Mark.TheVariants.{Ended}
-use Rattle.stateful_cache.specs.Cache.{IsIn}
 use Rattle.stateful_table.specs.Table.{at, put, without}
-use Rattle.stateful_exec.specs.Ending.{released, IsTold, Crosses, EndsRun, TurnsRun, Turns, InTurn, Follows, Settles}
-use Rattle.stateful_exec.specs.Moments.{Moment, Becomes, moment}
-use Rattle.stateful_exec.specs.Phase.{is_on, released_on, not_on}
+use Rattle.stateful_exec.specs.Ending.{released, IsTold, Crosses, EndsRun, TurnsRun, Turns, InTurn, Follows}
+use Rattle.stateful_exec.specs.Moments.{Moment, moment}
+use Rattle.stateful_exec.specs.Phase.{is_on, released_on}
 use Rattle.stateful_exec.specs.Workings.{Workings, Point}
-use Rattle.stateful_exec.specs.declared.pause.Pause.{Pause}
 use Rattle.stateful_exec.specs.declared.state.Tables.{Tables}
 use Rattle.stateful_exec.specs.declared.tables.LiveRun.{LiveRun}
 use Rattle.stateful_exec.specs.declared.tables.Phase.{Phase}
-use Rattle.stateful_exec.specs.declared.tables.Phase.TheVariants.{Executing}
 use Rattle.stateful_exec.specs.declared.tables.Released.{Released}
 use Rattle.stateful_exec.specs.declared.tables.Requested.{Requested}
 use Rattle.stateful_standing.specs.Setting.{setting}
 use Rattle.stateful_standing.specs.Requesting.{steps}
 use Rattle.stateful_standing.specs.Running.{IsRunning}
-use Rattle.stateful_standing.specs.Standing.{TablesStand, IsInHand}
+use Rattle.stateful_standing.specs.Standing.{TablesStand}
 use Rattle.stateful_standing.specs.Ways.{KeepOff, IsUnsettled, IsOnOpenWay, WaysStand}
 use Rattle.stateful_standing.proofs.EarnedClosed.{IsClosedBy-ended}
 use Rattle.stateful_standing.proofs.EndedLeft.{All-released}
-use Rattle.stateful_standing.proofs.EndedRequests.{IsTakenOut}
 use Rattle.stateful_standing.proofs.EndedRule.{IsReleased, same_block, told_so, crosses_so}
 use Rattle.stateful_standing.proofs.EndedStands.{running}
 use Rattle.stateful_standing.proofs.KeptMarks.{KeepsBehind}

@@ -1,7 +1,7 @@
 -- False verdicts and declines have their reasons: what a judgement without a run says, and what a walk finds.
-use Rattle.std.proofs.Common.{◌≡◌, ◌≢◌, ◌<◌, ◌≤◌, ◌+◌, ◌⊎◌, ◌↔◌, ◌++◌, inl, inr, ℕ, List, [], ◌∷◌, All, Option, Some, MatchOption, refl, sym, ap, ◌∙◌, subst, arith, take}
+use Rattle.std.proofs.Common.{◌≡◌, ◌≢◌, ◌<◌, ◌≤◌, ◌⊎◌, ◌↔◌, ◌++◌, inl, inr, ℕ, List, [], ◌∷◌, All, Option, Some, MatchOption, refl, sym, ap, ◌∙◌, subst, arith}
 use Rattle.std.proofs.lemmas.List.{append_assoc}
-use Rattle.std.proofs.lemmas.List.Elements.{All-head, All-tail, All-cons, All-push, All-append, All-take, All-weaker}
+use Rattle.std.proofs.lemmas.List.Elements.{All-head, All-tail, All-push, All-weaker}
 use Rattle.stateful_types.specs.Names.{Named}
 use Rattle.stateful_types.specs.Anchor.{anchor_by}
 use Rattle.stateful_types.specs.declared.anchor.Anchor.{Anchor}
@@ -18,11 +18,10 @@ use Rattle.stateful_history.specs.Reasons as reasons
 use Rattle.stateful_history.specs.Setting.{Setting, parent_of}
 use Rattle.stateful_history.specs.Telling.{telling_of}
 use Rattle.stateful_cache.specs.Cache.{IsIn, IsAtHand}
-use Rattle.stateful_cache.specs.Judgement.{IsDecided, IsJudged}
+use Rattle.stateful_cache.specs.Judgement.{IsJudged}
 use Rattle.stateful_cache.specs.declared.cache.Cached.{Cached}
 use Rattle.stateful_cache.specs.declared.judgement.Judgement.TheVariants as judged
-use Rattle.stateful_exec.specs.Path.{IsMissing, IsCovered, Leads, IsOneAbove}
-use Rattle.stateful_exec.specs.Rules.{first_or}
+use Rattle.stateful_exec.specs.Path.{IsMissing, Leads}
 use Rattle.stateful_exec.specs.Walk.{Walks}
 use Rattle.stateful_exec.specs.Workings.{Workings, Point}
 use Rattle.stateful_exec.specs.declared.walk.Acquired.TheVariants as acquired

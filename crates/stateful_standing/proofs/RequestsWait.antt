@@ -1,10 +1,9 @@
 -- Where nothing pauses, each request in the tables waits for outstanding work.
-use Rattle.std.proofs.Common.{◌≡◌, ◌≢◌, ◌<◌, ℕ, List, All, Option, None, Some, MatchOption, refl, sym, ap, ◌∙◌, subst}
+use Rattle.std.proofs.Common.{◌≡◌, ◌<◌, ℕ, Option, None, Some, MatchOption, refl, sym, ◌∙◌, subst}
 use Rattle.stateful_types.specs.Names.{Named}
 use Rattle.stateful_types.specs.declared.anchor.Anchor.{Anchor}
 use Rattle.stateful_types.specs.declared.digest.Digest.{Digest}
 use Rattle.stateful_types.specs.declared.outcome.Finality.TheVariants as finality
-use Rattle.stateful_history.specs.Asked.{verified}
 use Rattle.stateful_history.specs.Fetches.{Abstains}
 use Rattle.stateful_history.specs.Jobs.{turns, IsOutstandingCandidate, HasOutstandingBuild}
 use Rattle.stateful_history.specs.Past.{Past}

@@ -1,40 +1,33 @@
 -- The ways of requests stay open where a finalization begins, and where its block becomes the anchor.
-use Rattle.std.proofs.Common.{◌≡◌, ◌≢◌, ◌<◌, ◌+◌, ◌==◌, ◌++◌, nat_lt, inl, inr, ℕ, Bool, true, false, List, [], ◌∷◌, All, Option, None, Some, MatchOption, option_map, if◌then◌else◌, get_or, refl, sym, ap, ◌∙◌, subst, arith}
-use Rattle.std.proofs.lemmas.Bool.{eqb-true, eqb-false}
+use Rattle.std.proofs.Common.{◌≡◌, ◌≢◌, ◌<◌, ◌+◌, ◌==◌, nat_lt, inl, inr, ℕ, Bool, true, false, List, ◌∷◌, All, Option, Some, get_or, refl, sym, ◌∙◌, subst, arith}
+use Rattle.std.proofs.lemmas.Bool.{eqb-false}
 use Rattle.std.proofs.lemmas.Grind.{common_steps}
-use Rattle.std.proofs.lemmas.List.Elements.{All-head, All-tail, All-nil, All-cons, All-weaker, All-push}
-use Rattle.stateful_types.specs.Names.{Header, Named}
+use Rattle.stateful_types.specs.Names.{Named}
 use Rattle.stateful_types.specs.Anchor.{anchor_by}
 use Rattle.stateful_types.specs.declared.anchor.Anchor.{Anchor}
 use Rattle.stateful_types.specs.declared.digest.Digest.{Digest}
 use Rattle.stateful_history.specs.Anchors.{anchor_of, tip_of}
-use Rattle.stateful_history.specs.Canonical.{canonical, canonical_by, kept_at, pruned_below, IsCanonical}
-use Rattle.stateful_history.specs.Met.{Met, TrueNames}
+use Rattle.stateful_history.specs.Canonical.{canonical, canonical_by, kept_at, IsCanonical}
 use Rattle.stateful_history.specs.Past.{Past, Made}
-use Rattle.stateful_history.specs.Setting.{Setting, parent_of}
-use Rattle.stateful_history.specs.declared.mark.Mark.TheVariants.{Began, Applied}
+use Rattle.stateful_history.specs.Setting.{Setting}
+use Rattle.stateful_history.specs.declared.mark.Mark.TheVariants.{Began}
 use Rattle.stateful_cache.specs.declared.cache.Cached.{Cached}
 use Rattle.stateful_table.specs.Table.{at}
 use Rattle.stateful_exec.specs.Boundary.{Boundary}
 use Rattle.stateful_exec.specs.Path.{Path}
-use Rattle.stateful_exec.specs.Rules.{first_or}
 use Rattle.stateful_exec.specs.Workings.{Workings, Point}
 use Rattle.stateful_exec.specs.declared.pause.Pause.{Pause}
 use Rattle.stateful_exec.specs.declared.pause.Pause.TheVariants.{Free, Finalizing}
 use Rattle.stateful_exec.specs.declared.request.Request.{Request}
 use Rattle.stateful_exec.specs.declared.state.Tables.{Tables}
-use Rattle.stateful_exec.specs.declared.tables.LiveRun.{LiveRun}
 use Rattle.stateful_exec.specs.declared.tables.Phase.{Phase}
 use Rattle.stateful_exec.specs.declared.tables.Phase.TheVariants.{Open, Fetching, Waiting, Executing, Parked}
-use Rattle.stateful_exec.specs.declared.tables.Requested.{Requested}
 use Rattle.stateful_standing.specs.Setting.{setting}
-use Rattle.stateful_standing.specs.Requesting.{first_of, steps, LeadsDown, IsWayOf, IsInPhase, IsStanding}
+use Rattle.stateful_standing.specs.Requesting.{first_of, IsWayOf, IsInPhase, IsStanding}
 use Rattle.stateful_standing.specs.Standing.{TablesStand}
-use Rattle.stateful_standing.specs.Ways.{KeepOff, IsUnsettled, IsOnOpenWay, WaysStand}
-use Rattle.stateful_standing.proofs.Acquired.{leads_down}
+use Rattle.stateful_standing.specs.Ways.{IsUnsettled, IsOnOpenWay, WaysStand}
 use Rattle.stateful_standing.proofs.EndedPoints.{same_or_not}
 use Rattle.stateful_standing.proofs.ReasonAdvances.{first_off}
-use Rattle.stateful_standing.proofs.Removing.{All-at}
 
 lt-above : (a b : ℕ) → nat_lt a b ≡ true → a < b
 lt-above a b is = grind (arith, common_steps)

@@ -1,13 +1,13 @@
 -- The ways of requests stay open where the finalized block becomes the anchor.
-use Rattle.std.proofs.Common.{◌≡◌, ◌≢◌, ◌<◌, ◌==◌, ◌++◌, inl, inr, ℕ, Bool, true, false, List, [], ◌∷◌, All, Option, None, Some, MatchOption, get_or, refl, sym, ap, ◌∙◌, subst, arith}
-use Rattle.std.proofs.lemmas.Bool.{eqb-true, eqb-false}
+use Rattle.std.proofs.Common.{◌≡◌, ◌≢◌, ◌==◌, ◌++◌, inl, inr, ℕ, Bool, true, false, List, [], ◌∷◌, All, Option, None, Some, MatchOption, get_or, refl, sym, ap, ◌∙◌, subst}
+use Rattle.std.proofs.lemmas.Bool.{eqb-true}
 use Rattle.std.proofs.lemmas.List.Elements.{All-head, All-tail, All-nil, All-cons, All-push}
 use Rattle.stateful_types.specs.Names.{Named}
 use Rattle.stateful_types.specs.Anchor.{anchor_by}
 use Rattle.stateful_types.specs.declared.anchor.Anchor.{Anchor}
 use Rattle.stateful_types.specs.declared.digest.Digest.{Digest}
 use Rattle.stateful_history.specs.Anchors.{anchor_of, tip_of}
-use Rattle.stateful_history.specs.Canonical.{canonical, canonical_by, kept_at, IsCanonical}
+use Rattle.stateful_history.specs.Canonical.{canonical, canonical_by, kept_at}
 use Rattle.stateful_history.specs.Met.{Met, TrueNames}
 use Rattle.stateful_history.specs.Past.{Past, Made}
 use Rattle.stateful_history.specs.Setting.{parent_of}
@@ -25,9 +25,8 @@ use Rattle.stateful_exec.specs.declared.state.Tables.{Tables}
 use Rattle.stateful_exec.specs.declared.tables.LiveRun.{LiveRun}
 use Rattle.stateful_exec.specs.declared.tables.Phase.{Phase}
 use Rattle.stateful_exec.specs.declared.tables.Phase.TheVariants.{Open, Fetching, Waiting, Executing, Parked}
-use Rattle.stateful_exec.specs.declared.tables.Requested.{Requested}
 use Rattle.stateful_standing.specs.Setting.{setting}
-use Rattle.stateful_standing.specs.Requesting.{first_of, steps, LeadsDown, IsWayOf, IsInPhase, IsStanding}
+use Rattle.stateful_standing.specs.Requesting.{first_of, LeadsDown, IsWayOf, IsInPhase, IsStanding}
 use Rattle.stateful_standing.specs.Standing.{TablesStand}
 use Rattle.stateful_standing.specs.Ways.{KeepOff, IsUnsettled, IsOnOpenWay, WaysStand}
 use Rattle.stateful_standing.proofs.Acquired.{leads_down}
@@ -105,9 +104,10 @@ module _ {B C I P R D H G U : Type 0} (w : Workings B C I P R D H G U) (stored :
 
       open-moved : (t : ℕ) (request : Request B C I) (phase : Phase B) → IsInPhase w stored p v.runs t request phase → IsOnOpenWay w stored p (anchor_by w.header b) (Finalizing boundary) anchor v.cache request phase → IsOnOpenWay w stored now (anchor_by w.header b) (Finalizing boundary) (anchor_by w.header b) cache request phase
       open-moved t request (Executing j path) phase h =
-          let way : IsWayOf w stored p request path = phase.1 in
-          (All-push (λ (z : Named B). z.digest ≢ b.digest) path.blocks path.parent (blocks_off path.blocks path.parent way.met way.leads (front_off path.blocks path.parent h.0) (last_off path.blocks path.parent h.0)) (run_off j path (at v.runs j) refl phase.0),
-          unsettled-moved request (first_off w stored p request anchor path way h.0) h.1)
+          let way : IsWayOf w stored p request path = phase.1 in (
+            All-push (λ (z : Named B). z.digest ≢ b.digest) path.blocks path.parent (blocks_off path.blocks path.parent way.met way.leads (front_off path.blocks path.parent h.0) (last_off path.blocks path.parent h.0)) (run_off j path (at v.runs j) refl phase.0),
+            unsettled-moved request (first_off w stored p request anchor path way h.0) h.1,
+          )
       open-moved t request (Parked path) phase h =
           let way : IsWayOf w stored p request path = phase in
           let at_block : path.parent.digest ≡ b.digest = h.0 ∙ own in
