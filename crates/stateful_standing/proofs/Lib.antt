@@ -91,3 +91,4 @@ pub mod ReasonBuilt
 pub mod Gathered
 pub mod WaysBegun
 pub mod WaysMoved
+pub mod AnswerBuilt
