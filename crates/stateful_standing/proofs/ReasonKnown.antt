@@ -20,10 +20,14 @@ use Rattle.stateful_exec.specs.declared.pause.Pause.TheVariants.{Free, Finalizin
 use Rattle.stateful_standing.specs.Setting.{setting}
 use Rattle.stateful_standing.proofs.EarnedPath.{IsFolded}
 use Rattle.stateful_standing.proofs.EarnedClosed.{cached-compatible}
+use Rattle.stateful_standing.proofs.EndedFinalizing.{IsLater-after}
 use Rattle.stateful_standing.proofs.EndedKnown.{IsLater-self}
 use Rattle.stateful_standing.proofs.EndedPoints.{same_or_not}
 use Rattle.stateful_standing.proofs.ReasonGround.{IsFinal, IsGround, round_of_top, uncached_anchor}
 use Rattle.stateful_standing.proofs.ReasonMissing.{Known-above}
+
+later_apart : (r q : Round) → q ≡ r → IsLater r q → ⊥
+later_apart r q same later = IsLater-self r (subst (λ (x : Round). IsLater r x) same later)
 
 module _ {B C I P R D H G U : Type 0} (w : Workings B C I P R D H G U) (stored : ℕ → Option (Named B)) (base : w.States) (p : Past B C I) (points : Digest → Point w) (point : Point w) (next : w.Ids) (tip : Anchor) where
   module _ (pause : Pause) (anchor : Anchor) (cache : List (Cached U)) (g : IsGround w stored base p points point next tip pause anchor cache) where
@@ -100,6 +104,15 @@ module _ {B C I P R D H G U : Type 0} (w : Workings B C I P R D H G U) (stored :
   cached_late Free anchor cache g x met any unknown parent late = unknown ((g.stands.knows x.digest).1 (inr any))
   cached_late Pruning anchor cache g x met any unknown parent late = unknown ((g.stands.knows x.digest).1 (inr any))
   cached_late (Finalizing boundary) anchor cache g x met any unknown parent late = unretained_late boundary anchor cache g x unknown parent (λ on. cached_off boundary anchor cache g x met any unknown on) late
+
+  -- a block of the anchor's digest isn't later than the tip
+  pub anchor_not_late : (pause : Pause) (anchor : Anchor) (cache : List (Cached U)) → IsGround w stored base p points point next tip pause anchor cache → (x : Named B) → Met (setting w stored) p x → x.digest ≡ anchor.digest → IsPastTip (setting w stored) p x → ⊥
+  anchor_not_late Free anchor cache g x met is late = let e : tip ≡ anchor = g.tip_by in later_apart anchor.round (w.header.round x.block) (round_of_top w stored base p points point next tip Free anchor cache g x met is) (subst (λ (a : Anchor). IsLater a.round (w.header.round x.block)) e (later_than_tip Free anchor cache g x late))
+  anchor_not_late Pruning anchor cache g x met is late = let e : tip ≡ anchor = g.tip_by in later_apart anchor.round (w.header.round x.block) (round_of_top w stored base p points point next tip Pruning anchor cache g x met is) (subst (λ (a : Anchor). IsLater a.round (w.header.round x.block)) e (later_than_tip Pruning anchor cache g x late))
+  anchor_not_late (Finalizing boundary) anchor cache g x met is late =
+      let f : IsFinal w stored p anchor cache tip boundary = g.tip_by in
+      IsLater-after anchor.round tip.round (w.header.round x.block) (subst (λ (r : Round). IsLater anchor.round r) (f.round_is ∙ sym (ap (λ (a : Anchor). a.round) f.tip_is)) f.later) (later_than_tip (Finalizing boundary) anchor cache g x late)
+      (sym (round_of_top w stored base p points point next tip (Finalizing boundary) anchor cache g x met is))
 
   tip_child : (pause : Pause) (anchor : Anchor) (cache : List (Cached U)) → IsGround w stored base p points point next tip pause anchor cache → (z c : Named B) → z.digest ≢ anchor.digest → c.digest ≢ anchor.digest → Met (setting w stored) p z → c.digest ≡ parent_of (setting w stored) z → z.digest ≡ tip.digest → ⊥
   tip_child Free anchor cache g z c other_z other_c met is at_tip = let e : tip ≡ anchor = g.tip_by in other_z (at_tip ∙ ap (λ (a : Anchor). a.digest) e)

@@ -7,3 +7,4 @@ pub mod Standing
 pub mod Gathering
 pub mod Ways
 pub mod Outstanding
+pub mod Reaching
