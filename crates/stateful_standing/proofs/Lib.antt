@@ -92,3 +92,4 @@ pub mod Gathered
 pub mod WaysBegun
 pub mod WaysMoved
 pub mod AnswerBuilt
+pub mod QueueLost

@@ -39,7 +39,7 @@ use Rattle.stateful_standing.proofs.ReasonAdvances.{missing_way, not_final, clos
 use Rattle.stateful_standing.proofs.ReasonEnded.{IsFlawed, HasEnded}
 
 -- later than a later round
-later_on : (x y z : Round) → IsLater x y → IsLater y z → IsLater x z
+pub later_on : (x y z : Round) → IsLater x y → IsLater y z → IsLater x z
 later_on x y z (inl l) (inl k) = inl (omega arith)
 later_on x y z (inl l) (inr k) = inl (omega (arith, l, k.0))
 later_on x y z (inr l) (inl k) = inl (omega (arith, l.0, k))
