@@ -93,3 +93,4 @@ pub mod WaysBegun
 pub mod WaysMoved
 pub mod AnswerBuilt
 pub mod QueueLost
+pub mod QueueBegan

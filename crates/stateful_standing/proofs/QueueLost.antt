@@ -43,7 +43,7 @@ use Rattle.stateful_standing.proofs.Removing.{All-at}
 
 module _ {B C I S T : Type 0} (s : Setting B S T) (base : S) where
   -- the last of what is missing is of the history
-  Missing-met : (p : Past B C I) {b x : Named B} → Met s p b → Missing s base p b x → Met s p x
+  pub Missing-met : (p : Past B C I) {b x : Named B} → Met s p b → Missing s base p b x → Met s p x
   Missing-met p met (itself u) = met
   Missing-met p met (above m there is u) = there
 
