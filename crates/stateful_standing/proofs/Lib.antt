@@ -94,3 +94,4 @@ pub mod WaysMoved
 pub mod AnswerBuilt
 pub mod QueueLost
 pub mod QueueBegan
+pub mod QueueServed

@@ -64,7 +64,7 @@ module _ {B C I : Type 0} where
   WasAsked-before t u d p [] are ne was = was
   WasAsked-before t u d p (mark ∷ marks) are ne was = asked_one t u d p mark are.0 ne (WasAsked-before t u d (Made mark ∷ p) marks are.1 ne was)
 
-  calm_one : {S T : Type 0} (s : Setting B S T) (p : Past B C I) (t : ℕ) (mark : Mark B) → IsServedBy t mark → IsCalm s p (Made mark)
+  pub calm_one : {S T : Type 0} (s : Setting B S T) (p : Past B C I) (t : ℕ) (mark : Mark B) → IsServedBy t mark → IsCalm s p (Made mark)
   calm_one s p t (Verdict v good) is = record { tip = refl; starts_none = tt; built = λ d h. h; kept = refl }
   calm_one s p t (Declined v) is = record { tip = refl; starts_none = tt; built = λ d h. h; kept = refl }
   calm_one s p t (Asked f (Some v) e) is = record { tip = refl; starts_none = tt; built = λ d h. h; kept = refl }
