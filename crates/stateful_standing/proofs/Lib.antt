@@ -95,3 +95,4 @@ pub mod AnswerBuilt
 pub mod QueueLost
 pub mod QueueBegan
 pub mod QueueServed
+pub mod QueueAdvances

@@ -111,7 +111,7 @@ module _ {B C I P R D H G U : Type 0} (w : Workings B C I P R D H G U) (stored :
     abbrev IsHere : Named B → Type 0
     IsHere b = Known (setting w stored) p b.digest × IsAtHand v.anchor v.cache b.digest
 
-    parent_here : (passed : List (Named B)) → All (IsPassed w.header v) passed → All (Met (setting w stored) p) passed → IsHere (first_or path.parent passed)
+    pub parent_here : (passed : List (Named B)) → All (IsPassed w.header v) passed → All (Met (setting w stored) p) passed → IsHere (first_or path.parent passed)
     parent_here [] each met = parent
     parent_here (z ∷ passed) each met =
         let on : IsPassed w.header v z = All-head (IsPassed w.header v) z passed each in
