@@ -96,3 +96,4 @@ pub mod QueueLost
 pub mod QueueBegan
 pub mod QueueServed
 pub mod QueueAdvances
+pub mod RunsTurned

@@ -26,7 +26,7 @@ use Rattle.stateful_exec.specs.declared.tables.Phase.{Phase}
 use Rattle.stateful_exec.specs.declared.tables.Phase.TheVariants.{Open, Fetching, Waiting, Executing, Parked}
 use Rattle.stateful_exec.specs.declared.tables.Requested.{Requested}
 use Rattle.stateful_standing.specs.Setting.{setting}
-use Rattle.stateful_standing.specs.Outstanding.{TicketsApart, RunsGoOn}
+use Rattle.stateful_standing.specs.Outstanding.{TicketsApart, GoesOnTurning, RunsGoOn}
 use Rattle.stateful_standing.specs.Requesting.{first_of, IsRequestOf, IsWayOf, IsInPhase, IsStanding}
 use Rattle.stateful_standing.specs.Running.{IsRunning}
 use Rattle.stateful_standing.specs.Standing.{TablesStand}
@@ -41,7 +41,7 @@ IsSettled (Parked path) = ⊥
 IsSettled phase = Unit {0}
 
 module _ {B C I P R D H G U : Type 0} (w : Workings B C I P R D H G U) (stored : ℕ → Option (Named B)) (count : ℕ) (rule : Option (PruneRule w.Targets)) (base : w.States) (p : Past B C I) (points : Digest → Point w) (point : Point w) (next : w.Ids) (v : Tables B C I R U)
-    (s : TablesStand w stored p points point next v) (tip : Anchor) (g : IsGround w stored base p points point next tip v.pause v.anchor v.cache) (apart : TicketsApart p) (go_on : RunsGoOn w p points v.runs) where
+    (s : TablesStand w stored p points point next v) (tip : Anchor) (g : IsGround w stored base p points point next tip v.pause v.anchor v.cache) (apart : TicketsApart p) (go_on : RunsGoOn w stored base p v.runs) where
   abbrev Waits_for : ℕ → Type 0
   Waits_for t = Waits (setting w stored) (telling_of w.works) count rule base p t
 
@@ -49,13 +49,14 @@ module _ {B C I P R D H G U : Type 0} (w : Workings B C I P R D H G U) (stored :
   pub IsOutstanding-run : (j : ℕ) (live : LiveRun B R) → at v.runs j ≡ Some live → IsOutstandingCandidate (setting w stored) (telling_of w.works) base p j live.block
   IsOutstanding-run j live live_is =
       let r : IsRunning w stored p points next v.anchor v.cache j live = All-at (λ (e : ℕ × LiveRun B R). IsRunning w stored p points next v.anchor v.cache e.0 e.1) v.runs j live live_is s.runs.each in
-      let Goes : ℕ × LiveRun B R → Type 0 = λ e. (n : ℕ) → w.works.run_cost finality.Candidate (points (w.header.parent e.1.block.block)).1 e.1.block.block ≡ Some n → turns e.0 p < n in
+      let has_state : HasState (setting w stored) base p (parent_of (setting w stored) live.block) (points (parent_of (setting w stored) live.block)).1 =
+      subst (λ (d : Digest). HasState (setting w stored) base p d (points d).1) r.parent_is (HasState-on w stored base p points point next tip v.pause v.anchor v.cache g r.chain) in
       record {
         met = r.met;
         job = r.job;
         state = (points (parent_of (setting w stored) live.block)).1;
-        has_state = subst (λ (d : Digest). HasState (setting w stored) base p d (points d).1) r.parent_is (HasState-on w stored base p points point next tip v.pause v.anchor v.cache g r.chain);
-        unfinished = All-at Goes v.runs j live live_is go_on;
+        has_state = has_state;
+        unfinished = All-at (λ (e : ℕ × LiveRun B R). GoesOnTurning w stored base p e.0 e.1) v.runs j live live_is go_on (points (parent_of (setting w stored) live.block)).1 has_state;
       }
 
   verification_of : (t : ℕ) (request : Request B C I) → IsRequestOf w stored p t request → IsVerification request → Abstains (setting w stored) t p (first_of request) → Waits_for t
