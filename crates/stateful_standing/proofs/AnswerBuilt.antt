@@ -1,22 +1,20 @@
 -- Marks behind the last turn of a build that gave a block: it was a live build, and its live proposal is answered with what it gave.
-use Rattle.std.proofs.Common.{◌≡◌, ◌⊎◌, inl, inr, ℕ, List, [], ◌∷◌, Option, Some, Ok, MatchOption, refl, sym, ap, ◌∙◌, subst}
+use Rattle.std.proofs.Common.{◌≡◌, inl, inr, ℕ, List, [], ◌∷◌, Option, Some, Ok, MatchOption, refl, sym, subst}
 use Rattle.stateful_types.specs.Names.{Named}
 use Rattle.stateful_types.specs.declared.anchor.Anchor.{Anchor}
 use Rattle.stateful_types.specs.declared.digest.Digest.{Digest}
 use Rattle.stateful_types.specs.declared.outcome.Handoff.{Handoff}
 use Rattle.stateful_types.specs.declared.outcome.Handoff.TheVariants as handed
 use Rattle.stateful_types.specs.declared.outcome.Moved.TheVariants.{Done}
-use Rattle.stateful_db.specs.Chain.{IsPoint}
 use Rattle.stateful_db.specs.Works.{build_of}
 use Rattle.stateful_db.specs.declared.application.ProposalKind.{ProposalKind}
 use Rattle.stateful_db.specs.declared.application.ProposalKind.TheVariants as kinds
 use Rattle.stateful_db.specs.declared.application.ProposedBlock.{ProposedBlock}
 use Rattle.stateful_history.specs.Answers.{EndsLive, AnsweredIsBuilt, IsGiven}
-use Rattle.stateful_history.specs.Jobs.{JobOf, job_of, IsLiveJob, started_for}
-use Rattle.stateful_history.specs.Past.{Past, Came, Made, EachMark}
+use Rattle.stateful_history.specs.Jobs.{JobOf, IsLiveJob}
+use Rattle.stateful_history.specs.Past.{Past, Came, EachMark}
 use Rattle.stateful_history.specs.Requests.{Proposal, asked_by, IsLiveProposal}
 use Rattle.stateful_history.specs.Runs.{BuildIsAnswered, EndsAsItsKind}
-use Rattle.stateful_history.specs.States.{HasState}
 use Rattle.stateful_history.specs.Telling.{telling_of}
 use Rattle.stateful_history.specs.declared.event.Event.TheVariants.{Turn}
 use Rattle.stateful_history.specs.declared.mark.Decision.{Decision}
@@ -30,7 +28,6 @@ use Rattle.stateful_exec.specs.Workings.{Workings, Point}
 use Rattle.stateful_exec.specs.declared.building.Building.{Building}
 use Rattle.stateful_standing.specs.Setting.{setting}
 use Rattle.stateful_standing.specs.Chains.{Chain}
-use Rattle.stateful_standing.proofs.EndedPoints.{Stacked-point}
 use Rattle.stateful_standing.proofs.KeptMarks.{KeepsBehind}
 use Rattle.stateful_standing.proofs.ReasonBuilt.{HasState-given, in_chain}
 use Rattle.stateful_standing.proofs.ReasonGround.{IsGround}
@@ -74,18 +71,26 @@ module _ {B C I P R D H G U : Type 0} (w : Workings B C I P R D H G U) (stored :
 
   -- the marks that a block was built and answered
   answers : (block : Named B) (says : Decision) → IsGiven (setting w stored) (telling_of w.works) r Before says block → EachMark IsAnswer given (Built b.job b.ticket block ∷ Answered b.ticket says block ∷ [])
-  answers block says is =
-      ((tt, tt, (job.live, subst (λ (o : Option JobOf). MatchOption o ⊥ (λ k. k.kind ≡ Build)) (sym job.is) refl, refl)),
-      ((((r, record { live = proposal.live; proposes = proposal.proposes }), record {
-        job = b.job;
-        before = given;
-        built = refl;
-        request = r;
-        asked = proposal.proposes;
-        state = Before;
-        has_state = HasState-given w stored base p points point tip m g b r below chain;
-        given = is;
-      }, tt)), tt))
+  answers block says is = (
+    (tt, tt, (job.live, subst (λ (o : Option JobOf). MatchOption o ⊥ (λ k. k.kind ≡ Build)) (sym job.is) refl, refl)),
+    (
+      ((
+        (r, record { live = proposal.live; proposes = proposal.proposes }),
+        record {
+          job = b.job;
+          before = given;
+          built = refl;
+          request = r;
+          asked = proposal.proposes;
+          state = Before;
+          has_state = HasState-given w stored base p points point tip m g b r below chain;
+          given = is;
+        },
+        tt,
+      )),
+      tt,
+    ),
+  )
 
   module _ (count : D → ℕ) (turned : D) (block : ProposedBlock B U) (now : Moment w) where
     -- Each mark behind the last turn of a build that gave a block to vote on, or to stage, is such.

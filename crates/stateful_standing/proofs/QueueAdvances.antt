@@ -1,5 +1,5 @@
 -- The parents of queued proposals are known or lost behind a request that goes along its path, or acquires what it needs.
-use Rattle.std.proofs.Common.{◌≡◌, ◌≢◌, ◌++◌, ◌⊎◌, inl, inr, ℕ, List, [], ◌∷◌, All, Option, Some, refl, sym, ap, ◌∙◌, subst}
+use Rattle.std.proofs.Common.{◌≡◌, ◌++◌, ◌⊎◌, inl, ℕ, List, [], ◌∷◌, All, Option, refl, sym, ap, ◌∙◌, subst}
 use Rattle.std.proofs.lemmas.List.{append_cancel_left}
 use Rattle.stateful_types.specs.Names.{Named}
 use Rattle.stateful_types.specs.declared.anchor.Anchor.{Anchor}
@@ -11,7 +11,7 @@ use Rattle.stateful_history.specs.declared.mark.Mark.{Mark}
 use Rattle.stateful_cache.specs.Cache.{IsAtHand}
 use Rattle.stateful_exec.specs.Moments.{Moment}
 use Rattle.stateful_exec.specs.Path.{Path}
-use Rattle.stateful_exec.specs.Rules.{IsPassed, told, ended, requested, Concludes, Advances, arrives, leaves, joins, starts, misses, Acquires, valid, invalid, asks, waits, runs}
+use Rattle.stateful_exec.specs.Rules.{told, ended, requested, Concludes, Advances, arrives, leaves, joins, starts, misses, Acquires, valid, invalid, asks, waits, runs}
 use Rattle.stateful_exec.specs.Workings.{Workings, Point}
 use Rattle.stateful_exec.specs.declared.pause.Pause.TheVariants.{Free}
 use Rattle.stateful_exec.specs.declared.request.Proposal.{Proposal}

@@ -1,15 +1,14 @@
 -- Where a finalization begins, what was known or lost is so still.
-use Rattle.std.proofs.Common.{◌≡◌, ◌≢◌, ◌≤◌, ◌⊎◌, inl, inr, ℕ, List, ◌∷◌, All, Option, Some, MatchOption, get_or, refl, sym, ap, ◌∙◌, subst, arith}
+use Rattle.std.proofs.Common.{◌≡◌, ◌≢◌, ◌≤◌, ◌⊎◌, inl, inr, ℕ, List, ◌∷◌, All, Option, MatchOption, get_or, refl, sym, ap, ◌∙◌, subst, arith}
 use Rattle.stateful_types.specs.Names.{Named}
 use Rattle.stateful_types.specs.Anchor.{anchor_by}
 use Rattle.stateful_types.specs.Round.{IsLater}
 use Rattle.stateful_types.specs.declared.anchor.Anchor.{Anchor}
 use Rattle.stateful_types.specs.declared.digest.Digest.{Digest}
-use Rattle.stateful_types.specs.declared.round.Round.{Round}
 use Rattle.stateful_history.specs.Known.{Known, IsUnknown, IsPastTip}
 use Rattle.stateful_history.specs.Met.{Met}
 use Rattle.stateful_history.specs.Past.{Past, Made}
-use Rattle.stateful_history.specs.Reasons.{Missing, itself, above, IsCovered}
+use Rattle.stateful_history.specs.Reasons.{Missing, itself, above}
 use Rattle.stateful_history.specs.Setting.{parent_of}
 use Rattle.stateful_history.specs.declared.mark.Mark.TheVariants.{Began}
 use Rattle.stateful_cache.specs.Cache.{IsAtHand}
@@ -22,9 +21,8 @@ use Rattle.stateful_standing.specs.Setting.{setting}
 use Rattle.stateful_standing.specs.Reaching.{IsLost, QueueReaches}
 use Rattle.stateful_standing.proofs.QueueLost.{Missing-met}
 use Rattle.stateful_standing.proofs.ReasonFollows.{later_on}
-use Rattle.stateful_standing.proofs.ReasonGround.{IsFinal, IsGround, block_of, chain_of}
+use Rattle.stateful_standing.proofs.ReasonGround.{IsGround, block_of, chain_of}
 use Rattle.stateful_standing.proofs.ReasonKnown.{known_or_not, later_than_tip, tip_known}
-use Rattle.stateful_standing.proofs.ReasonMissing.{Missing-last, Missing-first}
 use Rattle.stateful_standing.proofs.ReasonStuck.{below_at_hand, IsLost-below}
 
 module _ {B C I P R D H G U : Type 0} (w : Workings B C I P R D H G U) (stored : ℕ → Option (Named B)) (base : w.States) (p : Past B C I) (points : Digest → Point w) (point : Point w) (next : w.Ids) (anchor : Anchor) (cache : List (Cached U)) (g : IsGround w stored base p points point next anchor Free anchor cache)
@@ -45,8 +43,8 @@ module _ {B C I P R D H G U : Type 0} (w : Workings B C I P R D H G U) (stored :
   missing-began {x = x} there (itself u) other = itself (unknown-began x.digest other u)
   missing-began {y = y} there (above {x = z} m met_y is u) other =
       let not_final : z.digest ≢ b.digest = λ same.
-          let one : z ≡ b = g.names z b (Missing-met (setting w stored) base p there m) met same in
-          u (subst (λ (d : Digest). Known (setting w stored) p d) (sym (is ∙ ap (λ (c : Named B). parent_of (setting w stored) c) one ∙ on_anchor)) anchor_was) in
+      let one : z ≡ b = g.names z b (Missing-met (setting w stored) base p there m) met same in
+      u (subst (λ (d : Digest). Known (setting w stored) p d) (sym (is ∙ ap (λ (c : Named B). parent_of (setting w stored) c) one ∙ on_anchor)) anchor_was) in
       above (missing-began there m not_final) (inr met_y) is (unknown-began y.digest other u)
 
   -- a block at hand is known, or lost

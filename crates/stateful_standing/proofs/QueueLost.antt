@@ -1,44 +1,34 @@
 -- A queued proposal whose parent isn't known any more is declined for a reason: its parent is lost, and stays so.
-use Rattle.std.proofs.Common.{◌≡◌, ◌≢◌, ◌≤◌, ◌⊎◌, inl, inr, ℕ, List, ◌∷◌, All, Option, Some, MatchOption, refl, sym, ap, ◌∙◌, subst, arith}
-use Rattle.std.proofs.lemmas.List.Elements.{All-weaker}
+use Rattle.std.proofs.Common.{◌≡◌, ◌≤◌, ◌⊎◌, inl, inr, ℕ, List, ◌∷◌, All, Option, Some, MatchOption, refl, sym, ◌∙◌, subst}
 use Rattle.stateful_types.specs.Names.{Named}
-use Rattle.stateful_types.specs.Anchor.{anchor_by}
-use Rattle.stateful_types.specs.Round.{IsLater}
 use Rattle.stateful_types.specs.declared.anchor.Anchor.{Anchor}
 use Rattle.stateful_types.specs.declared.digest.Digest.{Digest}
-use Rattle.stateful_types.specs.declared.round.Round.{Round}
 use Rattle.stateful_history.specs.Anchors.{tip_of}
 use Rattle.stateful_history.specs.Declines.{IsOutOfReach, MayDecline, DeclinedHasReason}
 use Rattle.stateful_history.specs.Known.{Known, is_tip, kept, stays, IsUnknown, IsPastTip}
 use Rattle.stateful_history.specs.Met.{Met, TrueNames}
 use Rattle.stateful_history.specs.Opening.{StartsNone}
-use Rattle.stateful_history.specs.Past.{Past, Item, Made}
+use Rattle.stateful_history.specs.Past.{Past, Item}
 use Rattle.stateful_history.specs.Reasons.{Missing, itself, above, IsCovered}
 use Rattle.stateful_history.specs.Requests as requests
 use Rattle.stateful_history.specs.Setting.{Setting, parent_of}
 use Rattle.stateful_history.specs.Telling.{telling_of}
 use Rattle.stateful_history.specs.declared.event.Event.{Event}
 use Rattle.stateful_history.specs.declared.mark.Mark.{Mark}
-use Rattle.stateful_history.specs.declared.mark.Mark.TheVariants.{Began, Declined}
-use Rattle.stateful_cache.specs.Cache.{IsAtHand}
+use Rattle.stateful_history.specs.declared.mark.Mark.TheVariants.{Declined}
 use Rattle.stateful_cache.specs.declared.cache.Cached.{Cached}
 use Rattle.stateful_table.specs.Table.{at}
-use Rattle.stateful_exec.specs.Boundary.{Boundary}
 use Rattle.stateful_exec.specs.Building.{IsReady}
 use Rattle.stateful_exec.specs.Workings.{Workings, Point}
-use Rattle.stateful_exec.specs.declared.pause.Pause.TheVariants.{Free, Finalizing}
+use Rattle.stateful_exec.specs.declared.pause.Pause.TheVariants.{Free}
 use Rattle.stateful_exec.specs.declared.request.Proposal.{Proposal}
 use Rattle.stateful_exec.specs.declared.state.Tables.{Tables}
 use Rattle.stateful_standing.specs.Setting.{setting}
 use Rattle.stateful_standing.specs.Reaching.{IsLost, QueueReaches}
 use Rattle.stateful_standing.specs.Requesting.{QueueStands}
-use Rattle.stateful_standing.specs.Standing.{TablesStand}
 use Rattle.stateful_standing.proofs.Calm.{later-moved}
-use Rattle.stateful_standing.proofs.ReasonFollows.{later_on}
-use Rattle.stateful_standing.proofs.ReasonGround.{IsFinal, IsGround, chain_of, HasState-on}
-use Rattle.stateful_standing.proofs.ReasonKnown.{known_or_not, later_than_tip, tip_known}
+use Rattle.stateful_standing.proofs.ReasonGround.{IsGround, chain_of, HasState-on}
 use Rattle.stateful_standing.proofs.ReasonMissing.{Known-above, Missing-last, Missing-first}
-use Rattle.stateful_standing.proofs.ReasonStuck.{below_at_hand, IsLost-below}
 use Rattle.stateful_standing.proofs.Removing.{All-at}
 
 module _ {B C I S T : Type 0} (s : Setting B S T) (base : S) where

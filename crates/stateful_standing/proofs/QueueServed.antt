@@ -1,11 +1,7 @@
 -- The parents of queued proposals are known or lost behind a request that is served.
-use Rattle.std.proofs.Common.{◌≡◌, ◌≢◌, ◌==◌, ◌++◌, ◌⊎◌, if◌then◌else◌, inl, inr, ℕ, Bool, true, false, List, [], ◌∷◌, All, Option, None, Some, refl, sym, ap, ◌∙◌, subst}
-use Rattle.std.proofs.lemmas.List.{append_cancel_left}
-use Rattle.std.proofs.lemmas.List.Elements.{All-head, All-weaker}
+use Rattle.std.proofs.Common.{◌≡◌, ◌==◌, ◌⊎◌, if◌then◌else◌, inl, inr, ℕ, Bool, true, false, List, [], ◌∷◌, All, Option, Some, sym, ap}
+use Rattle.std.proofs.lemmas.List.Elements.{All-weaker}
 use Rattle.stateful_types.specs.Names.{Named}
-use Rattle.stateful_types.specs.declared.anchor.Anchor.{Anchor}
-use Rattle.stateful_types.specs.declared.digest.Digest.{Digest}
-use Rattle.stateful_history.specs.Known.{Known}
 use Rattle.stateful_history.specs.Met.{Met, TrueNames}
 use Rattle.stateful_history.specs.Past.{Past, Came, Made, after}
 use Rattle.stateful_history.specs.Requests as requests
@@ -19,7 +15,7 @@ use Rattle.stateful_standing.specs.Setting.{setting}
 use Rattle.stateful_standing.specs.Reaching.{QueueReaches}
 use Rattle.stateful_standing.specs.Requesting.{QueueStands}
 use Rattle.stateful_standing.proofs.QueueLost.{QueueReaches-on}
-use Rattle.stateful_standing.proofs.ServedMarks.{IsServedBy, AreServedBy, calm_one}
+use Rattle.stateful_standing.proofs.ServedMarks.{AreServedBy, calm_one}
 
 module _ {B C I S T : Type 0} (s : Setting B S T) where
   some_parent : (b : Bool) (x r : requests.Proposal B C I) (o : Option (requests.Proposal B C I)) → (if b then Some x else o) ≡ Some r → (x ≡ r) ⊎ (o ≡ Some r)

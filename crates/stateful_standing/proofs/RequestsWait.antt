@@ -1,11 +1,10 @@
 -- Where nothing pauses, each request in the tables waits for outstanding work.
-use Rattle.std.proofs.Common.{◌≡◌, ◌<◌, ℕ, Option, None, Some, MatchOption, refl, sym, ◌∙◌, subst}
+use Rattle.std.proofs.Common.{◌≡◌, ℕ, Option, None, Some, MatchOption, refl, sym, ◌∙◌, subst}
 use Rattle.stateful_types.specs.Names.{Named}
 use Rattle.stateful_types.specs.declared.anchor.Anchor.{Anchor}
 use Rattle.stateful_types.specs.declared.digest.Digest.{Digest}
-use Rattle.stateful_types.specs.declared.outcome.Finality.TheVariants as finality
 use Rattle.stateful_history.specs.Fetches.{Abstains}
-use Rattle.stateful_history.specs.Jobs.{turns, IsOutstandingCandidate, HasOutstandingBuild}
+use Rattle.stateful_history.specs.Jobs.{IsOutstandingCandidate, HasOutstandingBuild}
 use Rattle.stateful_history.specs.Past.{Past}
 use Rattle.stateful_history.specs.Prunes.{PruneRule}
 use Rattle.stateful_history.specs.Requests.{StandsOn, IsLiveProposal}

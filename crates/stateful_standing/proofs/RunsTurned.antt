@@ -1,6 +1,6 @@
 -- Live runs go on turning: a block has one state at most, and each turn that isn't the last leaves some.
-use Rattle.std.proofs.Common.{◌≡◌, ◌≢◌, ◌<◌, ◌+◌, ◌==◌, inl, inr, option_map, ℕ, Bool, true, false, List, [], ◌∷◌, All, Option, None, Some, Ok, get_or, refl, sym, ap, ◌∙◌, subst, arith}
-use Rattle.std.proofs.lemmas.Bool.{eqb-true, eqb-false, eq-eqb}
+use Rattle.std.proofs.Common.{◌≡◌, ◌<◌, ◌+◌, ◌==◌, inl, inr, option_map, ℕ, Bool, true, false, List, [], ◌∷◌, Option, None, Some, Ok, get_or, refl, sym, ap, ◌∙◌, subst}
+use Rattle.std.proofs.lemmas.Bool.{eqb-true, eq-eqb}
 use Rattle.std.proofs.lemmas.List.Elements.{All-weaker}
 use Rattle.stateful_types.specs.Names.{Named}
 use Rattle.stateful_types.specs.declared.anchor.Anchor.{Anchor}
@@ -11,14 +11,13 @@ use Rattle.stateful_db.specs.Chain.{IsPoint}
 use Rattle.stateful_db.specs.Works.{run_of, Costs}
 use Rattle.stateful_history.specs.Jobs.{JobOf, job_of, started_for, turns}
 use Rattle.stateful_history.specs.Met.{Met, TrueNames}
-use Rattle.stateful_history.specs.Past.{Past, Came, Made, after}
+use Rattle.stateful_history.specs.Past.{Past, Came}
 use Rattle.stateful_history.specs.Setting.{Setting, parent_of}
 use Rattle.stateful_history.specs.States.{HasState}
 use Rattle.stateful_history.specs.States as states
 use Rattle.stateful_history.specs.declared.event.Event.TheVariants.{Turn}
 use Rattle.stateful_history.specs.declared.mark.JobKind.TheVariants.{Candidate}
-use Rattle.stateful_history.specs.declared.mark.Mark.{Mark}
-use Rattle.stateful_table.specs.Table.{at, put}
+use Rattle.stateful_table.specs.Table.{put}
 use Rattle.stateful_exec.specs.Ending.{TurnsRun}
 use Rattle.stateful_exec.specs.Workings.{Workings, Point}
 use Rattle.stateful_exec.specs.declared.state.Tables.{Tables}
@@ -31,7 +30,6 @@ use Rattle.stateful_standing.proofs.EndedPoints.{Stacked-point}
 use Rattle.stateful_standing.proofs.EndedStands.{running}
 use Rattle.stateful_standing.proofs.Putting.{All-put}
 use Rattle.stateful_standing.proofs.ReasonGround.{IsGround, HasState-on}
-use Rattle.stateful_standing.proofs.Removing.{All-at}
 use Rattle.stateful_standing.proofs.SamePast.{IsSamePast, HasState-same}
 
 module _ {B C I S T : Type 0} (s : Setting B S T) (p : Past B C I) (names : TrueNames s p) where
