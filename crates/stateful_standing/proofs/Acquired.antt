@@ -34,17 +34,17 @@ use Rattle.stateful_standing.proofs.Putting.{All-put, put_other}
 use Rattle.stateful_standing.proofs.Served.{unbrought, Serves, Serves-concludes, Serves-put}
 
 -- the missing blocks and the end of a walk begin with the first block that was walked from
-first_walked : {B : Type 0} (missing : List (Named B)) (last : Named B) (rest : List (Named B)) (first : Named B) (more : List (Named B)) → first ∷ more ≡ missing ++ last ∷ rest → first_or last missing ≡ first
+pub first_walked : {B : Type 0} (missing : List (Named B)) (last : Named B) (rest : List (Named B)) (first : Named B) (more : List (Named B)) → first ∷ more ≡ missing ++ last ∷ rest → first_or last missing ≡ first
 first_walked [] last rest first more is = search
 first_walked (x ∷ missing) last rest first more is = search
 
 module _ {B : Type 0} (header : Header B) where
-  leads_down : (bs : List (Named B)) → Descends header bs → LeadsDown header bs
+  pub leads_down : (bs : List (Named B)) → Descends header bs → LeadsDown header bs
   leads_down [] d = tt
   leads_down (b ∷ []) d = tt
   leads_down (b ∷ c ∷ bs) d = (d.0.0, d.1)
 
-  leads_from : (b : Named B) (missing : List (Named B)) (last : Named B) → (first_or last missing).digest ≡ header.parent b.block → Descends header (missing ++ last ∷ []) → LeadsDown header (b ∷ (missing ++ last ∷ []))
+  pub leads_from : (b : Named B) (missing : List (Named B)) (last : Named B) → (first_or last missing).digest ≡ header.parent b.block → Descends header (missing ++ last ∷ []) → LeadsDown header (b ∷ (missing ++ last ∷ []))
   leads_from b [] last child d = (child, d)
   leads_from b (x ∷ missing) last child d = (child, d)
 

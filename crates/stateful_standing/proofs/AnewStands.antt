@@ -37,7 +37,7 @@ use Rattle.stateful_standing.proofs.ResumeStands.{AreServed-along}
 use Rattle.stateful_standing.proofs.Served.{Serves}
 
 -- entries of a table are of different numbers
-entries_apart : {V : Type 0} (es : List (ℕ × V)) → IsStrictlySortedBy nat_cmp (keys_of es) → AllPairs (λ e f. e.0 ≢ f.0) es
+pub entries_apart : {V : Type 0} (es : List (ℕ × V)) → IsStrictlySortedBy nat_cmp (keys_of es) → AllPairs (λ e f. e.0 ≢ f.0) es
 entries_apart [] sorted = λ i j d lt within. let no : ⊥ = omega (arith, within) in absurd no
 entries_apart {V = V} (e ∷ es) sorted = AllPairs-cons (λ (e f : ℕ × V). e.0 ≢ f.0) e es
     (λ k d l. below_apart e.0 (get_or es k d).0 (at_below e.0 es (get_or es k d).0 (get_or es k d).1 (sorted_head nat_cmp e.0 (keys_of es) sorted) (each_at es (sorted_tail nat_cmp e.0 (keys_of es) sorted) k d l)))
@@ -67,7 +67,7 @@ module _ {B C I P R D H G U : Type 0} (w : Workings B C I P R D H G U) (stored h
 
   module _ (p : Past B C I) (m : Moment w) (s : TablesStand w stored p points point m.next m.state) (may : All (MayWait p (unsettled w m)) (unacquired_in m.state.requests)) where
     -- they are taken out, and in hand
-    out : All (IsFit w stored points point ticket_at request_at MayWait p (unsettled w m)) (unacquired_in m.state.requests)
+    pub out : All (IsFit w stored points point ticket_at request_at MayWait p (unsettled w m)) (unacquired_in m.state.requests)
     out = λ k d l.
         let e = get_or (unacquired_in m.state.requests) k d in
         let unacquired = filter_passes (λ (x : ℕ × Requested B C I). is_unacquired x.1.phase) m.state.requests k d l in

@@ -37,7 +37,7 @@ pub record LeavesJob {B C I : Type 0} (p : Past B C I) (x : Item B C I) (j : ℕ
   pub turns : turns j (x ∷ p) ≡ turns j p
 
 module _ {B C I S T : Type 0} (s : Setting B S T) where
-  later-moved : (p q : Past B C I) (b : Named B) → tip_of s.header q ≡ tip_of s.header p → IsPastTip s p b → IsPastTip s q b
+  pub later-moved : (p q : Past B C I) (b : Named B) → tip_of s.header q ≡ tip_of s.header p → IsPastTip s p b → IsPastTip s q b
   later-moved p q b e l = subst (λ o. MatchOption o ⊥ (λ tip. IsLater tip.round (round_of s b))) (sym e) l
 
   -- a known block stays known

@@ -86,13 +86,13 @@ module _ {B C I P R D H G U : Type 0} (w : Workings B C I P R D H G U) (stored :
         same_run : record live { run = turned } ≡ ends.run
         same_run = let found : Some (record live { run = turned }) ≡ Some ends.run = rw (at-put m.state.runs j (record live { run = turned }) j, eq-eqb j j refl) at ends.live in search
 
-        same_block : live.block ≡ b
+        pub same_block : live.block ≡ b
         same_block = ap (λ (r : LiveRun B R). r.block) same_run ∙ ends.block_is
 
-        told_so : IsTold w m.state.anchor live.block m.state.cache ends.cache o how
+        pub told_so : IsTold w m.state.anchor live.block m.state.cache ends.cache o how
         told_so = subst (λ (c : Named B). IsTold w m.state.anchor c m.state.cache ends.cache o how) (sym same_block) ends.told
 
-        crosses_so : Crosses w.header live.block m.state.pause ends.pause
+        pub crosses_so : Crosses w.header live.block m.state.pause ends.pause
         crosses_so = subst (λ (c : Named B). Crosses w.header c m.state.pause ends.pause) (sym same_block) ends.crosses
 
         -- what is left by the end of a run stands behind its rule

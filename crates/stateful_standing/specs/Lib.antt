@@ -6,3 +6,7 @@ pub mod Building
 pub mod Fronting
 pub mod Requesting
 pub mod Standing
+pub mod Gathering
+pub mod Ways
+pub mod Outstanding
+pub mod Reaching
