@@ -26,7 +26,7 @@ use Rattle.stateful_exec.specs.declared.tables.Phase.TheVariants.{Open, Fetching
 use Rattle.stateful_exec.specs.declared.tables.Requested.{Requested}
 use Rattle.stateful_standing.specs.Setting.{setting}
 use Rattle.stateful_standing.specs.Outstanding.{TicketsApart, GoesOnTurning, RunsGoOn}
-use Rattle.stateful_standing.specs.Requesting.{first_of, IsRequestOf, IsWayOf, IsInPhase, IsStanding}
+use Rattle.stateful_standing.specs.Requesting.{AllAbstain, first_of, IsRequestOf, IsWayOf, IsInPhase, IsStanding}
 use Rattle.stateful_standing.specs.Running.{IsRunning}
 use Rattle.stateful_standing.specs.Standing.{TablesStand}
 use Rattle.stateful_standing.proofs.OnPath.{StandsOn-way}
@@ -70,18 +70,18 @@ module _ {B C I P R D H G U : Type 0} (w : Workings B C I P R D H G U) (stored :
       StandsOn-digest : Named B → Type 0
       StandsOn-digest b = StandsOn (setting w stored) p t b.digest
 
-  in_phase : (t : ℕ) (request : Request B C I) (phase : Phase B) → IsRequestOf w stored p t request → IsInPhase w stored p v.runs t request phase → IsSettled phase → Waits_for t
-  in_phase t request Open asked h settled = absurd settled
-  in_phase t request (Parked path) asked h settled = absurd settled
-  in_phase t request (Fetching f) asked h settled = fetch (record { fetch = f; live = h.0; own = h.1 })
-  in_phase t request Waiting asked h settled = verification_of t request asked h.0 h.1
-  in_phase t request (Executing j path) asked h settled = on_run t request j path asked (at v.runs j) refl h.0 h.1
+  in_phase : (t : ℕ) (request : Request B C I) (phase : Phase B) → IsRequestOf w stored p t request → IsInPhase w stored p v.runs t request phase → (phase ≡ Waiting → Abstains (setting w stored) t p (first_of request)) → IsSettled phase → Waits_for t
+  in_phase t request Open asked h abstains settled = absurd settled
+  in_phase t request (Parked path) asked h abstains settled = absurd settled
+  in_phase t request (Fetching f) asked h abstains settled = fetch (record { fetch = f; live = h.0; own = h.1 })
+  in_phase t request Waiting asked h abstains settled = verification_of t request asked h (abstains refl)
+  in_phase t request (Executing j path) asked h abstains settled = on_run t request j path asked (at v.runs j) refl h.0 h.1
 
-  -- a request that fetches, that waits for a run or that abstains waits for outstanding work
-  pub Waits-requested : (t : ℕ) (r : Requested B C I) → at v.requests t ≡ Some r → IsSettled r.phase → Waits_for t
-  Waits-requested t r there settled =
+  -- where each request that waits abstains, one that fetches, that waits or that waits for a run waits for outstanding work
+  pub Waits-requested : AllAbstain w stored p v.requests → (t : ℕ) (r : Requested B C I) → at v.requests t ≡ Some r → IsSettled r.phase → Waits_for t
+  Waits-requested abstain t r there settled =
       let h : IsStanding w stored p v.runs t r = All-at (λ (e : ℕ × Requested B C I). IsStanding w stored p v.runs e.0 e.1) v.requests t r there s.requests.each in
-      in_phase t r.request r.phase h.asked h.phase settled
+      in_phase t r.request r.phase h.asked h.phase (All-at (λ (e : ℕ × Requested B C I). e.1.phase ≡ Waiting → Abstains (setting w stored) e.0 p (first_of e.1.request)) v.requests t r there abstain) settled
 
   -- and one that is queued for its build, while any build is outstanding
   pub Waits-queued : HasOutstandingBuild (setting w stored) (telling_of w.works) base p → (t : ℕ) (q : Proposal B C I) → at v.queued t ≡ Some q → Waits_for t
