@@ -1,8 +1,8 @@
 -- What a line that names a block adds.
-use Rattle.std.proofs.Common.{◌≡◌, ℕ, ◌+◌, ◌<◌, ◌≤◌, ◌^◌, Bool, true, false, ◌&&◌, cond, List, [], ◌∷◌, ◌++◌, Option, Some, None, option_map, length, nat_lt, not, arith, refl, ap, sym, ◌∙◌, All, codes}
+use Rattle.std.proofs.Common.{◌≡◌, ℕ, ◌+◌, ◌<◌, ◌≤◌, ◌^◌, true, false, List, [], ◌∷◌, ◌++◌, Option, Some, None, length, nat_lt, arith, refl, ◌∙◌, codes}
 use Rattle.std.specs.List.{list_all}
 use Rattle.std.proofs.lemmas.Grind.{common_steps}
-use Rattle.std.proofs.lemmas.Option.{option_and_then_some, cond_some}
+use Rattle.std.proofs.lemmas.Option.{cond_some}
 use Rattle.stateful_types.specs.declared.number.Height.{Height}
 use Rattle.stateful_script.specs.Fields.{Fields, field_as, field_at, after_word, number_at}
 use Rattle.stateful_script.specs.Named.{is_free, block_at, height_in}
@@ -14,8 +14,8 @@ use Rattle.stateful_script.specs.declared.item.Item.{Item}
 use Rattle.stateful_script.specs.declared.item.BlockItems.{BlockItems}
 use Rattle.stateful_script.specs.declared.script.PlannedBlock.{PlannedBlock}
 use Rattle.stateful_script.specs.declared.script.Script.{Script}
-use Rattle.stateful_script.proofs.Found.{Has, nothing, this, chosen, where_true, bound, mapped}
-use Rattle.stateful_script.proofs.ItemsKept.{Fits, items_short, said_fits, ForBuild, said_for_build}
+use Rattle.stateful_script.proofs.Found.{Has, this, where_true, bound, mapped}
+use Rattle.stateful_script.proofs.ItemsKept.{items_short, said_fits, said_for_build}
 use Rattle.stateful_script.proofs.EventsKept.{block_below}
 
 -- the name is free, and the parent is named

@@ -1,5 +1,5 @@
 -- The blocks of an event line are among those named.
-use Rattle.std.proofs.Common.{◌≡◌, ℕ, ◌<◌, Bool, List, Option, Some, None, option_map, length, codes}
+use Rattle.std.proofs.Common.{ℕ, ◌<◌, List, Option, Some, None, length, codes}
 use Rattle.std.specs.Str.{bytes_eq}
 use Rattle.std.proofs.lemmas.List.Quantifiers.{position-Some}
 use Rattle.stateful_script.specs.Fields.{Fields, field_as, field_at, number_at, last_word}
@@ -9,7 +9,7 @@ use Rattle.stateful_script.specs.Laws.{IsNamedBelow, IsBuilt}
 use Rattle.stateful_script.specs.declared.script.PlannedEvent.{PlannedEvent}
 use Rattle.stateful_script.specs.declared.script.PlannedEvent.TheVariants as event
 use Rattle.stateful_script.specs.declared.script.Script.{Script}
-use Rattle.stateful_script.proofs.Found.{Has, nothing, this, chosen, where_true, bound, mapped}
+use Rattle.stateful_script.proofs.Found.{Has, this, chosen, where_true, bound, mapped}
 
 -- places of names
 

@@ -1,13 +1,12 @@
 -- What the items of a line keep: operations are few, and a hook's turns are at most 9. Items for builds say no height and no
 -- turns, and leave the roots right.
-use Rattle.std.proofs.Common.{◌≡◌, ℕ, zero, suc, ◌≤◌, ◌+◌, Bool, true, false, ◌&&◌, ◌==◌, cond, List, [], ◌∷◌, Option, Some, None, option_and_then, option_map, unwrap_or, length, nat_le, All, arith, refl, subst, codes}
+use Rattle.std.proofs.Common.{◌≡◌, ℕ, zero, suc, ◌≤◌, true, false, ◌&&◌, List, [], ◌∷◌, Option, Some, None, unwrap_or, length, nat_le, All, arith, refl, codes}
 use Rattle.std.specs.List.{filter_map, list_all, count_by}
 use Rattle.std.specs.Str.{bytes_eq}
 use Rattle.std.proofs.lemmas.Grind.{common_steps}
 use Rattle.std.proofs.lemmas.List.Elements.{All-nil, All-cons, All-head, All-tail}
-use Rattle.std.proofs.lemmas.Option.{cond_some}
 use Rattle.stateful_script.specs.Fields.{Fields, field_at, turns, account_at, number_at, turns_at}
-use Rattle.stateful_script.specs.BlockItems.{mint_at, move_at, height_at, epoch_at, slow_at, item_by, with_first, items_within, items_of, build_items_of, op_of, height_of, epoch_of, turns_of, is_wrong, is_for_builds, at_most_one, said_of}
+use Rattle.stateful_script.specs.BlockItems.{mint_at, move_at, height_at, epoch_at, slow_at, item_by, items_within, items_of, build_items_of, op_of, height_of, epoch_of, turns_of, is_wrong, is_for_builds, at_most_one, said_of}
 use Rattle.stateful_script.specs.declared.item.Item.{Item}
 use Rattle.stateful_script.specs.declared.item.Item.TheVariants as item
 use Rattle.stateful_script.specs.declared.item.BlockItems.{BlockItems}

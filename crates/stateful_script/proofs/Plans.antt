@@ -1,7 +1,7 @@
 -- Whatever a script names is there: each line keeps it so.
-use Rattle.std.proofs.Common.{◌≡◌, ◌≢◌, ℕ, zero, suc, ◌+◌, ◌<◌, ◌≤◌, ◌==◌, Bool, true, ◌&&◌, ◌||◌, List, [], ◌∷◌, ◌++◌, Option, Some, None, length, nat_lt, get_or, refl, sym, ap, ◌∙◌, inl, inr, subst, arith, length-append, codes, slice_index, All}
+use Rattle.std.proofs.Common.{◌≡◌, ◌≢◌, ℕ, ◌<◌, ◌≤◌, ◌==◌, true, ◌&&◌, ◌||◌, List, [], ◌∷◌, ◌++◌, Some, None, length, nat_lt, get_or, refl, ◌∙◌, inl, inr, subst, arith, length-append, codes, slice_index}
 use Rattle.std.specs.List.{slice_get, slice_index_or, position_or_len, list_all}
-use Rattle.std.specs.Option.{is_none, option_map_or}
+use Rattle.std.specs.Option.{is_none}
 use Rattle.std.specs.Char.{is_ascii}
 use Rattle.std.specs.Str.{bytes_eq}
 use Rattle.std.proofs.Math.ListN.{get_or-append}
@@ -12,9 +12,9 @@ use Rattle.std.proofs.lemmas.List.Elements.{All-nil, All-cons, All-push, All-wea
 use Rattle.std.proofs.lemmas.List.Sums.{fails_before_first}
 use Rattle.std.proofs.lemmas.List.Quantifiers.{all_pairs_push}
 use Rattle.std.proofs.lemmas.Slice.Eq.{bytes_eq-Decides}
-use Rattle.std.proofs.lemmas.Option.{option_and_then_some, cond_some, same_Some, slice_get_within, slice_get_read, get_or_from_slice_get}
+use Rattle.std.proofs.lemmas.Option.{option_and_then_some, same_Some, slice_get_within, get_or_from_slice_get}
 use Rattle.stateful_script.specs.Fields.{Fields, field_at, field_as, fields_of, is_name}
-use Rattle.stateful_script.specs.Named.{at_start, place, is_free, height_in}
+use Rattle.stateful_script.specs.Named.{at_start, place, is_free}
 use Rattle.stateful_script.specs.BlockItems.{items_of, build_items_of, is_for_builds}
 use Rattle.stateful_script.specs.BlockLines.{head_at, decision}
 use Rattle.stateful_script.specs.EventLines.{event_by}

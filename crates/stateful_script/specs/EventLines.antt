@@ -13,7 +13,7 @@
 --     stop
 --     restart HEIGHT KEEP ..            with one number for each database
 --     restart none KEEP ..
-use Rattle.std.specs.Prelude.{ℕ, ◌==◌, Bool, List, [], ◌∷◌, ◌++◌, Option, Some, None, option_map, zero, suc, if◌then◌else◌, codes}
+use Rattle.std.specs.Prelude.{ℕ, List, [], ◌∷◌, ◌++◌, Option, Some, None, option_map, zero, suc, if◌then◌else◌, codes}
 use Rattle.std.specs.Str.{bytes_eq}
 use Rattle.stateful_types.specs.declared.number.Height.{Height}
 use Rattle.stateful_script.specs.Fields.{Fields, field_as, number, number_at, last_word, ◌>>=◌}
