@@ -85,3 +85,5 @@ pub mod EventsPass
 pub mod BuildMarks
 pub mod PausedSteps
 pub mod OpenedStands
+pub mod Quiet
+pub mod DueStands

@@ -4,5 +4,6 @@ pub mod Caching
 pub mod Running
 pub mod Building
 pub mod Fronting
+pub mod Due
 pub mod Requesting
 pub mod Standing
