@@ -173,6 +173,14 @@ module _ {B C I P R D H G U : Type 0} (w : Workings B C I P R D H G U) (stored :
     pub IsDue-steps : IsDue (setting w stored) p m.state.cache front → Steps w count m j now → (more : List (Mark B)) → now.marks ≡ m.marks ++ more → IsDue (setting w stored) (after (Came (Turn j) ∷ p) more) now.state.cache front
     IsDue-steps due steps more is = by steps.running steps.answer steps.turns steps.settles due more is
 
+module _ {B C I P R D H G U : Type 0} (w : Workings B C I P R D H G U) (stored : ℕ → Option (Named B)) (p : Past B C I) (m now : Moment w) (front : Option (Front B R U H)) where
+  -- what is due is so behind rules of requests
+  pub IsDue-quietly : GoesQuietly w m now → IsDue (setting w stored) p m.state.cache front → (more : List (Mark B)) → now.marks ≡ m.marks ++ more → IsDue (setting w stored) (after p more) now.state.cache front
+  IsDue-quietly g due more is =
+      let same : more ≡ g.more = append_cancel_left m.marks more g.more (sym is ∙ g.marks_are) in
+      subst (λ l. IsDue (setting w stored) (after p l) now.state.cache front) (sym same)
+      (subst (λ c. IsDue (setting w stored) (after p g.more) c front) (sym g.cache) (IsDue-quiet (setting w stored) p m.state.cache g.more g.quiet front due))
+
 module _ {B C I P R D H G U : Type 0} (w : Workings B C I P R D H G U) (stored : ℕ → Option (Named B)) (q : Past B C I) (cache : List (Cached U)) where
   -- nothing is due of a block that runs or was run
   pub IsDue-runs : (b : Named B) (m : w.kind.Members) (next now : w.Ids) (old new : Tables B C I R U) (front : Option (Front B R U H)) → RunsFinal w b m next now old new front → IsDue (setting w stored) q cache front

@@ -87,3 +87,4 @@ pub mod PausedSteps
 pub mod OpenedStands
 pub mod Quiet
 pub mod DueStands
+pub mod FrontMarks

@@ -18,7 +18,11 @@ use Rattle.stateful_cache.specs.declared.cache.Cached.{Cached}
 use Rattle.stateful_exec.specs.Ending.{InTurn, none, next, Follows, given_up, held, failed, parked, goes_on}
 use Rattle.stateful_exec.specs.Moments.{Moment}
 use Rattle.stateful_exec.specs.Path.{Path}
-use Rattle.stateful_exec.specs.Rules.{told, requested, Concludes, Advances, arrives, leaves, joins, starts, misses, Acquires, valid, invalid, asks, waits, runs}
+use Rattle.stateful_exec.specs.Fetching.{serving, with_block, IsFetched, found, waits as awaits, declines, dead, Cancels, idle, withdraws, leaves as lets, ends, unqueued}
+use Rattle.stateful_exec.specs.Pausing.{GoesAlong, AcquiresAnew, unparked, unsettled, Resumes}
+use Rattle.stateful_exec.specs.Phase.{parked_in, unacquired_in}
+use Rattle.stateful_exec.specs.Rules.{taken, told, ended, requested, Concludes, Advances, arrives, leaves, joins, starts, misses, Acquires, valid, invalid, asks, waits, runs}
+use Rattle.stateful_exec.specs.declared.state.Tables.{Tables}
 use Rattle.stateful_exec.specs.Workings.{Workings}
 use Rattle.stateful_exec.specs.declared.request.Request.{Request}
 use Rattle.stateful_exec.specs.declared.request.Request.TheVariants.{Verify, Recover}
@@ -127,6 +131,42 @@ module _ {B C I P R D H G U : Type 0} (w : Workings B C I P R D H G U) where
   pub GoesQuietly-follows : (b : Named B) (how : How) (r : Released B C I) (m now : Moment w) → Follows w b how r m now → GoesQuietly m now
   GoesQuietly-follows b how r m now rule = let q = follows b how r m now rule in let l = LeavesBehind-follows w b how r m now rule in record { more = q.more; marks_are = q.marks_are; quiet = q.quiet; cache = l.left.cache }
 
+  concludes_cache : (v : Tables B C I R U) (t : ℕ) (request : Request B C I) (x : Verdicts) → (ended v t request x).cache ≡ v.cache
+  concludes_cache v t (Verify u ancestry) Valid = refl
+  concludes_cache v t (Verify u ancestry) Invalid = refl
+  concludes_cache v t (Recover u context ancestry input kind) Valid = refl
+  concludes_cache v t (Recover u context ancestry input kind) Invalid = refl
+
+  pub GoesQuietly-concludes : (m now : Moment w) (t : ℕ) (r : Requested B C I) (v : Verdicts) → Concludes w m t r v now → GoesQuietly m now
+  GoesQuietly-concludes m now t r v rule = let q = concludes m now t r v rule in record { more = q.more; marks_are = q.marks_are; quiet = q.quiet; cache = ap (λ (n : Moment w). n.state.cache) rule ∙ concludes_cache m.state t r.request v }
+
+  -- where the tables change alone, but not the cache
+  pub GoesQuietly-same : (m : Moment w) (new : Tables B C I R U) → new.cache ≡ m.state.cache → GoesQuietly m (record m { state = new })
+  GoesQuietly-same m new same = record { more = []; marks_are = sym (append-nil m.marks); quiet = All-nil (λ x. IsQuiet x); cache = same }
+
+  pub GoesQuietly-then : (m n last : Moment w) → GoesQuietly m n → GoesQuietly n last → GoesQuietly m last
+  GoesQuietly-then m n last f g = record {
+    more = f.more ++ g.more;
+    marks_are = g.marks_are ∙ ap (λ marks. marks ++ g.more) f.marks_are ∙ append_assoc m.marks f.more g.more;
+    quiet = All-append (λ y. IsQuiet y) f.more g.more f.quiet g.quiet;
+    cache = g.cache ∙ f.cache;
+  }
+
+  -- an answered fetch goes so
+  pub GoesQuietly-fetched : (stored_now : ℕ → Option (Named B)) (m now : Moment w) (fetch : ℕ) (answer : Option (Named B)) → IsFetched w stored_now m fetch answer now → GoesQuietly m now
+  GoesQuietly-fetched stored_now m now fetch answer (found t r b f is rule) = GoesQuietly-then m (serving w m t) now (GoesQuietly-same m (taken m.state t) refl) (GoesQuietly-acquires stored_now (serving w m t) now t (with_block r b) rule)
+  GoesQuietly-fetched stored_now m now fetch answer (awaits t r f is verification becomes) = let q = none_made m now (ap (λ (n : Moment w). n.marks) becomes ∙ append-nil m.marks) in record { more = q.more; marks_are = q.marks_are; quiet = q.quiet; cache = ap (λ (n : Moment w). n.state.cache) becomes }
+  GoesQuietly-fetched stored_now m now fetch answer (declines t r f is proposal rule) = GoesQuietly-then m (serving w m t) now (GoesQuietly-same m (taken m.state t) refl) (GoesQuietly-concludes (serving w m t) now t r Invalid rule)
+  GoesQuietly-fetched stored_now m now fetch answer (dead off is) = rw is (GoesQuietly-same m m.state refl)
+
+  -- a cancel too
+  pub GoesQuietly-cancels : (m : Moment w) (t : ℕ) (new : Tables B C I R U) (marks : List (Mark B)) → Cancels m.state new t marks → GoesQuietly m (record m { state = new; marks = m.marks ++ marks })
+  GoesQuietly-cancels m t new marks (idle r found_at is_idle new_is marks_is) = record { more = marks; marks_are = refl; quiet = rw marks_is (All-nil (λ (x : Mark B). IsQuiet x)); cache = ap (λ (v : Tables B C I R U). v.cache) new_is }
+  GoesQuietly-cancels m t new marks (withdraws r f fetches new_is marks_is) = record { more = marks; marks_are = refl; quiet = rw marks_is (quiet_one _ tt); cache = ap (λ (v : Tables B C I R U). v.cache) new_is }
+  GoesQuietly-cancels m t new marks (lets r j path found_at executing others new_is marks_is) = record { more = marks; marks_are = refl; quiet = rw marks_is (All-nil (λ (x : Mark B). IsQuiet x)); cache = ap (λ (v : Tables B C I R U). v.cache) new_is }
+  GoesQuietly-cancels m t new marks (ends r j path found_at executing last new_is marks_is) = record { more = marks; marks_are = refl; quiet = rw marks_is (quiet_one _ tt); cache = ap (λ (v : Tables B C I R U). v.cache) new_is }
+  GoesQuietly-cancels m t new marks (unqueued off new_is marks_is) = record { more = marks; marks_are = refl; quiet = rw marks_is (All-nil (λ (x : Mark B). IsQuiet x)); cache = ap (λ (v : Tables B C I R U). v.cache) new_is }
+
   -- and so do all of a list, in turn
   module _ {X : Type 0} (Rule : X → Moment w → Moment w → Type 0) (goes : (x : X) (m now : Moment w) → Rule x m now → GoesQuietly m now) where
     pub GoesQuietly-in_turn : (xs : List X) (m last : Moment w) → InTurn Rule xs m last → GoesQuietly m last
@@ -134,12 +174,15 @@ module _ {B C I P R D H G U : Type 0} (w : Workings B C I P R D H G U) where
     GoesQuietly-in_turn (x ∷ xs) m last (next {n = n} rule rules) =
         let f : GoesQuietly m n = goes x m n rule in
         let g : GoesQuietly n last = GoesQuietly-in_turn xs n last rules in
-        record {
-          more = f.more ++ g.more;
-          marks_are = g.marks_are ∙ ap (λ marks. marks ++ g.more) f.marks_are ∙ append_assoc m.marks f.more g.more;
-          quiet = All-append (λ y. IsQuiet y) f.more g.more f.quiet g.quiet;
-          cache = g.cache ∙ f.cache;
-        }
+        GoesQuietly-then m n last f g
+
+  -- a resume, whatever it serves
+  pub GoesQuietly-resumes : (stored_now : ℕ → Option (Named B)) (m now : Moment w) → Resumes w stored_now m now → GoesQuietly m now
+  GoesQuietly-resumes stored_now m now r =
+      let along : GoesQuietly m r.mid = GoesQuietly-then m (unparked w m) r.mid (GoesQuietly-same m (unparked w m).state refl)
+      (GoesQuietly-in_turn (GoesAlong w) (λ x n l. GoesQuietly-advances n l x.ticket (requested x.request) x.path) (parked_in m.state.requests) (unparked w m) r.mid r.along) in
+      GoesQuietly-then m r.mid now along (GoesQuietly-then r.mid (unsettled w r.mid) now (GoesQuietly-same r.mid (unsettled w r.mid).state refl)
+      (GoesQuietly-in_turn (AcquiresAnew w stored_now) (λ e n l. GoesQuietly-acquires stored_now n l e.0 (requested e.1.request)) (unacquired_in r.mid.state.requests) (unsettled w r.mid) now r.anew))
 
 -- the marks of a pause are quiet
 pub withdrawals-quiet : {B : Type 0} (fetches : List ℕ) → AreQuiet {B = B} (map (λ f. Withdrawn f) fetches)
