@@ -1,30 +1,26 @@
 -- What is still to come of a finalization is so behind its rules, and behind requests and candidate runs.
-use Rattle.std.proofs.Common.{◌≡◌, ◌≢◌, ◌++◌, inl, inr, ℕ, Bool, false, List, [], ◌∷◌, All, Option, Some, None, Result, Ok, Err, length, refl, sym, ap, ◌∙◌, subst, arith}
+use Rattle.std.proofs.Common.{◌≡◌, ◌≢◌, ◌++◌, inl, inr, ℕ, Bool, List, [], ◌∷◌, Option, Some, None, Result, Ok, Err, refl, sym, ap, ◌∙◌, subst}
 use Rattle.std.proofs.lemmas.List.{append_assoc, append_cancel_left, append-nil}
 use Rattle.std.proofs.lemmas.List.Elements.{All-head, All-tail}
 use Rattle.stateful_types.specs.Names.{Named}
-use Rattle.stateful_types.specs.Anchor.{anchor_by}
 use Rattle.stateful_types.specs.declared.anchor.Anchor.{Anchor}
 use Rattle.stateful_types.specs.declared.digest.Digest.{Digest}
 use Rattle.stateful_types.specs.declared.outcome.Moved.{Moved}
 use Rattle.stateful_types.specs.declared.outcome.Moved.TheVariants.{Pending, Done}
 use Rattle.stateful_db.specs.declared.application.AppFault.{AppFault}
 use Rattle.stateful_history.specs.Setting.{Setting}
-use Rattle.stateful_history.specs.Asked.{started, kept_by}
-use Rattle.stateful_history.specs.Finalizations.{begun, IsChildOf}
-use Rattle.stateful_history.specs.Known.{Known}
+use Rattle.stateful_history.specs.Asked.{started}
+use Rattle.stateful_history.specs.Finalizations.{begun}
 use Rattle.stateful_history.specs.Past.{Past, Came, Made, after}
-use Rattle.stateful_history.specs.Runs.{HasToRun}
 use Rattle.stateful_history.specs.declared.event.Event.{Event}
 use Rattle.stateful_history.specs.declared.event.Event.TheVariants.{Turn}
 use Rattle.stateful_history.specs.declared.mark.How.{How}
 use Rattle.stateful_history.specs.declared.mark.How.TheVariants.{Kept}
-use Rattle.stateful_history.specs.declared.mark.JobKind.TheVariants.{Candidate}
 use Rattle.stateful_history.specs.declared.mark.Mark.{Mark}
 use Rattle.stateful_history.specs.declared.mark.Mark.TheVariants.{Ended, Began}
 use Rattle.stateful_cache.specs.Cache.{IsIn}
 use Rattle.stateful_cache.specs.declared.cache.Cached.{Cached}
-use Rattle.stateful_exec.specs.Ending.{Takes, there, added, missed, IsTold, rejected, mismatched, agreed, released, EndsRun, TurnsRun, Follows, Settles, SettlesBy, Steps}
+use Rattle.stateful_exec.specs.Ending.{Takes, there, added, missed, IsTold, rejected, mismatched, agreed, released, EndsRun, TurnsRun, Follows, SettlesBy, Steps}
 use Rattle.stateful_db.specs.declared.application.Hooked.{Hooked}
 use Rattle.stateful_db.specs.declared.application.Hooked.TheVariants as hooked
 use Rattle.stateful_exec.specs.Finalizing.{front_at, RunsFinal, StepsFinal, turned, not_live, Moves, HooksOn, TurnsHook, hook_turned, unhooked}
@@ -48,8 +44,6 @@ use Rattle.stateful_table.proofs.Tables.{at-put}
 use Rattle.stateful_table.specs.Table.{at, put}
 use Rattle.stateful_exec.specs.declared.tables.LiveRun.{LiveRun}
 use Rattle.stateful_exec.specs.declared.boundary.ExecutionStep.{ExecutionStep}
-use Rattle.stateful_standing.specs.Running.{IsRunning}
-use Rattle.stateful_standing.proofs.EndedKnown.{started-by}
 use Rattle.stateful_standing.proofs.Quiet.{AreQuiet, IsQuiet, unmoved, GoesQuietly, GoesQuietly-follows, GoesQuietly-in_turn}
 
 module _ {B C I S T : Type 0} (s : Setting B S T) (p : Past B C I) {U : Type 0} (d : Digest) where

@@ -1,11 +1,9 @@
 -- The marks of finalizations keep their rules.
-use Rattle.std.proofs.Common.{◌≡◌, ◌≤◌, ◌+◌, inl, inr, ℕ, [], ◌∷◌, List, Option, Some, None, MatchOption, refl, sym, ap, ◌∙◌, subst, arith}
+use Rattle.std.proofs.Common.{◌≡◌, ◌≤◌, inr, ℕ, [], ◌∷◌, List, Option, Some, None, refl, arith}
 use Rattle.stateful_types.specs.Names.{Named}
 use Rattle.stateful_types.specs.declared.anchor.Anchor.{Anchor}
-use Rattle.stateful_types.specs.declared.digest.Digest.{Digest}
 use Rattle.stateful_history.specs.Anchors.{tip_of}
-use Rattle.stateful_history.specs.Finalizations.{begun, finalized_since, IsChildOf, FinalizesInOrder}
-use Rattle.stateful_history.specs.Jobs.{IsLiveJob}
+use Rattle.stateful_history.specs.Finalizations.{finalized_since, IsChildOf, FinalizesInOrder}
 use Rattle.stateful_history.specs.Past.{Past, Came, EachMark}
 use Rattle.stateful_history.specs.Runs.{unhooked, StartsWell, EndsAsItsKind}
 use Rattle.stateful_history.specs.declared.event.Event.TheVariants.{Turn}

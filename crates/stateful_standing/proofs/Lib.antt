@@ -88,3 +88,4 @@ pub mod OpenedStands
 pub mod Quiet
 pub mod DueStands
 pub mod FrontMarks
+pub mod Outstands

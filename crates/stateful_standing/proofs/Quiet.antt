@@ -1,11 +1,10 @@
 -- Marks of requests, and starts of candidate runs, keep no block and say nothing of finalizations.
-use Rattle.std.proofs.Common.{◌≡◌, ◌≢◌, ◌++◌, ℕ, Bool, false, List, [], ◌∷◌, All, Option, Some, None, map, refl, sym, ap, ◌∙◌}
+use Rattle.std.proofs.Common.{◌≡◌, ◌++◌, ℕ, List, [], ◌∷◌, All, Option, map, refl, sym, ap, ◌∙◌}
 use Rattle.std.proofs.lemmas.List.{append_assoc, append-nil}
 use Rattle.std.proofs.lemmas.List.Elements.{All-nil, All-cons, All-append, All-map, All-head, All-tail}
 use Rattle.stateful_types.specs.Names.{Named}
 use Rattle.stateful_types.specs.declared.digest.Digest.{Digest}
 use Rattle.stateful_history.specs.Setting.{Setting}
-use Rattle.stateful_history.specs.Asked.{kept_by}
 use Rattle.stateful_history.specs.Finalizations.{begun}
 use Rattle.stateful_history.specs.Past.{Past, Made, after}
 use Rattle.stateful_history.specs.Runs.{ran_finalized, unhooked, HasToRun}
@@ -14,7 +13,6 @@ use Rattle.stateful_history.specs.declared.mark.How.TheVariants.{Kept}
 use Rattle.stateful_history.specs.declared.mark.JobKind.TheVariants.{Finalized, Hook}
 use Rattle.stateful_history.specs.declared.mark.Mark.{Mark}
 use Rattle.stateful_history.specs.declared.mark.Mark.TheVariants.{Opened, Converged, Withdrawn, Started, Ended, Built, Began, Applied}
-use Rattle.stateful_cache.specs.declared.cache.Cached.{Cached}
 use Rattle.stateful_exec.specs.Ending.{InTurn, none, next, Follows, given_up, held, failed, parked, goes_on}
 use Rattle.stateful_exec.specs.Moments.{Moment}
 use Rattle.stateful_exec.specs.Path.{Path}
@@ -30,7 +28,7 @@ use Rattle.stateful_exec.specs.declared.request.Verdict.{Verdict as Verdicts}
 use Rattle.stateful_exec.specs.declared.request.Verdict.TheVariants.{Valid, Invalid}
 use Rattle.stateful_exec.specs.declared.tables.Released.{Released}
 use Rattle.stateful_exec.specs.declared.tables.Requested.{Requested}
-use Rattle.stateful_standing.proofs.EarnedLeft.{LeavesBehind, LeavesBehind-advances, LeavesBehind-acquires, LeavesBehind-follows}
+use Rattle.stateful_standing.proofs.EarnedLeft.{LeavesBehind-advances, LeavesBehind-acquires, LeavesBehind-follows}
 
 -- the mark keeps no block, and neither opens anything nor begins, runs, applies or hooks anything of a finalization
 abbrev pub IsQuiet : {B : Type 0} → Mark B → Type 0
