@@ -1,5 +1,5 @@
 -- The live build stands behind what says nothing of it.
-use Rattle.std.proofs.Common.{◌≡◌, ℕ, List, ◌∷◌, Option, Some, None, IfSome, refl, sym, ◌∙◌, subst}
+use Rattle.std.proofs.Common.{◌<◌, ◌≡◌, ℕ, List, ◌∷◌, Option, Some, None, IfSome, refl, sym, ◌∙◌, subst}
 use Rattle.stateful_types.specs.Names.{Named}
 use Rattle.stateful_types.specs.declared.anchor.Anchor.{Anchor}
 use Rattle.stateful_types.specs.declared.digest.Digest.{Digest}
@@ -41,6 +41,7 @@ module _ {B C I P R D H G U : Type 0} (w : Workings B C I P R D H G U) (stored :
         drawn = λ s. subst (λ (x : Point w). w.kind.issued ids ((h.own, s) ∷ x ∷ h.below)) same (keeps _ (h.drawn s));
         provider = h.provider;
         builds = rw turned (subst (λ (x : Point w). w.works.building b.build (build_of (record { kind = b.kind; context = b.context; parent = b.parent.block; input = h.input }) h.provider h.own x h.below) (turns b.job p)) same h.builds);
+        unfinished = rw turned (subst (λ (x : Point w). (n : ℕ) → w.works.build_cost (record { kind = b.kind; context = b.context; parent = b.parent.block; input = h.input }) x.1 ≡ Some n → turns b.job p < n) same h.unfinished);
       }
 
 module _ {B C I P R D H G U : Type 0} (w : Workings B C I P R D H G U) (stored : ℕ → Option (Named B)) (p : Past B C I) where

@@ -19,7 +19,7 @@ use Rattle.stateful_exec.specs.declared.request.Proposal.{Proposal}
 use Rattle.stateful_exec.specs.declared.state.Tables.{Tables}
 use Rattle.stateful_exec.specs.declared.tables.Requested.{Requested}
 use Rattle.stateful_standing.specs.Setting.{setting}
-use Rattle.stateful_standing.specs.Building.{IsBuilding, IsElsewhere, BuildStands}
+use Rattle.stateful_standing.specs.Building.{BuildsTakeTurns, IsBuilding, IsElsewhere, BuildStands}
 use Rattle.stateful_standing.specs.Standing.{TablesStand}
 use Rattle.stateful_standing.proofs.Calm.{LeavesJob}
 use Rattle.stateful_standing.proofs.Asking.{LeavesTicket}
@@ -112,8 +112,8 @@ module _ {B C I P R D H G U : Type 0} (w : Workings B C I P R D H G U) (stored :
     over : IsOnChain w stored p points point next old s now members located drawn (λ q c. IsNewBuild w starts.live proposal provider next q c) parent.digest
     over = on_chain w stored p points point next old s now members located drawn (λ q c. IsNewBuild w starts.live proposal provider next q c) parent.digest starts.over
 
-    is_building : IsBuilding w stored given points now old.anchor old.cache live
-    is_building = record {
+    is_building : BuildsTakeTurns w → IsBuilding w stored given points now old.anchor old.cache live
+    is_building costs = record {
       input = proposal.input;
       proposal = record { live = live_proposal.live; proposes = live_proposal.proposes };
       job = record { live = rw (eq-eqb old.next_job old.next_job refl) refl; is = rw (eq-eqb old.next_job old.next_job refl) refl };
@@ -125,12 +125,13 @@ module _ {B C I P R D H G U : Type 0} (w : Workings B C I P R D H G U) (stored :
       drawn = λ x. other_states now next (w.kind.begun (points parent.digest).1) x _ over.issued;
       provider = provider;
       builds = rw (s.numbers.unturned old.next_job (omega arith)) over.has;
+      unfinished = λ n cost. rw (s.numbers.unturned old.next_job (omega arith)) (costs _ (points parent.digest).1 n cost);
     }
 
     -- the build stands behind its start, where no other one was live
-    pub BuildStands-builds : BuildStands w stored p points next old None → BuildStands w stored (Made (Started old.next_job Build starts.proposal.ancestry.first.digest) ∷ p) points now new build
-    BuildStands-builds none = rw (starts.build_is, starts.state) (record {
-      each = is_building;
+    pub BuildStands-builds : BuildsTakeTurns w → BuildStands w stored p points next old None → BuildStands w stored (Made (Started old.next_job Build starts.proposal.ancestry.first.digest) ∷ p) points now new build
+    BuildStands-builds costs none = rw (starts.build_is, starts.state) (record {
+      each = is_building costs;
       elsewhere = record { absent = queued_absent proposal starts.ready.queued; not_queued = at_gone old.queued t };
       complete = λ j d job. go j d job (j == old.next_job) refl;
     })

@@ -1,6 +1,6 @@
 -- The tables and the live build stand behind a turn of a job, where the build goes on or isn't turned, and behind its end without
 -- a block.
-use Rattle.std.proofs.Common.{◌≡◌, ◌≢◌, ◌⊎◌, inl, inr, ℕ, [], ◌∷◌, Option, Some, None, IfSome, Ok, refl, sym, ◌∙◌, subst}
+use Rattle.std.proofs.Common.{◌+◌, ◌<◌, ◌≡◌, ◌≢◌, ◌⊎◌, inl, inr, ℕ, [], ◌∷◌, Option, Some, None, IfSome, Ok, refl, sym, ◌∙◌, subst}
 use Rattle.std.proofs.lemmas.Bool.{eq-eqb}
 use Rattle.stateful_types.specs.Names.{Named}
 use Rattle.stateful_types.specs.declared.digest.Digest.{Digest}
@@ -84,10 +84,16 @@ module _ {B C I P R D H G U : Type 0} (w : Workings B C I P R D H G U) (stored :
         provider = building.provider;
         builds = rw (eq-eqb b.job b.job refl) (had.ends
             (build_of (record { kind = b.kind; context = b.context; parent = b.parent.block; input = building.input }) building.provider building.own (points b.parent.digest) building.below) (turns b.job p) point building.builds located build-IsPoint);
+        unfinished = λ n is. rw (eq-eqb b.job b.job refl) (costs count m located turned had n is);
       };
       elsewhere = h.elsewhere;
       complete = λ j d live. h.complete j d (record { live = live.live; is = live.is });
     }
+      where
+        -- the turn wasn't the last one
+        costs : (count : D → ℕ) (m : w.kind.Members) → w.kind.point m ≡ Some point → (turned : D) → HasTurn w count m b.build turned (Ok Pending) → (n : ℕ) → w.works.build_cost (record { kind = b.kind; context = b.context; parent = b.parent.block; input = building.input }) (points b.parent.digest).1 ≡ Some n → turns b.job p + 1 < n
+        costs count m located turned had n is = rw is at (had.costs
+            (build_of (record { kind = b.kind; context = b.context; parent = b.parent.block; input = building.input }) building.provider building.own (points b.parent.digest) building.below) (turns b.job p) point building.builds located build-IsPoint)
 
     -- no build is live behind the end of this one
     pub BuildStands-over : (x : Item B C I) (how : How) → ((j : ℕ) (d : Digest) → IsLiveJob j Build d (x ∷ p) → IsLiveJob j Build d p) → BuildStands w stored (Made (Ended b.job how) ∷ x ∷ p) points next v None

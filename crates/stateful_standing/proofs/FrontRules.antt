@@ -19,7 +19,7 @@ use Rattle.stateful_exec.specs.Moments.{Moment}
 use Rattle.stateful_exec.specs.Workings.{Workings, Point}
 use Rattle.stateful_exec.specs.declared.front.Front.{Front}
 use Rattle.stateful_exec.specs.declared.front.Stage.TheVariants.{Begun, Running, Advanced, Hooking}
-use Rattle.stateful_standing.specs.Fronting.{FrontStands}
+use Rattle.stateful_standing.specs.Fronting.{RunsTakeTurns, FrontStands}
 use Rattle.stateful_standing.specs.Requesting.{AllAbstain}
 use Rattle.stateful_standing.specs.Standing.{TablesStand}
 use Rattle.stateful_standing.proofs.FrontHooks.{TablesStand-hooks, FrontStands-hooks, TablesStand-turns_hook, FrontStands-hook_goes_on, TablesStand-hooked, FrontStands-hooked}
@@ -50,10 +50,10 @@ module _ {B C I P R D H G U : Type 0} (w : Workings B C I P R D H G U) (stored :
 
   module _ (p : Past B C I) (m now : Moment w) (s : TablesStand w stored p points point m.next m.state) (located : w.kind.point m.members ≡ Some point) where
     -- behind the start of the finalized block's run
-    pub StandsWithFront-runs : (other_states : (n i : w.Ids) (x y : w.States) (c : List (Point w)) → w.kind.issued n ((i, x) ∷ c) → w.kind.issued n ((i, y) ∷ c)) → w.kind.issued m.next (point ∷ []) → (b : Named B) (front : Option (Front B R U H))
+    pub StandsWithFront-runs : (other_states : (n i : w.Ids) (x y : w.States) (c : List (Point w)) → w.kind.issued n ((i, x) ∷ c) → w.kind.issued n ((i, y) ∷ c)) → w.kind.issued m.next (point ∷ []) → RunsTakeTurns w → (b : Named B) (front : Option (Front B R U H))
         → RunsFinal w b m.members m.next now.next m.state now.state front → now.members ≡ m.members → now.marks ≡ m.marks ++ Started m.state.next_job job.Finalized b.digest ∷ []
         → FrontStands w stored p point m.next m.state.anchor (front_at b Begun) → StandsWithFront p m now front
-    StandsWithFront-runs other_states drawn b front starts members is f =
+    StandsWithFront-runs other_states drawn costs b front starts members is f =
         let anchored : now.state.anchor ≡ m.state.anchor = ap (λ v. v.anchor) starts.state in
         record {
           more = _;
@@ -61,7 +61,7 @@ module _ {B C I P R D H G U : Type 0} (w : Workings B C I P R D H G U) (stored :
           members_are = members;
           tables = TablesStand-runs_final w stored p points point m.next m.state s b other_states m.members located drawn now.next now.state front starts;
           fronts = subst (λ a. FrontStands w stored (Made (Started m.state.next_job job.Finalized b.digest) ∷ p) point now.next a front) (sym anchored)
-              (FrontStands-runs w stored p points point m.next m.state s b other_states m.members located drawn now.next now.state front starts f);
+              (FrontStands-runs w stored p points point m.next m.state s b other_states m.members located drawn now.next now.state front starts costs f);
           waiting = λ a. rw starts.state a;
         }
 

@@ -1,5 +1,5 @@
 -- The tables and the finalization stand behind its begin, the start of its run, and the run's turns.
-use Rattle.std.proofs.Common.{◌≡◌, ◌+◌, ◌==◌, inl, inr, ℕ, Bool, true, false, List, [], ◌∷◌, Option, Some, None, refl, sym, ◌∙◌, subst, arith}
+use Rattle.std.proofs.Common.{◌<◌, ◌≡◌, ◌+◌, ◌==◌, inl, inr, ℕ, Bool, true, false, List, [], ◌∷◌, Option, Some, None, refl, sym, ◌∙◌, subst, arith}
 use Rattle.std.proofs.lemmas.Bool.{eqb-true, eq-eqb}
 use Rattle.stateful_types.specs.Names.{Named}
 use Rattle.stateful_types.specs.declared.digest.Digest.{Digest}
@@ -22,7 +22,7 @@ use Rattle.stateful_exec.specs.declared.front.Front.{Front}
 use Rattle.stateful_exec.specs.declared.front.Stage.TheVariants.{Begun, Running, Ran}
 use Rattle.stateful_exec.specs.declared.state.Tables.{Tables}
 use Rattle.stateful_standing.specs.Setting.{setting}
-use Rattle.stateful_standing.specs.Fronting.{IsRunFinal, FrontStands}
+use Rattle.stateful_standing.specs.Fronting.{RunsTakeTurns, IsRunFinal, FrontStands}
 use Rattle.stateful_standing.specs.Standing.{TablesStand}
 use Rattle.stateful_standing.proofs.Calm.{Known-calm, Known-before}
 use Rattle.stateful_standing.proofs.EndedKnown.{ends-some, started-by, turn-IsCalm, Known-turned, Known-turned_before}
@@ -54,8 +54,8 @@ module _ {B C I P R D H G U : Type 0} (w : Workings B C I P R D H G U) (stored :
         (TablesStand-next w stored p points point next (record old { next_job = old.next_job + 1 }) now starts.keeps (TablesStand-numbered w stored p points point next old (old.next_job + 1) (omega arith) s)))
 
     -- the finalization stands with this run
-    pub FrontStands-runs : FrontStands w stored p point next old.anchor (front_at b Begun) → FrontStands w stored (Made (Started old.next_job Finalized b.digest) ∷ p) point now old.anchor front
-    FrontStands-runs f =
+    pub FrontStands-runs : RunsTakeTurns w → FrontStands w stored p point next old.anchor (front_at b Begun) → FrontStands w stored (Made (Started old.next_job Finalized b.digest) ∷ p) point now old.anchor front
+    FrontStands-runs costs f =
         let got = starts.over point located drawn in
         rw starts.front_is (record {
           at_stage = (
@@ -67,6 +67,7 @@ module _ {B C I P R D H G U : Type 0} (w : Workings B C I P R D H G U) (stored :
               context = got.0.context;
               round = got.0.round;
               runs = rw (s.numbers.unturned old.next_job (omega arith)) got.0.runs;
+              unfinished = λ n cost. rw (s.numbers.unturned old.next_job (omega arith)) (costs finality.Finalized point.1 b.block n cost);
             },
           );
           runs = λ j d live. own j d live (j == old.next_job) refl;
@@ -97,11 +98,16 @@ module _ {B C I P R D H G U : Type 0} (w : Workings B C I P R D H G U) (stored :
           context = final.context;
           round = final.round;
           runs = rw (eq-eqb j j refl) (had.ends (run_of finality.Finalized final.context (record { first = b; rest = [] }) final.own point []) (turns j p) point final.runs located (inl refl));
+          unfinished = λ n is. rw (eq-eqb j j refl) (costs had n is);
         },
       );
       runs = λ k d live. f.runs k d (record { live = live.live; is = live.is });
       hooks = λ k d live. f.hooks k d (record { live = live.live; is = live.is });
     }
+      where
+        -- the turn wasn't the last one
+        costs : Turns w m run turned Pending → (n : ℕ) → w.works.run_cost finality.Finalized point.1 b.block ≡ Some n → turns j p + 1 < n
+        costs had n is = rw is at (had.costs (run_of finality.Finalized final.context (record { first = b; rest = [] }) final.own point []) (turns j p) point final.runs located (inl refl))
 
     -- the same blocks are known behind the end of the run, since its block is the tip
     knows_same : KnowsSame w stored (Came (Turn j) ∷ p) (Made (Ended j Kept))

@@ -134,3 +134,7 @@ pub mod QueueBegan
 pub mod QueueServed
 pub mod QueueAdvances
 pub mod RunsTurned
+pub mod Quiet
+pub mod DueStands
+pub mod FrontMarks
+pub mod Outstands

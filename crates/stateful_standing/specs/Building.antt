@@ -1,9 +1,9 @@
 -- The live build stands for a past.
-use Rattle.std.specs.Prelude.{◌≡◌, ℕ, Option, None, IfSome, List, ◌∷◌, MatchOption}
+use Rattle.std.specs.Prelude.{◌≡◌, ◌<◌, ℕ, Some, Option, None, IfSome, List, ◌∷◌, MatchOption}
 use Rattle.stateful_types.specs.Names.{Named}
 use Rattle.stateful_types.specs.declared.anchor.Anchor.{Anchor}
 use Rattle.stateful_types.specs.declared.digest.Digest.{Digest}
-use Rattle.stateful_db.specs.Works.{build_of}
+use Rattle.stateful_db.specs.Works.{Asked, build_of}
 use Rattle.stateful_history.specs.Past.{Past}
 use Rattle.stateful_history.specs.Met.{Met}
 use Rattle.stateful_history.specs.Jobs.{IsLiveJob, turns}
@@ -18,6 +18,10 @@ use Rattle.stateful_exec.specs.declared.state.Tables.{Tables}
 use Rattle.stateful_standing.specs.Setting.{setting}
 use Rattle.stateful_standing.specs.Chains.{Chain}
 
+-- each build takes some turn, where that is told
+abbrev pub BuildsTakeTurns : {B C I P R D H G U : Type 0} → Workings B C I P R D H G U → Type 0
+BuildsTakeTurns {B} {C} {I} w = (asked : Asked B C I) (s : w.States) (n : ℕ) → w.works.build_cost asked s ≡ Some n → 0 < n
+
 -- the request of this ticket is in no table
 pub record IsElsewhere {B C I R U : Type 0} (v : Tables B C I R U) (t : ℕ) : Type 0 where
   pub absent : at v.requests t ≡ None
@@ -26,7 +30,7 @@ pub record IsElsewhere {B C I R U : Type 0} (v : Tables B C I R U) (t : ℕ) : T
 module _ {B C I P R D H G U : Type 0} (w : Workings B C I P R D H G U) (stored : ℕ → Option (Named B)) (p : Past B C I) (points : Digest → Point w) (next : w.Ids) where
   module _ (anchor : Anchor) (cache : List (Cached U)) where
     -- the build is of a live job, for a live proposal on a parent at hand; it stands on the parent's chain, and has had the
-    -- job's turns
+    -- job's turns, fewer than it takes, where that is told
     pub record IsBuilding (b : Building B C D) : Type 0 where
       pub input : I
       pub proposal : IsLiveProposal b.ticket p (record { kind = b.kind; context = b.context; parent = b.parent; input = input })
@@ -39,6 +43,7 @@ module _ {B C I P R D H G U : Type 0} (w : Workings B C I P R D H G U) (stored :
       pub drawn : (s : w.States) → w.kind.issued next ((own, s) ∷ points b.parent.digest ∷ below)
       pub provider : P
       pub builds : w.works.building b.build (build_of (record { kind = b.kind; context = b.context; parent = b.parent.block; input = input }) provider own (points b.parent.digest) below) (turns b.job p)
+      pub unfinished : (n : ℕ) → w.works.build_cost (record { kind = b.kind; context = b.context; parent = b.parent.block; input = input }) (points b.parent.digest).1 ≡ Some n → turns b.job p < n
 
   module _ (v : Tables B C I R U) where
     -- The live build, if there is one, stands so; its request is in no table; and each live job of a build is its one.

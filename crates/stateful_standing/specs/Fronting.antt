@@ -4,6 +4,7 @@ use Rattle.stateful_types.specs.Names.{Named}
 use Rattle.stateful_types.specs.Anchor.{anchor_by}
 use Rattle.stateful_types.specs.declared.anchor.Anchor.{Anchor}
 use Rattle.stateful_types.specs.declared.digest.Digest.{Digest}
+use Rattle.stateful_types.specs.declared.outcome.Finality.{Finality}
 use Rattle.stateful_types.specs.declared.outcome.Finality.TheVariants as finality
 use Rattle.stateful_db.specs.Works.{run_of, hook_of}
 use Rattle.stateful_db.specs.declared.application.Hooked.TheVariants.{Pending}
@@ -19,6 +20,10 @@ use Rattle.stateful_exec.specs.declared.front.Stage.{Stage}
 use Rattle.stateful_exec.specs.declared.front.Stage.TheVariants.{Begun, Running, Ran, Advanced, Hooking}
 use Rattle.stateful_standing.specs.Setting.{setting}
 
+-- each run takes some turn, where that is told
+abbrev pub RunsTakeTurns : {B C I P R D H G U : Type 0} → Workings B C I P R D H G U → Type 0
+RunsTakeTurns {B} w = (f : Finality) (s : w.States) (b : B) (n : ℕ) → w.works.run_cost f s b ≡ Some n → 0 < n
+
 -- the run of this job, or its hook
 abbrev pub RunsAs : {R U H : Type 0} → ℕ → Stage R U H → Type 0
 RunsAs j (Running k run) = k ≡ j
@@ -29,7 +34,8 @@ HooksAs j (Hooking k hook) = k ≡ j
 HooksAs j stage = ⊥
 
 module _ {B C I P R D H G U : Type 0} (w : Workings B C I P R D H G U) (stored : ℕ → Option (Named B)) (p : Past B C I) (point : Point w) (next : w.Ids) where
-  -- the run is of a live job for the block, over the states of the databases, and has had the job's turns
+  -- the run is of a live job for the block, over the states of the databases, and has had the job's turns, fewer than it takes,
+  -- where that is told
   pub record IsRunFinal (b : Named B) (j : ℕ) (run : R) : Type 0 where
     pub job : IsLiveJob j Finalized b.digest p
     pub own : w.Ids
@@ -37,6 +43,7 @@ module _ {B C I P R D H G U : Type 0} (w : Workings B C I P R D H G U) (stored :
     pub context : C
     pub round : w.round_of context ≡ w.header.round b.block
     pub runs : w.works.runs run (run_of finality.Finalized context (record { first = b; rest = [] }) own point []) (turns j p)
+    pub unfinished : (n : ℕ) → w.works.run_cost finality.Finalized point.1 b.block ≡ Some n → turns j p < n
 
   -- the batch shows states to which the block leads from those of the databases, and they match
   pub record IsRunTo (b : Named B) (batch : U) : Type 0 where

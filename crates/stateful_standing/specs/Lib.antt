@@ -4,6 +4,7 @@ pub mod Caching
 pub mod Running
 pub mod Building
 pub mod Fronting
+pub mod Due
 pub mod Requesting
 pub mod Standing
 pub mod Gathering
