@@ -97,3 +97,4 @@ pub mod QueueBegan
 pub mod QueueServed
 pub mod QueueAdvances
 pub mod RunsTurned
+pub mod GroundBegun
