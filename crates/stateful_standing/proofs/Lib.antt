@@ -98,3 +98,4 @@ pub mod QueueServed
 pub mod QueueAdvances
 pub mod RunsTurned
 pub mod GroundBegun
+pub mod GatheredResumed
