@@ -7,7 +7,6 @@ use Rattle.stateful_types.specs.declared.digest.Digest.{Digest}
 use Rattle.stateful_history.specs.Honest.{IsHonest, IsAnswered}
 use Rattle.stateful_history.specs.Numbers.{NumberIsNew}
 use Rattle.stateful_history.specs.Past.{Past, Made, EachMark, after}
-use Rattle.stateful_history.specs.declared.event.Event.{Event}
 use Rattle.stateful_history.specs.declared.event.Event.TheVariants.{Stop}
 use Rattle.stateful_history.specs.declared.mark.Mark.{Mark}
 use Rattle.stateful_cache.specs.declared.cache.Cached.{Cached}
@@ -26,7 +25,7 @@ use Rattle.stateful_standing.specs.Gathering.{gathered, AreLinked, IsGathered, G
 use Rattle.stateful_standing.specs.Standing.{TablesStand}
 use Rattle.stateful_standing.specs.Ways.{WaysStand}
 use Rattle.stateful_standing.proofs.EarnedLeft.{LeavesBehind-advances}
-use Rattle.stateful_standing.proofs.FollowStands.{ticket_of, request_of, path_of}
+use Rattle.stateful_standing.proofs.FollowStands.{ticket_of, request_of}
 use Rattle.stateful_standing.proofs.Gathered.{AreLinked-brought, honest-after, answered-after, advances-new, GatheringsStand-advances}
 use Rattle.stateful_standing.proofs.KeptInTurn.{AreGrounded, AreGrounded-in_turn}
 use Rattle.stateful_standing.proofs.KeptMarks.{KeepsBehind, EachMark-behind, KeepsReady}

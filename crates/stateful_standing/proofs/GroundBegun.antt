@@ -1,13 +1,13 @@
 -- The ground on which reasons are found is there where a finalization begins, and once its block is the anchor.
-use Rattle.std.proofs.Common.{◌≡◌, ◌≢◌, ◌≤◌, ◌+◌, ◌++◌, inl, inr, ℕ, List, [], ◌∷◌, Option, None, Some, refl, sym, ap, ◌∙◌, subst, arith}
+use Rattle.std.proofs.Common.{◌≡◌, ◌≢◌, ◌≤◌, ◌++◌, inl, inr, ℕ, List, [], ◌∷◌, Option, None, Some, refl, sym, ap, ◌∙◌, subst}
 use Rattle.stateful_types.specs.Names.{Named}
 use Rattle.stateful_types.specs.Anchor.{anchor_by}
 use Rattle.stateful_types.specs.Round.{IsLater}
 use Rattle.stateful_types.specs.declared.anchor.Anchor.{Anchor}
 use Rattle.stateful_types.specs.declared.digest.Digest.{Digest}
 use Rattle.stateful_types.specs.declared.round.Round.{Round}
-use Rattle.stateful_history.specs.Anchors.{applied, anchor_of, tip_of}
-use Rattle.stateful_history.specs.Met.{Met, TrueNames}
+use Rattle.stateful_history.specs.Anchors.{applied}
+use Rattle.stateful_history.specs.Met.{Met}
 use Rattle.stateful_history.specs.Past.{Past, Made}
 use Rattle.stateful_history.specs.Setting.{parent_of}
 use Rattle.stateful_history.specs.States.{fold}
@@ -22,9 +22,8 @@ use Rattle.stateful_standing.specs.Setting.{setting}
 use Rattle.stateful_standing.specs.Caching.{CacheStands}
 use Rattle.stateful_standing.proofs.EarnedClosed.{IsClosed-begins}
 use Rattle.stateful_standing.proofs.EarnedPaused.{CacheStands-AreNamed}
-use Rattle.stateful_standing.proofs.EarnedPath.{IsFolded}
 use Rattle.stateful_standing.proofs.ReasonGround.{IsGround}
-use Rattle.stateful_standing.proofs.ReasonKnown.{later_than_tip, tip_free}
+use Rattle.stateful_standing.proofs.ReasonKnown.{later_than_tip}
 use Rattle.stateful_standing.proofs.ReasonMissing.{Known-above}
 
 module _ {B C I P R D H G U : Type 0} (w : Workings B C I P R D H G U) (stored : ℕ → Option (Named B)) (base : w.States) (p : Past B C I) (points : Digest → Point w) (point : Point w) (next : w.Ids) (anchor : Anchor) (cache : List (Cached U)) (g : IsGround w stored base p points point next anchor Free anchor cache)
