@@ -99,3 +99,4 @@ pub mod QueueAdvances
 pub mod RunsTurned
 pub mod GroundBegun
 pub mod GatheredResumed
+pub mod RunsKept
