@@ -100,3 +100,4 @@ pub mod RunsTurned
 pub mod GroundBegun
 pub mod GatheredResumed
 pub mod RunsKept
+pub mod BesideTurned

@@ -34,6 +34,7 @@ use Rattle.stateful_standing.specs.Setting.{setting}
 use Rattle.stateful_standing.specs.Outstanding.{GoesOnTurning, RunsGoOn}
 use Rattle.stateful_standing.specs.Running.{IsRunning}
 use Rattle.stateful_standing.specs.Standing.{NumbersStand}
+use Rattle.stateful_standing.proofs.Putting.{All-put}
 use Rattle.stateful_standing.proofs.ReasonGround.{IsGround, HasState-on}
 use Rattle.stateful_standing.proofs.Removing.{All-without, differ}
 use Rattle.stateful_standing.proofs.RunsTurned.{HasState-once, GoesOnTurning-same, RunsGoOn-starts}
@@ -96,16 +97,24 @@ module _ {B C I P R D H G U : Type 0} (w : Workings B C I P R D H G U) (stored :
   RunsGoOn-follows b how r (goes_on kept not_held other any advances) = RunsGoOn-advances w stored base p m now r.ticket more same numbers costs on (requested r.request) r.path advances
 
 module _ {B C I P R D H G U : Type 0} (w : Workings B C I P R D H G U) (stored : ℕ → Option (Named B)) (base : w.States) (p : Past B C I) where
-  -- they go on where one of them is taken out, and behind its last turn
+  -- they go on where one of them is taken out
   pub RunsGoOn-without : (q : Past B C I) → IsSamePast (setting w stored) p q → (j : ℕ) → ((k : ℕ) → k ≢ j → turns k q ≡ turns k p) → (live : List (ℕ × LiveRun B R)) → RunsGoOn w stored base p live → RunsGoOn w stored base q (without live j)
   RunsGoOn-without q same j turned live on =
       All-without (λ (e : ℕ × LiveRun B R). GoesOnTurning w stored base q e.0 e.1) live j
       (All-weaker (λ (e : ℕ × LiveRun B R). GoesOnTurning w stored base p e.0 e.1) (λ e. e.0 ≢ j → GoesOnTurning w stored base q e.0 e.1)
       (λ e goes other. GoesOnTurning-same w stored base p q same e.0 e.1 (turned e.0 other) goes) live on)
 
-  pub RunsGoOn-ended : (j : ℕ) (how : How) (live : List (ℕ × LiveRun B R)) → RunsGoOn w stored base p live → RunsGoOn w stored base (Made (Ended j how) ∷ Came (Turn j) ∷ p) (without live j)
-  RunsGoOn-ended j how live on =
-      RunsGoOn-without (Made (Ended j how) ∷ Came (Turn j) ∷ p) (IsSamePast-turned (setting w stored) p j how) j (λ k other. rw (differ k j (λ is. other (sym is))) refl) live on
+  -- and behind its last turn
+  pub RunsGoOn-ended : (j : ℕ) (how : How) (turned : LiveRun B R) (live : List (ℕ × LiveRun B R)) → RunsGoOn w stored base p live → RunsGoOn w stored base (Made (Ended j how) ∷ Came (Turn j) ∷ p) (without (put live j turned) j)
+  RunsGoOn-ended j how turned live on =
+      All-without (λ (e : ℕ × LiveRun B R). GoesOnTurning w stored base q e.0 e.1) (put live j turned) j
+      (All-put (λ (e : ℕ × LiveRun B R). e.0 ≢ j → GoesOnTurning w stored base q e.0 e.1) live j turned
+      (All-weaker (λ (e : ℕ × LiveRun B R). GoesOnTurning w stored base p e.0 e.1) (λ e. e.0 ≢ j → GoesOnTurning w stored base q e.0 e.1)
+      (λ e goes other. GoesOnTurning-same w stored base p q (IsSamePast-turned (setting w stored) p j how) e.0 e.1 (rw (differ e.0 j (λ is. other (sym is))) refl) goes) live on)
+      (λ other. absurd (other refl)))
+    where
+      q : Past B C I
+      q = Made (Ended j how) ∷ Came (Turn j) ∷ p
 
   -- Behind the anchor's move each run goes on whose parent is at hand before and behind it, with the same states.
   module _ (points now_points : Digest → Point w) (point now_point : Point w) (next ids : w.Ids) (tip now_tip anchor moved_to : Anchor) (pause after_it : Pause) (cache kept : List (Cached U)) (q : Past B C I)
