@@ -101,3 +101,4 @@ pub mod GroundBegun
 pub mod GatheredResumed
 pub mod RunsKept
 pub mod BesideTurned
+pub mod BesideResumed
