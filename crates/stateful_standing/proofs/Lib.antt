@@ -102,3 +102,4 @@ pub mod GatheredResumed
 pub mod RunsKept
 pub mod BesideTurned
 pub mod BesideResumed
+pub mod BesideFetched

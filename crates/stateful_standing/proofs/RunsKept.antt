@@ -65,7 +65,7 @@ module _ {B C I P R D H G U : Type 0} (w : Workings B C I P R D H G U) (stored :
   ended_runs (Recover u context ancestry input kind) verdict.Valid = same_runs
   ended_runs (Recover u context ancestry input kind) verdict.Invalid = same_runs
 
-  concluded : (r : Requested B C I) (v : said.Verdict) → Concludes w m t r v now → Go_on now.state.runs
+  pub concluded : (r : Requested B C I) (v : said.Verdict) → Concludes w m t r v now → Go_on now.state.runs
   concluded r v concludes = rw concludes (ended_runs r.request v)
 
   -- they go on behind a request that goes along its path

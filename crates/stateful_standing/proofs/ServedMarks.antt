@@ -110,7 +110,7 @@ module _ {B C I P R D H G U : Type 0} (w : Workings B C I P R D H G U) (p : Past
   told-served (Recover u context ancestry input kind) verdict.Valid = tt
   told-served (Recover u context ancestry input kind) verdict.Invalid = (refl, tt)
 
-  concludes-marks : (r : Requested B C I) (v : said.Verdict) → Concludes w m t r v now → ServesMarks
+  pub concludes-marks : (r : Requested B C I) (v : said.Verdict) → Concludes w m t r v now → ServesMarks
   concludes-marks r v is = rw is (record { more = _; marks_are = refl; each = told-served r.request v })
 
   -- so they are where a request goes along its path
