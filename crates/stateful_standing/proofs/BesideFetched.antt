@@ -1,6 +1,6 @@
 -- What stays beside the tables behind an event that leaves the anchor, the tip and the jobs, and behind the answer of a fetch: live
 -- runs go on turning, and the parents of queued proposals are known or lost.
-use Rattle.std.proofs.Common.{◌≡◌, ◌++◌, inl, inr, ℕ, List, [], ◌∷◌, All, Option, None, Some, refl, sym}
+use Rattle.std.proofs.Common.{◌≡◌, inl, inr, ℕ, List, [], ◌∷◌, Option, Some, refl, sym}
 use Rattle.std.proofs.lemmas.List.{append-nil}
 use Rattle.std.proofs.lemmas.List.Elements.{All-push}
 use Rattle.stateful_types.specs.Names.{Named}
@@ -9,17 +9,15 @@ use Rattle.stateful_types.specs.declared.digest.Digest.{Digest}
 use Rattle.stateful_history.specs.Anchors.{applied, anchor_of}
 use Rattle.stateful_history.specs.Fetches.{Abstains}
 use Rattle.stateful_history.specs.Met.{Met, TrueNames}
-use Rattle.stateful_history.specs.Past.{Past, Item, Came, after}
+use Rattle.stateful_history.specs.Past.{Past, Item, Came}
 use Rattle.stateful_history.specs.declared.event.Event.TheVariants.{Fetched}
-use Rattle.stateful_history.specs.declared.mark.Mark.{Mark}
 use Rattle.stateful_cache.specs.declared.cache.Cached.{Cached}
 use Rattle.stateful_exec.specs.Fetching.{Fetches, with_block, serving, IsFetched, found, waits, declines, dead}
 use Rattle.stateful_exec.specs.Moments.{Moment}
-use Rattle.stateful_exec.specs.Rules.{Needs, Acquires, Concludes}
+use Rattle.stateful_exec.specs.Rules.{Needs, taken}
 use Rattle.stateful_exec.specs.Workings.{Workings, Point}
 use Rattle.stateful_exec.specs.declared.pause.Pause.{Pause}
 use Rattle.stateful_exec.specs.declared.pause.Pause.TheVariants.{Free}
-use Rattle.stateful_exec.specs.declared.request.Verdict.TheVariants as verdict
 use Rattle.stateful_exec.specs.declared.state.Tables.{Tables}
 use Rattle.stateful_exec.specs.declared.tables.LiveRun.{LiveRun}
 use Rattle.stateful_exec.specs.declared.tables.Requested.{Requested}
@@ -29,22 +27,15 @@ use Rattle.stateful_standing.specs.Outstanding.{RunsGoOn}
 use Rattle.stateful_standing.specs.Requesting.{first_of}
 use Rattle.stateful_standing.specs.Running.{RunsStand}
 use Rattle.stateful_standing.specs.Standing.{TablesStand, IsInHand}
-use Rattle.stateful_standing.proofs.Acquired.{Serves-acquires}
+use Rattle.stateful_standing.proofs.BesideServed.{BesideBehind, StaysBeside-acquires, StaysBeside-concludes}
 use Rattle.stateful_standing.proofs.BesideTurned.{StaysBeside}
 use Rattle.stateful_standing.proofs.Calm.{IsCalm, LeavesJob, CacheStands-calm, RunsStand-calm}
-use Rattle.stateful_standing.proofs.EarnedLeft.{LeavesBehind, LeavesBehind-acquires, LeavesBehind-concludes}
 use Rattle.stateful_standing.proofs.FetchStands.{fetched-IsCalm, fetched-LeavesJob, TablesStand-fetched, IsInHand-fetched, acquired-fetched}
-use Rattle.stateful_standing.proofs.KeptInTurn.{IsCarried, IsCarried-served}
-use Rattle.stateful_standing.proofs.KeptMarks.{EachMark-behind}
-use Rattle.stateful_standing.proofs.QueueAdvances.{concludes_invalid, QueueReaches-acquires}
 use Rattle.stateful_standing.proofs.QueueLost.{QueueReaches-on}
 use Rattle.stateful_standing.proofs.QueueServed.{queue-met}
 use Rattle.stateful_standing.proofs.ReasonFetched.{IsGround-fetched}
 use Rattle.stateful_standing.proofs.ReasonGround.{IsGround, IsGround-longer}
-use Rattle.stateful_standing.proofs.RunsKept.{RunsTakeTurns, concluded, RunsGoOn-acquires, RunsGoOn-moved}
-use Rattle.stateful_standing.proofs.SamePast.{IsSamePast}
-use Rattle.stateful_standing.proofs.Served.{Serves, Serves-concludes}
-use Rattle.stateful_standing.proofs.ServedMarks.{IsServedBy, concludes-marks, acquires-marks}
+use Rattle.stateful_standing.proofs.RunsKept.{RunsTakeTurns, RunsGoOn-moved}
 
 module _ {B C I P R D H G U : Type 0} (w : Workings B C I P R D H G U) (stored : ℕ → Option (Named B)) (base : w.States) (p : Past B C I) (points : Digest → Point w) (point : Point w) (next : w.Ids) (tip : Anchor)
     (pause : Pause) (anchor : Anchor) (cache : List (Cached U)) (g : IsGround w stored base p points point next tip pause anchor cache)
@@ -77,67 +68,32 @@ module _ {B C I P R D H G U : Type 0} (w : Workings B C I P R D H G U) (stored :
     abbrev given : Past B C I
     given = Came (Fetched f answer) ∷ p
 
-    -- from one moment to a later one some marks are made, and it stays so
-    pub record BesideBehind (now : Moment w) : Type 0 where
-      pub more : List (Mark B)
-      pub marks_are : now.marks ≡ m.marks ++ more
-      pub stays : StaysBeside w stored base tip costs other_states (after given more) now.state
-
     beside_given : StaysBeside w stored base tip costs other_states given m.state
     beside_given = StaysBeside-calm m.next m.state s g (Came (Fetched f answer)) (fetched-IsCalm (setting w stored) p f answer) refl refl names (fetched-LeavesJob p f answer) beside
 
-    module _ (t : ℕ) (r : Requested B C I) (fetches : Fetches m.state f t r) where
-      abbrev left : Moment w
-      left = serving w m t
+    beside_left : (t : ℕ) → StaysBeside w stored base tip costs other_states given (taken m.state t)
+    beside_left t = record { runs = beside_given.runs; queue = beside_given.queue }
 
-      without_it : TablesStand w stored given points point m.next left.state
+    from_serving : (now : Moment w) (t : ℕ) → BesideBehind w stored base tip costs other_states given (serving w m t) now → BesideBehind w stored base tip costs other_states given m now
+    from_serving now t h = record { more = h.more; marks_are = h.marks_are; stays = h.stays }
+
+    module _ (t : ℕ) (r : Requested B C I) (fetches : Fetches m.state f t r) where
+      without_it : TablesStand w stored given points point m.next (taken m.state t)
       without_it = TablesStand-fetched w stored p points point m.next m.state s f answer t r fetches
 
-      hand : IsInHand w stored given t r.request left.state
+      hand : IsInHand w stored given t r.request (taken m.state t)
       hand = IsInHand-fetched w stored p points point m.next m.state s f answer t r fetches
 
       ground : IsGround w stored base given points point m.next tip m.state.pause m.state.anchor m.state.cache
       ground = IsGround-fetched w stored base p points point tip m s g free f answer [] names t r fetches
 
-      names_behind : (now : Moment w) (v : Serves w stored given points point left t now) → TrueNames (setting w stored) (after given v.behind.more)
-      names_behind now v = λ x y has_x has_y. names x y ((v.met x).0 has_x) ((v.met y).0 has_y)
-
-      same : (now : Moment w) (v : Serves w stored given points point left t now) → LeavesBehind w left now → IsSamePast (setting w stored) given (after given v.behind.more)
-      same now v l = (IsCarried-served w stored base points point tip given left now t v l).same
-
-      acquires_beside : (held : ℕ → Option (Named B)) (b : Named B) → answer ≡ Some b → (Needs w held left (with_block r b) acquired.Waits → Abstains (setting w stored) t given (first_of r.request)) → (now : Moment w) → Acquires w held left t (with_block r b) now → BesideBehind now
-      acquires_beside held b is abstains now rule =
-          let met : All (Met (setting w stored) given) (with_block r b).acquired = All-push (Met (setting w stored) given) r.acquired b (acquired-fetched w stored p points point m.next m.state s f answer t r fetches) (inl is) in
-          let v : Serves w stored given points point left t now = Serves-acquires w stored given points point left without_it t (with_block r b) hand names other_states located drawn met held abstains now rule in
-          record {
-            more = v.behind.more;
-            marks_are = v.behind.marks_are;
-            stays = record {
-              runs = RunsGoOn-acquires w stored base given left now t v.behind.more (same now v (LeavesBehind-acquires w held left now t (with_block r b) rule)) without_it.numbers costs beside_given.runs held (with_block r b) rule;
-              queue = QueueReaches-acquires w stored base given points point tip left now without_it ground t v.behind.more v.behind.marks_are
-                  (EachMark-behind w (λ (x : Past B C I) (mark : Mark B). IsServedBy t mark) given left now v.behind.more v.behind.marks_are (acquires-marks w given left now t held (with_block r b) rule))
-                  (names_behind now v) beside_given.queue free held (with_block r b) hand met rule;
-            };
-          }
-
-      declines_beside : (now : Moment w) → Concludes w left t r verdict.Invalid now → BesideBehind now
-      declines_beside now rule =
-          let v : Serves w stored given points point left t now = Serves-concludes w stored given points point left without_it t r hand verdict.Invalid now rule in
-          record {
-            more = v.behind.more;
-            marks_are = v.behind.marks_are;
-            stays = record {
-              runs = concluded w stored base given left now t v.behind.more (same now v (LeavesBehind-concludes w left now t r verdict.Invalid rule)) without_it.numbers costs beside_given.runs r verdict.Invalid rule;
-              queue = concludes_invalid w stored base given points point tip left now without_it ground t v.behind.more v.behind.marks_are
-                  (EachMark-behind w (λ (x : Past B C I) (mark : Mark B). IsServedBy t mark) given left now v.behind.more v.behind.marks_are (concludes-marks w given left now t r verdict.Invalid rule))
-                  (names_behind now v) beside_given.queue r rule;
-            };
-          }
-
     -- It stays so behind the answer of a fetch, where a request that has to wait waits for nothing that was begun.
     pub StaysBeside-fetched : (held : ℕ → Option (Named B)) → ((t : ℕ) (r : Requested B C I) (b : Named B) → Fetches m.state f t r → answer ≡ Some b → Needs w held (serving w m t) (with_block r b) acquired.Waits → Abstains (setting w stored) t given (first_of r.request))
-        → (now : Moment w) → IsFetched w held m f answer now → BesideBehind now
-    StaysBeside-fetched held abstains now (found t r b fetches is rule) = acquires_beside t r fetches held b is (abstains t r b fetches is) now rule
+        → (now : Moment w) → IsFetched w held m f answer now → BesideBehind w stored base tip costs other_states given m now
+    StaysBeside-fetched held abstains now (found t r b fetches is rule) = from_serving now t
+        (StaysBeside-acquires w stored base tip costs other_states given points point (serving w m t) now (without_it t r fetches) (ground t r fetches) t (with_block r b) (hand t r fetches) (beside_left t) free located drawn
+        (All-push (Met (setting w stored) given) r.acquired b (acquired-fetched w stored p points point m.next m.state s f answer t r fetches) (inl is)) held (abstains t r b fetches is) rule)
     StaysBeside-fetched held abstains now (waits t r fetches is verification becomes) = rw becomes (record { more = []; marks_are = refl; stays = record { runs = beside_given.runs; queue = beside_given.queue } })
-    StaysBeside-fetched held abstains now (declines t r fetches is proposal rule) = declines_beside t r fetches now rule
+    StaysBeside-fetched held abstains now (declines t r fetches is proposal rule) = from_serving now t
+        (StaysBeside-concludes w stored base tip costs other_states given points point (serving w m t) now (without_it t r fetches) (ground t r fetches) t r (hand t r fetches) (beside_left t) rule)
     StaysBeside-fetched held abstains now (dead none is) = rw is (record { more = []; marks_are = sym (append-nil m.marks); stays = beside_given })

@@ -2,7 +2,7 @@
 -- proposals are known or lost.
 use Rattle.std.proofs.Common.{◌≡◌, ◌≢◌, ◌++◌, ℕ, not, List, [], ◌∷◌, All, Option, Some, refl, sym, ap, ◌∙◌, subst}
 use Rattle.std.proofs.lemmas.List.{append_assoc}
-use Rattle.std.proofs.lemmas.List.Elements.{All-filter, All-nil}
+use Rattle.std.proofs.lemmas.List.Elements.{All-nil}
 use Rattle.std.proofs.lemmas.List.Kept.{AllPairs-filter}
 use Rattle.stateful_types.specs.Names.{Named}
 use Rattle.stateful_types.specs.declared.anchor.Anchor.{Anchor}
@@ -15,7 +15,7 @@ use Rattle.stateful_history.proofs.Marks.{after-append}
 use Rattle.stateful_exec.specs.Ending.{InTurn}
 use Rattle.stateful_exec.specs.Moments.{Moment}
 use Rattle.stateful_exec.specs.Pausing.{GoesAlong, AcquiresAnew, unparked, unsettled, Resumes}
-use Rattle.stateful_exec.specs.Phase.{parked_path, parked_in, is_unacquired, unacquired_in}
+use Rattle.stateful_exec.specs.Phase.{parked_in, is_unacquired, unacquired_in}
 use Rattle.stateful_exec.specs.Rules.{requested}
 use Rattle.stateful_exec.specs.Workings.{Workings, Point}
 use Rattle.stateful_exec.specs.declared.pause.Pause.TheVariants.{Free}

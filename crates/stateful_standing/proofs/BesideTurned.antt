@@ -37,7 +37,7 @@ use Rattle.stateful_standing.proofs.EarnedLeft.{LeavesBehind-follows}
 use Rattle.stateful_standing.proofs.EndedRule.{IsReleased}
 use Rattle.stateful_standing.proofs.FollowStands.{ticket_of, request_of, Serves-follows}
 use Rattle.stateful_standing.proofs.KeptInTurn.{AreGrounded, AreGrounded-in_turn}
-use Rattle.stateful_standing.proofs.KeptMarks.{KeepsBehind, EachMark-behind, KeepsReady}
+use Rattle.stateful_standing.proofs.KeptMarks.{EachMark-behind, KeepsReady}
 use Rattle.stateful_standing.proofs.QueueAdvances.{same_queue, concludes_invalid, QueueReaches-advances}
 use Rattle.stateful_standing.proofs.QueueLost.{QueueReaches-on}
 use Rattle.stateful_standing.proofs.QueueServed.{queue-met}

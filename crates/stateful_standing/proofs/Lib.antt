@@ -103,3 +103,4 @@ pub mod RunsKept
 pub mod BesideTurned
 pub mod BesideResumed
 pub mod BesideFetched
+pub mod BesideServed
