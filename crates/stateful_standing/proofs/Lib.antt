@@ -104,3 +104,4 @@ pub mod BesideTurned
 pub mod BesideResumed
 pub mod BesideFetched
 pub mod BesideServed
+pub mod BesideCancelled
