@@ -17,32 +17,31 @@ use Rattle.stateful_exec.specs.declared.request.Proposal.{Proposal}
 use Rattle.stateful_exec.specs.declared.state.Tables.{Tables}
 use Rattle.stateful_exec.specs.declared.tables.LiveRun.{LiveRun}
 use Rattle.stateful_standing.specs.Setting.{setting}
+use Rattle.stateful_standing.specs.Beside.{StaysBeside}
 use Rattle.stateful_standing.specs.Outstanding.{GoesOnTurning}
 use Rattle.stateful_standing.specs.Reaching.{IsLost}
 use Rattle.stateful_standing.specs.Standing.{TablesStand}
 use Rattle.stateful_standing.proofs.BesideFetched.{StaysBeside-calm}
-use Rattle.stateful_standing.proofs.BesideTurned.{StaysBeside}
 use Rattle.stateful_standing.proofs.GivenUp.{cancel-IsCalm, cancel-LeavesJob}
 use Rattle.stateful_standing.proofs.QueueLost.{QueueReaches-on}
 use Rattle.stateful_standing.proofs.QueueServed.{queue-met}
 use Rattle.stateful_standing.proofs.ReasonGround.{IsGround}
 use Rattle.stateful_standing.proofs.Removing.{All-without}
-use Rattle.stateful_standing.proofs.RunsKept.{RunsTakeTurns, RunsGoOn-without}
+use Rattle.stateful_standing.proofs.RunsKept.{RunsGoOn-without}
 use Rattle.stateful_standing.proofs.RunsTurned.{GoesOnTurning-same}
 use Rattle.stateful_standing.proofs.SamePast.{IsSamePast}
 
-module _ {B C I P R D H G U : Type 0} (w : Workings B C I P R D H G U) (stored : ℕ → Option (Named B)) (base : w.States) (tip : Anchor) (costs : RunsTakeTurns w)
-    (other_states : (n i : w.Ids) (x y : w.States) (c : List (Point w)) → w.kind.issued n ((i, x) ∷ c) → w.kind.issued n ((i, y) ∷ c))
+module _ {B C I P R D H G U : Type 0} (w : Workings B C I P R D H G U) (stored : ℕ → Option (Named B)) (base : w.States) (tip : Anchor)
     (p : Past B C I) (points : Digest → Point w) (point : Point w) (next : w.Ids) (old : Tables B C I R U) (s : TablesStand w stored p points point next old) (g : IsGround w stored base p points point next tip old.pause old.anchor old.cache)
-    (t : ℕ) (names : TrueNames (setting w stored) (Came (Cancel t) ∷ p)) (beside : StaysBeside w stored base tip costs other_states p old) where
+    (t : ℕ) (names : TrueNames (setting w stored) (Came (Cancel t) ∷ p)) (beside : StaysBeside w stored base p old) where
   abbrev given : Past B C I
   given = Came (Cancel t) ∷ p
 
   abbrev Stays : Past B C I → Tables B C I R U → Type 0
-  Stays q v = StaysBeside w stored base tip costs other_states q v
+  Stays q v = StaysBeside w stored base q v
 
   beside_given : Stays given old
-  beside_given = StaysBeside-calm w stored base tip costs other_states p points point next old s g (Came (Cancel t)) (cancel-IsCalm (setting w stored) p t) refl refl names (λ j. cancel-LeavesJob p t j) beside
+  beside_given = StaysBeside-calm w stored base tip p points point next old s g (Came (Cancel t)) (cancel-IsCalm (setting w stored) p t) refl refl names (λ j. cancel-LeavesJob p t j) beside
 
   met : All (λ (e : ℕ × Proposal B C I). Met (setting w stored) given e.1.ancestry.first) old.queued
   met = All-weaker (λ (e : ℕ × Proposal B C I). Met (setting w stored) p e.1.ancestry.first) (λ e. Met (setting w stored) given e.1.ancestry.first) (λ e m. inr m) old.queued (queue-met w stored p old.queued old.recovered s.queue)

@@ -22,12 +22,12 @@ use Rattle.stateful_exec.specs.declared.pause.Pause.TheVariants.{Free}
 use Rattle.stateful_exec.specs.declared.tables.Released.{Released}
 use Rattle.stateful_exec.specs.declared.tables.Requested.{Requested}
 use Rattle.stateful_standing.specs.Setting.{setting}
+use Rattle.stateful_standing.specs.Beside.{StaysBeside, BesideBehind}
 use Rattle.stateful_standing.specs.Standing.{TablesStand}
 use Rattle.stateful_standing.specs.Ways.{WaysStand}
 use Rattle.stateful_standing.proofs.Acquired.{Serves-acquires}
 use Rattle.stateful_standing.proofs.AnewStands as anew
 use Rattle.stateful_standing.proofs.AnewStands.{MayWait, entries_apart}
-use Rattle.stateful_standing.proofs.BesideTurned.{StaysBeside}
 use Rattle.stateful_standing.proofs.EarnedLeft.{LeavesBehind-advances, LeavesBehind-acquires}
 use Rattle.stateful_standing.proofs.FollowStands.{ticket_of, request_of}
 use Rattle.stateful_standing.proofs.KeptInTurn.{AreGrounded, AreGrounded-in_turn}
@@ -49,7 +49,7 @@ module _ {B C I P R D H G U : Type 0} (w : Workings B C I P R D H G U) (stored h
   Any_mark p mark = Unit {0}
 
   abbrev Stays : Past B C I → Moment w → Type 0
-  Stays p m = StaysBeside w stored base tip costs other_states p m.state
+  Stays p m = StaysBeside w stored base p m.state
 
   abbrev AreGoing : List (Released B C I) → Past B C I → Moment w → Type 0
   AreGoing = AreGrounded w stored base points point tip Any_mark ticket_of request_of (HasParked w stored held base tip) Stays
@@ -96,13 +96,7 @@ module _ {B C I P R D H G U : Type 0} (w : Workings B C I P R D H G U) (stored h
       es p m last ready turns
 
   module _ (p : Past B C I) (m : Moment w) (s : TablesStand w stored p points point m.next (record m.state { pause = Free })) (g : IsGround w stored base p points point m.next tip Free m.state.anchor m.state.cache) (ways : WaysStand w stored p tip (record m.state { pause = Free }))
-      (located : w.kind.point m.members ≡ Some point) (drawn : w.kind.issued m.next (point ∷ [])) (beside : StaysBeside w stored base tip costs other_states p m.state) where
-    -- from one moment to a later one some marks are made, and it stays so
-    pub record BesideBehind (now : Moment w) : Type 0 where
-      pub more : List (Mark B)
-      pub marks_are : now.marks ≡ m.marks ++ more
-      pub stays : StaysBeside w stored base tip costs other_states (after p more) now.state
-
+      (located : w.kind.point m.members ≡ Some point) (drawn : w.kind.issued m.next (point ∷ [])) (beside : StaysBeside w stored base p m.state) where
     start : AreGoing (parked_in m.state.requests) p (unparked w m)
     start =
         let on : AreParked w stored held base tip points point Stop [] other_states (parked_in m.state.requests) p (unparked w m) = parked w stored held base tip points point Stop [] other_states p m s g ways located drawn in
@@ -111,11 +105,11 @@ module _ {B C I P R D H G U : Type 0} (w : Workings B C I P R D H G U) (stored h
     -- It stays so behind a pause, where those that acquire anew what they need may do so.
     pub StaysBeside-resumed : (now : Moment w) (r : Resumes w held m now)
         → ((more : List (Mark B)) → r.mid.marks ≡ m.marks ++ more → All (λ e. MayAcquire w stored held base tip (after p more) r.mid.state.pause r.mid.state.anchor r.mid.state.cache e) (unacquired_in r.mid.state.requests))
-        → BesideBehind now
+        → BesideBehind w stored base p m now
     StaysBeside-resumed now r may = record {
       more = first.more ++ second.more;
       marks_are = second.marks_are ∙ ap (λ (ms : List (Mark B)). ms ++ second.more) first.marks_are ∙ append_assoc m.marks first.more second.more;
-      stays = subst (λ (x : Past B C I). StaysBeside w stored base tip costs other_states x now.state) (sym (after-append p first.more second.more)) second.ready.stays;
+      stays = subst (λ (x : Past B C I). StaysBeside w stored base x now.state) (sym (after-append p first.more second.more)) second.ready.stays;
     }
       where
         first : KeepsReady w Any_mark (GoesAlong w) AreGoing [] p (unparked w m) r.mid

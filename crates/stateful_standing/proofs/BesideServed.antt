@@ -16,10 +16,10 @@ use Rattle.stateful_exec.specs.declared.request.Verdict.TheVariants as verdict
 use Rattle.stateful_exec.specs.declared.tables.Requested.{Requested}
 use Rattle.stateful_exec.specs.declared.walk.Acquired.TheVariants as acquired
 use Rattle.stateful_standing.specs.Setting.{setting}
+use Rattle.stateful_standing.specs.Beside.{StaysBeside, BesideBehind}
 use Rattle.stateful_standing.specs.Requesting.{first_of}
 use Rattle.stateful_standing.specs.Standing.{TablesStand, IsInHand}
 use Rattle.stateful_standing.proofs.Acquired.{Serves-acquires}
-use Rattle.stateful_standing.proofs.BesideTurned.{StaysBeside}
 use Rattle.stateful_standing.proofs.EarnedLeft.{LeavesBehind, LeavesBehind-acquires, LeavesBehind-concludes}
 use Rattle.stateful_standing.proofs.KeptInTurn.{IsCarried-served}
 use Rattle.stateful_standing.proofs.KeptMarks.{EachMark-behind}
@@ -32,14 +32,8 @@ use Rattle.stateful_standing.proofs.ServedMarks.{IsServedBy, concludes-marks, ac
 
 module _ {B C I P R D H G U : Type 0} (w : Workings B C I P R D H G U) (stored : ℕ → Option (Named B)) (base : w.States) (tip : Anchor) (costs : RunsTakeTurns w)
     (other_states : (n i : w.Ids) (x y : w.States) (c : List (Point w)) → w.kind.issued n ((i, x) ∷ c) → w.kind.issued n ((i, y) ∷ c)) where
-  -- from one moment to a later one some marks are made, and what stays beside the tables stays so
-  pub record BesideBehind (p : Past B C I) (m now : Moment w) : Type 0 where
-    pub more : List (Mark B)
-    pub marks_are : now.marks ≡ m.marks ++ more
-    pub stays : StaysBeside w stored base tip costs other_states (after p more) now.state
-
   module _ (p : Past B C I) (points : Digest → Point w) (point : Point w) (m now : Moment w) (s : TablesStand w stored p points point m.next m.state) (g : IsGround w stored base p points point m.next tip m.state.pause m.state.anchor m.state.cache)
-      (t : ℕ) (r : Requested B C I) (hand : IsInHand w stored p t r.request m.state) (beside : StaysBeside w stored base tip costs other_states p m.state) where
+      (t : ℕ) (r : Requested B C I) (hand : IsInHand w stored p t r.request m.state) (beside : StaysBeside w stored base p m.state) where
     names_behind : (v : Serves w stored p points point m t now) → TrueNames (setting w stored) (after p v.behind.more)
     names_behind v = λ x y has_x has_y. g.names x y ((v.met x).0 has_x) ((v.met y).0 has_y)
 
@@ -48,7 +42,7 @@ module _ {B C I P R D H G U : Type 0} (w : Workings B C I P R D H G U) (stored :
 
     -- so it is behind a request that acquires what it needs where nothing pauses
     pub StaysBeside-acquires : m.state.pause ≡ Free → w.kind.point m.members ≡ Some point → w.kind.issued m.next (point ∷ []) → All (Met (setting w stored) p) r.acquired → (held : ℕ → Option (Named B))
-        → (Needs w held m r acquired.Waits → Abstains (setting w stored) t p (first_of r.request)) → Acquires w held m t r now → BesideBehind p m now
+        → (Needs w held m r acquired.Waits → Abstains (setting w stored) t p (first_of r.request)) → Acquires w held m t r now → BesideBehind w stored base p m now
     StaysBeside-acquires free located drawn met held abstains rule =
         let v : Serves w stored p points point m t now = Serves-acquires w stored p points point m s t r hand g.names other_states located drawn met held abstains now rule in
         record {
@@ -62,7 +56,7 @@ module _ {B C I P R D H G U : Type 0} (w : Workings B C I P R D H G U) (stored :
         }
 
     -- and behind one that ends without what it asked for
-    pub StaysBeside-concludes : Concludes w m t r verdict.Invalid now → BesideBehind p m now
+    pub StaysBeside-concludes : Concludes w m t r verdict.Invalid now → BesideBehind w stored base p m now
     StaysBeside-concludes rule =
         let v : Serves w stored p points point m t now = Serves-concludes w stored p points point m s t r hand verdict.Invalid now rule in
         record {

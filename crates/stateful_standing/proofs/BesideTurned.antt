@@ -27,6 +27,7 @@ use Rattle.stateful_exec.specs.declared.state.Tables.{Tables}
 use Rattle.stateful_exec.specs.declared.tables.LiveRun.{LiveRun}
 use Rattle.stateful_exec.specs.declared.tables.Released.{Released}
 use Rattle.stateful_standing.specs.Setting.{setting}
+use Rattle.stateful_standing.specs.Beside.{StaysBeside, BesideBehind}
 use Rattle.stateful_standing.specs.Outstanding.{RunsGoOn}
 use Rattle.stateful_standing.specs.Reaching.{QueueReaches}
 use Rattle.stateful_standing.specs.Standing.{TablesStand}
@@ -67,16 +68,11 @@ module _ {B C I P R D H G U : Type 0} (w : Workings B C I P R D H G U) (stored :
 
 module _ {B C I P R D H G U : Type 0} (w : Workings B C I P R D H G U) (stored : ℕ → Option (Named B)) (base : w.States) (tip : Anchor) (costs : RunsTakeTurns w)
     (other_states : (n i : w.Ids) (x y : w.States) (c : List (Point w)) → w.kind.issued n ((i, x) ∷ c) → w.kind.issued n ((i, y) ∷ c)) where
-  -- what stays beside the tables
-  pub record StaysBeside (p : Past B C I) (v : Tables B C I R U) : Type 0 where
-    pub runs : RunsGoOn w stored base p v.runs
-    pub queue : QueueReaches w stored base p v.queued
-
   abbrev Any_mark : Past B C I → Mark B → Type 0
   Any_mark p mark = Unit {0}
 
   abbrev Stays : Past B C I → Moment w → Type 0
-  Stays p m = StaysBeside p m.state
+  Stays p m = StaysBeside w stored base p m.state
 
   any_marks : (x : Past B C I) (ms : List (Mark B)) → EachMark Any_mark x ms
   any_marks x [] = tt
@@ -104,21 +100,15 @@ module _ {B C I P R D H G U : Type 0} (w : Workings B C I P R D H G U) (stored :
   module _ (p : Past B C I) (points : Digest → Point w) (point : Point w) (m : Moment w)
       (s : TablesStand w stored p points point m.next m.state) (g : IsGround w stored base p points point m.next tip m.state.pause m.state.anchor m.state.cache) (ways : WaysStand w stored p tip m.state)
       (located : w.kind.point m.members ≡ Some point) (drawn : w.kind.issued m.next (point ∷ []))
-      (j : ℕ) (b : Named B) (o : Option U) (how : How) (beside : StaysBeside p m.state) where
+      (j : ℕ) (b : Named B) (o : Option U) (how : How) (beside : StaysBeside w stored base p m.state) where
     abbrev q : Past B C I
     q = Made (Ended j how) ∷ Came (Turn j) ∷ p
-
-    -- from one moment to a later one some marks are made, and it stays so
-    pub record BesideBehind (now : Moment w) : Type 0 where
-      pub more : List (Mark B)
-      pub marks_are : now.marks ≡ m.marks ++ more
-      pub stays : StaysBeside (after (Came (Turn j) ∷ p) more) now.state
 
     names : TrueNames (setting w stored) q
     names x y has_x has_y = g.names x y (((IsSamePast-turned (setting w stored) p j how).met x).0 has_x) (((IsSamePast-turned (setting w stored) p j how).met y).0 has_y)
 
     -- behind the end of the run
-    beside_ended : (turned : LiveRun B R) (v : Tables B C I R U) → v.runs ≡ without (put m.state.runs j turned) j → v.queued ≡ m.state.queued → StaysBeside q v
+    beside_ended : (turned : LiveRun B R) (v : Tables B C I R U) → v.runs ≡ without (put m.state.runs j turned) j → v.queued ≡ m.state.queued → StaysBeside w stored base q v
     beside_ended turned v runs_are queued_are = record {
       runs = subst (λ (rs : List (ℕ × LiveRun B R)). RunsGoOn w stored base q rs) (sym runs_are) (RunsGoOn-ended w stored base p j how turned m.state.runs beside.runs);
       queue = subst (λ (rs : List (ℕ × Proposal B C I)). QueueReaches w stored base q rs) (sym queued_are) (QueueReaches-on w stored base (Came (Turn j) ∷ p) (Made (Ended j how)) tt refl names m.state.queued
@@ -137,7 +127,7 @@ module _ {B C I P R D H G U : Type 0} (w : Workings B C I P R D H G U) (stored :
       abbrev Now : Moment w
       Now = moment w left m.members m.next (m.marks ++ Ended j how ∷ [])
 
-      beside_turned : InTurn (Follows w b how) (released_on j done.state.requests) (record done { state = released j done.state }) last → BesideBehind last
+      beside_turned : InTurn (Follows w b how) (released_on j done.state.requests) (record done { state = released j done.state }) last → BesideBehind w stored base (Came (Turn j) ∷ p) m last
       beside_turned follow =
           let now_is : done ≡ Now = ends.becomes in
           let rel : IsReleased w stored q point j b Now = subst (λ (n : Moment w). IsReleased w stored q point j b n) now_is r in
@@ -155,7 +145,7 @@ module _ {B C I P R D H G U : Type 0} (w : Workings B C I P R D H G U) (stored :
 
     -- It stays so behind the last turn of a run, and the requests that waited for it.
     pub StaysBeside-settled : (count : R → ℕ) (had : Tables B C I R U) → TurnsRun w count m.members j m.state had (Ok (Done o)) → (done last : Moment w) → EndsRun w (record m { state = had }) j b o how done → IsReleased w stored q point j b done
-        → InTurn (Follows w b how) (released_on j done.state.requests) (record done { state = released j done.state }) last → BesideBehind last
+        → InTurn (Follows w b how) (released_on j done.state.requests) (record done { state = released j done.state }) last → BesideBehind w stored base (Came (Turn j) ∷ p) m last
     StaysBeside-settled count had turns done last ends r follow =
         let e : EndsRun w (record m { state = record m.state { runs = put m.state.runs j (record turns.live { run = turns.turned }) } }) j b o how done = subst (λ (t : Tables B C I R U). EndsRun w (record m { state = t }) j b o how done) turns.state ends in
         beside_turned turns.live turns.live_is turns.turned turns.turns done last e r follow

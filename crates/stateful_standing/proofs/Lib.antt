@@ -105,3 +105,4 @@ pub mod BesideResumed
 pub mod BesideFetched
 pub mod BesideServed
 pub mod BesideCancelled
+pub mod BesidePaused
