@@ -106,3 +106,4 @@ pub mod BesideFetched
 pub mod BesideServed
 pub mod BesideCancelled
 pub mod BesidePaused
+pub mod BesideMoved
