@@ -107,3 +107,4 @@ pub mod BesideServed
 pub mod BesideCancelled
 pub mod BesidePaused
 pub mod BesideMoved
+pub mod GroundOpened
