@@ -1,6 +1,6 @@
 -- What stays beside the tables where a pause begins: live runs go on turning, and the parents of queued proposals are known or
 -- lost.
-use Rattle.std.proofs.Common.{◌≡◌, ◌≤◌, inl, inr, ℕ, List, [], ◌∷◌, map, All, Option, Some, None, refl}
+use Rattle.std.proofs.Common.{◌≡◌, ◌≤◌, inl, inr, ℕ, List, [], ◌∷◌, map, All, Option, Some, refl}
 use Rattle.std.proofs.lemmas.List.Elements.{All-weaker}
 use Rattle.stateful_types.specs.Names.{Named}
 use Rattle.stateful_types.specs.Anchor.{anchor_by}
@@ -45,10 +45,10 @@ module _ {B C I P R D H G U : Type 0} (w : Workings B C I P R D H G U) (stored :
   beside_withdrawn (f ∷ fs) p names v met h = beside_withdrawn fs (Made (Withdrawn f) ∷ p) (names_withdrawn p f names) v
       (All-weaker (λ (e : ℕ × Proposal B C I). Met (setting w stored) p e.1.ancestry.first) (λ e. Met (setting w stored) (Made (Withdrawn f) ∷ p) e.1.ancestry.first) (λ e m. inr m) v.queued met)
       (record {
-    runs = All-weaker (λ (e : ℕ × LiveRun B R). GoesOnTurning w stored base p e.0 e.1) (λ e. GoesOnTurning w stored base (Made (Withdrawn f) ∷ p) e.0 e.1)
-        (λ e on. GoesOnTurning-same w stored base p (Made (Withdrawn f) ∷ p) (same_withdrawn p f) e.0 e.1 refl on) v.runs h.runs;
-    queue = QueueReaches-on w stored base p (Made (Withdrawn f)) tt refl (names_withdrawn p f names) v.queued met h.queue;
-  })
+        runs = All-weaker (λ (e : ℕ × LiveRun B R). GoesOnTurning w stored base p e.0 e.1) (λ e. GoesOnTurning w stored base (Made (Withdrawn f) ∷ p) e.0 e.1)
+            (λ e on. GoesOnTurning-same w stored base p (Made (Withdrawn f) ∷ p) (same_withdrawn p f) e.0 e.1 refl on) v.runs h.runs;
+        queue = QueueReaches-on w stored base p (Made (Withdrawn f)) tt refl (names_withdrawn p f names) v.queued met h.queue;
+      })
 
   -- It stays so behind the marks of a pause.
   pub StaysBeside-paused : (o : Option Boundary) (p : Past B C I) → TrueNames (setting w stored) p → (old new : Tables B C I R U) (marks : List (Mark B)) → All (λ e. Met (setting w stored) p e.1.ancestry.first) old.queued → Pauses o old new marks → StaysBeside w stored base p old

@@ -73,9 +73,9 @@ module _ {B C I P R D H G U : Type 0} (w : Workings B C I P R D H G U) (stored h
       (λ p m now r more is g hand h rule c st. record {
         runs = RunsGoOn-advances w stored base p m now r.ticket more c.same g.ready.stands.numbers costs st.runs (requested r.request) r.path rule;
         queue = QueueReaches-advances w stored base p points point tip m now g.ready.stands g.ground r.ticket more is
-        (EachMark-behind w (λ (x : Past B C I) (mark : Mark B). IsServedBy r.ticket mark) p m now more is (advances-marks w p m now r.ticket (requested r.request) r.path rule))
-        (names_same p (after p more) g.ready.names c.same) st.queue (requested r.request) r.path h.way
-        ((knows_free w stored base p points point m.next tip m.state.pause m.state.anchor m.state.cache h.free g.ground r.path.parent.digest).1 h.at_hand, h.at_hand) rule;
+            (EachMark-behind w (λ (x : Past B C I) (mark : Mark B). IsServedBy r.ticket mark) p m now more is (advances-marks w p m now r.ticket (requested r.request) r.path rule))
+            (names_same p (after p more) g.ready.names c.same) st.queue (requested r.request) r.path h.way
+            ((knows_free w stored base p points point m.next tip m.state.pause m.state.anchor m.state.cache h.free g.ground r.path.parent.digest).1 h.at_hand, h.at_hand) rule;
       })
       (λ p m now r g hand h st rule. let k = advances-marks w p m now r.ticket (requested r.request) r.path rule in record { more = k.more; marks_are = k.marks_are; each = any_marks p k.more })
       rs p m last ready turns
@@ -89,8 +89,8 @@ module _ {B C I P R D H G U : Type 0} (w : Workings B C I P R D H G U) (stored h
       (λ p m now e more is g hand h rule c st. record {
         runs = RunsGoOn-acquires w stored base p m now e.0 more c.same g.ready.stands.numbers costs st.runs held (requested e.1.request) rule;
         queue = QueueReaches-acquires w stored base p points point tip m now g.ready.stands g.ground e.0 more is
-        (EachMark-behind w (λ (x : Past B C I) (mark : Mark B). IsServedBy e.0 mark) p m now more is (acquires-marks w p m now e.0 held (requested e.1.request) rule))
-        (names_same p (after p more) g.ready.names c.same) st.queue h.free held (requested e.1.request) hand (All-nil (Met (setting w stored) p)) rule;
+            (EachMark-behind w (λ (x : Past B C I) (mark : Mark B). IsServedBy e.0 mark) p m now more is (acquires-marks w p m now e.0 held (requested e.1.request) rule))
+            (names_same p (after p more) g.ready.names c.same) st.queue h.free held (requested e.1.request) hand (All-nil (Met (setting w stored) p)) rule;
       })
       (λ p m now e g hand h st rule. let k = acquires-marks w p m now e.0 held (requested e.1.request) rule in record { more = k.more; marks_are = k.marks_are; each = any_marks p k.more })
       es p m last ready turns

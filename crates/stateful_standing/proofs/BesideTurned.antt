@@ -61,10 +61,12 @@ module _ {B C I P R D H G U : Type 0} (w : Workings B C I P R D H G U) (stored :
   QueueReaches-follows b how h (parked pruning any becomes) = rw becomes (same_queue w stored base p points point tip m now s g r.ticket more marks_are are names reaches)
   QueueReaches-follows b how h (goes_on kept not_held other any advances) =
       QueueReaches-advances w stored base p points point tip m now s g r.ticket more marks_are are names reaches (requested r.request) r.path h.way
-      (subst (λ (x : Named B). Known (setting w stored) p x.digest × IsAtHand m.state.anchor m.state.cache x.digest) (sym h.leads)
-      (kept-Known w stored p g.names points m.next m.state.anchor m.state.cache (round_of_top w stored base p points point m.next tip m.state.pause m.state.anchor m.state.cache g) b
-      (subst (λ (x : Named B). Met (setting w stored) p x) h.leads (All-last (Met (setting w stored) p) r.path.blocks r.path.parent h.way.met)) any m.state.pause g.stands
-      (closed_by w stored base p points point m.next tip m.state.pause m.state.anchor m.state.cache g) kept, inr any)) advances
+      (subst (λ (x : Named B). Known (setting w stored) p x.digest × IsAtHand m.state.anchor m.state.cache x.digest) (sym h.leads) (
+        kept-Known w stored p g.names points m.next m.state.anchor m.state.cache (round_of_top w stored base p points point m.next tip m.state.pause m.state.anchor m.state.cache g) b
+            (subst (λ (x : Named B). Met (setting w stored) p x) h.leads (All-last (Met (setting w stored) p) r.path.blocks r.path.parent h.way.met)) any m.state.pause g.stands
+            (closed_by w stored base p points point m.next tip m.state.pause m.state.anchor m.state.cache g) kept,
+        inr any,
+      )) advances
 
 module _ {B C I P R D H G U : Type 0} (w : Workings B C I P R D H G U) (stored : ℕ → Option (Named B)) (base : w.States) (tip : Anchor) (costs : RunsTakeTurns w)
     (other_states : (n i : w.Ids) (x y : w.States) (c : List (Point w)) → w.kind.issued n ((i, x) ∷ c) → w.kind.issued n ((i, y) ∷ c)) where
@@ -91,8 +93,8 @@ module _ {B C I P R D H G U : Type 0} (w : Workings B C I P R D H G U) (stored :
         (λ p m now r more is g hand h rule c st. record {
           runs = RunsGoOn-follows w stored base p m now more c.same g.ready.stands.numbers costs st.runs b how r rule;
           queue = QueueReaches-follows w stored base p points point tip m now g.ready.stands g.ground r more is
-          (EachMark-behind w (λ (x : Past B C I) (mark : Mark B). IsServedBy r.ticket mark) p m now more is (follows-marks w p m now b how r rule))
-          (λ x y has_x has_y. g.ready.names x y ((c.same.met x).0 has_x) ((c.same.met y).0 has_y)) st.queue b how h rule;
+              (EachMark-behind w (λ (x : Past B C I) (mark : Mark B). IsServedBy r.ticket mark) p m now more is (follows-marks w p m now b how r rule))
+              (λ x y has_x has_y. g.ready.names x y ((c.same.met x).0 has_x) ((c.same.met y).0 has_y)) st.queue b how h rule;
         })
         (λ p m now r g hand h st rule. let k = follows-marks w p m now b how r rule in record { more = k.more; marks_are = k.marks_are; each = any_marks p k.more })
         rs p m last ready turns
