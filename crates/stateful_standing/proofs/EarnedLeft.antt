@@ -47,7 +47,7 @@ module _ {B C I P R D H G U : Type 0} (w : Workings B C I P R D H G U) where
   ended_left v t (Recover u context ancestry input kind) verdict.Valid = record { anchor = refl; cache = refl; pause = refl }
   ended_left v t (Recover u context ancestry input kind) verdict.Invalid = record { anchor = refl; cache = refl; pause = refl }
 
-  LeavesBehind-concludes : (m now : Moment w) (t : ℕ) (r : Requested B C I) (v : Verdict) → Concludes w m t r v now → LeavesBehind m now
+  pub LeavesBehind-concludes : (m now : Moment w) (t : ℕ) (r : Requested B C I) (v : Verdict) → Concludes w m t r v now → LeavesBehind m now
   LeavesBehind-concludes m now t r v is = rw is (record { more = _; marks_are = refl; mild = told_mild t r.request v; left = ended_left m.state t r.request v })
 
   -- a request that goes along its path

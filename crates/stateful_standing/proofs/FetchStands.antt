@@ -36,7 +36,7 @@ use Rattle.stateful_standing.proofs.Advanced.{StandsBehind-concludes}
 use Rattle.stateful_standing.proofs.Acquired.{StandsBehind-acquires}
 
 module _ {B C I S T : Type 0} (s : Setting B S T) (p : Past B C I) (f : ℕ) where
-  fetched-IsCalm : (answer : Option (Named B)) → IsCalm s p (Came (Fetched f answer))
+  pub fetched-IsCalm : (answer : Option (Named B)) → IsCalm s p (Came (Fetched f answer))
   fetched-IsCalm answer = record { tip = refl; starts_none = tt; built = λ d h. h; kept = refl }
 
   -- a verification that abstains still does
@@ -46,7 +46,7 @@ module _ {B C I S T : Type 0} (s : Setting B S T) (p : Past B C I) (f : ℕ) whe
   abstains-fetched answer t b (inr undecided) = inr undecided
 
 module _ {B C I : Type 0} (p : Past B C I) (f : ℕ) (answer : Option (Named B)) where
-  fetched-LeavesJob : (j : ℕ) → LeavesJob p (Came (Fetched f answer)) j
+  pub fetched-LeavesJob : (j : ℕ) → LeavesJob p (Came (Fetched f answer)) j
   fetched-LeavesJob j = record { live = refl; started = refl; turns = refl }
 
   fetched-LeavesTicket : (t : ℕ) → LeavesTicket p (Came (Fetched f answer)) t

@@ -82,6 +82,16 @@ module _ {B S T : Type 0} (s : Setting B S T) where
         go x [] h = h
         go x (mark ∷ ms) h = go (Made mark ∷ x) ms h
 
+module _ {B C I S T : Type 0} (s : Setting B S T) where
+  -- marks leave what is trusted, forwards too
+  pub honest-after : (p : Past B C I) (marks : List (Mark B)) → IsHonest s p → IsHonest s (after p marks)
+  honest-after p [] h = h
+  honest-after p (mark ∷ marks) h = honest-after (Made mark ∷ p) marks h
+
+  pub answered-after : (p : Past B C I) (marks : List (Mark B)) → IsAnswered p → IsAnswered (after p marks)
+  answered-after p [] h = h
+  answered-after p (mark ∷ marks) h = answered-after (Made mark ∷ p) marks h
+
 module _ {B C I : Type 0} where
   -- what a fetch is for stays behind a mark under a new number
   record LeavesAsked (f : ℕ) (p q : Past B C I) : Type 0 where

@@ -138,3 +138,14 @@ pub mod Quiet
 pub mod DueStands
 pub mod FrontMarks
 pub mod Outstands
+pub mod GroundBegun
+pub mod GatheredResumed
+pub mod RunsKept
+pub mod BesideTurned
+pub mod BesideResumed
+pub mod BesideFetched
+pub mod BesideServed
+pub mod BesideCancelled
+pub mod BesidePaused
+pub mod BesideMoved
+pub mod GroundOpened

@@ -1,10 +1,11 @@
 -- The blocks that are asked for requests are needed, and the marks of one that acquires what it needs stand in their places.
-use Rattle.std.proofs.Common.{◌≡◌, ◌↔◌, ◌++◌, inl, inr, ℕ, List, [], ◌∷◌, All, Any, Option, Some, MatchOption, refl, sym, ap, ◌∙◌, subst, take}
+use Rattle.std.proofs.Common.{◌≡◌, ◌↔◌, ◌++◌, inl, inr, ℕ, false, List, [], ◌∷◌, All, Any, Option, Some, MatchOption, refl, sym, ap, ◌∙◌, subst, take}
 use Rattle.std.proofs.lemmas.List.Elements.{All-head, All-tail, Contains-push, Contains-append_left}
 use Rattle.stateful_types.specs.Names.{Named}
 use Rattle.stateful_types.specs.Anchor.{anchor_by}
 use Rattle.stateful_types.specs.declared.anchor.Anchor.{Anchor}
 use Rattle.stateful_types.specs.declared.digest.Digest.{Digest}
+use Rattle.stateful_history.specs.Answers.{was_cancelled}
 use Rattle.stateful_history.specs.Fetches.{AskedIsNeeded}
 use Rattle.stateful_history.specs.Known.{Known}
 use Rattle.stateful_history.specs.Met.{Met}
@@ -117,16 +118,16 @@ module _ {B C I P R D H G U : Type 0} (w : Workings B C I P R D H G U) (stored :
         )
 
     -- Each mark of a request that acquires what it needs stands in its place.
-    pub acquires-in_place : (now : Moment w) → Acquires w held m t r now → KeepsBehind w (IsInPlace w stored base) p m now
-    acquires-in_place now (valid needs concludes) = concludes-in_place w stored base p m t r verdict.Valid now hand.asked concludes
-    acquires-in_place now (invalid needs concludes) = concludes-in_place w stored base p m t r verdict.Invalid now hand.asked concludes
-    acquires-in_place now (asks d needs left becomes) =
-        rw becomes (record { more = _; marks_are = refl; each = ((tt, asked-next p m.state.next_job m.state.next_fetch s.numbers, asked_needed m.state.next_fetch d needs, tt), tt) })
-    acquires-in_place now (waits needs becomes) = rw becomes (record { more = []; marks_are = refl; each = tt })
-    acquires-in_place now (runs {path = path} needs advances) =
+    pub acquires-in_place : was_cancelled t p ≡ false → (now : Moment w) → Acquires w held m t r now → KeepsBehind w (IsInPlace w stored base) p m now
+    acquires-in_place live now (valid needs concludes) = concludes-in_place w stored base p m t r verdict.Valid now hand.asked live concludes
+    acquires-in_place live now (invalid needs concludes) = concludes-in_place w stored base p m t r verdict.Invalid now hand.asked live concludes
+    acquires-in_place live now (asks d needs left becomes) =
+        rw becomes (record { more = _; marks_are = refl; each = ((tt, asked-next p m.state.next_job m.state.next_fetch s.numbers, asked_needed m.state.next_fetch d needs, tt, live), tt) })
+    acquires-in_place live now (waits needs becomes) = rw becomes (record { more = []; marks_are = refl; each = tt })
+    acquires-in_place live now (runs {path = path} needs advances) =
         let here = ready-at_hand w.header m.state.anchor m.state.cache held r.request r.acquired path needs in
         advances-in_place w stored base p points point tip m s g apart t (requested r.request) hand.asked path
-        (IsWayOf-ready w stored p m.state.anchor m.state.cache held r.request r.acquired path hand.brought met needs) ((Knows_free path.parent.digest).1 here, here) again now advances
+        (IsWayOf-ready w stored p m.state.anchor m.state.cache held r.request r.acquired path hand.brought met needs) ((Knows_free path.parent.digest).1 here, here) again live now advances
 
     Any-in_front : (P : Named B → Type 0) (front : List (Named B)) (last : Named B) → Any P front → Any P (front ++ last ∷ [])
     Any-in_front P front last any = let c = Contains-append_left front (last ∷ []) any.1 (any.0, any.2, any.3) in (c.0, any.1, c.1, c.2, any.4)

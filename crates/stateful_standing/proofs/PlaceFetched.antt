@@ -27,6 +27,7 @@ use Rattle.stateful_standing.proofs.KeptMarks.{KeepsBehind, KeepsBehind-same}
 use Rattle.stateful_standing.proofs.PlaceAsks.{acquires-in_place}
 use Rattle.stateful_standing.proofs.PlaceFollowed.{IsOrderly}
 use Rattle.stateful_standing.proofs.PlaceMarks.{IsInPlace, concludes-in_place}
+use Rattle.stateful_standing.proofs.PlaceStarts.{live-request}
 use Rattle.stateful_standing.proofs.ReasonFetched.{IsGround-fetched}
 use Rattle.stateful_standing.proofs.ReasonGround.{IsGround}
 
@@ -55,7 +56,7 @@ module _ {B C I P R D H G U : Type 0} (w : Workings B C I P R D H G U) (stored :
       (TablesStand-fetched w stored p points point m.next m.state s f answer t r fetches) orderly.apart orderly.again t (with_block r b)
       (IsInHand-fetched w stored p points point m.next m.state s f answer t r fetches)
       (All-push (Met (setting w stored) given) r.acquired b (acquired-fetched w stored p points point m.next m.state s f answer t r fetches) (inl is))
-      (asked_before t r b (λ d was. asked_given d answer was) (asked t r fetches)) now acquires in
+      (asked_before t r b (λ d was. asked_given d answer was) (asked t r fetches)) (orderly.live t (live-request w stored given t r.request (IsInHand-fetched w stored p points point m.next m.state s f answer t r fetches).asked)) now acquires in
       record { more = k.more; marks_are = k.marks_are; each = k.each }
     where
       asked_given : (d : Digest) (o : Option (Named B)) → WasAsked t d (Came (Fetched f o) ∷ p) → WasAsked t d p
@@ -64,6 +65,6 @@ module _ {B C I P R D H G U : Type 0} (w : Workings B C I P R D H G U) (stored :
   fetched-in_place orderly asked now (waits t r fetches is verification becomes) = rw becomes (record { more = []; marks_are = refl; each = tt })
   fetched-in_place orderly asked now (declines t r fetches is proposal concludes) =
       let k : KeepsBehind w (IsInPlace w stored base) given (serving w m t) now =
-      concludes-in_place w stored base given (serving w m t) t r verdict.Invalid now (IsInHand-fetched w stored p points point m.next m.state s f answer t r fetches).asked concludes in
+      concludes-in_place w stored base given (serving w m t) t r verdict.Invalid now (IsInHand-fetched w stored p points point m.next m.state s f answer t r fetches).asked (orderly.live t (live-request w stored given t r.request (IsInHand-fetched w stored p points point m.next m.state s f answer t r fetches).asked)) concludes in
       record { more = k.more; marks_are = k.marks_are; each = k.each }
   fetched-in_place orderly asked now (dead none is) = KeepsBehind-same w (IsInPlace w stored base) given m now (ap (λ (n : Moment w). n.marks) is)

@@ -35,27 +35,29 @@ use Rattle.stateful_standing.proofs.KeptInTurn.{IsGrounded, AreGrounded, AreGrou
 use Rattle.stateful_standing.proofs.KeptMarks.{KeepsBehind, EachMark-behind, KeepsReady, KeepsReady-then}
 use Rattle.stateful_standing.proofs.OnPath.{StandsOn-way}
 use Rattle.stateful_standing.proofs.PlaceMarks.{IsInPlace, concludes-in_place}
-use Rattle.stateful_standing.proofs.PlaceStarts.{advances-in_place}
+use Rattle.stateful_standing.proofs.PlaceStarts.{live-request, advances-in_place}
 use Rattle.stateful_standing.proofs.ReasonAdvances.{closed_by}
 use Rattle.stateful_standing.proofs.ReasonFollowed.{HasWaited, HasWaited-same}
 use Rattle.stateful_standing.proofs.ReasonGround.{IsGround, round_of_top}
 use Rattle.stateful_standing.proofs.Served.{Serves}
-use Rattle.stateful_standing.proofs.ServedMarks.{IsServedBy, AreServedBy, follows-marks, TicketsApart-after, Known-before_served}
+use Rattle.stateful_standing.proofs.ServedMarks.{IsServedBy, AreServedBy, follows-marks, TicketsApart-after, IsUncancelled, IsUncancelled-served, Known-before_served}
 use Rattle.stateful_standing.proofs.SpentRuns.{MayRunAgain-served, MayRunAgain-ended}
 
 module _ {B C I P R D H G U : Type 0} (w : Workings B C I P R D H G U) (stored : ℕ → Option (Named B)) where
-  -- A ticket is that of one event, and a run that ended in vain is started again only for another request.
+  -- A ticket is that of one event, no live request was cancelled, and a run that ended in vain is started again only for another request.
   pub record IsOrderly (p : Past B C I) : Type 0 where
     pub apart : TicketsApart p
+    pub live : IsUncancelled p
     pub again : (d : Digest) → MayRunAgain (setting w stored) p d
 
   -- so it is but for a block, as long as that isn't known
   pub record IsOrderlyBut (b : Named B) (p : Past B C I) : Type 0 where
     pub apart : TicketsApart p
+    pub live : IsUncancelled p
     pub again : (d : Digest) → (d ≢ b.digest) ⊎ Known (setting w stored) p b.digest → MayRunAgain (setting w stored) p d
 
   pub IsOrderly-served : (p : Past B C I) (t : ℕ) (marks : List (Mark B)) → AreServedBy t p marks → IsOrderly p → IsOrderly (after p marks)
-  IsOrderly-served p t marks are o = record { apart = TicketsApart-after p marks o.apart; again = λ d. MayRunAgain-served (setting w stored) p t marks are d (o.again d) }
+  IsOrderly-served p t marks are o = record { apart = TicketsApart-after p marks o.apart; live = IsUncancelled-served p t marks are o.live; again = λ d. MayRunAgain-served (setting w stored) p t marks are d (o.again d) }
 
 module _ {B C I P R D H G U : Type 0} (w : Workings B C I P R D H G U) (stored : ℕ → Option (Named B)) (base : w.States) (points : Digest → Point w) (point : Point w) (tip : Anchor)
     (other_states : (n i : w.Ids) (x y : w.States) (c : List (Point w)) → w.kind.issued n ((i, x) ∷ c) → w.kind.issued n ((i, y) ∷ c)) (b : Named B) (how : How) where
@@ -81,14 +83,14 @@ module _ {B C I P R D H G U : Type 0} (w : Workings B C I P R D H G U) (stored :
 
     -- its marks stand in their places
     follows-in_place : IsOrderlyBut w stored b p → Follows w b how r m now → KeepsBehind w (IsInPlace w stored base) p m now
-    follows-in_place o (given_up out concludes) = concludes-in_place w stored base p m r.ticket (requested r.request) verdict.Invalid now hand.asked concludes
+    follows-in_place o (given_up out concludes) = concludes-in_place w stored base p m r.ticket (requested r.request) verdict.Invalid now hand.asked (o.live r.ticket (live-request w stored p r.ticket r.request hand.asked)) concludes
     follows-in_place o (held is becomes) = rw becomes (record { more = []; marks_are = refl; each = tt })
-    follows-in_place o (failed not_held out concludes) = concludes-in_place w stored base p m r.ticket (requested r.request) verdict.Invalid now hand.asked concludes
+    follows-in_place o (failed not_held out concludes) = concludes-in_place w stored base p m r.ticket (requested r.request) verdict.Invalid now hand.asked (o.live r.ticket (live-request w stored p r.ticket r.request hand.asked)) concludes
     follows-in_place o (parked pruning any becomes) = rw becomes (record { more = []; marks_are = refl; each = tt })
     follows-in_place o (goes_on kept not_held other any advances) =
         let known : Known (setting w stored) p b.digest = kept-known kept any in
         advances-in_place w stored base p points point tip m g.ready.stands g.ground o.apart r.ticket (requested r.request) hand.asked r.path h.way
-        (subst (λ (x : Named B). Known (setting w stored) p x.digest × IsAtHand m.state.anchor m.state.cache x.digest) (sym h.leads) (known, inr any)) (λ d. o.again d (inr known)) now advances
+        (subst (λ (x : Named B). Known (setting w stored) p x.digest × IsAtHand m.state.anchor m.state.cache x.digest) (sym h.leads) (known, inr any)) (λ d. o.again d (inr known)) (o.live r.ticket (live-request w stored p r.ticket r.request hand.asked)) now advances
 
     module _ (more : List (Mark B)) (marks_are : now.marks ≡ m.marks ++ more) (o : IsOrderlyBut w stored b p) where
       abbrev q : Past B C I
@@ -100,6 +102,7 @@ module _ {B C I P R D H G U : Type 0} (w : Workings B C I P R D H G U) (stored :
       orderly-but : Follows w b how r m now → IsOrderlyBut w stored b q
       orderly-but rule = record {
         apart = TicketsApart-after p more o.apart;
+        live = IsUncancelled-served p r.ticket more (are-served rule) o.live;
         again = λ d may. MayRunAgain-served (setting w stored) p r.ticket more (are-served rule) d (o.again d (elim may [
           | inl other ↦ inl other
           | inr known ↦ inr (Known-before_served (setting w stored) p r.ticket more (are-served rule) b.digest known)
@@ -107,7 +110,7 @@ module _ {B C I P R D H G U : Type 0} (w : Workings B C I P R D H G U) (stored :
       }
 
       from-known : Follows w b how r m now → Known (setting w stored) p b.digest → IsOrderly w stored q
-      from-known rule known = record { apart = TicketsApart-after p more o.apart; again = λ d. MayRunAgain-served (setting w stored) p r.ticket more (are-served rule) d (o.again d (inr known)) }
+      from-known rule known = record { apart = TicketsApart-after p more o.apart; live = IsUncancelled-served p r.ticket more (are-served rule) o.live; again = λ d. MayRunAgain-served (setting w stored) p r.ticket more (are-served rule) d (o.again d (inr known)) }
 
       -- a request that ended stands on the block
       stands-on : StandsOn (setting w stored) p r.ticket b.digest
@@ -118,7 +121,7 @@ module _ {B C I P R D H G U : Type 0} (w : Workings B C I P R D H G U) (stored :
       told-again (Recover u context ancestry input kind) = MayRunAgain-ended (setting w stored) p _ b.digest r.ticket refl stands-on (λ j how e. cc)
 
       from-ended : Follows w b how r m now → Concludes w m r.ticket (requested r.request) verdict.Invalid now → IsOrderly w stored q
-      from-ended rule concludes = record { apart = TicketsApart-after p more o.apart; again = again }
+      from-ended rule concludes = record { apart = TicketsApart-after p more o.apart; live = IsUncancelled-served p r.ticket more (are-served rule) o.live; again = again }
         where
           more_is : told r.ticket r.request verdict.Invalid ≡ more
           more_is = append_cancel_left m.marks (told r.ticket r.request verdict.Invalid) more (sym (ap (λ (n : Moment w). n.marks) concludes) ∙ marks_are)
@@ -154,7 +157,7 @@ module _ {B C I P R D H G U : Type 0} (w : Workings B C I P R D H G U) (stored :
   AreLeft = AreGrounded w stored base points point tip Rule ticket_of request_of (HasWaited w stored base tip b how)
 
   weaken : (p : Past B C I) → IsOrderly w stored p → IsOrderlyBut w stored b p
-  weaken p o = record { apart = o.apart; again = λ d may. o.again d }
+  weaken p o = record { apart = o.apart; live = o.live; again = λ d may. o.again d }
 
   -- Each mark of the requests that follow the end of a run in turn stands in its place, and behind them a run that ended in vain
   -- is started again only for another request.

@@ -27,7 +27,7 @@ use Rattle.stateful_standing.proofs.KeptMarks.{EachMark-behind, KeepsReady}
 use Rattle.stateful_standing.proofs.PlaceAsks.{acquires-in_place, asked_along}
 use Rattle.stateful_standing.proofs.PlaceFollowed.{IsOrderly, IsOrderly-served}
 use Rattle.stateful_standing.proofs.PlaceMarks.{IsInPlace}
-use Rattle.stateful_standing.proofs.PlaceStarts.{advances-in_place}
+use Rattle.stateful_standing.proofs.PlaceStarts.{live-request, advances-in_place}
 use Rattle.stateful_standing.proofs.ReasonKnown.{knows_free}
 use Rattle.stateful_standing.proofs.ReasonResumed.{HasParked, MayAcquire, HasParked-same, MayAcquire-same}
 use Rattle.stateful_standing.proofs.ResumeStands.{Serves-along}
@@ -78,7 +78,7 @@ module _ {B C I P R D H G U : Type 0} (w : Workings B C I P R D H G U) (stored s
         (λ p m now r more is g hand h rule c o. stay_along p m now r more is hand rule o)
         (λ p m now r g hand h o rule.
         advances-in_place w stored base p points point tip m g.ready.stands g.ground o.orderly.apart r.ticket (requested r.request) hand.asked r.path h.way
-        ((knows_free w stored base p points point m.next tip m.state.pause m.state.anchor m.state.cache h.free g.ground r.path.parent.digest).1 h.at_hand, h.at_hand) o.orderly.again now rule)
+        ((knows_free w stored base p points point m.next tip m.state.pause m.state.anchor m.state.cache h.free g.ground r.path.parent.digest).1 h.at_hand, h.at_hand) o.orderly.again (o.orderly.live r.ticket (live-request w stored p r.ticket r.request hand.asked)) now rule)
         rs p m last ready turns
 
     -- nothing was asked for a request in hand
@@ -106,5 +106,5 @@ module _ {B C I P R D H G U : Type 0} (w : Workings B C I P R D H G U) (stored s
         (MayAcquire-same w stored stored_now base tip) IsOrderlyWith
         (λ p m now e more is g hand h rule c o. stay_anew p m now e more is g hand h rule o)
         (λ p m now e g hand h o rule.
-        acquires-in_place w stored base p points point tip m g.ground h.free stored_now g.ready.stands o.orderly.apart o.orderly.again e.0 (requested e.1.request) hand (All-nil (Met (setting w stored) p)) (unasked p m e hand o (but_last (gathered e.1.request []))) now rule)
+        acquires-in_place w stored base p points point tip m g.ground h.free stored_now g.ready.stands o.orderly.apart o.orderly.again e.0 (requested e.1.request) hand (All-nil (Met (setting w stored) p)) (unasked p m e hand o (but_last (gathered e.1.request []))) (o.orderly.live e.0 (live-request w stored p e.0 e.1.request hand.asked)) now rule)
         es p m last ready turns

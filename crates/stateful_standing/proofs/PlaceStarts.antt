@@ -1,8 +1,9 @@
 -- The runs that are started for requests may run.
-use Rattle.std.proofs.Common.{◌≡◌, ◌≢◌, inl, inr, ℕ, List, [], All, Option, None, Some, IsSome, option_map, refl, sym, ap, ◌∙◌, subst}
+use Rattle.std.proofs.Common.{◌≡◌, ◌≢◌, inl, inr, ℕ, false, List, [], All, Option, None, Some, IsSome, option_map, refl, sym, ap, ◌∙◌, subst}
 use Rattle.stateful_types.specs.Names.{Named}
 use Rattle.stateful_types.specs.declared.anchor.Anchor.{Anchor}
 use Rattle.stateful_types.specs.declared.digest.Digest.{Digest}
+use Rattle.stateful_history.specs.Answers.{was_cancelled}
 use Rattle.stateful_history.specs.Jobs.{JobOf, job_of, IsLiveJob}
 use Rattle.stateful_history.specs.Known.{Known, IsUnknown}
 use Rattle.stateful_history.specs.Past.{Past}
@@ -63,7 +64,7 @@ module _ {B C I P R D H G U : Type 0} (w : Workings B C I P R D H G U) (stored :
   unknown_met next (Finalizing boundary) anchor cache g b on out known = elim ((g.stands.knows b.digest).0 known) [ inl own ↦ on.other own | inr both ↦ out (inr both.0) ]
 
   module _ (m : Moment w) (s : TablesStand w stored p points point m.next m.state) (g : IsGround w stored base p points point m.next tip m.state.pause m.state.anchor m.state.cache) (apart : TicketsApart p) (t : ℕ) (r : Requested B C I) (asked : IsRequestOf w stored p t r.request)
-      (path : Path B) (way : IsWayOf w stored p r.request path) (parent : Known (setting w stored) p path.parent.digest × IsAtHand m.state.anchor m.state.cache path.parent.digest) (again : (d : Digest) → MayRunAgain (setting w stored) p d) where
+      (path : Path B) (way : IsWayOf w stored p r.request path) (parent : Known (setting w stored) p path.parent.digest × IsAtHand m.state.anchor m.state.cache path.parent.digest) (again : (d : Digest) → MayRunAgain (setting w stored) p d) (uncancelled : was_cancelled t p ≡ false) where
     -- the block that is met on the path may run
     may_run : (left : List (Named B)) (b c : Named B) → Reaches w.header m.state path left b c → GoesOn w.header m.state.pause b → (Knows m.state b.digest → ⊥) → RunsNone m.state b.digest → MayRun (setting w stored) p b.digest
     may_run left b c reaches on unknown unrun = record {
@@ -81,12 +82,12 @@ module _ {B C I P R D H G U : Type 0} (w : Workings B C I P R D H G U) (stored :
 
     -- Each mark of a request that goes along its path on a known parent stands in its place.
     pub advances-in_place : (now : Moment w) → Advances w m t r path now → KeepsBehind w (IsInPlace w stored base) p m now
-    advances-in_place now (arrives all concludes) = concludes-in_place w stored base p m t r verdict.Valid now asked concludes
-    advances-in_place now (leaves reaches out concludes) = concludes-in_place w stored base p m t r verdict.Invalid now asked concludes
+    advances-in_place now (arrives all concludes) = concludes-in_place w stored base p m t r verdict.Valid now asked uncancelled concludes
+    advances-in_place now (leaves reaches out concludes) = concludes-in_place w stored base p m t r verdict.Invalid now asked uncancelled concludes
     advances-in_place now (joins j reaches on unknown has becomes) = rw becomes (record { more = []; marks_are = refl; each = tt })
     advances-in_place now (starts {left = left} {b = b} {parent = c} reaches on unknown unrun known launches) = record {
       more = _;
       marks_are = launches.marks;
-      each = ((tt, started-next p m.state.next_job m.state.next_fetch s.numbers, tt, may_run left b c reaches on unknown unrun), tt);
+      each = ((tt, started-next p m.state.next_job m.state.next_fetch s.numbers, tt, may_run left b c reaches on unknown unrun, tt), tt);
     }
-    advances-in_place now (misses reaches on unknown unrun unknown_parent concludes) = concludes-in_place w stored base p m t r verdict.Invalid now asked concludes
+    advances-in_place now (misses reaches on unknown unrun unknown_parent concludes) = concludes-in_place w stored base p m t r verdict.Invalid now asked uncancelled concludes

@@ -81,6 +81,7 @@ module _ {B C I P R D H G U : Type 0} (w : Workings B C I P R D H G U) (stored :
     but : But q After
     but = record {
       apart = kept.apart;
+      live = kept.live;
       again = MayRunAgain-turned (setting w stored) p j how b.digest
           (subst (λ (x : Named B). started_for j p ≡ Some (job_of Candidate x.digest)) (same_block w stored p point m j b o how done live live_is turned ends) own.job.is) kept.again;
     }
@@ -102,7 +103,7 @@ module _ {B C I P R D H G U : Type 0} (w : Workings B C I P R D H G U) (stored :
       place_from : (last : Moment w) → InTurn (Follows w b how) (released_on j m.state.requests) Start last
           → KeepsReady w (IsInPlace w stored base) (Follows w b how) (AreLeft w stored base rel.points point tip other_states b how Orderly) [] (Came (Turn j) ∷ p) m last
       place_from last rules =
-          KeepsReady-then w (IsInPlace w stored base) (Follows w b how) (AreLeft w stored base rel.points point tip other_states b how Orderly) [] (Came (Turn j) ∷ p) m Start last (Ended j how ∷ []) refl ((tt, tt, tt, tt), tt)
+          KeepsReady-then w (IsInPlace w stored base) (Follows w b how) (AreLeft w stored base rel.points point tip other_states b how Orderly) [] (Came (Turn j) ∷ p) m Start last (Ended j how ∷ []) refl ((tt, tt, tt, tt, tt), tt)
           (follow_from (released_on j m.state.requests) refl last start rules)
 
   -- What stands behind the last turn of a run: each mark from its end on is in its place, and a run that ended in vain is started

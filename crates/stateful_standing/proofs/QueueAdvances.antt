@@ -42,14 +42,14 @@ module _ {B C I P R D H G U : Type 0} (w : Workings B C I P R D H G U) (stored :
   Reaches_on queued = QueueReaches w stored base (after p more) queued
 
   -- what was queued
-  same_queue : Reaches_on m.state.queued
+  pub same_queue : Reaches_on m.state.queued
   same_queue = QueueReaches-served w stored base p t more are names m.state.queued (queue-met w stored p m.state.queued m.state.recovered s.queue) reaches
 
   invalid_queue : (request : Request B C I) → (ended m.state t request verdict.Invalid).queued ≡ m.state.queued
   invalid_queue (Verify u ancestry) = refl
   invalid_queue (Recover u context ancestry input kind) = refl
 
-  concludes_invalid : (r : Requested B C I) → Concludes w m t r verdict.Invalid now → Reaches_on now.state.queued
+  pub concludes_invalid : (r : Requested B C I) → Concludes w m t r verdict.Invalid now → Reaches_on now.state.queued
   concludes_invalid r is = rw (is, invalid_queue r.request) same_queue
 
   -- a proposal whose parent is known is queued

@@ -20,9 +20,8 @@ use Rattle.stateful_exec.specs.declared.request.Proposal.{Proposal}
 use Rattle.stateful_standing.specs.Setting.{setting}
 use Rattle.stateful_standing.specs.Reaching.{IsLost, QueueReaches}
 use Rattle.stateful_standing.proofs.QueueLost.{Missing-met}
-use Rattle.stateful_standing.proofs.ReasonFollows.{later_on}
 use Rattle.stateful_standing.proofs.ReasonGround.{IsGround, block_of, chain_of}
-use Rattle.stateful_standing.proofs.ReasonKnown.{known_or_not, later_than_tip, tip_known}
+use Rattle.stateful_standing.proofs.ReasonKnown.{later_on, known_or_not, later_than_tip, tip_known}
 use Rattle.stateful_standing.proofs.ReasonStuck.{below_at_hand, IsLost-below}
 
 module _ {B C I P R D H G U : Type 0} (w : Workings B C I P R D H G U) (stored : ℕ → Option (Named B)) (base : w.States) (p : Past B C I) (points : Digest → Point w) (point : Point w) (next : w.Ids) (anchor : Anchor) (cache : List (Cached U)) (g : IsGround w stored base p points point next anchor Free anchor cache)

@@ -1,5 +1,5 @@
 -- False verdicts and declines have their reasons: those of the requests that waited for a run that has ended.
-use Rattle.std.proofs.Common.{◌≡◌, ◌≢◌, inl, inr, ℕ, List, [], All, Option, refl, sym, ap, ◌∙◌, subst, arith}
+use Rattle.std.proofs.Common.{◌≡◌, ◌≢◌, inl, inr, ℕ, List, [], All, Option, refl, sym, ap, ◌∙◌, subst}
 use Rattle.stateful_types.specs.Names.{Named}
 use Rattle.stateful_types.specs.Round.{IsLater}
 use Rattle.stateful_types.specs.declared.anchor.Anchor.{Anchor}
@@ -32,18 +32,11 @@ use Rattle.stateful_standing.proofs.EarnedInTurn.{All-last}
 use Rattle.stateful_standing.proofs.KeptMarks.{KeepsBehind}
 use Rattle.stateful_standing.proofs.ReasonMissing.{Missing-first}
 use Rattle.stateful_standing.proofs.ReasonGround.{IsGround, IsFinal, chain_of, HasState-on, round_of_top}
-use Rattle.stateful_standing.proofs.ReasonKnown.{later_than_tip, unretained_late, unretained_unknown}
+use Rattle.stateful_standing.proofs.ReasonKnown.{later_on, later_than_tip, unretained_late, unretained_unknown}
 use Rattle.stateful_standing.proofs.ReasonStuck.{stuck_on}
 use Rattle.stateful_standing.proofs.ReasonMarks.{HasItsReason, MayEnd-stuck, concludes-ended}
 use Rattle.stateful_standing.proofs.ReasonAdvances.{missing_way, not_final, closed_by, first_off, advances-reason}
 use Rattle.stateful_standing.proofs.ReasonEnded.{IsFlawed, HasEnded}
-
--- later than a later round
-pub later_on : (x y z : Round) → IsLater x y → IsLater y z → IsLater x z
-later_on x y z (inl l) (inl k) = inl (omega arith)
-later_on x y z (inl l) (inr k) = inl (omega (arith, l, k.0))
-later_on x y z (inr l) (inl k) = inl (omega (arith, l.0, k))
-later_on x y z (inr l) (inr k) = inr (l.0 ∙ k.0, omega (arith, l.1, k.1))
 
 module _ {B C I P R D H G U : Type 0} (w : Workings B C I P R D H G U) (stored : ℕ → Option (Named B)) (base : w.States) (p : Past B C I) (points : Digest → Point w) (point : Point w) (next : w.Ids) (tip : Anchor) where
   -- what isn't later than the anchor isn't later than the tip

@@ -26,6 +26,13 @@ use Rattle.stateful_standing.proofs.EndedPoints.{same_or_not}
 use Rattle.stateful_standing.proofs.ReasonGround.{IsFinal, IsGround, round_of_top, uncached_anchor}
 use Rattle.stateful_standing.proofs.ReasonMissing.{Known-above}
 
+-- later than a later round
+pub later_on : (x y z : Round) → IsLater x y → IsLater y z → IsLater x z
+later_on x y z (inl l) (inl k) = inl (omega arith)
+later_on x y z (inl l) (inr k) = inl (omega (arith, l, k.0))
+later_on x y z (inr l) (inl k) = inl (omega (arith, l.0, k))
+later_on x y z (inr l) (inr k) = inr (l.0 ∙ k.0, omega (arith, l.1, k.1))
+
 later_apart : (r q : Round) → q ≡ r → IsLater r q → ⊥
 later_apart r q same later = IsLater-self r (subst (λ (x : Round). IsLater r x) same later)
 
@@ -111,8 +118,8 @@ module _ {B C I P R D H G U : Type 0} (w : Workings B C I P R D H G U) (stored :
   anchor_not_late Pruning anchor cache g x met is late = let e : tip ≡ anchor = g.tip_by in later_apart anchor.round (w.header.round x.block) (round_of_top w stored base p points point next tip Pruning anchor cache g x met is) (subst (λ (a : Anchor). IsLater a.round (w.header.round x.block)) e (later_than_tip Pruning anchor cache g x late))
   anchor_not_late (Finalizing boundary) anchor cache g x met is late =
       let f : IsFinal w stored p anchor cache tip boundary = g.tip_by in
-      IsLater-after anchor.round tip.round (w.header.round x.block) (subst (λ (r : Round). IsLater anchor.round r) (f.round_is ∙ sym (ap (λ (a : Anchor). a.round) f.tip_is)) f.later) (later_than_tip (Finalizing boundary) anchor cache g x late)
-      (sym (round_of_top w stored base p points point next tip (Finalizing boundary) anchor cache g x met is))
+      later_apart anchor.round (w.header.round x.block) (round_of_top w stored base p points point next tip (Finalizing boundary) anchor cache g x met is)
+      (later_on anchor.round tip.round (w.header.round x.block) (subst (λ (r : Round). IsLater anchor.round r) (f.round_is ∙ sym (ap (λ (a : Anchor). a.round) f.tip_is)) f.later) (later_than_tip (Finalizing boundary) anchor cache g x late))
 
   tip_child : (pause : Pause) (anchor : Anchor) (cache : List (Cached U)) → IsGround w stored base p points point next tip pause anchor cache → (z c : Named B) → z.digest ≢ anchor.digest → c.digest ≢ anchor.digest → Met (setting w stored) p z → c.digest ≡ parent_of (setting w stored) z → z.digest ≡ tip.digest → ⊥
   tip_child Free anchor cache g z c other_z other_c met is at_tip = let e : tip ≡ anchor = g.tip_by in other_z (at_tip ∙ ap (λ (a : Anchor). a.digest) e)

@@ -1,12 +1,16 @@
 -- Which marks a request makes that is served, and what they leave of the past.
-use Rattle.std.proofs.Common.{◌≡◌, ◌≢◌, inl, inr, ℕ, List, [], ◌∷◌, Option, Some, refl, ◌∙◌}
+use Rattle.std.proofs.Common.{◌≡◌, ◌≢◌, ◌==◌, if◌then◌else◌, inl, inr, ℕ, Bool, true, false, List, [], ◌∷◌, Option, None, Some, refl, ◌∙◌}
 use Rattle.stateful_types.specs.Names.{Named}
 use Rattle.stateful_types.specs.declared.digest.Digest.{Digest}
+use Rattle.stateful_history.specs.Answers.{was_cancelled}
 use Rattle.stateful_history.specs.Asked.{verified}
 use Rattle.stateful_history.specs.Fetches.{WasAsked}
 use Rattle.stateful_history.specs.Known.{Known}
 use Rattle.stateful_history.specs.Past.{Past, Made, EachMark, after}
-use Rattle.stateful_history.specs.Requests.{proposed}
+use Rattle.stateful_history.specs.Requests.{proposed, IsLiveRequest}
+use Rattle.stateful_history.specs.Live.{live_ticket}
+use Rattle.stateful_history.specs.declared.ticket.Ticket.{Ticket}
+use Rattle.stateful_history.specs.declared.ticket.Ticket.TheVariants as tickets
 use Rattle.stateful_history.specs.Setting.{Setting}
 use Rattle.stateful_history.specs.declared.mark.How.{How}
 use Rattle.stateful_history.specs.declared.mark.JobKind.TheVariants.{Candidate}
@@ -34,6 +38,10 @@ IsServedBy t (Declined u) = u ≡ t
 IsServedBy t (Asked f (Some u) d) = u ≡ t
 IsServedBy t (Started j Candidate d) = Unit {0}
 IsServedBy t mark = ⊥
+
+live_if : (b : Bool) (o : Option Ticket) → (if b then None else o) ≡ Some tickets.Request → o ≡ Some tickets.Request
+live_if true o is = cc
+live_if false o is = is
 
 module _ {B C I : Type 0} where
   abbrev pub AreServedBy : ℕ → Past B C I → List (Mark B) → Type 0
@@ -64,6 +72,21 @@ module _ {B C I : Type 0} where
   WasAsked-before t u d p [] are ne was = was
   WasAsked-before t u d p (mark ∷ marks) are ne was = asked_one t u d p mark are.0 ne (WasAsked-before t u d (Made mark ∷ p) marks are.1 ne was)
 
+  -- no live request was cancelled
+  abbrev pub IsUncancelled : Past B C I → Type 0
+  IsUncancelled p = (t : ℕ) → IsLiveRequest t p → was_cancelled t p ≡ false
+
+  live_one : (t u : ℕ) (p : Past B C I) (mark : Mark B) → IsServedBy t mark → IsLiveRequest u (Made mark ∷ p) → IsLiveRequest u p
+  live_one t u p (Verdict v good) is live = live_if (u == v) (live_ticket u p) live
+  live_one t u p (Declined v) is live = live_if (u == v) (live_ticket u p) live
+  live_one t u p (Asked f (Some v) e) is live = live
+  live_one t u p (Started j Candidate e) is live = live
+  live_one t u p mark is live = absurd is
+
+  pub IsUncancelled-served : (p : Past B C I) (t : ℕ) (marks : List (Mark B)) → AreServedBy t p marks → IsUncancelled p → IsUncancelled (after p marks)
+  IsUncancelled-served p t [] are h = h
+  IsUncancelled-served p t (mark ∷ marks) are h = IsUncancelled-served (Made mark ∷ p) t marks are.1 (λ u live. h u (live_one t u p mark are.0 live))
+
   pub calm_one : {S T : Type 0} (s : Setting B S T) (p : Past B C I) (t : ℕ) (mark : Mark B) → IsServedBy t mark → IsCalm s p (Made mark)
   calm_one s p t (Verdict v good) is = record { tip = refl; starts_none = tt; built = λ d h. h; kept = refl }
   calm_one s p t (Declined v) is = record { tip = refl; starts_none = tt; built = λ d h. h; kept = refl }
@@ -87,7 +110,7 @@ module _ {B C I P R D H G U : Type 0} (w : Workings B C I P R D H G U) (p : Past
   told-served (Recover u context ancestry input kind) verdict.Valid = tt
   told-served (Recover u context ancestry input kind) verdict.Invalid = (refl, tt)
 
-  concludes-marks : (r : Requested B C I) (v : said.Verdict) → Concludes w m t r v now → ServesMarks
+  pub concludes-marks : (r : Requested B C I) (v : said.Verdict) → Concludes w m t r v now → ServesMarks
   concludes-marks r v is = rw is (record { more = _; marks_are = refl; each = told-served r.request v })
 
   -- so they are where a request goes along its path

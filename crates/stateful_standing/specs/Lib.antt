@@ -11,3 +11,4 @@ pub mod Gathering
 pub mod Ways
 pub mod Outstanding
 pub mod Reaching
+pub mod Beside
