@@ -20,7 +20,6 @@ use Rattle.stateful_exec.specs.declared.pause.Pause.TheVariants.{Free, Finalizin
 use Rattle.stateful_standing.specs.Setting.{setting}
 use Rattle.stateful_standing.proofs.EarnedPath.{IsFolded}
 use Rattle.stateful_standing.proofs.EarnedClosed.{cached-compatible}
-use Rattle.stateful_standing.proofs.EndedKnown.{IsLater-after}
 use Rattle.stateful_standing.proofs.EndedKnown.{IsLater-self}
 use Rattle.stateful_standing.proofs.EndedPoints.{same_or_not}
 use Rattle.stateful_standing.proofs.ReasonGround.{IsFinal, IsGround, round_of_top, uncached_anchor}
