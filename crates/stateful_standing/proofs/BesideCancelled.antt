@@ -1,5 +1,5 @@
 -- What stays beside the tables behind a cancel: live runs go on turning, and the parents of queued proposals are known or lost.
-use Rattle.std.proofs.Common.{◌⊎◌, inl, inr, ℕ, List, ◌∷◌, All, Option, refl}
+use Rattle.std.proofs.Common.{◌⊎◌, inl, inr, ℕ, List, ◌∷◌, All, Option, get_or, refl}
 use Rattle.std.proofs.lemmas.List.Elements.{All-weaker}
 use Rattle.stateful_types.specs.Names.{Named}
 use Rattle.stateful_types.specs.declared.anchor.Anchor.{Anchor}
@@ -41,7 +41,7 @@ module _ {B C I P R D H G U : Type 0} (w : Workings B C I P R D H G U) (stored :
   Stays q v = StaysBeside w stored base q v
 
   beside_given : Stays given old
-  beside_given = StaysBeside-calm w stored base tip p points point next old s g (Came (Cancel t)) (cancel-IsCalm (setting w stored) p t) refl refl names (λ j. cancel-LeavesJob p t j) beside
+  beside_given = StaysBeside-calm w stored base tip p points point next old s g (Came (Cancel t)) (cancel-IsCalm (setting w stored) p t) refl refl names (λ k d l. cancel-LeavesJob p t (get_or old.runs k d).0) beside
 
   met : All (λ (e : ℕ × Proposal B C I). Met (setting w stored) given e.1.ancestry.first) old.queued
   met = All-weaker (λ (e : ℕ × Proposal B C I). Met (setting w stored) p e.1.ancestry.first) (λ e. Met (setting w stored) given e.1.ancestry.first) (λ e m. inr m) old.queued (queue-met w stored p old.queued old.recovered s.queue)

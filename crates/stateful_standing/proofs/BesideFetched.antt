@@ -1,6 +1,6 @@
 -- What stays beside the tables behind an event that leaves the anchor, the tip and the jobs, and behind the answer of a fetch: live
 -- runs go on turning, and the parents of queued proposals are known or lost.
-use Rattle.std.proofs.Common.{◌≡◌, inl, inr, ℕ, List, [], ◌∷◌, Option, Some, refl, sym}
+use Rattle.std.proofs.Common.{◌≡◌, ◌≢◌, inl, inr, ℕ, List, [], ◌∷◌, Option, Some, refl, sym, All, get_or}
 use Rattle.std.proofs.lemmas.List.{append-nil}
 use Rattle.std.proofs.lemmas.List.Elements.{All-push}
 use Rattle.stateful_types.specs.Names.{Named}
@@ -10,7 +10,7 @@ use Rattle.stateful_history.specs.Anchors.{applied, anchor_of}
 use Rattle.stateful_history.specs.Fetches.{Abstains}
 use Rattle.stateful_history.specs.Met.{Met, TrueNames}
 use Rattle.stateful_history.specs.Past.{Past, Item, Came}
-use Rattle.stateful_history.specs.declared.event.Event.TheVariants.{Fetched}
+use Rattle.stateful_history.specs.declared.event.Event.TheVariants.{Fetched, Turn}
 use Rattle.stateful_cache.specs.declared.cache.Cached.{Cached}
 use Rattle.stateful_exec.specs.Fetching.{Fetches, with_block, serving, IsFetched, found, waits, declines, dead}
 use Rattle.stateful_exec.specs.Moments.{Moment}
@@ -29,12 +29,13 @@ use Rattle.stateful_standing.specs.Requesting.{first_of}
 use Rattle.stateful_standing.specs.Running.{RunsStand}
 use Rattle.stateful_standing.specs.Standing.{TablesStand, IsInHand}
 use Rattle.stateful_standing.proofs.BesideServed.{StaysBeside-acquires, StaysBeside-concludes}
-use Rattle.stateful_standing.proofs.Calm.{IsCalm, LeavesJob, CacheStands-calm, RunsStand-calm}
+use Rattle.stateful_standing.proofs.Calm.{IsCalm, LeavesJob, CacheStands-calm, IsRunning-calm}
 use Rattle.stateful_standing.proofs.FetchStands.{fetched-IsCalm, fetched-LeavesJob, TablesStand-fetched, IsInHand-fetched, acquired-fetched}
 use Rattle.stateful_standing.proofs.QueueLost.{QueueReaches-on}
 use Rattle.stateful_standing.proofs.QueueServed.{queue-met}
 use Rattle.stateful_standing.proofs.ReasonFetched.{IsGround-fetched}
 use Rattle.stateful_standing.proofs.ReasonGround.{IsGround, IsGround-longer}
+use Rattle.stateful_standing.proofs.Removing.{differ}
 use Rattle.stateful_standing.proofs.RunsKept.{RunsTakeTurns, RunsGoOn-moved}
 
 module _ {B C I P R D H G U : Type 0} (w : Workings B C I P R D H G U) (stored : ℕ → Option (Named B)) (base : w.States) (p : Past B C I) (points : Digest → Point w) (point : Point w) (next : w.Ids) (tip : Anchor)
@@ -44,21 +45,31 @@ module _ {B C I P R D H G U : Type 0} (w : Workings B C I P R D H G U) (stored :
   pub IsGround-calm : IsGround w stored base (x ∷ p) points point next tip pause anchor cache
   IsGround-calm = IsGround-longer w stored base points point tip p (x ∷ p) (λ b met. inr met) anchor_same calm.tip applied_same next next pause anchor cache (CacheStands-calm w stored p x calm points next anchor pause cache g.stands) names g
 
-  -- and runs go on turning, whatever blocks it brings
-  pub RunsGoOn-calm : ((j : ℕ) → LeavesJob p x j) → (live : List (ℕ × LiveRun B R)) → RunsStand w stored p points next anchor cache live → RunsGoOn w stored base p live → RunsGoOn w stored base (x ∷ p) live
-  RunsGoOn-calm leaves live s on =
-      RunsGoOn-moved w stored base p points points point point next next tip tip anchor anchor pause pause cache cache (x ∷ p) g IsGround-calm live (λ j. (leaves j).turns) s.each
-      (RunsStand-calm w stored p x calm points next anchor cache leaves live s).each (λ d a b. refl) on
+  -- and runs whose jobs it leaves go on turning, whatever blocks it brings
+  pub RunsGoOn-calm : (live : List (ℕ × LiveRun B R)) → All (λ e. LeavesJob p x e.0) live → RunsStand w stored p points next anchor cache live → RunsGoOn w stored base p live → RunsGoOn w stored base (x ∷ p) live
+  RunsGoOn-calm live leaves s on =
+      RunsGoOn-moved w stored base p points points point point next next tip tip anchor anchor pause pause cache cache (x ∷ p) g IsGround-calm live (λ k d l. (leaves k d l).turns) s.each
+      (λ k d l. let e = get_or live k d in IsRunning-calm w stored p x calm points next anchor cache e.0 e.1 (leaves k d l) (s.each k d l)) (λ d a b. refl) on
 
 module _ {B C I P R D H G U : Type 0} (w : Workings B C I P R D H G U) (stored : ℕ → Option (Named B)) (base : w.States) (tip : Anchor) (p : Past B C I) (points : Digest → Point w) (point : Point w) where
   -- What stays beside the tables stays so behind such an item.
   pub StaysBeside-calm : (next : w.Ids) (v : Tables B C I R U) (s : TablesStand w stored p points point next v) (g : IsGround w stored base p points point next tip v.pause v.anchor v.cache) (x : Item B C I) → IsCalm (setting w stored) p x
-      → anchor_of w.header (x ∷ p) ≡ anchor_of w.header p → applied (x ∷ p) ≡ applied p → TrueNames (setting w stored) (x ∷ p) → ((j : ℕ) → LeavesJob p x j)
+      → anchor_of w.header (x ∷ p) ≡ anchor_of w.header p → applied (x ∷ p) ≡ applied p → TrueNames (setting w stored) (x ∷ p) → All (λ e. LeavesJob p x e.0) v.runs
       → StaysBeside w stored base p v → StaysBeside w stored base (x ∷ p) v
   StaysBeside-calm next v s g x calm anchor_same applied_same names leaves h = record {
-    runs = RunsGoOn-calm w stored base p points point next tip v.pause v.anchor v.cache g x calm anchor_same applied_same names leaves v.runs s.runs h.runs;
+    runs = RunsGoOn-calm w stored base p points point next tip v.pause v.anchor v.cache g x calm anchor_same applied_same names v.runs leaves s.runs h.runs;
     queue = QueueReaches-on w stored base p x calm.starts_none calm.tip names v.queued (queue-met w stored p v.queued v.recovered s.queue) h.queue;
   }
+
+  -- a turn of a job that is no candidate run
+  pub StaysBeside-elsewhere : (next : w.Ids) (v : Tables B C I R U) (s : TablesStand w stored p points point next v) (g : IsGround w stored base p points point next tip v.pause v.anchor v.cache) (j : ℕ) → All (λ e. e.0 ≢ j) v.runs
+      → StaysBeside w stored base p v → StaysBeside w stored base (Came (Turn j) ∷ p) v
+  StaysBeside-elsewhere next v s g j other h =
+      StaysBeside-calm next v s g (Came (Turn j)) (record { tip = refl; starts_none = tt; built = λ d was. was; kept = refl }) refl refl names
+      (λ k d l. let e = get_or v.runs k d in record { live = refl; started = refl; turns = rw (differ e.0 j (λ is. other k d l (sym is))) refl }) h
+    where
+      names : TrueNames (setting w stored) (Came (Turn j) ∷ p)
+      names = λ x y has_x has_y. g.names x y (elim has_x [ inl none ↦ absurd none | inr one ↦ one ]) (elim has_y [ inl none ↦ absurd none | inr one ↦ one ])
 
 module _ {B C I P R D H G U : Type 0} (w : Workings B C I P R D H G U) (stored : ℕ → Option (Named B)) (base : w.States) (tip : Anchor) (costs : RunsTakeTurns w)
     (other_states : (n i : w.Ids) (x y : w.States) (c : List (Point w)) → w.kind.issued n ((i, x) ∷ c) → w.kind.issued n ((i, y) ∷ c))
@@ -70,7 +81,7 @@ module _ {B C I P R D H G U : Type 0} (w : Workings B C I P R D H G U) (stored :
     given = Came (Fetched f answer) ∷ p
 
     beside_given : StaysBeside w stored base given m.state
-    beside_given = StaysBeside-calm w stored base tip p points point m.next m.state s g (Came (Fetched f answer)) (fetched-IsCalm (setting w stored) p f answer) refl refl names (fetched-LeavesJob p f answer) beside
+    beside_given = StaysBeside-calm w stored base tip p points point m.next m.state s g (Came (Fetched f answer)) (fetched-IsCalm (setting w stored) p f answer) refl refl names (λ k d l. fetched-LeavesJob p f answer (get_or m.state.runs k d).0) beside
 
     beside_left : (t : ℕ) → StaysBeside w stored base given (taken m.state t)
     beside_left t = record { runs = beside_given.runs; queue = beside_given.queue }

@@ -45,7 +45,7 @@ module _ {B C I P R D H G U : Type 0} (w : Workings B C I P R D H G U) (stored :
       → new.runs ≡ old.runs → new.queued ≡ old.queued → ((d : Digest) → IsAtHand old.anchor old.cache d → IsAtHand new.anchor new.cache d → (now_points d).1 ≡ (points d).1) → StaysBeside w stored base (Made (Applied b) ∷ p) new
   StaysBeside-moved b now_points now_point ids stands h same_runs same_queue states = record {
     runs = subst (λ (rs : List (ℕ × LiveRun B R)). RunsGoOn w stored base (Made (Applied b) ∷ p) rs) (sym same_runs)
-        (RunsGoOn-moved w stored base p points now_points point now_point next ids tip tip old.anchor new.anchor old.pause new.pause old.cache new.cache (Made (Applied b) ∷ p) g h old.runs (λ j. refl) s.runs.each
+        (RunsGoOn-moved w stored base p points now_points point now_point next ids tip tip old.anchor new.anchor old.pause new.pause old.cache new.cache (Made (Applied b) ∷ p) g h old.runs (λ k d l. refl) s.runs.each
         (subst (λ (rs : List (ℕ × LiveRun B R)). RunsStand w stored (Made (Applied b) ∷ p) now_points ids new.anchor new.cache rs) same_runs stands.runs).each states beside.runs);
     queue = subst (λ (es : List (ℕ × Proposal B C I)). QueueReaches w stored base (Made (Applied b) ∷ p) es) (sym same_queue)
         (QueueReaches-on w stored base p (Made (Applied b)) tt refl h.names old.queued (queue-met w stored p old.queued old.recovered s.queue) beside.queue);

@@ -70,7 +70,7 @@ module _ {B C I P R D H G U : Type 0} (w : Workings B C I P R D H G U) (stored :
 
     began : StaysBeside w stored base q old
     began = record {
-      runs = RunsGoOn-moved w stored base p points points point point next next old.anchor (anchor_by w.header b) old.anchor old.anchor Free (Finalizing boundary) old.cache old.cache q g h old.runs (λ j. refl) s.runs.each
+      runs = RunsGoOn-moved w stored base p points points point point next next old.anchor (anchor_by w.header b) old.anchor old.anchor Free (Finalizing boundary) old.cache old.cache q g h old.runs (λ k d l. refl) s.runs.each
           (RunsStand-began w stored p t b points next old.anchor old.cache old.runs s.runs).each (λ d x y. refl) beside.runs;
       queue = QueueReaches-began w stored base p points point next old.anchor old.cache g t b boundary own h met on_anchor later higher old.queued met_queue beside.queue;
     }

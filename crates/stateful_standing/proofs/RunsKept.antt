@@ -128,11 +128,11 @@ module _ {B C I P R D H G U : Type 0} (w : Workings B C I P R D H G U) (stored :
         let one : t ≡ (now_points (parent_of (setting w stored) run.block)).1 = HasState-once (setting w stored) q h.names base (parent_of (setting w stored) run.block) t (now_points (parent_of (setting w stored) run.block)).1 has now_state in
         subst (λ (k : ℕ). k < n) (sym turned) (on (points (parent_of (setting w stored) run.block)).1 then_state n (ap (λ (x : w.States). w.works.run_cost finality.Candidate x run.block.block) (sym (one ∙ states)) ∙ cost))
 
-    pub RunsGoOn-moved : (live : List (ℕ × LiveRun B R)) → ((j : ℕ) → turns j q ≡ turns j p) → All (λ e. IsRunning w stored p points next anchor cache e.0 e.1) live → All (λ e. IsRunning w stored q now_points ids moved_to kept e.0 e.1) live
+    pub RunsGoOn-moved : (live : List (ℕ × LiveRun B R)) → All (λ e. turns e.0 q ≡ turns e.0 p) live → All (λ e. IsRunning w stored p points next anchor cache e.0 e.1) live → All (λ e. IsRunning w stored q now_points ids moved_to kept e.0 e.1) live
         → ((d : Digest) → IsAtHand anchor cache d → IsAtHand moved_to kept d → (now_points d).1 ≡ (points d).1) → RunsGoOn w stored base p live → RunsGoOn w stored base q live
     RunsGoOn-moved live turned old new states on = λ k d l.
         let e = get_or live k d in
         let r : IsRunning w stored p points next anchor cache e.0 e.1 = old k d l in
         let s : IsRunning w stored q now_points ids moved_to kept e.0 e.1 = new k d l in
-        GoesOnTurning-moved e.0 e.1 (turned e.0) r s
+        GoesOnTurning-moved e.0 e.1 (turned k d l) r s
         (states (parent_of (setting w stored) e.1.block) (subst (λ (x : Digest). IsAtHand anchor cache x) r.parent_is r.at_hand) (subst (λ (x : Digest). IsAtHand moved_to kept x) s.parent_is s.at_hand)) (on k d l)
