@@ -186,7 +186,13 @@ fn event(
             parent,
             block,
             decision,
-        } => prepare(alloc, ticket, &planned[*parent], &planned[*block], *decision),
+        } => prepare(
+            alloc,
+            ticket,
+            &planned[*parent],
+            &planned[*block],
+            *decision,
+        ),
         PlannedEvent::Propose { parent, block } => {
             propose(alloc, ticket, &planned[*parent], &planned[*block])
         }
