@@ -1,0 +1,3 @@
+pub mod Polling
+pub mod Staying
+pub mod OutTokens
