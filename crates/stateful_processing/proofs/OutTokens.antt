@@ -132,7 +132,7 @@ module _ (k i : ℕ) where
       let same : c ≡ a = some_is c a (sym (awaiting_first k i c [] v) ∙ behind) in
       let opened : out_in c.barrier i ≡ t.place ∷ [] = out_in_open c.barrier i t (ap (λ x. open_at x.barrier i) same ∙ o) in
       let gone : out_at (with_answer k i Good (c ∷ [])) i ≡ [] =
-          good_first c a [] t v behind o ∙ ap (λ xs. without t.place (xs ++ [])) opened ∙ without_only t.place in
+      good_first c a [] t v behind o ∙ ap (λ xs. without t.place (xs ++ [])) opened ∙ without_only t.place in
       ap (λ xs. out_at xs i) (answered_behind k i Good b (c ∷ []) w)
       ∙ ap (λ xs. out_in b.barrier i ++ xs) gone
       ∙ sym (ap (λ xs. without t.place (out_in b.barrier i ++ (xs ++ []))) opened ∙ without_last t.place (out_in b.barrier i) (out_in_few b.barrier i))
@@ -144,7 +144,7 @@ module _ (k i : ℕ) where
   out_at_good (b ∷ c ∷ []) a t few e o = ⊎_elim
       (λ w. good_first b a (c ∷ []) t w e o)
       (λ w. ⊎_elim (λ v. good_second b c a t w e o v)
-        (λ v. absurd (none_is_some a (sym (awaiting_behind k i b (c ∷ []) w ∙ awaiting_behind k i c [] v) ∙ e))) (cases_Bool (awaits k i c)))
+      (λ v. absurd (none_is_some a (sym (awaiting_behind k i b (c ∷ []) w ∙ awaiting_behind k i c [] v) ∙ e))) (cases_Bool (awaits k i c)))
       (cases_Bool (awaits k i b))
   out_at_good (b ∷ c ∷ d ∷ more) a t few e o = absurd (omega arith)
 
@@ -172,7 +172,7 @@ pub out_at_interrupted : (k i j : ℕ) (barriers : List Active) → out_at (with
 out_at_interrupted k i j [] = refl
 out_at_interrupted k i j (b ∷ bs) = ⊎_elim
     (λ w. ap (λ xs. out_at xs j) (answered_first k i Interrupted b bs w)
-      ∙ ap (λ xs. xs ++ out_at bs j) (interrupted_in b.barrier i j (opened_by k i b w).0 (opened_by k i b w).1))
+    ∙ ap (λ xs. xs ++ out_at bs j) (interrupted_in b.barrier i j (opened_by k i b w).0 (opened_by k i b w).1))
     (λ w. ap (λ xs. out_at xs j) (answered_behind k i Interrupted b bs w) ∙ ap (λ xs. out_in b.barrier j ++ xs) (out_at_interrupted k i j bs))
     (cases_Bool (awaits k i b))
 

@@ -32,8 +32,8 @@ broken_polls handles (k, x, lt, is, broke) =
 pub unbroken_polls : (handles : List Handle) → (Any IsBroken handles → ⊥) → broken_in handles ≡ false
 unbroken_polls handles h =
     false_from_ne_true (broken_in handles) (λ e.
-      let (k, x, lt, is, t) = Any-from_list_any (λ handle. is_interrupted handle.answer) handles e in
-      h (k, x, lt, is, interrupted_is x.answer t))
+    let (k, x, lt, is, t) = Any-from_list_any (λ handle. is_interrupted handle.answer) handles e in
+    h (k, x, lt, is, interrupted_is x.answer t))
 
 pub all_good_polls : (handles : List Handle) → All IsGood handles → broken_in handles ≡ false
 all_good_polls handles h = list_any_none (λ handle. is_interrupted handle.answer) handles (λ k d lt. ap is_interrupted (h k d lt))

@@ -112,16 +112,16 @@ module _ {B C I P R D H G U : Type 0} (w : Workings B C I P R D H G U) where
   pub data Builds (provider : P) (t : ℕ) (m now : Moment w) : Type 0 where
     starts : {state : _} {build : _} {next : w.Ids} → (s : StartsBuild w t provider m.members m.next next m.execution.state state build)
         → now ≡ record m {
-            execution = record m.execution { state = state; build = build };
-            next = next;
-            marks = m.marks ++ mark.Started m.execution.state.next_job job.Build s.proposal.ancestry.first.digest ∷ [];
-          }
+          execution = record m.execution { state = state; build = build };
+          next = next;
+          marks = m.marks ++ mark.Started m.execution.state.next_job job.Build s.proposal.ancestry.first.digest ∷ [];
+        }
         → Builds provider t m now
     declines : ((p : _) → IsReady m.execution.state t p → ⊥)
         → now ≡ record m {
-            execution = record m.execution { state = unqueued m.execution.state t };
-            marks = m.marks ++ mark.Declined t ∷ [];
-          }
+          execution = record m.execution { state = unqueued m.execution.state t };
+          marks = m.marks ++ mark.Declined t ∷ [];
+        }
         → Builds provider t m now
 
   -- The finalization of a block begins: execution pauses for it, which withdraws the live fetches.

@@ -12,7 +12,9 @@ use thiserror::Error;
 pub enum StepError {
     /// The database of this number failed to open, or keeps no checkpoint with the end that a block commits to.
     #[error("Database")]
-    Database { index: usize },
+    Database {
+        index: usize,
+    },
     /// The checkpoint of the database of this number is another than a block commits to.
     #[error("TargetMismatch")]
     TargetMismatch {
@@ -22,16 +24,27 @@ pub enum StepError {
     },
     /// A finalized block is above the next height.
     #[error("SkippedHeight")]
-    SkippedHeight { expected: Height, given: Height },
+    SkippedHeight {
+        expected: Height,
+        given: Height,
+    },
     /// A finalized block of the next height has another parent than the anchor.
     #[error("NotExtending")]
-    NotExtending { expected: Digest, given: Digest },
+    NotExtending {
+        expected: Digest,
+        given: Digest,
+    },
     /// Another block was finalized at the anchor's height.
     #[error("ConflictAtAnchor")]
-    ConflictAtAnchor { expected: Digest, given: Digest },
+    ConflictAtAnchor {
+        expected: Digest,
+        given: Digest,
+    },
     /// The run of a finalized block ended without states.
     #[error("FinalizedRejected")]
-    FinalizedRejected { digest: Digest },
+    FinalizedRejected {
+        digest: Digest,
+    },
     /// The run of a finalized block ended with another target at the database of this number.
     #[error("FinalizedMismatch")]
     FinalizedMismatch {
@@ -44,7 +57,10 @@ pub enum StepError {
     ProposalMismatch(ProposalFault),
     /// A built block isn't later than the anchor.
     #[error("ProposalStale")]
-    ProposalStale { anchor: Round, round: Round },
+    ProposalStale {
+        anchor: Round,
+        round: Round,
+    },
     /// A block of this digest is cached with another parent or round.
     #[error("PendingChanged")]
     PendingChanged {
@@ -56,7 +72,9 @@ pub enum StepError {
     Application,
     /// The store has no block at the height that is to be opened.
     #[error("MissingBlock")]
-    MissingBlock { height: Height },
+    MissingBlock {
+        height: Height,
+    },
     /// The event names work that isn't live, or the machine is down.
     #[error("BadEvent")]
     BadEvent,
@@ -68,7 +86,10 @@ pub enum StepError {
     Exhausted,
     /// The database of this number failed at this call, has counted it, and is lost with its medium.
     #[error("DatabaseFault")]
-    DatabaseFault { index: usize, call: DbCall },
+    DatabaseFault {
+        index: usize,
+        call: DbCall,
+    },
     #[error("OutOfMemory")]
     OutOfMemory,
 }

@@ -18,6 +18,7 @@ ghost use Rattle.stateful_processing.specs.Sound.{IsUp};
 
 use crate::barrier::begin_barrier;
 use crate::error::StepError;
+use crate::reached::Reached;
 use crate::tables::{Finalizing, ProcessingOf};
 use stateful_db::{Application, DatabaseSet};
 use stateful_exec::{Handler, Stage, Worked};
@@ -217,16 +218,7 @@ fn end_finalization<A: Application + Drop, S: BlockStore<A::Block>>(
     Ok(())
 }
 
-/// How far a finalization has come.
-#[derive(Clone, Copy)]
-pub enum Reached {
-    Begun,
-    Ran,
-    Advanced,
-    /// It waits for a turn, or there is none.
-    Waiting,
-}
-
+/// How far the finalization that goes on has come.
 fn progress_of<A: Application + Drop>(handler: &Handler<A>) -> Reached
     ensures { result ≡ reached_by handler.now.front }
 {

@@ -11,6 +11,7 @@ mod intake;
 mod message;
 mod opening;
 mod queue;
+mod reached;
 mod tables;
 mod taking;
 
