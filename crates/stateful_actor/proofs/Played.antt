@@ -12,6 +12,7 @@ use Rattle.stateful_history.specs.declared.mark.Mark.{Mark}
 use Rattle.stateful_history.proofs.Marks.{after_all-push, TrueNames-before_entry}
 use Rattle.stateful_register.specs.Register.{RegisterStands, IsBlank}
 use Rattle.stateful_register.specs.declared.register.Register.{Register}
+use Rattle.stateful_register.proofs.Entries.{RegisterStands-none}
 use Rattle.stateful_actor.specs.Workings.{Workings, setting, numbered}
 use Rattle.stateful_actor.specs.Moments.{Moment, moment}
 use Rattle.stateful_actor.specs.Doing.{IsStep}
@@ -37,16 +38,7 @@ events-push {B} {C} {I} history longer event marks events adds is =
 module _ {B C I R U H : Type 0} (w : Workings B R H U) (stored : ℕ → Option (Named B)) where
   -- a new machine stands for the empty past
   pub Register-new : (register : Register) → IsBlank register → RegisterStands {B = B} {C = C} {I = I} (numbered w.kind.count) [] register
-  Register-new register blank = record {
-    tickets = blank.tickets;
-    proposals = blank.proposals;
-    jobs = blank.jobs;
-    fetches = blank.fetches;
-    flushes = blank.flushes;
-    bound = blank.bound;
-    down = blank.down;
-    syncs_none = refl;
-  }
+  Register-new register blank = RegisterStands-none (numbered w.kind.count) register blank
 
   Works-new : (core : Core B R H U) (m : w.kind.Members) (next : w.Ids) → core.anchor ≡ None → Works {B = B} {C = C} {I = I} w stored w.kind.initial [] core m next stored
   Works-new core m next down = record {

@@ -14,6 +14,7 @@ use Rattle.stateful_history.specs.declared.entry.Entry.{Entry}
 use Rattle.stateful_actor.specs.Moments.{moment}
 use Rattle.stateful_actor.specs.declared.tables.Core.{Core}
 use Rattle.stateful_actor.specs.declared.driving.Halted.{Halted}
+use Rattle.stateful_script.specs.Laws.{IsPlan}
 use Rattle.stateful_script.specs.declared.script.Script.{Script}
 use Rattle.stateful_script.specs.declared.script.World.TheVariants as world
 use Rattle.stateful_text.specs.declared.shown.Label.{Label}
@@ -26,6 +27,7 @@ use Rattle.stateful_play.specs.Plan.{ArePlanned, labels_of}
 use Rattle.stateful_play.specs.Events.{BankEvent, events_of}
 use Rattle.stateful_play.specs.Store.{store_of}
 use Rattle.stateful_play.specs.Shown.{member_of}
+use Rattle.stateful_play.proofs.Builds.{builds_are_named}
 use Rattle.stateful_play.proofs.Honest.{honest_play}
 use Rattle.stateful_play.specs.Play.{bank, IsPlayOf, IsFirst, KeepRules, AreTaken, AreSteps, IsHaltedBy}
 
@@ -48,16 +50,17 @@ begins_new core members ids down jobs fetches barriers empty batches = record {
 }
 
 pub carried : (script : Script) (made : List Planned) (labels : List Label) (entries : Vec (Entry BankBlock Round Ask) Global) (machine : Machine) (databases : Databases) («end» : Option Halted) (stored : ℕ → Option (Named BankBlock)) (events : List BankEvent)
-    → ArePlanned script.blocks made → labels ≡ labels_of script.names made
+    → IsPlan script → ArePlanned script.blocks made → labels ≡ labels_of script.names made
     → ((h : ℕ) → stored h ≡ store_of made script.events h) → events ≡ events_of made script.events
     → AreTaken «end» events (map (λ entry. entry.event) entries.items)
     → AreSteps stored entries.items
     → KeepRules stored «end» entries.items (member_of databases)
     → IfSome «end» (IsHaltedBy stored events entries.items machine databases)
     → IsPlayOf script labels (in_plain entries machine databases «end»)
-carried script made labels entries machine databases «end» stored events planned labelled same are taken steps rules halted = record {
+carried script made labels entries machine databases «end» stored events plan planned labelled same are taken steps rules halted = record {
   blocks = made;
   planned = planned;
+  builds = builds_are_named script.blocks made script.events planned plan.builds;
   labelled = labelled;
   world = refl;
   events = rw are at taken;

@@ -1,5 +1,5 @@
 -- The ancestries of a script's requests: a block, and its parent if it has one.
-use Rattle.std.proofs.Common.{ℕ, List, [], ◌∷◌, Option, None, Some, All, map, get_or, zero, suc, refl}
+use Rattle.std.proofs.Common.{ℕ, Bool, true, false, List, [], ◌∷◌, Option, None, Some, All, map, get_or, zero, suc, refl}
 use Rattle.std.proofs.lemmas.List.Elements.{All-nil, All-cons, All-head, All-tail, All-push, All-take}
 use Rattle.stateful_types.specs.Names.{Named}
 use Rattle.stateful_types.specs.declared.round.Round.{Round}
@@ -16,8 +16,8 @@ use Rattle.stateful_script.specs.declared.script.PlannedEvent.TheVariants as lin
 use Rattle.stateful_actor.specs.declared.driving.Halted.{Halted}
 use Rattle.stateful_actor.specs.Workings.{setting}
 use Rattle.stateful_play.specs.declared.plan.Planned.{Planned}
-use Rattle.stateful_play.specs.Plan.{ArePlanned, first, next, genesis, child}
-use Rattle.stateful_play.specs.Events.{BankEvent, restart, ancestry_of, ticket_after, event_of, events_from, events_of}
+use Rattle.stateful_play.specs.Plan.{ArePlanned, first, next, genesis, child, block_on}
+use Rattle.stateful_play.specs.Events.{BankEvent, restart, planned_at, ancestry_of, ticket_after, event_of, events_from, events_of}
 use Rattle.stateful_play.specs.Play.{bank, AreTaken}
 
 all_or : {X : Type 0} (P : X → Type 0) (xs : List X) (i : ℕ) (d : X) → All P xs → P d → P (get_or xs i d)
@@ -31,14 +31,14 @@ all_front P f (x ∷ xs) all = All-cons (λ x. P (f x)) x xs (All-head P (f x) (
 
 module _ (stored : ℕ → Option (Named BankBlock)) where
   abbrev IsBesideParent : Planned → Type 0
-  IsBesideParent p = IsLinked (setting bank stored) (ancestry_of p)
+  IsBesideParent p = IsLinked (setting bank stored) (ancestry_of false p)
 
   genesis_linked : IsBesideParent genesis
   unfolding genesis
   genesis_linked = tt
 
   child_linked : (parent : Planned) (b : PlannedBlock) → IsBesideParent (child parent b)
-  unfolding child
+  unfolding child block_on
   child_linked parent b = (refl, tt)
 
   all_linked : (lines : List PlannedBlock) (made : List Planned) → ArePlanned lines made → All IsBesideParent made
@@ -49,11 +49,23 @@ module _ (stored : ℕ → Option (Named BankBlock)) where
   abbrev IsHonestEvent : BankEvent → Type 0
   IsHonestEvent e = IsHonest (setting bank stored) (Came e ∷ [])
 
+  verify_honest : (ticket : ℕ) (alone : Bool) (p : Planned) → IsBesideParent p → IsHonestEvent (Verify ticket (ancestry_of alone p))
+  verify_honest ticket true p linked = (tt, tt)
+  verify_honest ticket false p linked = (linked, tt)
+
   line_honest : (made : List Planned) (ticket : ℕ) (l : PlannedEvent) → All IsBesideParent made → IsHonestEvent (event_of made ticket l)
-  line_honest made ticket (line.Verify place) all = (all_or IsBesideParent made place genesis all genesis_linked, tt)
+  line_honest made ticket (line.Verify block alone) all = verify_honest ticket alone (planned_at made block) (all_or IsBesideParent made block genesis all genesis_linked)
+  line_honest made ticket (line.Prepare parent block decision) all = (tt, tt)
+  line_honest made ticket (line.Propose parent block) all = (tt, tt)
+  line_honest made ticket (line.Finalize block) all = tt
+  line_honest made ticket line.Subscribe all = tt
+  line_honest made ticket (line.Cancel given_up) all = tt
+  line_honest made ticket (line.Fetched fetch None) all = tt
+  line_honest made ticket (line.Fetched fetch (Some block)) all = tt
   line_honest made ticket (line.Turn job) all = tt
-  line_honest made ticket (line.Finalize place) all = tt
-  line_honest made ticket (line.Flushed barrier database) all = tt
+  line_honest made ticket (line.Flushed barrier database stopped) all = tt
+  line_honest made ticket line.Stop all = tt
+  line_honest made ticket (line.Restart processed keep) all = tt
 
   lines_honest : (made : List Planned) (ticket : ℕ) (ls : List PlannedEvent) → All IsBesideParent made → All IsHonestEvent (events_from made ticket ls)
   lines_honest made ticket [] all = All-nil IsHonestEvent
@@ -61,7 +73,7 @@ module _ (stored : ℕ → Option (Named BankBlock)) where
 
   events_honest : (made : List Planned) (ls : List PlannedEvent) → All IsBesideParent made → All IsHonestEvent (events_of made ls)
   unfolding events_of
-  events_honest made ls all = All-cons IsHonestEvent restart (events_from made 0 ls) tt (lines_honest made 0 ls all)
+  events_honest made ls all = All-cons IsHonestEvent (restart None []) (events_from made 0 ls) tt (lines_honest made 0 ls all)
 
   came_honest : (e : BankEvent) (p : Past BankBlock Round Ask) → IsHonestEvent e → IsHonest (setting bank stored) p → IsHonest (setting bank stored) (Came e ∷ p)
   came_honest (Verify ticket ancestry) p h q = (h.0, q)

@@ -2,6 +2,7 @@
 use Rattle.std.proofs.Common.{◌≡◌, ℕ, ◌<◌, ◌+◌, ◌==◌, Bool, true, false, if◌then◌else◌, List, [], ◌∷◌, ◌++◌, Option, Some, None, length, take, get_or, refl, sym, ◌∙◌, arith}
 use Rattle.std.proofs.lemmas.Grind.{common_steps}
 use Rattle.std.proofs.lemmas.List.{take_more}
+use Rattle.std.proofs.lemmas.List.Elements.{filter_map-append}
 use Rattle.std.proofs.lemmas.List.Folds.{find-append}
 use Rattle.std.proofs.lemmas.Bool.{false≢true}
 use Rattle.std.specs.Option.{option_or, is_some}
@@ -9,9 +10,8 @@ use Rattle.stateful_types.specs.Names.{Named}
 use Rattle.stateful_types.specs.declared.number.Height.{Height}
 use Rattle.stateful_bank.specs.declared.block.BankBlock.{BankBlock}
 use Rattle.stateful_script.specs.declared.script.PlannedEvent.{PlannedEvent}
-use Rattle.stateful_script.specs.declared.script.PlannedEvent.TheVariants.{Verify, Turn, Finalize, Flushed}
 use Rattle.stateful_play.specs.declared.plan.Planned.{Planned}
-use Rattle.stateful_play.specs.Store.{at_height, Keeps, finalized}
+use Rattle.stateful_play.specs.Store.{at_height, Keeps, finalized, finalized_by}
 
 or_none : {X : Type 0} (o : Option X) → option_or o None ≡ o
 or_none None = refl
@@ -50,15 +50,8 @@ kept_first old new blocks b none inserted keeps h =
     let e = none_first (at_height blocks) b b.block.height.0 h (sym (keeps b.block.height.0) ∙ none_from _ none) in
     inserted h ∙ rw (keeps h) (e ∙ sym (at_more blocks b h))
 
-finalized-append : (made : List Planned) (xs ys : List PlannedEvent) → finalized made (xs ++ ys) ≡ finalized made xs ++ finalized made ys
-finalized-append made [] ys = refl
-finalized-append made (Verify place ∷ xs) ys = finalized-append made xs ys
-finalized-append made (Turn job ∷ xs) ys = finalized-append made xs ys
-finalized-append made (Finalize place ∷ xs) ys = grind (arith, finalized-append made xs ys)
-finalized-append made (Flushed barrier database ∷ xs) ys = finalized-append made xs ys
-
 -- the block of one line more is kept, if it finalizes one
-pub kept_more : (stored : ℕ → Option (Named BankBlock)) (b : Named BankBlock) (made : List Planned) (lines : List PlannedEvent) (i : ℕ) (d : PlannedEvent) → i < length lines → Keeps stored ((b ∷ finalized made (take i lines)) ++ finalized made (get_or lines i d ∷ [])) → Keeps stored (b ∷ finalized made (take (i + 1) lines))
-kept_more stored b made lines i d lt keeps =
-    let more = take_more lines i d lt in
-    rw (more, finalized-append made (take i lines) (get_or lines i d ∷ [])) keeps
+pub kept_more : (stored : ℕ → Option (Named BankBlock)) (b : Named BankBlock) (made : List Planned) (lines : List PlannedEvent) (i : ℕ) (l : PlannedEvent) → i < length lines → l ≡ get_or lines i l → Keeps stored ((b ∷ finalized made (take i lines)) ++ finalized made (l ∷ [])) → Keeps stored (b ∷ finalized made (take (i + 1) lines))
+kept_more stored b made lines i l lt is keeps =
+    let more = take_more lines i l lt in
+    rw (more, ← is, filter_map-append (finalized_by made) (take i lines) (l ∷ [])) keeps

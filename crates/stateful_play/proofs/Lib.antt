@@ -2,5 +2,6 @@ pub mod Planned
 pub mod Kept
 pub mod Labels
 pub mod Honest
+pub mod Builds
 pub mod Carried
 pub mod Ends

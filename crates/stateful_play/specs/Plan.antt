@@ -1,13 +1,11 @@
 -- The blocks of a script.
-use Rattle.std.specs.Prelude.{ℕ, ◌≡◌, List, [], ◌∷◌, ◌++◌, Option, Some, None, option_and_then, slice_get, map}
+use Rattle.std.specs.Prelude.{ℕ, ◌≡◌, Bool, if◌then◌else◌, List, [], ◌∷◌, ◌++◌, Option, Some, None, option_and_then, slice_get, map, replicate}
 use Rattle.std.specs.List.{zip}
 use Rattle.sha2.specs.Sha256.{sha256}
 use Rattle.stateful_types.specs.Names.{Named}
-use Rattle.stateful_types.specs.declared.round.Round.{Round}
-use Rattle.stateful_types.specs.declared.number.View.{View}
 use Rattle.stateful_types.specs.declared.target.Target.{Target}
 use Rattle.stateful_bank.specs.declared.block.BankBlock.{BankBlock}
-use Rattle.stateful_bank.specs.BankBlock.{block_bytes, genesis_block, child_block}
+use Rattle.stateful_bank.specs.BankBlock.{block_bytes, genesis_block}
 use Rattle.stateful_plain.specs.Whole.{Whole, initial, target_of}
 use Rattle.stateful_plain_bank.specs.Stepped.{stepped}
 use Rattle.stateful_script.specs.declared.script.PlannedBlock.{PlannedBlock}
@@ -18,30 +16,36 @@ use Rattle.stateful_play.specs.declared.plan.Planned.{Planned}
 abbrev pub named : BankBlock → Named BankBlock
 named b = record { digest = record { 0 = sha256 (block_bytes b) }; block = b }
 
--- what a block commits to: the target of the state after it, or of the empty state where there is none
-abbrev pub targets_of : Option Whole → List Target
-targets_of None = target_of initial ∷ []
-targets_of (Some whole) = target_of whole ∷ []
+-- the target of a state, or of the empty state where there is none
+abbrev pub target_after : Option Whole → Target
+target_after None = target_of initial
+target_after (Some whole) = target_of whole
+
+-- what a block commits to: where it is to be wrong, the root is 32 zero bytes
+abbrev pub committed : Bool → Target → Target
+committed wrong target = if wrong then record target { root = record { 0 = replicate 32 0 } } else target
 
 -- genesis leads to the empty state
 unfoldable pub genesis : Planned
-genesis = record { block = named (genesis_block (targets_of (Some initial))); parent = None; after = Some initial }
-
--- epoch 0, and this view
-abbrev pub round_of : View → Round
-round_of view = record { epoch = record { 0 = 0 }; view = view }
+genesis = record { block = named (genesis_block (target_after (Some initial) ∷ [])); parent = None; after = Some initial }
 
 -- the state after a block on this parent, where there is one
 abbrev pub state_after : Planned → PlannedBlock → Option Whole
 state_after parent b = option_and_then (λ whole. stepped whole b.ops) parent.after
 
 -- the block of a line on its parent
-unfoldable pub child : Planned → PlannedBlock → Planned
-child parent b = record {
-  block = named (child_block parent.block.block.height.0 parent.block.digest (round_of b.view) b.ops (targets_of (state_after parent b)));
-  parent = Some parent.block;
-  after = state_after parent b;
+unfoldable pub block_on : Planned → PlannedBlock → BankBlock
+block_on parent b = record {
+  height = b.height;
+  round = b.round;
+  parent = parent.block.digest;
+  slow = b.slow;
+  ops = b.ops;
+  targets = committed b.wrong (target_after (state_after parent b)) ∷ [];
 }
+
+unfoldable pub child : Planned → PlannedBlock → Planned
+child parent b = record { block = named (block_on parent b); parent = Some parent.block; after = state_after parent b }
 
 -- Genesis stands first, and behind it the block of each line, on the block at its parent's place.
 pub data ArePlanned : List PlannedBlock → List Planned → Type 0 where

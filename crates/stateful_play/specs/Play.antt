@@ -1,5 +1,5 @@
 -- What was played of a script.
-use Rattle.std.specs.Prelude.{◌≡◌, ◌≢◌, ◌<◌, ℕ, List, [], ◌∷◌, ◌++◌, Option, Some, None, IfSome, length, map, take}
+use Rattle.std.specs.Prelude.{◌≡◌, ◌≢◌, ◌<◌, ℕ, All, List, [], ◌∷◌, ◌++◌, Option, Some, None, IfSome, length, map, take}
 use Rattle.stateful_types.specs.Names.{Named}
 use Rattle.stateful_types.specs.declared.round.Round.{Round}
 use Rattle.stateful_db.specs.Member.{Member, closed}
@@ -36,6 +36,7 @@ use Rattle.stateful_play.specs.declared.play.Machine.{Machine}
 use Rattle.stateful_play.specs.declared.play.Played.{Played}
 use Rattle.stateful_play.specs.Plan.{ArePlanned, labels_of}
 use Rattle.stateful_play.specs.Events.{BankEvent, events_of}
+use Rattle.stateful_play.specs.Builds.{NamesItsBuild}
 use Rattle.stateful_play.specs.Store.{store_of}
 use Rattle.stateful_play.specs.Shown.{entries_of, core_of, member_of, failed_of}
 
@@ -84,12 +85,13 @@ pub record IsHaltedBy (stored : ℕ → Option (Named BankBlock)) (events : List
   pub begins : IsFirst first
   pub refused : IsRefused bank stored run_faults hook_faults first entries event halted.error (core_of machine) (member_of d) (tally 0 (λ i. 0)) (tally 0 (failed_of d))
 
--- This was played of the script, whose blocks go by these labels: the events were taken in, in each ancestry each block
--- is the parent of the one before it, each entry is a step of the machine, the rules are kept, and an event that was
--- refused has its cause.
+-- This was played of the script, whose blocks go by these labels: a line that asks for a build names the block that the
+-- build gives, the events were taken in, in each ancestry each block is the parent of the one before it, each entry is a step of
+-- the machine, the rules are kept, and an event that was refused has its cause.
 pub record IsPlayOf (script : Script) (labels : List Label) (p : Played) : Type 0 where
   pub blocks : List Planned
   pub planned : ArePlanned script.blocks blocks
+  pub builds : All (NamesItsBuild blocks) script.events
   pub labelled : labels ≡ labels_of script.names blocks
   pub world : p.world ≡ world.Plain
   pub events : AreTaken p.«end» (events_of blocks script.events) (map (λ entry. entry.event) (entries_of p.history))

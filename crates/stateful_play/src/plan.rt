@@ -1,15 +1,14 @@
 //! The blocks of a script, with the states after them.
 
-ghost use Rattle.std.specs.Prelude.{◌≡◌, ◌≤◌, ◌+◌, Some, IfOk, EachIndex, slice_get, slice_index_or, length};
-ghost use Rattle.stateful_bank.specs.BankBlock.{child_block};
+ghost use Rattle.std.specs.Prelude.{◌≡◌, ◌≤◌, ◌+◌, ◌∷◌, [], Some, IfOk, EachIndex, slice_get, slice_index_or, length};
 ghost use Rattle.stateful_script.specs.declared.script.PlannedBlock.{PlannedBlock};
-ghost use Rattle.stateful_play.specs.Plan.{ArePlanned, named, genesis, child, state_after, targets_of};
+ghost use Rattle.stateful_play.specs.Plan.{ArePlanned, named, genesis, child, state_after, target_after, committed};
 
 use stateful_bank::BankBlock;
 use stateful_plain::PlainState;
 use stateful_plain_bank::step;
 use stateful_script::PlannedBlock;
-use stateful_types::{Digested, Epoch, Items, OutOfMemory, Round, Share, Target};
+use stateful_types::{Digest, Digested, Items, OutOfMemory, Share, Target};
 use std::alloc::Global;
 
 /// A block, its parent if it has one, and the state after it from genesis on, where there is one.
@@ -21,14 +20,35 @@ pub struct Planned {
 }
 
 /// The target of a state; of the first state, where there is none.
-fn targets_of(alloc: Global, after: &Option<PlainState>) -> Result<Items<Target>, OutOfMemory>
-    ensures { IfOk result (λ targets. targets ≡ targets_of after.now) }
+fn target_after(alloc: Global, after: &Option<PlainState>) -> Target
+    ensures { result ≡ target_after after.now }
+{
+    match after {
+        Some(state) => state.target(),
+        None => PlainState::empty(alloc).target(),
+    }
+}
+
+/// A target, with a root of 32 zero bytes where it is to be wrong.
+fn committed(wrong: bool, target: Target) -> Target
+    ensures { result ≡ committed wrong target }
+{
+    if wrong {
+        Target {
+            root: Digest([0; 32]),
+            ..target
+        }
+    } else {
+        target
+    }
+}
+
+/// A target as a list.
+fn list_of(alloc: Global, target: Target) -> Result<Items<Target>, OutOfMemory>
+    ensures { IfOk result (λ targets. targets ≡ target ∷ []) }
 {
     let mut targets = Items::new(alloc);
-    match after {
-        Some(state) => targets.push(state.target())?,
-        None => targets.push(PlainState::empty(alloc).target())?,
-    }
+    targets.push(target)?;
     Ok(targets)
 }
 
@@ -45,7 +65,8 @@ fn genesis(alloc: Global) -> Result<Planned, OutOfMemory>
     ensures { IfOk result (λ made. made ≡ genesis) }
 {
     let after = Some(PlainState::empty(alloc));
-    let block = BankBlock::genesis(alloc, targets_of(alloc, &after)?);
+    let targets = list_of(alloc, target_after(alloc, &after))?;
+    let block = BankBlock::genesis(alloc, targets);
     Ok(Planned {
         block: named(alloc, block)?,
         parent: None,
@@ -63,27 +84,44 @@ fn state_after(parent: &Planned, block: &PlannedBlock) -> Result<Option<PlainSta
     }
 }
 
-/// The block of a line on its parent. A block past the last height is refused as want of memory.
-#[tactic(auto, unfolding(crate::specs::Plan::child))]
+/// The block of a line on its parent, over this target.
+fn block_over(
+    alloc: Global,
+    parent: &Planned,
+    block: &PlannedBlock,
+    target: Target,
+) -> Result<BankBlock, OutOfMemory>
+    ensures { IfOk result (λ made. made ≡ record {
+      height = block.now.height;
+      round = block.now.round;
+      parent = parent.now.block.digest;
+      slow = block.now.slow;
+      ops = block.now.ops;
+      targets = committed block.now.wrong target ∷ [];
+    }) }
+{
+    Ok(BankBlock {
+        height: block.height,
+        round: block.round,
+        parent: parent.block.digest(),
+        slow: block.slow,
+        ops: block.ops.share()?,
+        targets: list_of(alloc, committed(block.wrong, target))?,
+    })
+}
+
+/// The block of a line on its parent.
+#[tactic(auto, unfolding(crate::specs::Plan::child, crate::specs::Plan::block_on))]
 fn child(alloc: Global, parent: &Planned, block: &PlannedBlock) -> Result<Planned, OutOfMemory>
     ensures { IfOk result (λ made. made ≡ child parent.now block.now) }
 {
     let after = state_after(parent, block)?;
-    let round = Round {
-        epoch: Epoch(0),
-        view: block.view,
-    };
-    let targets = targets_of(alloc, &after)?;
-    let ops = block.ops.share()?;
-    let height = parent.block.height();
-    match BankBlock::child(height, parent.block.digest(), round, ops, targets) {
-        Some(block) => Ok(Planned {
-            block: named(alloc, block)?,
-            parent: Some(parent.block.share()?),
-            after,
-        }),
-        None => Err(OutOfMemory),
-    }
+    let made = block_over(alloc, parent, block, target_after(alloc, &after))?;
+    Ok(Planned {
+        block: named(alloc, made)?,
+        parent: Some(parent.block.share()?),
+        after,
+    })
 }
 
 /// Genesis, and the block of each line.

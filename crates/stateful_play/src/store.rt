@@ -44,7 +44,7 @@ fn store_finalized(
 {
     match event {
         PlannedEvent::Finalize(place) => store_block(store, &planned[*place].block),
-        PlannedEvent::Verify(_) | PlannedEvent::Turn(_) | PlannedEvent::Flushed { .. } => Ok(()),
+        _ => Ok(()),
     }
 }
 

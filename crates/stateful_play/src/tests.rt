@@ -191,6 +191,32 @@ fn plays_to_the_end(rt: HostRuntime) -> Result<(), Fail> {
             text: "#1;started 0 candidate w;#2;ended 0 kept;verdict 0 true;#3;began 1 w;applied 1 w;barrier 0 1;#4;durable 0 1;acknowledged 1 1;database 0 1..2;done;",
             status: Status::Done,
         },
+        // A hook of two turns, wrong roots, a height of the line's own, a later epoch, and a block without its parent.
+        Row {
+            script: "block h on genesis view 1 slow 2 mint 1 100;verify h;turn 0;finalize h;turn 1;turn 1;flushed 0 0;",
+            text: "#1;started 0 candidate h;#2;ended 0 kept;verdict 0 true;#3;began 1 h;applied 1 h;barrier 0 1;started 1 hook h;#4;#5;ended 1 hooked;#6;durable 0 1;acknowledged 1 1;database 0 1..2 1=100;done;",
+            status: Status::Done,
+        },
+        Row {
+            script: "block r on genesis view 1 wrong mint 1 100;verify r;turn 0;",
+            text: "#1;started 0 candidate r;#2;ended 0 mismatched;verdict 0 false;database 0 0..1;done;",
+            status: Status::Done,
+        },
+        Row {
+            script: "block t on genesis view 1 height 7 mint 1 100;verify t;turn 0;block v on t view 2;verify v;turn 1;",
+            text: "#1;started 0 candidate t;#2;ended 0 kept;verdict 0 true;#3;started 1 candidate v;#4;ended 1 kept;verdict 1 true;database 0 0..1;done;",
+            status: Status::Done,
+        },
+        Row {
+            script: "block x on genesis view 0 epoch 1 mint 1 1;verify x;turn 0;",
+            text: "#1;started 0 candidate x;#2;ended 0 kept;verdict 0 true;database 0 0..1;done;",
+            status: Status::Done,
+        },
+        Row {
+            script: "verify a alone;",
+            text: "#1;asked 0 0 genesis;database 0 0..1;done;",
+            status: Status::Done,
+        },
         Row {
             script: "verify d;turn 0;turn 0;finalize d;flushed 0 0;",
             text: "#1;started 0 candidate d;#2;#3;ended 0 kept;verdict 0 true;#4;began 1 d;applied 1 d;barrier 0 1;#5;durable 0 1;acknowledged 1 1;database 0 1..2 2=5;done;",
@@ -222,6 +248,12 @@ fn halts_at_finalizations(rt: HostRuntime) -> Result<(), Fail> {
             script: "verify a;turn 0;finalize a;finalize s;",
             text: "#1;started 0 candidate a;#2;ended 0 kept;verdict 0 true;#3;began 1 a;applied 1 a;barrier 0 1;database 0 1..2 1=100;halted 4 ConflictAtAnchor;",
             status: Status::Halted { at: 4 },
+        },
+        // The store has genesis at height 0, whatever is finalized there.
+        Row {
+            script: "block y on genesis view 5 height 0 mint 1 1;finalize y;",
+            text: "database 0 0..1;halted 1 ConflictAtAnchor;",
+            status: Status::Halted { at: 1 },
         },
         // What the anchor says comes before the run that goes on.
         Row {
@@ -258,6 +290,21 @@ fn halts_at_work_that_is_not_live(rt: HostRuntime) -> Result<(), Fail> {
         },
         Row {
             script: "flushed 0 0;",
+            text: "database 0 0..1;halted 1 BadEvent;",
+            status: Status::Halted { at: 1 },
+        },
+        Row {
+            script: "flushed 0 0 stopped;",
+            text: "database 0 0..1;halted 1 BadEvent;",
+            status: Status::Halted { at: 1 },
+        },
+        Row {
+            script: "cancel 0;",
+            text: "database 0 0..1;halted 1 BadEvent;",
+            status: Status::Halted { at: 1 },
+        },
+        Row {
+            script: "fetched 0 none;",
             text: "database 0 0..1;halted 1 BadEvent;",
             status: Status::Halted { at: 1 },
         },
@@ -301,6 +348,17 @@ fn halts_at_forms_that_are_not_done(rt: HostRuntime) -> Result<(), Fail> {
             script: "verify z;turn 0;finalize z;",
             text: "#1;started 0 candidate z;#2;ended 0 rejected;verdict 0 false;database 0 0..1;halted 3 NotYet;",
             status: Status::Halted { at: 3 },
+        },
+        // A build, and a restart of a machine that works.
+        Row {
+            script: "propose p on genesis view 1 mint 1 5;",
+            text: "database 0 0..1;halted 1 NotYet;",
+            status: Status::Halted { at: 1 },
+        },
+        Row {
+            script: "restart none 0;",
+            text: "database 0 0..1;halted 1 NotYet;",
+            status: Status::Halted { at: 1 },
         },
         // A run goes on.
         Row {

@@ -22,6 +22,7 @@ use Rattle.stateful_register.specs.declared.register.Register.{Register}
 use Rattle.stateful_register.proofs.Listed.{IsListOf-same}
 use Rattle.stateful_register.specs.Ends.{EndsAll, LeavesNothing, withdrawn, cancelled, declined, dropped}
 
+-- a number that is the first one, or among the others
 later : (same among was : Bool) → not among && (not same && was) ≡ not (same || among) && was
 later true true was = refl
 later true false was = refl
@@ -32,6 +33,7 @@ later_ticket true true was = refl
 later_ticket true false was = refl
 later_ticket false among was = refl
 
+-- nothing is left of what ended
 none_and : (b : Bool) → not b && b ≡ false
 none_and true = refl
 none_and false = refl
@@ -43,6 +45,7 @@ both_closed None false = refl
 both_closed (Some kind) true = refl
 both_closed (Some kind) false = refl
 
+-- a ticket can't be of both kinds
 not_both : (live builds : Bool) → live && not builds ≡ true → builds ≡ true → ⊥
 not_both true true other is = cc
 not_both true false other is = cc
@@ -63,6 +66,7 @@ module _ {B C I : Type 0} where
       ∙ ap (λ was. not (list_any (λ n. k == n) ns) && was) (ends p n k)
       ∙ later (k == n) (list_any (λ n. k == n) ns) (view k p)
 
+  -- the tickets that each mark closes, all of them close
   closed : (mark : ℕ → Mark B) → ((p : Past B C I) (n t : ℕ) → live_ticket t (Made (mark n) ∷ p) ≡ cond (t == n) None (live_ticket t p))
       → (p : Past B C I) (ns : List ℕ) (t : ℕ) → live_ticket t (after p (map mark ns)) ≡ cond (list_any (λ n. t == n) ns) None (live_ticket t p)
   closed mark closes p [] t = refl
@@ -98,6 +102,7 @@ module _ {B C I : Type 0} where
     kept_by_tickets view declines drops =
         ap view in_turn ∙ kept view (λ t. Dropped t) drops qp all.others ∙ kept view (λ t. Declined t) declines qj all.proposals
 
+    -- of each kind nothing is live behind all of them, but for barriers
     no_fetch : (f : ℕ) → live_fetch f (after p marks) ≡ false
     no_fetch f =
         kept_by_tickets (λ q. live_fetch f q) (λ q t. refl) (λ q t. refl)
@@ -140,6 +145,7 @@ module _ {B C I : Type 0} where
       without_barriers = λ none. record { tickets = no_ticket; fetches = no_fetch; jobs = no_job; barriers = λ k. kept_barrier k ∙ none k };
     }
 
+  -- what is declined asks to build, and what is dropped doesn't
   each_declined_builds : (p : Past B C I) (proposals : List ℕ) → IsListOf (λ t. live_proposal t p) proposals → (t : ℕ) → Contains proposals t → (r : Proposal B C I) × IsLiveProposal t p r
   each_declined_builds p proposals all t within = IsLiveProposal-found t p (sym (all.each t) ∙ list_any-from_Contains nat_eq_equiv t proposals within)
 

@@ -42,7 +42,8 @@ module _ {B C I : Type 0} (p : Past B C I) (marks : List (Mark B)) where
     pub each_builds : (t : ℕ) → Contains proposals t → (r : Proposal B C I) × IsLiveProposal t p r
     pub no_other_builds : TicketsCameNew p → (t : ℕ) → Contains others t → (r : Proposal B C I) → IsLiveProposal t p r → ⊥
 
-  -- Nothing is live behind the marks where the machine stops behind them, and where no barrier was live before them.
+  -- Nothing is live behind the marks and a stop, and without a stop behind the marks alone, where no barrier was live
+  -- before them.
   pub record LeavesNothing : Type 0 where
     pub stopped : NothingLive (Made Stopped ∷ after p marks)
     pub without_barriers : ((k : ℕ) → live_barrier k p ≡ false) → NothingLive (after p marks)

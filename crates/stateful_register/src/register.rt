@@ -239,7 +239,8 @@ impl Register {
         taken
     }
 
-    /// A register that answers as this one.
+    /// A register that answers as this one, so it stands for the same pasts. It isn't an equal value, as `Share` has it:
+    /// maps with equal entries may differ in how they are laid out.
     pub fn share(&self) -> Result<Register, OutOfMemory>
         ensures { IfOk result (IsUnchanged self.now) }
     {

@@ -14,7 +14,7 @@ no_zero : (field : List ℕ) → is_numeral field ≡ true → get_or field 0 0 
 unfolding is_numeral
 no_zero field h first = grind (arith, common_steps)
 
-spelled : (most : ℕ) (field : List ℕ) (n : ℕ) → number_to most field ≡ Some n → (is_numeral field ≡ true) × (digits_value 10 field ≤ most) × (digits_value 10 field ≡ n)
+pub spelled : (most : ℕ) (field : List ℕ) (n : ℕ) → number_to most field ≡ Some n → (is_numeral field ≡ true) × (digits_value 10 field ≤ most) × (digits_value 10 field ≡ n)
 unfolding number_to
 spelled most field n h =
     let parts = cond_some (is_numeral field && nat_le (digits_value 10 field) most) (digits_value 10 field) n h in

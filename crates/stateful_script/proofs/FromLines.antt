@@ -4,7 +4,9 @@ use Rattle.std.proofs.lemmas.Grind.{common_steps}
 use Rattle.std.proofs.lemmas.List.Elements.{All-head, All-tail, All-weaker}
 use Rattle.std.proofs.lemmas.List.Splits.{slice_split_at, slice_split_none}
 use Rattle.std.proofs.lemmas.Option.{option_and_then_some, same_Some}
-use Rattle.stateful_script.specs.Script.{at_start, read_line, read_from, at_line, script_or_line}
+use Rattle.stateful_script.specs.Named.{at_start}
+use Rattle.stateful_script.specs.Lines.{read_line}
+use Rattle.stateful_script.specs.Script.{read_from, at_line, script_or_line}
 use Rattle.stateful_script.specs.Laws.{IsLine, text_of, after_lines, IsWhole, IsUnread, IsFirstUnread}
 use Rattle.stateful_script.specs.declared.script.Script.{Script}
 use Rattle.stateful_script.proofs.LinesLeft.{parts_of, lined, last_at}

@@ -3,9 +3,14 @@ pub mod Cuts
 pub mod Numbers
 pub mod Decimal
 pub mod ItemsLeft
+pub mod NumbersLeft
 pub mod LinesLeft
 pub mod FromLines
 pub mod ToLines
 pub mod WholeText
-pub mod Forms
+pub mod Found
+pub mod Got
+pub mod ItemsKept
+pub mod EventsKept
+pub mod BlocksKept
 pub mod Plans

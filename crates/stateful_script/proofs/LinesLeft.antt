@@ -1,7 +1,8 @@
 -- Reading a script line by line.
 use Rattle.std.proofs.Common.{◌≡◌, ℕ, ◌+◌, ◌==◌, List, [], ◌∷◌, Bool, true, false, length, Some, None, Result, Ok, Err, refl, ap, cond, sym, ◌∙◌}
 use Rattle.std.specs.List.{slice_split, onto_first}
-use Rattle.stateful_script.specs.Script.{read_line, read_from, at_line}
+use Rattle.stateful_script.specs.Lines.{read_line}
+use Rattle.stateful_script.specs.Script.{read_from, at_line}
 use Rattle.stateful_script.specs.declared.script.Script.{Script}
 
 -- there is a first part

@@ -5,7 +5,9 @@ use Rattle.std.proofs.lemmas.Grind.{common_steps}
 use Rattle.std.proofs.lemmas.List.{nil_from_length}
 use Rattle.std.proofs.lemmas.List.Elements.{All-nil, All-cons, All-head, All-tail, All-same}
 use Rattle.std.proofs.lemmas.List.Splits.{join_with_byte-slice_split}
-use Rattle.stateful_script.specs.Script.{at_start, read_line, read_from, at_line, script_or_line}
+use Rattle.stateful_script.specs.Named.{at_start}
+use Rattle.stateful_script.specs.Lines.{read_line}
+use Rattle.stateful_script.specs.Script.{read_from, at_line, script_or_line}
 use Rattle.stateful_script.specs.Laws.{IsLine, text_of, after_lines, IsWhole, IsUnread, IsFirstUnread}
 use Rattle.stateful_script.specs.declared.script.Script.{Script}
 use Rattle.stateful_script.proofs.LinesLeft.{HasFirst, split_has_first, parts_of}

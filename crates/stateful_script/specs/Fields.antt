@@ -3,7 +3,7 @@
 -- Fields are separated by one space. A number is decimal, without a leading zero, up to 18446744073709551615; an account
 -- is a number up to 65535. A name is a letter a to z and up to 15 letters a to z or digits.
 use Rattle.std.specs.Fmt.{decimal}
-use Rattle.std.specs.Prelude.{◌≡◌, ◌↔◌, ◌<◌, ◌≤◌, ℕ, ◌-◌, ◌^◌, ◌==◌, Bool, ◌&&◌, ◌||◌, not, List, [], ◌∷◌, length, Option, Some, None, option_and_then, nat_le, nat_lt, if◌then◌else◌, slice_index}
+use Rattle.std.specs.Prelude.{◌≡◌, ◌↔◌, ◌<◌, ◌≤◌, ℕ, ◌-◌, ◌^◌, ◌==◌, Bool, true, false, ◌&&◌, ◌||◌, not, List, [], ◌∷◌, length, Option, Some, None, option_and_then, nat_le, nat_lt, if◌then◌else◌, slice_index}
 use Rattle.std.specs.List.{list_all, slice_split}
 use Rattle.std.specs.Str.{bytes_eq}
 use Rattle.std.specs.Str.Parse.{digits_value}
@@ -45,19 +45,30 @@ number field = number_to (2 ^ 64 - 1) field
 abbrev pub account : List ℕ → Option ℕ
 account field = number_to 65535 field
 
--- the next field, where it is a number
-unfoldable pub number_at : Fields → Option (ℕ × Fields)
-number_at fields = do
-  field ← field_at fields
-  n ← number field.0
-  Some (n, field.1)
+-- the turns of a hook: a number up to 9
+abbrev pub turns : List ℕ → Option ℕ
+turns field = number_to 9 field
 
--- the next field, where it is an account
-unfoldable pub account_at : Fields → Option (ℕ × Fields)
-account_at fields = do
+-- the next field, as what it spells
+abbrev pub field_as : {A : Type 0} → (List ℕ → Option A) → Fields → Option (A × Fields)
+field_as spells fields = do
   field ← field_at fields
-  n ← account field.0
-  Some (n, field.1)
+  a ← spells field.0
+  Some (a, field.1)
+
+unfoldable pub number_at : Fields → Option (ℕ × Fields)
+number_at fields = field_as number fields
+
+unfoldable pub account_at : Fields → Option (ℕ × Fields)
+account_at fields = field_as account fields
+
+unfoldable pub turns_at : Fields → Option (ℕ × Fields)
+turns_at fields = field_as turns fields
+
+-- whether this word stands at the end; none where the line goes on in another way
+unfoldable pub last_word : List ℕ → Fields → Option (Bool × Fields)
+last_word word [] = Some (false, [])
+last_word word (field ∷ fields) = if bytes_eq field word then Some (true, fields) else None
 
 -- a letter a to z, or a digit
 abbrev pub is_name_byte : ℕ → Bool
@@ -66,12 +77,6 @@ is_name_byte b = is_ascii_lowercase b || is_ascii_digit b
 -- a letter a to z, and up to 15 letters a to z or digits
 unfoldable pub is_name : List ℕ → Bool
 is_name field = nat_lt 0 (length field) && nat_le (length field) 16 && is_ascii_lowercase (slice_index field 0) && list_all is_name_byte field
-
--- the next field, where it is a name
-unfoldable pub name_at : Fields → Option (List ℕ × Fields)
-name_at fields = do
-  field ← field_at fields
-  if is_name field.0 then Some field else None
 
 -- a field spells the number of which it is the decimal form, and no other
 abbrev pub NumberIsDecimal : Type 0

@@ -1,8 +1,10 @@
 -- Laws of scripts: which line is named, what a whole script is, and that what it names is there.
-use Rattle.std.specs.Prelude.{ℕ, ◌≡◌, ◌≢◌, ◌↔◌, ◌+◌, ◌<◌, ◌≤◌, ◌⊎◌, true, List, [], ◌∷◌, ◌++◌, Option, Some, None, option_and_then, Ok, Err, length, codes, All, AllPairs, EachIndex, slice_get, slice_index_or}
+use Rattle.std.specs.Prelude.{ℕ, ◌≡◌, ◌≢◌, ◌↔◌, ◌+◌, ◌<◌, ◌≤◌, ◌⊎◌, true, false, List, [], ◌∷◌, ◌++◌, Option, Some, None, option_and_then, Ok, Err, length, codes, All, AllPairs, EachIndex, slice_get, slice_index_or}
 use Rattle.std.specs.List.{flat_map}
 use Rattle.stateful_script.specs.Fields.{is_name}
-use Rattle.stateful_script.specs.Script.{at_start, read_line, script_or_line}
+use Rattle.stateful_script.specs.Named.{at_start, height_in}
+use Rattle.stateful_script.specs.Lines.{read_line}
+use Rattle.stateful_script.specs.Script.{script_or_line}
 use Rattle.stateful_script.specs.declared.script.PlannedBlock.{PlannedBlock}
 use Rattle.stateful_script.specs.declared.script.PlannedEvent.{PlannedEvent}
 use Rattle.stateful_script.specs.declared.script.PlannedEvent.TheVariants as event
@@ -57,12 +59,32 @@ FirstIsNamed = (bytes : List ℕ) (number : ℕ) → script_or_line bytes ≡ Er
 abbrev pub LastIsEnded : Type 0
 LastIsEnded = (bytes : List ℕ) (s : Script) → script_or_line bytes ≡ Ok s → (bytes ≡ []) ⊎ ((front : List ℕ) × (bytes ≡ front ++ 10 ∷ []))
 
--- the block of an event, if it has one, is among the first so many names
+-- the blocks of an event are among the first so many names
 abbrev pub IsNamedBelow : ℕ → PlannedEvent → Type 0
-IsNamedBelow names (event.Verify block) = block < names
-IsNamedBelow names (event.Turn job) = Unit {0}
+IsNamedBelow names (event.Verify block alone) = block < names
+IsNamedBelow names (event.Prepare parent block decision) = (parent < names) × (block < names)
+IsNamedBelow names (event.Propose parent block) = (parent < names) × (block < names)
 IsNamedBelow names (event.Finalize block) = block < names
-IsNamedBelow names (event.Flushed barrier database) = Unit {0}
+IsNamedBelow names (event.Fetched fetch (Some block)) = block < names
+IsNamedBelow names _ = Unit {0}
+
+-- The block of this name's place is one that a build on this parent would give: it is one above it, its hook takes no
+-- turn, and its roots aren't wrong.
+pub record IsBuild (blocks : List PlannedBlock) (parent place : ℕ) : Type 0 where
+  pub before : ℕ
+  pub behind : place ≡ before + 1
+  pub block : PlannedBlock
+  pub there : slice_get blocks before ≡ Some block
+  pub on : block.parent ≡ parent
+  pub above : block.height.0 ≡ height_in blocks parent + 1
+  pub slow : block.slow ≡ 0
+  pub right : block.wrong ≡ false
+
+-- the event, where it asks for a build, says what the build would give
+abbrev pub IsBuilt : List PlannedBlock → PlannedEvent → Type 0
+IsBuilt blocks (event.Prepare parent block decision) = IsBuild blocks parent block
+IsBuilt blocks (event.Propose parent block) = IsBuild blocks parent block
+IsBuilt blocks _ = Unit {0}
 
 -- What each script keeps: genesis is the first name, and the block at a place has the name at the next place. A parent
 -- is named before its child. No name stands twice.
@@ -73,7 +95,9 @@ pub record IsPlan (s : Script) : Type 0 where
   pub once : AllPairs (λ first later. first ≢ later) s.names
   pub parents : EachIndex s.blocks (λ i. (d : PlannedBlock) → (slice_index_or s.blocks i d).parent ≤ i)
   pub ops : All (λ block. length block.ops ≤ 16) s.blocks
+  pub slow : All (λ block. block.slow ≤ 9) s.blocks
   pub events : All (IsNamedBelow (length s.names)) s.events
+  pub builds : All (IsBuilt s.blocks) s.events
   pub few_blocks : length s.blocks ≤ 1024
   pub few_events : length s.events ≤ 65536
 

@@ -1,6 +1,10 @@
 pub mod Fields
 pub mod Cursor
+pub mod Refusal
 pub mod BlockItems
+pub mod Named
+pub mod BlockLines
+pub mod EventLines
 pub mod Lines
 pub mod Script
 pub mod Laws

@@ -1,9 +1,9 @@
 //! What a field may spell: a number, an account, a name.
 
-ghost use Rattle.std.specs.Prelude.{◌≡◌, ◌^◌, ◌-◌, ◌<◌, ◌≤◌, ◌||◌, length, true, false, Some, None, MatchOption};
+ghost use Rattle.std.specs.Prelude.{◌≡◌, ◌^◌, ◌-◌, ◌<◌, ◌≤◌, ◌==◌, ◌||◌, length, true, false, Some, None, MatchOption};
 ghost use Rattle.std.specs.List.{list_all};
 ghost use Rattle.std.specs.Char.{is_ascii_digit, is_ascii_lowercase};
-ghost use Rattle.stateful_script.specs.Fields.{is_numeral, number_to, is_name_byte, is_name, number_at, account_at, name_at, after_word};
+ghost use Rattle.stateful_script.specs.Fields.{is_numeral, number_to, is_name_byte, is_name, number_at, account_at, turns_at, after_word, last_word};
 ghost use Rattle.stateful_script.specs.Cursor.{fields_left};
 
 use crate::cursor::Cursor;
@@ -50,6 +50,18 @@ pub fn account(field: &[u8]) -> Option<u16>
     u16::try_from(number(field)?).ok()
 }
 
+/// The number of turns that a field spells: a number up to 9.
+#[tactic(auto, unfolding(crate::specs::Fields::number_to))]
+fn turns(field: &[u8]) -> Option<u8>
+    ensures { result ≡ number_to 9 field.now }
+{
+    let turns = number(field)?;
+    if turns > 9 {
+        return None;
+    }
+    Some(turns as u8)
+}
+
 fn is_name_byte(byte: u8) -> bool
     ensures { result ≡ is_name_byte byte }
 {
@@ -63,7 +75,7 @@ fn all_name_bytes(field: &[u8]) -> bool
 }
 
 #[tactic(auto, unfolding(crate::specs::Fields::is_name))]
-fn is_name(field: &[u8]) -> bool
+pub fn is_name(field: &[u8]) -> bool
     ensures { result ≡ is_name field.now }
 {
     if field.is_empty() || field.len() > 16 {
@@ -76,7 +88,7 @@ fn is_name(field: &[u8]) -> bool
 }
 
 /// The field as text, where it is a name: a letter a to z, and up to 15 letters a to z or digits.
-fn name(field: &[u8]) -> Option<&str>
+pub fn name(field: &[u8]) -> Option<&str>
     ensures { MatchOption result (is_name field.now ≡ false) (λ name. (is_name field.now ≡ true)
         × (name.now ≡ field.now)) }
 {
@@ -109,13 +121,14 @@ pub fn next_account(fields: &mut Cursor<'_>) -> Option<u16>
     account(fields.next_field()?)
 }
 
-/// Reads a name.
-#[tactic(auto, unfolding(crate::specs::Fields::name_at))]
-pub fn next_name<'a>(fields: &mut Cursor<'a>) -> Option<&'a str>
-    ensures { MatchOption result (name_at (fields_left fields.old) ≡ None)
-        (λ name. name_at (fields_left fields.old) ≡ Some (name.now, fields_left fields.new)) }
+/// Reads a number of turns, up to 9.
+#[tactic(auto, unfolding(crate::specs::Fields::turns_at))]
+pub fn next_turns(fields: &mut Cursor<'_>) -> Option<u8>
+    ensures read { MatchOption result (turns_at (fields_left fields.old) ≡ None)
+        (λ n. turns_at (fields_left fields.old) ≡ Some (n, fields_left fields.new)) }
+    ensures shorter { length (fields_left fields.new) ≤ length (fields_left fields.old) }
 {
-    name(fields.next_field()?)
+    turns(fields.next_field()?)
 }
 
 /// Reads this word.
@@ -125,4 +138,24 @@ pub fn after_word(word: &[u8], fields: &mut Cursor<'_>) -> Option<()>
         (λ _. after_word word.now (fields_left fields.old) ≡ Some (fields_left fields.new)) }
 {
     (fields.next_field()? == word).then_some(())
+}
+
+/// Whether this word stands at the end of the line. None where the line goes on in another way.
+#[tactic(auto, unfolding(crate::specs::Fields::last_word))]
+pub fn last_word(word: &[u8], fields: &mut Cursor<'_>) -> Option<bool>
+    ensures { MatchOption result (last_word word.now (fields_left fields.old) ≡ None)
+        (λ there. last_word word.now (fields_left fields.old)
+        ≡ Some (there, fields_left fields.new)) }
+{
+    match fields.next_field() {
+        Some(field) => (field == word).then_some(true),
+        None => Some(false),
+    }
+}
+
+/// Whether no field is left.
+pub fn is_at_end(fields: &mut Cursor<'_>) -> bool
+    ensures { result ≡ (length (fields_left fields.old) == 0) }
+{
+    fields.next_field().is_none()
 }

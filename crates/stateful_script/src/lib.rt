@@ -14,11 +14,13 @@
 //! A name is given by a line before it is used. A line that no rule reads is refused by its number, from 1.
 #![tactic(auto)]
 
+mod block;
 mod cursor;
+mod error;
+mod event;
 mod field;
 mod item;
 mod law;
-mod line;
 mod name;
 mod read;
 mod script;

@@ -1,16 +1,23 @@
 //! Reading a script line by line.
 
-ghost use Rattle.std.specs.Prelude.{◌≡◌, ◌==◌, ℕ, List, Some, None, MatchResult, OnOk, IfOk, position};
-ghost use Rattle.std.specs.Str.{bytes_eq};
-ghost use Rattle.stateful_script.specs.Lines.{seen, Refuses};
-ghost use Rattle.stateful_script.specs.Script.{at_start, place, is_free, with_world, with_block, with_event, enter, read_line, script_or_line, Reads};
+ghost use Rattle.std.specs.Prelude.{◌≡◌, ◌==◌, ℕ, List, Some, None, IfOk};
+ghost use Rattle.std.specs.List.{list_all};
+ghost use Rattle.std.specs.Char.{is_ascii};
+ghost use Rattle.stateful_script.specs.Cursor.{fields_left};
+ghost use Rattle.stateful_script.specs.Named.{at_start, place, is_free, databases_in};
+ghost use Rattle.stateful_script.specs.Lines.{with_world, with_block, with_event, with_items, world_by, world_line, block_line, build_line, prepare_line, propose_line, event_line, line_by, read_line};
+ghost use Rattle.stateful_script.specs.Refusal.{Becomes};
+ghost use Rattle.stateful_script.specs.Script.{script_or_line, Reads};
 ghost use Rattle.stateful_script.specs.Laws.{IsPlan};
 
-use crate::cursor::cut;
-use crate::line::{Line, LineError, parse_line};
+use crate::block::{Head, decision};
+use crate::cursor::{Cursor, cut};
+use crate::error::LineError;
+use crate::field::{is_at_end, is_name};
+use crate::item::{Item, parse_build_items, parse_items, said};
 use crate::name::Name;
 use crate::script::{PlannedBlock, PlannedEvent, Script, ScriptError, World};
-use stateful_types::{Items, View};
+use stateful_types::Items;
 use std::alloc::{AllocError, Global};
 
 /// The most blocks that lines name.
@@ -19,10 +26,24 @@ const MAX_BLOCKS: usize = 1024;
 /// The most event lines.
 const MAX_EVENTS: usize = 65_536;
 
+fn all_ascii(line: &[u8]) -> bool
+    ensures { result ≡ list_all is_ascii line.now }
+{
+    line.iter().all(|b| b.is_ascii())
+}
+
+/// The world that a word names.
+#[tactic(auto, unfolding(crate::specs::Lines::world_by))]
+fn world_by(word: &[u8]) -> Option<World>
+    ensures { result ≡ world_by word.now }
+{
+    (word == b"plain".as_slice()).then_some(World::Plain)
+}
+
 // Behind a `LineError` the script is given up: it may be in mid-change.
 impl Script {
     /// What is said before the first line: genesis is named.
-    #[tactic(auto, unfolding(crate::specs::Script::at_start))]
+    #[tactic(auto, unfolding(crate::specs::Named::at_start))]
     fn start(alloc: Global) -> Result<Script, AllocError>
         ensures { IfOk result (λ script. script ≡ at_start) }
     {
@@ -37,27 +58,37 @@ impl Script {
     }
 
     /// The place of a name, by a look at each: there are at most 1,025.
-    #[tactic(auto, unfolding(crate::specs::Script::place))]
-    fn place(&self, name: &str) -> Option<usize>
+    #[tactic(auto, unfolding(crate::specs::Named::place))]
+    pub fn place(&self, name: &[u8]) -> Option<usize>
         ensures { result ≡ place self.now name.now }
     {
         self.names
             .as_slice()
             .iter()
-            .position(|n| n.as_str() == name)
+            .position(|n| n.as_str().as_bytes() == name)
     }
 
-    #[tactic(auto, unfolding(crate::specs::Script::is_free))]
-    fn is_free(&self, name: &str) -> bool
+    /// Whether a line may give this name.
+    #[tactic(auto, unfolding(crate::specs::Named::is_free))]
+    pub fn is_free(&self, name: &[u8]) -> bool
         ensures { result ≡ is_free self.now name.now }
     {
-        self.place(name).is_none() && name != "none" && name != "alone"
+        is_name(name)
+            && self.place(name).is_none()
+            && name != b"none".as_slice()
+            && name != b"alone".as_slice()
     }
 
-    #[tactic(auto, unfolding(crate::specs::Script::with_world))]
+    /// How many databases there are.
+    pub fn databases(&self) -> usize
+        ensures { result ≡ databases_in self.now.world }
+    {
+        self.world.unwrap_or(World::Plain).databases()
+    }
+
+    #[tactic(auto, unfolding(crate::specs::Lines::with_world))]
     fn name_world(&mut self, world: World) -> Result<(), LineError>
-        ensures { MatchResult result (λ _. with_world self.old world ≡ Some self.new)
-            (λ e. Refuses e (with_world self.old world)) }
+        ensures { Becomes result (with_world self.old world) self.new }
     {
         if self.world.is_some() || !self.events.is_empty() {
             return Err(LineError::Refused);
@@ -66,31 +97,21 @@ impl Script {
         Ok(())
     }
 
-    #[tactic(auto, unfolding(crate::specs::Script::with_block))]
-    fn name_block(
-        &mut self,
-        alloc: Global,
-        name: &str,
-        block: PlannedBlock,
-    ) -> Result<(), LineError>
-        ensures { MatchResult result (λ _. with_block self.old name.now block ≡ Some self.new)
-            (λ e. Refuses e (with_block self.old name.now block)) }
+    #[tactic(auto, unfolding(crate::specs::Lines::with_block))]
+    fn name_block(&mut self, name: Name, block: PlannedBlock) -> Result<(), LineError>
+        ensures { Becomes result (with_block self.old name block) self.new }
     {
-        if !self.is_free(name) {
-            return Err(LineError::Refused);
-        }
         if self.blocks.len() >= MAX_BLOCKS {
             return Err(LineError::Refused);
         }
-        self.names.push(Name::new(alloc, name)?)?;
+        self.names.push(name)?;
         self.blocks.push(block)?;
         Ok(())
     }
 
-    #[tactic(auto, unfolding(crate::specs::Script::with_event))]
+    #[tactic(auto, unfolding(crate::specs::Lines::with_event))]
     fn push_event(&mut self, event: PlannedEvent) -> Result<(), LineError>
-        ensures { MatchResult result (λ _. with_event self.old event ≡ Some self.new)
-            (λ e. Refuses e (with_event self.old event)) }
+        ensures { Becomes result (with_event self.old event) self.new }
     {
         if self.events.len() >= MAX_EVENTS {
             return Err(LineError::Refused);
@@ -99,47 +120,135 @@ impl Script {
         Ok(())
     }
 
-    /// Takes in what a line says.
-    #[tactic(auto, unfolding(crate::specs::Script::enter))]
-    fn record_line(&mut self, alloc: Global, line: Line<'_>) -> Result<(), LineError>
-        ensures { MatchResult result (λ _. enter self.old (seen line.entry) ≡ Some self.new)
-            (λ e. Refuses e (enter self.old (seen line.entry))) }
+    /// Names the block of this head with these items.
+    #[tactic(auto, unfolding(crate::specs::Lines::with_items))]
+    fn name_items(&mut self, alloc: Global, head: Head, items: &[Item]) -> Result<(), LineError>
+        ensures { Becomes result (with_items self.old head items.now) self.new }
     {
-        match line {
-            Line::Skip => Ok(()),
-            Line::InWorld(world) => self.name_world(world),
-            Line::Block {
-                name,
-                parent,
-                view,
-                ops,
-            } => {
-                let parent = self.place(parent).ok_or(LineError::Refused)?;
-                let view = View(view);
-                self.name_block(alloc, name, PlannedBlock { parent, view, ops })
-            }
-            Line::Verify(name) => {
-                let block = self.place(name).ok_or(LineError::Refused)?;
-                self.push_event(PlannedEvent::Verify(block))
-            }
-            Line::Turn(job) => self.push_event(PlannedEvent::Turn(job)),
-            Line::Finalize(name) => {
-                let block = self.place(name).ok_or(LineError::Refused)?;
-                self.push_event(PlannedEvent::Finalize(block))
-            }
-            Line::Flushed { barrier, database } => {
-                self.push_event(PlannedEvent::Flushed { barrier, database })
-            }
+        let said = said(alloc, items)?;
+        let block = self.planned(&head, said).ok_or(LineError::Refused)?;
+        self.name_block(head.name, block)
+    }
+
+    #[tactic(auto, unfolding(crate::specs::Lines::world_line))]
+    fn read_world(&mut self, fields: &mut Cursor<'_>) -> Result<(), LineError>
+        ensures { Becomes result (world_line self.old (fields_left fields.old)) self.new }
+    {
+        let word = fields.next_field().ok_or(LineError::Refused)?;
+        let world = world_by(word).ok_or(LineError::Refused)?;
+        if !is_at_end(fields) {
+            return Err(LineError::Refused);
+        }
+        self.name_world(world)
+    }
+
+    #[tactic(auto, unfolding(crate::specs::Lines::block_line))]
+    fn read_block(&mut self, alloc: Global, fields: &mut Cursor<'_>) -> Result<(), LineError>
+        ensures { Becomes result (block_line self.old (fields_left fields.old)) self.new }
+    {
+        let head = self.next_head(alloc, fields)?;
+        let items = parse_items(alloc, fields)?;
+        self.name_items(alloc, head, items.as_slice())
+    }
+
+    /// Names the block that a build would give, and adds the event that asks for it.
+    #[tactic(auto, unfolding(crate::specs::Lines::build_line))]
+    fn read_build(
+        &mut self,
+        alloc: Global,
+        head: Head,
+        fields: &mut Cursor<'_>,
+        event: PlannedEvent,
+    ) -> Result<(), LineError>
+        ensures { Becomes result (build_line self.old head (fields_left fields.old) event)
+            self.new }
+    {
+        let items = parse_build_items(alloc, fields)?;
+        self.name_items(alloc, head, items.as_slice())?;
+        self.push_event(event)
+    }
+
+    #[tactic(auto, unfolding(crate::specs::Lines::prepare_line))]
+    fn read_prepare(&mut self, alloc: Global, fields: &mut Cursor<'_>) -> Result<(), LineError>
+        ensures { Becomes result (prepare_line self.old (fields_left fields.old)) self.new }
+    {
+        let head = self.next_head(alloc, fields)?;
+        let field = fields.next_field().ok_or(LineError::Refused)?;
+        let event = PlannedEvent::Prepare {
+            parent: head.parent,
+            block: self.names.len(),
+            decision: decision(field).ok_or(LineError::Refused)?,
+        };
+        self.read_build(alloc, head, fields, event)
+    }
+
+    #[tactic(auto, unfolding(crate::specs::Lines::propose_line))]
+    fn read_propose(&mut self, alloc: Global, fields: &mut Cursor<'_>) -> Result<(), LineError>
+        ensures { Becomes result (propose_line self.old (fields_left fields.old)) self.new }
+    {
+        let head = self.next_head(alloc, fields)?;
+        let event = PlannedEvent::Propose {
+            parent: head.parent,
+            block: self.names.len(),
+        };
+        self.read_build(alloc, head, fields, event)
+    }
+
+    #[tactic(auto, unfolding(crate::specs::Lines::event_line))]
+    fn read_event(
+        &mut self,
+        alloc: Global,
+        word: &[u8],
+        fields: &mut Cursor<'_>,
+    ) -> Result<(), LineError>
+        ensures { Becomes result (event_line self.old word.now (fields_left fields.old)) self.new }
+    {
+        let event = self.parse_event(alloc, word, fields)?;
+        if !is_at_end(fields) {
+            return Err(LineError::Refused);
+        }
+        self.push_event(event)
+    }
+
+    /// Reads a line behind its first word.
+    #[tactic(auto, unfolding(crate::specs::Lines::line_by))]
+    fn read_fields(
+        &mut self,
+        alloc: Global,
+        word: &[u8],
+        fields: &mut Cursor<'_>,
+    ) -> Result<(), LineError>
+        ensures { Becomes result (line_by self.old word.now (fields_left fields.old)) self.new }
+    {
+        if word == b"world".as_slice() {
+            self.read_world(fields)
+        } else if word == b"block".as_slice() {
+            self.read_block(alloc, fields)
+        } else if word == b"prepare".as_slice() {
+            self.read_prepare(alloc, fields)
+        } else if word == b"propose".as_slice() {
+            self.read_propose(alloc, fields)
+        } else {
+            self.read_event(alloc, word, fields)
         }
     }
 
     /// Reads one line more, without its LF.
-    #[tactic(auto, unfolding(crate::specs::Script::read_line))]
+    #[tactic(auto, unfolding(crate::specs::Lines::read_line, crate::specs::Lines::line_of))]
     fn read_line(&mut self, alloc: Global, text: &[u8]) -> Result<(), LineError>
-        ensures { MatchResult result (λ _. read_line self.old text.now ≡ Some self.new)
-            (λ e. Refuses e (read_line self.old text.now)) }
+        ensures { Becomes result (read_line self.old text.now) self.new }
     {
-        self.record_line(alloc, parse_line(alloc, text)?)
+        if !all_ascii(text) {
+            return Err(LineError::Refused);
+        }
+        if text.is_empty() || text[0] == b'#' {
+            return Ok(());
+        }
+        let mut fields = Cursor::new(text);
+        match fields.next_field() {
+            Some(word) => self.read_fields(alloc, word, &mut fields),
+            None => Err(LineError::Refused),
+        }
     }
 }
 

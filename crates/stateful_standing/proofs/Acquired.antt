@@ -30,21 +30,21 @@ use Rattle.stateful_standing.proofs.AdvanceStands.{All-front}
 use Rattle.stateful_standing.proofs.Advanced.{Serves-advances}
 use Rattle.stateful_standing.proofs.AskStands.{TablesStand-asks}
 use Rattle.stateful_standing.proofs.Asking.{IsRequestOf-calm}
-use Rattle.stateful_standing.proofs.Putting.{put_other}
+use Rattle.stateful_standing.proofs.Putting.{All-put, put_other}
 use Rattle.stateful_standing.proofs.Served.{unbrought, Serves, Serves-concludes, Serves-put}
 
 -- the missing blocks and the end of a walk begin with the first block that was walked from
-first_walked : {B : Type 0} (missing : List (Named B)) (last : Named B) (rest : List (Named B)) (first : Named B) (more : List (Named B)) → first ∷ more ≡ missing ++ last ∷ rest → first_or last missing ≡ first
+pub first_walked : {B : Type 0} (missing : List (Named B)) (last : Named B) (rest : List (Named B)) (first : Named B) (more : List (Named B)) → first ∷ more ≡ missing ++ last ∷ rest → first_or last missing ≡ first
 first_walked [] last rest first more is = search
 first_walked (x ∷ missing) last rest first more is = search
 
 module _ {B : Type 0} (header : Header B) where
-  leads_down : (bs : List (Named B)) → Descends header bs → LeadsDown header bs
+  pub leads_down : (bs : List (Named B)) → Descends header bs → LeadsDown header bs
   leads_down [] d = tt
   leads_down (b ∷ []) d = tt
   leads_down (b ∷ c ∷ bs) d = (d.0.0, d.1)
 
-  leads_from : (b : Named B) (missing : List (Named B)) (last : Named B) → (first_or last missing).digest ≡ header.parent b.block → Descends header (missing ++ last ∷ []) → LeadsDown header (b ∷ (missing ++ last ∷ []))
+  pub leads_from : (b : Named B) (missing : List (Named B)) (last : Named B) → (first_or last missing).digest ≡ header.parent b.block → Descends header (missing ++ last ∷ []) → LeadsDown header (b ∷ (missing ++ last ∷ []))
   leads_from b [] last child d = (child, d)
   leads_from b (x ∷ missing) last child d = (child, d)
 
@@ -96,7 +96,13 @@ module _ {B C I P R D H G U : Type 0} (w : Workings B C I P R D H G U) (stored :
   -- a block is asked for, for it
   Serves-asks : (digest : Digest) (now : Moment w) → Becomes w m (record (moved m.state t r (Fetching m.state.next_fetch)) { next_fetch = m.state.next_fetch + 1 }) (Asked m.state.next_fetch (Some t) digest ∷ []) now → Serves w stored p points point m t now
   Serves-asks digest now is = rw is (record {
-    behind = record { more = _; marks_are = refl; members_are = refl; stands = TablesStand-asks w stored p points point m.next m.state t s r hand met digest };
+    behind = record {
+      more = _;
+      marks_are = refl;
+      members_are = refl;
+      stands = TablesStand-asks w stored p points point m.next m.state t s r hand met digest;
+      waiting = λ h. All-put (λ (e : ℕ × Requested B C I). e.1.phase ≡ Waiting → Abstains (setting w stored) e.0 p (first_of e.1.request)) m.state.requests t _ h (λ is. absurd (cc));
+    };
     met = λ b. unbrought (setting w stored) p (Made (Asked m.state.next_fetch (Some t) digest)) b (λ no. no);
     drawn = λ d. d;
     abstains = λ u b a. a;
@@ -115,7 +121,7 @@ module _ {B C I P R D H G U : Type 0} (w : Workings B C I P R D H G U) (stored :
   Serves-acquires now (invalid needs concludes) = Serves-concludes w stored p points point m s t r hand verdict.Invalid now concludes
   Serves-acquires now (asks digest needs left becomes) = Serves-asks digest now becomes
   Serves-acquires now (waits needs becomes) =
-      Serves-put w stored p points point m s t r hand Waiting now met (waits-IsVerification w stored p m.state.anchor m.state.cache held r.request r.acquired needs, abstains needs) becomes
+      Serves-put w stored p points point m s t r hand Waiting now met (waits-IsVerification w stored p m.state.anchor m.state.cache held r.request r.acquired needs) (λ is. abstains needs) becomes
   Serves-acquires now (runs {path = path} needs advances) =
       Serves-advances w stored p points point m s t (requested r.request) hand names other_states located drawn (All-nil (Met (setting w stored) p)) path now
       (IsWayOf-ready w stored p m.state.anchor m.state.cache held r.request r.acquired path hand.brought met needs) advances

@@ -1,5 +1,5 @@
 -- A request in hand goes along its path.
-use Rattle.std.proofs.Common.{◌≡◌, ℕ, List, [], ◌∷◌, All, Option, Some, None, MatchOption, refl}
+use Rattle.std.proofs.Common.{◌≡◌, inl, ℕ, List, [], ◌∷◌, All, Option, Some, None, MatchOption, refl}
 use Rattle.stateful_types.specs.Names.{Named}
 use Rattle.stateful_types.specs.declared.digest.Digest.{Digest}
 use Rattle.stateful_history.specs.Past.{Past}
@@ -46,12 +46,12 @@ module _ {B C I P R D H G U : Type 0} (w : Workings B C I P R D H G U) (stored :
     Serves-advances path now way (leaves reaches off concludes) = Serves-concludes w stored p points point m s t r hand _ now concludes
     Serves-advances path now way (joins {left = left} {b = b} {parent = parent} j reaches on unknown has becomes) =
         Serves-put w stored p points point m s t r hand (Executing j (record { blocks = left; parent = b })) now met
-        (run_is b j (reached_met w stored p m.state r.request path way left b parent reaches) has, reached_way w stored p m.state r.request path way left b parent reaches) becomes
+        (run_is b j (reached_met w stored p m.state r.request path way left b parent reaches) has, reached_way w stored p m.state r.request path way left b parent reaches) (λ is. absurd (cc)) becomes
     Serves-advances path now way (starts {left = left} {b = b} {parent = parent} reaches on unknown unrun known launches) =
         Serves-launches w stored p points point m s t r hand now launches
         (rw launches.state (TablesStand-launches w stored p points point m.next now.next m.state launches.running s other_states m.members located drawn b parent launches.starts
         (reached_met w stored p m.state r.request path way left b parent reaches) (reached_parent_met w stored p m.state r.request path way left b parent reaches)
-        (reached_child w stored p m.state r.request path way left b parent reaches) known unrun t r hand met left (reached_way w stored p m.state r.request path way left b parent reaches)))
+        (reached_child w stored p m.state r.request path way left b parent reaches) known (λ is. unknown (inl is)) unrun t r hand met left (reached_way w stored p m.state r.request path way left b parent reaches)))
     Serves-advances path now way (misses reaches on unknown unrun known concludes) = Serves-concludes w stored p points point m s t r hand _ now concludes
 
     -- the tables stand behind a request that goes along its path

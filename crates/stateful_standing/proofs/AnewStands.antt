@@ -1,5 +1,5 @@
 -- The tables stand behind the requests that acquire anew what they need.
-use Rattle.std.proofs.Common.{◌≡◌, ◌≢◌, ◌++◌, ◌∙◌, ap, not, ℕ, arith, get_or, false, List, [], ◌∷◌, All, AllPairs, Option, Some, refl, sym}
+use Rattle.std.proofs.Common.{◌≡◌, ◌≢◌, ◌++◌, ◌∙◌, ap, subst, not, ℕ, arith, get_or, true, false, List, [], ◌∷◌, All, AllPairs, Option, Some, refl, sym}
 use Rattle.std.specs.Map.{keys_of}
 use Rattle.std.specs.List.Sorted.{IsStrictlySortedBy}
 use Rattle.std.specs.Ordering.{nat_cmp}
@@ -17,7 +17,7 @@ use Rattle.stateful_table.specs.Table.{at}
 use Rattle.stateful_exec.specs.Ending.{InTurn}
 use Rattle.stateful_exec.specs.Moments.{Moment}
 use Rattle.stateful_exec.specs.Pausing.{AcquiresAnew, Resumes, unparked, unsettled}
-use Rattle.stateful_exec.specs.Phase.{is_unacquired, unacquired_in}
+use Rattle.stateful_exec.specs.Phase.{is_unacquired, unacquired_in, not_unacquired}
 use Rattle.stateful_exec.specs.Rules.{requested, Needs}
 use Rattle.stateful_exec.specs.Workings.{Workings, Point}
 use Rattle.stateful_exec.specs.declared.pause.Pause.TheVariants.{Free}
@@ -25,7 +25,7 @@ use Rattle.stateful_exec.specs.declared.request.Request.{Request}
 use Rattle.stateful_exec.specs.declared.tables.Requested.{Requested}
 use Rattle.stateful_exec.specs.declared.walk.Acquired.TheVariants as acquired
 use Rattle.stateful_standing.specs.Setting.{setting}
-use Rattle.stateful_standing.specs.Requesting.{first_of, IsStanding}
+use Rattle.stateful_standing.specs.Requesting.{AllAbstain, first_of, IsStanding}
 use Rattle.stateful_standing.specs.Standing.{TablesStand, StandsBehind}
 use Rattle.stateful_standing.proofs.Acquired.{Serves-acquires}
 use Rattle.stateful_standing.proofs.EarnedLeft.{LeavesBehind-acquires}
@@ -37,7 +37,7 @@ use Rattle.stateful_standing.proofs.ResumeStands.{AreServed-along}
 use Rattle.stateful_standing.proofs.Served.{Serves}
 
 -- entries of a table are of different numbers
-entries_apart : {V : Type 0} (es : List (ℕ × V)) → IsStrictlySortedBy nat_cmp (keys_of es) → AllPairs (λ e f. e.0 ≢ f.0) es
+pub entries_apart : {V : Type 0} (es : List (ℕ × V)) → IsStrictlySortedBy nat_cmp (keys_of es) → AllPairs (λ e f. e.0 ≢ f.0) es
 entries_apart [] sorted = λ i j d lt within. let no : ⊥ = omega (arith, within) in absurd no
 entries_apart {V = V} (e ∷ es) sorted = AllPairs-cons (λ (e f : ℕ × V). e.0 ≢ f.0) e es
     (λ k d l. below_apart e.0 (get_or es k d).0 (at_below e.0 es (get_or es k d).0 (get_or es k d).1 (sorted_head nat_cmp e.0 (keys_of es) sorted) (each_at es (sorted_tail nat_cmp e.0 (keys_of es) sorted) k d l)))
@@ -67,7 +67,7 @@ module _ {B C I P R D H G U : Type 0} (w : Workings B C I P R D H G U) (stored h
 
   module _ (p : Past B C I) (m : Moment w) (s : TablesStand w stored p points point m.next m.state) (may : All (MayWait p (unsettled w m)) (unacquired_in m.state.requests)) where
     -- they are taken out, and in hand
-    out : All (IsFit w stored points point ticket_at request_at MayWait p (unsettled w m)) (unacquired_in m.state.requests)
+    pub out : All (IsFit w stored points point ticket_at request_at MayWait p (unsettled w m)) (unacquired_in m.state.requests)
     out = λ k d l.
         let e = get_or (unacquired_in m.state.requests) k d in
         let unacquired = filter_passes (λ (x : ℕ × Requested B C I). is_unacquired x.1.phase) m.state.requests k d l in
@@ -98,19 +98,36 @@ module _ {B C I P R D H G U : Type 0} (w : Workings B C I P R D H G U) (stored h
         })
         out (AllPairs-filter (λ (e f : ℕ × Requested B C I). e.0 ≢ f.0) (λ e. is_unacquired e.1.phase) m.state.requests (entries_apart m.state.requests s.requests.ascending)) rules
 
+  -- The tables stand behind a resume, and each request that waits abstains.
+  pub record IsResumed (p : Past B C I) (m now : Moment w) : Type 0 where
+    pub behind : StandsBehind w stored p points point m now
+    pub abstain : AllAbstain w stored (after p behind.more) now.state.requests
+
+  -- no request waits where those are taken out that are to acquire anew what they need
+  none_waits : (p : Past B C I) (requests : List (ℕ × Requested B C I)) → AllAbstain w stored p (not_unacquired requests)
+  none_waits p requests k d l is =
+      let stays : not (is_unacquired (get_or (not_unacquired requests) k d).1.phase) ≡ true = filter_passes (λ (x : ℕ × Requested B C I). not (is_unacquired x.1.phase)) requests k d l in
+      let no : not true ≡ true = subst (λ phase. not (is_unacquired phase) ≡ true) is stays in absurd (cc)
+
   -- The tables stand behind a resume: where they stand without a pause, and what would have to wait in the middle of it waits for
   -- nothing that was begun.
-  pub StandsBehind-resumes : (p : Past B C I) (m now : Moment w) → TablesStand w stored p points point m.next (record m.state { pause = Free }) → TrueNames (setting w stored) p → w.kind.point m.members ≡ Some point → w.kind.issued m.next (point ∷ [])
+  pub IsResumed-by : (p : Past B C I) (m now : Moment w) → TablesStand w stored p points point m.next (record m.state { pause = Free }) → TrueNames (setting w stored) p → w.kind.point m.members ≡ Some point → w.kind.issued m.next (point ∷ [])
       → (r : Resumes w held m now) → ((first : AreServed w stored points point p (unparked w m) r.mid) → All (MayWait (after p first.behind.more) (unsettled w r.mid)) (unacquired_in r.mid.state.requests))
-      → StandsBehind w stored p points point m now
-  StandsBehind-resumes p m now s names located drawn r may =
+      → IsResumed p m now
+  IsResumed-by p m now s names located drawn r may =
       let first = AreServed-along w stored points point other_states p m s names located drawn r.mid r.along in
       let q = after p first.behind.more in
       let ready = first.ready in
       let second = AreServed-anew q r.mid ready.stands (may first) ready.names ready.located ready.drawn now r.anew in
+      let abstain : AllAbstain w stored (after p (first.behind.more ++ second.behind.more)) now.state.requests =
+      rw (after-append p first.behind.more second.behind.more) (second.behind.waiting (none_waits q r.mid.state.requests)) in
       record {
-        more = first.behind.more ++ second.behind.more;
-        marks_are = second.behind.marks_are ∙ ap (λ marks. marks ++ second.behind.more) first.behind.marks_are ∙ append_assoc m.marks first.behind.more second.behind.more;
-        members_are = second.behind.members_are ∙ first.behind.members_are;
-        stands = rw (after-append p first.behind.more second.behind.more) second.behind.stands;
+        behind = record {
+          more = first.behind.more ++ second.behind.more;
+          marks_are = second.behind.marks_are ∙ ap (λ marks. marks ++ second.behind.more) first.behind.marks_are ∙ append_assoc m.marks first.behind.more second.behind.more;
+          members_are = second.behind.members_are ∙ first.behind.members_are;
+          stands = rw (after-append p first.behind.more second.behind.more) second.behind.stands;
+          waiting = λ any. abstain;
+        };
+        abstain = abstain;
       }

@@ -54,7 +54,7 @@ module _ {B C I P R D H G U : Type 0} (w : Workings B C I P R D H G U) (stored :
       let e = get_or old.requests k x in
       let stands = s.requests.each k x l in
       IsStanding-calm w stored p (Made (Asked old.next_fetch (Some t) d)) old.runs e.0 e.1 (record { live = refl; verified = refl; proposed = refl })
-      (λ g is. asked-LeavesFetch p old.next_fetch t d g (let h = subst (λ phase. IsInPhase w stored p old.runs e.0 e.1.request phase) is stands.phase in earlier g (Some e.0) h.1)) (λ a. a) stands
+      (λ g is. asked-LeavesFetch p old.next_fetch t d g (let h = subst (λ phase. IsInPhase w stored p old.runs e.0 e.1.request phase) is stands.phase in earlier g (Some e.0) h.1)) stands
 
   own : IsStanding w stored given old.runs t now
   own = record {

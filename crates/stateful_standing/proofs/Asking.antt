@@ -7,7 +7,6 @@ use Rattle.stateful_history.specs.Met.{Met}
 use Rattle.stateful_history.specs.Live.{live_fetch, live_ticket}
 use Rattle.stateful_history.specs.Asked.{asked_for, verified}
 use Rattle.stateful_history.specs.Requests.{proposed}
-use Rattle.stateful_history.specs.Fetches.{Abstains}
 use Rattle.stateful_exec.specs.Path.{Path}
 use Rattle.stateful_exec.specs.Workings.{Workings}
 use Rattle.stateful_exec.specs.declared.request.Request.{Request}
@@ -17,7 +16,7 @@ use Rattle.stateful_exec.specs.declared.tables.Phase.{Phase}
 use Rattle.stateful_exec.specs.declared.tables.Phase.TheVariants.{Open, Fetching, Waiting, Executing, Parked}
 use Rattle.stateful_exec.specs.declared.tables.Requested.{Requested}
 use Rattle.stateful_standing.specs.Setting.{setting}
-use Rattle.stateful_standing.specs.Requesting.{first_of, brought_by, steps, IsRequestOf, IsWayOf, IsInPhase, IsStanding}
+use Rattle.stateful_standing.specs.Requesting.{brought_by, steps, IsRequestOf, IsWayOf, IsInPhase, IsStanding}
 
 -- the item changes nothing of a ticket
 pub record LeavesTicket {B C I : Type 0} (p : Past B C I) (x : Item B C I) (t : ℕ) : Type 0 where
@@ -42,23 +41,21 @@ module _ {B C I P R D H G U : Type 0} (w : Workings B C I P R D H G U) (stored :
     begins = h.begins;
   }
 
-  module _ (runs : List (ℕ × LiveRun B R)) (t : ℕ) (request : Request B C I)
-      (abstains : Abstains (setting w stored) t p (first_of request) → Abstains (setting w stored) t (x ∷ p) (first_of request)) where
+  module _ (runs : List (ℕ × LiveRun B R)) (t : ℕ) (request : Request B C I) where
     IsInPhase-calm : (phase : Phase B) → ((f : ℕ) → phase ≡ Fetching f → LeavesFetch p x f) → IsInPhase w stored p runs t request phase → IsInPhase w stored (x ∷ p) runs t request phase
     IsInPhase-calm Open fetch h = tt
     IsInPhase-calm (Fetching f) fetch h = let same = fetch f refl in (same.live ∙ h.0, same.asked ∙ h.1)
-    IsInPhase-calm Waiting fetch h = (h.0, abstains h.1)
+    IsInPhase-calm Waiting fetch h = h
     IsInPhase-calm (Executing j path) fetch h = (h.0, IsWayOf-calm request path h.1)
     IsInPhase-calm (Parked path) fetch h = IsWayOf-calm request path h
 
   -- a request stands for the longer past
   pub IsStanding-calm : (runs : List (ℕ × LiveRun B R)) (t : ℕ) (r : Requested B C I) → LeavesTicket p x t → ((f : ℕ) → r.phase ≡ Fetching f → LeavesFetch p x f)
-      → (Abstains (setting w stored) t p (first_of r.request) → Abstains (setting w stored) t (x ∷ p) (first_of r.request))
       → IsStanding w stored p runs t r → IsStanding w stored (x ∷ p) runs t r
-  IsStanding-calm runs t r ticket fetch abstains h = record {
+  IsStanding-calm runs t r ticket fetch h = record {
     own = h.own;
     asked = IsRequestOf-calm t r.request ticket h.asked;
     brought = All-weaker (Met (setting w stored) p) (Met (setting w stored) (x ∷ p)) (λ b m. inr m) (brought_by r.request) h.brought;
     met = All-weaker (Met (setting w stored) p) (Met (setting w stored) (x ∷ p)) (λ b m. inr m) r.acquired h.met;
-    phase = IsInPhase-calm runs t r.request abstains r.phase fetch h.phase;
+    phase = IsInPhase-calm runs t r.request r.phase fetch h.phase;
   }

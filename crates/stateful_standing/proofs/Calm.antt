@@ -37,7 +37,7 @@ pub record LeavesJob {B C I : Type 0} (p : Past B C I) (x : Item B C I) (j : ℕ
   pub turns : turns j (x ∷ p) ≡ turns j p
 
 module _ {B C I S T : Type 0} (s : Setting B S T) where
-  later-moved : (p q : Past B C I) (b : Named B) → tip_of s.header q ≡ tip_of s.header p → IsPastTip s p b → IsPastTip s q b
+  pub later-moved : (p q : Past B C I) (b : Named B) → tip_of s.header q ≡ tip_of s.header p → IsPastTip s p b → IsPastTip s q b
   later-moved p q b e l = subst (λ o. MatchOption o ⊥ (λ tip. IsLater tip.round (round_of s b))) (sym e) l
 
   -- a known block stays known
@@ -99,6 +99,7 @@ module _ {B C I P R D H G U : Type 0} (w : Workings B C I P R D H G U) where
           IsRunning-calm j run same h = record {
             job = record { live = same.live ∙ h.job.live; is = same.started ∙ h.job.is };
             met = inr h.met;
+            other = h.other;
             parent = h.parent;
             parent_met = inr h.parent_met;
             parent_is = h.parent_is;
@@ -115,6 +116,7 @@ module _ {B C I P R D H G U : Type 0} (w : Workings B C I P R D H G U) where
           -- the live runs stand for the longer past
           pub RunsStand-calm : ((j : ℕ) → LeavesJob p x j) → (runs : List (ℕ × LiveRun B R)) → RunsStand w stored p points next anchor cache runs → RunsStand w stored (x ∷ p) points next anchor cache runs
           RunsStand-calm jobs runs h = record {
+            ascending = h.ascending;
             each = All-weaker (λ (e : ℕ × LiveRun B R). IsRunning w stored p points next anchor cache e.0 e.1) (λ e. IsRunning w stored (x ∷ p) points next anchor cache e.0 e.1) (λ e r. IsRunning-calm e.0 e.1 (jobs e.0) r) runs h.each;
             apart = h.apart;
             complete = λ j d live. let same = jobs j in h.complete j d (record { live = sym same.live ∙ live.live; is = sym same.started ∙ live.is });

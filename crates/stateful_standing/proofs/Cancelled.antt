@@ -128,7 +128,7 @@ module _ {B C I P R D H G U : Type 0} (w : Workings B C I P R D H G U) (stored :
         others = λ k d l ne.
             let e = get_or old.requests k d in
             IsStanding-calm w stored given (Made (Withdrawn f)) old.runs e.0 e.1 (record { live = refl; verified = refl; proposed = refl })
-            (λ g is. withdrawn-LeavesFetch g (other_fetch e.0 g e.1 ne is (s.requests.each k d l))) (λ a. a)
+            (λ g is. withdrawn-LeavesFetch g (other_fetch e.0 g e.1 ne is (s.requests.each k d l)))
             (others-cancelled w stored p t old.runs old.requests s.requests k d l ne)
 
         fetches : (g u : ℕ) → live_fetch g (Made (Withdrawn f) ∷ given) ≡ true → asked_for g (Made (Withdrawn f) ∷ given) ≡ Some (Some u) → MatchOption (at (without old.requests t) u) ⊥ (λ q. q.phase ≡ Fetching g)

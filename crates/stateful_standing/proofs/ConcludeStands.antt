@@ -18,7 +18,6 @@ use Rattle.stateful_exec.specs.declared.request.Verdict.TheVariants as verdict
 use Rattle.stateful_exec.specs.declared.request.Verdict.{Verdict as Verdicts}
 use Rattle.stateful_exec.specs.declared.state.Tables.{Tables}
 use Rattle.stateful_standing.specs.Setting.{setting}
-use Rattle.stateful_standing.specs.Requesting.{first_of}
 use Rattle.stateful_standing.specs.Standing.{TablesStand, IsInHand}
 use Rattle.stateful_standing.proofs.Calm.{IsCalm, LeavesJob, CacheStands-calm, RunsStand-calm}
 use Rattle.stateful_standing.proofs.Asking.{LeavesTicket, LeavesFetch, IsStanding-calm}
@@ -63,7 +62,7 @@ module _ {B C I P R D H G U : Type 0} (w : Workings B C I P R D H G U) (stored :
       ascending = s.requests.ascending;
       each = λ k d l.
           let e = get_or old.requests k d in
-          IsStanding-calm w stored p x old.runs e.0 e.1 (tells.tickets e.0 (none_at old.requests t absent k d l)) (λ f is. tells.fetches f) (tells.abstains e.0 (first_of e.1.request)) (s.requests.each k d l);
+          IsStanding-calm w stored p x old.runs e.0 e.1 (tells.tickets e.0 (none_at old.requests t absent k d l)) (λ f is. tells.fetches f) (s.requests.each k d l);
       fetches = λ f u live asked. s.requests.fetches f u (sym (tells.fetches f).live ∙ live) (sym (tells.fetches f).asked ∙ asked);
       wanted = s.requests.wanted;
     };

@@ -7,7 +7,6 @@ use Rattle.stateful_history.specs.Met.{Met}
 use Rattle.stateful_history.specs.Past.{Past}
 use Rattle.stateful_cache.specs.Cache.{IsAtHand}
 use Rattle.stateful_exec.specs.Moments.{Moment}
-use Rattle.stateful_exec.specs.Path.{Path}
 use Rattle.stateful_exec.specs.Rules.{Needs, Concludes, Acquires, valid, invalid, asks, waits, runs, requested}
 use Rattle.stateful_exec.specs.Walk.{IsNeeded, child, IsVerified, IsPrepared}
 use Rattle.stateful_exec.specs.Walk as walk
@@ -21,6 +20,7 @@ use Rattle.stateful_standing.specs.Setting.{setting}
 use Rattle.stateful_standing.specs.Requesting.{first_of, IsRequestOf}
 use Rattle.stateful_standing.specs.Standing.{TablesStand, IsInHand}
 use Rattle.stateful_standing.proofs.Acquired.{IsWayOf-ready}
+use Rattle.stateful_standing.proofs.ReadyWalks.{ready-at_hand}
 use Rattle.stateful_standing.proofs.EarnedPath.{IsFolded}
 use Rattle.stateful_standing.proofs.EarnedJudged.{IsStoredNow, Earned-judged}
 use Rattle.stateful_standing.proofs.EarnedMarks.{EarnsBehind, IsTrue, concludes-Earned, concludes-invalid, advances-Earned}
@@ -41,17 +41,6 @@ module _ {B C I P R D H G U : Type 0} (w : Workings B C I P R D H G U) (stored :
   valid-Earned r now asked (Verify u ancestry) is needs concludes = concludes-Earned w stored base p points point m s t r asked now (subst (λ (x : Request B C I). IsTrue w stored base p (first_of x)) (sym is) (verified-Earned needs)) concludes
   valid-Earned r now asked (Recover u context ancestry input kind) is needs concludes = absurd needs
 
-  -- a path that is ready goes down to a block at hand
-  needed-at_hand : {b : Named B} {chain : List (Named B)} {path : Path B} → IsNeeded w.header m.state.anchor m.state.cache b chain (acquired.Ready path) → IsAtHand m.state.anchor m.state.cache path.parent.digest
-  needed-at_hand (child e is walks) = walks.4
-
-  verified-at_hand : {b : Named B} {chain : List (Named B)} {path : Path B} → IsVerified w.header m.state.anchor m.state.cache stored_now b chain (acquired.Ready path) → IsAtHand m.state.anchor m.state.cache path.parent.digest
-  verified-at_hand (walk.runs judged needed) = needed-at_hand needed
-
-  ready-at_hand : (r : Request B C I) (found : List (Named B)) (path : Path B) → IsPrepared w.header m.state.anchor m.state.cache stored_now r found (acquired.Ready path) → IsAtHand m.state.anchor m.state.cache path.parent.digest
-  ready-at_hand (Verify u ancestry) found path needs = verified-at_hand needs
-  ready-at_hand (Recover u context ancestry input kind) found path needs = needs.4
-
   -- each mark of a request that acquires what it needs keeps the rule
   pub acquires-Earned : (r : Requested B C I) (now : Moment w) → IsInHand w stored p t r.request m.state → All (Met (setting w stored) p) r.acquired → Acquires w stored_now m t r now → EarnsBehind w stored base p m now
   acquires-Earned r now hand met (valid needs concludes) = valid-Earned r now hand.asked r.request refl needs concludes
@@ -60,4 +49,4 @@ module _ {B C I P R D H G U : Type 0} (w : Workings B C I P R D H G U) (stored :
   acquires-Earned r now hand met (waits needs becomes) = rw becomes (record { more = []; marks_are = refl; each = tt })
   acquires-Earned r now hand met (runs {path = path} needs advances) =
       advances-Earned w stored base p points point m s t (requested r.request) hand.asked m.state.anchor folded path now
-      (λ b b_met passed. knows b.digest passed.1) (λ none. let here = ready-at_hand r.request r.acquired path needs in (knows path.parent.digest here, here)) (IsWayOf-ready w stored p m.state.anchor m.state.cache stored_now r.request r.acquired path hand.brought met needs) advances
+      (λ b b_met passed. knows b.digest passed.1) (λ none. let here = ready-at_hand w.header m.state.anchor m.state.cache stored_now r.request r.acquired path needs in (knows path.parent.digest here, here)) (IsWayOf-ready w stored p m.state.anchor m.state.cache stored_now r.request r.acquired path hand.brought met needs) advances

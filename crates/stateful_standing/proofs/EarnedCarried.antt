@@ -26,13 +26,13 @@ IsMild (Pruned marshal target) = ⊥
 IsMild mark = Unit {0}
 
 -- behind such a mark all is as before it
-record IsAsBefore {B C I : Type 0} (header : Header B) (p : Past B C I) (mark : Mark B) : Type 0 where
-  anchor : anchor_of header (Made mark ∷ p) ≡ anchor_of header p
-  tip : tip_of header (Made mark ∷ p) ≡ tip_of header p
-  blocks : applied (Made mark ∷ p) ≡ applied p
-  pruned : pruned_below (Made mark ∷ p) ≡ pruned_below p
+pub record IsAsBefore {B C I : Type 0} (header : Header B) (p : Past B C I) (mark : Mark B) : Type 0 where
+  pub anchor : anchor_of header (Made mark ∷ p) ≡ anchor_of header p
+  pub tip : tip_of header (Made mark ∷ p) ≡ tip_of header p
+  pub blocks : applied (Made mark ∷ p) ≡ applied p
+  pub pruned : pruned_below (Made mark ∷ p) ≡ pruned_below p
 
-as_before : {B C I : Type 0} (header : Header B) (p : Past B C I) (mark : Mark B) → IsMild mark → IsAsBefore header p mark
+pub as_before : {B C I : Type 0} (header : Header B) (p : Past B C I) (mark : Mark B) → IsMild mark → IsAsBefore header p mark
 as_before header p (Opened anchor) mild = absurd mild
 as_before header p (Converged anchor) mild = absurd mild
 as_before header p (Began t b) mild = absurd mild

@@ -109,6 +109,6 @@ module _ {B C I P R D H G U : Type 0} (w : Workings B C I P R D H G U) (stored :
   IsClosedBy-ended Free after new ended how s closed told crosses = subst (λ (x : Pause). IsClosedBy x anchor new) (sym crosses) tt
   IsClosedBy-ended Pruning after new ended how s closed told crosses = subst (λ (x : Pause). IsClosedBy x anchor new) (sym crosses) tt
 
--- a finalization that goes on is one of a later round than the anchor, and what is cached and goes on is compatible with it
-pub IsClosedBy-finalizes : {B C I P R D H G U : Type 0} (w : Workings B C I P R D H G U) (stored : ℕ → Option (Named B)) (p : Past B C I) (anchor : Anchor) (cache : List (Cached U)) (boundary : Boundary) → Finalizes w stored p anchor cache boundary → IsClosedBy (Finalizing boundary) anchor cache
-IsClosedBy-finalizes w stored p anchor cache boundary f = (f.closed, f.behind)
+-- what is cached and goes on over a finalization, of a later round than the anchor, is compatible with it
+pub IsClosedBy-finalizes : {B C I P R D H G U : Type 0} (w : Workings B C I P R D H G U) (stored : ℕ → Option (Named B)) (p : Past B C I) (anchor : Anchor) (cache : List (Cached U)) (boundary : Boundary) → IsLater anchor.round boundary.round → Finalizes w stored p anchor cache boundary → IsClosedBy (Finalizing boundary) anchor cache
+IsClosedBy-finalizes w stored p anchor cache boundary later f = (f.closed, later)

@@ -39,12 +39,18 @@ cond_same f false o = refl
 abbrev pub IsStoredNow : {B C I : Type 0} → (ℕ → Option (Named B)) → Past B C I → (ℕ → Option (Named B)) → Type 0
 IsStoredNow stored p stored_now = (h : ℕ) → stored_now h ≡ (if nat_lt h (pruned_below p) then None else stored h)
 
+nat_lt-not_below : (a b : ℕ) → b < a → nat_lt a b ≡ false
+nat_lt-not_below a b l = grind (arith, common_steps)
+
 module _ {B C I S T : Type 0} (s : Setting B S T) (p : Past B C I) (anchor : Anchor) where
   canonical_by-at : (n : ℕ) → n ≡ anchor.height.0 → canonical_by s p n (Some anchor) (Some anchor) ≡ Some anchor.digest
   canonical_by-at n e = rw (nat_eq-same anchor.height.0 n (sym e)) refl
 
   canonical_by-below : (n : ℕ) → n < anchor.height.0 → canonical_by s p n (Some anchor) (Some anchor) ≡ kept_at s p n
   canonical_by-below n l = let ne : anchor.height.0 ≢ n = omega arith in rw (nat_eq-other anchor.height.0 n ne, nat_lt-below n anchor.height.0 l) refl
+
+  canonical_by-above : (n : ℕ) → anchor.height.0 < n → canonical_by s p n (Some anchor) (Some anchor) ≡ None
+  canonical_by-above n l = let ne : anchor.height.0 ≢ n = omega arith in rw (nat_eq-other anchor.height.0 n ne, nat_lt-not_below n anchor.height.0 l) refl
 
   module _ (anchor_is : anchor_of s.header p ≡ Some anchor) (tip_is : tip_of s.header p ≡ Some anchor) where
     canonical-by : (n : ℕ) → canonical s p n ≡ canonical_by s p n (Some anchor) (Some anchor)
@@ -53,6 +59,10 @@ module _ {B C I S T : Type 0} (s : Setting B S T) (p : Past B C I) (anchor : Anc
     -- at the anchor's height the anchor is final
     pub canonical-at : (n : ℕ) → n ≡ anchor.height.0 → canonical s p n ≡ Some anchor.digest
     canonical-at n e = canonical-by n ∙ canonical_by-at n e
+
+    -- above it none is
+    pub canonical-above : (n : ℕ) → anchor.height.0 < n → canonical s p n ≡ None
+    canonical-above n l = canonical-by n ∙ canonical_by-above n l
 
     -- below it what the store still has
     pub canonical-below : (stored_now : ℕ → Option (Named B)) → IsStoredNow s.stored p stored_now → (n : ℕ) (c : Named B) → n < anchor.height.0 → stored_now n ≡ Some c → canonical s p n ≡ Some c.digest

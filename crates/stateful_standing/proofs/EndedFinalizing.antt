@@ -1,5 +1,5 @@
 -- The tables stand behind the end of a run while a finalization goes on.
-use Rattle.std.proofs.Common.{◌≡◌, ◌≢◌, ◌⊎◌, ◌↔◌, ◌<◌, length, inl, inr, ℕ, List, ◌∷◌, All, Contains, Option, Some, None, MatchOption, get_or, sym, ap, ◌∙◌, subst, arith}
+use Rattle.std.proofs.Common.{◌≡◌, ◌⊎◌, ◌↔◌, ◌<◌, length, inl, inr, ℕ, List, ◌∷◌, All, Contains, Option, Some, None, MatchOption, get_or, sym, ap, ◌∙◌, subst}
 use Rattle.std.proofs.lemmas.List.Elements.{Contains-get_or}
 use Rattle.stateful_types.specs.Names.{Named}
 use Rattle.stateful_types.specs.Round.{IsLater}
@@ -38,25 +38,16 @@ module _ {B C I P R D H G U : Type 0} (w : Workings B C I P R D H G U) (stored :
     pub is : block.digest ≡ d
     pub retained : IsRetained boundary (step_by w.header block)
 
-  -- A finalization goes on: its block is the tip, of a later round than the anchor; what is compatible is it and blocks that
-  -- go on over it, and each cached one that does is.
+  -- A finalization goes on: its block is the tip; what is compatible is it and blocks that go on over it, but not the anchor; and
+  -- each cached block that goes on over it is.
   pub record Finalizes (p : Past B C I) (anchor : Anchor) (cache : List (Cached U)) (boundary : Boundary) : Type 0 where
     pub tip : MatchOption (tip_of w.header p) ⊥ (λ t. (t.digest ≡ boundary.digest) × (t.round ≡ boundary.round))
-    pub behind : IsLater anchor.round boundary.round
+    pub other : Contains boundary.compatible anchor.digest → ⊥
     pub own : Contains boundary.compatible boundary.digest
     pub each : (d : Digest) → Contains boundary.compatible d → (d ≡ boundary.digest) ⊎ IsOver p boundary d
     pub closed : All (λ e. IsRetained boundary (step_in e) → Contains boundary.compatible e.digest) cache
 
-pub IsLater-after : (a b c : Round) → IsLater a b → IsLater b c → a ≡ c → ⊥
-IsLater-after a b c l m same = let same_epoch : a.epoch.0 ≡ c.epoch.0 = ap (λ (r : Round). r.epoch.0) same in let same_view : a.view.0 ≡ c.view.0 = ap (λ (r : Round). r.view.0) same in go l m same_epoch same_view
-  where
-    go : IsLater a b → IsLater b c → a.epoch.0 ≡ c.epoch.0 → a.view.0 ≡ c.view.0 → ⊥
-    go (inl l) (inl m) e v = omega arith
-    go (inl l) (inr m) e v = omega (arith, m.0)
-    go (inr l) (inl m) e v = omega (arith, l.0)
-    go (inr l) (inr m) e v = omega (arith, l.0, l.1, m.0, m.1)
-
-IsRetained-crossed : (old new : Boundary) (digest : Digest) (step : ExecutionStep) → Completes digest old new → IsRetained old step → IsRetained new step
+pub IsRetained-crossed : (old new : Boundary) (digest : Digest) (step : ExecutionStep) → Completes digest old new → IsRetained old step → IsRetained new step
 IsRetained-crossed old new digest step c r = record {
   other = λ e. r.other (e ∙ c.of);
   later = subst (λ (x : Round). IsLater x step.round) (sym c.round) r.later;
@@ -72,9 +63,6 @@ module _ {B C I P R D H G U : Type 0} (w : Workings B C I P R D H G U) (stored :
   abbrev own_step : ExecutionStep
   own_step = step_by w.header live.block
 
-  not_anchor : IsRetained boundary own_step → live.block.digest ≢ old.anchor.digest
-  not_anchor r e = IsLater-after old.anchor.round boundary.round (w.header.round live.block.block) f.behind r.later (sym (round live.block run.met e))
-
   -- an entry of the run's block is of its step
   same_step : (y : Cached U) → IsCached w stored p points next old.anchor y → y.digest ≡ live.block.digest → IsRetained boundary own_step → IsRetained boundary (step_in y)
   same_step y h is r =
@@ -87,7 +75,7 @@ module _ {B C I P R D H G U : Type 0} (w : Workings B C I P R D H G U) (stored :
 
   -- where the run's block is at hand and goes on, it is compatible
   pub own_compatible : IsRetained boundary own_step → IsAtHand old.anchor old.cache live.block.digest → Contains boundary.compatible live.block.digest
-  own_compatible r (inl e) = absurd (not_anchor r e)
+  own_compatible r (inl e) = absurd (run.other e)
   own_compatible r (inr (k, y, l, at, is)) =
       let h : IsCached w stored p points next old.anchor y = subst (λ (x : Cached U). IsCached w stored p points next old.anchor x) at (s.cache.each k y l) in
       let closed : IsRetained boundary (step_in y) → Contains boundary.compatible y.digest = subst (λ (x : Cached U). IsRetained boundary (step_in x) → Contains boundary.compatible x.digest) at (f.closed k y l) in
@@ -134,7 +122,7 @@ module _ {B C I P R D H G U : Type 0} (w : Workings B C I P R D H G U) (stored :
     pub Finalizes-crossed : (how : How) (cache : List (Cached U)) → All (λ e. IsRetained new (step_in e) → Contains new.compatible e.digest) cache → Finalizes w stored (Made (Ended j how) ∷ Came (Turn j) ∷ p) old.anchor cache new
     Finalizes-crossed how cache closed = record {
       tip = tip_crossed (tip_of w.header p) f.tip;
-      behind = subst (λ (x : Round). IsLater old.anchor.round x) (sym c.round) f.behind;
+      other = λ has. elim ((c.more old.anchor.digest).0 has) [ inl own ↦ run.other (sym own) | inr before ↦ f.other before ];
       own = (c.more new.digest).1 (inr (subst (λ (x : Digest). Contains boundary.compatible x) (sym c.of) f.own));
       each = λ d has. elim ((c.more d).0 has) [
         | inl own ↦ inr (record { block = live.block; met = inr (inr run.met); is = sym own; retained = IsRetained-crossed boundary new live.block.digest own_step c r })
@@ -150,7 +138,7 @@ module _ {B C I P R D H G U : Type 0} (w : Workings B C I P R D H G U) (stored :
   pub Finalizes-same : (how : How) (cache : List (Cached U)) → All (λ e. IsRetained boundary (step_in e) → Contains boundary.compatible e.digest) cache → Finalizes w stored (Made (Ended j how) ∷ Came (Turn j) ∷ p) old.anchor cache boundary
   Finalizes-same how cache closed = record {
     tip = f.tip;
-    behind = f.behind;
+    other = f.other;
     own = f.own;
     each = λ d has. elim (f.each d has) [ inl e ↦ inl e | inr over ↦ inr (record { block = over.block; met = inr (inr over.met); is = over.is; retained = over.retained }) ];
     closed = closed;

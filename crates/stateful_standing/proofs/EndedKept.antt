@@ -123,9 +123,9 @@ module _ {B C I P R D H G U : Type 0} (w : Workings B C I P R D H G U) (stored :
     own_in = Any-push (λ (c : Cached U). c.digest ≡ live.block.digest) old.cache entry refl
 
     -- behind the end of a run that is kept, whose block comes last in the cache, where the known blocks are those of the pause
-    pub IsLeftBy-added : (pause : Pause) → ((d : Digest) → Known (setting w stored) q d ↔ IsKnownBy pause old.anchor more d) → IsLeftBy w stored p point next old j live Kept more pause
+    pub IsLeftBy-added : (pause : Pause) → ((d : Digest) → Known (setting w stored) q d ↔ IsKnownBy pause old.anchor more d) → IsLeftBy w stored p point next old j live Kept points more pause
     IsLeftBy-added pause knows =
-        IsLeftBy-from w stored p points point next old s j live live_is Kept now more pause
+        IsLeftBy-from w stored p points point next old s j live live_is Kept now moves more pause
         (with_point-other points live.block.digest top old.anchor.digest (λ e. not_anchor (sym e)) ∙ s.at_anchor)
         (record {
           each = All-push (IsCached w stored q now next old.anchor) old.cache entry

@@ -1,5 +1,5 @@
 -- What is known behind the end of a run, and what its last turn says.
-use Rattle.std.proofs.Common.{◌≡◌, ◌⊎◌, ◌==◌, if◌then◌else◌, inl, inr, ℕ, [], ◌∷◌, Option, None, Some, Bool, true, false, refl, option_map, arith}
+use Rattle.std.proofs.Common.{◌≡◌, ◌⊎◌, ◌==◌, if◌then◌else◌, inl, inr, ℕ, [], ◌∷◌, Option, None, Some, Bool, true, false, refl, ap, option_map, arith}
 use Rattle.stateful_types.specs.Round.{IsLater}
 use Rattle.stateful_types.specs.declared.digest.Digest.{Digest}
 use Rattle.stateful_types.specs.declared.round.Round.{Round}
@@ -21,6 +21,16 @@ use Rattle.stateful_standing.proofs.Calm.{IsCalm, Known-calm, Known-before}
 pub IsLater-self : (r : Round) → IsLater r r → ⊥
 IsLater-self r (inl l) = omega arith
 IsLater-self r (inr l) = omega (arith, l.1)
+
+-- nor is a round that is later than a later one the same
+pub IsLater-after : (a b c : Round) → IsLater a b → IsLater b c → a ≡ c → ⊥
+IsLater-after a b c l m same = let same_epoch : a.epoch.0 ≡ c.epoch.0 = ap (λ (r : Round). r.epoch.0) same in let same_view : a.view.0 ≡ c.view.0 = ap (λ (r : Round). r.view.0) same in go l m same_epoch same_view
+  where
+    go : IsLater a b → IsLater b c → a.epoch.0 ≡ c.epoch.0 → a.view.0 ≡ c.view.0 → ⊥
+    go (inl l) (inl m) e v = omega arith
+    go (inl l) (inr m) e v = omega (arith, m.0)
+    go (inr l) (inl m) e v = omega (arith, l.0)
+    go (inr l) (inr m) e v = omega (arith, l.0, l.1, m.0, m.1)
 
 module _ {B S T : Type 0} (m : Meaning B S T) (t : S) (b : B) where
   -- a candidate that ends with states is acceptable, and leads to them

@@ -37,14 +37,14 @@ use Rattle.stateful_standing.proofs.EndedPoints.{same_or_not}
 use Rattle.stateful_standing.proofs.EndedStands.{IsLeftBy, running, started-own, IsLeftBy-gone, IsLeftBy-there, IsLeftBy-known, IsLeftBy-pause}
 use Rattle.stateful_standing.proofs.EndedKept.{IsRoundOf, Any-more, Any-push_cases, Known-own, IsLeftBy-added}
 use Rattle.stateful_standing.proofs.EndedTold.{turned-at, cached_step}
-use Rattle.stateful_standing.proofs.EndedFinalizing.{Finalizes, IsLater-after, own_compatible, crossed_known, closed_crossed, Finalizes-crossed, Finalizes-same}
+use Rattle.stateful_standing.proofs.EndedFinalizing.{Finalizes, own_compatible, crossed_known, closed_crossed, Finalizes-crossed, Finalizes-same}
 
 module _ {B C I P R D H G U : Type 0} (w : Workings B C I P R D H G U) (stored : ℕ → Option (Named B)) (p : Past B C I) (point : Point w) (next : w.Ids) (old : Tables B C I R U) (j : ℕ) (live : LiveRun B R) where
   -- what stands behind the end of a run, and the finalization goes on
-  pub record IsLeftOver (how : How) (cache : List (Cached U)) (pause : Pause) : Type 0 where
+  pub record IsLeftOver (points : Digest → Point w) (how : How) (cache : List (Cached U)) (pause : Pause) : Type 0 where
     pub boundary : Boundary
     pub pause_is : pause ≡ Finalizing boundary
-    pub leaves : IsLeftBy w stored p point next old j live how cache pause
+    pub leaves : IsLeftBy w stored p point next old j live how points cache pause
     pub goes_on : Finalizes w stored (Made (Ended j how) ∷ Came (Turn j) ∷ p) old.anchor cache boundary
 
   met_before : (how : How) (b : Named B) → Met (setting w stored) (Made (Ended j how) ∷ Came (Turn j) ∷ p) b → Met (setting w stored) p b
@@ -66,8 +66,8 @@ module _ {B C I P R D H G U : Type 0} (w : Workings B C I P R D H G U) (stored :
   q how = Made (Ended j how) ∷ Came (Turn j) ∷ p
 
   -- the finalization goes on over the run's block, or not
-  left_over : (how : How) → IsLeftBy w stored p point next old j live how old.cache old.pause → (pause : Pause)
-      → Crosses w.header live.block (Finalizing boundary) pause → IsLeftOver w stored p point next old j live how old.cache pause
+  left_over : (how : How) → IsLeftBy w stored p point next old j live how points old.cache old.pause → (pause : Pause)
+      → Crosses w.header live.block (Finalizing boundary) pause → IsLeftOver w stored p point next old j live points how old.cache pause
   left_over how leaves Free crosses = absurd crosses
   left_over how leaves Pruning crosses = absurd crosses
   left_over how leaves (Finalizing new) (inl over) = record {
@@ -75,14 +75,14 @@ module _ {B C I P R D H G U : Type 0} (w : Workings B C I P R D H G U) (stored :
     pause_is = refl;
     leaves = IsLeftBy-pause w stored p points point next old s j live live_is how old.cache (Finalizing boundary) (Finalizing new)
         (crossed_known w stored p points point next old s names round j live live_is boundary f new over.0 over.1)
-        (subst (λ x. IsLeftBy w stored p point next old j live how old.cache x) paused leaves);
+        (subst (λ x. IsLeftBy w stored p point next old j live how points old.cache x) paused leaves);
     goes_on = Finalizes-crossed w stored p points point next old s names round j live live_is boundary f new over.0 over.1 how old.cache
         (closed_crossed w stored p points point next old s names round j live live_is boundary f new over.0 over.1);
   }
   left_over how leaves (Finalizing new) (inr same) = record {
     boundary = boundary;
     pause_is = ap (λ b. Finalizing b) same.1;
-    leaves = subst (λ x. IsLeftBy w stored p point next old j live how old.cache x) (paused ∙ ap (λ b. Finalizing b) (sym same.1)) leaves;
+    leaves = subst (λ x. IsLeftBy w stored p point next old j live how points old.cache x) (paused ∙ ap (λ b. Finalizing b) (sym same.1)) leaves;
     goes_on = Finalizes-same w stored p points point next old s names round j live live_is boundary f how old.cache f.closed;
   }
 
@@ -115,7 +115,7 @@ module _ {B C I P R D H G U : Type 0} (w : Workings B C I P R D H G U) (stored :
     known_off (stays o m k before l parent) = (knows _).0 (Known-before (setting w stored) k (turn-IsCalm (setting w stored) p j))
 
   -- behind the end of a run that is kept, of a block that was cached
-  IsLeftOver-there : IsIn old.cache live.block.digest → (pause : Pause) → Crosses w.header live.block (Finalizing boundary) pause → IsLeftOver w stored p point next old j live Kept old.cache pause
+  IsLeftOver-there : IsIn old.cache live.block.digest → (pause : Pause) → Crosses w.header live.block (Finalizing boundary) pause → IsLeftOver w stored p point next old j live points Kept old.cache pause
   IsLeftOver-there a Free crosses = absurd crosses
   IsLeftOver-there a Pruning crosses = absurd crosses
   IsLeftOver-there a (Finalizing new) (inl over) =
@@ -153,10 +153,7 @@ module _ {B C I P R D H G U : Type 0} (w : Workings B C I P R D H G U) (stored :
       -- a compatible block that is at hand is known
       parent_known : (d : Digest) → Contains boundary.compatible d → IsAtHand old.anchor old.cache d → Known (setting w stored) p d
       parent_known d has (inr a) = (knows d).1 (inr (a, has))
-      parent_known d has (inl e) = elim (f.each d has) [
-        | inl is ↦ (knows d).1 (inl is)
-        | inr over ↦ absurd (IsLater-after old.anchor.round boundary.round (w.header.round over.block.block) f.behind over.retained.later (sym (round over.block over.met (over.is ∙ e))))
-      ]
+      parent_known d has (inl e) = absurd (f.other (subst (λ (x : Digest). Contains boundary.compatible x) e has))
 
       known_own : Known (setting w stored) (q Kept) live.block.digest
       known_own =
@@ -182,7 +179,7 @@ module _ {B C I P R D H G U : Type 0} (w : Workings B C I P R D H G U) (stored :
             ]
           ]
 
-      added_over : IsLeftOver w stored p point next old j live Kept more (Finalizing new)
+      added_over : IsLeftOver w stored p point next old j live points Kept more (Finalizing new)
       added_over = record {
         boundary = new;
         pause_is = refl;
@@ -212,7 +209,7 @@ module _ {B C I P R D H G U : Type 0} (w : Workings B C I P R D H G U) (stored :
             | inr is ↦ Known-turned (setting w stored) p d j Kept ((knows d).1 (inl (sym is ∙ own_off (subst (λ (x : Digest). Contains boundary.compatible x) (sym is) a.1))))
           ]
 
-      added_off : IsLeftOver w stored p point next old j live Kept more (Finalizing boundary)
+      added_off : IsLeftOver w stored p point next old j live points Kept more (Finalizing boundary)
       added_off = record {
         boundary = boundary;
         pause_is = refl;
@@ -222,15 +219,15 @@ module _ {B C I P R D H G U : Type 0} (w : Workings B C I P R D H G U) (stored :
       }
 
     -- behind the end of a run that is kept, whose block is added to the cache
-    IsLeftOver-added : (pause : Pause) → Crosses w.header live.block (Finalizing boundary) pause → IsLeftOver w stored p point next old j live Kept more pause
+    IsLeftOver-added : (pause : Pause) → Crosses w.header live.block (Finalizing boundary) pause → IsLeftOver w stored p point next old j live points Kept more pause
     IsLeftOver-added Free crosses = absurd crosses
     IsLeftOver-added Pruning crosses = absurd crosses
     IsLeftOver-added (Finalizing new) (inl over) = added_over new over.0 over.1
-    IsLeftOver-added (Finalizing new) (inr same) = subst (λ b. IsLeftOver w stored p point next old j live Kept more (Finalizing b)) (sym same.1) (added_off same.0)
+    IsLeftOver-added (Finalizing new) (inr same) = subst (λ b. IsLeftOver w stored p point next old j live points Kept more (Finalizing b)) (sym same.1) (added_off same.0)
 
   -- behind the end of a run, however it is told, while a finalization goes on
   pub IsLeftOver-told : (m : w.kind.Members) → w.kind.point m ≡ Some point → (turned : R) {o : Option U} {how : How} (cache : List (Cached U)) (pause : Pause) → Turns w m live.run turned (Done o)
-      → IsTold w old.anchor live.block old.cache cache o how → Crosses w.header live.block (Finalizing boundary) pause → IsLeftOver w stored p point next old j live how cache pause
+      → IsTold w old.anchor live.block old.cache cache o how → Crosses w.header live.block (Finalizing boundary) pause → IsLeftOver w stored p point next old j live points how cache pause
   IsLeftOver-told m here turned cache pause t (rejected is) crosses = rw is (left_over Rejected (IsLeftBy-gone w stored p points point next old s j live live_is Rejected refl) pause crosses)
   IsLeftOver-told m here turned cache pause t (mismatched differs is) crosses = rw is (left_over Mismatched (IsLeftBy-gone w stored p points point next old s j live live_is Mismatched refl) pause crosses)
   IsLeftOver-told m here turned cache pause t (agreed agrees (missed new away is)) crosses = rw is (left_over Missed (IsLeftBy-gone w stored p points point next old s j live live_is Missed refl) pause crosses)

@@ -97,20 +97,15 @@ module _ {B C I P R D H G U : Type 0} (w : Workings B C I P R D H G U) where
   Stacked-point {points = points} (here e at) = inl (sym (at ∙ ap points e))
   Stacked-point (further e at s ne l) = inr (Stacked-point s)
 
-  module _ (stored : ℕ → Option (Named B)) (p : Past B C I) (j : ℕ) (how : How) where
-    abbrev ended : Past B C I
-    ended = Made (Ended j how) ∷ Came (Turn j) ∷ p
-
-    pub Leads-turned : (t : w.States) (b : Named B) (u : w.States) → Leads w stored p t b u → Leads w stored ended t b u
-    Leads-turned t b u l = record { met = inr (inr l.met); matches = l.matches; earned = l.earned }
-
-    Chain-turned : {points : Digest → Point w} {first d : Digest} {c : List (Point w)} → Chain w stored p points first d c → Chain w stored ended points first d c
-    Chain-turned (here e at) = here e at
-    Chain-turned (further e at s ne l) = further e at (Chain-turned s) ne (Leads-turned _ _ _ l)
+  -- from one past to another that has its blocks and is led along as it was
+  module _ (stored : ℕ → Option (Named B)) (p q : Past B C I) (still_met : (b : Named B) → Met (setting w stored) p b → Met (setting w stored) q b) (still_leads : (t : w.States) (b : Named B) (u : w.States) → Leads w stored p t b u → Leads w stored q t b u) where
+    Chain-same : {points : Digest → Point w} {first d : Digest} {c : List (Point w)} → Chain w stored p points first d c → Chain w stored q points first d c
+    Chain-same (here e at) = here e at
+    Chain-same (further e at s ne l) = further e at (Chain-same s) ne (still_leads _ _ _ l)
 
     -- all is over the same points
-    pub Moves-turned : (points : Digest → Point w) (anchor : Anchor) (cache : List (Cached U)) → Moves w stored p ended points points anchor cache
-    Moves-turned points anchor cache = record { met = λ b m. inr (inr m); same = λ d at_hand. refl; chain = λ d c at_hand chain. Chain-turned chain }
+    pub Moves-same : (points : Digest → Point w) (anchor : Anchor) (cache : List (Cached U)) → Moves w stored p q points points anchor cache
+    Moves-same points anchor cache = record { met = still_met; same = λ d at_hand. refl; chain = λ d c at_hand chain. Chain-same chain }
 
     module _ (points : Digest → Point w) (next : w.Ids) (anchor : Anchor) (cache : List (Cached U)) (names : TrueNames (setting w stored) p) (each : All (IsCached w stored p points next anchor) cache) (order : InOrder anchor.digest [] cache)
         (own : Digest) (unknown : IsAtHand anchor cache own → ⊥) (top : Point w) where
@@ -125,10 +120,30 @@ module _ {B C I P R D H G U : Type 0} (w : Workings B C I P R D H G U) where
           let parent : y.parent ≡ w.header.parent b.block = sym h.parent_is ∙ ap (λ (x : Named B). w.header.parent x.block) same in
           subst (λ (x : Digest). IsAtHand anchor cache x) parent (parent_at_hand anchor.digest cache order k y l at)
 
-      Chain-with : {d : Digest} {c : List (Point w)} → Chain w stored p points anchor.digest d c → IsAtHand anchor cache d → Chain w stored ended (with_point points own top) anchor.digest d c
-      Chain-with (here e at) at_hand = here e (at ∙ sym (stays_at_hand _ at_hand))
-      Chain-with (further e at s ne l) at_hand = further e (at ∙ sym (stays_at_hand _ at_hand)) (Chain-with s (parent_there _ _ l.met e ne at_hand)) ne (Leads-turned _ _ _ l)
+      Chain-to : {d : Digest} {c : List (Point w)} → Chain w stored p points anchor.digest d c → IsAtHand anchor cache d → Chain w stored q (with_point points own top) anchor.digest d c
+      Chain-to (here e at) at_hand = here e (at ∙ sym (stays_at_hand _ at_hand))
+      Chain-to (further e at s ne l) at_hand = further e (at ∙ sym (stays_at_hand _ at_hand)) (Chain-to s (parent_there _ _ l.met e ne at_hand)) ne (still_leads _ _ _ l)
 
       -- a block that isn't at hand gets its point
+      pub Moves-to : Moves w stored p q points (with_point points own top) anchor cache
+      Moves-to = record { met = still_met; same = stays_at_hand; chain = λ d c at_hand chain. Chain-to chain at_hand }
+
+  module _ (stored : ℕ → Option (Named B)) (p : Past B C I) (j : ℕ) (how : How) where
+    abbrev ended : Past B C I
+    ended = Made (Ended j how) ∷ Came (Turn j) ∷ p
+
+    met-turned : (b : Named B) → Met (setting w stored) p b → Met (setting w stored) ended b
+    met-turned b met = inr (inr met)
+
+    pub Leads-turned : (t : w.States) (b : Named B) (u : w.States) → Leads w stored p t b u → Leads w stored ended t b u
+    Leads-turned t b u l = record { met = inr (inr l.met); matches = l.matches; earned = l.earned }
+
+    -- all is over the same points
+    pub Moves-turned : (points : Digest → Point w) (anchor : Anchor) (cache : List (Cached U)) → Moves w stored p ended points points anchor cache
+    Moves-turned points anchor cache = Moves-same stored p ended met-turned Leads-turned points anchor cache
+
+    module _ (points : Digest → Point w) (next : w.Ids) (anchor : Anchor) (cache : List (Cached U)) (names : TrueNames (setting w stored) p) (each : All (IsCached w stored p points next anchor) cache) (order : InOrder anchor.digest [] cache)
+        (own : Digest) (unknown : IsAtHand anchor cache own → ⊥) (top : Point w) where
+      -- a block that isn't at hand gets its point
       pub Moves-with : Moves w stored p ended points (with_point points own top) anchor cache
-      Moves-with = record { met = λ b m. inr (inr m); same = stays_at_hand; chain = λ d c at_hand chain. Chain-with chain at_hand }
+      Moves-with = Moves-to stored p ended met-turned Leads-turned points next anchor cache names each order own unknown top

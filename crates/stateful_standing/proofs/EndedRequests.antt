@@ -53,8 +53,8 @@ module _ {B C I P R D H G U : Type 0} (w : Workings B C I P R D H G U) (stored :
 
   standing : (t : ℕ) (r : Requested B C I) → IsStanding w stored p runs t r → IsStanding w stored ended runs t r
   standing t r s =
-      IsStanding-calm w stored turned (Made (Ended j how)) runs t r (record { live = refl; verified = refl; proposed = refl }) (λ f is. record { live = refl; asked = refl }) (λ a. a)
-      (IsStanding-calm w stored p (Came (Turn j)) runs t r (record { live = refl; verified = refl; proposed = refl }) (λ f is. record { live = refl; asked = refl }) (λ a. a) s)
+      IsStanding-calm w stored turned (Made (Ended j how)) runs t r (record { live = refl; verified = refl; proposed = refl }) (λ f is. record { live = refl; asked = refl })
+      (IsStanding-calm w stored p (Came (Turn j)) runs t r (record { live = refl; verified = refl; proposed = refl }) (λ f is. record { live = refl; asked = refl }) s)
 
   fetches_on : (f : ℕ) (o : Option (Requested B C I)) → MatchOption o ⊥ (λ r. r.phase ≡ Fetching f) → MatchOption (option_filter (λ (r : Requested B C I). not (is_on j r.phase)) o) ⊥ (λ r. r.phase ≡ Fetching f)
   fetches_on f None h = h

@@ -27,6 +27,7 @@ use Rattle.stateful_exec.specs.declared.state.Tables.{Tables}
 use Rattle.stateful_exec.specs.declared.tables.LiveRun.{LiveRun}
 use Rattle.stateful_standing.specs.Setting.{setting}
 use Rattle.stateful_standing.specs.Standing.{TablesStand}
+use Rattle.stateful_standing.proofs.EndedRuns.{Moves}
 use Rattle.stateful_standing.proofs.EndedRequests.{IsTakenOut}
 use Rattle.stateful_standing.proofs.EndedStands.{IsLeftBy}
 use Rattle.stateful_standing.proofs.EndedKept.{IsRoundOf}
@@ -62,6 +63,11 @@ module _ {B C I P R D H G U : Type 0} (w : Workings B C I P R D H G U) (stored :
     pub in_hand : All (IsTakenOut w stored p (not_on j m.state.requests) m.state.queued b) (released_on j m.state.requests)
     pub apart : AllPairs (λ r s. r.ticket ≢ s.ticket) (released_on j m.state.requests)
 
+  -- and what was at hand has gone over to its points from these
+  pub record IsReleasedFrom (before : Past B C I) (points : Digest → Point w) (old : Tables B C I R U) (p : Past B C I) (point : Point w) (j : ℕ) (b : Named B) (m : Moment w) : Type 0 where
+    pub released : IsReleased p point j b m
+    pub moves : Moves w stored before p points released.points old.anchor old.cache
+
   -- a finalization goes on
   pub record GoesOn (p : Past B C I) (m : Moment w) : Type 0 where
     pub boundary : Boundary
@@ -80,48 +86,51 @@ module _ {B C I P R D H G U : Type 0} (w : Workings B C I P R D H G U) (stored :
         same_run : record live { run = turned } ≡ ends.run
         same_run = let found : Some (record live { run = turned }) ≡ Some ends.run = rw (at-put m.state.runs j (record live { run = turned }) j, eq-eqb j j refl) at ends.live in search
 
-        same_block : live.block ≡ b
+        pub same_block : live.block ≡ b
         same_block = ap (λ (r : LiveRun B R). r.block) same_run ∙ ends.block_is
 
-        told_so : IsTold w m.state.anchor live.block m.state.cache ends.cache o how
+        pub told_so : IsTold w m.state.anchor live.block m.state.cache ends.cache o how
         told_so = subst (λ (c : Named B). IsTold w m.state.anchor c m.state.cache ends.cache o how) (sym same_block) ends.told
 
-        crosses_so : Crosses w.header live.block m.state.pause ends.pause
+        pub crosses_so : Crosses w.header live.block m.state.pause ends.pause
         crosses_so = subst (λ (c : Named B). Crosses w.header c m.state.pause ends.pause) (sym same_block) ends.crosses
 
         -- what is left by the end of a run stands behind its rule
-        IsReleased-from : IsLeftBy w stored p point m.next m.state j live how ends.cache ends.pause → IsReleased q point j b now
-        IsReleased-from stands =
-            subst (λ (n : Moment w). IsReleased q point j b n) (sym ends.becomes) (record {
-              points = stands.points;
-              tables = rw (without_put m.state.runs j (record live { run = turned })) stands.tables;
-              in_hand = subst (λ (c : Named B). All (IsTakenOut w stored q (not_on j m.state.requests) m.state.queued c) (released_on j m.state.requests)) same_block stands.released;
-              apart = stands.apart;
+        IsReleasedFrom-left : (points : Digest → Point w) → IsLeftBy w stored p point m.next m.state j live how points ends.cache ends.pause → IsReleasedFrom p points m.state q point j b now
+        IsReleasedFrom-left points stands =
+            subst (λ (n : Moment w). IsReleasedFrom p points m.state q point j b n) (sym ends.becomes) (record {
+              moves = stands.moves;
+              released = record {
+                points = stands.points;
+                tables = rw (without_put m.state.runs j (record live { run = turned })) stands.tables;
+                in_hand = subst (λ (c : Named B). All (IsTakenOut w stored q (not_on j m.state.requests) m.state.queued c) (released_on j m.state.requests)) same_block stands.released;
+                apart = stands.apart;
+              };
             })
 
-        GoesOn-from : IsLeftOver w stored p point m.next m.state j live how ends.cache ends.pause → GoesOn q now
-        GoesOn-from stands = subst (λ (n : Moment w). GoesOn q n) (sym ends.becomes) (record { boundary = stands.boundary; pause_is = stands.pause_is; goes_on = stands.goes_on })
+        GoesOn-from : (points : Digest → Point w) → IsLeftOver w stored p point m.next m.state j live points how ends.cache ends.pause → GoesOn q now
+        GoesOn-from points stands = subst (λ (n : Moment w). GoesOn q n) (sym ends.becomes) (record { boundary = stands.boundary; pause_is = stands.pause_is; goes_on = stands.goes_on })
 
     module _ (points : Digest → Point w) (s : TablesStand w stored p points point m.next m.state) (here : w.kind.point m.members ≡ Some point) (names : TrueNames (setting w stored) p) (round : IsRoundOf w stored p m.state.anchor) where
       -- The tables stand behind the end of a run in its turn, where no finalization goes on, and the requests that waited for
       -- it are in hand.
-      pub IsReleased-plain : IsPlain m.state.pause → tip_of w.header p ≡ Some m.state.anchor → (count : R → ℕ) (running : Tables B C I R U) → TurnsRun w count m.members j m.state running (Ok (Done o)) → EndsRun w (record m { state = running }) j b o how now
-          → IsReleased (Made (Ended j how) ∷ Came (Turn j) ∷ p) point j b now
-      IsReleased-plain plain tip count after turns ends =
+      pub IsReleasedFrom-plain : IsPlain m.state.pause → tip_of w.header p ≡ Some m.state.anchor → (count : R → ℕ) (running : Tables B C I R U) → TurnsRun w count m.members j m.state running (Ok (Done o)) → EndsRun w (record m { state = running }) j b o how now
+          → IsReleasedFrom p points m.state (Made (Ended j how) ∷ Came (Turn j) ∷ p) point j b now
+      IsReleasedFrom-plain plain tip count after turns ends =
           let e : EndsRun w (record m { state = running turns.live turns.live_is turns.turned }) j b o how now = subst (λ (t : Tables B C I R U). EndsRun w (record m { state = t }) j b o how now) turns.state ends in
-          IsReleased-from turns.live turns.live_is turns.turned e
-          (subst (λ x. IsLeftBy w stored p point m.next m.state j turns.live how e.cache x)
+          IsReleasedFrom-left turns.live turns.live_is turns.turned e points
+          (subst (λ x. IsLeftBy w stored p point m.next m.state j turns.live how points e.cache x)
           (sym (plain_stays w.header turns.live.block m.state.pause e.pause plain (crosses_so turns.live turns.live_is turns.turned e)))
           (IsLeftBy-told w stored p points point m.next m.state s j turns.live turns.live_is m.members here turns.turned names round plain tip e.cache turns.turns (told_so turns.live turns.live_is turns.turned e)))
 
       -- The tables stand behind the end of a run in its turn, while a finalization goes on, and the requests that waited for
       -- it are in hand. The finalization goes on.
-      pub IsReleased-over : GoesOn p m → (count : R → ℕ) (running : Tables B C I R U) → TurnsRun w count m.members j m.state running (Ok (Done o)) → EndsRun w (record m { state = running }) j b o how now
-          → IsReleased (Made (Ended j how) ∷ Came (Turn j) ∷ p) point j b now × GoesOn (Made (Ended j how) ∷ Came (Turn j) ∷ p) now
-      IsReleased-over over count after turns ends =
+      pub IsReleasedFrom-over : GoesOn p m → (count : R → ℕ) (running : Tables B C I R U) → TurnsRun w count m.members j m.state running (Ok (Done o)) → EndsRun w (record m { state = running }) j b o how now
+          → IsReleasedFrom p points m.state (Made (Ended j how) ∷ Came (Turn j) ∷ p) point j b now × GoesOn (Made (Ended j how) ∷ Came (Turn j) ∷ p) now
+      IsReleasedFrom-over over count after turns ends =
           let e : EndsRun w (record m { state = running turns.live turns.live_is turns.turned }) j b o how now = subst (λ (t : Tables B C I R U). EndsRun w (record m { state = t }) j b o how now) turns.state ends in
-          let left : IsLeftOver w stored p point m.next m.state j turns.live how e.cache e.pause =
+          let left : IsLeftOver w stored p point m.next m.state j turns.live points how e.cache e.pause =
           IsLeftOver-told w stored p points point m.next m.state s names round j turns.live turns.live_is over.boundary over.goes_on over.pause_is m.members here turns.turned e.cache e.pause turns.turns
           (told_so turns.live turns.live_is turns.turned e)
           (subst (λ x. Crosses w.header turns.live.block x e.pause) over.pause_is (crosses_so turns.live turns.live_is turns.turned e)) in
-          (IsReleased-from turns.live turns.live_is turns.turned e left.leaves, GoesOn-from turns.live turns.live_is turns.turned e left)
+          (IsReleasedFrom-left turns.live turns.live_is turns.turned e points left.leaves, GoesOn-from turns.live turns.live_is turns.turned e points left)

@@ -22,7 +22,7 @@ use Rattle.stateful_standing.specs.Setting.{setting}
 use Rattle.stateful_standing.specs.Chains.{Chain}
 use Rattle.stateful_standing.specs.Caching.{IsCached}
 use Rattle.stateful_standing.specs.Running.{IsRunning, RunsStand}
-use Rattle.stateful_standing.proofs.Removing.{differ, at_other, All-without}
+use Rattle.stateful_standing.proofs.Removing.{differ, at_other, All-without, sorted_without}
 use Rattle.stateful_standing.proofs.Cancelled.{and_left, and_right, not_same}
 
 module _ {B C I P R D H G U : Type 0} (w : Workings B C I P R D H G U) (stored : ℕ → Option (Named B)) (p q : Past B C I) (points now : Digest → Point w) (anchor : Anchor) (cache : List (Cached U)) where
@@ -59,6 +59,7 @@ module _ {B C I P R D H G U : Type 0} (w : Workings B C I P R D H G U) (stored :
           record {
             job = record { live = live ∙ h.job.live; is = started ∙ h.job.is };
             met = moves.met run.block h.met;
+            other = h.other;
             parent = h.parent;
             parent_met = moves.met h.parent h.parent_met;
             parent_is = h.parent_is;
@@ -85,6 +86,7 @@ module _ {B C I P R D H G U : Type 0} (w : Workings B C I P R D H G U) (stored :
   -- the runs that are left stand behind the end of one
   pub RunsStand-turned : (runs : List (ℕ × LiveRun B R)) → RunsStand w stored p points next anchor cache runs → RunsStand w stored ended now next anchor more (without runs j)
   RunsStand-turned runs h = record {
+    ascending = sorted_without runs j h.ascending;
     each = All-without (λ (e : ℕ × LiveRun B R). IsRunning w stored ended now next anchor more e.0 e.1) runs j
         (λ k d l ne. let e = get_or runs k d in other_run e.0 e.1 ne (h.each k d l));
     apart = AllPairs-filter (λ (e f : ℕ × LiveRun B R). e.1.block.digest ≢ f.1.block.digest) (λ e. not (e.0 == j)) runs h.apart;

@@ -30,7 +30,7 @@ use Rattle.stateful_standing.proofs.Calm.{CacheStands-calm}
 use Rattle.stateful_standing.proofs.Removing.{All-at}
 use Rattle.stateful_standing.proofs.EndedLeft.{released_apart}
 use Rattle.stateful_standing.proofs.EndedRequests.{IsTakenOut, RequestsStand-turned, left_before, released-IsTakenOut, QueueStands-turned}
-use Rattle.stateful_standing.proofs.EndedRuns.{IsCached-moved, RunsStand-turned}
+use Rattle.stateful_standing.proofs.EndedRuns.{Moves, IsCached-moved, RunsStand-turned}
 use Rattle.stateful_standing.proofs.EndedKnown.{started-by, turn-IsCalm, Known-turned, Known-turned_before}
 use Rattle.stateful_standing.proofs.EndedPoints.{Moves-turned}
 
@@ -46,10 +46,11 @@ module _ {B C I P R D H G U : Type 0} (w : Workings B C I P R D H G U) (stored :
   abbrev pub ended : Past B C I
   ended = Made (Ended j how) ∷ Came (Turn j) ∷ p
 
-  -- What stands behind the end of the run of a job, with this cache and this pause: the tables over some points, and the
-  -- requests that waited for it are in hand, each of another ticket.
-  pub record IsLeftBy (cache : List (Cached U)) (pause : Pause) : Type 0 where
+  -- What stands behind the end of the run of a job, with this cache and this pause: the tables over some points, to which what was
+  -- at hand has gone over from these; and the requests that waited for it are in hand, each of another ticket.
+  pub record IsLeftBy (before : Digest → Point w) (cache : List (Cached U)) (pause : Pause) : Type 0 where
     pub points : Digest → Point w
+    pub moves : Moves w stored p ended before points old.anchor old.cache
     pub tables : TablesStand w stored ended points point next (left old j cache pause)
     pub released : All (IsTakenOut w stored ended (not_on j old.requests) old.queued live.block) (released_on j old.requests)
     pub apart : AllPairs (λ r s. r.ticket ≢ s.ticket) (released_on j old.requests)
@@ -74,11 +75,12 @@ module _ {B C I P R D H G U : Type 0} (w : Workings B C I P R D H G U) (stored :
 
   module _ (how : How) where
     -- where the cache and the runs that are left stand, so do the tables
-    pub IsLeftBy-from : (now : Digest → Point w) (cache : List (Cached U)) (pause : Pause) → now old.anchor.digest ≡ point
+    pub IsLeftBy-from : (now : Digest → Point w) → Moves w stored p (ended w stored p point next old j live how) points now old.anchor old.cache → (cache : List (Cached U)) (pause : Pause) → now old.anchor.digest ≡ point
         → CacheStands w stored (ended w stored p point next old j live how) now next old.anchor pause cache
-        → RunsStand w stored (ended w stored p point next old j live how) now next old.anchor cache (without old.runs j) → IsLeftBy w stored p point next old j live how cache pause
-    IsLeftBy-from now cache pause at_anchor caches runs = record {
+        → RunsStand w stored (ended w stored p point next old j live how) now next old.anchor cache (without old.runs j) → IsLeftBy w stored p point next old j live how points cache pause
+    IsLeftBy-from now moves cache pause at_anchor caches runs = record {
       points = now;
+      moves = moves;
       tables = record {
         at_anchor = at_anchor;
         cache = caches;
@@ -96,16 +98,16 @@ module _ {B C I P R D H G U : Type 0} (w : Workings B C I P R D H G U) (stored :
     runs-same = RunsStand-turned w stored p points points next old.anchor old.cache old.cache j how (Moves-turned w stored p j how points old.anchor old.cache) (λ d at_hand. at_hand) old.runs s.runs
 
     -- behind the end of a run that isn't kept
-    pub IsLeftBy-gone : kept_by (Came (Turn j) ∷ p) (Made (Ended j how)) ≡ None → IsLeftBy w stored p point next old j live how old.cache old.pause
+    pub IsLeftBy-gone : kept_by (Came (Turn j) ∷ p) (Made (Ended j how)) ≡ None → IsLeftBy w stored p point next old j live how points old.cache old.pause
     IsLeftBy-gone none =
-        IsLeftBy-from points old.cache old.pause s.at_anchor
+        IsLeftBy-from points (Moves-turned w stored p j how points old.anchor old.cache) old.cache old.pause s.at_anchor
         (CacheStands-calm w stored (Came (Turn j) ∷ p) (Made (Ended j how)) (record { tip = refl; starts_none = tt; built = λ d h. h; kept = none }) points next old.anchor old.pause old.cache
         (CacheStands-calm w stored p (Came (Turn j)) (turn-IsCalm (setting w stored) p j) points next old.anchor old.pause old.cache s.cache))
         runs-same
 
   -- behind the end of a run that is kept and adds nothing, where nothing becomes known
-  pub IsLeftBy-there : ((d : Digest) → Known (setting w stored) (ended w stored p point next old j live Kept) d → IsKnownBy old.pause old.anchor old.cache d) → IsLeftBy w stored p point next old j live Kept old.cache old.pause
-  IsLeftBy-there known = IsLeftBy-from Kept points old.cache old.pause s.at_anchor caches (runs-same Kept)
+  pub IsLeftBy-there : ((d : Digest) → Known (setting w stored) (ended w stored p point next old j live Kept) d → IsKnownBy old.pause old.anchor old.cache d) → IsLeftBy w stored p point next old j live Kept points old.cache old.pause
+  IsLeftBy-there known = IsLeftBy-from Kept points (Moves-turned w stored p j Kept points old.anchor old.cache) old.cache old.pause s.at_anchor caches (runs-same Kept)
     where
       caches : CacheStands w stored (ended w stored p point next old j live Kept) points next old.anchor old.pause old.cache
       caches = record {
@@ -115,7 +117,7 @@ module _ {B C I P R D H G U : Type 0} (w : Workings B C I P R D H G U) (stored :
       }
 
   -- behind the end of a run that is kept, of a block that was known
-  pub IsLeftBy-known : Known (setting w stored) p live.block.digest → IsLeftBy w stored p point next old j live Kept old.cache old.pause
+  pub IsLeftBy-known : Known (setting w stored) p live.block.digest → IsLeftBy w stored p point next old j live Kept points old.cache old.pause
   IsLeftBy-known known = IsLeftBy-there (λ d k. (s.cache.knows d).0 (elim (Known-turned_before (setting w stored) p d live.block.digest j started-own k) [
     | inl e ↦ subst (λ (x : Digest). Known (setting w stored) p x) (sym e) known
     | inr before ↦ before
@@ -123,9 +125,10 @@ module _ {B C I P R D H G U : Type 0} (w : Workings B C I P R D H G U) (stored :
 
   -- what stands with a pause stands with another one that tells the same blocks
   pub IsLeftBy-pause : (how : How) (cache : List (Cached U)) (pause other : Pause) → ((d : Digest) → IsKnownBy pause old.anchor cache d ↔ IsKnownBy other old.anchor cache d)
-      → IsLeftBy w stored p point next old j live how cache pause → IsLeftBy w stored p point next old j live how cache other
+      → IsLeftBy w stored p point next old j live how points cache pause → IsLeftBy w stored p point next old j live how points cache other
   IsLeftBy-pause how cache pause other same h = let t = h.tables in record {
     points = h.points;
+    moves = h.moves;
     tables = record {
       at_anchor = t.at_anchor;
       cache = record { each = t.cache.each; in_order = t.cache.in_order; knows = λ d. (λ k. (same d).0 ((t.cache.knows d).0 k), λ b. (t.cache.knows d).1 ((same d).1 b)) };

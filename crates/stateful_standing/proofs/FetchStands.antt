@@ -30,6 +30,7 @@ use Rattle.stateful_standing.proofs.Asking.{LeavesTicket, LeavesFetch, IsRequest
 use Rattle.stateful_standing.proofs.Removing.{differ, at_gone, All-without, sorted_without, tickets_stay}
 use Rattle.stateful_standing.proofs.GivenUp.{fetches-left}
 use Rattle.stateful_standing.proofs.Cancelled.{not_queued, once-left, and_left, and_right, not_same, same_fetch, own, own_fetch, other_fetch}
+use Rattle.stateful_standing.proofs.Putting.{All-put}
 use Rattle.stateful_standing.proofs.PutStands.{TablesStand-put}
 use Rattle.stateful_standing.proofs.Advanced.{StandsBehind-concludes}
 use Rattle.stateful_standing.proofs.Acquired.{StandsBehind-acquires}
@@ -39,7 +40,7 @@ module _ {B C I S T : Type 0} (s : Setting B S T) (p : Past B C I) (f : ℕ) whe
   fetched-IsCalm answer = record { tip = refl; starts_none = tt; built = λ d h. h; kept = refl }
 
   -- a verification that abstains still does
-  abstains-fetched : (answer : Option (Named B)) (t : ℕ) (b : Named B) → Abstains s t p b → Abstains s t (Came (Fetched f answer) ∷ p) b
+  pub abstains-fetched : (answer : Option (Named B)) (t : ℕ) (b : Named B) → Abstains s t p b → Abstains s t (Came (Fetched f answer) ∷ p) b
   abstains-fetched None t b (inl none) = inl (inr none)
   abstains-fetched (Some c) t b (inl none) = inl none
   abstains-fetched answer t b (inr undecided) = inr undecided
@@ -64,8 +65,7 @@ module _ {B C I P R D H G U : Type 0} (w : Workings B C I P R D H G U) (stored :
   -- a request that fetches nothing under this number stands behind the answer
   stands-fetched : (t : ℕ) (r : Requested B C I) → ((g : ℕ) → r.phase ≡ Fetching g → g ≢ f) → IsStanding w stored p old.runs t r → IsStanding w stored given old.runs t r
   stands-fetched t r other h =
-      IsStanding-calm w stored p (Came (Fetched f answer)) old.runs t r (fetched-LeavesTicket p f answer t) (λ g is. fetched-LeavesFetch p f answer g (other g is))
-      (abstains-fetched (setting w stored) p f answer t (first_of r.request)) h
+      IsStanding-calm w stored p (Came (Fetched f answer)) old.runs t r (fetched-LeavesTicket p f answer t) (λ g is. fetched-LeavesFetch p f answer g (other g is)) h
 
   module _ (t : ℕ) (r : Requested B C I) (fetches : Fetches old f t r) where
     -- the tables stand without the request that fetched
@@ -139,7 +139,7 @@ module _ {B C I P R D H G U : Type 0} (w : Workings B C I P R D H G U) (stored :
     → Abstains (setting w stored) t (Came (Fetched f answer) ∷ p) (first_of r.request)) where
   -- what stands behind the moment where a request is served stands behind the one before it
   behind_serving : (q : Past B C I) (t : ℕ) (now : Moment w) → StandsBehind w stored q points point (serving w m t) now → StandsBehind w stored q points point m now
-  behind_serving q t now h = record { more = h.more; marks_are = h.marks_are; members_are = h.members_are; stands = h.stands }
+  behind_serving q t now h = record { more = h.more; marks_are = h.marks_are; members_are = h.members_are; stands = h.stands; waiting = λ a. h.waiting (All-without (λ (e : ℕ × Requested B C I). e.1.phase ≡ Waiting → Abstains (setting w stored) e.0 q (first_of e.1.request)) m.state.requests t (λ k d l ne. a k d l)) }
 
   -- the tables stand behind the answer of a fetch
   pub StandsBehind-fetched : (now : Moment w) → IsFetched w held m f answer now → StandsBehind w stored (Came (Fetched f answer) ∷ p) points point m now
@@ -154,7 +154,9 @@ module _ {B C I P R D H G U : Type 0} (w : Workings B C I P R D H G U) (stored :
     members_are = refl;
     stands = TablesStand-put w stored (Came (Fetched f answer) ∷ p) points point m.next (taken m.state t) t (TablesStand-fetched w stored p points point m.next m.state s f answer t r fetches) r
         (IsInHand-fetched w stored p points point m.next m.state s f answer t r fetches) (acquired-fetched w stored p points point m.next m.state s f answer t r fetches) Waiting
-        (verification, abstains-none w stored p points point m.next m.state s f answer t r fetches is);
+        verification;
+    waiting = λ a. All-put (λ (e : ℕ × Requested B C I). e.1.phase ≡ Waiting → Abstains (setting w stored) e.0 (Came (Fetched f answer) ∷ p) (first_of e.1.request)) (without m.state.requests t) t (record r { phase = Waiting })
+        (All-without (λ (e : ℕ × Requested B C I). e.1.phase ≡ Waiting → Abstains (setting w stored) e.0 (Came (Fetched f answer) ∷ p) (first_of e.1.request)) m.state.requests t (λ k d l ne. a k d l)) (λ waits. abstains-none w stored p points point m.next m.state s f answer t r fetches is);
   })
   StandsBehind-fetched now (declines t r fetches is proposal concludes) = behind_serving _ t now
       (StandsBehind-concludes w stored (Came (Fetched f answer) ∷ p) points point (serving w m t) (TablesStand-fetched w stored p points point m.next m.state s f answer t r fetches) t r
@@ -164,4 +166,5 @@ module _ {B C I P R D H G U : Type 0} (w : Workings B C I P R D H G U) (stored :
     marks_are = sym (append-nil m.marks);
     members_are = refl;
     stands = TablesStand-dead w stored p points point m.next m.state s f answer none;
+    waiting = λ a. a;
   })

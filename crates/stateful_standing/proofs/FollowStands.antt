@@ -1,13 +1,14 @@
 -- The tables stand behind the requests that waited for a run that has ended.
-use Rattle.std.proofs.Common.{◌≡◌, ◌≢◌, ◌++◌, inl, inr, ap, ◌<◌, ℕ, arith, List, [], ◌∷◌, Option, Some, refl, subst, ◌∙◌}
+use Rattle.std.proofs.Common.{◌≡◌, ◌≢◌, ◌++◌, not, inl, inr, ap, ◌<◌, ℕ, arith, List, [], ◌∷◌, Option, Some, refl, sym, subst, ◌∙◌}
 use Rattle.std.specs.Ordering.{nat_cmp, MatchOrdering}
 use Rattle.std.specs.declared.cmp.Ordering.TheVariants.{Less}
 use Rattle.std.proofs.lemmas.List.{append_assoc}
 use Rattle.std.proofs.lemmas.Cmp.{ranked}
-use Rattle.std.proofs.lemmas.List.Elements.{All-nil, All-weaker}
+use Rattle.std.proofs.lemmas.List.Elements.{All-nil, All-weaker, All-filter}
 use Rattle.stateful_types.specs.Names.{Named}
 use Rattle.stateful_types.specs.declared.digest.Digest.{Digest}
 use Rattle.stateful_history.specs.Past.{Past, Came, Made, after}
+use Rattle.stateful_history.specs.Fetches.{Abstains}
 use Rattle.stateful_history.specs.Met.{Met, TrueNames}
 use Rattle.stateful_history.specs.declared.mark.How.{How}
 use Rattle.stateful_history.specs.declared.event.Event.TheVariants.{Turn}
@@ -17,17 +18,20 @@ use Rattle.stateful_exec.specs.declared.state.Tables.{Tables}
 use Rattle.stateful_exec.specs.Ending.{InTurn, released, Follows, given_up, held, failed, parked, goes_on}
 use Rattle.stateful_exec.specs.Moments.{Moment, Becomes}
 use Rattle.stateful_exec.specs.Path.{Path}
-use Rattle.stateful_exec.specs.Phase.{released_on, not_on}
+use Rattle.stateful_exec.specs.Phase.{is_on, released_on, not_on}
 use Rattle.stateful_exec.specs.Rules.{requested}
 use Rattle.stateful_exec.specs.Workings.{Workings, Point}
 use Rattle.stateful_exec.specs.declared.request.Request.{Request}
-use Rattle.stateful_exec.specs.declared.tables.Phase.TheVariants.{Parked}
+use Rattle.stateful_exec.specs.declared.tables.Phase.TheVariants.{Waiting, Parked}
 use Rattle.stateful_exec.specs.declared.tables.Released.{Released}
+use Rattle.stateful_exec.specs.declared.tables.Requested.{Requested}
 use Rattle.stateful_standing.specs.Setting.{setting}
+use Rattle.stateful_standing.specs.Requesting.{first_of, AllAbstain}
 use Rattle.stateful_standing.specs.Standing.{TablesStand, StandsBehind}
 use Rattle.stateful_standing.proofs.Advanced.{Serves-advances}
+use Rattle.stateful_standing.proofs.EndedRuns.{Moves}
 use Rattle.stateful_standing.proofs.EndedRequests.{IsTakenOut}
-use Rattle.stateful_standing.proofs.EndedRule.{IsReleased}
+use Rattle.stateful_standing.proofs.EndedRule.{IsReleased, IsReleasedFrom}
 use Rattle.stateful_standing.proofs.InTurn.{IsReady, IsOnWay, AreServed-in_turn}
 use Rattle.stateful_standing.proofs.Served.{Serves, Serves-concludes, Serves-put}
 
@@ -53,10 +57,10 @@ module _ {B C I P R D H G U : Type 0} (w : Workings B C I P R D H G U) (stored :
       → Follows w b how r m now → Serves w stored p points point m r.ticket now
   Serves-follows b how p m now r ready on (given_up up concludes) = Serves-concludes w stored p points point m ready.stands r.ticket (requested r.request) on.hand _ now concludes
   Serves-follows b how p m now r ready on (held is becomes) =
-      Serves-put w stored p points point m ready.stands r.ticket (requested r.request) on.hand (Parked r.path) now (All-nil (Met (setting w stored) p)) on.way becomes
+      Serves-put w stored p points point m ready.stands r.ticket (requested r.request) on.hand (Parked r.path) now (All-nil (Met (setting w stored) p)) on.way (λ is. absurd (cc)) becomes
   Serves-follows b how p m now r ready on (failed not_held off concludes) = Serves-concludes w stored p points point m ready.stands r.ticket (requested r.request) on.hand _ now concludes
   Serves-follows b how p m now r ready on (parked pause there becomes) =
-      Serves-put w stored p points point m ready.stands r.ticket (requested r.request) on.hand (Parked r.path) now (All-nil (Met (setting w stored) p)) on.way becomes
+      Serves-put w stored p points point m ready.stands r.ticket (requested r.request) on.hand (Parked r.path) now (All-nil (Met (setting w stored) p)) on.way (λ is. absurd (cc)) becomes
   Serves-follows b how p m now r ready on (goes_on up not_held pause there advances) =
       Serves-advances w stored p points point m ready.stands r.ticket (requested r.request) on.hand ready.names other_states ready.located ready.drawn (All-nil (Met (setting w stored) p)) r.path now on.way advances
 
@@ -75,29 +79,37 @@ module _ {B C I P R D H G U : Type 0} (w : Workings B C I P R D H G U) (stored :
       (released_on job done.state.requests) r.in_hand)
       r.apart rules).behind
 
-  -- What stands behind the last turn of a run: the tables, over some points, and behind the mark that it ended those of the
-  -- requests that waited for it.
-  pub record IsSettled (p : Past B C I) (m last : Moment w) (j : ℕ) (how : How) : Type 0 where
+  -- What stands behind the last turn of a run: the tables, over some points, to which what was at hand has gone over from these,
+  -- and behind the mark that it ended those of the requests that waited for it.
+  pub record IsSettled (p : Past B C I) (before : Digest → Point w) (m last : Moment w) (j : ℕ) (how : How) : Type 0 where
     pub points : Digest → Point w
+    pub moves : Moves w stored p (Made (Ended j how) ∷ Came (Turn j) ∷ p) before points m.state.anchor m.state.cache
     pub more : List (Mark B)
     pub marks_are : last.marks ≡ m.marks ++ Ended j how ∷ more
     pub members_are : last.members ≡ m.members
     pub stands : TablesStand w stored (after (Made (Ended j how) ∷ Came (Turn j) ∷ p) more) points point last.next last.state
+    pub waiting : AllAbstain w stored p m.state.requests → AllAbstain w stored (after (Made (Ended j how) ∷ Came (Turn j) ∷ p) more) last.state.requests
 
   module _ (p : Past B C I) (m : Moment w) (names : TrueNames (setting w stored) p) (located : w.kind.point m.members ≡ Some point) (drawn : w.kind.issued m.next (point ∷ [])) where
     -- what is left by the end of a run is settled by what follows
-    pub IsSettled-from : (j : ℕ) (b : Named B) (how : How) (state : Tables B C I R U) (done last : Moment w) → IsReleased w stored (Made (Ended j how) ∷ Came (Turn j) ∷ p) point j b done → Becomes w m state (Ended j how ∷ []) done
-        → InTurn (Follows w b how) (released_on j done.state.requests) (record done { state = released j done.state }) last → IsSettled p m last j how
-    IsSettled-from j b how state done last r becomes rules = record {
-      points = r.points;
+    pub IsSettled-from : (points : Digest → Point w) (j : ℕ) (b : Named B) (how : How) (state : Tables B C I R U) (done last : Moment w) → IsReleasedFrom w stored p points m.state (Made (Ended j how) ∷ Came (Turn j) ∷ p) point j b done → Becomes w m state (Ended j how ∷ []) done
+        → state.requests ≡ m.state.requests → InTurn (Follows w b how) (released_on j done.state.requests) (record done { state = released j done.state }) last → IsSettled p points m last j how
+    IsSettled-from points j b how state done last from becomes same rules = record {
+      points = from.released.points;
+      moves = from.moves;
       more = behind.more;
       marks_are = behind.marks_are ∙ ap (λ marks. marks ++ behind.more) (ap (λ (n : Moment w). n.marks) becomes) ∙ append_assoc m.marks (Ended j how ∷ []) behind.more;
       members_are = behind.members_are ∙ ap (λ (n : Moment w). n.members) becomes;
       stands = behind.stands;
+      waiting = λ h. behind.waiting (left (ap (λ (n : Moment w). n.state.requests) becomes ∙ same) h);
     }
       where
-        behind : StandsBehind w stored (Made (Ended j how) ∷ Came (Turn j) ∷ p) r.points point (record done { state = released j done.state }) last
-        behind = StandsBehind-follow b how (Made (Ended j how) ∷ Came (Turn j) ∷ p) j done last r
+        left : done.state.requests ≡ m.state.requests → AllAbstain w stored p m.state.requests → AllAbstain w stored (Made (Ended j how) ∷ Came (Turn j) ∷ p) (not_on j done.state.requests)
+        left is h = subst (λ l. AllAbstain w stored (Made (Ended j how) ∷ Came (Turn j) ∷ p) (not_on j l)) (sym is)
+            (All-filter (λ (e : ℕ × Requested B C I). not (is_on j e.1.phase)) (λ e. e.1.phase ≡ Waiting → Abstains (setting w stored) e.0 p (first_of e.1.request)) m.state.requests h)
+
+        behind : StandsBehind w stored (Made (Ended j how) ∷ Came (Turn j) ∷ p) from.released.points point (record done { state = released j done.state }) last
+        behind = StandsBehind-follow b how (Made (Ended j how) ∷ Came (Turn j) ∷ p) j done last from.released
             (λ x y has_x has_y. names x y (old x has_x) (old y has_y))
             (ap (λ (n : Moment w). w.kind.point n.members) becomes ∙ located) (rw becomes drawn) rules
           where

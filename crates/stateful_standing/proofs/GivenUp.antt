@@ -54,7 +54,7 @@ module _ {B C I P R D H G U : Type 0} (w : Workings B C I P R D H G U) (stored :
   -- each other request stands behind the cancel
   pub others-cancelled : All (λ e. e.0 ≢ t → IsStanding w stored (Came (Cancel t) ∷ p) runs e.0 e.1) requests
   others-cancelled = All-weaker (λ (e : ℕ × Requested B C I). IsStanding w stored p runs e.0 e.1) (λ e. e.0 ≢ t → IsStanding w stored (Came (Cancel t) ∷ p) runs e.0 e.1)
-      (λ e s ne. IsStanding-calm w stored p (Came (Cancel t)) runs e.0 e.1 (cancel-LeavesTicket p t e.0 ne) (λ f is. cancel-LeavesFetch p t f) (λ a. a) s) requests h.each
+      (λ e s ne. IsStanding-calm w stored p (Came (Cancel t)) runs e.0 e.1 (cancel-LeavesTicket p t e.0 ne) (λ f is. cancel-LeavesFetch p t f) s) requests h.each
 
   module _ (r : Requested B C I) (there : at requests t ≡ Some r) where
     -- a live fetch that isn't the request's is another one's

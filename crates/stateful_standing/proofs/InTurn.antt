@@ -49,7 +49,7 @@ module _ {B C I P R D H G U : Type 0} (w : Workings B C I P R D H G U) (stored :
 
       -- all of them are served
       pub AreServed-each : (xs : List X) (p : Past B C I) (m last : Moment w) → IsReady p m → All (IsFit p m) xs → AllPairs (λ x y. ticket x ≢ ticket y) xs → InTurn Rule xs m last → AreServed p m last
-      AreServed-each [] p _ _ ready each apart (none {m = m}) = record { behind = record { more = []; marks_are = sym (append-nil m.marks); members_are = refl; stands = ready.stands }; ready = ready }
+      AreServed-each [] p _ _ ready each apart (none {m = m}) = record { behind = record { more = []; marks_are = sym (append-nil m.marks); members_are = refl; stands = ready.stands; waiting = λ h. h }; ready = ready }
       AreServed-each (x ∷ xs) p m last ready each apart (next {n = n} rule rules) =
           let served : Serves w stored p points point m (ticket x) n = serves p m n x ready (All-head (IsFit p m) x xs each) rule in
           let others : All (λ y. ticket y ≢ ticket x) xs = λ k y within same. apart 0 (suc k) y (omega arith) (omega (arith, within)) (sym same) in
@@ -67,6 +67,7 @@ module _ {B C I P R D H G U : Type 0} (w : Workings B C I P R D H G U) (stored :
               marks_are = behind.marks_are ∙ ap (λ marks. marks ++ behind.more) served.behind.marks_are ∙ append_assoc m.marks served.behind.more behind.more;
               members_are = behind.members_are ∙ served.behind.members_are;
               stands = rw (after-append p served.behind.more behind.more) behind.stands;
+              waiting = λ h. rw (after-append p served.behind.more behind.more) (behind.waiting (served.behind.waiting h));
             };
             ready = subst (λ q. IsReady q last) (sym (after-append p served.behind.more behind.more)) rest.ready;
           }

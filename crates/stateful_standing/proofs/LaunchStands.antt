@@ -33,7 +33,7 @@ module _ {B C I P R D H G U : Type 0} (w : Workings B C I P R D H G U) (stored :
     (other_states : (n i : w.Ids) (x y : w.States) (c : List (Point w)) → w.kind.issued n ((i, x) ∷ c) → w.kind.issued n ((i, y) ∷ c))
     (members : w.kind.Members) (located : w.kind.point members ≡ Some point) (drawn : w.kind.issued next (point ∷ []))
     (b parent : Named B) (starts : StartsRun w b parent members next now old running) (met : Met (setting w stored) p b) (parent_met : Met (setting w stored) p parent)
-    (parent_is : parent.digest ≡ parent_of (setting w stored) b) (at_hand : IsAtHand old.anchor old.cache parent.digest) (unrun : All (λ e. e.1.block.digest ≢ b.digest) old.runs)
+    (parent_is : parent.digest ≡ parent_of (setting w stored) b) (at_hand : IsAtHand old.anchor old.cache parent.digest) (other : b.digest ≢ old.anchor.digest) (unrun : All (λ e. e.1.block.digest ≢ b.digest) old.runs)
     (t : ℕ) (r : Requested B C I) (hand : IsInHand w stored p t r.request old) (acquired : All (Met (setting w stored) p) r.acquired) (blocks : List (Named B)) (way : IsWayOf w stored p r.request (record { blocks = blocks; parent = b })) where
   abbrev given : Past B C I
   given = Made (Started old.next_job Candidate b.digest) ∷ p
@@ -48,7 +48,7 @@ module _ {B C I P R D H G U : Type 0} (w : Workings B C I P R D H G U) (stored :
   executing = record r { phase = Executing old.next_job path }
 
   nothing : at old.runs old.next_job ≡ None
-  nothing = no_run w stored p points point next now old running s other_states members located drawn b parent starts met parent_met parent_is at_hand unrun
+  nothing = no_run w stored p points point next now old running s other_states members located drawn b parent starts met parent_met parent_is at_hand other unrun
 
   -- the run of another request is another one
   stays : (u : ℕ) (q : Requested B C I) → IsStanding w stored p old.runs u q → (j : ℕ) (way : Path B) → q.phase ≡ Executing j way → at (put old.runs old.next_job live) j ≡ at old.runs j
@@ -63,7 +63,7 @@ module _ {B C I P R D H G U : Type 0} (w : Workings B C I P R D H G U) (stored :
   others = λ k x l.
       let e = get_or old.requests k x in
       let stands = s.requests.each k x l in
-      IsStanding-calm w stored p (Made (Started old.next_job Candidate b.digest)) (put old.runs old.next_job live) e.0 e.1 (record { live = refl; verified = refl; proposed = refl }) (λ g is. record { live = refl; asked = refl }) (λ a. a)
+      IsStanding-calm w stored p (Made (Started old.next_job Candidate b.digest)) (put old.runs old.next_job live) e.0 e.1 (record { live = refl; verified = refl; proposed = refl }) (λ g is. record { live = refl; asked = refl })
       (IsStanding-runs w stored p old.runs (put old.runs old.next_job live) e.0 e.1 (stays e.0 e.1 stands) stands)
 
   own : IsStanding w stored given (put old.runs old.next_job live) t executing
@@ -93,8 +93,8 @@ module _ {B C I P R D H G U : Type 0} (w : Workings B C I P R D H G U) (stored :
   pub TablesStand-launches : TablesStand w stored given points point now (moved running t r (Executing old.next_job path))
   TablesStand-launches = rw starts.state (record {
     at_anchor = s.at_anchor;
-    cache = CacheStands-starts w stored p points point next now old running s other_states members located drawn b parent starts met parent_met parent_is at_hand unrun;
-    runs = RunsStand-starts w stored p points point next now old running s other_states members located drawn b parent starts met parent_met parent_is at_hand unrun;
+    cache = CacheStands-starts w stored p points point next now old running s other_states members located drawn b parent starts met parent_met parent_is at_hand other unrun;
+    runs = RunsStand-starts w stored p points point next now old running s other_states members located drawn b parent starts met parent_met parent_is at_hand other unrun;
     requests = record {
       ascending = sorted_put old.requests t executing s.requests.ascending;
       each = All-put (λ (e : ℕ × Requested B C I). IsStanding w stored given (put old.runs old.next_job live) e.0 e.1) old.requests t executing others own;

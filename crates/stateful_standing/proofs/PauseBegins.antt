@@ -25,7 +25,7 @@ use Rattle.stateful_exec.specs.declared.tables.Requested.{Requested}
 use Rattle.stateful_standing.specs.Setting.{setting}
 use Rattle.stateful_standing.specs.Chains.{Chain, Leads}
 use Rattle.stateful_standing.specs.Caching.{IsCached, CacheStands}
-use Rattle.stateful_standing.specs.Requesting.{first_of, IsStanding, RequestsStand}
+use Rattle.stateful_standing.specs.Requesting.{IsStanding, RequestsStand}
 use Rattle.stateful_standing.specs.Running.{IsRunning, RunsStand}
 use Rattle.stateful_standing.specs.Standing.{TablesStand}
 use Rattle.stateful_standing.proofs.Calm.{Stacked-led}
@@ -82,9 +82,11 @@ module _ {B C I P R D H G U : Type 0} (w : Workings B C I P R D H G U) (stored :
     -- the live runs stand too
     pub RunsStand-began : (runs : List (ℕ × LiveRun B R)) → RunsStand w stored p points next anchor cache runs → RunsStand w stored began points next anchor cache runs
     RunsStand-began runs old = record {
+      ascending = old.ascending;
       each = All-weaker (λ (e : ℕ × LiveRun B R). IsRunning w stored p points next anchor cache e.0 e.1) (λ e. IsRunning w stored began points next anchor cache e.0 e.1) (λ e h. record {
         job = record { live = h.job.live; is = h.job.is };
         met = inr h.met;
+        other = h.other;
         parent = h.parent;
         parent_met = inr h.parent_met;
         parent_is = h.parent_is;
@@ -102,7 +104,7 @@ module _ {B C I P R D H G U : Type 0} (w : Workings B C I P R D H G U) (stored :
     }
 
   -- a verification that abstains still does
-  abstains-began : (anchor : Anchor) → tip_of w.header p ≡ Some anchor → anchor.height.0 ≤ w.header.height b.block → (t : ℕ) (c : Named B) → Abstains (setting w stored) t p c → Abstains (setting w stored) t began c
+  pub abstains-began : (anchor : Anchor) → tip_of w.header p ≡ Some anchor → anchor.height.0 ≤ w.header.height b.block → (t : ℕ) (c : Named B) → Abstains (setting w stored) t p c → Abstains (setting w stored) t began c
   abstains-began anchor tip_is up t c (inl answered) = inl answered
   abstains-began anchor tip_is up t c (inr undecided) = inr (elim (tip_of w.header p) as (λ (o : Option Anchor). o ≡ Some anchor → MatchOption o ⊥ (λ tip. (w.header.height c.block < tip.height.0) × (canonical_by (setting w stored) p (w.header.height c.block) o (anchor_of w.header p) ≡ None)) → IsUndecided (setting w stored) began c) [
     | None ↦ λ is h. absurd h
@@ -111,25 +113,24 @@ module _ {B C I P R D H G U : Type 0} (w : Workings B C I P R D H G U) (stored :
         (omega (arith, h.0, same), still_undecided (setting w stored) p (w.header.height c.block) tip (anchor_by w.header b) (anchor_of w.header p) h.0 (omega arith) h.1)
   ] tip_is undecided)
 
-  requests-began : (anchor : Anchor) → tip_of w.header p ≡ Some anchor → anchor.height.0 ≤ w.header.height b.block → (runs : List (ℕ × LiveRun B R)) (requests : List (ℕ × Requested B C I))
-      → RequestsStand w stored p runs requests → RequestsStand w stored began runs requests
-  requests-began anchor tip_is up runs requests old = record {
+  requests-began : (runs : List (ℕ × LiveRun B R)) (requests : List (ℕ × Requested B C I)) → RequestsStand w stored p runs requests → RequestsStand w stored began runs requests
+  requests-began runs requests old = record {
     ascending = old.ascending;
     each = All-weaker (λ (e : ℕ × Requested B C I). IsStanding w stored p runs e.0 e.1) (λ e. IsStanding w stored began runs e.0 e.1)
-        (λ e h. IsStanding-calm w stored p (Made (Began ticket b)) runs e.0 e.1 (record { live = refl; verified = refl; proposed = refl }) (λ f is. record { live = refl; asked = refl }) (abstains-began anchor tip_is up e.0 (first_of e.1.request)) h) requests old.each;
+        (λ e h. IsStanding-calm w stored p (Made (Began ticket b)) runs e.0 e.1 (record { live = refl; verified = refl; proposed = refl }) (λ f is. record { live = refl; asked = refl }) h) requests old.each;
     fetches = λ f t live asked. old.fetches f t live asked;
     wanted = old.wanted;
   }
 
-  -- The tables stand behind a pause for the finalization of a block that is no lower than the anchor, which is the tip.
+  -- The tables stand behind a pause for the finalization of a block, where the anchor is the tip.
   pub TablesStand-finalizing : (points : Digest → Point w) (point : Point w) (next : w.Ids) (old new : Tables B C I R U) (marks : List (Mark B)) (boundary : Boundary) → old.pause ≡ Free
-      → IsOverTip (setting w stored) p old.anchor b → old.anchor.height.0 ≤ w.header.height b.block → IsBoundaryOf w.header b old.cache boundary
+      → IsOverTip (setting w stored) p old.anchor b → IsBoundaryOf w.header b old.cache boundary
       → TablesStand w stored p points point next old → Pauses (Some boundary) old new marks → TablesStand w stored (after p (Began ticket b ∷ marks)) points point next new
-  TablesStand-finalizing points point next old new marks boundary free over up is_boundary s pauses = TablesStand-paused w stored (Some boundary) began points point next old new marks (record {
+  TablesStand-finalizing points point next old new marks boundary free over is_boundary s pauses = TablesStand-paused w stored (Some boundary) began points point next old new marks (record {
     at_anchor = s.at_anchor;
     cache = CacheStands-began points next old.anchor old.cache over boundary is_boundary (subst (λ pause. CacheStands w stored p points next old.anchor pause old.cache) free s.cache);
     runs = RunsStand-began points next old.anchor old.cache old.runs s.runs;
-    requests = requests-began old.anchor over.tip_is up old.runs old.requests s.requests;
+    requests = requests-began old.runs old.requests s.requests;
     once = s.once;
     queue = record { each = λ k d l. let e = s.queue.each k d l in record { live = e.live; proposes = e.proposes }; ready = s.queue.ready };
     numbers = record { jobs = s.numbers.jobs; unturned = s.numbers.unturned; fetches = s.numbers.fetches };

@@ -1,6 +1,6 @@
 -- What is known once a finalization has begun: the finalized block, and what is cached and compatible with it.
 use Rattle.std.proofs.Common.{◌≡◌, ◌≢◌, ◌++◌, ◌↔◌, ◌⊎◌, inl, inr, ℕ, List, [], ◌∷◌, All, Any, Contains, Option, Some, refl, sym, ap, ◌∙◌, subst, arith, MatchOption}
-use Rattle.std.proofs.lemmas.List.Elements.{All-weaker, All-nil, All-cons, All-head, All-tail, All-push, All-contains}
+use Rattle.std.proofs.lemmas.List.Elements.{All-nil, All-cons, All-head, All-tail, All-push, All-contains}
 use Rattle.stateful_types.specs.Names.{Named}
 use Rattle.stateful_types.specs.Anchor.{anchor_by}
 use Rattle.stateful_types.specs.Round.{IsLater}
@@ -14,7 +14,7 @@ use Rattle.stateful_history.specs.Met.{Met, TrueNames}
 use Rattle.stateful_history.specs.Known.{Known, is_tip, kept, stays, IsPastTip}
 use Rattle.stateful_history.specs.declared.mark.Mark.TheVariants.{Began}
 use Rattle.stateful_cache.specs.Cache.{IsIn, InOrder}
-use Rattle.stateful_cache.specs.Cut.{GoesOn, AreNamed}
+use Rattle.stateful_cache.specs.Cut.{GoesOn}
 use Rattle.stateful_cache.specs.declared.cache.Cached.{Cached}
 use Rattle.stateful_exec.specs.Boundary.{Boundary}
 use Rattle.stateful_exec.specs.Finalizing.{IsBoundaryOf}
@@ -22,6 +22,7 @@ use Rattle.stateful_exec.specs.Workings.{Workings, Point}
 use Rattle.stateful_exec.specs.declared.pause.Pause.TheVariants.{Free, Finalizing}
 use Rattle.stateful_standing.specs.Setting.{setting}
 use Rattle.stateful_standing.specs.Caching.{IsKnownBy, IsCached, CacheStands}
+use Rattle.stateful_standing.proofs.Naming.{named_apart}
 
 -- no round is later than itself
 IsLater-self : (r : Round) → IsLater r r → ⊥
@@ -29,10 +30,10 @@ IsLater-self r (inl l) = omega arith
 IsLater-self r (inr l) = omega (arith, l.1)
 
 -- the element of an `Any`, with what is true of each
-Any-found : {X : Type 0} (P Q : X → Type 0) (xs : List X) → All P xs → Any Q xs → (x : X) × P x × Q x
+pub Any-found : {X : Type 0} (P Q : X → Type 0) (xs : List X) → All P xs → Any Q xs → (x : X) × P x × Q x
 Any-found P Q xs all any = (any.1, subst P any.3 (all any.0 any.1 any.2), any.4)
 
-Any-contains : {X : Type 0} (Q : X → Type 0) (xs : List X) (x : X) → Contains xs x → Q x → Any Q xs
+pub Any-contains : {X : Type 0} (Q : X → Type 0) (xs : List X) (x : X) → Contains xs x → Q x → Any Q xs
 Any-contains Q xs x c h = (c.0, x, c.1, c.2, h)
 
 some_digest : (x y : Anchor) → Some x ≡ Some y → y.digest ≡ x.digest
@@ -79,24 +80,12 @@ module _ {B C I P R D H G U : Type 0} (w : Workings B C I P R D H G U) (stored :
       let same : x ≡ b = over.names x b met over.met e in
       IsLater-self (w.header.round b.block) (subst (λ (y : Named B). Later y) same later)
 
-  -- entries of one digest are of one block
-  named_apart : AreNamed anchor.digest cache
-  named_apart = record {
-    in_order = old.in_order;
-    other = All-weaker Entry (λ e. e.digest ≢ anchor.digest) (λ e h. h.other) cache old.each;
-    same = λ e f among_e among_f is.
-        let h : Entry e = All-contains Entry cache e old.each among_e in
-        let k : Entry f = All-contains Entry cache f old.each among_f in
-        let one : h.block ≡ k.block = over.names h.block k.block h.met k.met (h.digest_is ∙ is ∙ sym k.digest_is) in
-        (sym h.parent_is ∙ ap (λ (y : Named B). w.header.parent y.block) one ∙ k.parent_is, sym h.round_is ∙ ap (λ (y : Named B). w.header.round y.block) one ∙ k.round_is);
-  }
-
   -- a known block of a later round, whose parent is at hand, is kept
   found : (x : Named B) → Met (setting w stored) p x → Known (setting w stored) p x.digest → IsPastTip (setting w stored) p x → Later x → (w.header.parent x.block ≡ b.digest) ⊎ IsIn is_boundary.kept (w.header.parent x.block) → IsIn is_boundary.kept x.digest
   found x met k late later parent = elim ((old.knows x.digest).0 k) [
     | inl is ↦ absurd (not_anchor x met late is)
     | inr any ↦
-        let e = Any-found (λ c. Entry c × (c.digest ≢ b.digest → IsLater (w.header.round b.block) c.round → GoesOn (anchor_by w.header b) is_boundary.kept c → Contains is_boundary.kept c)) (λ c. c.digest ≡ x.digest) cache (λ i d l. (old.each i d l, is_boundary.cut.whole anchor.digest named_apart i d l)) any in
+        let e = Any-found (λ c. Entry c × (c.digest ≢ b.digest → IsLater (w.header.round b.block) c.round → GoesOn (anchor_by w.header b) is_boundary.kept c → Contains is_boundary.kept c)) (λ c. c.digest ≡ x.digest) cache (λ i d l. (old.each i d l, is_boundary.cut.whole anchor.digest (named_apart w stored p points next anchor cache over.names old.each old.in_order) i d l)) any in
         let h : Entry e.0 = e.1.0 in
         let same : h.block ≡ x = over.names h.block x h.met met (h.digest_is ∙ e.2) in
         let parent_is : e.0.parent ≡ w.header.parent x.block = sym h.parent_is ∙ ap (λ (y : Named B). w.header.parent y.block) same in

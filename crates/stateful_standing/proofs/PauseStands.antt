@@ -91,7 +91,7 @@ module _ {B C I P R D H G U : Type 0} (w : Workings B C I P R D H G U) (stored :
     standing-gone t r not p [] h = h
     standing-gone t r not p (g ∷ fs) h =
         standing-gone t r not (Made (Withdrawn g) ∷ p) fs
-        (IsStanding-calm w stored p (Made (Withdrawn g)) runs t r (record { live = refl; verified = refl; proposed = refl }) (λ f is. absurd (not f is)) (λ a. a) h)
+        (IsStanding-calm w stored p (Made (Withdrawn g)) runs t r (record { live = refl; verified = refl; proposed = refl }) (λ f is. absurd (not f is)) h)
 
     -- a request stands without its fetch
     standing-undone : (p : Past B C I) (t : ℕ) (r : Requested B C I) → IsStanding w stored p runs t r → IsStanding w stored p runs t (undone r)

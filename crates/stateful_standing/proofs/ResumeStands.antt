@@ -33,7 +33,7 @@ module _ {B C I P R D H G U : Type 0} (w : Workings B C I P R D H G U) (stored :
 
   module _ (p : Past B C I) (m : Moment w) (s : TablesStand w stored p points point m.next (record m.state { pause = Free })) where
     -- they are taken out, and in hand
-    out : All (IsOnWay w stored points point ticket_of request_of path_of p (unparked w m)) (parked_in m.state.requests)
+    pub out : All (IsOnWay w stored points point ticket_of request_of path_of p (unparked w m)) (parked_in m.state.requests)
     out = All-parked (IsOnWay w stored points point ticket_of request_of path_of p (unparked w m)) m.state.requests (λ k d l path is.
         let e = get_or m.state.requests k d in
         let standing = s.requests.each k d l in

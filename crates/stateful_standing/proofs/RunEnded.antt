@@ -51,6 +51,7 @@ module _ {B C I P R D H G U : Type 0} (w : Workings B C I P R D H G U) (stored :
   pub RunsStand-ended : (points : Digest → Point w) (next : w.Ids) (anchor : Anchor) (cache : List (Cached U)) (j : ℕ) (runs : List (ℕ × LiveRun B R)) → RunsStand w stored p points next anchor cache runs
       → RunsStand w stored (Made (Ended j Cancelled) ∷ p) points next anchor cache (without runs j)
   RunsStand-ended points next anchor cache j runs h = record {
+    ascending = sorted_without runs j h.ascending;
     each = All-without (λ (e : ℕ × LiveRun B R). IsRunning w stored (Made (Ended j Cancelled) ∷ p) points next anchor cache e.0 e.1) runs j
         (λ k d l ne. let e = get_or runs k d in IsRunning-calm w stored p (Made (Ended j Cancelled)) (ended-IsCalm (setting w stored) p j) points next anchor cache e.0 e.1 (ended-LeavesJob j e.0 ne) (h.each k d l));
     apart = AllPairs-filter (λ (e f : ℕ × LiveRun B R). e.1.block.digest ≢ f.1.block.digest) (λ e. not (e.0 == j)) runs h.apart;
@@ -82,7 +83,7 @@ module _ {B C I P R D H G U : Type 0} (w : Workings B C I P R D H G U) (stored :
     each = λ k d l.
         let e = get_or (without old.requests t) k d in
         IsStanding-runs w stored (ended ∷ given) old.runs (without old.runs j) e.0 e.1 (λ i way is. at_other old.runs j i (on_its_run j i e.1.phase way (each-other k d l) is))
-        (IsStanding-calm w stored given ended old.runs e.0 e.1 (record { live = refl; verified = refl; proposed = refl }) (λ f is. record { live = refl; asked = refl }) (λ a. a) (each-given k d l));
+        (IsStanding-calm w stored given ended old.runs e.0 e.1 (record { live = refl; verified = refl; proposed = refl }) (λ f is. record { live = refl; asked = refl }) (each-given k d l));
     fetches = λ f u live asked. fetches-left w stored p t old.runs old.requests s.requests r there f u (λ is. let no : Executing j path ≡ Fetching f = sym executing ∙ is in cc) live asked;
     wanted = λ i live none.
         let ne : i ≢ j = (λ same. let gone : IsSome (at (without old.runs j) j) = subst (λ n. IsSome (at (without old.runs j) n)) same live in none_is (at (without old.runs j) j) (at_gone old.runs j) gone) in

@@ -1,5 +1,5 @@
 -- A request in hand is served, and the others in hand stay so.
-use Rattle.std.proofs.Common.{◌≢◌, ◌↔◌, inl, inr, ℕ, true, false, List, [], ◌∷◌, All, Option, refl, ◌∙◌}
+use Rattle.std.proofs.Common.{◌≡◌, ◌≢◌, ◌↔◌, inl, inr, ℕ, true, false, List, [], ◌∷◌, All, Option, refl, ◌∙◌}
 use Rattle.std.proofs.lemmas.List.Elements.{All-weaker}
 use Rattle.stateful_types.specs.Names.{Named}
 use Rattle.stateful_types.specs.declared.digest.Digest.{Digest}
@@ -16,13 +16,14 @@ use Rattle.stateful_exec.specs.declared.request.Request.TheVariants.{Verify, Rec
 use Rattle.stateful_exec.specs.declared.request.Verdict.TheVariants.{Valid, Invalid}
 use Rattle.stateful_exec.specs.declared.request.Verdict.{Verdict as Verdicts}
 use Rattle.stateful_exec.specs.declared.tables.Phase.{Phase}
+use Rattle.stateful_exec.specs.declared.tables.Phase.TheVariants.{Waiting}
 use Rattle.stateful_exec.specs.declared.tables.Requested.{Requested}
 use Rattle.stateful_standing.specs.Setting.{setting}
-use Rattle.stateful_standing.specs.Requesting.{brought_by, IsInPhase}
+use Rattle.stateful_standing.specs.Requesting.{first_of, brought_by, IsInPhase, AllAbstain}
 use Rattle.stateful_standing.specs.Standing.{TablesStand, IsInHand, StandsBehind}
 use Rattle.stateful_standing.proofs.Asking.{LeavesTicket, IsRequestOf-calm}
 use Rattle.stateful_standing.proofs.ConcludeStands.{verdict-TellsOf, declined-TellsOf, TablesStand-concludes}
-use Rattle.stateful_standing.proofs.Putting.{put_other}
+use Rattle.stateful_standing.proofs.Putting.{All-put, put_other}
 use Rattle.stateful_standing.proofs.PutStands.{TablesStand-put}
 
 -- what the item doesn't bring was there before
@@ -56,6 +57,13 @@ module _ {B C I P R D H G U : Type 0} (w : Workings B C I P R D H G U) (stored :
     others_told (Recover k context ancestry input kind) Valid u other ne h = record { absent = h.absent; not_queued = put_other m.state.queued t u _ ne ∙ h.not_queued; own = h.own; brought = h.brought; asked = h.asked }
     others_told (Recover k context ancestry input kind) Invalid u other ne h = in_hand-calm (Made (Declined t)) u other ((declined-TellsOf (setting w stored) p t).tickets u ne) h
 
+    -- the requests that wait are those that did
+    waiting_told : (request : Request B C I) (v : Verdicts) → AllAbstain w stored p m.state.requests → AllAbstain w stored (after p (told t request v)) (ended m.state t request v).requests
+    waiting_told (Verify k ancestry) Valid h = h
+    waiting_told (Verify k ancestry) Invalid h = h
+    waiting_told (Recover k context ancestry input kind) Valid h = h
+    waiting_told (Recover k context ancestry input kind) Invalid h = h
+
     abstains_told : (request : Request B C I) (v : Verdicts) (u : ℕ) (b : Named B) → Abstains (setting w stored) u p b → Abstains (setting w stored) u (after p (told t request v)) b
     abstains_told (Verify k ancestry) Valid u b a = a
     abstains_told (Verify k ancestry) Invalid u b a = a
@@ -65,7 +73,7 @@ module _ {B C I P R D H G U : Type 0} (w : Workings B C I P R D H G U) (stored :
     -- it ended
     pub Serves-concludes : (v : Verdicts) (now : Moment w) → Concludes w m t r v now → Serves t now
     Serves-concludes v now is = rw is (record {
-      behind = record { more = _; marks_are = refl; members_are = refl; stands = TablesStand-concludes w stored p points point m.next m.state t s r.request v hand };
+      behind = record { more = _; marks_are = refl; members_are = refl; stands = TablesStand-concludes w stored p points point m.next m.state t s r.request v hand; waiting = waiting_told r.request v };
       met = met_told r.request v;
       drawn = λ d. d;
       abstains = abstains_told r.request v;
@@ -73,9 +81,16 @@ module _ {B C I P R D H G U : Type 0} (w : Workings B C I P R D H G U) (stored :
     })
 
     -- it was put back
-    pub Serves-put : (phase : Phase B) (now : Moment w) → All (Met (setting w stored) p) r.acquired → IsInPhase w stored p m.state.runs t r.request phase → Becomes w m (moved m.state t r phase) [] now → Serves t now
-    Serves-put phase now met in_phase is = rw is (record {
-      behind = record { more = []; marks_are = refl; members_are = refl; stands = TablesStand-put w stored p points point m.next m.state t s r hand met phase in_phase };
+    pub Serves-put : (phase : Phase B) (now : Moment w) → All (Met (setting w stored) p) r.acquired → IsInPhase w stored p m.state.runs t r.request phase → (phase ≡ Waiting → Abstains (setting w stored) t p (first_of r.request))
+        → Becomes w m (moved m.state t r phase) [] now → Serves t now
+    Serves-put phase now met in_phase abstain is = rw is (record {
+      behind = record {
+        more = [];
+        marks_are = refl;
+        members_are = refl;
+        stands = TablesStand-put w stored p points point m.next m.state t s r hand met phase in_phase;
+        waiting = λ h. All-put (λ (e : ℕ × Requested B C I). e.1.phase ≡ Waiting → Abstains (setting w stored) e.0 p (first_of e.1.request)) m.state.requests t (record r { phase = phase }) h abstain;
+      };
       met = λ b. (λ k. k, λ k. k);
       drawn = λ d. d;
       abstains = λ u b a. a;
@@ -86,7 +101,13 @@ module _ {B C I P R D H G U : Type 0} (w : Workings B C I P R D H G U) (stored :
     pub Serves-launches : {left : List (Named B)} {b parent : Named B} (now : Moment w) (l : Launches w m t r left b parent now)
         → TablesStand w stored (after p (Started m.state.next_job Candidate b.digest ∷ [])) points point now.next now.state → Serves t now
     Serves-launches {b = b} now l stands = record {
-      behind = record { more = _; marks_are = l.marks; members_are = l.members; stands = stands };
+      behind = record {
+        more = _;
+        marks_are = l.marks;
+        members_are = l.members;
+        stands = stands;
+        waiting = λ h. rw (l.state, l.starts.state) (All-put (λ (e : ℕ × Requested B C I). e.1.phase ≡ Waiting → Abstains (setting w stored) e.0 p (first_of e.1.request)) m.state.requests t _ h (λ is. absurd (cc)));
+      };
       met = λ c. unbrought (setting w stored) p (Made (Started m.state.next_job Candidate b.digest)) c (λ no. no);
       drawn = l.starts.keeps (point ∷ []);
       abstains = λ u c a. a;

@@ -1,11 +1,11 @@
 -- The tables stand behind a run that is started.
-use Rattle.std.proofs.Common.{◌≡◌, ◌≢◌, ◌==◌, ◌<◌, ◌++◌, ◌⊎◌, ℕ, suc, Bool, true, false, List, [], ◌∷◌, All, AllPairs, Option, Some, None, IsSome, get_or, inl, inr, refl, sym, ap, ◌∙◌, subst, arith}
+use Rattle.std.proofs.Common.{◌≡◌, ◌≢◌, ◌==◌, ◌<◌, ℕ, suc, Bool, true, false, List, [], ◌∷◌, All, AllPairs, Option, Some, None, IsSome, get_or, inr, refl, sym, ◌∙◌, subst, arith}
 use Rattle.std.specs.Ordering.{nat_cmp, match_ordering, MatchOrdering}
 use Rattle.std.specs.declared.cmp.Ordering.{Ordering}
 use Rattle.std.specs.declared.cmp.Ordering.TheVariants.{Less, Equal, Greater}
 use Rattle.std.proofs.lemmas.Bool.{eqb-true, eqb-false, eq-eqb}
 use Rattle.std.proofs.lemmas.Cmp.{ranked}
-use Rattle.std.proofs.lemmas.List.Elements.{All-weaker, All-head, All-tail, All-contains}
+use Rattle.std.proofs.lemmas.List.Elements.{All-weaker, All-head, All-tail}
 use Rattle.std.proofs.lemmas.List.Kept.{AllPairs-cons}
 use Rattle.stateful_types.specs.Names.{Named}
 use Rattle.stateful_types.specs.declared.anchor.Anchor.{Anchor}
@@ -21,19 +21,18 @@ use Rattle.stateful_cache.specs.Cache.{IsAtHand}
 use Rattle.stateful_cache.specs.declared.cache.Cached.{Cached}
 use Rattle.stateful_table.specs.Table.{at, put}
 use Rattle.stateful_table.proofs.Tables.{is_at_number}
-use Rattle.stateful_exec.specs.Starting.{IsOver, databases, batch, IsFresh, StartsRun}
+use Rattle.stateful_exec.specs.Starting.{IsFresh, StartsRun}
 use Rattle.stateful_exec.specs.Workings.{Workings, Point}
 use Rattle.stateful_exec.specs.declared.state.Tables.{Tables}
 use Rattle.stateful_exec.specs.declared.tables.LiveRun.{LiveRun}
 use Rattle.stateful_standing.specs.Setting.{setting}
-use Rattle.stateful_standing.specs.Chains.{Chain, Leads, here}
 use Rattle.stateful_standing.specs.Caching.{IsCached, CacheStands}
 use Rattle.stateful_standing.specs.Running.{IsRunning, RunsStand}
 use Rattle.stateful_standing.specs.Standing.{TablesStand}
 use Rattle.stateful_standing.proofs.Calm.{IsCalm, LeavesJob, Chain-calm, CacheStands-calm, IsRunning-calm}
-use Rattle.stateful_standing.proofs.Cutting.{CutBelow, split}
+use Rattle.stateful_standing.proofs.OverChain.{IsOnChain, on_chain}
 use Rattle.stateful_standing.proofs.Removing.{differ, All-at}
-use Rattle.stateful_standing.proofs.Putting.{All-put, put_here, put_other}
+use Rattle.stateful_standing.proofs.Putting.{sorted_put, All-put, put_here, put_other}
 
 -- pairs that are apart stay so with a value more that is apart from all
 pub AllPairs-put : {V : Type 0} (R : ℕ × V → ℕ × V → Type 0) (es : List (ℕ × V)) (t : ℕ) (v : V) → at es t ≡ None → AllPairs R es → All (R (t, v)) es → All (λ e. R e (t, v)) es → AllPairs R (put es t v)
@@ -64,7 +63,7 @@ module _ {B C I : Type 0} (p : Past B C I) (j : ℕ) (d : Digest) where
 
 module _ {B C I P R D H G U : Type 0} (w : Workings B C I P R D H G U) (stored : ℕ → Option (Named B)) (p : Past B C I) (points : Digest → Point w) (next now : w.Ids) (keeps : (c : List (Point w)) → w.kind.issued next c → w.kind.issued now c) (anchor : Anchor) where
   -- ids that are drawn leave those that were drawn before
-  CacheStands-next : (pause : _) (cache : List (Cached U)) → CacheStands w stored p points next anchor pause cache → CacheStands w stored p points now anchor pause cache
+  pub CacheStands-next : (pause : _) (cache : List (Cached U)) → CacheStands w stored p points next anchor pause cache → CacheStands w stored p points now anchor pause cache
   CacheStands-next pause cache h = record {
     each = All-weaker (IsCached w stored p points next anchor) (IsCached w stored p points now anchor) (λ e c. record {
       block = c.block;
@@ -82,10 +81,11 @@ module _ {B C I P R D H G U : Type 0} (w : Workings B C I P R D H G U) (stored :
     knows = h.knows;
   }
 
-  IsRunning-next : (cache : List (Cached U)) (j : ℕ) (run : LiveRun B R) → IsRunning w stored p points next anchor cache j run → IsRunning w stored p points now anchor cache j run
+  pub IsRunning-next : (cache : List (Cached U)) (j : ℕ) (run : LiveRun B R) → IsRunning w stored p points next anchor cache j run → IsRunning w stored p points now anchor cache j run
   IsRunning-next cache j run h = record {
     job = h.job;
     met = h.met;
+    other = h.other;
     parent = h.parent;
     parent_met = h.parent_met;
     parent_is = h.parent_is;
@@ -103,7 +103,7 @@ module _ {B C I P R D H G U : Type 0} (w : Workings B C I P R D H G U) (stored :
     (other_states : (n i : w.Ids) (x y : w.States) (c : List (Point w)) → w.kind.issued n ((i, x) ∷ c) → w.kind.issued n ((i, y) ∷ c))
     (members : w.kind.Members) (located : w.kind.point members ≡ Some point) (drawn : w.kind.issued next (point ∷ []))
     (b parent : Named B) (starts : StartsRun w b parent members next now old new) (met : Met (setting w stored) p b) (parent_met : Met (setting w stored) p parent)
-    (parent_is : parent.digest ≡ parent_of (setting w stored) b) (at_hand : IsAtHand old.anchor old.cache parent.digest) (unrun : All (λ e. e.1.block.digest ≢ b.digest) old.runs) where
+    (parent_is : parent.digest ≡ parent_of (setting w stored) b) (at_hand : IsAtHand old.anchor old.cache parent.digest) (other : b.digest ≢ old.anchor.digest) (unrun : All (λ e. e.1.block.digest ≢ b.digest) old.runs) where
   abbrev given : Past B C I
   given = Made (Started old.next_job Candidate b.digest) ∷ p
 
@@ -116,45 +116,11 @@ module _ {B C I P R D H G U : Type 0} (w : Workings B C I P R D H G U) (stored :
   new_job : (j : ℕ) (k : _) → started_for j p ≡ Some k → j ≢ old.next_job
   new_job j k is same = let some : started_for j p ≢ None = (λ none. let no : Some k ≡ None = sym is ∙ none in cc) in let l = s.numbers.jobs j some in omega (arith, l, same)
 
-  -- the run is fresh on the chain of its parent
-  record IsOnParent : Type 0 where
-    below : List (Point w)
-    chain : Chain w stored p points old.anchor.digest parent.digest (points parent.digest ∷ below)
-    fresh : IsFresh w starts.run finality.Candidate b parent next (points parent.digest) below
-    issued : w.kind.issued now ((next, w.kind.begun (points parent.digest).1) ∷ points parent.digest ∷ below)
-
-  on_parent : IsOver w old.anchor.digest old.cache members next now (λ q c. IsFresh w starts.run finality.Candidate b parent next q c) parent.digest → IsOnParent
-  on_parent (databases same over) =
-      let at_point : points parent.digest ≡ point = ap points same ∙ s.at_anchor in
-      let got = over point located drawn in
-      record {
-        below = [];
-        chain = here same refl;
-        fresh = subst (λ (q : Point w). IsFresh w starts.run finality.Candidate b parent next q []) (sym at_point) got.0;
-        issued = subst (λ (q : Point w). w.kind.issued now ((next, w.kind.begun q.1) ∷ q ∷ [])) (sym at_point) got.1;
-      }
-  on_parent (batch e other contains is over) =
-      let cached = All-contains (IsCached w stored p points next old.anchor) old.cache e s.cache.each contains in
-      let cut = cut_of e cached (split w points (Leads w stored p) old.anchor.digest point s.at_anchor cached.chain) (λ same. other (sym is ∙ same)) in
-      let shown = subst (λ l. w.shows e.batch l) cut.is cached.shows in
-      let issued_before = subst (λ l. w.kind.issued next l) cut.is cached.drawn in
-      let got = over point (points e.digest) cut.above cut.older located shown issued_before in
-      record {
-        below = cut.above ++ point ∷ [];
-        chain = subst (λ x. Chain w stored p points old.anchor.digest x (points x ∷ cut.above ++ point ∷ [])) is cut.cut;
-        fresh = subst (λ x. IsFresh w starts.run finality.Candidate b parent next (points x) (cut.above ++ point ∷ [])) is got.0;
-        issued = subst (λ x. w.kind.issued now ((next, w.kind.begun (points x).1) ∷ points x ∷ cut.above ++ point ∷ [])) is got.1;
-      }
-    where
-      cut_of : (e : Cached U) (c : IsCached w stored p points next old.anchor e) → (e.digest ≡ old.anchor.digest) ⊎ CutBelow w points (Leads w stored p) old.anchor.digest point s.at_anchor e.digest (points e.digest ∷ c.below)
-          → (e.digest ≡ old.anchor.digest → ⊥) → CutBelow w points (Leads w stored p) old.anchor.digest point s.at_anchor e.digest (points e.digest ∷ c.below)
-      cut_of e c (inl same) ne = absurd (ne same)
-      cut_of e c (inr cut) ne = cut
-
-  is_running : IsOnParent → IsRunning w stored given points now old.anchor old.cache old.next_job live
+  is_running : IsOnChain w stored p points point next old s now members located drawn (λ q c. IsFresh w starts.run finality.Candidate b parent next q c) parent.digest → IsRunning w stored given points now old.anchor old.cache old.next_job live
   is_running o = record {
     job = record { live = rw (eq-eqb old.next_job old.next_job refl) refl; is = rw (eq-eqb old.next_job old.next_job refl) refl };
     met = inr met;
+    other = other;
     parent = parent;
     parent_met = inr parent_met;
     parent_is = parent_is;
@@ -163,9 +129,9 @@ module _ {B C I P R D H G U : Type 0} (w : Workings B C I P R D H G U) (stored :
     chain = Chain-calm w stored p (Made (Started old.next_job Candidate b.digest)) calm points old.anchor.digest parent.digest _ o.chain;
     own = next;
     drawn = λ x. other_states now next (w.kind.begun (points parent.digest).1) x _ o.issued;
-    context = o.fresh.context;
-    round = o.fresh.round;
-    runs = rw (s.numbers.unturned old.next_job (omega arith)) o.fresh.runs;
+    context = o.has.context;
+    round = o.has.round;
+    runs = rw (s.numbers.unturned old.next_job (omega arith)) o.has.runs;
   }
 
   others : All (λ e. IsRunning w stored given points now old.anchor old.cache e.0 e.1) old.runs
@@ -194,7 +160,8 @@ module _ {B C I P R D H G U : Type 0} (w : Workings B C I P R D H G U) (stored :
   -- the live runs stand with the run that is started
   pub RunsStand-starts : RunsStand w stored given points now old.anchor old.cache (put old.runs old.next_job live)
   RunsStand-starts = record {
-    each = All-put (λ (e : ℕ × LiveRun B R). IsRunning w stored given points now old.anchor old.cache e.0 e.1) old.runs old.next_job live others (is_running (on_parent starts.over));
+    ascending = sorted_put old.runs old.next_job live s.runs.ascending;
+    each = All-put (λ (e : ℕ × LiveRun B R). IsRunning w stored given points now old.anchor old.cache e.0 e.1) old.runs old.next_job live others (is_running (on_chain w stored p points point next old s now members located drawn (λ q c. IsFresh w starts.run finality.Candidate b parent next q c) parent.digest starts.over));
     apart = AllPairs-put (λ (e f : ℕ × LiveRun B R). e.1.block.digest ≢ f.1.block.digest) old.runs old.next_job live no_run s.runs.apart
         (All-weaker (λ (e : ℕ × LiveRun B R). e.1.block.digest ≢ b.digest) (λ e. b.digest ≢ e.1.block.digest) (λ e ne same. ne (sym same)) old.runs unrun) unrun;
     complete = complete;

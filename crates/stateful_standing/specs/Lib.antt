@@ -2,5 +2,11 @@ pub mod Setting
 pub mod Chains
 pub mod Caching
 pub mod Running
+pub mod Building
+pub mod Fronting
 pub mod Requesting
 pub mod Standing
+pub mod Gathering
+pub mod Ways
+pub mod Outstanding
+pub mod Reaching

@@ -59,11 +59,11 @@ module _ {B C I P R D H G U : Type 0} (w : Workings B C I P R D H G U) (stored :
     pub begins : first_or path.parent path.blocks ≡ first_of request
 
   module _ (runs : List (ℕ × LiveRun B R)) where
-    -- what holds in each phase: its fetch is live and its own; it abstains; the live run is of the next block of its path
+    -- what holds in each phase: its fetch is live and its own; it is a verification; the live run is of the next block of its path
     abbrev pub IsInPhase : ℕ → Request B C I → Phase B → Type 0
     IsInPhase t request Open = Unit {0}
     IsInPhase t request (Fetching f) = (live_fetch f p ≡ true) × (asked_for f p ≡ Some (Some t))
-    IsInPhase t request Waiting = IsVerification request × Abstains (setting w stored) t p (first_of request)
+    IsInPhase t request Waiting = IsVerification request
     IsInPhase t request (Executing j path) = MatchOption (at runs j) ⊥ (λ run. run.block ≡ path.parent) × IsWayOf request path
     IsInPhase t request (Parked path) = IsWayOf request path
 
@@ -82,6 +82,10 @@ module _ {B C I P R D H G U : Type 0} (w : Workings B C I P R D H G U) (stored :
       pub each : All (λ e. IsStanding e.0 e.1) requests
       pub fetches : (f t : ℕ) → live_fetch f p ≡ true → asked_for f p ≡ Some (Some t) → MatchOption (at requests t) ⊥ (λ r. r.phase ≡ Fetching f)
       pub wanted : (j : ℕ) → IsSome (at runs j) → tickets_on j requests ≢ []
+
+  -- each request that waits abstains
+  abbrev pub AllAbstain : List (ℕ × Requested B C I) → Type 0
+  AllAbstain requests = All (λ e. e.1.phase ≡ Waiting → Abstains (setting w stored) e.0 p (first_of e.1.request)) requests
 
   -- each queued build is of a live proposal
   pub record QueueStands (queued : List (ℕ × Proposal B C I)) (recovered : List ℕ) : Type 0 where

@@ -1,5 +1,8 @@
 -- The live candidate runs stand for a past.
 use Rattle.std.specs.Prelude.{◌≡◌, ◌≢◌, ℕ, Option, IsSome, List, [], ◌∷◌, All, AllPairs}
+use Rattle.std.specs.List.Sorted.{IsStrictlySortedBy}
+use Rattle.std.specs.Map.{keys_of}
+use Rattle.std.specs.Ordering.{nat_cmp}
 use Rattle.stateful_types.specs.Names.{Named}
 use Rattle.stateful_types.specs.declared.anchor.Anchor.{Anchor}
 use Rattle.stateful_types.specs.declared.digest.Digest.{Digest}
@@ -19,10 +22,12 @@ use Rattle.stateful_standing.specs.Setting.{setting}
 use Rattle.stateful_standing.specs.Chains.{Chain}
 
 module _ {B C I P R D H G U : Type 0} (w : Workings B C I P R D H G U) (stored : ℕ → Option (Named B)) (p : Past B C I) (points : Digest → Point w) (next : w.Ids) (anchor : Anchor) (cache : List (Cached U)) where
-  -- the run of this job is of a block behind its parent, which is at hand, on the parent's chain, and has had the job's turns
+  -- the run of this job is of a block, another one than the anchor, behind its parent, which is at hand, on the parent's chain;
+  -- and it has had the job's turns
   pub record IsRunning (j : ℕ) (run : LiveRun B R) : Type 0 where
     pub job : IsLiveJob j Candidate run.block.digest p
     pub met : Met (setting w stored) p run.block
+    pub other : run.block.digest ≢ anchor.digest
     pub parent : Named B
     pub parent_met : Met (setting w stored) p parent
     pub parent_is : parent.digest ≡ parent_of (setting w stored) run.block
@@ -35,8 +40,9 @@ module _ {B C I P R D H G U : Type 0} (w : Workings B C I P R D H G U) (stored :
     pub round : w.round_of context ≡ w.header.round run.block.block
     pub runs : w.works.runs run.run (run_of finality.Candidate context (record { first = run.block; rest = parent ∷ [] }) own (points parent.digest) below) (turns j p)
 
-  -- each live run stands so, no block has two, and each live job of a candidate is one of them
+  -- each live run stands so, by ascending numbers; no block has two, and each live job of a candidate is one of them
   pub record RunsStand (runs : List (ℕ × LiveRun B R)) : Type 0 where
+    pub ascending : IsStrictlySortedBy nat_cmp (keys_of runs)
     pub each : All (λ e. IsRunning e.0 e.1) runs
     pub apart : AllPairs (λ e f. e.1.block.digest ≢ f.1.block.digest) runs
     pub complete : (j : ℕ) (d : Digest) → IsLiveJob j Candidate d p → IsSome (at runs j)

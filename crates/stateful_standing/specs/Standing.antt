@@ -15,7 +15,7 @@ use Rattle.stateful_exec.specs.declared.request.Request.{Request}
 use Rattle.stateful_exec.specs.declared.state.Tables.{Tables}
 use Rattle.stateful_standing.specs.Setting.{setting}
 use Rattle.stateful_standing.specs.Caching.{CacheStands}
-use Rattle.stateful_standing.specs.Requesting.{brought_by, IsRequestOf, RequestsStand, QueueStands}
+use Rattle.stateful_standing.specs.Requesting.{brought_by, IsRequestOf, RequestsStand, AllAbstain, QueueStands}
 use Rattle.stateful_standing.specs.Running.{RunsStand}
 
 -- the numbers that are drawn next are above all that were drawn
@@ -43,9 +43,11 @@ module _ {B C I P R D H G U : Type 0} (w : Workings B C I P R D H G U) (stored :
     pub asked : IsRequestOf w stored p t request
     pub brought : All (Met (setting w stored) p) (brought_by request)
 
--- From one moment to a later one some marks are made, and the tables stand for the past with them. No database moves.
+-- From one moment to a later one some marks are made, and the tables stand for the past with them. Where each request that
+-- waited abstained, each one that waits still does. No database moves.
 pub record StandsBehind {B C I P R D H G U : Type 0} (w : Workings B C I P R D H G U) (stored : ℕ → Option (Named B)) (p : Past B C I) (points : Digest → Point w) (point : Point w) (m now : Moment w) : Type 0 where
   pub more : List (Mark B)
   pub marks_are : now.marks ≡ m.marks ++ more
   pub members_are : now.members ≡ m.members
   pub stands : TablesStand w stored (after p more) points point now.next now.state
+  pub waiting : AllAbstain w stored p m.state.requests → AllAbstain w stored (after p more) now.state.requests

@@ -14,7 +14,7 @@ returns-in-Ok c =
     let events = rw (c.as_slice-6.ensures.value, c.as_slice-7.ensures) at c.in_ok-events.ensures in
     let new = c.in_ok-stateful.ensures in
     let begins = begins_new _ _ _ new.down new.jobs new.fetches new.barriers c.empty_database.ensures.empty c.empty_database.ensures.batches in
-    rw c.in_plain.ensures (carried c.args.script.now c.in_ok-planned.planned.items c.in_ok-labels.labels.items c.in-Ok.driven.history (machine.Plain c.in-Ok.driven.stateful) (databases.Plain c.in-Ok.driven.databases) None _ c.in_ok-events.events.items planned labelled stored events c.in-Ok.ensures.all (record { first = _; last = _; begins = begins; steps = c.in-Ok.ensures.steps }) c.in-Ok.ensures.plays tt)
+    rw c.in_plain.ensures (carried c.args.script.now c.in_ok-planned.planned.items c.in_ok-labels.labels.items c.in-Ok.driven.history (machine.Plain c.in-Ok.driven.stateful) (databases.Plain c.in-Ok.driven.databases) None _ c.in_ok-events.events.items c.requires planned labelled stored events c.in-Ok.ensures.all (record { first = _; last = _; begins = begins; steps = c.in-Ok.ensures.steps }) c.in-Ok.ensures.plays tt)
 
 pub returns : goal.returns
 returns c =
@@ -25,7 +25,7 @@ returns c =
     let halt = c.in-Err.halt in
     let new = c.in_ok-stateful.ensures in
     let begins = begins_new _ _ _ new.down new.jobs new.fetches new.barriers c.empty_database.ensures.empty c.empty_database.ensures.batches in
-    rw c.in_plain-in-Err.ensures (carried c.args.script.now c.in_ok-planned.planned.items c.in_ok-labels.labels.items halt.driven.history (machine.Plain halt.driven.stateful) (databases.Plain halt.driven.databases) (Some halt.halted) _ c.in_ok-events.events.items planned labelled stored events (c.in-Err.ensures.part, c.in-Err.ensures.at.1, λ e. false≢true (sym c.if-wants_memory.false ∙ c.wants_memory.ensures.1 e)) (record { first = _; last = _; begins = begins; steps = c.in-Err.ensures.refused.3.steps }) c.in-Err.ensures.played (record {
+    rw c.in_plain-in-Err.ensures (carried c.args.script.now c.in_ok-planned.planned.items c.in_ok-labels.labels.items halt.driven.history (machine.Plain halt.driven.stateful) (databases.Plain halt.driven.databases) (Some halt.halted) _ c.in_ok-events.events.items c.requires planned labelled stored events (c.in-Err.ensures.part, c.in-Err.ensures.at.1, λ e. false≢true (sym c.if-wants_memory.false ∙ c.wants_memory.ensures.1 e)) (record { first = _; last = _; begins = begins; steps = c.in-Err.ensures.refused.3.steps }) c.in-Err.ensures.played (record {
       event = c.in-Err.ensures.refused.0;
       rest = c.in-Err.ensures.refused.1;
       behind = c.in-Err.ensures.refused.2;

@@ -15,4 +15,4 @@ loop-event-init c =
 pub loop-event-preserved : goal.loop-event-preserved
 loop-event-preserved c =
     let keeps = c.in_ok-store_finalized.ensures (genesis.block ∷ finalized c.args.planned.now (take c.loop-event.event-index c.args.script.now)) c.loop-event.invariant in
-    kept_more (get nat_cmp c.store_finalized.new.store.blocks) genesis.block c.args.planned.now c.args.script.now c.loop-event.event-index _ c.loop-event-test.true keeps
+    kept_more (get nat_cmp c.store_finalized.new.store.blocks) genesis.block c.args.planned.now c.args.script.now c.loop-event.event-index c.event-item.result c.loop-event-test.true c.event-item.is keeps

@@ -1,5 +1,5 @@
 use Rattle.std.proofs.Common.{◌∙◌}
-use Rattle.stateful_register.proofs.Changes.{RegisterStands-taken}
+use Rattle.stateful_register.proofs.Entries.{RegisterStands-taken}
 use Rattle.stateful_register.proofs.register.Register.record.Goals as goal
 
 pub returns-clause-ok : goal.returns-clause-ok
