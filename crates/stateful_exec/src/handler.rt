@@ -306,7 +306,8 @@ impl<A: Application + Drop> Execution<A, Handling> {
     pub fn ready(&mut self) -> Option<u64>
         ensures first { IfSome result (λ ticket. self.old.state.recovered
             ≡ ticket ∷ self.new.state.recovered) }
-        ensures none { IfNone result (self.old.state.recovered ≡ []) }
+        ensures none { IfNone result ((self.old.state.recovered ≡ [])
+            × (self.new.state ≡ self.old.state)) }
         ensures rest { self.new.state
             ≡ record self.old.state { recovered = self.new.state.recovered } }
         ensures works { (self.new.build ≡ self.old.build) × (self.new.front ≡ self.old.front) }

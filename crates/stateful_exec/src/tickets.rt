@@ -42,7 +42,7 @@ impl Tickets {
     /// Takes the first one out.
     pub(crate) fn pop(&mut self) -> Option<u64>
         ensures first { IfSome result (λ ticket. self.old ≡ ticket ∷ self.new) }
-        ensures none { IfNone result (self.old ≡ []) }
+        ensures none { IfNone result ((self.old ≡ []) × (self.new ≡ [])) }
     {
         self.tickets.pop_front()
     }
