@@ -307,7 +307,6 @@ impl<A: Application + Drop> Execution<A, Handling> {
         ensures first { IfSome result (λ ticket. self.old.state.recovered
             ≡ ticket ∷ self.new.state.recovered) }
         ensures none { IfNone result (self.old.state.recovered ≡ []) }
-        ensures unchanged { IfNone result (self.new.state ≡ self.old.state) }
         ensures rest { self.new.state
             ≡ record self.old.state { recovered = self.new.state.recovered } }
         ensures works { (self.new.build ≡ self.old.build) × (self.new.front ≡ self.old.front) }

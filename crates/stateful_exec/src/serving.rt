@@ -96,7 +96,6 @@ impl<B: Block + Drop, C: Copy, I: Drop, R: Drop, U: Drop> Tables<B, C, I, R, U> 
     pub(crate) fn ready(&mut self) -> Option<u64>
         ensures first { IfSome result (λ ticket. self.old.recovered ≡ ticket ∷ self.new.recovered) }
         ensures none { IfNone result (self.old.recovered ≡ []) }
-        ensures unchanged { IfNone result (self.new ≡ self.old) }
         ensures rest { self.new ≡ record self.old { recovered = self.new.recovered } }
     {
         self.recovered.pop()
