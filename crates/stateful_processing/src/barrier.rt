@@ -1,14 +1,15 @@
 //! How barriers begin, are flushed and complete.
 
-ghost use Rattle.std.specs.Prelude.{◌≡◌, ◌≢◌, ◌<◌, ◌≤◌, ◌∷◌, [], ℕ, Some, None, OnOk, IfErr, IsSome, Contains, length, option_and_then, slice_get, map};
+ghost use Rattle.std.specs.Prelude.{◌≡◌, ◌≢◌, ◌<◌, ◌≤◌, ◌∷◌, ◌++◌, [], ℕ, Some, None, OnOk, IfErr, IsSome, Contains, length, option_and_then, slice_get, map};
 ghost use Rattle.std.specs.Option.{ForSome};
 ghost use Rattle.stateful_db.specs.Barrier.{open_at};
+ghost use Rattle.stateful_durability.specs.Durability.{receipts_above, covered_receipts};
 ghost use Rattle.stateful_processing.specs.Barriers.{awaiting};
 ghost use Rattle.stateful_processing.specs.declared.barriers.Active.{Active as Opened};
 ghost use Rattle.stateful_processing.specs.Causes.{FaultsBarrier, FaultsFlush};
 ghost use Rattle.stateful_processing.specs.Intake.{Flushes};
 ghost use Rattle.stateful_processing.specs.Moments.{Executing, moment};
-ghost use Rattle.stateful_processing.specs.Rules.{Needed, BeginsBarrier, CompletesBarrier};
+ghost use Rattle.stateful_processing.specs.Rules.{Needed, BeginsBarrier, CompletesBarrier, acknowledged};
 
 use crate::barriers::Active;
 use crate::error::StepError;
@@ -42,6 +43,7 @@ pub(crate) fn begin_barrier<A: Application>(
         → A.Databases.kind.NoneAway (A.Databases.members databases.new) }
     ensures later { (n : ℕ)
         → A.Databases.counted databases.old n ≤ A.Databases.counted databases.new n }
+    ensures barrier { processing.old.next_barrier ≤ processing.new.next_barrier }
 {
     let number = processing.next_barrier;
     if number == u64::MAX {
@@ -104,6 +106,24 @@ pub(crate) fn flushed<A: Application>(
     Ok(())
 }
 
+/// Acknowledges the receipts of durable heights, in their order.
+fn release<A: Application>(
+    processing: &mut ProcessingOf<A>,
+    marks: &mut Vec<Mark<A::Block>>,
+) -> Result<(), StepError>
+    ensures ok { OnOk result (let d = processing.old.durability in
+        (processing.new ≡ record processing.old {
+            durability = record d { held = receipts_above d.durable d.held } })
+        × (marks.new.items ≡ marks.old.items ++ map acknowledged (covered_receipts d))) }
+    ensures memory { IfErr result (λ e. e ≡ StepError.OutOfMemory) }
+    ensures barrier { processing.new.next_barrier ≡ processing.old.next_barrier }
+{
+    while let Some((ticket, height)) = processing.durability.released() {
+        marks.push(Mark::Acknowledged { ticket, height })?;
+    }
+    Ok(())
+}
+
 /// The oldest barrier, which was flushed, is done: its height is durable, and the receipts of durable heights are
 /// acknowledged.
 pub(crate) fn complete_barrier<A: Application>(
@@ -132,8 +152,5 @@ pub(crate) fn complete_barrier<A: Application>(
         height,
         good: true,
     })?;
-    while let Some((ticket, height)) = processing.durability.released() {
-        marks.push(Mark::Acknowledged { ticket, height })?;
-    }
-    Ok(())
+    release::<A>(processing, marks)
 }
