@@ -1,3 +1,4 @@
 pub mod Polling
 pub mod Staying
 pub mod OutTokens
+pub mod Intakes

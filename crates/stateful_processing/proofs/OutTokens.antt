@@ -79,10 +79,10 @@ answered_first k i answer b bs e = rw e refl
 answered_behind : (k i : ℕ) (answer : Flushed) (b : Active) (bs : List Active) → awaits k i b ≡ false → with_answer k i answer (b ∷ bs) ≡ b ∷ with_answer k i answer bs
 answered_behind k i answer b bs e = rw e refl
 
-awaiting_first : (k i : ℕ) (b : Active) (bs : List Active) → awaits k i b ≡ true → awaiting k i (b ∷ bs) ≡ Some b
+pub awaiting_first : (k i : ℕ) (b : Active) (bs : List Active) → awaits k i b ≡ true → awaiting k i (b ∷ bs) ≡ Some b
 awaiting_first k i b bs e = rw e refl
 
-awaiting_behind : (k i : ℕ) (b : Active) (bs : List Active) → awaits k i b ≡ false → awaiting k i (b ∷ bs) ≡ awaiting k i bs
+pub awaiting_behind : (k i : ℕ) (b : Active) (bs : List Active) → awaits k i b ≡ false → awaiting k i (b ∷ bs) ≡ awaiting k i bs
 awaiting_behind k i b bs e = rw e refl
 
 -- behind an answer of another database nothing has changed
@@ -161,7 +161,7 @@ interrupted_in (h ∷ hs) zero (suc n) t e = refl
 interrupted_in (h ∷ hs) (suc j) zero t e = refl
 interrupted_in (h ∷ hs) (suc j) (suc n) t e = interrupted_in hs j n t e
 
-opened_by : (k i : ℕ) (b : Active) → awaits k i b ≡ true → (t : FlushToken) × (open_at b.barrier i ≡ Some t)
+pub opened_by : (k i : ℕ) (b : Active) → awaits k i b ≡ true → (t : FlushToken) × (open_at b.barrier i ≡ Some t)
 opened_by k i b w = some_there (open_at b.barrier i) (and_right (eqb b.number k) (is_some (open_at b.barrier i)) w)
   where
     some_there : (o : Option FlushToken) → is_some o ≡ true → (t : FlushToken) × (o ≡ Some t)
