@@ -1,11 +1,10 @@
 -- Which database answers to an open barrier, and which events enter the mailbox alone.
-use Rattle.std.proofs.Common.{◌≡◌, ◌⊎◌, ⊎_elim, ℕ, zero, suc, ◌<◌, ◌++◌, Bool, true, false, Option, Some, None, IsSome, List, [], ◌∷◌, All, Contains, length, Result, Ok, Err, IsErr, IsErrAnd, OnOk, IfErr, refl, sym, ap, ◌∙◌, subst, arith}
-use Rattle.std.specs.Prelude.{option_and_then, slice_get}
+use Rattle.std.proofs.Common.{◌≡◌, ⊎_elim, ℕ, zero, suc, ◌<◌, Option, Some, None, IsSome, List, [], ◌∷◌, All, Contains, length, Result, Ok, Err, IsErr, IsErrAnd, OnOk, IfErr, refl, sym, ap, ◌∙◌, subst, arith}
+use Rattle.std.specs.Prelude.{option_and_then}
 use Rattle.std.proofs.lemmas.Bool.{false≢true, cases_Bool}
 use Rattle.std.proofs.lemmas.List.Elements.{All-head, All-tail, Contains-append_left, Contains-append_right}
 use Rattle.stateful_types.specs.Names.{Named}
-use Rattle.stateful_types.specs.declared.floor.Floor.{Floor}
-use Rattle.stateful_db.specs.Barrier.{open_at, still_open}
+use Rattle.stateful_db.specs.Barrier.{open_at}
 use Rattle.stateful_db.specs.declared.barrier.Flushed.{Flushed}
 use Rattle.stateful_db.specs.declared.barrier.Handle.{Handle}
 use Rattle.stateful_db.specs.declared.database.FlushToken.{FlushToken}
@@ -17,22 +16,23 @@ use Rattle.stateful_processing.specs.Intake.{Counts, message_by, TakesIn, progre
 use Rattle.stateful_processing.specs.Moments.{Moment}
 use Rattle.stateful_processing.specs.Sound.{out_in, out_at}
 use Rattle.stateful_processing.specs.declared.barriers.Active.{Active}
-use Rattle.stateful_processing.specs.declared.message.Message.{Message}
-use Rattle.stateful_processing.proofs.OutTokens.{awaiting_first, awaiting_behind, opened_by, out_in_open}
+use Rattle.stateful_processing.proofs.OutTokens.{awaiting_first, awaiting_behind, opened_by, out_in_open, some_is}
 
--- what a clause of an answer says, said in other words
+-- what holds of a result, by what held of it
 pub on_ok : {T E P Q : Type 0} (r : Result T E) → OnOk r P → (P → Q) → OnOk r Q
 on_ok (Ok x) p f = f p
 on_ok (Err e) p f = p
-
-pub ok_none : {T E : Type 0} (r : Result T E) (P : Type 0) → IsErr r → OnOk r P
-ok_none (Ok x) P is = absurd (false≢true is)
-ok_none (Err e) P is = tt
 
 pub on_err : {T E : Type 0} (r : Result T E) (Q P : E → Type 0) → IfErr r Q → ((e : E) → Q e → P e) → IfErr r P
 on_err (Ok x) Q P is f = is
 on_err (Err e) Q P is f = f e is
 
+-- an error is no success
+pub ok_none : {T E : Type 0} (r : Result T E) (P : Type 0) → IsErr r → OnOk r P
+ok_none (Ok x) P is = absurd (false≢true is)
+ok_none (Err e) P is = tt
+
+-- what holds of the error that was converted
 pub err_to : {T E : Type 0} (r : Result T E) (Q P : E → Type 0) → IsErrAnd r Q → ((e : E) → Q e → P e) → IfErr r P
 err_to (Ok x) Q P is f = absurd is
 err_to (Err e) Q P is f = f e is
@@ -44,11 +44,9 @@ open_within (h ∷ hs) zero t e = omega arith
 open_within (h ∷ hs) (suc i) t e = let lt : i < length hs = open_within hs i t e in omega (arith, lt)
 
 module _ (k i : ℕ) where
-  some_is : (a b : Active) → Some a ≡ Some b → a ≡ b
-  some_is a b e = cc
-
   -- an answer is awaited of one of the databases
-  pub within_awaited : (n : ℕ) (barriers : List Active) → All (λ active. length active.barrier ≡ n) barriers → IsSome (awaiting k i barriers) → i < n
+  pub within_awaited : (n : ℕ) (barriers : List Active)
+      → All (λ active. length active.barrier ≡ n) barriers → IsSome (awaiting k i barriers) → i < n
   within_awaited n [] all there = absurd (false≢true there)
   within_awaited n (b ∷ bs) all there = ⊎_elim
       (λ w. subst (λ m. i < m) (All-head (λ active. length active.barrier ≡ n) b bs all) (open_within b.barrier i (opened_by k i b w).0 (opened_by k i b w).1))
@@ -56,7 +54,8 @@ module _ (k i : ℕ) where
       (cases_Bool (awaits k i b))
 
   -- the token whose answer is awaited is out
-  pub out_at_awaited : (barriers : List Active) (a : Active) (t : FlushToken) → awaiting k i barriers ≡ Some a → open_at a.barrier i ≡ Some t → Contains (out_at barriers i) t.place
+  pub out_at_awaited : (barriers : List Active) (a : Active) (t : FlushToken) → awaiting k i barriers ≡ Some a → open_at a.barrier i ≡ Some t
+      → Contains (out_at barriers i) t.place
   out_at_awaited [] a t e o = absurd (cc)
   out_at_awaited (b ∷ bs) a t e o = ⊎_elim
       (λ w. let same : b ≡ a = some_is b a (sym (awaiting_first k i b bs w) ∙ e) in
@@ -77,7 +76,8 @@ module _ (k i : ℕ) where
 module _ {B C I P R D H G U : Type 0} (w : Workings B C I P R D H G U) (stored : ℕ → Option (Named B)) (counts : Counts R D H) (m : Moment w) where
   -- an event that acts neither at once nor in the mailbox changes nothing
   pub idles : (v : Event B C I) → message_by v ≡ None
-      → ((t : ℕ) → v ≡ event.Cancel t → ⊥) → ((f : ℕ) (answer : Option (Named B)) → v ≡ event.Fetched f answer → ⊥) → ((j : ℕ) → v ≡ event.Turn j → ⊥)
+      → ((t : ℕ) → v ≡ event.Cancel t → ⊥) → ((f : ℕ) (answer : Option (Named B)) → v ≡ event.Fetched f answer → ⊥)
+      → ((j : ℕ) → v ≡ event.Turn j → ⊥)
       → ((k i : ℕ) (answer : Flushed) → v ≡ event.Flushed k i answer → ⊥) → (v ≡ event.Stop → ⊥) → TakesIn w stored counts m m v
   idles (event.Verify t ancestry) e c f j a s = absurd (cc)
   idles (event.Prepare t context ancestry input) e c f j a s = absurd (cc)
