@@ -109,7 +109,7 @@ without_last p few h = ⊎_elim
     (λ (q, e). ap (λ xs. without p (xs ++ p ∷ [])) e ∙ without_second p q ∙ sym (ap (λ xs. xs ++ []) e))
     h
 
-some_is : (a b : Active) → Some a ≡ Some b → a ≡ b
+pub some_is : (a b : Active) → Some a ≡ Some b → a ≡ b
 some_is a b e = cc
 
 module _ (k i : ℕ) where
