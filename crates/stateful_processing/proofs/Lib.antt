@@ -3,3 +3,7 @@ pub mod Staying
 pub mod OutTokens
 pub mod SoundingKept
 pub mod SoundingRules
+pub mod SoundingHeld
+pub mod SoundingFront
+pub mod SoundingSteps
+pub mod SoundingBarriers
