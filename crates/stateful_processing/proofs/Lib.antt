@@ -7,3 +7,5 @@ pub mod SoundingHeld
 pub mod SoundingFront
 pub mod SoundingSteps
 pub mod SoundingBarriers
+pub mod SoundingMessages
+pub mod Sounding
