@@ -9,3 +9,7 @@ pub mod SoundingSteps
 pub mod SoundingBarriers
 pub mod SoundingMessages
 pub mod Sounding
+pub mod SoundingTurns
+pub mod SoundingFlushes
+pub mod SoundingIntake
+pub mod SoundingOpenings
