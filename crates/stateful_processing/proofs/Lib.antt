@@ -13,3 +13,5 @@ pub mod SoundingTurns
 pub mod SoundingFlushes
 pub mod SoundingIntake
 pub mod SoundingOpenings
+pub mod FallingTables
+pub mod FallingParts

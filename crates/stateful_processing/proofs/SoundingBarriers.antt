@@ -22,7 +22,7 @@ heights_of : List Active → List ℕ
 heights_of barriers = map (λ (active : Active). active.height.0) barriers
 
 -- the first of the open barriers is the one that was flushed
-flushed_first : (barriers : List Active) (a : Active) → flushed barriers ≡ Some a → (more : List Active) × (barriers ≡ a ∷ more) × (is_flushed a ≡ true)
+pub flushed_first : (barriers : List Active) (a : Active) → flushed barriers ≡ Some a → (more : List Active) × (barriers ≡ a ∷ more) × (is_flushed a ≡ true)
 flushed_first [] a e = absurd (cc)
 flushed_first (b ∷ more) a e = by (is_flushed b) refl e
   where
