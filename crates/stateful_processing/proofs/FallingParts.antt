@@ -42,8 +42,11 @@ front_weight None front = 0
 front_weight (Some f) front = captured_or (reached_weight front) f.captured
 
 -- the applied height isn't covered by barriers
+abbrev pub uncovered_by : ℕ → ℕ → ℕ
+uncovered_by covered applied = if nat_lt covered applied then 2 else 0
+
 abbrev pub uncovered : Coverage → ℕ
-uncovered c = if nat_lt (covered_by_barriers c) c.applied then 2 else 0
+uncovered c = uncovered_by (covered_by_barriers c) c.applied
 
 abbrev pub up_weight : Bool → ℕ
 up_weight up = if up then 1 else 0

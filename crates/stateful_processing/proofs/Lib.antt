@@ -15,3 +15,4 @@ pub mod SoundingIntake
 pub mod SoundingOpenings
 pub mod FallingTables
 pub mod FallingParts
+pub mod Falling
