@@ -1,5 +1,5 @@
 -- Every rule from a sound moment leaves less to do.
-use Rattle.std.proofs.Common.{◌≡◌, ◌≤◌, ◌<◌, ◌+◌, ◌*◌, ◌⊎◌, inl, inr, ℕ, Bool, true, false, Option, Some, None, List, [], ◌∷◌, ◌++◌, length, drop, map, sum_by, refl, sym, ap, ◌∙◌, subst, arith, length-append, unwrap_or}
+use Rattle.std.proofs.Common.{◌≡◌, ◌≤◌, ◌<◌, ◌+◌, inl, inr, ℕ, Bool, true, false, Option, Some, None, List, [], ◌∷◌, ◌++◌, length, drop, map, sum_by, sym, ap, ◌∙◌, subst, arith, length-append, unwrap_or}
 use Rattle.std.specs.List.{last_or}
 use Rattle.std.proofs.lemmas.List.{length-map}
 use Rattle.std.proofs.lemmas.List.Sums.{sum_by-cons, sum_by_push}
@@ -14,7 +14,7 @@ use Rattle.stateful_exec.specs.Request.{ticket_by}
 use Rattle.stateful_exec.specs.Rules.{requested}
 use Rattle.stateful_exec.specs.Workings.{Workings}
 use Rattle.stateful_exec.specs.declared.front.Front.{Front}
-use Rattle.stateful_exec.specs.declared.front.Stage.TheVariants.{Begun, Running, Ran, Advanced, Hooking}
+use Rattle.stateful_exec.specs.declared.front.Stage.TheVariants.{Begun, Running, Ran, Advanced}
 use Rattle.stateful_exec.specs.declared.request.Request.{Request}
 use Rattle.stateful_exec.specs.declared.state.Tables.{Tables}
 use Rattle.stateful_processing.proofs.FallingParts.{action_weight, reached_weight, front_weight, uncovered, uncovered_by, up_weight, uncovered_few, uncovered_two, covered_now, covered_still, weighs, weighs_captured}
@@ -23,12 +23,11 @@ use Rattle.stateful_processing.proofs.FallingTables.{tables_weight, acquires_add
 use Rattle.stateful_processing.proofs.SoundingBarriers.{flushed_first}
 use Rattle.stateful_processing.proofs.SoundingSteps.{in_front}
 use Rattle.stateful_processing.specs.Barriers.{flushed}
-use Rattle.stateful_processing.specs.Moments.{Moment, inner, with_inner, with_loop}
+use Rattle.stateful_processing.specs.Moments.{Moment, inner, with_loop}
 use Rattle.stateful_processing.specs.Rules.{IsFinalizing, HasStates, Needed, finalizing, Collects, Schedules, BeginsBarrier, CompletesBarrier, Takes, of_action, of_message, Builds, BeginsFinalization, DoesMessage, answers, acknowledges, holds, RunsFinalized, AppliesBlock, ObservesBlock, EndsFinalization, Rule, collects, puts_off, runs, applies, covers, observes, ends, breaks, completes, begins, builds, takes}
 use Rattle.stateful_processing.specs.Rules as rule
 use Rattle.stateful_processing.specs.Sound.{IsUp, Sound}
 use Rattle.stateful_processing.specs.declared.barriers.Active.{Active}
-use Rattle.stateful_processing.specs.declared.message.Action.{Action}
 use Rattle.stateful_processing.specs.declared.message.Action.TheVariants as action
 use Rattle.stateful_processing.specs.declared.message.Message.{Message}
 use Rattle.stateful_processing.specs.declared.tables.Finalizing.{Finalizing}
@@ -41,20 +40,23 @@ module _ {B C I P R D H G U : Type 0} (w : Workings B C I P R D H G U) where
   collects_falls : (t : ℕ) (m now : Moment w) → Collects w t m now → weight w now < weight w m
   collects_falls t m now r =
       let first : length m.execution.state.recovered ≡ length r.more + 1 = ap length r.first ∙ (omega arith) in
-      let push : sum_by action_weight (m.loop.actions ++ action.Build t ∷ []) ≡ sum_by action_weight m.loop.actions + 1 = sum_by_push action_weight m.loop.actions (action.Build t) in
+      let push : sum_by action_weight (m.loop.actions ++ action.Build t ∷ []) ≡ sum_by action_weight m.loop.actions + 1 =
+      sum_by_push action_weight m.loop.actions (action.Build t) in
       lighter now _ (weight w m) r.becomes (omega (arith, first, push))
 
   -- a request adds no more than 3
   schedules_adds : (stored : ℕ → Option (Named B)) (request : Request B C I) (m now : Moment w) → Schedules w stored request m now → weight w now < weight w m + 4
   schedules_adds stored request m now r =
-      let adds : tables_weight r.then.state ≤ tables_weight m.execution.state + 3 = acquires_adds w stored (inner w m) (ticket_by request) (requested request) r.then r.acquires in
+      let adds : tables_weight r.then.state ≤ tables_weight m.execution.state + 3 =
+      acquires_adds w stored (inner w m) (ticket_by request) (requested request) r.then r.acquires in
       lighter now _ (weight w m + 4) r.becomes (omega (arith, adds))
 
   puts_off_falls : (x : Message B C I) (rest : List (Message B C I)) (m now : Moment w) → m.loop.queue ≡ x ∷ rest
       → now ≡ with_loop w m (record m.loop { queue = rest; actions = m.loop.actions ++ action.Message x ∷ [] }) → weight w now < weight w m
   puts_off_falls x rest m now is e =
       let first : length m.loop.queue ≡ length rest + 1 = ap length is ∙ (omega arith) in
-      let push : sum_by action_weight (m.loop.actions ++ action.Message x ∷ []) ≡ sum_by action_weight m.loop.actions + 9 = sum_by_push action_weight m.loop.actions (action.Message x) in
+      let push : sum_by action_weight (m.loop.actions ++ action.Message x ∷ []) ≡ sum_by action_weight m.loop.actions + 9 =
+      sum_by_push action_weight m.loop.actions (action.Message x) in
       lighter now _ (weight w m) e (omega (arith, first, push))
 
   runs_falls : (f : Finalizing B G) (m now : Moment w) → IsFinalizing w m f → m.execution.front ≡ front_at f.block Begun → RunsFinalized w f.block m now → IsUp w m
@@ -62,7 +64,8 @@ module _ {B C I P R D H G U : Type 0} (w : Workings B C I P R D H G U) where
   runs_falls f m now fin begun r u =
       let none : f.captured ≡ None = (in_front w m f Begun fin.2 begun u).0 in
       let old : front_weight m.loop.front m.execution.front ≡ 8 = weighs m.loop.front m.execution.front f f.block Begun fin.2 none begun in
-      let new : front_weight m.loop.front r.front ≡ 7 = weighs m.loop.front r.front f f.block (Running m.execution.state.next_job r.runs.run) fin.2 none r.runs.front_is in
+      let new : front_weight m.loop.front r.front ≡ 7 =
+      weighs m.loop.front r.front f f.block (Running m.execution.state.next_job r.runs.run) fin.2 none r.runs.front_is in
       let same : tables_weight r.state ≡ tables_weight m.execution.state = ap tables_weight r.runs.state in
       lighter now _ (weight w m) r.becomes (omega (arith, old, new, same))
 
@@ -72,11 +75,13 @@ module _ {B C I P R D H G U : Type 0} (w : Workings B C I P R D H G U) where
   states_weigh f m fin none (inr ran) =
       let old : front_weight m.loop.front m.execution.front ≡ 7 = weighs m.loop.front m.execution.front f f.block (Ran ran.0) fin.2 none ran.1 in omega (arith, old)
 
-  applies_falls : (f : Finalizing B G) (m now : Moment w) → IsFinalizing w m f → f.captured ≡ None → HasStates w m f.block → AppliesBlock w f m now → weight w now < weight w m
+  applies_falls : (f : Finalizing B G) (m now : Moment w) → IsFinalizing w m f → f.captured ≡ None → HasStates w m f.block → AppliesBlock w f m now
+      → weight w now < weight w m
   applies_falls f m now fin none states r =
       let old : 7 ≤ front_weight m.loop.front m.execution.front = states_weigh f m fin none states in
       let same : tables_weight r.state ≡ tables_weight m.execution.state = ap tables_weight r.moves.state in
-      let few : uncovered (record m.loop.durability { applied = w.header.height f.block.block }) ≤ 2 = uncovered_few (record m.loop.durability { applied = w.header.height f.block.block }) in
+      let few : uncovered (record m.loop.durability { applied = w.header.height f.block.block }) ≤ 2 =
+      uncovered_few (record m.loop.durability { applied = w.header.height f.block.block }) in
       lighter now _ (weight w m) r.becomes (omega (arith, old, same, few))
 
   begins_falls : (m now : Moment w) → Needed m.loop.durability → BeginsBarrier w m now → weight w now < weight w m
@@ -100,14 +105,16 @@ module _ {B C I P R D H G U : Type 0} (w : Workings B C I P R D H G U) where
       let o = observed_weighs f r.observes.hook m.execution.state r.state m.marks r.marks r.front r.live r.observes.hooks_on in
       lighter now _ (weight w m) r.becomes (omega (arith, old, o.0, o.1))
 
-  ends_falls : (stored : ℕ → Option (Named B)) (f : Finalizing B G) (m now : Moment w) → IsFinalizing w m f → m.execution.front ≡ front_at f.block Advanced → f.captured ≡ None
+  ends_falls : (stored : ℕ → Option (Named B)) (f : Finalizing B G) (m now : Moment w) → IsFinalizing w m f → m.execution.front ≡ front_at f.block Advanced
+      → f.captured ≡ None
       → EndsFinalization w stored f m now → weight w now < weight w m
   ends_falls stored f m now fin advanced none r =
       let old : front_weight m.loop.front m.execution.front ≡ 1 = weighs m.loop.front m.execution.front f f.block Advanced fin.2 none advanced in
       let less : tables_weight r.then.state ≤ tables_weight m.execution.state = resumes_adds w stored (inner w m) r.then r.resumes in
       lighter now _ (weight w m) r.becomes (omega (arith, old, less))
 
-  breaks_falls : (m now : Moment w) (marks : List (Mark B)) → m.loop.up ≡ true → now ≡ record m { loop = record m.loop { up = false }; marks = marks } → weight w now < weight w m
+  breaks_falls : (m now : Moment w) (marks : List (Mark B)) → m.loop.up ≡ true → now ≡ record m { loop = record m.loop { up = false }; marks = marks }
+      → weight w now < weight w m
   breaks_falls m now marks up e =
       let one : up_weight m.loop.up ≡ 1 = ap up_weight up in
       lighter now _ (weight w m) e (omega (arith, one))
@@ -123,19 +130,26 @@ module _ {B C I P R D H G U : Type 0} (w : Workings B C I P R D H G U) where
       ap (λ xs. unwrap_or (last_or None xs) m.loop.durability.durable) heights ∙ covered_still active.height.0 hs m.loop.durability.durable in
       let after : unwrap_or (last_or None (drop 1 m.loop.durability.barriers)) active.height.0 ≡ unwrap_or (last_or None hs) active.height.0 =
       ap (λ xs. unwrap_or (last_or None (drop 1 xs)) active.height.0) heights in
-      let c : Coverage = record { durable = active.height.0; applied = m.loop.durability.applied; barriers = drop 1 m.loop.durability.barriers; held = receipts_above active.height.0 m.loop.durability.held } in
+      let c : Coverage = record {
+        durable = active.height.0;
+        applied = m.loop.durability.applied;
+        barriers = drop 1 m.loop.durability.barriers;
+        held = receipts_above active.height.0 m.loop.durability.held;
+      } in
       let same : uncovered c ≡ uncovered m.loop.durability = ap (λ n. uncovered_by n m.loop.durability.applied) (after ∙ sym before) in
       lighter now _ (weight w m) r.becomes (omega (arith, old, new, same))
 
-  builds_falls : (provider : P) (t : ℕ) (m now : Moment w) → Builds w provider t m now → weight w now ≤ weight w m
-  builds_falls provider t m now (rule.starts b e) =
+  -- a build is no heavier than its proposal was
+  builds_no_heavier : (provider : P) (t : ℕ) (m now : Moment w) → Builds w provider t m now → weight w now ≤ weight w m
+  builds_no_heavier provider t m now (rule.starts b e) =
       let same = ap tables_weight b.state in subst (λ x. weight w x ≤ weight w m) (sym e) (omega (arith, same))
-  builds_falls provider t m now (rule.declines none e) = subst (λ x. weight w x ≤ weight w m) (sym e) (omega arith)
+  builds_no_heavier provider t m now (rule.declines none e) = subst (λ x. weight w x ≤ weight w m) (sym e) (omega arith)
 
   -- what is taken weighed 9 at least
   takes_falls : (x : Message B C I) (m mid : Moment w) → Takes w x m mid → weight w mid + 9 ≤ weight w m
   takes_falls x m mid (of_action {rest = rest} is e) =
-      let first : sum_by action_weight m.loop.actions ≡ 9 + sum_by action_weight rest = ap (sum_by action_weight) is ∙ sum_by-cons action_weight (action.Message x) rest in
+      let first : sum_by action_weight m.loop.actions ≡ 9 + sum_by action_weight rest =
+      ap (sum_by action_weight) is ∙ sum_by-cons action_weight (action.Message x) rest in
       subst (λ n. weight w n + 9 ≤ weight w m) (sym e) (omega (arith, first))
   takes_falls x m mid (of_message {rest = rest} none is e) =
       let first : length m.loop.queue ≡ length rest + 1 = ap length is ∙ (omega arith) in
@@ -145,7 +159,8 @@ module _ {B C I P R D H G U : Type 0} (w : Workings B C I P R D H G U) where
   begins_adds : (t : ℕ) (b : Named B) (m now : Moment w) → BeginsFinalization w t b m now → weight w now < weight w m + 9
   begins_adds t b m now r =
       let recovered : length r.state.recovered ≡ length m.execution.state.recovered = ap (λ v. length v.recovered) r.pauses.state in
-      let requests : length r.state.requests ≡ length m.execution.state.requests = ap (λ v. length v.requests) r.pauses.state ∙ length-map m.execution.state.requests dropped in
+      let requests : length r.state.requests ≡ length m.execution.state.requests =
+      ap (λ v. length v.requests) r.pauses.state ∙ length-map m.execution.state.requests dropped in
       lighter now _ (weight w m + 9) r.becomes (omega (arith, recovered, requests))
 
   does_adds : (stored : ℕ → Option (Named B)) (x : Message B C I) (m now : Moment w) → DoesMessage w stored m now x → weight w now < weight w m + 9
@@ -171,7 +186,7 @@ module _ {B C I P R D H G U : Type 0} (w : Workings B C I P R D H G U) where
   falls stored provider m now (completes {active = active} idle unbroken done r) s = completes_falls active m now done r (s.up idle.0.0)
   falls stored provider m now (begins idle unbroken undone needed r) s = begins_falls m now needed r
   falls stored provider m now (builds {t = t} {rest = rest} calm is r) s =
-      let no_more = builds_falls provider t (with_loop w m (record m.loop { actions = rest })) now r in
+      let no_more = builds_no_heavier provider t (with_loop w m (record m.loop { actions = rest })) now r in
       let first : sum_by action_weight m.loop.actions ≡ 1 + sum_by action_weight rest = ap (sum_by action_weight) is ∙ sum_by-cons action_weight (action.Build t) rest in
       omega (arith, no_more, first)
   falls stored provider m now (takes {x = x} {mid = mid} calm taken does) s =

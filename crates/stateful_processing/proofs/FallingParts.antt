@@ -1,5 +1,5 @@
 -- How much the parts of a moment weigh, and their sum.
-use Rattle.std.proofs.Common.{◌≡◌, ◌≤◌, ◌<◌, ◌+◌, ◌*◌, ◌⊎◌, inl, inr, ℕ, Bool, true, false, cond, if◌then◌else◌, nat_lt, Option, Some, None, List, [], ◌∷◌, ◌++◌, length, map, sum_by, unwrap_or, refl, sym, ap, ◌∙◌, subst, arith}
+use Rattle.std.proofs.Common.{◌≡◌, ◌≤◌, ◌<◌, ◌+◌, ◌*◌, ℕ, Bool, true, false, if◌then◌else◌, nat_lt, Option, Some, None, List, [], ◌∷◌, ◌++◌, length, sum_by, unwrap_or, refl, ap, ◌∙◌, arith}
 use Rattle.std.specs.List.{last_or}
 use Rattle.std.proofs.lemmas.Bool.{lt-ltb, le-ltb}
 use Rattle.stateful_types.specs.Names.{Named}
@@ -80,7 +80,8 @@ last_push o (y ∷ ys) x = last_push (Some y) ys x
 -- a new barrier covers it
 pub covered_now : (c : Coverage) → uncovered (record c { barriers = c.barriers ++ c.applied ∷ [] }) ≡ 0
 covered_now c =
-    let last : covered_by_barriers (record c { barriers = c.barriers ++ c.applied ∷ [] }) ≡ c.applied = ap (λ o. unwrap_or o c.durable) (last_push None c.barriers c.applied) in
+    let last : covered_by_barriers (record c { barriers = c.barriers ++ c.applied ∷ [] }) ≡ c.applied =
+    ap (λ o. unwrap_or o c.durable) (last_push None c.barriers c.applied) in
     ap (λ b. if b then 2 else 0) (le-ltb (covered_by_barriers (record c { barriers = c.barriers ++ c.applied ∷ [] })) c.applied (omega (arith, last)))
 
 last_some : (x : ℕ) (xs : List ℕ) (d e : ℕ) → unwrap_or (last_or (Some x) xs) d ≡ unwrap_or (last_or (Some x) xs) e

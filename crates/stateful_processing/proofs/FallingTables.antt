@@ -1,5 +1,5 @@
 -- How much the tables of requests weigh, and what a request that is served adds.
-use Rattle.std.proofs.Common.{◌≡◌, ◌≤◌, ◌+◌, ◌*◌, ℕ, Bool, true, false, not, cond, is_none, option_map, Option, Some, None, List, [], ◌∷◌, ◌++◌, length, filter, filter_map, refl, sym, ap, ◌∙◌, subst, arith, length-append}
+use Rattle.std.proofs.Common.{◌≡◌, ◌≤◌, ◌+◌, ◌*◌, ℕ, Bool, true, false, not, cond, is_none, option_map, Option, Some, None, List, [], ◌∷◌, ◌++◌, length, filter, filter_map, refl, sym, ap, subst, arith, length-append}
 use Rattle.std.specs.List.{cons_option}
 use Rattle.std.specs.Ordering.{nat_cmp, match_ordering}
 use Rattle.std.specs.declared.cmp.Ordering.{Ordering}
@@ -10,7 +10,7 @@ use Rattle.stateful_exec.specs.Ending.{InTurn, none, next}
 use Rattle.stateful_exec.specs.Moments as exec
 use Rattle.stateful_exec.specs.Path.{Path}
 use Rattle.stateful_exec.specs.Pausing.{GoesAlong, AcquiresAnew, unparked, unsettled, Resumes}
-use Rattle.stateful_exec.specs.Phase.{parked_path, parked_from, parked_in, not_parked, is_unacquired, unacquired_in, not_unacquired}
+use Rattle.stateful_exec.specs.Phase.{parked_path, parked_from, parked_in, not_parked, is_unacquired, unacquired_in}
 use Rattle.stateful_exec.specs.Rules.{ended, moved, requested, Concludes, Advances, Acquires, arrives, leaves, joins, starts, misses, valid, invalid, asks, waits, runs}
 use Rattle.stateful_exec.specs.Workings.{Workings}
 use Rattle.stateful_exec.specs.declared.request.Request.{Request}
@@ -53,7 +53,8 @@ filter_parts test [] = refl
 filter_parts {X} test (x ∷ xs) = go (test x) (filter_parts test xs)
   where
     go : (b : Bool) → length (filter test xs) + length (filter (λ y. not (test y)) xs) ≡ length xs
-        → length (cond b (x ∷ filter test xs) (filter test xs)) + length (cond (not b) (x ∷ filter (λ y. not (test y)) xs) (filter (λ y. not (test y)) xs)) ≡ length (x ∷ xs)
+        → length (cond b (x ∷ filter test xs) (filter test xs))
+        + length (cond (not b) (x ∷ filter (λ y. not (test y)) xs) (filter (λ y. not (test y)) xs)) ≡ length (x ∷ xs)
     go true rest = omega (arith, rest)
     go false rest = omega (arith, rest)
 
@@ -117,5 +118,6 @@ module _ {B C I P R D H G U : Type 0} (w : Workings B C I P R D H G U) where
       let one : tables_weight r.mid.state ≤ tables_weight (unparked w m).state + 3 * length (parked_in m.state.requests) =
       in_turn_adds (GoesAlong w) (λ x a b g. advances_adds a x.ticket (requested x.request) x.path b g) (parked_in m.state.requests) (unparked w m) r.mid r.along in
       let two : tables_weight now.state ≤ tables_weight (unsettled w r.mid).state + 3 * length (unacquired_in r.mid.state.requests) =
-      in_turn_adds (AcquiresAnew w stored) (λ x a b g. acquires_adds stored a x.0 (requested x.1.request) b g) (unacquired_in r.mid.state.requests) (unsettled w r.mid) now r.anew in
+      in_turn_adds (AcquiresAnew w stored) (λ x a b g. acquires_adds stored a x.0 (requested x.1.request) b g)
+      (unacquired_in r.mid.state.requests) (unsettled w r.mid) now r.anew in
       omega (arith, one, two, parked_parts m.state.requests, filter_parts (λ (e : ℕ × Requested B C I). is_unacquired e.1.phase) r.mid.state.requests)

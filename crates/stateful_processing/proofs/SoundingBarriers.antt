@@ -1,12 +1,10 @@
 -- Barriers that begin and complete keep a sound moment sound.
 use Rattle.std.proofs.Common.{◌≡◌, ◌≤◌, ◌<◌, ◌+◌, ◌∷◌, ◌++◌, ℕ, Bool, true, false, List, All, [], length, map, drop, Option, Some, None, refl, sym, ap, ◌∙◌, subst, arith, length-append, cond}
-use Rattle.std.proofs.lemmas.Bool.{cases_Bool}
 use Rattle.std.proofs.lemmas.List.{length-map, map-append}
 use Rattle.std.proofs.lemmas.List.Elements.{All-push, All-tail}
 use Rattle.stateful_db.specs.Laws.{Laws}
 use Rattle.stateful_durability.specs.Durability.{Coverage, receipts_above}
-use Rattle.stateful_exec.specs.Workings.{Workings, Point}
-use Rattle.stateful_exec.specs.declared.front.Front.{Front}
+use Rattle.stateful_exec.specs.Workings.{Workings}
 use Rattle.stateful_processing.proofs.OutTokens.{out_at_push, out_in_open, out_in_flushed}
 use Rattle.stateful_processing.proofs.SoundingFront.{front_covered}
 use Rattle.stateful_processing.proofs.SoundingHeld.{held_covered, held_above}
@@ -14,7 +12,7 @@ use Rattle.stateful_processing.proofs.SoundingKept.{Sound-is}
 use Rattle.stateful_processing.specs.Barriers.{flushed, is_flushed}
 use Rattle.stateful_processing.specs.Moments.{Moment}
 use Rattle.stateful_processing.specs.Rules.{BeginsBarrier, CompletesBarrier, Needed}
-use Rattle.stateful_processing.specs.Sound.{AreHeld, FrontAgrees, IsUp, Sound, out_at, out_in}
+use Rattle.stateful_processing.specs.Sound.{AreHeld, FrontAgrees, IsUp, Sound, out_at}
 use Rattle.stateful_processing.specs.declared.barriers.Active.{Active}
 use Rattle.stateful_processing.specs.declared.tables.Finalizing.{Finalizing}
 
@@ -52,7 +50,8 @@ module _ {B C I P R D H G U : Type 0} (w : Workings B C I P R D H G U) where
           counts = All-push (λ (a : Active). length a.barrier ≡ w.kind.count) m.loop.barriers active u.counts r.count;
           tokens = λ i lt. laws.finalize.tokens_finalized m.members u.point i lt u.here
               ∙ ap (λ xs. xs ++ w.kind.place m.members i ∷ []) (u.tokens i lt)
-              ∙ sym (out_at_push m.loop.barriers active i ∙ ap (λ xs. out_at m.loop.barriers i ++ xs) (out_in_open r.barrier i (record { place = w.kind.place m.members i }) (r.handles i lt)));
+              ∙ sym (out_at_push m.loop.barriers active i
+              ∙ ap (λ xs. out_at m.loop.barriers i ++ xs) (out_in_open r.barrier i (record { place = w.kind.place m.members i }) (r.handles i lt)));
           front = front_covered w m.loop.durability (m.loop.durability.barriers ++ m.loop.durability.applied ∷ []) m.loop.front m.execution.front u.front;
           held = held_covered w m.loop.durability (m.loop.durability.barriers ++ m.loop.durability.applied ∷ []) m.loop.front u.held;
         };
@@ -64,7 +63,12 @@ module _ {B C I P R D H G U : Type 0} (w : Workings B C I P R D H G U) where
       let u : IsUp w m = s.up up in
       let (more, is, good) = flushed_first m.loop.barriers active done in
       let left : drop 1 m.loop.barriers ≡ more = ap (drop 1) is in
-      let c : Coverage = record { durable = active.height.0; applied = m.loop.durability.applied; barriers = drop 1 m.loop.durability.barriers; held = receipts_above active.height.0 m.loop.durability.held } in
+      let c : Coverage = record {
+        durable = active.height.0;
+        applied = m.loop.durability.applied;
+        barriers = drop 1 m.loop.durability.barriers;
+        held = receipts_above active.height.0 m.loop.durability.held;
+      } in
       Sound-is w now _ r.becomes (record {
         none_away = s.none_away;
         up = λ _. record {
@@ -75,7 +79,8 @@ module _ {B C I P R D H G U : Type 0} (w : Workings B C I P R D H G U) where
           few = subst (λ (xs : List Active). length xs ≤ 2) (sym left)
               (let few : length (active ∷ more) ≤ 2 = subst (λ (xs : List Active). length xs ≤ 2) is u.few in omega (arith, few));
           counts = subst (λ (xs : List Active). All (λ a. length a.barrier ≡ w.kind.count) xs) (sym left)
-              (All-tail (λ (a : Active). length a.barrier ≡ w.kind.count) active more (subst (λ (xs : List Active). All (λ a. length a.barrier ≡ w.kind.count) xs) is u.counts));
+              (All-tail (λ (a : Active). length a.barrier ≡ w.kind.count) active more
+              (subst (λ (xs : List Active). All (λ a. length a.barrier ≡ w.kind.count) xs) is u.counts));
           tokens = λ i lt. u.tokens i lt
               ∙ ap (λ (xs : List Active). out_at xs i) is
               ∙ ap (λ xs. xs ++ out_at more i) (out_in_flushed active.barrier i good)

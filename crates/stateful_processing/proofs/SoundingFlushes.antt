@@ -1,5 +1,5 @@
 -- The answers of databases to open barriers keep a sound moment sound.
-use Rattle.std.proofs.Common.{◌≡◌, ◌≤◌, ◌<◌, ◌∷◌, ◌⊎◌, inl, inr, ⊎_elim, ℕ, zero, suc, Bool, true, false, List, All, [], length, map, filter, Option, Some, None, refl, sym, ap, ◌∙◌, subst, arith}
+use Rattle.std.proofs.Common.{◌≡◌, ◌≤◌, ◌<◌, ◌∷◌, ⊎_elim, ℕ, zero, suc, List, All, [], length, map, filter, Some, refl, sym, ap, ◌∙◌, subst, arith}
 use Rattle.std.proofs.lemmas.Bool.{cases_eq}
 use Rattle.std.proofs.lemmas.List.{length-map}
 use Rattle.std.proofs.lemmas.List.Elements.{All-nil, All-cons, All-head, All-tail, All-map, All-filter}
@@ -10,10 +10,10 @@ use Rattle.stateful_db.specs.declared.barrier.Flushed.{Flushed}
 use Rattle.stateful_db.specs.declared.barrier.Flushed.TheVariants.{Good, Interrupted}
 use Rattle.stateful_db.specs.declared.barrier.Handle.{Handle}
 use Rattle.stateful_db.specs.declared.database.FlushToken.{FlushToken}
-use Rattle.stateful_exec.specs.Workings.{Workings, Point}
+use Rattle.stateful_exec.specs.Workings.{Workings}
 use Rattle.stateful_processing.proofs.OutTokens.{out_at_good, out_at_other, out_at_interrupted, heights_answered, counts_answered}
 use Rattle.stateful_processing.proofs.SoundingKept.{Sound-is}
-use Rattle.stateful_processing.specs.Barriers.{first_of, awaits, awaiting, with_answer}
+use Rattle.stateful_processing.specs.Barriers.{first_of, awaits, with_answer}
 use Rattle.stateful_processing.specs.Intake.{Flushes, flushed_by}
 use Rattle.stateful_processing.specs.Moments.{Moment}
 use Rattle.stateful_processing.specs.Sound.{IsUp, Sound, out_at}
@@ -40,13 +40,15 @@ module _ {B C I P R D H G U : Type 0} (w : Workings B C I P R D H G U) where
   counted : (barriers : List Active) (k i : ℕ) (answer : Flushed) → All (λ active. length active.barrier ≡ w.kind.count) barriers
       → All (λ active. length active.barrier ≡ w.kind.count) (with_answer k i answer barriers)
   counted barriers k i answer all = all_from_map (λ n. n ≡ w.kind.count) (λ (a : Active). length a.barrier) (with_answer k i answer barriers)
-      (subst (λ xs. All (λ n. n ≡ w.kind.count) xs) (sym (counts_answered k i answer barriers)) (All-map (λ n. n ≡ w.kind.count) (λ (a : Active). length a.barrier) barriers all))
+      (subst (λ xs. All (λ n. n ≡ w.kind.count) xs) (sym (counts_answered k i answer barriers))
+      (All-map (λ n. n ≡ w.kind.count) (λ (a : Active). length a.barrier) barriers all))
 
   within : (k i : ℕ) (answer : Flushed) (m now : Moment w) (f : Flushes w k i answer m now) → IsUp w m → i < w.kind.count
   within k i answer m now f u =
       let lt : i < length f.active.barrier = open_within f.active.barrier i f.token f.unanswered in
-      let is : length f.active.barrier ≡ w.kind.count = first_all (λ (a : Active). length a.barrier ≡ w.kind.count) (filter (awaits k i) m.loop.barriers) f.active f.awaits
-          (All-filter (awaits k i) (λ (a : Active). length a.barrier ≡ w.kind.count) m.loop.barriers u.counts) in
+      let is : length f.active.barrier ≡ w.kind.count =
+      first_all (λ (a : Active). length a.barrier ≡ w.kind.count) (filter (awaits k i) m.loop.barriers) f.active f.awaits
+      (All-filter (awaits k i) (λ (a : Active). length a.barrier ≡ w.kind.count) m.loop.barriers u.counts) in
       omega (arith, lt, is)
 
   -- the tokens that are out behind an answer
@@ -69,8 +71,10 @@ module _ {B C I P R D H G U : Type 0} (w : Workings B C I P R D H G U) where
   flush_sound laws k i answer m now f u =
       let here : w.kind.point (flushed_by w answer m.members i f.token) ≡ Some u.point = here_by laws answer m.members i f.token ∙ u.here in
       let after : List Active = with_answer k i answer m.loop.barriers in
-      let heights : map (λ (a : Active). a.height.0) after ≡ map (λ (a : Active). a.height.0) m.loop.barriers = heights_answered (λ (a : Active). a.height.0) (λ a n b. refl) k i answer m.loop.barriers in
-      let as_many : length after ≡ length m.loop.barriers = sym (length-map after (λ (a : Active). a.height.0)) ∙ ap length heights ∙ length-map m.loop.barriers (λ (a : Active). a.height.0) in
+      let heights : map (λ (a : Active). a.height.0) after ≡ map (λ (a : Active). a.height.0) m.loop.barriers =
+      heights_answered (λ (a : Active). a.height.0) (λ a n b. refl) k i answer m.loop.barriers in
+      let as_many : length after ≡ length m.loop.barriers =
+      sym (length-map after (λ (a : Active). a.height.0)) ∙ ap length heights ∙ length-map m.loop.barriers (λ (a : Active). a.height.0) in
       Sound-is w now _ f.becomes (record {
         none_away = laws.places.away_here (flushed_by w answer m.members i f.token) u.point here;
         up = λ _. record {

@@ -1,11 +1,11 @@
 -- Receipts that are held stay held where receipts are added, and where those of durable heights are acknowledged.
-use Rattle.std.proofs.Common.{◌≡◌, ◌⊎◌, inl, inr, ⊎_elim, ℕ, zero, suc, ◌<◌, ◌≤◌, ◌+◌, ◌++◌, List, [], ◌∷◌, All, Any, Contains, Bool, true, false, Option, Some, None, cond, eqb, ltb, leb, refl, sym, ap, ◌∙◌, subst, arith, nat_le, nat_lt}
+use Rattle.std.proofs.Common.{◌≡◌, ◌⊎◌, inl, inr, ⊎_elim, ℕ, zero, suc, ◌<◌, ◌≤◌, ◌++◌, List, [], ◌∷◌, Any, Contains, Bool, true, false, Option, Some, None, refl, sym, ap, ◌∙◌, subst, arith, nat_le, nat_lt}
 use Rattle.std.specs.List.{filter}
 use Rattle.std.proofs.lemmas.Bool.{false≢true, le-leb, lt-ltb, cases_lt}
 use Rattle.std.proofs.lemmas.List.Elements.{Contains-append_left, Contains-append_right}
 use Rattle.stateful_durability.specs.Durability.{Coverage, receipts_up_to, receipts_above, with_duplicate}
 use Rattle.stateful_exec.specs.Workings.{Workings}
-use Rattle.stateful_processing.specs.Sound.{HasReceipt, IsHeldFor, AreHeld}
+use Rattle.stateful_processing.specs.Sound.{IsHeldFor, AreHeld}
 use Rattle.stateful_processing.specs.declared.tables.Finalizing.{Finalizing}
 
 -- what passes a filter is in it
@@ -65,7 +65,8 @@ held_push c h t n held = ⊎_elim (λ le. inl le) (λ has. inr (has_left n c.hel
 -- those of the heights that are durable from now on are acknowledged
 pub held_above : (c : Coverage) (h n : ℕ) (barriers : List ℕ) → c.durable < h → IsHeldFor c n
     → IsHeldFor (record c { durable = h; barriers = barriers; held = receipts_above h c.held }) n
-held_above c h n barriers later held = ⊎_elim (λ le. inl le) (λ lt. ⊎_elim (λ le. inl (omega (arith, later, le))) (λ has. inr (has_above h n c.held lt has)) held) (below n h)
+held_above c h n barriers later held =
+    ⊎_elim (λ le. inl le) (λ lt. ⊎_elim (λ le. inl (omega (arith, later, le))) (λ has. inr (has_above h n c.held lt has)) held) (below n h)
 
 module _ {B C I P R D H G U : Type 0} (w : Workings B C I P R D H G U) where
   -- barriers don't matter to receipts

@@ -1,5 +1,5 @@
 -- Whatever event is taken in by a sound machine that is up, the machine is sound behind it.
-use Rattle.std.proofs.Common.{◌≡◌, ◌∷◌, ℕ, true, List, [], Result, Ok, Err, Option, Some, None, refl, sym, ap, ◌∙◌, subst}
+use Rattle.std.proofs.Common.{◌≡◌, ℕ, List, Result, Ok, Err, Option, Some, None, refl, sym, ap, ◌∙◌, subst}
 use Rattle.stateful_types.specs.Names.{Named}
 use Rattle.stateful_types.specs.declared.outcome.Moved.{Moved}
 use Rattle.stateful_types.specs.declared.outcome.Moved.TheVariants.{Pending, Done}
@@ -11,10 +11,9 @@ use Rattle.stateful_history.specs.declared.mark.Mark.{Mark}
 use Rattle.stateful_exec.specs.Finalizing.{front_at, SettlesHook, TurnsHook, hook_turned, unhooked, SettlesFinal, StepsFinal, turned, not_live, Completes, candidate, finalized}
 use Rattle.stateful_exec.specs.Moments as exec
 use Rattle.stateful_exec.specs.Workings.{Workings}
-use Rattle.stateful_exec.specs.declared.building.Building.{Building}
 use Rattle.stateful_exec.specs.declared.front.Front.{Front}
 use Rattle.stateful_exec.specs.declared.front.Stage.{Stage}
-use Rattle.stateful_exec.specs.declared.front.Stage.TheVariants.{Begun, Running, Ran, Advanced, Hooking}
+use Rattle.stateful_exec.specs.declared.front.Stage.TheVariants.{Running, Ran, Advanced, Hooking}
 use Rattle.stateful_processing.proofs.SoundingFlushes.{flush_sound}
 use Rattle.stateful_processing.proofs.SoundingFront.{agrees_at, turned_sound}
 use Rattle.stateful_processing.proofs.SoundingKept.{Sound-is, Sound-kept, kept_inner}
@@ -44,8 +43,9 @@ module _ {B C I P R D H G U : Type 0} (w : Workings B C I P R D H G U) where
       (t, become ∙ ap (λ n. front_at n t) (sym at.0), agrees f at.1)
 
   -- a hook goes on, or has ended
-  settled_hook : (c : Coverage) (f : Option (Finalizing B G)) (front after : Option (Front B R U H)) (j : ℕ) (b : Named B) (was now : H) (answer : Result (Moved _) AppFault)
-      (old new : List (Mark B)) → front ≡ front_at b (Hooking j was) → SettlesHook w j b now answer old new after → FrontAgrees w c f front → FrontAgrees w c f after
+  settled_hook : (c : Coverage) (f : Option (Finalizing B G)) (front after : Option (Front B R U H)) (j : ℕ) (b : Named B) (was now : H)
+      (answer : Result (Moved _) AppFault) (old new : List (Mark B)) → front ≡ front_at b (Hooking j was)
+      → SettlesHook w j b now answer old new after → FrontAgrees w c f front → FrontAgrees w c f after
   settled_hook c f front after j b was now (Ok Pending) old new is settles h = restaged c f front after b (Hooking j was) (Hooking j now) is settles.1 (λ g a. a) h
   settled_hook c f front after j b was now (Ok (Done ended)) old new is settles h = restaged c f front after b (Hooking j was) Advanced is settles.1 (λ g a. (a.1, a.2)) h
   settled_hook c f front after j b was now (Err fault) old new is settles h = absurd settles
@@ -57,8 +57,9 @@ module _ {B C I P R D H G U : Type 0} (w : Workings B C I P R D H G U) where
   hook_front c f count m front after j old new (unhooked dead e is) h = subst (λ x. FrontAgrees w c f x) (sym is) h
 
   -- a run goes on, or has led to its batch
-  settled_run : (c : Coverage) (f : Option (Finalizing B G)) (front after : Option (Front B R U H)) (j : ℕ) (b : Named B) (was now : R) (answer : Result (Moved (Option U)) AppFault)
-      (old new : List (Mark B)) → front ≡ front_at b (Running j was) → SettlesFinal w j b now answer old new after → FrontAgrees w c f front → FrontAgrees w c f after
+  settled_run : (c : Coverage) (f : Option (Finalizing B G)) (front after : Option (Front B R U H)) (j : ℕ) (b : Named B) (was now : R)
+      (answer : Result (Moved (Option U)) AppFault) (old new : List (Mark B)) → front ≡ front_at b (Running j was)
+      → SettlesFinal w j b now answer old new after → FrontAgrees w c f front → FrontAgrees w c f after
   settled_run c f front after j b was now (Ok Pending) old new is settles h = restaged c f front after b (Running j was) (Running j now) is settles.1 (λ g a. a) h
   settled_run c f front after j b was now (Ok (Done ended)) old new is settles h = restaged c f front after b (Running j was) (Ran settles.0) is settles.3 (λ g a. a) h
   settled_run c f front after j b was now (Err fault) old new is settles h = absurd settles

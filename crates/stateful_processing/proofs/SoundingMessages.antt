@@ -1,5 +1,5 @@
 -- What becomes of a message keeps a sound moment sound, where nothing is in front.
-use Rattle.std.proofs.Common.{◌≡◌, ◌≤◌, ◌<◌, ◌+◌, ℕ, true, List, Option, Some, None, refl, sym, ap, ◌∙◌, subst, arith}
+use Rattle.std.proofs.Common.{◌≡◌, ◌≤◌, ◌<◌, ◌+◌, ℕ, Option, None, refl, sym, ap, subst, arith}
 use Rattle.stateful_types.specs.Names.{Named}
 use Rattle.stateful_durability.specs.Durability.{Coverage, with_duplicate}
 use Rattle.stateful_exec.specs.Workings.{Workings}

@@ -1,16 +1,15 @@
 -- Behind an opening the machine is sound, and so it is once all that went on is dropped.
-use Rattle.std.proofs.Common.{◌≡◌, ◌≤◌, ℕ, true, false, List, All, [], length, map, Option, Some, None, inl, refl, sym, ap, ◌∙◌, subst, true≢false, arith}
+use Rattle.std.proofs.Common.{◌≡◌, ◌≤◌, ℕ, List, All, [], length, map, Option, None, inl, sym, ap, ◌∙◌, subst, true≢false, arith}
 use Rattle.std.proofs.lemmas.List.Elements.{All-nil}
 use Rattle.stateful_types.specs.Names.{Named}
 use Rattle.stateful_types.specs.declared.floor.Floor.{Floor}
 use Rattle.stateful_db.specs.Laws.{Laws}
 use Rattle.stateful_durability.specs.Durability.{Coverage}
 use Rattle.stateful_exec.specs.Workings.{Workings}
-use Rattle.stateful_exec.specs.declared.front.Front.{Front}
 use Rattle.stateful_processing.specs.Clearing.{IsCleared}
 use Rattle.stateful_processing.specs.Moments.{Moment}
 use Rattle.stateful_processing.specs.Opening.{Opens}
-use Rattle.stateful_processing.specs.Sound.{AreHeld, FrontAgrees, IsUp, Sound, out_at}
+use Rattle.stateful_processing.specs.Sound.{AreHeld, FrontAgrees, Sound, out_at}
 use Rattle.stateful_processing.specs.declared.barriers.Active.{Active}
 use Rattle.stateful_processing.specs.declared.tables.Finalizing.{Finalizing}
 use Rattle.stateful_processing.specs.declared.tables.Processing.{Processing}
@@ -23,7 +22,8 @@ module _ {B C I P R D H G U : Type 0} (w : Workings B C I P R D H G U) where
       let barriers : now.loop.barriers ≡ [] = ap (λ (l : Processing B C I G). l.barriers) o.loop ∙ closed in
       let front : now.loop.front ≡ None = ap (λ (l : Processing B C I G). l.front) o.loop ∙ none in
       let height : ℕ = w.header.height o.block.block in
-      let covered : now.loop.durability ≡ record { durable = height; applied = height; barriers = []; held = [] } = ap (λ (l : Processing B C I G). l.durability) o.loop in
+      let covered : now.loop.durability ≡ record { durable = height; applied = height; barriers = []; held = [] } =
+      ap (λ (l : Processing B C I G). l.durability) o.loop in
       let c : Coverage = record { durable = height; applied = height; barriers = []; held = [] } in
       record {
         none_away = laws.places.away_here now.members o.opening.at o.opening.here;

@@ -1,17 +1,11 @@
 -- The rules that change nothing that soundness speaks of, and those of barriers' breaks, keep it.
-use Rattle.std.proofs.Common.{◌≡◌, ◌++◌, ◌∷◌, [], ℕ, true, false, List, Option, Some, None, refl, sym, ap, ◌∙◌, subst, true≢false}
-use Rattle.stateful_types.specs.Names.{Named}
-use Rattle.stateful_durability.specs.Durability.{Coverage}
+use Rattle.std.proofs.Common.{◌≡◌, ℕ, false, List, refl, sym, ap, ◌∙◌, subst, true≢false}
 use Rattle.stateful_history.specs.declared.mark.Mark.{Mark}
-use Rattle.stateful_history.specs.declared.mark.Mark.TheVariants as mark
-use Rattle.stateful_exec.specs.Finalizing.{IsRedelivered}
 use Rattle.stateful_exec.specs.Workings.{Workings}
-use Rattle.stateful_exec.specs.declared.request.Request.{Request}
-use Rattle.stateful_processing.proofs.SoundingKept.{IsKept, Sound-kept, Sound-is, schedules_kept}
+use Rattle.stateful_processing.proofs.SoundingKept.{Sound-kept, Sound-is}
 use Rattle.stateful_processing.specs.Moments.{Moment, with_loop}
-use Rattle.stateful_processing.specs.Rules.{Collects, Builds, starts, declines, Takes, of_action, of_message, acknowledged}
+use Rattle.stateful_processing.specs.Rules.{Collects, Builds, starts, declines, Takes, of_action, of_message}
 use Rattle.stateful_processing.specs.Sound.{Sound}
-use Rattle.stateful_processing.specs.declared.barriers.Active.{Active}
 use Rattle.stateful_processing.specs.declared.message.Message.{Message}
 
 module _ {B C I P R D H G U : Type 0} (w : Workings B C I P R D H G U) where

@@ -1,5 +1,5 @@
 -- Turns, cancels and answered fetches leave the anchor and the databases as they are.
-use Rattle.std.proofs.Common.{◌≡◌, ◌∷◌, ℕ, [], Result, Ok, Err, Option, Some, None, List, refl, sym, ap, ◌∙◌, subst}
+use Rattle.std.proofs.Common.{◌≡◌, ℕ, Result, Ok, Err, Option, List, refl, ap, ◌∙◌}
 use Rattle.stateful_types.specs.Names.{Named}
 use Rattle.stateful_types.specs.declared.outcome.Handoff.{Handoff}
 use Rattle.stateful_types.specs.declared.outcome.Handoff.TheVariants.{Wait, Vote, Stage}
