@@ -34,10 +34,10 @@ module _ {B C I P R D H G U : Type 0} (w : Workings B C I P R D H G U) where
   Stays-then s u = record { anchor = u.anchor ∙ s.anchor; members = u.members ∙ s.members }
 
   -- an equation of moments, read
-  becomes : (m : exec.Moment w) (state : Tables B C I R U) (ids : w.Ids) (marks : _) (now : exec.Moment w) → now ≡ exec.moment w state m.members ids marks → state.anchor ≡ m.state.anchor → Stays m now
+  pub becomes : (m : exec.Moment w) (state : Tables B C I R U) (ids : w.Ids) (marks : _) (now : exec.Moment w) → now ≡ exec.moment w state m.members ids marks → state.anchor ≡ m.state.anchor → Stays m now
   becomes m state ids marks now e h = record { anchor = ap (λ n. n.state.anchor) e ∙ h; members = ap (λ n. n.members) e }
 
-  concluded : (m : exec.Moment w) (t : ℕ) (r : Requested B C I) (verdict : Verdict) (now : exec.Moment w) → Concludes w m t r verdict now → Stays m now
+  pub concluded : (m : exec.Moment w) (t : ℕ) (r : Requested B C I) (verdict : Verdict) (now : exec.Moment w) → Concludes w m t r verdict now → Stays m now
   concluded m t r verdict now e = becomes m (ended m.state t r.request verdict) m.next _ now e (ended_anchor m.state t r.request verdict)
 
   pub Advances-stays : (m : exec.Moment w) (t : ℕ) (r : Requested B C I) (path : Path B) (now : exec.Moment w) → Advances w m t r path now → Stays m now
