@@ -1,4 +1,4 @@
-use Rattle.std.proofs.Common.{Err, ap}
+use Rattle.std.proofs.Common.{rules, Err, ap}
 use Rattle.stateful_processing.specs.Causes.{FaultsBarrier}
 use Rattle.stateful_processing.specs.Errors.{error_of_set}
 use Rattle.stateful_processing.proofs.BarrierCalls.{converted, fault_finalizing}
