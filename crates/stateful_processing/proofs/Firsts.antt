@@ -1,5 +1,5 @@
 -- What is first among the actions and the messages is taken.
-use Rattle.std.proofs.Common.{◌≡◌, ◌∷◌, ◌++◌, ◌⊎◌, [], ℕ, Bool, true, false, List, Option, Some, None, IsSome, inl, inr, refl, sym, ap, ◌∙◌}
+use Rattle.std.proofs.Common.{◌≡◌, ◌∷◌, ◌++◌, ◌⊎◌, [], ℕ, true, false, List, Option, Some, None, IsSome, inl, inr, refl, sym, ap, ◌∙◌}
 use Rattle.stateful_types.specs.Names.{Named}
 use Rattle.stateful_exec.specs.Causes.{FaultsAcquire}
 use Rattle.stateful_exec.specs.Rules.{requested}

@@ -1,5 +1,5 @@
 -- What becomes of what is taken.
-use Rattle.std.proofs.Common.{◌≡◌, ◌≢◌, ◌<◌, ◌≤◌, ◌∷◌, ◌++◌, [], ℕ, List, Option, Some, None, refl, sym, ap, ◌∙◌, subst}
+use Rattle.std.proofs.Common.{◌≡◌, ◌<◌, ◌≤◌, ◌∷◌, ◌++◌, [], ℕ, List, Option, Some, None, refl, sym, ap, ◌∙◌, subst}
 use Rattle.stateful_types.specs.Names.{Named}
 use Rattle.stateful_types.specs.declared.number.Height.{Height}
 use Rattle.stateful_durability.specs.Durability.{Coverage, with_duplicate}
@@ -49,13 +49,6 @@ module _ {B C I P R D H G U : Type 0} (w : Workings B C I P R D H G U) (old new 
             let same = there ∙ s.build_is in
             let parent : b.parent ≡ s.proposal.ancestry.first = cc in
             builds s (rw (members, front, marks, drawn, parent) refl)
-
-    -- a build that has started is there
-    pub is_there : (j : ℕ) → started ≡ Started j → new.build ≢ None
-    is_there j is none = go (subst (λ (s : BuildStart). Proposes w t provider m n n' old.state new.state old.build new.build s) is proposes)
-      where
-        go : Proposes w t provider m n n' old.state new.state old.build new.build (Started j) → ⊥
-        go (starts drawn s) = let k = sym none ∙ s.build_is in cc
 
     pub declined : started ≡ Declined → k' ≡ k ++ mark.Declined t ∷ [] → Builds w provider t before after
     declined is marks = go (subst (λ (s : BuildStart). Proposes w t provider m n n' old.state new.state old.build new.build s) is proposes)

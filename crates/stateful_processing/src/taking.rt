@@ -270,14 +270,14 @@ pub(crate) fn drain_first<A: Application + Drop, S: BlockStore<A::Block>>(
     let Some(message) = processing.queue.pop() else {
         return Ok(false);
     };
-    if !message.is_verification() {
+    if message.is_verification() {
+        match message {
+            Message::Request(request) => schedule(handler, databases, store, request, marks)?,
+            Message::Finalized { block: _block, .. } => unreachable!(),
+            Message::Subscribe { .. } => unreachable!(),
+        }
+    } else {
         processing.actions.push(Action::Message(message))?;
-        return Ok(true);
-    }
-    match message {
-        Message::Request(request) => schedule(handler, databases, store, request, marks)?,
-        Message::Finalized { .. } => unreachable!(),
-        Message::Subscribe { .. } => unreachable!(),
     }
     Ok(true)
 }
