@@ -19,3 +19,6 @@ pub mod SoundingOpenings
 pub mod FallingTables
 pub mod FallingParts
 pub mod Falling
+pub mod Handing
+pub mod Takes
+pub mod Firsts

@@ -1,7 +1,7 @@
 //! What waits to be taken.
 
 ghost use Rattle.std.specs.Prelude.{◌≡◌};
-ghost use Rattle.stateful_processing.specs.Message.{asks_of, asks_for};
+ghost use Rattle.stateful_processing.specs.Message.{asks_of, asks_for, is_verification};
 
 use crate::queue::Asks;
 use stateful_exec::Request;
@@ -25,6 +25,20 @@ pub enum Action<B, C, I> {
     Message(Message<B, C, I>),
     /// The build of the proposal of this ticket, whose parent became known.
     Build { ticket: u64 },
+}
+
+impl<B, C: Copy, I> Message<B, C, I> {
+    /// Whether it is a request to judge a block.
+    pub(crate) fn is_verification(&self) -> bool
+        ensures { result ≡ is_verification self.now }
+    {
+        match self {
+            Message::Request(Request::Verify { .. }) => true,
+            Message::Request(Request::Recover { .. }) => false,
+            Message::Finalized { .. } => false,
+            Message::Subscribe { .. } => false,
+        }
+    }
 }
 
 impl<B, C: Copy, I> Asks for Message<B, C, I> {

@@ -84,13 +84,16 @@ fn build<A: Application + Drop>(
     ensures application { A.count handler.old.application ≤ A.count handler.new.application }
 {
     let started = handler.propose(ticket, databases, provider)?;
-    match (started, handler.build()) {
-        (BuildStart::Started(job), Some(build)) => marks.push(Mark::Started {
-            job,
-            kind: JobKind::Build,
-            digest: build.parent.digest(),
-        })?,
-        _ => marks.push(Mark::Declined { ticket })?,
+    match started {
+        BuildStart::Started(job) => match handler.build() {
+            Some(build) => marks.push(Mark::Started {
+                job,
+                kind: JobKind::Build,
+                digest: build.parent.digest(),
+            })?,
+            None => unreachable!(),
+        },
+        BuildStart::Declined => marks.push(Mark::Declined { ticket })?,
     }
     Ok(())
 }
@@ -264,16 +267,17 @@ pub(crate) fn drain_first<A: Application + Drop, S: BlockStore<A::Block>>(
     ensures application { A.count handler.old.application ≤ A.count handler.new.application }
     ensures barrier { processing.old.next_barrier ≤ processing.new.next_barrier }
 {
-    match processing.queue.pop() {
-        None => Ok(false),
-        Some(Message::Request(Request::Verify { ticket, ancestry })) => {
-            let request = Request::Verify { ticket, ancestry };
-            schedule(handler, databases, store, request, marks)?;
-            Ok(true)
+    let Some(message) = processing.queue.pop() else {
+        return Ok(false);
+    };
+    if message.is_verification() {
+        match message {
+            Message::Request(request) => schedule(handler, databases, store, request, marks)?,
+            Message::Finalized { block: _block, .. } => unreachable!(),
+            Message::Subscribe { .. } => unreachable!(),
         }
-        Some(message) => {
-            processing.actions.push(Action::Message(message))?;
-            Ok(true)
-        }
+    } else {
+        processing.actions.push(Action::Message(message))?;
     }
+    Ok(true)
 }
