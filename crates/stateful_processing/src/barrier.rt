@@ -42,6 +42,7 @@ pub(crate) fn begin_barrier<A: Application>(
         → A.Databases.kind.NoneAway (A.Databases.members databases.new) }
     ensures later { (n : ℕ)
         → A.Databases.counted databases.old n ≤ A.Databases.counted databases.new n }
+    ensures barrier { processing.old.next_barrier ≤ processing.new.next_barrier }
 {
     let number = processing.next_barrier;
     if number == u64::MAX {
