@@ -12,6 +12,16 @@ use Rattle.stateful_processing.specs.declared.reached.Reached.{Reached}
 use Rattle.stateful_processing.specs.declared.reached.Reached.TheVariants as reached
 use Rattle.stateful_processing.specs.declared.tables.Finalizing.{Finalizing}
 
+pub begun_isnt_ran : reached.Begun ≡ reached.Ran → ⊥
+begun_isnt_ran e = cc
+
+pub begun_isnt_advanced : reached.Begun ≡ reached.Advanced → ⊥
+begun_isnt_advanced e = cc
+
+-- some are awaited
+pub some_awaited : (n : ℕ) → n ≡ 0 → 0 < n → ⊥
+some_awaited n e lt = omega arith
+
 module _ {B C I P R D H G U : Type 0} (w : Workings B C I P R D H G U) (c : Coverage) (f : Finalizing B G) (front : Option (Front B R U H)) where
   -- it is at a stage that tells how far it has come
   staged : (stage : Stage R U H) (r : Reached) → front ≡ front_at f.block stage → reached_by front ≡ r → stage_of stage ≡ r
