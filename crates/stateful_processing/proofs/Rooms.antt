@@ -37,5 +37,5 @@ pub has_room : {Ids S T : Type 0} (d : Databases Ids S T) → PlaceLaws d → (m
     → (barriers : List Active) (heights : List ℕ) → map (λ active. active.height.0) barriers ≡ heights
     → ((i : ℕ) → i < d.count → d.tokens m i ≡ out_at barriers i) → length heights < 2 → d.HasRoom m × (length barriers < 2)
 has_room d laws m p here barriers heights are tokens few =
-    let open : length barriers < 2 = subst (λ n. n < 2) (sym (ap length are) ∙ length_heights barriers) few in
-    (laws.room_from m p here (λ i lt. subst (λ xs. length xs < 2) (sym (tokens i lt)) (out_at_short barriers i open)), open)
+    let short : length barriers < 2 = subst (λ n. n < 2) (sym (ap length are) ∙ length_heights barriers) few in
+    (laws.room_from m p here (λ i lt. subst (λ xs. length xs < 2) (sym (tokens i lt)) (out_at_short barriers i short)), short)
