@@ -29,7 +29,7 @@ pub go_on_advanced-requires-clause-room : goal.go_on_advanced-requires-clause-ro
 go_on_advanced-requires-clause-room g c = λ needed.
     let d = g.A.Databases.DatabaseSet.kind in
     let up = c.requires.up in
-    has_room d g.A.Databases.DatabaseSet.laws.places (g.A.Databases.DatabaseSet.members c.args.databases.now) up.point up.here c.args.processing.now.barriers c.args.processing.now.durability.barriers up.heights up.tokens needed.0
+    has_room d g.met.A.Databases.DatabaseSet.laws.places (g.A.Databases.DatabaseSet.members c.args.databases.now) up.point up.here c.args.processing.now.barriers c.args.processing.now.durability.barriers up.heights up.tokens needed.0
 
 pub returns-in_ok-run_or_apply-in-Begun-clause-ok : goal.returns-in_ok-run_or_apply-in-Begun-clause-ok
 returns-in_ok-run_or_apply-in-Begun-clause-ok g c = λ provider. c.in_ok-run_or_apply-in-Begun.ensures.ok (g.S.BlockStore.stored c.args.store.now) provider
