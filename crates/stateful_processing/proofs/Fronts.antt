@@ -1,5 +1,5 @@
 -- What a finalization in front is, by how far it has come.
-use Rattle.std.proofs.Common.{◌≡◌, ℕ, ◌<◌, ◌+◌, Option, Some, None, refl, sym, ap, ◌∙◌, subst, arith, All}
+use Rattle.std.proofs.Common.{◌≡◌, ℕ, ◌<◌, ◌+◌, Option, Some, None, sym, ap, ◌∙◌, arith, All}
 use Rattle.stateful_durability.specs.Durability.{Coverage}
 use Rattle.stateful_exec.specs.Finalizing.{front_at}
 use Rattle.stateful_exec.specs.Workings.{Workings}

@@ -1,7 +1,5 @@
-use Rattle.std.proofs.Common.{rules, ◌≡◌, Err, ap, ◌∙◌, inl, inr}
-use Rattle.stateful_history.specs.declared.mark.Mark.TheVariants as mark
+use Rattle.std.proofs.Common.{rules, Err, ap, inr}
 use Rattle.stateful_exec.specs.Workings.{workings}
-use Rattle.stateful_processing.specs.Causes.{FaultsApply}
 use Rattle.stateful_processing.specs.Errors.{error_of_set}
 use Rattle.stateful_processing.specs.Moments.{executing}
 use Rattle.stateful_processing.proofs.Finalizations.{made_of, fault_applying, applies_block}

@@ -1,4 +1,4 @@
-use Rattle.std.proofs.Common.{◌≡◌, ap, subst, inl, inr, refl, None}
+use Rattle.std.proofs.Common.{ap, subst, inr, refl}
 use Rattle.stateful_types.specs.Causes.{Rose}
 use Rattle.stateful_exec.specs.Moments as exec
 use Rattle.stateful_exec.specs.Pausing.{FaultsResume}

@@ -1,4 +1,4 @@
-use Rattle.std.proofs.Common.{◌≡◌, ◌∙◌, sym, refl, Some, ⊎_elim}
+use Rattle.std.proofs.Common.{◌∙◌, sym, refl, Some, ⊎_elim}
 use Rattle.std.proofs.lemmas.Bool.{true≢false}
 use Rattle.std.proofs.lemmas.Result.{on_ok_weaker, MatchResult-weaker}
 use Rattle.stateful_exec.specs.Workings.{workings}

@@ -1,4 +1,4 @@
-use Rattle.std.proofs.Common.{◌≡◌, ◌∙◌, sym, refl, inr, Some}
+use Rattle.std.proofs.Common.{◌∙◌, sym, refl, inr, Some}
 use Rattle.stateful_exec.specs.Workings.{workings}
 use Rattle.stateful_processing.specs.Rules.{applies}
 use Rattle.stateful_processing.proofs.Finalizations.{made_of, applies_with, fault_applied, counts_once, quiet_waiting}

@@ -1,7 +1,6 @@
 use Rattle.stateful_processing.proofs.Finalizations.{same_moment}
 use Rattle.stateful_processing.proofs.finalizing.run.Goals as goal
 use Rattle.std.proofs.Common.{refl}
-use Rattle.stateful_processing.specs.Rules.{RunsFinalized}
 use Rattle.stateful_exec.specs.Workings.{workings}
 
 pub returns-clause-ok : goal.returns-clause-ok

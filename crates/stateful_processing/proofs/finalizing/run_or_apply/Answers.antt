@@ -1,9 +1,7 @@
-use Rattle.std.proofs.Common.{◌≡◌, inl, inr, Some}
+use Rattle.std.proofs.Common.{inl, Some}
 use Rattle.std.proofs.lemmas.Result.{on_ok_weaker, MatchResult-weaker}
-use Rattle.stateful_types.specs.Causes.{Rose}
 use Rattle.stateful_exec.specs.Workings.{workings}
 use Rattle.stateful_processing.specs.Causes.{running}
-use Rattle.stateful_processing.specs.Moments.{executing, moment}
 use Rattle.stateful_processing.specs.Rules.{applies, runs}
 use Rattle.stateful_processing.proofs.Finalizations.{made_of, is_cached, not_cached, applies_with, fault_applied}
 use Rattle.stateful_processing.proofs.finalizing.run_or_apply.Goals as goal
