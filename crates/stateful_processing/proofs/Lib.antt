@@ -22,3 +22,6 @@ pub mod Falling
 pub mod Handing
 pub mod Takes
 pub mod Firsts
+pub mod Rooms
+pub mod Finalizations
+pub mod Fronts
