@@ -1,5 +1,5 @@
 -- What is first among the actions and the messages is taken.
-use Rattle.std.proofs.Common.{◌≡◌, ◌∷◌, ◌++◌, ◌⊎◌, [], ℕ, true, false, List, Option, Some, None, IsSome, inl, inr, refl, sym, ap, ◌∙◌}
+use Rattle.std.proofs.Common.{◌≡◌, ◌∷◌, ◌++◌, ◌⊎◌, [], ℕ, true, false, List, Option, IsSome, inl, inr, sym, ap, ◌∙◌}
 use Rattle.stateful_types.specs.Names.{Named}
 use Rattle.stateful_exec.specs.Causes.{FaultsAcquire}
 use Rattle.stateful_exec.specs.Rules.{requested}
@@ -10,7 +10,7 @@ use Rattle.stateful_processing.specs.Causes.FaultsRule.{memory, scheduling, taki
 use Rattle.stateful_processing.specs.Message.{is_verification}
 use Rattle.stateful_processing.specs.Moments.{Moment, inner, with_loop}
 use Rattle.stateful_processing.specs.Rules.{IsCollected, IsCalm, Takes, Schedules, Rule}
-use Rattle.stateful_processing.specs.Rules.Takes.{of_action, of_message}
+use Rattle.stateful_processing.specs.Rules.Takes.{of_message}
 use Rattle.stateful_processing.specs.Rules.Rule.{schedules, puts_off}
 use Rattle.stateful_processing.specs.declared.error.StepError.{StepError}
 use Rattle.stateful_processing.specs.declared.error.StepError.TheVariants.{OutOfMemory}

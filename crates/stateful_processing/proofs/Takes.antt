@@ -1,12 +1,12 @@
 -- What becomes of what is taken.
-use Rattle.std.proofs.Common.{◌≡◌, ◌<◌, ◌≤◌, ◌∷◌, ◌++◌, [], ℕ, List, Option, Some, None, refl, sym, ap, ◌∙◌, subst}
+use Rattle.std.proofs.Common.{◌≡◌, ◌<◌, ◌≤◌, ◌∷◌, ◌++◌, [], ℕ, List, Option, Some, refl, ◌∙◌, subst}
 use Rattle.stateful_types.specs.Names.{Named}
 use Rattle.stateful_types.specs.declared.number.Height.{Height}
 use Rattle.stateful_durability.specs.Durability.{Coverage, with_duplicate}
 use Rattle.stateful_history.specs.declared.mark.JobKind.TheVariants as job
 use Rattle.stateful_history.specs.declared.mark.Mark.{Mark}
 use Rattle.stateful_history.specs.declared.mark.Mark.TheVariants as mark
-use Rattle.stateful_exec.specs.Building.{StartsBuild, Proposes, IsReady, unqueued}
+use Rattle.stateful_exec.specs.Building.{Proposes}
 use Rattle.stateful_exec.specs.Building.Proposes.{starts, declines}
 use Rattle.stateful_exec.specs.Finalizing.{IsRedelivered}
 use Rattle.stateful_exec.specs.Moments as exec

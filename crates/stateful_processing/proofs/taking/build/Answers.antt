@@ -15,17 +15,24 @@ pub returns-in_err-push-in-Some-clause-fault : goal.returns-in_err-push-in-Some-
 returns-in_err-push-in-Some-clause-fault g c = out_of_memory _ c.from_residual-in_err-push-in-Some.result c.from_residual-in_err-push-in-Some.ensures.1 (memory refl)
 
 pub returns-in_err-push-in-Declined-clause-fault : goal.returns-in_err-push-in-Declined-clause-fault
-returns-in_err-push-in-Declined-clause-fault g c = out_of_memory _ c.from_residual-in_err-push-in-Declined.result c.from_residual-in_err-push-in-Declined.ensures.1 (memory refl)
+returns-in_err-push-in-Declined-clause-fault g c = out_of_memory _ c.from_residual-in_err-push-in-Declined.result c.from_residual-in_err-push-in-Declined.ensures.1
+    (memory refl)
 
 pub returns-in_ok-push-in-Some-clause-ok : goal.returns-in_ok-push-in-Some-clause-ok
 returns-in_ok-push-in-Some-clause-ok g c = λ l.
     let w = workings g.A.Block.Block.header g.A.Context.Rounded.round_of g.A.Application.works g.A.Databases.DatabaseSet.kind g.A.Databases.DatabaseSet.shows in
-    begun w (executing c.args.handler.now) (executing c.propose.new.self) l (g.A.Databases.DatabaseSet.members c.args.databases.now) (g.A.Databases.DatabaseSet.members c.propose.new.databases) (g.A.Databases.DatabaseSet.next c.args.databases.now) (g.A.Databases.DatabaseSet.next c.propose.new.databases) c.args.marks.now.items c.push.new.self.items c.args.ticket c.args.provider c.in_ok-started.ensures.members c.in_ok-started.ensures.front c.in_ok-started.started c.in_ok-started.ensures.ok
+    begun w (executing c.args.handler.now) (executing c.propose.new.self) l (g.A.Databases.DatabaseSet.members c.args.databases.now)
+    (g.A.Databases.DatabaseSet.members c.propose.new.databases) (g.A.Databases.DatabaseSet.next c.args.databases.now)
+    (g.A.Databases.DatabaseSet.next c.propose.new.databases) c.args.marks.now.items c.push.new.self.items c.args.ticket c.args.provider c.in_ok-started.ensures.members c.in_ok-started.ensures.front
+    c.in_ok-started.started c.in_ok-started.ensures.ok
     c.in-Started.job c.in-Some.build.now c.in-Started.is c.in-Some.ensures
     (c.in_ok-push-in-Some.ensures.items ∙ ap (λ digest. c.args.marks.now.items ++ mark.Started c.in-Started.job job.Build digest ∷ []) c.digest.ensures)
 
 pub returns-in_ok-push-in-Declined-clause-ok : goal.returns-in_ok-push-in-Declined-clause-ok
 returns-in_ok-push-in-Declined-clause-ok g c = λ l.
     let w = workings g.A.Block.Block.header g.A.Context.Rounded.round_of g.A.Application.works g.A.Databases.DatabaseSet.kind g.A.Databases.DatabaseSet.shows in
-    declined w (executing c.args.handler.now) (executing c.propose.new.self) l (g.A.Databases.DatabaseSet.members c.args.databases.now) (g.A.Databases.DatabaseSet.members c.propose.new.databases) (g.A.Databases.DatabaseSet.next c.args.databases.now) (g.A.Databases.DatabaseSet.next c.propose.new.databases) c.args.marks.now.items c.push-in-Declined.new.self.items c.args.ticket c.args.provider c.in_ok-started.ensures.members c.in_ok-started.ensures.front c.in_ok-started.started c.in_ok-started.ensures.ok
+    declined w (executing c.args.handler.now) (executing c.propose.new.self) l (g.A.Databases.DatabaseSet.members c.args.databases.now)
+    (g.A.Databases.DatabaseSet.members c.propose.new.databases) (g.A.Databases.DatabaseSet.next c.args.databases.now)
+    (g.A.Databases.DatabaseSet.next c.propose.new.databases) c.args.marks.now.items c.push-in-Declined.new.self.items c.args.ticket c.args.provider c.in_ok-started.ensures.members
+    c.in_ok-started.ensures.front c.in_ok-started.started c.in_ok-started.ensures.ok
     c.in-Declined.is c.in_ok-push-in-Declined.ensures.items

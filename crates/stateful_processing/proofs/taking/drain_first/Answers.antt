@@ -18,7 +18,8 @@ returns-in_ok-schedule-in-Request-clause-ok g c = λ provider.
     let w = workings g.A.Block.Block.header g.A.Context.Rounded.round_of g.A.Application.works g.A.Databases.DatabaseSet.kind g.A.Databases.DatabaseSet.shows in
     let m = moment w (executing c.args.handler.now) c.args.processing.now (g.A.Databases.DatabaseSet.members c.args.databases.now) (g.A.Databases.DatabaseSet.next c.args.databases.now) c.args.marks.now.items in
     drained w (g.S.BlockStore.stored c.args.store.now) m c.pop.new.self c.requires.collected c.requires.building c.in-Some.message c.in-Some.ensures.some
-    c.in-Request.request c.in-Request.is (sym c.is_verification.ensures ∙ c.if-is_verification.true) provider _ (c.in_ok-schedule-in-Request.ensures.ok (record c.args.processing.now { queue = c.pop.new.self }))
+    c.in-Request.request c.in-Request.is (sym c.is_verification.ensures ∙ c.if-is_verification.true) provider _
+    (c.in_ok-schedule-in-Request.ensures.ok (record c.args.processing.now { queue = c.pop.new.self }))
 
 pub returns-in_ok-push-clause-ok : goal.returns-in_ok-push-clause-ok
 returns-in_ok-push-clause-ok g c = λ provider.

@@ -20,4 +20,5 @@ returns-in_ok-push-in-Subscribe-clause-ok g c =
 
 pub returns-else-branch-clause-ok : goal.returns-else-branch-clause-ok
 returns-else-branch-clause-ok g c =
-    on_ok_weaker c.begin_finalization.result (λ does. rw c.in-Finalized.is (begins (c.in_ok-redelivered-in-Finalized.ensures.next c.if-branch.false) does)) c.begin_finalization.ensures.ok
+    on_ok_weaker c.begin_finalization.result (λ does. rw c.in-Finalized.is (begins (c.in_ok-redelivered-in-Finalized.ensures.next c.if-branch.false) does))
+    c.begin_finalization.ensures.ok
