@@ -57,7 +57,7 @@ fault_applying d before now old new set.Exhausted lost exhausted fault = absurd 
 fault_applying d before now old new (set.DatabaseFault n k) lost exhausted fault = fault n k refl
 fault_applying d before now old new set.OutOfMemory lost exhausted fault = tt
 
--- none is counted in one way, and some in another: never of the same list
+-- where none is counted, no other number is
 pub counts_once : {T : Type 0} {P : T → Type 0} {xs : List T} (n : ℕ) → IsCount P xs 0 → IsCount P xs n → n ≡ 0
 counts_once n zeros count = counted _ n 0 count zeros refl
   where
