@@ -43,7 +43,8 @@ made_of P (Err y) e made p = subst P (sym made) p
 pub is_cached : {U : Type 0} (cache : List (Cached U)) (d own : Digest) (b : Bool) → d ≡ own → ((b ≡ true) ↔ IsIn cache d) → b ≡ true → IsIn cache own
 is_cached cache d own b is told e = subst (IsIn cache) is (told.0 e)
 
-pub not_cached : {U : Type 0} (cache : List (Cached U)) (d own : Digest) (b : Bool) → d ≡ own → ((b ≡ true) ↔ IsIn cache d) → b ≡ false → IsIn cache own → ⊥
+pub not_cached : {U : Type 0} (cache : List (Cached U)) (d own : Digest) (b : Bool) → d ≡ own → ((b ≡ true) ↔ IsIn cache d)
+    → b ≡ false → IsIn cache own → ⊥
 not_cached cache d own b is told e has = true≢false (sym (told.1 (subst (IsIn cache) (sym is) has)) ∙ e)
 
 -- a set failed at its apply
@@ -56,7 +57,7 @@ fault_applying d before now old new set.Exhausted lost exhausted fault = absurd 
 fault_applying d before now old new (set.DatabaseFault n k) lost exhausted fault = fault n k refl
 fault_applying d before now old new set.OutOfMemory lost exhausted fault = tt
 
--- none is counted in one way, and some in another: never of the same list
+-- where none is counted, no other number is
 pub counts_once : {T : Type 0} {P : T → Type 0} {xs : List T} (n : ℕ) → IsCount P xs 0 → IsCount P xs n → n ≡ 0
 counts_once n zeros count = counted _ n 0 count zeros refl
   where
@@ -69,20 +70,22 @@ counts_once n zeros count = counted _ n 0 count zeros refl
 
 module _ {B C I P R D H G U : Type 0} (w : Workings B C I P R D H G U) where
   -- moments that differ in what is told by an equation
-  pub same_moment : (state : Tables B C I R U) (front : Option (Front B R U H)) (next : w.Ids) (b1 b2 : Option (Building B C D)) (l1 l2 : Processing B C I G) (m1 m2 : w.kind.Members) (k1 k2 : List (Mark B))
+  pub same_moment : (state : Tables B C I R U) (front : Option (Front B R U H)) (next : w.Ids) (b1 b2 : Option (Building B C D))
+      (l1 l2 : Processing B C I G) (m1 m2 : w.kind.Members) (k1 k2 : List (Mark B))
       → b1 ≡ b2 → l1 ≡ l2 → m1 ≡ m2 → k1 ≡ k2
       → moment w (record { state = state; build = b1; front = front }) l1 m1 next k1 ≡ moment w (record { state = state; build = b2; front = front }) l2 m2 next k2
   same_moment state front next b1 b2 l1 l2 m1 m2 k1 k2 b l m k = cc
 
   -- the finalized block is applied
-  pub applies_block : (f : Finalizing B G) (h now : Executing B C I R D H U) (l : Processing B C I G) (c : Coverage) (height : Height) (m n : w.kind.Members) (i j : w.Ids) (marks after : List (Mark B)) (batch : U) (captured : G)
+  pub applies_block : (f : Finalizing B G) (h now : Executing B C I R D H U) (l : Processing B C I G) (c : Coverage)
+      (height : Height) (m n : w.kind.Members) (i j : w.Ids) (marks after : List (Mark B)) (batch : U) (captured : G)
       → Moves w f.block m h.state now.state h.front now.front batch captured → now.build ≡ h.build
       → ((p q : Point w) (c : List (Point w)) → w.kind.point m ≡ Some p → w.shows batch (q ∷ p ∷ c) → n ≡ w.kind.applied m q)
       → (w.kind.point n ≡ None → ⊥) → ((i : ℕ) → w.kind.tokens n i ≡ w.kind.tokens m i) → j ≡ i
       → height ≡ record { 0 = w.header.height f.block.block } → c ≡ record l.durability { applied = height.0 } → All (λ receipt. receipt.0 < height.0) c.held
       → after ≡ marks ++ mark.Applied f.block ∷ []
       → AppliesBlock w f (moment w h l m i marks)
-        (moment w now (record l { front = Some (record f { captured = Some captured }); durability = c }) n j after)
+      (moment w now (record l { front = Some (record f { captured = Some captured }); durability = c }) n j after)
   applies_block f h now l c height m n i j marks after batch captured moves build applied here tokens ids is covered above told =
       let k = w.header.height f.block.block in
       let level : height.0 ≡ k = ap (λ x. x.0) is in
@@ -93,7 +96,8 @@ module _ {B C I P R D H G U : Type 0} (w : Workings B C I P R D H G U) where
         state = now.state;
         front = now.front;
         moves = moves;
-        above = subst (λ x. All (λ receipt. receipt.0 < x) l.durability.held) level (subst (λ x. All (λ receipt. receipt.0 < height.0) x) (ap (λ x. x.held) covered) above);
+        above = subst (λ x. All (λ receipt. receipt.0 < x) l.durability.held) level
+            (subst (λ x. All (λ receipt. receipt.0 < height.0) x) (ap (λ x. x.held) covered) above);
         members = n;
         applied = applied;
         here = here;
@@ -102,7 +106,8 @@ module _ {B C I P R D H G U : Type 0} (w : Workings B C I P R D H G U) where
       }
 
   -- it doesn't matter which finalization the loop had in front
-  pub applies_with : (f : Finalizing B G) (m now : Moment w) (front : Option (Finalizing B G)) → AppliesBlock w f m now → AppliesBlock w f (with_loop w m (record m.loop { front = front })) now
+  pub applies_with : (f : Finalizing B G) (m now : Moment w) (front : Option (Finalizing B G)) → AppliesBlock w f m now
+      → AppliesBlock w f (with_loop w m (record m.loop { front = front })) now
   applies_with f m now front a = record {
     batch = a.batch;
     captured = a.captured;
@@ -118,7 +123,8 @@ module _ {B C I P R D H G U : Type 0} (w : Workings B C I P R D H G U) where
   }
 
   -- why the finalized block isn't applied
-  pub fault_applied : (stored : ℕ → Option (Named B)) (rose : Type 0) (before now : ℕ → ℕ) (new : w.kind.Members) (f : Finalizing B G) (m : Moment w) → IsFinalizing w m f → HasStates w m f.block → (e : StepError)
+  pub fault_applied : (stored : ℕ → Option (Named B)) (rose : Type 0) (before now : ℕ → ℕ) (new : w.kind.Members) (f : Finalizing B G) (m : Moment w)
+      → IsFinalizing w m f → HasStates w m f.block → (e : StepError)
       → (e ≡ OutOfMemory) ⊎ (Via (FaultsMove w rose f.block m.execution.state.cache m.execution.front) e ⊎ FaultsApply w.kind before now new m.members e)
       → FaultsRule w stored rose before now new m e
   fault_applied stored rose before now new f m fin states e (inl is) = memory is
@@ -126,7 +132,8 @@ module _ {B C I P R D H G U : Type 0} (w : Workings B C I P R D H G U) where
   fault_applied stored rose before now new f m fin states e (inr (inr applies)) = applying fin states applies
 
   -- the finalization has ended
-  pub ends_finalization : (stored : ℕ → Option (Named B)) (t : ℕ) (b : Named B) (h mid now : Executing B C I R D H U) (l : Processing B C I G) (c : Coverage) (height : Height) (m n : w.kind.Members) (i j : w.Ids) (marks after : List (Mark B))
+  pub ends_finalization : (stored : ℕ → Option (Named B)) (t : ℕ) (b : Named B) (h mid now : Executing B C I R D H U)
+      (l : Processing B C I G) (c : Coverage) (height : Height) (m n : w.kind.Members) (i j : w.Ids) (marks after : List (Mark B))
       → mid ≡ record h { front = None } → now.build ≡ mid.build → now.front ≡ mid.front
       → Resumes w stored (exec.moment w mid.state m i marks) (exec.moment w now.state n j after)
       → height ≡ record { 0 = w.header.height b.block } → c ≡ record l.durability { held = l.durability.held ++ (height.0, t) ∷ [] } → l.front ≡ None
@@ -135,7 +142,8 @@ module _ {B C I P R D H G U : Type 0} (w : Workings B C I P R D H G U) where
       let k = w.header.height b.block in
       let built : now.build ≡ h.build = build ∙ ap (λ x. x.build) dropped in
       let over : now.front ≡ None = front ∙ ap (λ x. x.front) dropped in
-      let covers : c ≡ record l.durability { held = l.durability.held ++ (k, t) ∷ [] } = held ∙ ap (λ (x : Height). record l.durability { held = l.durability.held ++ (x.0, t) ∷ [] }) is in
+      let covers : c ≡ record l.durability { held = l.durability.held ++ (k, t) ∷ [] } =
+      held ∙ ap (λ (x : Height). record l.durability { held = l.durability.held ++ (x.0, t) ∷ [] }) is in
       record {
         then = exec.moment w now.state n j after;
         resumes = subst (λ s. Resumes w stored (exec.moment w s m i marks) (exec.moment w now.state n j after)) (ap (λ x. x.state) dropped) resumes;
@@ -143,7 +151,8 @@ module _ {B C I P R D H G U : Type 0} (w : Workings B C I P R D H G U) where
       }
 
   -- nor does it where the application observes, or where the finalization ends
-  pub observes_with : (f g : Finalizing B G) (captured : G) (m now : Moment w) (front : Option (Finalizing B G)) → g.block ≡ f.block → g.ticket ≡ f.ticket → ObservesBlock w g captured m now
+  pub observes_with : (f g : Finalizing B G) (captured : G) (m now : Moment w) (front : Option (Finalizing B G))
+      → g.block ≡ f.block → g.ticket ≡ f.ticket → ObservesBlock w g captured m now
       → ObservesBlock w f captured (with_loop w m (record m.loop { front = front })) now
   observes_with f g captured m now front block ticket o = record {
     state = o.state;
@@ -154,7 +163,8 @@ module _ {B C I P R D H G U : Type 0} (w : Workings B C I P R D H G U) where
     becomes = o.becomes ∙ rw (sym block) (rw (sym ticket) refl);
   }
 
-  pub ends_with : (stored : ℕ → Option (Named B)) (f g : Finalizing B G) (m now : Moment w) (front : Option (Finalizing B G)) → g.block ≡ f.block → g.ticket ≡ f.ticket → EndsFinalization w stored g m now
+  pub ends_with : (stored : ℕ → Option (Named B)) (f g : Finalizing B G) (m now : Moment w) (front : Option (Finalizing B G))
+      → g.block ≡ f.block → g.ticket ≡ f.ticket → EndsFinalization w stored g m now
       → EndsFinalization w stored f (with_loop w m (record m.loop { front = front })) now
   ends_with stored f g m now front block ticket e = record {
     then = e.then;
@@ -178,8 +188,10 @@ module _ {B C I P R D H G U : Type 0} (w : Workings B C I P R D H G U) where
       no_some : {T : Type 0} (o : Option T) → o ≡ None → IsSome o → ⊥
       no_some None e is = cc
       no_some (Some x) e is = cc
+
       in_front : m.loop.front ≡ None → ⊥
       in_front e = let both : Some f ≡ None = sym (fin.2) ∙ e in cc
+
       refuted : Can w m → ⊥
       refuted (collect up is) = is (fin.0.1)
       refuted (drain is built isnt) = no_some m.execution.build (fin.1) built

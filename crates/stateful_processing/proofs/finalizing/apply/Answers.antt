@@ -15,7 +15,8 @@ returns-in_err-apply-clause-fault g c =
     let e = c.in_err-apply.field-0.0 in
     let failed = c.in_err-apply.ensures in
     made_of _ c.from_residual-in_err-apply.result (error_of_set e) c.from_residual-in_err-apply.ensures.1
-    (inr (inr (fault_applying d before now old new e (λ is. failed.lost.0 (ap Err is)) (λ is. failed.exhausted (ap Err is)) (λ n k is bound. let f = failed.fault n k (ap Err is) bound in (f.0, f.1, f.2, f.3)))))
+    (inr (inr (fault_applying d before now old new e (λ is. failed.lost.0 (ap Err is)) (λ is. failed.exhausted (ap Err is))
+    (λ n k is bound. let f = failed.fault n k (ap Err is) bound in (f.0, f.1, f.2, f.3)))))
 
 pub returns-clause-ok : goal.returns-clause-ok
 returns-clause-ok g c =

@@ -12,9 +12,11 @@ pub returns-then-needs_barrier-clause-ok : goal.returns-then-needs_barrier-claus
 returns-then-needs_barrier-clause-ok g c =
     let w = workings g.A.Block.Block.header g.A.Context.Rounded.round_of g.A.Application.works g.A.Databases.DatabaseSet.kind g.A.Databases.DatabaseSet.shows in
     let e = executing c.args.handler.now in
-    let m = moment w e c.args.processing.now (g.A.Databases.DatabaseSet.members c.args.databases.now) (g.A.Databases.DatabaseSet.next c.args.databases.now) c.args.marks.now.items in
+    let m = moment w e c.args.processing.now (g.A.Databases.DatabaseSet.members c.args.databases.now)
+    (g.A.Databases.DatabaseSet.next c.args.databases.now) c.args.marks.now.items in
     on_ok_weaker c.begin_barrier.result
-    (λ begins provider. covers c.requires.finalizing c.requires.advanced c.in-Some.is (c.needs_barrier.ensures.needed.0 c.if-needs_barrier.true) (covers_with w c.args.front c.in-Some.captured m _ c.in-Some.is (begins e)))
+    (λ begins provider. covers c.requires.finalizing c.requires.advanced c.in-Some.is (c.needs_barrier.ensures.needed.0 c.if-needs_barrier.true)
+    (covers_with w c.args.front c.in-Some.captured m _ c.in-Some.is (begins e)))
     c.begin_barrier.ensures.ok
 
 pub returns-then-needs_barrier-clause-fault : goal.returns-then-needs_barrier-clause-fault
@@ -26,7 +28,8 @@ pub returns-else-needs_barrier-clause-ok : goal.returns-else-needs_barrier-claus
 returns-else-needs_barrier-clause-ok g c =
     let w = workings g.A.Block.Block.header g.A.Context.Rounded.round_of g.A.Application.works g.A.Databases.DatabaseSet.kind g.A.Databases.DatabaseSet.shows in
     on_ok_weaker c.observe.result
-    (λ o provider. observes c.requires.finalizing c.requires.advanced c.in-Some.is (λ needed. true≢false (sym (c.needs_barrier.ensures.needed.1 needed) ∙ c.if-needs_barrier.false)) (observes_with w c.args.front _ c.in-Some.captured _ _ (Some c.args.front) refl refl o))
+    (λ o provider. observes c.requires.finalizing c.requires.advanced c.in-Some.is (λ needed. true≢false (sym (c.needs_barrier.ensures.needed.1 needed) ∙ c.if-needs_barrier.false))
+    (observes_with w c.args.front _ c.in-Some.captured _ _ (Some c.args.front) refl refl o))
     c.observe.ensures.ok
 
 pub returns-else-needs_barrier-clause-fault : goal.returns-else-needs_barrier-clause-fault

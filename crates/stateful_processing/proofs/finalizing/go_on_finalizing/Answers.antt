@@ -9,14 +9,17 @@ use Rattle.stateful_processing.proofs.finalizing.go_on_finalizing.Goals as goal
 pub returns-then-awaited-gt0-clause-ok : goal.returns-then-awaited-gt0-clause-ok
 returns-then-awaited-gt0-clause-ok g c = λ provider.
     let w = workings g.A.Block.Block.header g.A.Context.Rounded.round_of g.A.Application.works g.A.Databases.DatabaseSet.kind g.A.Databases.DatabaseSet.shows in
-    let is = sym c.in-Begun.is ∙ c.progress_of.ensures in
-    (quiet_waiting w _ c.args.front c.requires.finalizing
-    (λ e zero. some_awaited c.awaited.result (counts_once c.awaited.result zero c.awaited.ensures) c.if-awaited-gt0.true)
-    (λ e. begun_isnt_ran (is ∙ e)) (λ e. begun_isnt_advanced (is ∙ e)), refl)
+    let is = sym c.in-Begun.is ∙ c.progress_of.ensures in (
+      quiet_waiting w _ c.args.front c.requires.finalizing
+          (λ e zero. some_awaited c.awaited.result (counts_once c.awaited.result zero c.awaited.ensures) c.if-awaited-gt0.true)
+          (λ e. begun_isnt_ran (is ∙ e)) (λ e. begun_isnt_advanced (is ∙ e)),
+      refl,
+    )
 
 pub returns-in_err-run_or_apply-in-Begun-clause-fault : goal.returns-in_err-run_or_apply-in-Begun-clause-fault
 returns-in_err-run_or_apply-in-Begun-clause-fault g c =
-    made_of _ c.from_residual.result c.in_err-run_or_apply-in-Begun.field-0.0 c.from_residual.ensures.1 (c.in_err-run_or_apply-in-Begun.ensures.fault (g.S.BlockStore.stored c.args.store.now))
+    made_of _ c.from_residual.result c.in_err-run_or_apply-in-Begun.field-0.0 c.from_residual.ensures.1
+    (c.in_err-run_or_apply-in-Begun.ensures.fault (g.S.BlockStore.stored c.args.store.now))
 
 pub returns-in_err-apply-in-Ran-clause-fault : goal.returns-in_err-apply-in-Ran-clause-fault
 returns-in_err-apply-in-Ran-clause-fault g c =
@@ -29,7 +32,8 @@ pub go_on_advanced-requires-clause-room : goal.go_on_advanced-requires-clause-ro
 go_on_advanced-requires-clause-room g c = λ needed.
     let d = g.A.Databases.DatabaseSet.kind in
     let up = c.requires.up in
-    has_room d g.met.A.Databases.DatabaseSet.laws.places (g.A.Databases.DatabaseSet.members c.args.databases.now) up.point up.here c.args.processing.now.barriers c.args.processing.now.durability.barriers up.heights up.tokens needed.0
+    has_room d g.met.A.Databases.DatabaseSet.laws.places (g.A.Databases.DatabaseSet.members c.args.databases.now) up.point up.here
+    c.args.processing.now.barriers c.args.processing.now.durability.barriers up.heights up.tokens needed.0
 
 pub returns-in_ok-run_or_apply-in-Begun-clause-ok : goal.returns-in_ok-run_or_apply-in-Begun-clause-ok
 returns-in_ok-run_or_apply-in-Begun-clause-ok g c = λ provider. c.in_ok-run_or_apply-in-Begun.ensures.ok (g.S.BlockStore.stored c.args.store.now) provider
