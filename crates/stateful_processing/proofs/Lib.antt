@@ -3,3 +3,4 @@ pub mod Staying
 pub mod OutTokens
 pub mod BarrierCalls
 pub mod OpeningCalls
+pub mod Needs
