@@ -119,6 +119,7 @@ module _ {B C I G : Type 0} where
       let new_is : new.durability ≡ record old.durability { held = new.durability.held } = ap (λ (c : Processing B C I G). c.durability) a.becomes in
       let same : new.durability.durable ≡ old.durability.durable = ap (λ (c : Coverage). c.durable) new_is in
       let held_is : new.durability.held ≡ receipts_above old.durability.durable old.durability.held =
-      above_all old.durability.durable new.durability.held (subst (λ (n : ℕ). All (λ receipt. n < receipt.0) new.durability.held) same above) ∙ a.above in
-      (a.becomes ∙ ap (λ (held : List (ℕ × ℕ)). record old { durability = record old.durability { held = held } }) held_is,
-      sym (append-nil now) ∙ ap (λ (rs : List (ℕ × ℕ)). now ++ map acknowledged rs) (sym covered) ∙ a.marks)
+      above_all old.durability.durable new.durability.held (subst (λ (n : ℕ). All (λ receipt. n < receipt.0) new.durability.held) same above) ∙ a.above in (
+        a.becomes ∙ ap (λ (held : List (ℕ × ℕ)). record old { durability = record old.durability { held = held } }) held_is,
+        sym (append-nil now) ∙ ap (λ (rs : List (ℕ × ℕ)). now ++ map acknowledged rs) (sym covered) ∙ a.marks,
+      )
