@@ -1,7 +1,7 @@
 -- Which error a failed call of the databases is answered as, where a barrier begins or a flush is answered; and which
 -- receipts are acknowledged.
-use Rattle.std.proofs.Common.{◌≡◌, ◌∷◌, ◌++◌, [], ◌<◌, ◌≤◌, inl, inr, ⊎_elim, ℕ, Bool, true, false, List, Option, Some, None, map, ap, ◌∙◌, Result, Ok, Err, IfErr, refl, sym, subst, append_assoc, append-nil, arith}
-use Rattle.std.proofs.lemmas.Bool.{false≢true, cases_Bool}
+use Rattle.std.proofs.Common.{◌≡◌, ◌∷◌, ◌++◌, [], ◌<◌, ◌≤◌, ⊎_elim, ℕ, true, List, Some, None, map, ap, ◌∙◌, Result, Ok, Err, IfErr, refl, sym, subst, append_assoc, append-nil, arith}
+use Rattle.std.proofs.lemmas.Bool.{cases_Bool}
 use Rattle.std.proofs.lemmas.Bool.Decides.{nat_tests}
 use Rattle.std.proofs.lemmas.List.Elements.{All-head, All-tail}
 use Rattle.std.specs.Prelude.{option_and_then, All}
@@ -13,7 +13,7 @@ use Rattle.stateful_db.specs.declared.database.DbCall.TheVariants as call
 use Rattle.stateful_db.specs.declared.database.FlushToken.{FlushToken}
 use Rattle.stateful_db.specs.declared.set.SetError.{SetError}
 use Rattle.stateful_db.specs.declared.set.SetError.TheVariants as set
-use Rattle.stateful_durability.specs.Durability.{Coverage, Releases, covered_receipts, receipts_above, receipts_up_to}
+use Rattle.stateful_durability.specs.Durability.{Coverage, Releases, covered_receipts, receipts_above}
 use Rattle.stateful_exec.specs.Starting.{IsLeft}
 use Rattle.stateful_history.specs.declared.mark.Mark.{Mark}
 use Rattle.stateful_processing.proofs.OutTokens.{opened_by, awaiting_first, awaiting_behind}
@@ -22,7 +22,6 @@ use Rattle.stateful_processing.specs.Causes.{HasCounted, FaultsBarrier, FaultsFl
 use Rattle.stateful_processing.specs.Errors.{error_of_set}
 use Rattle.stateful_processing.specs.Rules.{acknowledged}
 use Rattle.stateful_processing.specs.declared.barriers.Active.{Active}
-use Rattle.stateful_processing.specs.declared.error.StepError.{StepError}
 use Rattle.stateful_processing.specs.declared.tables.Processing.{Processing}
 
 -- the error that a `?` makes of another
@@ -120,6 +119,7 @@ module _ {B C I G : Type 0} where
       let new_is : new.durability ≡ record old.durability { held = new.durability.held } = ap (λ (c : Processing B C I G). c.durability) a.becomes in
       let same : new.durability.durable ≡ old.durability.durable = ap (λ (c : Coverage). c.durable) new_is in
       let held_is : new.durability.held ≡ receipts_above old.durability.durable old.durability.held =
-      above_all old.durability.durable new.durability.held (subst (λ (n : ℕ). All (λ receipt. n < receipt.0) new.durability.held) same above) ∙ a.above in
-      (a.becomes ∙ ap (λ (held : List (ℕ × ℕ)). record old { durability = record old.durability { held = held } }) held_is,
-      sym (append-nil now) ∙ ap (λ (rs : List (ℕ × ℕ)). now ++ map acknowledged rs) (sym covered) ∙ a.marks)
+      above_all old.durability.durable new.durability.held (subst (λ (n : ℕ). All (λ receipt. n < receipt.0) new.durability.held) same above) ∙ a.above in (
+        a.becomes ∙ ap (λ (held : List (ℕ × ℕ)). record old { durability = record old.durability { held = held } }) held_is,
+        sym (append-nil now) ∙ ap (λ (rs : List (ℕ × ℕ)). now ++ map acknowledged rs) (sym covered) ∙ a.marks,
+      )

@@ -25,3 +25,4 @@ pub mod Firsts
 pub mod Rooms
 pub mod Finalizations
 pub mod Fronts
+pub mod Needs

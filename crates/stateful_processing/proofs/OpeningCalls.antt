@@ -1,5 +1,5 @@
 -- Why databases that don't open are answered as errors.
-use Rattle.std.proofs.Common.{◌≡◌, ◌<◌, ◌^◌, ℕ, List, Option, Some, refl}
+use Rattle.std.proofs.Common.{ℕ, List, Option}
 use Rattle.stateful_types.specs.Names.{Named}
 use Rattle.stateful_types.specs.declared.floor.Floor.{Floor}
 use Rattle.stateful_db.specs.declared.database.InitError.{InitError}

@@ -113,7 +113,8 @@ fn release<A: Application>(
 ) -> Result<(), StepError>
     ensures ok { OnOk result (let d = processing.old.durability in
         (processing.new ≡ record processing.old {
-            durability = record d { held = receipts_above d.durable d.held } })
+          durability = record d { held = receipts_above d.durable d.held };
+        })
         × (marks.new.items ≡ marks.old.items ++ map acknowledged (covered_receipts d))) }
     ensures memory { IfErr result (λ e. e ≡ StepError.OutOfMemory) }
     ensures barrier { processing.new.next_barrier ≡ processing.old.next_barrier }

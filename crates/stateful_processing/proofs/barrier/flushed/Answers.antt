@@ -1,4 +1,4 @@
-use Rattle.std.proofs.Common.{rules, sym, ◌∙◌}
+use Rattle.std.proofs.Common.{rules}
 use Rattle.stateful_processing.proofs.BarrierCalls.{none_awaiting}
 use Rattle.stateful_processing.proofs.barrier.flushed.Goals as goal
 
