@@ -26,3 +26,5 @@ pub mod Rooms
 pub mod Finalizations
 pub mod Fronts
 pub mod Needs
+pub mod Idles
+pub mod Collected

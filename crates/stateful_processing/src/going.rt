@@ -111,6 +111,7 @@ fn collect<A: Application + Drop>(
         × (processing.new ≡ processing.old)) }
     ensures memory { IfErr result (λ e. e ≡ StepError.OutOfMemory) }
     ensures numbers { Rises handler.old.state handler.new.state }
+    ensures same { handler.new.application ≡ handler.old.application }
     ensures application { A.count handler.old.application ≤ A.count handler.new.application }
     ensures barrier { processing.old.next_barrier ≤ processing.new.next_barrier }
 {
