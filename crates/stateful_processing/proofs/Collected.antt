@@ -8,7 +8,7 @@ use Rattle.stateful_processing.specs.declared.tables.Finalizing.{Finalizing}
 use Rattle.stateful_processing.specs.declared.tables.Processing.{Processing}
 
 module _ {B C I P R D H G U : Type 0} (w : Workings B C I P R D H G U) (members : w.kind.Members) (next : w.Ids) (marks : List (Mark B))
-         (now e : Executing B C I R D H U) (later l : Processing B C I G) (same : now ≡ e) (kept : later ≡ l) where
+    (now e : Executing B C I R D H U) (later l : Processing B C I G) (same : now ≡ e) (kept : later ≡ l) where
   -- at the earlier moment
   pub earlier : (T : Moment w → Type 0) → T (moment w now later members next marks) → T (moment w e l members next marks)
   earlier T h = subst (λ x. T (moment w x l members next marks)) same (subst (λ x. T (moment w now x members next marks)) kept h)

@@ -25,8 +25,8 @@ numbered_of None x h = absurd (none_is_some x h)
 numbered_of (Some a) x h = (a, refl, some_same x (numbered a) h)
 
 module _ {B C I P R D H G U : Type 0} (w : Workings B C I P R D H G U) (stored : ℕ → Option (Named B)) (provider : P)
-         (e : Executing B C I R D H U) (l now : Processing B C I G) (members : w.kind.Members) (next : w.Ids) (marks after : List (Mark B))
-         (number : ℕ) (height : Height) (idle : IsIdle w (moment w e l members next marks)) where
+    (e : Executing B C I R D H U) (l now : Processing B C I G) (members : w.kind.Members) (next : w.Ids) (marks after : List (Mark B))
+    (number : ℕ) (height : Height) (idle : IsIdle w (moment w e l members next marks)) where
   pub breaks_barrier : Some (number, height) ≡ option_map numbered (broken l.barriers) → now ≡ record l { up = false }
       → after ≡ marks ++ mark.BarrierDone number height false ∷ [] → Rule w stored provider (moment w e l members next marks) (moment w e now members next after)
   breaks_barrier told is marked =

@@ -1,8 +1,8 @@
 -- Which tokens are out, where barriers begin, are answered and complete.
-use Rattle.std.proofs.Common.{◌≡◌, ◌⊎◌, inl, inr, ⊎_elim, ℕ, zero, suc, ◌≤◌, ◌<◌, ◌&&◌, Bool, true, false, Option, Some, None, List, [], ◌∷◌, ◌++◌, length, refl, sym, ap, ◌∙◌, subst, append_assoc, append-nil, arith, cond, eqb}
+use Rattle.std.proofs.Common.{◌≡◌, ◌⊎◌, inl, inr, ⊎_elim, ℕ, zero, suc, ◌≤◌, ◌&&◌, Bool, true, false, Option, Some, None, List, [], ◌∷◌, ◌++◌, length, refl, sym, ap, ◌∙◌, append_assoc, append-nil, arith, eqb}
 use Rattle.std.proofs.lemmas.Bool.Decides.{nat_tests}
-use Rattle.std.proofs.lemmas.Bool.{false≢true, true≢false, cases_Bool}
-use Rattle.std.specs.Prelude.{option_and_then, slice_get, is_some, map}
+use Rattle.std.proofs.lemmas.Bool.{false≢true, cases_Bool}
+use Rattle.std.specs.Prelude.{is_some, map}
 use Rattle.std.specs.List.{list_all}
 use Rattle.stateful_db.specs.Barrier.{open_at, still_open, answered}
 use Rattle.stateful_db.specs.Tokens.{without}
@@ -10,7 +10,7 @@ use Rattle.stateful_db.specs.declared.barrier.Flushed.{Flushed}
 use Rattle.stateful_db.specs.declared.barrier.Flushed.TheVariants.{Good, Interrupted}
 use Rattle.stateful_db.specs.declared.barrier.Handle.{Handle}
 use Rattle.stateful_db.specs.declared.database.FlushToken.{FlushToken}
-use Rattle.stateful_processing.specs.Barriers.{awaits, awaiting, with_answer, answered_by, is_flushed, is_good}
+use Rattle.stateful_processing.specs.Barriers.{awaits, awaiting, with_answer, answered_by, is_good}
 use Rattle.stateful_processing.specs.Sound.{out_of, out_in, out_at}
 use Rattle.stateful_processing.specs.declared.barriers.Active.{Active}
 

@@ -1,11 +1,11 @@
 -- How a barrier is polled, as tests on the answers of its flushes.
 use denote.Enum.Bare.{sameb}
-use Rattle.std.proofs.Common.{◌≡◌, ℕ, ◌<◌, Bool, true, false, Option, Some, None, List, length, get_or, ap, sym, ◌∙◌, refl, subst, inl, inr, ⊎_elim}
-use Rattle.std.proofs.lemmas.Bool.{false≢true, cases_Bool, false_from_ne_true, true_from_ne_false}
+use Rattle.std.proofs.Common.{◌≡◌, ℕ, ◌<◌, Bool, true, false, Option, Some, None, List, length, get_or, ap, sym, ◌∙◌, refl}
+use Rattle.std.proofs.lemmas.Bool.{false≢true, false_from_ne_true}
 use Rattle.std.proofs.lemmas.List.Folds.{list_any_none, Any-from_list_any, list_any-from_Any, list_all_at}
 use Rattle.std.proofs.lemmas.List.Sums.{list_all-from_AllPass}
 use Rattle.std.specs.List.{list_any, list_all, All, Any}
-use Rattle.stateful_db.specs.Barrier.{IsGood, IsBroken, IsOpen, Polled}
+use Rattle.stateful_db.specs.Barrier.{IsGood, IsBroken, Polled}
 use Rattle.stateful_db.specs.contracts.barrier.BarrierPoll.{the_type}
 use Rattle.stateful_db.specs.declared.barrier.BarrierPoll.{BarrierPoll}
 use Rattle.stateful_db.specs.declared.barrier.BarrierPoll.TheVariants as poll

@@ -1,12 +1,12 @@
 -- What the rules of requests leave as it is: the anchor and the databases.
-use Rattle.std.proofs.Common.{◌≡◌, ℕ, ◌∷◌, [], Option, Some, List, refl, sym, ap, ◌∙◌, subst}
+use Rattle.std.proofs.Common.{◌≡◌, ℕ, Option, List, refl, ap, ◌∙◌}
 use Rattle.stateful_types.specs.Names.{Named}
 use Rattle.stateful_exec.specs.Ending.{InTurn, none, next}
 use Rattle.stateful_exec.specs.Moments as exec
 use Rattle.stateful_exec.specs.Path.{Path}
 use Rattle.stateful_exec.specs.Pausing.{GoesAlong, AcquiresAnew, unparked, unsettled, Resumes}
 use Rattle.stateful_exec.specs.Phase.{parked_in, unacquired_in}
-use Rattle.stateful_exec.specs.Rules.{ended, moved, told, requested, Concludes, Advances, Acquires, arrives, leaves, joins, starts, misses, valid, invalid, asks, waits, runs}
+use Rattle.stateful_exec.specs.Rules.{ended, requested, Concludes, Advances, Acquires, arrives, leaves, joins, starts, misses, valid, invalid, asks, waits, runs}
 use Rattle.stateful_exec.specs.Workings.{Workings}
 use Rattle.stateful_exec.specs.declared.request.Request.{Request}
 use Rattle.stateful_exec.specs.declared.request.Request.TheVariants.{Verify, Recover}

@@ -5,7 +5,6 @@ use Rattle.stateful_types.specs.declared.number.Height.{Height}
 use Rattle.stateful_db.specs.Barrier.{open_at, answered}
 use Rattle.stateful_db.specs.declared.barrier.Flushed.{Flushed}
 use Rattle.stateful_db.specs.declared.barrier.Flushed.TheVariants.{Good, Interrupted}
-use Rattle.stateful_db.specs.declared.barrier.Handle.{Handle}
 use Rattle.stateful_processing.specs.declared.barriers.Active.{Active}
 
 -- the oldest and the newer one, where they are open

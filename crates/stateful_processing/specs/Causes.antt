@@ -1,5 +1,5 @@
 -- Why a rule doesn't go on.
-use Rattle.std.specs.Prelude.{◌≡◌, ◌≢◌, ◌<◌, ◌≤◌, ◌^◌, ◌⊎◌, ◌∷◌, ℕ, Option, Some, None, IsSome, List, true}
+use Rattle.std.specs.Prelude.{◌≡◌, ◌<◌, ◌^◌, ◌⊎◌, ◌∷◌, ℕ, Option, Some, None, IsSome, List, true}
 use Rattle.stateful_types.specs.Causes.{Rose}
 use Rattle.stateful_types.specs.Names.{Named}
 use Rattle.stateful_db.specs.Databases.{Databases}
@@ -9,7 +9,6 @@ use Rattle.stateful_exec.specs.Building.{FaultsPropose}
 use Rattle.stateful_exec.specs.Causes.{FaultsAcquire, FaultsStart}
 use Rattle.stateful_exec.specs.Finalizing.{front_at, Conflicts, FaultsBegin, FaultsMove, FaultsObserve}
 use Rattle.stateful_exec.specs.Pausing.{AwaitsRuns, FaultsResume}
-use Rattle.stateful_exec.specs.Request.{ticket_by}
 use Rattle.stateful_exec.specs.Rules.{requested}
 use Rattle.stateful_exec.specs.Starting.{IsLeft}
 use Rattle.stateful_exec.specs.Workings.{Workings}

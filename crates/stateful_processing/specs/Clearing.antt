@@ -1,6 +1,5 @@
 -- How all that goes on is dropped.
-use Rattle.std.specs.Prelude.{◌≡◌, [], ℕ, false, None}
-use Rattle.stateful_durability.specs.Durability.{Coverage}
+use Rattle.std.specs.Prelude.{◌≡◌, [], false, None}
 use Rattle.stateful_exec.specs.Workings.{Workings}
 use Rattle.stateful_exec.specs.declared.pause.Pause.TheVariants.{Free}
 use Rattle.stateful_processing.specs.Moments.{Moment}

@@ -1,7 +1,6 @@
 -- What goes on without another event, a constructor a rule.
-use Rattle.std.specs.Prelude.{◌≡◌, ◌≢◌, ◌<◌, ◌≤◌, ◌+◌, ◌⊎◌, ◌++◌, ◌∷◌, [], ℕ, Bool, true, false, Option, Some, None, IsSome, List, map, length, drop, Any, All}
-use Rattle.stateful_types.specs.Names.{Header, Named}
-use Rattle.stateful_types.specs.declared.number.Height.{Height}
+use Rattle.std.specs.Prelude.{◌≡◌, ◌≢◌, ◌<◌, ◌≤◌, ◌+◌, ◌⊎◌, ◌++◌, ◌∷◌, [], ℕ, Bool, true, false, Option, Some, None, IsSome, List, map, length, drop, All}
+use Rattle.stateful_types.specs.Names.{Named}
 use Rattle.stateful_db.specs.Barrier.{open_at}
 use Rattle.stateful_db.specs.declared.barrier.Handle.{Handle}
 use Rattle.stateful_durability.specs.Durability.{Coverage, covered_by_barriers, after_completion, with_duplicate, receipts_up_to, receipts_above}
@@ -17,10 +16,9 @@ use Rattle.stateful_exec.specs.Starting.{IsLeft}
 use Rattle.stateful_exec.specs.Building.{IsReady, StartsBuild, unqueued}
 use Rattle.stateful_exec.specs.Finalizing.{IsRedelivered, MayBegin, IsBoundaryOf, front_at, RunsFinal, Moves, Observes}
 use Rattle.stateful_exec.specs.Pausing.{AwaitsRuns, Pauses, Resumes}
-use Rattle.stateful_exec.specs.declared.front.Front.{Front}
 use Rattle.stateful_exec.specs.declared.front.Stage.TheVariants.{Begun, Ran, Advanced}
 use Rattle.stateful_exec.specs.declared.request.Request.{Request}
-use Rattle.stateful_processing.specs.Barriers.{first_of, broken, flushed}
+use Rattle.stateful_processing.specs.Barriers.{broken, flushed}
 use Rattle.stateful_processing.specs.Message.{is_verification}
 use Rattle.stateful_processing.specs.Moments.{Moment, inner, with_inner, with_loop}
 use Rattle.stateful_processing.specs.declared.barriers.Active.{Active}
@@ -29,7 +27,6 @@ use Rattle.stateful_processing.specs.declared.message.Action.TheVariants as acti
 use Rattle.stateful_processing.specs.declared.message.Message.{Message}
 use Rattle.stateful_processing.specs.declared.message.Message.TheVariants as message
 use Rattle.stateful_processing.specs.declared.tables.Finalizing.{Finalizing}
-use Rattle.stateful_processing.specs.declared.tables.Processing.{Processing}
 
 -- a barrier has to begin: fewer than two are open, and something applied isn't covered by one
 abbrev pub Needed : Coverage → Type 0

@@ -1,7 +1,5 @@
 -- What the rules need of the machine and the databases, whatever came before.
-use Rattle.std.specs.Prelude.{◌≡◌, ◌≢◌, ◌<◌, ◌≤◌, ◌+◌, ◌-◌, ◌⊎◌, ◌++◌, ◌∷◌, [], ℕ, zero, suc, Bool, true, false, Option, Some, None, IsSome, List, All, Any, map, length, slice_get}
-use Rattle.stateful_types.specs.Names.{Header, Named}
-use Rattle.stateful_db.specs.Databases.{Databases}
+use Rattle.std.specs.Prelude.{◌≡◌, ◌<◌, ◌≤◌, ◌+◌, ◌⊎◌, ◌++◌, ◌∷◌, [], ℕ, zero, suc, true, Option, Some, None, List, All, Any, map, length}
 use Rattle.stateful_db.specs.declared.barrier.Flushed.TheVariants.{Good, Interrupted}
 use Rattle.stateful_db.specs.declared.barrier.Handle.{Handle}
 use Rattle.stateful_durability.specs.Durability.{Coverage}
@@ -10,10 +8,9 @@ use Rattle.stateful_exec.specs.Workings.{Workings, Point}
 use Rattle.stateful_exec.specs.declared.front.Front.{Front}
 use Rattle.stateful_exec.specs.declared.front.Stage.{Stage}
 use Rattle.stateful_exec.specs.declared.front.Stage.TheVariants.{Begun, Running, Ran, Advanced, Hooking}
-use Rattle.stateful_processing.specs.Moments.{Moment, Executing}
+use Rattle.stateful_processing.specs.Moments.{Moment}
 use Rattle.stateful_processing.specs.declared.barriers.Active.{Active}
 use Rattle.stateful_processing.specs.declared.tables.Finalizing.{Finalizing}
-use Rattle.stateful_processing.specs.declared.tables.Processing.{Processing}
 
 -- the place of a token that is out: until a good flush of it
 abbrev pub out_of : Handle → List ℕ

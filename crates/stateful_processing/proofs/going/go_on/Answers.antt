@@ -1,4 +1,4 @@
-use Rattle.std.proofs.Common.{rules, Some, ◌≡◌, ◌∙◌, sym}
+use Rattle.std.proofs.Common.{rules, Some}
 use Rattle.std.proofs.lemmas.Result.{MatchResult-weaker}
 use Rattle.stateful_types.specs.Causes.{Rose}
 use Rattle.stateful_exec.specs.Workings.{workings}

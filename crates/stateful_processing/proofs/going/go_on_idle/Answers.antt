@@ -1,4 +1,4 @@
-use Rattle.std.proofs.Common.{rules, Some, ◌≡◌}
+use Rattle.std.proofs.Common.{rules}
 use Rattle.stateful_exec.specs.Workings.{workings}
 use Rattle.stateful_processing.specs.Moments.{executing}
 use Rattle.stateful_processing.specs.Rules.Rule.{begins}
