@@ -1,0 +1,29 @@
+use Rattle.std.proofs.Common.{rules, Err, ap, inr}
+use Rattle.stateful_exec.specs.Workings.{workings}
+use Rattle.stateful_processing.specs.Errors.{error_of_set}
+use Rattle.stateful_processing.specs.Moments.{executing}
+use Rattle.stateful_processing.proofs.Finalizations.{made_of, fault_applying, applies_block}
+use Rattle.stateful_processing.proofs.finalizing.apply.Goals as goal
+
+pub returns-in_err-apply-clause-fault : goal.returns-in_err-apply-clause-fault
+returns-in_err-apply-clause-fault g c =
+    let d = g.A.Databases.DatabaseSet.kind in
+    let before = g.A.Databases.DatabaseSet.counted c.args.databases.now in
+    let now = g.A.Databases.DatabaseSet.counted c.apply.new.self in
+    let new = g.A.Databases.DatabaseSet.members c.apply.new.self in
+    let old = g.A.Databases.DatabaseSet.members c.args.databases.now in
+    let e = c.in_err-apply.field-0.0 in
+    let failed = c.in_err-apply.ensures in
+    made_of _ c.from_residual-in_err-apply.result (error_of_set e) c.from_residual-in_err-apply.ensures.1
+    (inr (inr (fault_applying d before now old new e (λ is. failed.lost.0 (ap Err is)) (λ is. failed.exhausted (ap Err is))
+    (λ n k is bound. let f = failed.fault n k (ap Err is) bound in (f.0, f.1, f.2, f.3)))))
+
+pub returns-clause-ok : goal.returns-clause-ok
+returns-clause-ok g c =
+    let w = workings g.A.Block.Block.header g.A.Context.Rounded.round_of g.A.Application.works g.A.Databases.DatabaseSet.kind g.A.Databases.DatabaseSet.shows in
+    let o = c.in_ok-apply.ensures in
+    applies_block w c.args.front (executing c.args.handler.now) (executing c.advance.new.self) c.args.processing.now c.applied.new.self c.height.result
+    (g.A.Databases.DatabaseSet.members c.args.databases.now) (g.A.Databases.DatabaseSet.members c.apply.new.self)
+    (g.A.Databases.DatabaseSet.next c.args.databases.now) (g.A.Databases.DatabaseSet.next c.apply.new.self) c.args.marks.now.items c.push.new.self.items
+    c.in_ok-batch.batch c.in_ok-batch.captured c.in_ok-batch.ensures.ok c.in_ok-batch.ensures.build o.ok o.here o.tokens o.next
+    c.height.ensures c.applied.ensures.applied c.applied.ensures.no_receipt_yet (search rules)

@@ -1,0 +1,45 @@
+use Rattle.std.proofs.Common.{◌∙◌, sym, refl, inr, Some}
+use Rattle.stateful_exec.specs.Workings.{workings}
+use Rattle.stateful_processing.specs.Rules.{applies}
+use Rattle.stateful_processing.proofs.Finalizations.{made_of, applies_with, fault_applied, counts_once, quiet_waiting}
+use Rattle.stateful_processing.proofs.Fronts.{at_ran, begun_isnt_ran, begun_isnt_advanced, some_awaited}
+use Rattle.stateful_processing.proofs.Rooms.{has_room}
+use Rattle.stateful_processing.proofs.finalizing.go_on_finalizing.Goals as goal
+
+pub returns-then-awaited-gt0-clause-ok : goal.returns-then-awaited-gt0-clause-ok
+returns-then-awaited-gt0-clause-ok g c = λ provider.
+    let w = workings g.A.Block.Block.header g.A.Context.Rounded.round_of g.A.Application.works g.A.Databases.DatabaseSet.kind g.A.Databases.DatabaseSet.shows in
+    let is = sym c.in-Begun.is ∙ c.progress_of.ensures in (
+      quiet_waiting w _ c.args.front c.requires.finalizing
+          (λ e zero. some_awaited c.awaited.result (counts_once c.awaited.result zero c.awaited.ensures) c.if-awaited-gt0.true)
+          (λ e. begun_isnt_ran (is ∙ e)) (λ e. begun_isnt_advanced (is ∙ e)),
+      refl,
+    )
+
+pub returns-in_err-run_or_apply-in-Begun-clause-fault : goal.returns-in_err-run_or_apply-in-Begun-clause-fault
+returns-in_err-run_or_apply-in-Begun-clause-fault g c =
+    made_of _ c.from_residual.result c.in_err-run_or_apply-in-Begun.field-0.0 c.from_residual.ensures.1
+    (c.in_err-run_or_apply-in-Begun.ensures.fault (g.S.BlockStore.stored c.args.store.now))
+
+pub returns-in_err-apply-in-Ran-clause-fault : goal.returns-in_err-apply-in-Ran-clause-fault
+returns-in_err-apply-in-Ran-clause-fault g c =
+    let w = workings g.A.Block.Block.header g.A.Context.Rounded.round_of g.A.Application.works g.A.Databases.DatabaseSet.kind g.A.Databases.DatabaseSet.shows in
+    let ran = at_ran w c.args.processing.now.durability c.args.front c.args.handler.now.front c.requires.up.front (sym c.progress_of.ensures ∙ c.in-Ran.is) in
+    made_of _ c.from_residual-in_err-apply-in-Ran.result c.in_err-apply-in-Ran.field-0.0 c.from_residual-in_err-apply-in-Ran.ensures.1
+    (fault_applied w _ _ _ _ _ c.args.front _ c.requires.finalizing (inr (ran.0, ran.1)) _ c.in_err-apply-in-Ran.ensures.fault)
+
+pub go_on_advanced-requires-clause-room : goal.go_on_advanced-requires-clause-room
+go_on_advanced-requires-clause-room g c = λ needed.
+    let d = g.A.Databases.DatabaseSet.kind in
+    let up = c.requires.up in
+    has_room d g.met.A.Databases.DatabaseSet.laws.places (g.A.Databases.DatabaseSet.members c.args.databases.now) up.point up.here
+    c.args.processing.now.barriers c.args.processing.now.durability.barriers up.heights up.tokens needed.0
+
+pub returns-in_ok-run_or_apply-in-Begun-clause-ok : goal.returns-in_ok-run_or_apply-in-Begun-clause-ok
+returns-in_ok-run_or_apply-in-Begun-clause-ok g c = λ provider. c.in_ok-run_or_apply-in-Begun.ensures.ok (g.S.BlockStore.stored c.args.store.now) provider
+
+pub returns-in_ok-apply-in-Ran-clause-ok : goal.returns-in_ok-apply-in-Ran-clause-ok
+returns-in_ok-apply-in-Ran-clause-ok g c = λ provider.
+    let w = workings g.A.Block.Block.header g.A.Context.Rounded.round_of g.A.Application.works g.A.Databases.DatabaseSet.kind g.A.Databases.DatabaseSet.shows in
+    let ran = at_ran w c.args.processing.now.durability c.args.front c.args.handler.now.front c.requires.up.front (sym c.progress_of.ensures ∙ c.in-Ran.is) in
+    applies c.requires.finalizing ran.2 (inr (ran.0, ran.1)) (applies_with w c.args.front _ _ (Some c.args.front) c.in_ok-apply-in-Ran.ensures.ok)

@@ -1,0 +1,17 @@
+use Rattle.stateful_processing.proofs.Finalizations.{same_moment}
+use Rattle.stateful_processing.proofs.finalizing.run.Goals as goal
+use Rattle.std.proofs.Common.{refl}
+use Rattle.stateful_exec.specs.Workings.{workings}
+
+pub returns-clause-ok : goal.returns-clause-ok
+returns-clause-ok g c = λ l.
+    let w = workings g.A.Block.Block.header g.A.Context.Rounded.round_of g.A.Application.works g.A.Databases.DatabaseSet.kind g.A.Databases.DatabaseSet.shows in
+    let o = c.in_ok-run_finalized.ensures in
+    let new = c.run_finalized.new in
+    record {
+      state = new.self.state;
+      front = new.self.front;
+      next = g.A.Databases.DatabaseSet.next new.databases;
+      runs = o.ok;
+      becomes = same_moment w new.self.state new.self.front (g.A.Databases.DatabaseSet.next new.databases) _ _ l l _ _ _ _ o.build refl o.members o.marks;
+    }

@@ -1,0 +1,11 @@
+pub mod Message
+pub mod Barriers
+pub mod Errors
+pub mod Moments
+pub mod Rules
+pub mod Sound
+pub mod Reached
+pub mod Clearing
+pub mod Opening
+pub mod Intake
+pub mod Causes

@@ -1,0 +1,70 @@
+//! Queues of what waits.
+
+ghost use Rattle.std.specs.Prelude.{◌≡◌, ◌∷◌, ◌++◌, [], not, filter, IfSome, IfNone, OnOk, OnErr};
+
+use stateful_types::OutOfMemory;
+use std::alloc::Global;
+use std::collections::VecDeque;
+use std::marker::Model;
+
+/// What a request may have put into a queue.
+pub trait Asks {
+    ghost use Rattle.std.specs.Prelude.{◌≡◌, ℕ, Bool};
+
+    /// Whether it is of the request of a ticket.
+    ghost asks: { Self → ℕ → Bool };
+
+    fn asks(&self, ticket: u64) -> bool
+        ensures { result ≡ asks self.now ticket };
+}
+
+/// A queue, which contracts see as a list, the first first.
+#[derive(Drop)]
+pub struct Queue<T> {
+    items: VecDeque<T>,
+}
+
+impl<T> Model for Queue<T> {
+    ghost use Rattle.std.specs.Prelude.{List};
+
+    ghost Value = { List T };
+
+    ghost view = { λ a. a.items.items };
+}
+
+impl<T: Drop> Queue<T> {
+    /// An empty queue.
+    pub fn new(alloc: Global) -> Queue<T>
+        ensures { result ≡ [] }
+    {
+        Queue {
+            items: VecDeque::new(alloc),
+        }
+    }
+
+    /// One behind the others.
+    pub fn push(&mut self, item: T) -> Result<(), OutOfMemory>
+        ensures ok { OnOk result (self.new ≡ self.old ++ item ∷ []) }
+        ensures err { OnErr result (self.new ≡ self.old) }
+    {
+        self.items.push_back(item)?;
+        Ok(())
+    }
+
+    /// Takes the first one out.
+    pub fn pop(&mut self) -> Option<T>
+        ensures some { IfSome result (λ item. self.old ≡ item ∷ self.new) }
+        ensures none { IfNone result ((self.old ≡ []) × (self.new ≡ [])) }
+    {
+        self.items.pop_front()
+    }
+}
+
+impl<T: Asks + Drop> Queue<T> {
+    /// Takes out what is of the request of a ticket.
+    pub fn give_up(&mut self, ticket: u64)
+        ensures { self.new ≡ filter (λ item. not (T.asks item ticket)) self.old }
+    {
+        self.items.retain(|item| !item.asks(ticket));
+    }
+}
