@@ -1,11 +1,10 @@
 -- Which error a failed call of the databases is answered as, where a barrier begins or a flush is answered; and which
 -- receipts are acknowledged.
-use Rattle.std.proofs.Common.{◌≡◌, ◌∷◌, ◌++◌, [], ◌<◌, ◌≤◌, ⊎_elim, ℕ, true, List, Some, None, map, ap, ◌∙◌, Result, Ok, Err, IfErr, refl, sym, subst, append_assoc, append-nil, arith}
+use Rattle.std.proofs.Common.{◌≡◌, ◌∷◌, ◌++◌, [], ◌<◌, ◌≤◌, ⊎_elim, ℕ, true, List, Some, None, map, ap, ◌∙◌, refl, sym, subst, append_assoc, append-nil, arith}
 use Rattle.std.proofs.lemmas.Bool.{cases_Bool}
 use Rattle.std.proofs.lemmas.Bool.Decides.{nat_tests}
 use Rattle.std.proofs.lemmas.List.Elements.{All-head, All-tail}
 use Rattle.std.specs.Prelude.{option_and_then, All}
-use Rattle.std.specs.Result.{IsErrAnd}
 use Rattle.stateful_db.specs.Barrier.{open_at}
 use Rattle.stateful_db.specs.Databases.{Databases}
 use Rattle.stateful_db.specs.declared.database.DbCall.{DbCall}
@@ -23,11 +22,6 @@ use Rattle.stateful_processing.specs.Errors.{error_of_set}
 use Rattle.stateful_processing.specs.Rules.{acknowledged}
 use Rattle.stateful_processing.specs.declared.barriers.Active.{Active}
 use Rattle.stateful_processing.specs.declared.tables.Processing.{Processing}
-
--- the error that a `?` makes of another
-pub converted : {T E : Type 0} (P : E → Type 0) (r : Result T E) (e : E) → IsErrAnd r (λ y. y ≡ e) → P e → IfErr r P
-converted P (Ok x) e made p = tt
-converted P (Err y) e made p = subst P (sym made) p
 
 module _ {Ids S T : Type 0} (d : Databases Ids S T) (before now : ℕ → ℕ) (new : d.Members) (e : SetError) where
   -- a set failed at its finalize

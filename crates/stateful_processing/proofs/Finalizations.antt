@@ -1,8 +1,7 @@
 -- How a finalization goes on, from the clauses of execution, of the databases and of the durable heights.
-use Rattle.std.proofs.Common.{◌≡◌, ◌⊎◌, inl, inr, ℕ, Bool, true, false, ◌<◌, Option, Some, None, List, [], ◌∷◌, ◌++◌, refl, sym, ap, ◌∙◌, subst, arith, Result, Ok, Err, IfErr, All}
+use Rattle.std.proofs.Common.{◌≡◌, ◌⊎◌, inl, inr, ℕ, Bool, true, false, ◌<◌, Option, Some, None, List, [], ◌∷◌, ◌++◌, refl, sym, ap, ◌∙◌, subst, arith, All}
 use Rattle.std.proofs.lemmas.Bool.{true≢false}
 use Rattle.std.specs.Prelude.{IsSome, ◌↔◌}
-use Rattle.std.specs.Result.{IsErrAnd}
 use Rattle.stateful_types.specs.Names.{Named}
 use Rattle.stateful_types.specs.declared.digest.Digest.{Digest}
 use Rattle.stateful_types.specs.declared.number.Height.{Height}
@@ -33,11 +32,6 @@ use Rattle.stateful_processing.specs.declared.error.StepError.TheVariants.{OutOf
 use Rattle.stateful_processing.specs.declared.reached.Reached.TheVariants as reached
 use Rattle.stateful_processing.specs.declared.tables.Finalizing.{Finalizing}
 use Rattle.stateful_processing.specs.declared.tables.Processing.{Processing}
-
--- the error that a `?` makes of another
-pub made_of : {T E : Type 0} (P : E → Type 0) (r : Result T E) (e : E) → IsErrAnd r (λ y. y ≡ e) → P e → IfErr r P
-made_of P (Ok x) e made p = tt
-made_of P (Err y) e made p = subst P (sym made) p
 
 -- whether a block is cached, as the test says it
 pub is_cached : {U : Type 0} (cache : List (Cached U)) (d own : Digest) (b : Bool) → d ≡ own → ((b ≡ true) ↔ IsIn cache d) → b ≡ true → IsIn cache own

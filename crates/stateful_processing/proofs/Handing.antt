@@ -1,6 +1,5 @@
--- What an error of execution is answered as.
-use Rattle.std.proofs.Common.{◌≡◌, Result, IfErr, IsErrAnd, refl}
-use Rattle.std.proofs.lemmas.Result.{err_from_is_err_and}
+-- What an error is answered as.
+use Rattle.std.proofs.Common.{◌≡◌, Result, Ok, Err, IfErr, IsErrAnd, refl, sym, subst}
 use Rattle.stateful_exec.specs.declared.error.ExecError.{ExecError}
 use Rattle.stateful_exec.specs.declared.error.ExecError.TheVariants as exec
 use Rattle.stateful_processing.specs.Causes.{Via}
@@ -8,13 +7,14 @@ use Rattle.stateful_processing.specs.Errors.{error_of_exec}
 use Rattle.stateful_processing.specs.declared.error.StepError.{StepError}
 use Rattle.stateful_processing.specs.declared.error.StepError.TheVariants.{OutOfMemory}
 
--- what holds of an error holds where it is handed on
-pub handed_on : (X : StepError → Type 0) → {T : Type 0} (result : Result T StepError) (e : StepError) → IsErrAnd result (λ f. f ≡ e) → X e → IfErr result X
-handed_on X result e of x = let p = err_from_is_err_and result of in rw (p.1, p.2) x
+-- what holds of an error holds of the one that a `?` makes of it
+pub converted : {T E : Type 0} (P : E → Type 0) (r : Result T E) (e : E) → IsErrAnd r (λ y. y ≡ e) → P e → IfErr r P
+converted P (Ok x) e made p = tt
+converted P (Err y) e made p = subst P (sym made) p
 
 module _ {T : Type 0} (Faults : ExecError → Type 0) (result : Result T StepError) where
   pub refused : (fault : ExecError) → IsErrAnd result (λ f. f ≡ error_of_exec fault) → Faults fault → IfErr result (Via Faults)
-  refused fault of cause = handed_on (Via Faults) result (error_of_exec fault) of (fault, cause, refl)
+  refused fault of cause = converted (Via Faults) result (error_of_exec fault) of (fault, cause, refl)
 
   pub out_of_memory : IsErrAnd result (λ f. f ≡ OutOfMemory) → Faults exec.OutOfMemory → IfErr result (Via Faults)
-  out_of_memory of cause = handed_on (Via Faults) result OutOfMemory of (exec.OutOfMemory, cause, refl)
+  out_of_memory of cause = converted (Via Faults) result OutOfMemory of (exec.OutOfMemory, cause, refl)

@@ -25,6 +25,5 @@ pub mod Firsts
 pub mod Rooms
 pub mod Finalizations
 pub mod Fronts
-pub mod Needs
 pub mod Idles
 pub mod Collected

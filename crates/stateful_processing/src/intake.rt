@@ -105,8 +105,11 @@ fn cancel<A: Application + Drop>(
 
 /// Whether the live build is of this job.
 fn builds<A: Application + Drop>(handler: &Handler<A>, job: u64) -> bool
-    ensures yes { result ≡ true → (b : _) × IsLiveBuild ⟦<A as Worked>⟧.workings handler.now.build job b }
-    ensures no { result ≡ false → (b : _) → IsLiveBuild ⟦<A as Worked>⟧.workings handler.now.build job b → ⊥ }
+    ensures yes { result ≡ true
+        → (b : _) × IsLiveBuild ⟦<A as Worked>⟧.workings handler.now.build job b }
+    ensures no { result ≡ false
+        → (b : _)
+        → IsLiveBuild ⟦<A as Worked>⟧.workings handler.now.build job b → ⊥ }
 {
     match handler.build() {
         Some(build) => build.job == job,
@@ -116,8 +119,11 @@ fn builds<A: Application + Drop>(handler: &Handler<A>, job: u64) -> bool
 
 /// Whether the live hook is of this job.
 fn hooks<A: Application + Drop>(handler: &Handler<A>, job: u64) -> bool
-    ensures yes { result ≡ true → (b : _) × (hook : _) × IsHookLive ⟦<A as Worked>⟧.workings handler.now.front job b hook }
-    ensures no { result ≡ false → (b : _) (hook : _) → IsHookLive ⟦<A as Worked>⟧.workings handler.now.front job b hook → ⊥ }
+    ensures yes { result ≡ true
+        → (b : _) × (hook : _) × IsHookLive ⟦<A as Worked>⟧.workings handler.now.front job b hook }
+    ensures no { result ≡ false
+        → (b : _) (hook : _)
+        → IsHookLive ⟦<A as Worked>⟧.workings handler.now.front job b hook → ⊥ }
 {
     match handler.front() {
         Some(front) => match &front.stage {
@@ -146,8 +152,8 @@ fn turn<A: Application + Drop>(
         (stored : ℕ → Option (Named A.Block))
         (l : Kept A.Block A.Context A.Input A.Captured)
         → FaultsIntake w stored
-        (record { run = A.Run.count; build = A.Build.count; hook = A.Hook.count }) (Rose (A.count handler.old.application)
-        (A.count handler.new.application))
+        (record { run = A.Run.count; build = A.Build.count; hook = A.Hook.count })
+        (Rose (A.count handler.old.application) (A.count handler.new.application))
         (A.Databases.counted databases.old)
         (A.Databases.counted databases.new) (A.Databases.members databases.new)
         (moment w (executing handler.old) l
@@ -191,8 +197,8 @@ pub fn take_in<A: Application + Drop, S: BlockStore<A::Block>>(
         (A.Databases.members databases.new) (A.Databases.next databases.new) marks.new.items) event.now) }
     ensures fault { IfErr result (λ e. let w = ⟦<A as Worked>⟧.workings in
         FaultsIntake w (S.stored store.now)
-        (record { run = A.Run.count; build = A.Build.count; hook = A.Hook.count }) (Rose (A.count handler.old.application)
-        (A.count handler.new.application))
+        (record { run = A.Run.count; build = A.Build.count; hook = A.Hook.count })
+        (Rose (A.count handler.old.application) (A.count handler.new.application))
         (A.Databases.counted databases.old)
         (A.Databases.counted databases.new) (A.Databases.members databases.new)
         (moment w (executing handler.old) processing.old

@@ -1,7 +1,8 @@
 use Rattle.std.proofs.Common.{rules, Err, ap}
 use Rattle.stateful_processing.specs.Causes.{FaultsBarrier}
 use Rattle.stateful_processing.specs.Errors.{error_of_set}
-use Rattle.stateful_processing.proofs.BarrierCalls.{converted, fault_finalizing}
+use Rattle.stateful_processing.proofs.Handing.{converted}
+use Rattle.stateful_processing.proofs.BarrierCalls.{fault_finalizing}
 use Rattle.stateful_processing.proofs.barrier.begin_barrier.Goals as goal
 
 pub returns-in_err-barrier-clause-fault : goal.returns-in_err-barrier-clause-fault

@@ -2,7 +2,8 @@ use Rattle.std.proofs.Common.{rules, Err, ap, inr}
 use Rattle.stateful_exec.specs.Workings.{workings}
 use Rattle.stateful_processing.specs.Errors.{error_of_set}
 use Rattle.stateful_processing.specs.Moments.{executing}
-use Rattle.stateful_processing.proofs.Finalizations.{made_of, fault_applying, applies_block}
+use Rattle.stateful_processing.proofs.Handing.{converted}
+use Rattle.stateful_processing.proofs.Finalizations.{fault_applying, applies_block}
 use Rattle.stateful_processing.proofs.finalizing.apply.Goals as goal
 
 pub returns-in_err-apply-clause-fault : goal.returns-in_err-apply-clause-fault
@@ -14,7 +15,7 @@ returns-in_err-apply-clause-fault g c =
     let old = g.A.Databases.DatabaseSet.members c.args.databases.now in
     let e = c.in_err-apply.field-0.0 in
     let failed = c.in_err-apply.ensures in
-    made_of _ c.from_residual-in_err-apply.result (error_of_set e) c.from_residual-in_err-apply.ensures.1
+    converted _ c.from_residual-in_err-apply.result (error_of_set e) c.from_residual-in_err-apply.ensures.1
     (inr (inr (fault_applying d before now old new e (λ is. failed.lost.0 (ap Err is)) (λ is. failed.exhausted (ap Err is))
     (λ n k is bound. let f = failed.fault n k (ap Err is) bound in (f.0, f.1, f.2, f.3)))))
 

@@ -5,14 +5,15 @@ use Rattle.stateful_exec.specs.Pausing.{FaultsResume}
 use Rattle.stateful_exec.specs.Workings.{workings}
 use Rattle.stateful_processing.specs.Errors.{error_of_exec}
 use Rattle.stateful_processing.specs.Moments.{executing}
-use Rattle.stateful_processing.proofs.Finalizations.{made_of, ends_finalization}
+use Rattle.stateful_processing.proofs.Handing.{converted}
+use Rattle.stateful_processing.proofs.Finalizations.{ends_finalization}
 use Rattle.stateful_processing.proofs.finalizing.end_finalization.Goals as goal
 
 pub returns-in_err-resume-clause-fault : goal.returns-in_err-resume-clause-fault
 returns-in_err-resume-clause-fault g c =
     let w = workings g.A.Block.Block.header g.A.Context.Rounded.round_of g.A.Application.works g.A.Databases.DatabaseSet.kind g.A.Databases.DatabaseSet.shows in
     let fault = c.in_err-resume.field-0.0 in
-    made_of _ c.from_residual-in_err-resume.result (error_of_exec fault) c.from_residual-in_err-resume.ensures.1
+    converted _ c.from_residual-in_err-resume.result (error_of_exec fault) c.from_residual-in_err-resume.ensures.1
     (inr (
       fault,
       subst

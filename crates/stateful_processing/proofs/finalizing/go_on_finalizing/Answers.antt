@@ -1,7 +1,8 @@
 use Rattle.std.proofs.Common.{◌∙◌, sym, refl, inr, Some}
 use Rattle.stateful_exec.specs.Workings.{workings}
 use Rattle.stateful_processing.specs.Rules.{applies}
-use Rattle.stateful_processing.proofs.Finalizations.{made_of, applies_with, fault_applied, counts_once, quiet_waiting}
+use Rattle.stateful_processing.proofs.Handing.{converted}
+use Rattle.stateful_processing.proofs.Finalizations.{applies_with, fault_applied, counts_once, quiet_waiting}
 use Rattle.stateful_processing.proofs.Fronts.{at_ran, begun_isnt_ran, begun_isnt_advanced, some_awaited}
 use Rattle.stateful_processing.proofs.Rooms.{has_room}
 use Rattle.stateful_processing.proofs.finalizing.go_on_finalizing.Goals as goal
@@ -18,14 +19,14 @@ returns-then-awaited-gt0-clause-ok g c = λ provider.
 
 pub returns-in_err-run_or_apply-in-Begun-clause-fault : goal.returns-in_err-run_or_apply-in-Begun-clause-fault
 returns-in_err-run_or_apply-in-Begun-clause-fault g c =
-    made_of _ c.from_residual.result c.in_err-run_or_apply-in-Begun.field-0.0 c.from_residual.ensures.1
+    converted _ c.from_residual.result c.in_err-run_or_apply-in-Begun.field-0.0 c.from_residual.ensures.1
     (c.in_err-run_or_apply-in-Begun.ensures.fault (g.S.BlockStore.stored c.args.store.now))
 
 pub returns-in_err-apply-in-Ran-clause-fault : goal.returns-in_err-apply-in-Ran-clause-fault
 returns-in_err-apply-in-Ran-clause-fault g c =
     let w = workings g.A.Block.Block.header g.A.Context.Rounded.round_of g.A.Application.works g.A.Databases.DatabaseSet.kind g.A.Databases.DatabaseSet.shows in
     let ran = at_ran w c.args.processing.now.durability c.args.front c.args.handler.now.front c.requires.up.front (sym c.progress_of.ensures ∙ c.in-Ran.is) in
-    made_of _ c.from_residual-in_err-apply-in-Ran.result c.in_err-apply-in-Ran.field-0.0 c.from_residual-in_err-apply-in-Ran.ensures.1
+    converted _ c.from_residual-in_err-apply-in-Ran.result c.in_err-apply-in-Ran.field-0.0 c.from_residual-in_err-apply-in-Ran.ensures.1
     (fault_applied w _ _ _ _ _ c.args.front _ c.requires.finalizing (inr (ran.0, ran.1)) _ c.in_err-apply-in-Ran.ensures.fault)
 
 pub go_on_advanced-requires-clause-room : goal.go_on_advanced-requires-clause-room

@@ -3,14 +3,15 @@ use Rattle.std.proofs.lemmas.Result.{on_ok_weaker, MatchResult-weaker}
 use Rattle.stateful_exec.specs.Workings.{workings}
 use Rattle.stateful_processing.specs.Causes.{running}
 use Rattle.stateful_processing.specs.Rules.{applies, runs}
-use Rattle.stateful_processing.proofs.Finalizations.{made_of, is_cached, not_cached, applies_with, fault_applied}
+use Rattle.stateful_processing.proofs.Handing.{converted}
+use Rattle.stateful_processing.proofs.Finalizations.{is_cached, not_cached, applies_with, fault_applied}
 use Rattle.stateful_processing.proofs.finalizing.run_or_apply.Goals as goal
 
 pub returns-in_err-run-clause-fault : goal.returns-in_err-run-clause-fault
 returns-in_err-run-clause-fault g c =
     let uncached = not_cached c.args.handler.now.state.cache c.digest.result c.args.front.block.digest c.cached.result
     c.digest.ensures c.cached.ensures c.if-cached.false in
-    made_of _ c.from_residual.result c.in_err-run.field-0.0 c.from_residual.ensures.1
+    converted _ c.from_residual.result c.in_err-run.field-0.0 c.from_residual.ensures.1
     (λ stored. running c.requires.finalizing c.requires.begun c.requires.idle uncached c.in_err-run.ensures.fault)
 
 pub returns-then-cached-clause-ok : goal.returns-then-cached-clause-ok

@@ -5,7 +5,7 @@ use Rattle.stateful_history.specs.declared.mark.Mark.TheVariants as mark
 use Rattle.stateful_exec.specs.Workings.{workings}
 use Rattle.stateful_processing.specs.Errors.{error_of_init}
 use Rattle.stateful_processing.specs.Opening.{FaultsOpening}
-use Rattle.stateful_processing.proofs.BarrierCalls.{converted}
+use Rattle.stateful_processing.proofs.Handing.{converted}
 use Rattle.stateful_processing.proofs.OpeningCalls.{fault_opening}
 use Rattle.stateful_processing.proofs.opening.open.Goals as goal
 

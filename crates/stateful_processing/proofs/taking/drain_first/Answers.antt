@@ -1,7 +1,7 @@
 use Rattle.std.proofs.Common.{sym, ◌∙◌}
 use Rattle.stateful_exec.specs.Workings.{workings}
+use Rattle.stateful_processing.proofs.Handing.{converted}
 use Rattle.stateful_processing.proofs.Firsts.{drained, not_drained, put_off}
-use Rattle.stateful_processing.proofs.Handing.{handed_on}
 use Rattle.stateful_processing.specs.Moments.{executing, moment}
 use Rattle.stateful_processing.proofs.taking.drain_first.Goals as goal
 
@@ -9,7 +9,7 @@ pub returns-in_err-schedule-in-Request-clause-fault : goal.returns-in_err-schedu
 returns-in_err-schedule-in-Request-clause-fault g c =
     let w = workings g.A.Block.Block.header g.A.Context.Rounded.round_of g.A.Application.works g.A.Databases.DatabaseSet.kind g.A.Databases.DatabaseSet.shows in
     let m = moment w (executing c.args.handler.now) c.args.processing.now (g.A.Databases.DatabaseSet.members c.args.databases.now) (g.A.Databases.DatabaseSet.next c.args.databases.now) c.args.marks.now.items in
-    handed_on _ c.from_residual.result c.in_err-schedule-in-Request.field-0.0 c.from_residual.ensures.1
+    converted _ c.from_residual.result c.in_err-schedule-in-Request.field-0.0 c.from_residual.ensures.1
     (not_drained w (g.S.BlockStore.stored c.args.store.now) m c.pop.new.self c.requires.collected c.requires.building c.in-Some.message c.in-Some.ensures.some
     c.in-Request.request c.in-Request.is (sym c.is_verification.ensures ∙ c.if-is_verification.true) _ _ _ _ _ c.in_err-schedule-in-Request.ensures.fault)
 
