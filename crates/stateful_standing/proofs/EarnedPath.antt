@@ -16,6 +16,7 @@ use Rattle.stateful_standing.specs.Setting.{setting}
 use Rattle.stateful_standing.specs.Chains.{here, further, Chain}
 use Rattle.stateful_standing.specs.Caching.{IsCached}
 use Rattle.stateful_standing.specs.Standing.{TablesStand}
+pub use Rattle.stateful_standing.specs.Ground.{IsFolded}
 
 module _ {B C I P R D H G U : Type 0} (w : Workings B C I P R D H G U) (stored : ℕ → Option (Named B)) (p : Past B C I) (points : Digest → Point w) (anchor tip : Digest) (now : w.States) (now_is : (points anchor).1 ≡ now) where
   abbrev Path : Digest → w.States → Type 0
@@ -28,12 +29,6 @@ module _ {B C I P R D H G U : Type 0} (w : Workings B C I P R D H G U) (stored :
       subst (λ (x : Digest). Path x at.1) (sym e) (subst (λ (x : w.States). Path anchor x) (sym t) at_anchor)
   Earns-from_chain (further {at = at} {b = b} e is s ne l) =
       subst (λ (x : Digest). Path x at.1) e (and_on (Earns-from_chain s) l.met (λ a. ne (sym e ∙ a)) l.matches (λ other. l.earned))
-
--- The databases are where the applied blocks lead to, and there is an anchor and a tip.
-pub record IsFolded {B C I P R D H G U : Type 0} (w : Workings B C I P R D H G U) (stored : ℕ → Option (Named B)) (base : w.States) (p : Past B C I) (anchor tip : Anchor) (point : Point w) : Type 0 where
-  pub anchor_is : anchor_of w.header p ≡ Some anchor
-  pub tip_is : tip_of w.header p ≡ Some tip
-  pub folded : fold (setting w stored) (Some base) (applied p) ≡ Some point.1
 
 module _ {B C I P R D H G U : Type 0} (w : Workings B C I P R D H G U) (stored : ℕ → Option (Named B)) (base : w.States) (p : Past B C I) (points : Digest → Point w) (point : Point w) (next : w.Ids) (v : Tables B C I R U) (s : TablesStand w stored p points point next v)
     (tip : Anchor) (folded : IsFolded w stored base p v.anchor tip point) where

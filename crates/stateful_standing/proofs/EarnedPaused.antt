@@ -21,16 +21,7 @@ use Rattle.stateful_exec.specs.declared.pause.Pause.TheVariants.{Free, Finalizin
 use Rattle.stateful_standing.specs.Setting.{setting}
 use Rattle.stateful_standing.specs.Caching.{IsCached, CacheStands}
 use Rattle.stateful_standing.proofs.EndedKept.{IsRoundOf}
-
--- each cached block that goes on over the finalization is compatible with it
-abbrev pub IsClosed : {U : Type 0} → Boundary → List (Cached U) → Type 0
-IsClosed boundary cache = All (λ e. IsRetained boundary (step_in e) → Contains boundary.compatible e.digest) cache
-
--- where a finalization goes on, that is so, and the anchor's block doesn't go on over it
-abbrev pub IsClosedBy : {U : Type 0} → Pause → Anchor → List (Cached U) → Type 0
-IsClosedBy (Finalizing boundary) anchor cache = IsClosed boundary cache × IsLater anchor.round boundary.round
-IsClosedBy Free anchor cache = Unit {0}
-IsClosedBy Pruning anchor cache = Unit {0}
+pub use Rattle.stateful_standing.specs.Ground.{IsClosed, IsClosedBy}
 
 later_than : (x y : Round) → IsLater x y → IsLater y x → ⊥
 later_than x y (inl l) (inl k) = omega arith

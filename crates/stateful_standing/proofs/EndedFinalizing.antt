@@ -29,23 +29,7 @@ use Rattle.stateful_standing.specs.Standing.{TablesStand}
 use Rattle.stateful_standing.proofs.EndedPoints.{parent_at_hand}
 use Rattle.stateful_standing.proofs.EndedStands.{running}
 use Rattle.stateful_standing.proofs.EndedKept.{IsRoundOf}
-
-module _ {B C I P R D H G U : Type 0} (w : Workings B C I P R D H G U) (stored : ℕ → Option (Named B)) where
-  -- a block of the history of this digest goes on over the finalization
-  pub record IsOver (p : Past B C I) (boundary : Boundary) (d : Digest) : Type 0 where
-    pub block : Named B
-    pub met : Met (setting w stored) p block
-    pub is : block.digest ≡ d
-    pub retained : IsRetained boundary (step_by w.header block)
-
-  -- A finalization goes on: its block is the tip; what is compatible is it and blocks that go on over it, but not the anchor; and
-  -- each cached block that goes on over it is.
-  pub record Finalizes (p : Past B C I) (anchor : Anchor) (cache : List (Cached U)) (boundary : Boundary) : Type 0 where
-    pub tip : MatchOption (tip_of w.header p) ⊥ (λ t. (t.digest ≡ boundary.digest) × (t.round ≡ boundary.round))
-    pub other : Contains boundary.compatible anchor.digest → ⊥
-    pub own : Contains boundary.compatible boundary.digest
-    pub each : (d : Digest) → Contains boundary.compatible d → (d ≡ boundary.digest) ⊎ IsOver p boundary d
-    pub closed : All (λ e. IsRetained boundary (step_in e) → Contains boundary.compatible e.digest) cache
+pub use Rattle.stateful_standing.specs.Crossing.{IsOver, Finalizes}
 
 pub IsRetained-crossed : (old new : Boundary) (digest : Digest) (step : ExecutionStep) → Completes digest old new → IsRetained old step → IsRetained new step
 IsRetained-crossed old new digest step c r = record {

@@ -33,13 +33,7 @@ use Rattle.stateful_standing.proofs.EndedRule.{IsReleasedFrom, IsReleasedFrom-pl
 use Rattle.stateful_standing.proofs.PauseKnown.{Any-found}
 use Rattle.stateful_standing.proofs.EndedStands.{running}
 use Rattle.stateful_standing.proofs.Putting.{put_here}
-
--- The anchor has moved to the block that is being finalized, and each cached block is compatible with it.
-pub record HasMoved {U : Type 0} (anchor : Anchor) (cache : List (Cached U)) (boundary : Boundary) : Type 0 where
-  pub digest_is : anchor.digest ≡ boundary.digest
-  pub round_is : anchor.round ≡ boundary.round
-  pub own : Contains boundary.compatible boundary.digest
-  pub compatible : All (λ e. Contains boundary.compatible e.digest) cache
+pub use Rattle.stateful_standing.specs.Crossing.{HasMoved, HasMovedSo}
 
 module _ {U : Type 0} (anchor : Anchor) (cache : List (Cached U)) (boundary : Boundary) (h : HasMoved anchor cache boundary) where
   in_compatible : (d : Digest) → IsIn cache d → Contains boundary.compatible d
@@ -72,12 +66,6 @@ module _ {B C I P R D H G U : Type 0} (w : Workings B C I P R D H G U) (stored :
   -- once the anchor has moved, they stand without the pause
   pub TablesStand-free : (v : Tables B C I R U) (boundary : Boundary) → v.pause ≡ Finalizing boundary → HasMoved v.anchor v.cache boundary → TablesStand w stored p points point next v → TablesStand w stored p points point next (record v { pause = Free })
   TablesStand-free v boundary paused h s = TablesStand-pause v Free (subst (λ pause. (d : Digest) → IsKnownBy pause v.anchor v.cache d ↔ IsAtHand v.anchor v.cache d) (sym paused) (known_moved v.anchor v.cache boundary h)) s
-
--- the anchor's move, with a pause
-pub record HasMovedSo {B C I R U : Type 0} (v : Tables B C I R U) : Type 0 where
-  pub boundary : Boundary
-  pub pause_is : v.pause ≡ Finalizing boundary
-  pub moved : HasMoved v.anchor v.cache boundary
 
 module _ {B C I P R D H G U : Type 0} (w : Workings B C I P R D H G U) (anchor : Anchor) (cache : List (Cached U)) (boundary : Boundary) (h : HasMoved anchor cache boundary) (b : Named B) (round : b.digest ≡ anchor.digest → w.header.round b.block ≡ anchor.round) where
   -- a block that the cache takes goes on over the finalization

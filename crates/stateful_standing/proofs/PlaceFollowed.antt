@@ -42,21 +42,16 @@ use Rattle.stateful_standing.proofs.ReasonGround.{IsGround, round_of_top}
 use Rattle.stateful_standing.proofs.Served.{Serves}
 use Rattle.stateful_standing.proofs.ServedMarks.{IsServedBy, AreServedBy, follows-marks, TicketsApart-after, IsUncancelled, IsUncancelled-served, Known-before_served}
 use Rattle.stateful_standing.proofs.SpentRuns.{MayRunAgain-served, MayRunAgain-ended}
+pub use Rattle.stateful_standing.specs.Orderly.{IsOrderly}
 
 module _ {B C I P R D H G U : Type 0} (w : Workings B C I P R D H G U) (stored : ℕ → Option (Named B)) where
-  -- A ticket is that of one event, no live request was cancelled, and a run that ended in vain is started again only for another request.
-  pub record IsOrderly (p : Past B C I) : Type 0 where
-    pub apart : TicketsApart p
-    pub live : IsUncancelled p
-    pub again : (d : Digest) → MayRunAgain (setting w stored) p d
-
   -- so it is but for a block, as long as that isn't known
   pub record IsOrderlyBut (b : Named B) (p : Past B C I) : Type 0 where
     pub apart : TicketsApart p
     pub live : IsUncancelled p
     pub again : (d : Digest) → (d ≢ b.digest) ⊎ Known (setting w stored) p b.digest → MayRunAgain (setting w stored) p d
 
-  pub IsOrderly-served : (p : Past B C I) (t : ℕ) (marks : List (Mark B)) → AreServedBy t p marks → IsOrderly p → IsOrderly (after p marks)
+  pub IsOrderly-served : (p : Past B C I) (t : ℕ) (marks : List (Mark B)) → AreServedBy t p marks → IsOrderly w stored p → IsOrderly w stored (after p marks)
   IsOrderly-served p t marks are o = record { apart = TicketsApart-after p marks o.apart; live = IsUncancelled-served p t marks are o.live; again = λ d. MayRunAgain-served (setting w stored) p t marks are d (o.again d) }
 
 module _ {B C I P R D H G U : Type 0} (w : Workings B C I P R D H G U) (stored : ℕ → Option (Named B)) (base : w.States) (points : Digest → Point w) (point : Point w) (tip : Anchor)

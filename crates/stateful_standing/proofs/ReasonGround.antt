@@ -25,45 +25,10 @@ use Rattle.stateful_standing.proofs.EarnedPath.{IsFolded}
 use Rattle.stateful_standing.proofs.EarnedPaused.{IsClosed}
 use Rattle.stateful_standing.proofs.EndedKept.{IsRoundOf}
 use Rattle.stateful_standing.proofs.EndedPoints.{parent_at_hand}
-
-module _ {B C I P R D H G U : Type 0} (w : Workings B C I P R D H G U) (stored : ℕ → Option (Named B)) (p : Past B C I) where
-  -- the anchor is that of a block of the history
-  pub record IsOfBlock (anchor : Anchor) : Type 0 where
-    pub block : Named B
-    pub met : Met (setting w stored) p block
-    pub is : anchor ≡ anchor_by w.header block
-
-  -- A finalization goes on: its block is the tip, a child of the anchor, no lower than it and of a later round. It is
-  -- compatible, and so is each cached block that goes on over it.
-  pub record IsFinal (anchor : Anchor) (cache : List (Cached U)) (tip : Anchor) (boundary : Boundary) : Type 0 where
-    pub block : Named B
-    pub met : Met (setting w stored) p block
-    pub tip_is : tip ≡ anchor_by w.header block
-    pub digest_is : boundary.digest ≡ block.digest
-    pub round_is : boundary.round ≡ w.header.round block.block
-    pub on_anchor : parent_of (setting w stored) block ≡ anchor.digest
-    pub higher : anchor.height.0 ≤ w.header.height block.block
-    pub later : IsLater anchor.round boundary.round
-    pub own : Contains boundary.compatible boundary.digest
-    pub closed : IsClosed boundary cache
-
-  -- the tip is the anchor, or the block of the finalization that goes on
-  abbrev pub IsTipBy : Pause → Anchor → List (Cached U) → Anchor → Type 0
-  IsTipBy (Finalizing boundary) anchor cache tip = IsFinal anchor cache tip boundary
-  IsTipBy Free anchor cache tip = tip ≡ anchor
-  IsTipBy Pruning anchor cache tip = tip ≡ anchor
+pub use Rattle.stateful_standing.specs.Ground.{IsOfBlock, IsFinal, IsTipBy, IsGround}
 
 module _ {B C I P R D H G U : Type 0} (w : Workings B C I P R D H G U) (stored : ℕ → Option (Named B)) (base : w.States) (p : Past B C I) (points : Digest → Point w) (point : Point w) (next : w.Ids) (tip : Anchor) where
-  -- the cache stands, names are true, the databases are where the applied blocks lead to, and so on
-  pub record IsGround (pause : Pause) (anchor : Anchor) (cache : List (Cached U)) : Type 0 where
-    pub stands : CacheStands w stored p points next anchor pause cache
-    pub at_anchor : points anchor.digest ≡ point
-    pub names : TrueNames (setting w stored) p
-    pub folded : IsFolded w stored base p anchor tip point
-    pub top : IsOfBlock w stored p anchor
-    pub tip_by : IsTipBy w stored p pause anchor cache tip
-
-  module _ (pause : Pause) (anchor : Anchor) (cache : List (Cached U)) (g : IsGround pause anchor cache) where
+  module _ (pause : Pause) (anchor : Anchor) (cache : List (Cached U)) (g : IsGround w stored base p points point next tip pause anchor cache) where
     abbrev Entry : Cached U → Type 0
     Entry = IsCached w stored p points next anchor
 

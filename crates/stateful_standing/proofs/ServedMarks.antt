@@ -30,6 +30,7 @@ use Rattle.stateful_exec.specs.declared.tables.Requested.{Requested}
 use Rattle.stateful_standing.specs.Outstanding.{TicketsApart}
 use Rattle.stateful_standing.proofs.Calm.{IsCalm, Known-before}
 use Rattle.stateful_standing.proofs.KeptMarks.{KeepsBehind}
+pub use Rattle.stateful_standing.specs.Orderly.{IsUncancelled}
 
 -- a mark that a request of this ticket makes as it is served: its end, its fetch, or the run that is started for it
 abbrev pub IsServedBy : {B : Type 0} → ℕ → Mark B → Type 0
@@ -71,10 +72,6 @@ module _ {B C I : Type 0} where
   pub WasAsked-before : (t u : ℕ) (d : Digest) (p : Past B C I) (marks : List (Mark B)) → AreServedBy t p marks → u ≢ t → WasAsked u d (after p marks) → WasAsked u d p
   WasAsked-before t u d p [] are ne was = was
   WasAsked-before t u d p (mark ∷ marks) are ne was = asked_one t u d p mark are.0 ne (WasAsked-before t u d (Made mark ∷ p) marks are.1 ne was)
-
-  -- no live request was cancelled
-  abbrev pub IsUncancelled : Past B C I → Type 0
-  IsUncancelled p = (t : ℕ) → IsLiveRequest t p → was_cancelled t p ≡ false
 
   live_one : (t u : ℕ) (p : Past B C I) (mark : Mark B) → IsServedBy t mark → IsLiveRequest u (Made mark ∷ p) → IsLiveRequest u p
   live_one t u p (Verdict v good) is live = live_if (u == v) (live_ticket u p) live

@@ -12,3 +12,6 @@ pub mod Ways
 pub mod Outstanding
 pub mod Reaching
 pub mod Beside
+pub mod Ground
+pub mod Crossing
+pub mod Orderly
