@@ -1,0 +1,2 @@
+//! What the machine stands for, over a past. Definitions and their lemmas alone.
+#![tactic(auto)]
