@@ -1,0 +1,65 @@
+-- Histories of steps, an entry longer.
+use Rattle.std.proofs.Common.{◌≡◌, ◌++◌, ℕ, true, List, [], ◌∷◌, map, Option, refl, sym, ◌∙◌, ap, subst}
+use Rattle.stateful_types.specs.Names.{Named}
+use Rattle.stateful_history.specs.Live.{may_come}
+use Rattle.stateful_history.specs.Past.{Past, after_entry, after_all}
+use Rattle.stateful_history.specs.declared.event.Event.{Event}
+use Rattle.stateful_history.specs.declared.entry.Entry.{Entry}
+use Rattle.stateful_history.specs.declared.mark.Mark.{Mark}
+use Rattle.stateful_history.proofs.Marks.{after_all-push}
+use Rattle.stateful_exec.specs.Workings.{Workings}
+use Rattle.stateful_register.specs.Register.{RegisterStands}
+use Rattle.stateful_register.specs.declared.register.Register.{Register}
+use Rattle.stateful_processing.specs.Intake.{Counts}
+use Rattle.stateful_processing.specs.Moments.{Moment}
+use Rattle.stateful_core.specs.Driving.{Steps}
+use Rattle.stateful_core.specs.Machine.{numbered}
+use Rattle.stateful_core.specs.Steps.{IsStep}
+
+-- the events of a history, one more
+events-append : {B C I : Type 0} (history : List (Entry B C I)) (entry : Entry B C I) → map (λ (e : Entry B C I). e.event) (history ++ entry ∷ []) ≡ map (λ (e : Entry B C I). e.event) history ++ entry.event ∷ []
+events-append [] entry = refl
+events-append {B} {C} {I} (x ∷ history) entry = ap (λ (l : List (Event B C I)). x.event ∷ l) (events-append history entry)
+
+pub events-push : {B C I : Type 0} (history longer : List (Entry B C I)) (event : Event B C I) (marks : List (Mark B)) (events : List (Event B C I)) → longer ≡ history ++ record { event = event; marks = marks } ∷ []
+    → map (λ (e : Entry B C I). e.event) history ≡ events → map (λ (e : Entry B C I). e.event) longer ≡ events ++ event ∷ []
+events-push {B} {C} {I} history longer event marks events adds is =
+    ap (λ (l : List (Entry B C I)). map (λ (e : Entry B C I). e.event) l) adds
+    ∙ events-append history (record { event = event; marks = marks })
+    ∙ ap (λ (l : List (Event B C I)). l ++ event ∷ []) is
+
+module _ {B C I P R D H G U : Type 0} (w : Workings B C I P R D H G U) (stored : ℕ → Option (Named B)) (provider : P) (counts : Counts R D H) where
+  -- one more step
+  pub Steps-push : (p : Past B C I) (old mid : Moment w) (history : List (Entry B C I)) (event : Event B C I) (register : Register) (new : Moment w)
+      → Steps w stored provider counts p old history mid
+      → may_come (numbered w.kind.count) (after_all p history) event ≡ true → RegisterStands (numbered w.kind.count) (after_all p history) register
+      → IsStep w stored provider counts register event mid new
+      → Steps w stored provider counts p old (history ++ record { event = event; marks = new.marks } ∷ []) (record new { marks = [] })
+  Steps-push p old mid [] event register new is may stood step = (
+    may,
+    register,
+    stood,
+    new,
+    refl,
+    subst (λ (x : Moment w). IsStep w stored provider counts register event x new) is step,
+    refl,
+  )
+  Steps-push p old mid (x ∷ history) event register new steps may stood step = (
+    steps.0,
+    steps.1,
+    steps.2,
+    steps.3,
+    steps.4,
+    steps.5,
+    Steps-push (after_entry p x.event x.marks) (record (steps.3) { marks = [] }) mid history event register new steps.6 may stood step,
+  )
+
+-- the event behind those that were taken in
+pub event_at : {X : Type 0} (done rest left all taken : List X) (x : X) → done ++ rest ≡ all → rest ≡ x ∷ left → taken ≡ done → all ≡ taken ++ x ∷ left
+event_at {X} done rest left all taken x e is t = sym e ∙ (ap (λ (l : List X). done ++ l) is ∙ ap (λ (d : List X). d ++ x ∷ left) (sym t))
+
+-- a register that stands for a history an entry longer
+pub registered-longer : {B C I : Type 0} (count : ℕ) (history longer : List (Entry B C I)) (entry : Entry B C I) (register : Register) → longer ≡ history ++ entry ∷ []
+    → RegisterStands count (after_entry (after_all [] history) entry.event entry.marks) register → RegisterStands count (after_all [] longer) register
+registered-longer {B} {C} {I} count history longer entry register is stands =
+    subst (λ (p : Past B C I). RegisterStands count p register) (sym (ap (λ (h : List (Entry B C I)). after_all [] h) is ∙ after_all-push [] history entry)) stands

@@ -1,0 +1,5 @@
+pub mod Deciding
+pub mod Adding
+pub mod Counts
+pub mod Arms
+pub mod OtherErrors

@@ -1,0 +1,72 @@
+use Rattle.std.proofs.Common.{[], refl, ◌∙◌}
+use Rattle.stateful_cache.proofs.Cutting.{one_over, none_over}
+use Rattle.stateful_exec.specs.Workings.{workings}
+use Rattle.stateful_register.proofs.Entries.{RegisterStands-none}
+use Rattle.stateful_processing.specs.Moments.{moment}
+use Rattle.stateful_core.specs.Faults.{tally}
+use Rattle.stateful_core.proofs.Adding.{event_at, events-push, Steps-push}
+use Rattle.stateful_core.proofs.Counts.{HasNotFallen-itself, HasNotFallen-further}
+use Rattle.stateful_core.proofs.driving.drive.Goals as goal
+
+pub loop-event-init : goal.loop-event-init
+loop-event-init g c = record {
+  all = c.into_iter-event-iterator.ensures.into_iter_gives.0;
+  events = rw c.new.ensures.items refl;
+  steps = rw c.new.ensures.items refl;
+  registered = rw c.new.ensures.items (RegisterStands-none _ c.args.stateful.register c.requires.new.blank);
+  safe = record {
+    none_away = c.requires.none_away;
+    sound = λ works. record { none_away = c.requires.none_away; up = λ up. let down = c.requires.new.down in absurd cc };
+  };
+  store = refl;
+  provider = refl;
+  working = c.requires.new.working;
+  later = HasNotFallen-itself _;
+}
+
+pub loop-event-preserved : goal.loop-event-preserved
+loop-event-preserved g c =
+    let D = g.A.Databases.DatabaseSet in
+    let w = workings g.A.Block.Block.header g.A.Context.Rounded.round_of g.A.Application.works D.kind D.shows in
+    let i = c.loop-event.invariant in
+    let was = c.loop-event.driven in
+    let now = c.enter.new.driven in
+    let adds = c.in-Ok.ensures.adds in
+    let stepped = rw (i.store, i.provider) at adds.2 in
+    let registers = c.in-Ok.ensures.registers i.registered in
+    record {
+      all = one_over c.loop-event.yielded _ _ _ _ i.all c.in-Some.ensures.steps.0;
+      events = events-push was.history.items _ c.in-Some.event adds.0 _ adds.1 i.events;
+      steps = rw adds.1
+          (Steps-push w (g.S.BlockStore.stored c.args.store.now) c.args.stateful.provider _ [] _ (moment w was.stateful.execution was.stateful.loop (D.members was.databases) (D.next was.databases) []) was.history.items c.in-Some.event was.stateful.register
+          (moment w now.stateful.execution now.stateful.loop (D.members now.databases) (D.next now.databases) adds.0) i.steps registers.0 i.registered stepped);
+      registered = registers.1;
+      safe = c.in-Ok.ensures.safe;
+      store = c.in-Ok.ensures.same.0 ∙ i.store;
+      provider = c.in-Ok.ensures.same.1 ∙ i.provider;
+      working = c.in-Ok.ensures.works;
+      later = HasNotFallen-further _ _ _ i.later c.in-Ok.ensures.later;
+    }
+
+pub returns-in-Err-clause-refused : goal.returns-in-Err-clause-refused
+returns-in-Err-clause-refused g c =
+    let D = g.A.Databases.DatabaseSet in
+    let w = workings g.A.Block.Block.header g.A.Context.Rounded.round_of g.A.Application.works D.kind D.shows in
+    let i = c.loop-event.invariant in
+    let was = c.loop-event.driven in (
+      c.in-Some.event,
+      c.next.new.self.rest.items,
+      rw c.in-Err.ensures.err (event_at c.loop-event.yielded _ _ _ _ _ i.all c.in-Some.ensures.steps.0 i.events),
+      rw c.in-Err.ensures.err (record {
+        register = was.stateful.register;
+        old = moment w was.stateful.execution was.stateful.loop (D.members was.databases) (D.next was.databases) [];
+        steps = i.steps;
+        registered = i.registered;
+        before = tally (g.A.Faulty.count was.stateful.application) (D.counted was.databases);
+        later = i.later;
+        cause = rw (i.store, i.provider) at c.in-Err.ensures.cause;
+      }),
+    )
+
+pub returns-clause-all : goal.returns-clause-all
+returns-clause-all g c = c.loop-event.invariant.events ∙ none_over c.loop-event.yielded _ _ _ c.loop-event.invariant.all c.loop-event.event-iterator.rest.ok.0 c.in-None.ensures.steps.0

@@ -1,0 +1,65 @@
+-- Why an event is refused.
+use Rattle.std.specs.Prelude.{◌≡◌, ◌≤◌, ℕ, Bool, true, false, not, Option}
+use Rattle.stateful_types.specs.Causes.{Rose}
+use Rattle.stateful_types.specs.Names.{Named}
+use Rattle.stateful_history.specs.Live.{may_come}
+use Rattle.stateful_history.specs.Opening.{is_down}
+use Rattle.stateful_history.specs.Past.{Past}
+use Rattle.stateful_history.specs.declared.event.Event.{Event}
+use Rattle.stateful_history.specs.declared.event.Event.TheVariants.{Restart}
+use Rattle.stateful_exec.specs.Workings.{Workings}
+use Rattle.stateful_register.specs.Register.{RegisterStands}
+use Rattle.stateful_register.specs.declared.register.Register.{Register}
+use Rattle.stateful_processing.specs.Causes.{FaultsRule}
+use Rattle.stateful_processing.specs.Intake.{Counts, TakesIn, FaultsIntake}
+use Rattle.stateful_processing.specs.Moments.{Moment}
+use Rattle.stateful_processing.specs.Opening.{FaultsOpening}
+use Rattle.stateful_processing.specs.Rules.{Along}
+use Rattle.stateful_processing.specs.declared.error.StepError.{StepError}
+use Rattle.stateful_processing.specs.declared.error.StepError.TheVariants.{BadEvent, Failed, OutOfMemory}
+use Rattle.stateful_core.specs.Machine.{numbered, is_restart}
+
+-- how often the application has failed, and the database of each number
+pub record Tally : Type 0 where
+  pub application : ℕ
+  pub databases : ℕ → ℕ
+
+abbrev pub tally : ℕ → (ℕ → ℕ) → Tally
+tally application databases = record { application = application; databases = databases }
+
+-- no count has fallen
+pub record HasNotFallen (before now : Tally) : Type 0 where
+  pub application : before.application ≤ now.application
+  pub databases : (i : ℕ) → before.databases i ≤ now.databases i
+
+module _ {B C I P R D H G U : Type 0} (w : Workings B C I P R D H G U) (stored : ℕ → Option (Named B)) (provider : P) where
+  -- Rules went, one after another, and the next one that could go didn't: no count had fallen before it.
+  pub record FaultsSettling (start «end» : Tally) (new : w.kind.Members) (m : Moment w) (e : StepError) : Type 0 where
+    pub reached : Moment w
+    pub along : Along w stored provider m reached
+    pub before : Tally
+    pub later : HasNotFallen start before
+    pub fault : FaultsRule w stored (Rose before.application «end».application) before.databases «end».databases new reached e
+
+  -- The event wasn't taken in; or it was, and then something that could go on didn't; or memory ran out.
+  pub data FaultsPlay (counts : Counts R D H) (start «end» : Tally) (new : w.kind.Members) (m : Moment w) (event : Event B C I) (e : StepError) : Type 0 where
+    memory : e ≡ OutOfMemory → FaultsPlay counts start «end» new m event e
+    taking : FaultsIntake w stored counts (Rose start.application «end».application) start.databases «end».databases new m e event
+        → FaultsPlay counts start «end» new m event e
+    going : {taken : Moment w} {between : Tally} → TakesIn w stored counts m taken event → HasNotFallen start between
+        → FaultsSettling between «end» new taken e → FaultsPlay counts start «end» new m event e
+
+  -- why what an event does isn't done
+  abbrev pub FaultsStep : Counts R D H → (start «end» : Tally) → w.kind.Members → Moment w → Event B C I → StepError → Type 0
+  FaultsStep counts start «end» new m (Restart floor keep) e = FaultsOpening w stored floor keep start.databases «end».databases m.members new e
+  FaultsStep counts start «end» new m event e = FaultsPlay counts start «end» new m event e
+
+  -- An event is refused where memory ran out; where the machine has failed and the event isn't a restart; where the event may
+  -- not come; and where what it does isn't done.
+  pub data IsCause (counts : Counts R D H) (failed : Bool) (register : Register) (event : Event B C I) (start «end» : Tally) (new : w.kind.Members) (m : Moment w) (e : StepError) : Type 0 where
+    memory : e ≡ OutOfMemory → IsCause counts failed register event start «end» new m e
+    failed_before : e ≡ Failed → failed ≡ true → is_restart event ≡ false → IsCause counts failed register event start «end» new m e
+    unlawful : e ≡ BadEvent
+        → ((p : Past B C I) → RegisterStands (numbered w.kind.count) p register → m.loop.up ≡ not (is_down p) → may_come (numbered w.kind.count) p event ≡ false)
+        → IsCause counts failed register event start «end» new m e
+    fault : FaultsStep counts start «end» new m event e → IsCause counts failed register event start «end» new m e

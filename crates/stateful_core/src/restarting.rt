@@ -1,0 +1,59 @@
+//! A restart.
+
+ghost use Rattle.std.specs.Prelude.{◌≡◌, ◌≤◌, [], ℕ, OnOk, IfErr};
+ghost use Rattle.stateful_exec.specs.Starting.{Rises};
+ghost use Rattle.stateful_processing.specs.Moments.{executing, moment};
+ghost use Rattle.stateful_processing.specs.Opening.{FaultsOpening};
+ghost use Rattle.stateful_processing.specs.Sound.{Sound};
+ghost use Rattle.stateful_core.specs.Steps.{Restarts};
+
+use crate::stopping::end_work;
+use stateful_db::{Application, DatabaseSet};
+use stateful_exec::{Handler, Worked};
+use stateful_history::{Event, Mark};
+use stateful_processing::{ProcessingOf, StepError, clear, open};
+use stateful_register::Register;
+use stateful_types::{BlockStore, Floor};
+
+/// Ends all that is live, drops what goes on, and opens the databases on what a crash has left of them.
+pub(crate) fn restart<A: Application + Drop, S: BlockStore<A::Block>>(
+    config: &<A::Databases as DatabaseSet>::Config,
+    handler: &mut Handler<A>,
+    processing: &mut ProcessingOf<A>,
+    register: &Register,
+    databases: &mut A::Databases,
+    store: &S,
+    event: &Event<A::Block, A::Context, A::Input>,
+    floor: &Floor,
+    keep: &[usize],
+    marks: &mut Vec<Mark<A::Block>>,
+) -> Result<(), StepError>
+    requires none_away { A.Databases.kind.NoneAway (A.Databases.members databases.old) }
+    ensures ok { OnOk result (let w = ⟦<A as Worked>⟧.workings in
+        Restarts w (S.stored store.now) register.now event.now floor.now keep.now
+        (moment w (executing handler.old) processing.old
+        (A.Databases.members databases.old) (A.Databases.next databases.old) marks.old.items)
+        (moment w (executing handler.new) processing.new
+        (A.Databases.members databases.new) (A.Databases.next databases.new) marks.new.items)) }
+    ensures sound { OnOk result (let w = ⟦<A as Worked>⟧.workings in Sound w
+        (moment w (executing handler.new) processing.new
+        (A.Databases.members databases.new) (A.Databases.next databases.new) marks.new.items)) }
+    ensures fault { IfErr result (FaultsOpening ⟦<A as Worked>⟧.workings (S.stored store.now)
+        floor.now keep.now (A.Databases.counted databases.old)
+        (A.Databases.counted databases.new) (A.Databases.members databases.old)
+        (A.Databases.members databases.new)) }
+    ensures other { IfErr result (λ e. e ≡ StepError.BadEvent → ⊥) }
+    ensures none_away { A.Databases.kind.NoneAway (A.Databases.members databases.new) }
+    ensures later { (n : ℕ)
+        → A.Databases.counted databases.old n ≤ A.Databases.counted databases.new n }
+    ensures numbers { Rises handler.old.state handler.new.state }
+    ensures application { handler.new.application ≡ handler.old.application }
+    ensures barrier { processing.old.next_barrier ≤ processing.new.next_barrier }
+{
+    end_work::<A>(register, event, marks)?;
+    clear(handler, processing);
+    open(
+        config, handler, processing, databases, store, floor, keep, marks,
+    )?;
+    Ok(())
+}
