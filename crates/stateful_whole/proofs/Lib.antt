@@ -1,0 +1,14 @@
+pub mod Unmarked
+pub mod WorkEnds
+pub mod StaysUp
+pub mod Unbroken
+pub mod StartRules
+pub mod OpensQuiet
+pub mod LiveFlushes
+pub mod Stepping
+pub mod Playing
+pub mod Restarted
+pub mod StepStands
+pub mod StoresBefore
+pub mod StepsStand
+pub mod HistoryStands

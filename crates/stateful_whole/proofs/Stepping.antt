@@ -1,0 +1,110 @@
+-- Put together: what stands behind an event and some marks is what stands behind the step that made them.
+use Rattle.std.proofs.Common.{◌≡◌, ◌∷◌, [], ℕ, Bool, true, false, not, ◌&&◌, if◌then◌else◌, List, Option, Some, refl, sym, ap, ◌∙◌, subst}
+use Rattle.stateful_types.specs.Names.{Named}
+use Rattle.stateful_history.specs.Canonical.{pruned_below}
+use Rattle.stateful_history.specs.Holding.{Holds}
+use Rattle.stateful_history.specs.Joined.{TrueIsEarned}
+use Rattle.stateful_history.specs.Live.{may_come, names_live}
+use Rattle.stateful_history.specs.Opening.{is_down, opens, held_or, base_after}
+use Rattle.stateful_history.specs.Past.{Past, Came, EachMark, after, after_entry}
+use Rattle.stateful_history.specs.Prunes.{PruneRule, PrunedIsDue}
+use Rattle.stateful_history.specs.Restarts.{OpenedIsStored}
+use Rattle.stateful_history.specs.Stops.{IsRestart, NothingLive, StopsClean, StartsClean, EndsStopped}
+use Rattle.stateful_history.specs.declared.event.Event.{Event}
+use Rattle.stateful_history.specs.declared.event.Event.TheVariants.{Restart}
+use Rattle.stateful_history.specs.declared.mark.Mark.{Mark}
+use Rattle.stateful_exec.specs.Workings.{Workings}
+use Rattle.stateful_standing.specs.Setting.{setting}
+use Rattle.stateful_standing.proofs.EarnedJudged.{IsStoredNow}
+use Rattle.stateful_keeping.specs.Down.{IsEmpty, IsCounted}
+use Rattle.stateful_keeping.specs.Durability.{IsDurablySaid}
+use Rattle.stateful_keeping.specs.Stands.{IsUpAt}
+use Rattle.stateful_processing.specs.Moments.{Moment}
+use Rattle.stateful_processing.specs.Rules.{Quiet}
+use Rattle.stateful_whole.specs.StepBehind.{StepBehind}
+use Rattle.stateful_whole.proofs.Unmarked.{Quiet-marks, IsCounted-marks, IsUpAt-marks}
+
+first_of : (a b : Bool) → (a && b) ≡ true → a ≡ true
+first_of true b e = refl
+first_of false b e = e
+
+not_true : (a : Bool) → not a ≡ true → a ≡ false
+not_true true e = sym e
+not_true false e = refl
+
+module _ {B C I : Type 0} where
+  -- an event that may come, and is no restart, comes where the machine isn't down
+  pub may_come-up : (count : ℕ) (p : Past B C I) (e : Event B C I) → (IsRestart e → ⊥) → may_come count p e ≡ true → is_down p ≡ false
+  may_come-up count p (Restart floor keep) on may = absurd (on tt)
+  may_come-up count p e on may = not_true (is_down p) (first_of (not (is_down p)) (names_live count p e) may)
+
+  -- it leaves whether the machine is down
+  pub is_down-came : (p : Past B C I) (e : Event B C I) → (IsRestart e → ⊥) → is_down (Came e ∷ p) ≡ is_down p
+  is_down-came p (Restart floor keep) on = absurd (on tt)
+  is_down-came p e on = refl
+
+-- the base of a history stays where no mark opens
+pub base-same : {B X S : Type 0} (base : S) (marks : List (Mark B)) (point : Option (X × S)) → opens marks ≡ false
+    → base ≡ base_after base marks point
+base-same base marks point none = sym (ap (λ (o : Bool). if o then held_or base point else base) none)
+
+-- and where one does it is what the databases hold
+pub base-opened : {B X S : Type 0} (base : S) (marks : List (Mark B)) (point : Option (X × S)) (at : X × S) → opens marks ≡ true
+    → point ≡ Some at → at.1 ≡ base_after base marks point
+base-opened {B} {X} {S} base marks point at some is =
+    sym (ap (λ (o : Bool). if o then held_or base point else base) some ∙ ap (λ (x : Option (X × S)). held_or base x) is)
+
+module _ {B C I P R D H G U : Type 0} (w : Workings B C I P R D H G U) (stored : ℕ → Option (Named B)) (base : w.States)
+    (p : Past B C I) (event : Event B C I) (now : Moment w) where
+  abbrev q : Past B C I
+  q = Came event ∷ p
+
+  module _ (next : w.States) (marks : List (Mark B)) where
+    -- What stands behind the event and these marks.
+    pub record PartsStand : Type 0 where
+      pub base_is : next ≡ base_after base marks (w.kind.point now.members)
+      pub earned : EachMark (TrueIsEarned (setting w stored) next) (Came event ∷ p) marks
+      pub said : EachMark (IsDurablySaid w) (Came event ∷ p) marks
+      pub due : (rule : Option (PruneRule w.Targets)) → EachMark (PrunedIsDue (setting w stored) rule) (Came event ∷ p) marks
+      pub opened : EachMark (OpenedIsStored (setting w stored) event) (Came event ∷ p) marks
+      pub clean_start : EachMark StartsClean (Came event ∷ p) marks
+      pub clean_stop : EachMark (StopsClean event marks) (Came event ∷ p) marks
+      pub ends_stopped : EndsStopped event marks
+      pub holds : Holds (setting w stored) w.kind next (after_entry p event marks) now.members
+      pub pruned : pruned_below (after_entry p event marks) ≡ pruned_below p
+      pub up_is : now.loop.up ≡ not (is_down (after_entry p event marks))
+      pub counted : IsCounted w (after_entry p event marks) now
+      pub up : now.loop.up ≡ true → IsUpAt w stored next (after_entry p event marks) now × Quiet w now
+      pub down : now.loop.up ≡ false → NothingLive (after_entry p event marks)
+      pub empty : now.loop.up ≡ false → IsEmpty w now
+
+  -- It stands behind the step, where these are its marks.
+  pub StepBehind-of : (next : w.States) (marks : List (Mark B)) → marks ≡ now.marks → PartsStand next marks → StepBehind w stored base p event now
+  StepBehind-of next marks are parts =
+      let k : PartsStand next now.marks = subst (λ (ms : List (Mark B)). PartsStand next ms) are parts in
+      record {
+        base_behind = next;
+        base_is = k.base_is;
+        earned = k.earned;
+        said = k.said;
+        due = k.due;
+        opened = k.opened;
+        clean_start = k.clean_start;
+        clean_stop = k.clean_stop;
+        ends_stopped = k.ends_stopped;
+        holds = k.holds;
+        pruned = k.pruned;
+        stands = record {
+          unmarked = refl;
+          up_is = k.up_is;
+          counted = IsCounted-marks w now [] (after q now.marks) k.counted;
+          up = λ up. (IsUpAt-marks w now [] stored next (after q now.marks) (k.up up).0, Quiet-marks w now [] (k.up up).1);
+          down = k.down;
+        };
+        empty = k.empty;
+      }
+
+  -- the store is as it was
+  pub IsStoredNow-step : (stored_now : ℕ → Option (Named B)) → IsStoredNow stored p stored_now → StepBehind w stored base p event now
+      → IsStoredNow stored (after_entry p event now.marks) stored_now
+  IsStoredNow-step stored_now is b h = let same = b.pruned in rw same (is h)
