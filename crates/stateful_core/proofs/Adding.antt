@@ -17,11 +17,13 @@ use Rattle.stateful_core.specs.Machine.{numbered}
 use Rattle.stateful_core.specs.Steps.{IsStep}
 
 -- the events of a history, one more
-events-append : {B C I : Type 0} (history : List (Entry B C I)) (entry : Entry B C I) → map (λ (e : Entry B C I). e.event) (history ++ entry ∷ []) ≡ map (λ (e : Entry B C I). e.event) history ++ entry.event ∷ []
+events-append : {B C I : Type 0} (history : List (Entry B C I)) (entry : Entry B C I) → map (λ (e : Entry B C I). e.event)
+    (history ++ entry ∷ []) ≡ map (λ (e : Entry B C I). e.event) history ++ entry.event ∷ []
 events-append [] entry = refl
 events-append {B} {C} {I} (x ∷ history) entry = ap (λ (l : List (Event B C I)). x.event ∷ l) (events-append history entry)
 
-pub events-push : {B C I : Type 0} (history longer : List (Entry B C I)) (event : Event B C I) (marks : List (Mark B)) (events : List (Event B C I)) → longer ≡ history ++ record { event = event; marks = marks } ∷ []
+pub events-push : {B C I : Type 0} (history longer : List (Entry B C I)) (event : Event B C I) (marks : List (Mark B)) (events : List (Event B C I))
+    → longer ≡ history ++ record { event = event; marks = marks } ∷ []
     → map (λ (e : Entry B C I). e.event) history ≡ events → map (λ (e : Entry B C I). e.event) longer ≡ events ++ event ∷ []
 events-push {B} {C} {I} history longer event marks events adds is =
     ap (λ (l : List (Entry B C I)). map (λ (e : Entry B C I). e.event) l) adds
@@ -55,11 +57,14 @@ module _ {B C I P R D H G U : Type 0} (w : Workings B C I P R D H G U) (stored :
   )
 
 -- the event behind those that were taken in
-pub event_at : {X : Type 0} (done rest left all taken : List X) (x : X) → done ++ rest ≡ all → rest ≡ x ∷ left → taken ≡ done → all ≡ taken ++ x ∷ left
+pub event_at : {X : Type 0} (done rest left all taken : List X) (x : X) → done ++ rest ≡ all → rest ≡ x ∷ left → taken ≡ done → all ≡ taken
+    ++ x ∷ left
 event_at {X} done rest left all taken x e is t = sym e ∙ (ap (λ (l : List X). done ++ l) is ∙ ap (λ (d : List X). d ++ x ∷ left) (sym t))
 
 -- a register that stands for a history an entry longer
-pub registered-longer : {B C I : Type 0} (count : ℕ) (history longer : List (Entry B C I)) (entry : Entry B C I) (register : Register) → longer ≡ history ++ entry ∷ []
+pub registered-longer : {B C I : Type 0} (count : ℕ) (history longer : List (Entry B C I)) (entry : Entry B C I) (register : Register)
+    → longer ≡ history ++ entry ∷ []
     → RegisterStands count (after_entry (after_all [] history) entry.event entry.marks) register → RegisterStands count (after_all [] longer) register
 registered-longer {B} {C} {I} count history longer entry register is stands =
-    subst (λ (p : Past B C I). RegisterStands count p register) (sym (ap (λ (h : List (Entry B C I)). after_all [] h) is ∙ after_all-push [] history entry)) stands
+    subst (λ (p : Past B C I). RegisterStands count p register)
+    (sym (ap (λ (h : List (Entry B C I)). after_all [] h) is ∙ after_all-push [] history entry)) stands

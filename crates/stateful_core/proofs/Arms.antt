@@ -19,7 +19,8 @@ use Rattle.stateful_core.specs.Faults.{Tally, IsCause, failed_before, unlawful}
 use Rattle.stateful_core.specs.Machine.{numbered, is_restart}
 
 -- an event that is no restart
-pub other_event : {B C I : Type 0} (event : Event B C I) → ((floor : Floor) (keep : Items ℕ) → event ≡ Restart floor keep → ⊥) → is_restart event ≡ false
+pub other_event : {B C I : Type 0} (event : Event B C I) → ((floor : Floor) (keep : Items ℕ) → event ≡ Restart floor keep → ⊥)
+    → is_restart event ≡ false
 other_event (Verify t ancestry) other = refl
 other_event (Prepare t context ancestry input) other = refl
 other_event (Propose t context ancestry input) other = refl
@@ -35,7 +36,8 @@ other_event (Restart floor keep) other = absurd (other floor keep refl)
 
 module _ {B C I P R D H G U : Type 0} (w : Workings B C I P R D H G U) (stored : ℕ → Option (Named B)) (provider : P) (counts : Counts R D H) where
   -- an event that isn't taken on
-  pub refused_at_once : (failed : Bool) (register : Register) (event : Event B C I) (start «end» : Tally) (new : w.kind.Members) (m : Moment w) (e : StepError)
+  pub refused_at_once : (failed : Bool) (register : Register) (event : Event B C I) (start «end» : Tally) (new : w.kind.Members) (m : Moment w)
+      (e : StepError)
       → (e ≡ Failed) ⊎ (e ≡ BadEvent) → (e ≡ Failed → (failed ≡ true) × (is_restart event ≡ false))
       → (e ≡ BadEvent → (p : Past B C I) → RegisterStands (numbered w.kind.count) p register → m.loop.up ≡ not (is_down p)
       → may_come (numbered w.kind.count) p event ≡ false)

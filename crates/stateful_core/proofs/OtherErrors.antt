@@ -48,23 +48,28 @@ module _ {B C I P R D H G U : Type 0} (w : Workings B C I P R D H G U) (stored :
     rule_other m e (rule.running fin begun awaits unknown via) bad = via_other _ e via bad
     rule_other m e (rule.advancing fin has via) bad = via_other _ e via bad
     rule_other m e (rule.applying fin has faults) bad = subst (λ (x : StepError). FaultsApply w.kind before now new m.members x) bad faults
-    rule_other m e (rule.covering fin advanced captured needed faults) bad = subst (λ (x : StepError). FaultsBarrier w.kind before now new m.loop.next_barrier x) bad faults
+    rule_other m e (rule.covering fin advanced captured needed faults) bad = subst
+        (λ (x : StepError). FaultsBarrier w.kind before now new m.loop.next_barrier x) bad faults
     rule_other m e (rule.observing fin advanced captured via) bad = via_other _ e via bad
     rule_other m e (rule.ending fin advanced captured via) bad = via_other _ e via bad
-    rule_other m e (rule.beginning idle needed faults) bad = subst (λ (x : StepError). FaultsBarrier w.kind before now new m.loop.next_barrier x) bad faults
+    rule_other m e (rule.beginning idle needed faults) bad = subst
+        (λ (x : StepError). FaultsBarrier w.kind before now new m.loop.next_barrier x) bad faults
     rule_other m e (rule.building calm first via) bad = via_other _ e via bad
     rule_other m e (rule.taking {x = x} {mid = mid} calm takes faults) bad = message_other mid x e faults bad
 
-    intake_other : (counts : Counts R D H) (m : Moment w) (e : StepError) (event : Event B C I) → FaultsIntake w stored counts rose before now new m e event → e ≡ BadEvent → ⊥
+    intake_other : (counts : Counts R D H) (m : Moment w) (e : StepError) (event : Event B C I)
+        → FaultsIntake w stored counts rose before now new m e event → e ≡ BadEvent → ⊥
     intake_other counts m e event (intake.memory is) bad = cc
     intake_other counts m e event (intake.fetching via) bad = via_other _ e via bad
     intake_other counts m e event (intake.building builds via) bad = via_other _ e via bad
     intake_other counts m e event (intake.hooking hooks via) bad = via_other _ e via bad
     intake_other counts m e event (intake.running not_built not_hooked via) bad = via_other _ e via bad
-    intake_other counts m e event (intake.flushing {k = k} {i = i} faults) bad = subst (λ (x : StepError). FaultsFlush w.kind before now new m.loop.barriers k i x) bad faults
+    intake_other counts m e event (intake.flushing {k = k} {i = i} faults) bad = subst
+        (λ (x : StepError). FaultsFlush w.kind before now new m.loop.barriers k i x) bad faults
 
   -- so it is where an event isn't taken in, or something that could go on behind it didn't
-  pub play_other : (provider : P) (counts : Counts R D H) (start «end» : Tally) (new : w.kind.Members) (m : Moment w) (event : Event B C I) (e : StepError)
+  pub play_other : (provider : P) (counts : Counts R D H) (start «end» : Tally) (new : w.kind.Members) (m : Moment w) (event : Event B C I)
+      (e : StepError)
       → FaultsPlay w stored provider counts start «end» new m event e → e ≡ BadEvent → ⊥
   play_other provider counts start last new m event e (memory is) bad = cc
   play_other provider counts start last new m event e (taking faults) bad = intake_other _ _ _ new counts m e event faults bad

@@ -15,7 +15,8 @@ use Rattle.stateful_core.specs.Faults.{Tally, HasNotFallen, IsCause}
 use Rattle.stateful_core.specs.Machine.{numbered}
 use Rattle.stateful_core.specs.Steps.{IsStep}
 
-module _ {B C I P R D H G U : Type 0} (w : Workings B C I P R D H G U) (stored : ℕ → Option (Named B)) (provider : P) (counts : Counts R D H) where
+module _ {B C I P R D H G U : Type 0} (w : Workings B C I P R D H G U) (stored : ℕ → Option (Named B))
+    (provider : P) (counts : Counts R D H) where
   -- From one moment behind a past on, the entries were taken in one after another: each event may come behind those before
   -- it, its entry has the marks of its step, and the register stood for those before it. And so on to the moment behind the
   -- last one.
@@ -32,7 +33,8 @@ module _ {B C I P R D H G U : Type 0} (w : Workings B C I P R D H G U) (stored :
 
   -- The event that was refused behind a history, and why: the machine before it, to which the entries led from the first
   -- moment on, and the cause that it had. Counts have not fallen since the start.
-  pub record IsRefused (first : Moment w) (history : List (Entry B C I)) (event : Event B C I) (e : StepError) (m : w.kind.Members) (start «end» : Tally) : Type 0 where
+  pub record IsRefused (first : Moment w) (history : List (Entry B C I)) (event : Event B C I) (e : StepError)
+      (m : w.kind.Members) (start «end» : Tally) : Type 0 where
     pub register : Register
     pub old : Moment w
     pub steps : Steps [] first history old

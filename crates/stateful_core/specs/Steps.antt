@@ -42,19 +42,22 @@ module _ {B C I P R D H G U : Type 0} (w : Workings B C I P R D H G U) (stored :
     pub cleared : IsCleared w (record m { marks = now.marks }) now
 
   -- An event is taken in, and then goes on what can.
-  pub record Advances (provider : P) (counts : Counts R D H) (event : Event B C I) (m now : Moment w) : Type 0 where
+  pub record Advances (provider : P) (counts : Counts R D H) (event : Event B C I)
+      (m now : Moment w) : Type 0 where
     pub taken : Moment w
     pub takes : TakesIn w stored counts m taken event
     pub settles : Settles provider taken now
 
   -- A machine that isn't up any more behind that stops.
-  pub record Plays (provider : P) (counts : Counts R D H) (register : Register) (event : Event B C I) (m now : Moment w) : Type 0 where
+  pub record Plays (provider : P) (counts : Counts R D H) (register : Register) (event : Event B C I)
+      (m now : Moment w) : Type 0 where
     pub settled : Moment w
     pub advances : Advances provider counts event m settled
     pub ends : ((settled.loop.up ≡ true) × (now ≡ settled)) ⊎ Stops register event settled now
 
   -- A restart: all live work ends, and the databases open on what a crash has left of them.
-  pub record Restarts (register : Register) (event : Event B C I) (floor : Floor) (keep : List ℕ) (m now : Moment w) : Type 0 where
+  pub record Restarts (register : Register) (event : Event B C I) (floor : Floor) (keep : List ℕ)
+      (m now : Moment w) : Type 0 where
     pub cleared : Moment w
     pub work : EndsWork w.kind.count register event m.marks cleared.marks
     pub clears : IsCleared w (record m { marks = cleared.marks }) cleared
@@ -62,5 +65,6 @@ module _ {B C I P R D H G U : Type 0} (w : Workings B C I P R D H G U) (stored :
 
   -- what an event does
   abbrev pub IsStep : P → Counts R D H → Register → Event B C I → (m now : Moment w) → Type 0
-  IsStep provider counts register (Restart floor keep) m now = Restarts register (Restart floor keep) floor keep m now
+  IsStep provider counts register (Restart floor keep) m now =
+      Restarts register (Restart floor keep) floor keep m now
   IsStep provider counts register event m now = Plays provider counts register event m now

@@ -38,8 +38,11 @@ loop-event-preserved g c =
       all = one_over c.loop-event.yielded _ _ _ _ i.all c.in-Some.ensures.steps.0;
       events = events-push was.history.items _ c.in-Some.event adds.0 _ adds.1 i.events;
       steps = rw adds.1
-          (Steps-push w (g.S.BlockStore.stored c.args.store.now) c.args.stateful.provider _ [] _ (moment w was.stateful.execution was.stateful.loop (D.members was.databases) (D.next was.databases) []) was.history.items c.in-Some.event was.stateful.register
-          (moment w now.stateful.execution now.stateful.loop (D.members now.databases) (D.next now.databases) adds.0) i.steps registers.0 i.registered stepped);
+          (Steps-push w (g.S.BlockStore.stored c.args.store.now) c.args.stateful.provider _ [] _
+          (moment w was.stateful.execution was.stateful.loop (D.members was.databases)
+          (D.next was.databases) []) was.history.items c.in-Some.event was.stateful.register
+          (moment w now.stateful.execution now.stateful.loop (D.members now.databases)
+          (D.next now.databases) adds.0) i.steps registers.0 i.registered stepped);
       registered = registers.1;
       safe = c.in-Ok.ensures.safe;
       store = c.in-Ok.ensures.same.0 ∙ i.store;
@@ -69,4 +72,5 @@ returns-in-Err-clause-refused g c =
     )
 
 pub returns-clause-all : goal.returns-clause-all
-returns-clause-all g c = c.loop-event.invariant.events ∙ none_over c.loop-event.yielded _ _ _ c.loop-event.invariant.all c.loop-event.event-iterator.rest.ok.0 c.in-None.ensures.steps.0
+returns-clause-all g c = c.loop-event.invariant.events
+    ∙ none_over c.loop-event.yielded _ _ _ c.loop-event.invariant.all c.loop-event.event-iterator.rest.ok.0 c.in-None.ensures.steps.0

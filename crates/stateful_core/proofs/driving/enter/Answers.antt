@@ -9,6 +9,7 @@ returns-clause-registers g c = λ registered.
     let marks : c.from_vec.result ≡ c.in_ok-marks.marks.items = search rules in
     let stepped = c.in_ok-marks.ensures.registers (after_all [] c.args.driven.now.history.items) registered in (
       stepped.0,
-      registered-longer _ c.args.driven.now.history.items _ (record { event = c.in_ok-kept.kept; marks = c.from_vec.result }) _ (c.in_ok-push.ensures.items ∙ rw c.in_ok-reserve.ensures.items refl)
+      registered-longer _ c.args.driven.now.history.items _ (record { event = c.in_ok-kept.kept; marks = c.from_vec.result }) _
+          (c.in_ok-push.ensures.items ∙ rw c.in_ok-reserve.ensures.items refl)
           (rw (event, marks) stepped.1),
     )

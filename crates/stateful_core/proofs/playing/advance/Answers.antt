@@ -10,13 +10,15 @@ pub settle-requires-clause-none_away : goal.settle-requires-clause-none_away
 settle-requires-clause-none_away g c =
     let D = g.A.Databases.DatabaseSet in
     let w = workings g.A.Block.Block.header g.A.Context.Rounded.round_of g.A.Application.works D.kind D.shows in
-    (taken_in_sound w g.met.A.Databases.DatabaseSet.laws (g.S.BlockStore.stored c.args.store.now) _ _ _ c.args.event.now c.in_ok-take_in.ensures.ok c.requires.up).none_away
+    (taken_in_sound w g.met.A.Databases.DatabaseSet.laws
+    (g.S.BlockStore.stored c.args.store.now) _ _ _ c.args.event.now c.in_ok-take_in.ensures.ok c.requires.up).none_away
 
 pub settle-requires-clause-up : goal.settle-requires-clause-up
 settle-requires-clause-up g c =
     let D = g.A.Databases.DatabaseSet in
     let w = workings g.A.Block.Block.header g.A.Context.Rounded.round_of g.A.Application.works D.kind D.shows in
-    (taken_in_sound w g.met.A.Databases.DatabaseSet.laws (g.S.BlockStore.stored c.args.store.now) _ _ _ c.args.event.now c.in_ok-take_in.ensures.ok c.requires.up).up
+    (taken_in_sound w g.met.A.Databases.DatabaseSet.laws
+    (g.S.BlockStore.stored c.args.store.now) _ _ _ c.args.event.now c.in_ok-take_in.ensures.ok c.requires.up).up
 
 pub returns-clause-ok : goal.returns-clause-ok
 returns-clause-ok g c =
@@ -24,7 +26,8 @@ returns-clause-ok g c =
     let w = workings g.A.Block.Block.header g.A.Context.Rounded.round_of g.A.Application.works D.kind D.shows in
     on_ok_weaker c.settle.result
     (λ settles. record {
-      taken = moment w (executing c.take_in.new.handler) c.take_in.new.processing (D.members c.take_in.new.databases) (D.next c.take_in.new.databases) c.take_in.new.marks.items;
+      taken = moment w (executing c.take_in.new.handler) c.take_in.new.processing (D.members c.take_in.new.databases)
+          (D.next c.take_in.new.databases) c.take_in.new.marks.items;
       takes = c.in_ok-take_in.ensures.ok;
       settles = settles;
     }) c.settle.ensures.ok
@@ -32,4 +35,5 @@ returns-clause-ok g c =
 pub returns-clause-fault : goal.returns-clause-fault
 returns-clause-fault g c =
     on_err c.settle.result _ _ c.settle.ensures.fault
-    (λ e fault. going c.in_ok-take_in.ensures.ok (record { application = c.in_ok-take_in.ensures.application; databases = c.in_ok-take_in.ensures.later }) fault)
+    (λ e fault. going c.in_ok-take_in.ensures.ok
+    (record { application = c.in_ok-take_in.ensures.application; databases = c.in_ok-take_in.ensures.later }) fault)

@@ -18,7 +18,8 @@ returns-in_ok-stop-clause-ok g c =
     let D = g.A.Databases.DatabaseSet in
     let w = workings g.A.Block.Block.header g.A.Context.Rounded.round_of g.A.Application.works D.kind D.shows in
     record {
-      settled = moment w (executing c.advance.new.handler) c.advance.new.processing (D.members c.advance.new.databases) (D.next c.advance.new.databases) c.advance.new.marks.items;
+      settled = moment w (executing c.advance.new.handler) c.advance.new.processing (D.members c.advance.new.databases)
+          (D.next c.advance.new.databases) c.advance.new.marks.items;
       advances = c.in_ok-advance.ensures.ok;
       ends = inr (record {
         down = c.if-not-processing.true;
@@ -33,7 +34,8 @@ pub returns-in_ok-stop-clause-sound : goal.returns-in_ok-stop-clause-sound
 returns-in_ok-stop-clause-sound g c =
     let D = g.A.Databases.DatabaseSet in
     let w = workings g.A.Block.Block.header g.A.Context.Rounded.round_of g.A.Application.works D.kind D.shows in
-    cleared_sound w _ _ (c.in_ok-stop.ensures.cleared (D.members c.advance.new.databases) (D.next c.advance.new.databases) c.stop.new.marks.items) c.in_ok-advance.ensures.sound.none_away
+    cleared_sound w _ _ (c.in_ok-stop.ensures.cleared (D.members c.advance.new.databases)
+    (D.next c.advance.new.databases) c.stop.new.marks.items) c.in_ok-advance.ensures.sound.none_away
 
 pub returns-in_ok-stop-clause-numbers : goal.returns-in_ok-stop-clause-numbers
 returns-in_ok-stop-clause-numbers g c =
@@ -54,7 +56,8 @@ returns-else-not-processing-clause-ok g c =
     let D = g.A.Databases.DatabaseSet in
     let w = workings g.A.Block.Block.header g.A.Context.Rounded.round_of g.A.Application.works D.kind D.shows in
     record {
-      settled = moment w (executing c.advance.new.handler) c.advance.new.processing (D.members c.advance.new.databases) (D.next c.advance.new.databases) c.advance.new.marks.items;
+      settled = moment w (executing c.advance.new.handler) c.advance.new.processing (D.members c.advance.new.databases)
+          (D.next c.advance.new.databases) c.advance.new.marks.items;
       advances = c.in_ok-advance.ensures.ok;
       ends = inl (c.if-not-processing.false, refl);
     }

@@ -23,7 +23,8 @@ returns-clause-ok g c =
     let D = g.A.Databases.DatabaseSet in
     let w = workings g.A.Block.Block.header g.A.Context.Rounded.round_of g.A.Application.works D.kind D.shows in
     record {
-      cleared = moment w (executing c.clear.new.handler) c.clear.new.processing (D.members c.args.databases.now) (D.next c.args.databases.now) c.end_work.new.marks.items;
+      cleared = moment w (executing c.clear.new.handler) c.clear.new.processing (D.members c.args.databases.now)
+          (D.next c.args.databases.now) c.end_work.new.marks.items;
       work = c.in_ok-end_work.ensures;
       clears = c.clear.ensures.cleared (D.members c.args.databases.now) (D.next c.args.databases.now) c.end_work.new.marks.items;
       opens = c.in_ok-open.ensures.ok;
@@ -34,7 +35,8 @@ returns-clause-sound g c =
     let D = g.A.Databases.DatabaseSet in
     let w = workings g.A.Block.Block.header g.A.Context.Rounded.round_of g.A.Application.works D.kind D.shows in
     let cleared = c.clear.ensures.cleared (D.members c.args.databases.now) (D.next c.args.databases.now) [] in
-    opens_sound w g.met.A.Databases.DatabaseSet.laws (g.S.BlockStore.stored c.args.store.now) c.args.floor.now c.args.keep.now _ _ c.in_ok-open.ensures.ok cleared.barriers cleared.front.0
+    opens_sound w g.met.A.Databases.DatabaseSet.laws
+    (g.S.BlockStore.stored c.args.store.now) c.args.floor.now c.args.keep.now _ _ c.in_ok-open.ensures.ok cleared.barriers cleared.front.0
 
 pub returns-clause-numbers : goal.returns-clause-numbers
 returns-clause-numbers g c =

@@ -39,8 +39,10 @@ rules-smaller g c =
     let w = workings g.A.Block.Block.header g.A.Context.Rounded.round_of g.A.Application.works D.kind D.shows in
     let stored = g.S.BlockStore.stored c.args.store.now in
     let old = moment w (executing c.rules.handler) c.rules.processing (D.members c.rules.databases) (D.next c.rules.databases) c.rules.marks.items in
-    let new = moment w (executing c.go_on.new.handler) c.go_on.new.processing (D.members c.go_on.new.databases) (D.next c.go_on.new.databases) c.go_on.new.marks.items in
-    falls w stored c.args.provider old new (subst (λ (went : Bool). Goes w stored c.args.provider old new went) c.if-branch.true c.in_ok-go_on.ensures.ok) c.rules.invariant.sound
+    let new = moment w (executing c.go_on.new.handler) c.go_on.new.processing (D.members c.go_on.new.databases)
+    (D.next c.go_on.new.databases) c.go_on.new.marks.items in
+    falls w stored c.args.provider old new
+    (subst (λ (went : Bool). Goes w stored c.args.provider old new went) c.if-branch.true c.in_ok-go_on.ensures.ok) c.rules.invariant.sound
 
 pub rules-preserved : goal.rules-preserved
 rules-preserved g c =
@@ -48,7 +50,8 @@ rules-preserved g c =
     let w = workings g.A.Block.Block.header g.A.Context.Rounded.round_of g.A.Application.works D.kind D.shows in
     let stored = g.S.BlockStore.stored c.args.store.now in
     let old = moment w (executing c.rules.handler) c.rules.processing (D.members c.rules.databases) (D.next c.rules.databases) c.rules.marks.items in
-    let new = moment w (executing c.go_on.new.handler) c.go_on.new.processing (D.members c.go_on.new.databases) (D.next c.go_on.new.databases) c.go_on.new.marks.items in
+    let new = moment w (executing c.go_on.new.handler) c.go_on.new.processing (D.members c.go_on.new.databases)
+    (D.next c.go_on.new.databases) c.go_on.new.marks.items in
     let i = c.rules.invariant in
     let rule = subst (λ (went : Bool). Goes w stored c.args.provider old new went) c.if-branch.true c.in_ok-go_on.ensures.ok in
     let a = i.numbers in
@@ -59,7 +62,8 @@ rules-preserved g c =
       along = further i.along rule;
       sound = rule_sound w g.met.A.Databases.DatabaseSet.laws stored c.args.provider old new rule i.sound;
       numbers = (omega arith, omega arith);
-      later = HasNotFallen-further _ _ _ i.later (record { application = c.in_ok-go_on.ensures.application; databases = c.in_ok-go_on.ensures.later });
+      later = HasNotFallen-further _ _ _ i.later
+          (record { application = c.in_ok-go_on.ensures.application; databases = c.in_ok-go_on.ensures.later });
       barrier = omega arith;
     }
 
@@ -68,10 +72,13 @@ returns-clause-ok g c =
     let D = g.A.Databases.DatabaseSet in
     let w = workings g.A.Block.Block.header g.A.Context.Rounded.round_of g.A.Application.works D.kind D.shows in
     let stored = g.S.BlockStore.stored c.args.store.now in
-    let start = moment w (executing c.args.handler.now) c.args.processing.now (D.members c.args.databases.now) (D.next c.args.databases.now) c.args.marks.now.items in
+    let start = moment w (executing c.args.handler.now) c.args.processing.now (D.members c.args.databases.now)
+    (D.next c.args.databases.now) c.args.marks.now.items in
     let old = moment w (executing c.rules.handler) c.rules.processing (D.members c.rules.databases) (D.next c.rules.databases) c.rules.marks.items in
-    let new = moment w (executing c.go_on.new.handler) c.go_on.new.processing (D.members c.go_on.new.databases) (D.next c.go_on.new.databases) c.go_on.new.marks.items in
-    let over : Quiet w old × (new ≡ old) = subst (λ (went : Bool). Goes w stored c.args.provider old new went) c.if-branch.false c.in_ok-go_on.ensures.ok in
+    let new = moment w (executing c.go_on.new.handler) c.go_on.new.processing (D.members c.go_on.new.databases)
+    (D.next c.go_on.new.databases) c.go_on.new.marks.items in
+    let over : Quiet w old × (new ≡ old) = subst
+    (λ (went : Bool). Goes w stored c.args.provider old new went) c.if-branch.false c.in_ok-go_on.ensures.ok in
     record {
       along = subst (λ (m : Moment w). Along w stored c.args.provider start m) (sym over.1) c.rules.invariant.along;
       quiet = subst (λ (m : Moment w). Quiet w m) (sym over.1) over.0;
@@ -83,8 +90,10 @@ returns-clause-sound g c =
     let w = workings g.A.Block.Block.header g.A.Context.Rounded.round_of g.A.Application.works D.kind D.shows in
     let stored = g.S.BlockStore.stored c.args.store.now in
     let old = moment w (executing c.rules.handler) c.rules.processing (D.members c.rules.databases) (D.next c.rules.databases) c.rules.marks.items in
-    let new = moment w (executing c.go_on.new.handler) c.go_on.new.processing (D.members c.go_on.new.databases) (D.next c.go_on.new.databases) c.go_on.new.marks.items in
-    let over : Quiet w old × (new ≡ old) = subst (λ (went : Bool). Goes w stored c.args.provider old new went) c.if-branch.false c.in_ok-go_on.ensures.ok in
+    let new = moment w (executing c.go_on.new.handler) c.go_on.new.processing (D.members c.go_on.new.databases)
+    (D.next c.go_on.new.databases) c.go_on.new.marks.items in
+    let over : Quiet w old × (new ≡ old) = subst
+    (λ (went : Bool). Goes w stored c.args.provider old new went) c.if-branch.false c.in_ok-go_on.ensures.ok in
     subst (λ (m : Moment w). Sound w m) (sym over.1) c.rules.invariant.sound
 
 pub returns-clause-none_away : goal.returns-clause-none_away

@@ -22,5 +22,6 @@ returns-clause-safe g c =
     let w = workings g.A.Block.Block.header g.A.Context.Rounded.round_of g.A.Application.works D.kind D.shows in
     record {
       none_away = c.in_ok-act.ensures.none_away;
-      sound = λ works. Sound-kept w _ _ (record { anchor = refl; reached = refl; members = refl; up = refl; front = refl; durability = refl; barriers = refl }) c.in_ok-act.ensures.sound;
+      sound = λ works. Sound-kept w _ _
+          (record { anchor = refl; reached = refl; members = refl; up = refl; front = refl; durability = refl; barriers = refl }) c.in_ok-act.ensures.sound;
     }
