@@ -132,6 +132,8 @@ impl Block for BankBlock {
 
     ghost header = { block_header };
 
+    ghost context_of = { λ b. b.round };
+
     fn parent(&self) -> Digest {
         self.parent
     }

@@ -12,9 +12,9 @@ use Rattle.stateful_register.specs.Register.{RegisterStands}
 use Rattle.stateful_register.specs.declared.register.Register.{Register}
 use Rattle.stateful_processing.specs.Intake.{Counts}
 use Rattle.stateful_processing.specs.Moments.{Moment}
-use Rattle.stateful_core.specs.Driving.{Steps}
-use Rattle.stateful_core.specs.Machine.{numbered}
-use Rattle.stateful_core.specs.Steps.{IsStep}
+use Rattle.stateful_whole.specs.Entering.{Steps}
+use Rattle.stateful_whole.specs.Machine.{numbered}
+use Rattle.stateful_whole.specs.Steps.{IsStep}
 
 -- the events of a history, one more
 events-append : {B C I : Type 0} (history : List (Entry B C I)) (entry : Entry B C I) → map (λ (e : Entry B C I). e.event)

@@ -16,7 +16,7 @@ use Rattle.stateful_processing.specs.Moments.{Moment}
 use Rattle.stateful_processing.specs.declared.error.StepError.{StepError}
 use Rattle.stateful_processing.specs.declared.error.StepError.TheVariants.{BadEvent, Failed}
 use Rattle.stateful_core.specs.Faults.{Tally, IsCause, failed_before, unlawful}
-use Rattle.stateful_core.specs.Machine.{numbered, is_restart}
+use Rattle.stateful_whole.specs.Machine.{numbered, is_restart}
 
 -- an event that is no restart
 pub other_event : {B C I : Type 0} (event : Event B C I) → ((floor : Floor) (keep : Items ℕ) → event ≡ Restart floor keep → ⊥)

@@ -17,7 +17,7 @@ use Rattle.stateful_processing.specs.Opening.{FaultsOpening}
 use Rattle.stateful_processing.specs.Rules.{Along}
 use Rattle.stateful_processing.specs.declared.error.StepError.{StepError}
 use Rattle.stateful_processing.specs.declared.error.StepError.TheVariants.{BadEvent, Failed, OutOfMemory}
-use Rattle.stateful_core.specs.Machine.{numbered, is_restart}
+use Rattle.stateful_whole.specs.Machine.{numbered, is_restart}
 
 -- how often the application has failed, and the database of each number
 pub record Tally : Type 0 where

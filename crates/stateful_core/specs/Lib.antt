@@ -1,4 +1,3 @@
 pub mod Machine
-pub mod Steps
 pub mod Faults
 pub mod Driving

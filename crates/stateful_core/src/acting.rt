@@ -5,8 +5,8 @@ ghost use Rattle.stateful_exec.specs.Starting.{Rises};
 ghost use Rattle.stateful_processing.specs.Moments.{executing, moment};
 ghost use Rattle.stateful_processing.specs.Sound.{Sound};
 ghost use Rattle.stateful_core.specs.Faults.{tally, FaultsStep};
-ghost use Rattle.stateful_core.specs.Machine.{is_restart};
-ghost use Rattle.stateful_core.specs.Steps.{IsStep};
+ghost use Rattle.stateful_whole.specs.Machine.{is_restart};
+ghost use Rattle.stateful_whole.specs.Steps.{IsStep};
 
 use crate::playing::play;
 use crate::restarting::restart;

@@ -1,16 +1,23 @@
 //! A whole list of events.
 
-ghost use Rattle.std.specs.Prelude.{◌≡◌, ◌<◌, ◌≤◌, ◌++◌, ◌∷◌, [], ℕ, List, true, false, IfOk, IfErr, OnOk, OnErr, length, map, take};
-ghost use Rattle.stateful_history.specs.Past.{after_all};
+ghost use Rattle.std.specs.Prelude.{◌≡◌, ◌<◌, ◌≤◌, ◌++◌, ◌∷◌, [], ℕ, List, Option, true, false, IfOk, IfErr, OnOk, OnErr, length, map, take};
+ghost use Rattle.stateful_types.specs.Names.{Named};
+ghost use Rattle.stateful_history.specs.Met.{TrueNames};
+ghost use Rattle.stateful_history.specs.Past.{Past, after_all};
 ghost use Rattle.stateful_history.specs.declared.event.Event.{Event as Happening};
 ghost use Rattle.stateful_history.specs.declared.mark.Mark.{Mark as Marked};
 ghost use Rattle.stateful_history.specs.Live.{may_come};
 ghost use Rattle.stateful_register.specs.Register.{RegisterStands};
+ghost use Rattle.stateful_standing.specs.Setting.{setting};
+ghost use Rattle.stateful_keeping.specs.Ways.{HasHonestStore};
 ghost use Rattle.stateful_processing.specs.Moments.{moment};
-ghost use Rattle.stateful_core.specs.Driving.{Steps, IsRefused};
+ghost use Rattle.stateful_whole.specs.Entering.{Steps};
+ghost use Rattle.stateful_core.specs.Driving.{IsRefused};
 ghost use Rattle.stateful_core.specs.Faults.{tally, HasNotFallen, IsCause};
-ghost use Rattle.stateful_core.specs.Machine.{IsSafe, IsNew, numbered};
-ghost use Rattle.stateful_core.specs.Steps.{IsStep};
+ghost use Rattle.stateful_whole.specs.Machine.{IsSafe, IsNew, numbered};
+ghost use Rattle.stateful_whole.specs.Stands.{Stands};
+ghost use Rattle.stateful_whole.specs.StepBehind.{EachStands, StandsAndHolds};
+ghost use Rattle.stateful_whole.specs.Steps.{IsStep};
 
 use crate::stateful::Stateful;
 use stateful_db::{Application, DatabaseSet};
@@ -70,6 +77,16 @@ fn enter<A: Application + Drop, S: BlockStore<A::Block>>(
         × RegisterStands (numbered A.Databases.kind.count) (after_all [] driven.new.history.items)
         driven.new.stateful.register) }
     ensures err { OnErr result (driven.new.history.items ≡ driven.old.history.items) }
+    ensures still { OnErr result (let w = ⟦<A as Worked>⟧.workings in
+        (stored : ℕ → Option (Named A.Block))
+        (base : A.Databases.States)
+        (p : Past A.Block A.Context A.Input)
+        → Stands w stored base p driven.old.stateful.failed driven.old.stateful.register
+        (moment w driven.old.stateful.execution driven.old.stateful.loop
+        (A.Databases.members driven.old.databases) (A.Databases.next driven.old.databases) [])
+        → Stands w stored base p driven.new.stateful.failed driven.new.stateful.register
+        (moment w driven.new.stateful.execution driven.new.stateful.loop
+        (A.Databases.members driven.new.databases) (A.Databases.next driven.new.databases) [])) }
     ensures safe { let w = ⟦<A as Worked>⟧.workings in IsSafe w driven.new.stateful.failed
         (moment w driven.new.stateful.execution driven.new.stateful.loop
         (A.Databases.members driven.new.databases) (A.Databases.next driven.new.databases) []) }
@@ -131,7 +148,30 @@ pub fn drive<A: Application + Drop, S: BlockStore<A::Block>>(
         (moment w driven.stateful.execution driven.stateful.loop
         (A.Databases.members driven.databases) (A.Databases.next driven.databases) [])) }
 
-    // The machine works at the end and stands for the history; it may be called again with these databases.
+    // Where names are true and the store is honest each entry keeps the rules, and at the end the machine stands for the
+    // history, and the databases hold what was applied. Behind a refusal it still stands for the events before.
+    ensures stands { IfOk result (λ driven. let w = ⟦<A as Worked>⟧.workings in
+        (base : A.Databases.States)
+        → TrueNames (setting w (S.stored store.old)) (after_all [] driven.history.items)
+        → HasHonestStore A.Block.header (S.stored store.old) (after_all [] driven.history.items)
+        → EachStands w (S.stored store.old)
+        (λ last. StandsAndHolds w (S.stored store.old) last (after_all [] driven.history.items)
+        driven.stateful.register
+        (moment w driven.stateful.execution driven.stateful.loop
+        (A.Databases.members driven.databases) (A.Databases.next driven.databases) []))
+        base [] driven.history.items) }
+    ensures still_stands { IfErr result (λ halt. let w = ⟦<A as Worked>⟧.workings in
+        (base : A.Databases.States)
+        → TrueNames (setting w (S.stored store.old)) (after_all [] halt.driven.history.items)
+        → HasHonestStore A.Block.header (S.stored store.old) (after_all [] halt.driven.history.items)
+        → EachStands w (S.stored store.old)
+        (λ last. Stands w (S.stored store.old) last (after_all [] halt.driven.history.items)
+        halt.driven.stateful.failed halt.driven.stateful.register
+        (moment w halt.driven.stateful.execution halt.driven.stateful.loop
+        (A.Databases.members halt.driven.databases) (A.Databases.next halt.driven.databases) []))
+        base [] halt.driven.history.items) }
+
+    // The machine works at the end, and its register stands for the history; it may be called again with these databases.
     ensures works { IfOk result (λ driven. driven.stateful.failed ≡ false) }
     ensures registered { IfOk result (λ driven. RegisterStands (numbered A.Databases.kind.count)
         (after_all [] driven.history.items) driven.stateful.register) }

@@ -5,7 +5,7 @@ ghost use Rattle.stateful_exec.specs.Starting.{Rises};
 ghost use Rattle.stateful_processing.specs.Moments.{executing, moment};
 ghost use Rattle.stateful_processing.specs.Sound.{IsUp, Sound};
 ghost use Rattle.stateful_core.specs.Faults.{tally, FaultsPlay};
-ghost use Rattle.stateful_core.specs.Steps.{Advances, Plays};
+ghost use Rattle.stateful_whole.specs.Steps.{Advances, Plays};
 
 use crate::settling::settle;
 use crate::stopping::stop;

@@ -5,7 +5,7 @@ ghost use Rattle.stateful_exec.specs.Starting.{Rises};
 ghost use Rattle.stateful_processing.specs.Moments.{executing, moment};
 ghost use Rattle.stateful_processing.specs.Opening.{FaultsOpening};
 ghost use Rattle.stateful_processing.specs.Sound.{Sound};
-ghost use Rattle.stateful_core.specs.Steps.{Restarts};
+ghost use Rattle.stateful_whole.specs.Steps.{Restarts};
 
 use crate::stopping::end_work;
 use stateful_db::{Application, DatabaseSet};

@@ -5,7 +5,7 @@ ghost use Rattle.stateful_exec.specs.Starting.{Rises};
 ghost use Rattle.stateful_processing.specs.Moments.{executing, moment};
 ghost use Rattle.stateful_processing.specs.Sound.{IsUp, Sound};
 ghost use Rattle.stateful_core.specs.Faults.{tally, FaultsSettling};
-ghost use Rattle.stateful_core.specs.Steps.{Settles};
+ghost use Rattle.stateful_whole.specs.Steps.{Settles};
 
 use stateful_db::{Application, DatabaseSet};
 use stateful_exec::{Handler, Worked};

@@ -2,7 +2,7 @@
 
 ghost use Rattle.std.specs.Prelude.{◌≡◌, [], IfOk};
 ghost use Rattle.stateful_processing.specs.Moments.{moment};
-ghost use Rattle.stateful_core.specs.Machine.{IsNew};
+ghost use Rattle.stateful_whole.specs.Machine.{IsNew};
 
 use stateful_db::{Application, DatabaseSet};
 use stateful_exec::{Handler, Processor, Worked};

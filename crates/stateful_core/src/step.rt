@@ -1,15 +1,22 @@
 //! One event.
 
-ghost use Rattle.std.specs.Prelude.{◌≡◌, ◌≤◌, ◌⊎◌, [], ℕ, true, false, not, IfOk, IfErr, OnOk, OnErr, IsErrOf};
+ghost use Rattle.std.specs.Prelude.{◌≡◌, ◌≤◌, ◌⊎◌, [], ℕ, Option, true, false, not, IfOk, IfErr, OnOk, OnErr, IsErrOf};
+ghost use Rattle.stateful_types.specs.Names.{Named};
 ghost use Rattle.stateful_history.specs.Live.{may_come};
+ghost use Rattle.stateful_history.specs.Met.{TrueNames};
 ghost use Rattle.stateful_history.specs.Opening.{is_down};
 ghost use Rattle.stateful_history.specs.Past.{Past, after_entry};
 ghost use Rattle.stateful_exec.specs.Starting.{Rises};
 ghost use Rattle.stateful_register.specs.Register.{RegisterStands};
+ghost use Rattle.stateful_standing.specs.Setting.{setting};
+ghost use Rattle.stateful_standing.specs.Storing.{IsStoredNow};
+ghost use Rattle.stateful_keeping.specs.Ways.{HasHonestStore};
 ghost use Rattle.stateful_processing.specs.Moments.{moment};
 ghost use Rattle.stateful_core.specs.Faults.{tally, IsCause};
-ghost use Rattle.stateful_core.specs.Machine.{IsSafe, numbered, is_restart};
-ghost use Rattle.stateful_core.specs.Steps.{IsStep};
+ghost use Rattle.stateful_whole.specs.Machine.{IsSafe, numbered, is_restart};
+ghost use Rattle.stateful_whole.specs.Stands.{Stands};
+ghost use Rattle.stateful_whole.specs.StepBehind.{Continues};
+ghost use Rattle.stateful_whole.specs.Steps.{IsStep};
 
 use crate::acting::act;
 use crate::stateful::Stateful;
@@ -114,6 +121,23 @@ impl<A: Application + Drop> Stateful<A> {
             → (may_come (numbered A.Databases.kind.count) p event ≡ true)
             × RegisterStands (numbered A.Databases.kind.count) (after_entry p event marks.items)
             self.new.register) }
+
+        // Whatever past the machine stood for, it stands for that with the entry added, where names are true with it and the
+        // store is honest. True verdicts are earned, only durable heights are acknowledged, and the databases hold what was
+        // applied.
+        ensures stands { IfOk result (λ marks. let w = ⟦<A as Worked>⟧.workings in
+            (stored : ℕ → Option (Named A.Block))
+            (base : A.Databases.States)
+            (p : Past A.Block A.Context A.Input)
+            → Stands w stored base p self.old.failed self.old.register
+            (moment w self.old.execution self.old.loop (A.Databases.members databases.old)
+            (A.Databases.next databases.old) [])
+            → IsStoredNow stored p (S.stored store.old)
+            → TrueNames (setting w stored) (after_entry p event marks.items)
+            → HasHonestStore A.Block.header stored (after_entry p event marks.items)
+            → Continues w stored base p event
+            (moment w self.new.execution self.new.loop (A.Databases.members databases.new)
+            (A.Databases.next databases.new) marks.items) self.new.register) }
         ensures safe { let w = ⟦<A as Worked>⟧.workings in IsSafe w self.new.failed
             (moment w self.new.execution self.new.loop (A.Databases.members databases.new)
             (A.Databases.next databases.new) []) }
@@ -133,6 +157,16 @@ impl<A: Application + Drop> Stateful<A> {
         ensures register { OnErr result ((p : Past A.Block A.Context A.Input)
             → RegisterStands (numbered A.Databases.kind.count) p self.old.register
             → RegisterStands (numbered A.Databases.kind.count) p self.new.register) }
+        ensures still { OnErr result (let w = ⟦<A as Worked>⟧.workings in
+            (stored : ℕ → Option (Named A.Block))
+            (base : A.Databases.States)
+            (p : Past A.Block A.Context A.Input)
+            → Stands w stored base p self.old.failed self.old.register
+            (moment w self.old.execution self.old.loop (A.Databases.members databases.old)
+            (A.Databases.next databases.old) [])
+            → Stands w stored base p self.new.failed self.new.register
+            (moment w self.new.execution self.new.loop (A.Databases.members databases.new)
+            (A.Databases.next databases.new) [])) }
         ensures unchanged { IsErrOf result StepError.BadEvent
             → (self.new ≡ self.old) × (databases.new ≡ databases.old) }
         ensures idle { self.old.failed ≡ true

@@ -5,7 +5,7 @@ ghost use Rattle.stateful_history.specs.declared.mark.Mark.{Mark as Marked};
 ghost use Rattle.stateful_history.specs.declared.mark.Mark.TheVariants as mark;
 ghost use Rattle.stateful_processing.specs.Clearing.{IsCleared};
 ghost use Rattle.stateful_processing.specs.Moments.{executing, moment};
-ghost use Rattle.stateful_core.specs.Steps.{EndsWork};
+ghost use Rattle.stateful_whole.specs.Steps.{EndsWork};
 
 use stateful_db::{Application, DatabaseSet};
 use stateful_exec::{Handler, Worked};

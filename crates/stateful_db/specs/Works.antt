@@ -105,6 +105,12 @@ abbrev pub build_chain : {Block Context Input Provider Ids States : Type 0} → 
 build_chain b s = (b.own, s) ∷ b.at ∷ b.below
 
 module _ {Block Context Input Provider Ids States Targets Run Build Hook Captured : Type 0} (w : Works Block Context Input Provider Ids States Targets Run Build Hook Captured) where
+  -- each run takes a turn at least, where that is told, and so does each build
+  pub record TakesTurns : Type 0 where
+    pub runs : (f : Finality) (s : States) (b : Block) (n : ℕ) → w.run_cost f s b ≡ Some n → 0 < n
+    pub builds : (asked : Asked Block Context Input) (s : States) (n : ℕ)
+        → w.build_cost asked s ≡ Some n → 0 < n
+
   -- the block with this batch, which shows the states after it, is handed over so
   pub record Hands {Batch : Type 0} (Shows : Batch → List (Ids × States) → Type 0) (b : BuildOf Block Context Input Provider Ids States) (given : Handoff Block) (block : Block) (batch : Batch) : Type 0 where
     pub gives : w.gives b.asked b.at.1 given

@@ -69,7 +69,7 @@ pub trait Application: Faulty + Sized {
     ghost use Rattle.stateful_db.specs.Chain.{IsPoint};
     ghost use Rattle.stateful_db.specs.Meaning.{outcome, Ends};
     ghost use Rattle.stateful_db.specs.Hooks.{left};
-    ghost use Rattle.stateful_db.specs.Works.{Works, RunOf, BuildOf, HookOf, asked_for, run_of, build_of, hook_of, block_of, run_chain, Costs, CostsHook, BuildEnds};
+    ghost use Rattle.stateful_db.specs.Works.{Works, RunOf, BuildOf, HookOf, asked_for, run_of, build_of, hook_of, block_of, run_chain, Costs, CostsHook, BuildEnds, TakesTurns};
     ghost use Rattle.stateful_db.specs.declared.application.ProposalKind.{ProposalKind};
     ghost use Rattle.stateful_db.specs.declared.application.Hooked.{Hooked};
 
@@ -276,4 +276,7 @@ pub trait Application: Faulty + Sized {
         ensures failed { IsErrOf result AppFault.Failed
             → Rose (Self.Hook.count hook.old) (Self.Hook.count hook.new) }
         ensures later { Self.Hook.count hook.old ≤ Self.Hook.count hook.new };
+
+    /// A run takes a turn at least, and so does a build.
+    ghost takes_turns: { TakesTurns works };
 }

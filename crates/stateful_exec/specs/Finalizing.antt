@@ -154,9 +154,9 @@ module _ {B C I P R D H G U : Type 0} (w : Workings B C I P R D H G U) where
     pub cut : IsCutTo (anchor_by w.header b) old.cache new.cache
     pub state : new ≡ record old { anchor = anchor_by w.header b; cache = new.cache }
     pub after_is : after ≡ front_at b Advanced
-    pub context : C
-    pub round : w.round_of context ≡ w.header.round b.block
-    pub captures : (p : Point w) → w.kind.point m ≡ Some p → w.works.captures captured context b.block p.1
+    pub round : w.round_of (w.context_of b.block) ≡ w.header.round b.block
+    pub captures : (p : Point w) → w.kind.point m ≡ Some p
+        → w.works.captures captured (w.context_of b.block) b.block p.1
 
   -- why the anchor doesn't move: memory ran out; or the application failed; or the block has no states
   pub data FaultsMove (rose : Type 0) (b : Named B) (cache : List (Cached U)) (front : Option (Front B R U H)) (e : ExecError) : Type 0 where
@@ -166,10 +166,11 @@ module _ {B C I P R D H G U : Type 0} (w : Workings B C I P R D H G U) where
 
   -- what the application has left to do behind the block, whose states the databases hold, and those before it were these
   pub record IsLeftBehind (b : Named B) (captured : G) (m : w.kind.Members) (hook : Hooked H) : Type 0 where
-    pub context : C
-    pub round : w.round_of context ≡ w.header.round b.block
-    pub hooks : (before : w.States) (p : Point w) → w.works.captures captured context b.block before → w.kind.point m ≡ Some p
-        → w.works.hooks hook (hook_of context b.block before p.1) 0
+    pub round : w.round_of (w.context_of b.block) ≡ w.header.round b.block
+    pub hooks : (before : w.States) (p : Point w)
+        → w.works.captures captured (w.context_of b.block) b.block before
+        → w.kind.point m ≡ Some p
+        → w.works.hooks hook (hook_of (w.context_of b.block) b.block before p.1) 0
     pub costs : (p : Point w) → w.kind.point m ≡ Some p → CostsHook (w.works.hook_cost b.block p.1) hook
 
   -- a hook is live under the next number of a job, or there is none

@@ -12,5 +12,5 @@ pub trait Worked: Application {
 impl<A: Application> Worked for A {
     ghost use Rattle.stateful_exec.specs.Workings.{workings};
 
-    ghost workings = { workings A.Block.header A.Context.round_of A.works A.Databases.kind A.Databases.shows };
+    ghost workings = { workings A.Block.header A.Block.context_of A.Context.round_of A.works A.Databases.kind A.Databases.shows };
 }

@@ -1,5 +1,6 @@
 -- How the fake works.
 use Rattle.std.specs.Prelude.{◌≡◌, ◌≢◌, ℕ, Option, Some, None, List, ◌∷◌, IsSomeAnd}
+use Rattle.std.proofs.lemmas.Option.{none-some}
 use Rattle.stateful_types.specs.declared.round.Round.{Round}
 use Rattle.stateful_types.specs.declared.target.Target.{Target}
 use Rattle.stateful_types.specs.declared.outcome.Moved.{Moved}
@@ -7,7 +8,7 @@ use Rattle.stateful_types.specs.declared.outcome.Moved.TheVariants as moved
 use Rattle.stateful_types.specs.declared.outcome.Handoff.{Handoff}
 use Rattle.stateful_types.specs.declared.outcome.Handoff.TheVariants.{Wait, Vote, Stage}
 use Rattle.stateful_db.specs.declared.application.ProposedBlock.{ProposedBlock}
-use Rattle.stateful_db.specs.Works.{Works, RunOf, BuildOf, block_of}
+use Rattle.stateful_db.specs.Works.{Works, TakesTurns, RunOf, BuildOf, block_of}
 use Rattle.stateful_plain.specs.Whole.{Whole, begun}
 use Rattle.stateful_plain.specs.Shown.{DraftShows, SealShows}
 use Rattle.stateful_plain.specs.declared.batch.PlainMerkleized.{PlainMerkleized}
@@ -65,3 +66,7 @@ fake_works = record {
   Notes = Unit {0};
   noted = λ notes block. notes;
 }
+
+-- nothing is told of turns
+pub fake_takes_turns : TakesTurns fake_works
+fake_takes_turns = record { runs = λ f s b n is. absurd (none-some n is); builds = λ asked s n is. absurd (none-some n is) }

@@ -38,6 +38,8 @@ impl Block for FakeBlock {
 
     ghost header = { fake_header };
 
+    ghost context_of = { λ b. b.round };
+
     fn parent(&self) -> Digest {
         self.parent
     }

@@ -107,7 +107,7 @@ impl Application for Fake {
     ghost use Rattle.stateful_db.specs.Works.{asked_for, run_of, build_of};
     ghost use Rattle.stateful_plain.specs.Whole.{Whole, begun};
     ghost use Rattle.stateful_plain.specs.Shown.{DraftShows};
-    ghost use Rattle.stateful_exec_tests.specs.Works.{fake_works, IsRun, IsBuild};
+    ghost use Rattle.stateful_exec_tests.specs.Works.{fake_works, fake_takes_turns, IsRun, IsBuild};
 
     type SigningScheme = VoteScheme;
 
@@ -132,6 +132,8 @@ impl Application for Fake {
     ghost works = { fake_works };
 
     ghost notes = { λ fake. tt };
+
+    ghost takes_turns = { fake_takes_turns };
 
     fn sync_targets(block: &FakeBlock) -> Target {
         block.target

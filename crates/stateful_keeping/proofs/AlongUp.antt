@@ -13,10 +13,10 @@ use Rattle.stateful_exec.specs.Workings.{Workings}
 use Rattle.stateful_standing.specs.Building.{BuildsTakeTurns}
 use Rattle.stateful_standing.specs.Fronting.{RunsTakeTurns}
 use Rattle.stateful_standing.specs.Setting.{setting}
-use Rattle.stateful_standing.proofs.EarnedJudged.{IsStoredNow}
+use Rattle.stateful_standing.specs.Storing.{IsStoredNow}
 use Rattle.stateful_processing.specs.Moments.{Moment}
 use Rattle.stateful_processing.specs.Rules.{Rule, collects, puts_off, runs, applies, covers, observes, ends, breaks, completes, builds, takes, Along, none, further}
-use Rattle.stateful_keeping.specs.Behind.{UpBehind, RuleMay}
+use Rattle.stateful_keeping.specs.Behind.{UpBehind}
 use Rattle.stateful_keeping.specs.Durability.{IsDurablySaid}
 use Rattle.stateful_keeping.specs.Execution.{Executes}
 use Rattle.stateful_keeping.specs.RuleMarks.{IsOfRule}
@@ -84,15 +84,12 @@ module _ {B C I P R D H G U : Type 0} (w : Workings B C I P R D H G U) (stored :
 
   module _ (laws : Laws w.kind) (p : Past B C I) (stored_now : ℕ → Option (Named B)) (stored_is : IsStoredNow stored p stored_now) (provider : P)
       (runs_cost : RunsTakeTurns w) (builds_cost : BuildsTakeTurns w) (stores : StoresFinalized w.header stored p) where
-    -- The machine stands behind rules, one after another, where what is taken of a rule holds at each.
-    pub along-up : (m now : Moment w) → IsUpAt w stored base p m
-        → ((more : List (Mark B)) (mid next : Moment w) → IsUpAt w stored base (after p more) mid → Rule w stored_now provider mid next
-        → RuleMay w mid next)
-        → Along w stored_now provider m now → UpBehind w stored base p m now
-    along-up m _ h may none = up-same p m h
-    along-up m now h may (further {mid = mid} along rule) =
-        let one : UpBehind w stored base p m mid = along-up m mid h may along in
+    -- The machine stands behind rules, one after another.
+    pub along-up : (m now : Moment w) → IsUpAt w stored base p m → Along w stored_now provider m now → UpBehind w stored base p m now
+    along-up m _ h none = up-same p m h
+    along-up m now h (further {mid = mid} along rule) =
+        let one : UpBehind w stored base p m mid = along-up m mid h along in
         let there : IsUpAt w stored base (after p one.more) mid = one.up (rule_is_up w stored_now provider mid now rule) in
         up-then p m mid now one (rule-up w laws stored base (after p one.more) stored_now
         (IsStoredNow-after stored p stored_now stored_is one.more one.of_rules) provider mid now there
-        runs_cost builds_cost (StoresFinalized-after w.header stored p one.more stores) (may one.more mid now there rule) rule)
+        runs_cost builds_cost (StoresFinalized-after w.header stored p one.more stores) rule)

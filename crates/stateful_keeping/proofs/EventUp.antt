@@ -12,11 +12,11 @@ use Rattle.stateful_history.proofs.Marks.{after-append}
 use Rattle.stateful_exec.specs.Workings.{Workings}
 use Rattle.stateful_standing.specs.Building.{BuildsTakeTurns}
 use Rattle.stateful_standing.specs.Fronting.{RunsTakeTurns}
-use Rattle.stateful_standing.proofs.EarnedJudged.{IsStoredNow}
+use Rattle.stateful_standing.specs.Storing.{IsStoredNow}
 use Rattle.stateful_processing.specs.Intake.{Counts, TakesIn}
 use Rattle.stateful_processing.specs.Moments.{Moment}
 use Rattle.stateful_processing.specs.Rules.{Quiet, Rule, Along, none, further}
-use Rattle.stateful_keeping.specs.Behind.{UpBehind, RuleMay}
+use Rattle.stateful_keeping.specs.Behind.{UpBehind}
 use Rattle.stateful_keeping.specs.EventBehind.{EventBehind}
 use Rattle.stateful_keeping.specs.Execution.{NamesBehind}
 use Rattle.stateful_keeping.specs.RuleMarks.{IsOfRule, MarksBehind}
@@ -85,27 +85,15 @@ module _ {B C I P R D H G U : Type 0} (w : Workings B C I P R D H G U) (stored :
     counted = record { numbers = u.executes.tables.numbers; barriers = u.numbers; none_away = u.sound.none_away };
   }
 
-  -- what is taken of rules behind an event is taken of them behind its marks
-  may-after : (stored_now : ℕ → Option (Named B)) (provider : P) (marks : List (Mark B))
-      → ((more : List (Mark B)) (here next : Moment w) → IsUpAt w stored base (after q more) here → Rule w stored_now provider here next
-      → RuleMay w here next)
-      → (more : List (Mark B)) (here next : Moment w) → IsUpAt w stored base (after (after q marks) more) here
-      → Rule w stored_now provider here next → RuleMay w here next
-  may-after stored_now provider marks may more here next h rule =
-      let both : after q (marks ++ more) ≡ after (after q marks) more = after-append q marks more in
-      may (marks ++ more) here next (subst (λ past. IsUpAt w stored base past here) (sym both) h) rule
-
 module _ {B C I P R D H G U : Type 0} (w : Workings B C I P R D H G U) (laws : Laws w.kind) (stored : ℕ → Option (Named B)) (base : w.States)
     (p : Past B C I) (stored_now : ℕ → Option (Named B)) (stored_is : IsStoredNow stored p stored_now) (counts : Counts R D H) (provider : P)
     (runs_cost : RunsTakeTurns w) (builds_cost : BuildsTakeTurns w) where
   -- The event is taken in, and rules go one after another, where the store has the finalized blocks that came, or none, at their
-  -- heights, and what is taken of a rule holds at each.
+  -- heights.
   pub event-up : (e : Event B C I) (m mid now : Moment w) → m.loop.up ≡ true → Quiet w m → IsUpAt w stored base p m → (IsRestart e → ⊥)
       → names_live w.kind.count p e ≡ true → NamesBehind w stored base (Came e ∷ p) m now → StoresFinalized w.header stored (Came e ∷ p)
-      → ((more : List (Mark B)) (here next : Moment w) → IsUpAt w stored base (after (Came e ∷ p) more) here → Rule w stored_now provider here next
-      → RuleMay w here next)
       → TakesIn w stored_now counts m mid e → Along w stored_now provider mid now → EventBehind w stored base (Came e ∷ p) m now
-  event-up e m mid now up quiet h on live names stores may takes along =
+  event-up e m mid now up quiet h on live names stores takes along =
       let taken : TakenBehind w stored base (Came e ∷ p) m mid =
       takes_in-up w laws stored base p stored_now stored_is counts m mid up quiet h e on live
       (names-taken w stored base (Came e ∷ p) m stored_now provider mid now (taken_in_marks w stored_now counts m mid e takes) along names) takes in
@@ -114,4 +102,4 @@ module _ {B C I P R D H G U : Type 0} (w : Workings B C I P R D H G U) (laws : L
       (along-up w stored base laws (after (Came e ∷ p) taken.more) stored_now
       (IsStoredNow-after stored (Came e ∷ p) stored_now stored_is taken.more taken.of_rules)
       provider runs_cost builds_cost (StoresFinalized-after w.header stored (Came e ∷ p) taken.more stores) mid now taken.stands
-      (may-after w stored base (Came e ∷ p) m stored_now provider taken.more may) along))
+      along))

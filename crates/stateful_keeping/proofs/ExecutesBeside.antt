@@ -15,7 +15,7 @@ use Rattle.stateful_history.specs.Requests.{IsLiveReceipt}
 use Rattle.stateful_history.specs.declared.event.Event.{Event}
 use Rattle.stateful_exec.specs.Workings.{Workings}
 use Rattle.stateful_standing.specs.Setting.{setting}
-use Rattle.stateful_standing.proofs.EarnedJudged.{IsStoredNow}
+use Rattle.stateful_standing.specs.Storing.{IsStoredNow}
 use Rattle.stateful_processing.specs.Intake.{flushed_by, Counts, TakesIn, enters, cancels, fetched, turns, flushes, stops, progresses, restarts}
 use Rattle.stateful_processing.specs.Moments.{Moment, with_loop}
 use Rattle.stateful_processing.specs.Rules.{BeginsBarrier, CompletesBarrier, BeginsFinalization, DoesMessage, schedules, answers, acknowledges, holds, begins}

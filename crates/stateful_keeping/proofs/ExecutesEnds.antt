@@ -19,7 +19,7 @@ use Rattle.stateful_standing.specs.Ground.{IsGround}
 use Rattle.stateful_standing.specs.Requesting.{AllAbstain}
 use Rattle.stateful_standing.specs.Ways.{WaysStand}
 use Rattle.stateful_standing.proofs.BuildPasses.{IsItsJob, IsItsTicket, BuildStands-passes}
-use Rattle.stateful_standing.proofs.EarnedJudged.{IsStoredNow}
+use Rattle.stateful_standing.specs.Storing.{IsStoredNow}
 use Rattle.stateful_standing.proofs.FrontPasses.{IsFrontJob, NoTicket, FrontStands-passes}
 use Rattle.stateful_standing.proofs.MovedStands.{TablesStand-free}
 use Rattle.stateful_standing.proofs.PassingRules.{PassesBy-resumes}

@@ -22,7 +22,7 @@ use Rattle.stateful_standing.specs.Standing.{TablesStand, IsInHand}
 use Rattle.stateful_standing.proofs.Asking.{LeavesTicket}
 use Rattle.stateful_standing.proofs.BuildLeft.{BuildStands-tables}
 use Rattle.stateful_standing.proofs.EarnedCarried.{IsMild}
-use Rattle.stateful_standing.proofs.EarnedJudged.{IsStoredNow}
+use Rattle.stateful_standing.specs.Storing.{IsStoredNow}
 use Rattle.stateful_standing.proofs.EventsPass.{BuildStands-event, FrontStands-event}
 use Rattle.stateful_standing.proofs.FetchStands.{fetched-IsCalm, fetched-LeavesJob, TablesStand-fetched, IsInHand-fetched, acquired-fetched, abstains-none, TablesStand-dead}
 use Rattle.stateful_standing.proofs.PassingRules.{none_kept}

@@ -28,7 +28,7 @@ use Rattle.stateful_standing.specs.Requesting.{AllAbstain}
 use Rattle.stateful_standing.specs.Setting.{setting}
 use Rattle.stateful_standing.specs.Standing.{NumbersStand, TablesStand}
 use Rattle.stateful_standing.specs.Ways.{WaysStand}
-use Rattle.stateful_standing.proofs.EarnedJudged.{IsStoredNow}
+use Rattle.stateful_standing.specs.Storing.{IsStoredNow}
 use Rattle.stateful_standing.proofs.GroundOpened.{IsGround-opened, WaysStand-opened}
 use Rattle.stateful_standing.proofs.OpenedStands.{IsOpenedAt, IsIdle, IsOpening, TablesStand-opened, BuildStands-opened, FrontStands-opened, AllAbstain-opened}
 use Rattle.stateful_processing.specs.Moments.{Moment}

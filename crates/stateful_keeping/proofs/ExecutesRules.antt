@@ -1,5 +1,5 @@
 -- Execution stands behind each rule of the loop.
-use Rattle.std.proofs.Common.{◌≡◌, ℕ, [], ◌∷◌, List, Option, None, IsSome, false, ◌++◌, refl, sym, ap, ◌∙◌, subst}
+use Rattle.std.proofs.Common.{◌≡◌, ℕ, [], ◌∷◌, List, Option, Some, None, IsSome, false, ◌++◌, refl, sym, ap, ◌∙◌, subst}
 use Rattle.stateful_types.specs.Names.{Named}
 use Rattle.stateful_db.specs.Laws.{Laws}
 use Rattle.stateful_history.specs.Past.{Past}
@@ -11,7 +11,7 @@ use Rattle.stateful_exec.specs.declared.request.Request.{Request}
 use Rattle.stateful_standing.specs.Building.{BuildsTakeTurns}
 use Rattle.stateful_standing.specs.Fronting.{RunsTakeTurns}
 use Rattle.stateful_standing.specs.Setting.{setting}
-use Rattle.stateful_standing.proofs.EarnedJudged.{IsStoredNow}
+use Rattle.stateful_standing.specs.Storing.{IsStoredNow}
 use Rattle.stateful_processing.specs.Moments.{Moment, Executing, with_loop}
 use Rattle.stateful_processing.specs.Rules.{IsCalm, IsFinalizing, Builds, DoesMessage, schedules, answers, acknowledges, holds, begins, ObservesBlock, EndsFinalization, Schedules, Takes, HasStates, AppliesBlock, Rule, collects, puts_off, runs, applies, covers, observes, ends, breaks, completes, builds, takes}
 use Rattle.stateful_processing.specs.declared.barriers.Active.{Active}
@@ -20,9 +20,8 @@ use Rattle.stateful_processing.specs.declared.message.Action.TheVariants as acti
 use Rattle.stateful_processing.specs.declared.message.Message.{Message}
 use Rattle.stateful_processing.specs.declared.message.Message.TheVariants as message
 use Rattle.stateful_processing.specs.declared.tables.Finalizing.{Finalizing}
-use Rattle.stateful_keeping.specs.Behind.{RuleMay}
 use Rattle.stateful_keeping.specs.Execution.{Executes, ExecutesBehind}
-use Rattle.stateful_keeping.specs.Stands.{IsUpAt}
+use Rattle.stateful_keeping.specs.Stands.{IsCaptured, CapturedStands, IsUpAt}
 use Rattle.stateful_keeping.specs.Tickets.{MessageStands}
 use Rattle.stateful_keeping.proofs.Acknowledging.{finalized-Met, held-live, held-apart}
 use Rattle.stateful_keeping.proofs.AnchorStands.{executes_before, Executes-takes, idle-front}
@@ -39,6 +38,12 @@ use Rattle.stateful_keeping.proofs.MarksOfRules.{takes-marks}
 use Rattle.stateful_keeping.proofs.NamesOfRules.{names-runs, names-observes, names-begins}
 use Rattle.stateful_keeping.proofs.TicketsTaken.{action_taken, message_taken, takes-taken, takes-execution}
 use Rattle.stateful_keeping.proofs.WaysFinalized.{Executes-ends-kept}
+
+module _ {B C I P R D H G U : Type 0} (w : Workings B C I P R D H G U) where
+  -- what was captured for the block in front was read for it
+  captured_in : (front : Option (Finalizing B G)) (f : Finalizing B G) (captured : G) → CapturedStands w front → front ≡ Some f
+      → f.captured ≡ Some captured → IsCaptured w f.block captured
+  captured_in front f captured stands is captured_is = rw captured_is at (rw is at stands)
 
 module _ {B C I P R D H G U : Type 0} (w : Workings B C I P R D H G U) (laws : Laws w.kind) (stored : ℕ → Option (Named B)) (base : w.States)
     (p : Past B C I) (stored_now : ℕ → Option (Named B)) (stored_is : IsStoredNow stored p stored_now) where
@@ -81,12 +86,12 @@ module _ {B C I P R D H G U : Type 0} (w : Workings B C I P R D H G U) (laws : L
     executes-applies f fin states r = ExecutesBehind-applied w laws stored base p m now f r
         (Executes-applies w laws stored base p m now f r e fin states)
 
-    -- it is observed, where what was captured was read in the context in which it is observed
-    pub executes-observes : (f : Finalizing B G) (captured : G) → m.execution.front ≡ front_at f.block Advanced
-        → (o : ObservesBlock w f captured m now)
-        → (before : w.States) × w.works.captures captured o.observes.left_is.context f.block.block before → ExecutesBehind w stored base p m now
-    executes-observes f captured advanced o read =
-        Executes-observes w laws stored base p m e f captured advanced now o read.0 read.1
+    -- it is observed, with what was captured
+    pub executes-observes : (f : Finalizing B G) (captured : G) → m.loop.front ≡ Some f → f.captured ≡ Some captured
+        → m.execution.front ≡ front_at f.block Advanced → ObservesBlock w f captured m now → ExecutesBehind w stored base p m now
+    executes-observes f captured is captured_is advanced o =
+        let read : IsCaptured w f.block captured = captured_in w m.loop.front f captured h.captured is captured_is in
+        Executes-observes w laws stored base p m e f captured advanced now o read.before read.read
         (names-observes w stored base p (Executes-names w stored base p m e) m now f captured o)
 
     -- its finalization ends
@@ -124,30 +129,30 @@ module _ {B C I P R D H G U : Type 0} (w : Workings B C I P R D H G U) (laws : L
         (takes-taken w stored p x m mid take h.tickets).stands
         (Executes-takes w stored base p x m mid take e) does)
 
-    -- a rule goes, where what was captured was read in the context in which it is observed
-    pub executes-rule : RunsTakeTurns w → BuildsTakeTurns w → (provider : P) → RuleMay w m now → Rule w stored_now provider m now
+    -- a rule goes
+    pub executes-rule : RunsTakeTurns w → BuildsTakeTurns w → (provider : P) → Rule w stored_now provider m now
         → ExecutesBehind w stored base p m now
-    executes-rule runs_cost builds_cost provider may (collects {t = t} up r) = Executes-collects w stored base p t m now e r
-    executes-rule runs_cost builds_cost provider may (Rule.schedules {request = request} {rest = rest} collected building is verifies r) =
+    executes-rule runs_cost builds_cost provider (collects {t = t} up r) = Executes-collects w stored base p t m now e r
+    executes-rule runs_cost builds_cost provider (Rule.schedules {request = request} {rest = rest} collected building is verifies r) =
         executes-schedules request rest building is r
-    executes-rule runs_cost builds_cost provider may (puts_off collected building is other becomes) =
+    executes-rule runs_cost builds_cost provider (puts_off collected building is other becomes) =
         Executes-looped w laws stored base p m now _ becomes e
-    executes-rule runs_cost builds_cost provider may (runs {f = f} fin begun awaits unknown r) =
+    executes-rule runs_cost builds_cost provider (runs {f = f} fin begun awaits unknown r) =
         Executes-runs w laws stored base p m e runs_cost f.block now begun awaits r
         (names-runs w stored base p (Executes-names w stored base p m e) m now f.block r)
-    executes-rule runs_cost builds_cost provider may (applies {f = f} fin captured states r) = executes-applies f fin states r
-    executes-rule runs_cost builds_cost provider may (covers fin advanced captured needed r) =
+    executes-rule runs_cost builds_cost provider (applies {f = f} fin captured states r) = executes-applies f fin states r
+    executes-rule runs_cost builds_cost provider (covers fin advanced captured needed r) =
         Executes-begins_barrier w laws stored base p m now e r
-    executes-rule runs_cost builds_cost provider may (observes {f = f} {captured = captured} fin advanced is covered o) =
-        executes-observes f captured advanced o (may.observes_captured f captured fin advanced is o)
-    executes-rule runs_cost builds_cost provider may (ends {f = f} fin advanced none r) =
+    executes-rule runs_cost builds_cost provider (observes {f = f} {captured = captured} fin advanced is covered o) =
+        executes-observes f captured fin.1.1 is advanced o
+    executes-rule runs_cost builds_cost provider (ends {f = f} fin advanced none r) =
         executes-ends f fin advanced r
-    executes-rule runs_cost builds_cost provider may (breaks {active = active} idle is becomes) = executes-breaks active becomes
-    executes-rule runs_cost builds_cost provider may (completes {active = active} idle unbroken done r) =
+    executes-rule runs_cost builds_cost provider (breaks {active = active} idle is becomes) = executes-breaks active becomes
+    executes-rule runs_cost builds_cost provider (completes {active = active} idle unbroken done r) =
         Executes-completes w laws stored base p active m now (held-live w stored p m h.tickets) (held-apart w stored p m h.tickets) e r
-    executes-rule runs_cost builds_cost provider may (Rule.begins idle unbroken undone needed r) =
+    executes-rule runs_cost builds_cost provider (Rule.begins idle unbroken undone needed r) =
         Executes-begins_barrier w laws stored base p m now e r
-    executes-rule runs_cost builds_cost provider may (builds {t = t} {rest = rest} calm is r) =
+    executes-rule runs_cost builds_cost provider (builds {t = t} {rest = rest} calm is r) =
         executes-builds builds_cost provider t rest calm is r
-    executes-rule runs_cost builds_cost provider may (takes {x = x} {mid = mid} calm take does) =
+    executes-rule runs_cost builds_cost provider (takes {x = x} {mid = mid} calm take does) =
         executes-takes x mid calm take does

@@ -12,7 +12,7 @@ use Rattle.stateful_exec.specs.declared.front.Front.{Front}
 use Rattle.stateful_exec.specs.declared.request.Request.{Request}
 use Rattle.stateful_standing.specs.Setting.{setting}
 use Rattle.stateful_standing.specs.Fronting.{FrontStands}
-use Rattle.stateful_standing.proofs.EarnedJudged.{IsStoredNow}
+use Rattle.stateful_standing.specs.Storing.{IsStoredNow}
 use Rattle.stateful_processing.specs.Moments.{Moment, inner}
 use Rattle.stateful_processing.specs.Rules.{Schedules}
 use Rattle.stateful_processing.specs.declared.message.Message.TheVariants as message

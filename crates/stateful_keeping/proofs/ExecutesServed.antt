@@ -29,7 +29,8 @@ use Rattle.stateful_standing.proofs.Acquired.{Serves-acquires}
 use Rattle.stateful_standing.proofs.BuildPasses.{IsItsJob, IsItsTicket, BuildStands-passes, build_drawn}
 use Rattle.stateful_standing.proofs.EarnedAcquired.{acquires-Earned}
 use Rattle.stateful_standing.proofs.EarnedCarried.{IsMild}
-use Rattle.stateful_standing.proofs.EarnedJudged.{IsStoredNow, Known-free}
+use Rattle.stateful_standing.specs.Storing.{IsStoredNow}
+use Rattle.stateful_standing.proofs.EarnedJudged.{Known-free}
 use Rattle.stateful_standing.proofs.EarnedLeft.{LeavesBehind, LeavesBehind-concludes, LeavesBehind-acquires}
 use Rattle.stateful_standing.proofs.EarnedMarks.{EarnsBehind, concludes-invalid}
 use Rattle.stateful_standing.proofs.EarnedTogether.{AreEarned-behind}

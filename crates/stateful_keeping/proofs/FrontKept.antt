@@ -128,7 +128,7 @@ module _ {B C I P R D H G U : Type 0} (w : Workings B C I P R D H G U) (laws : L
           marks = o.marks;
         }
 
-    observes_so : (before : w.States) → w.works.captures captured o.observes.left_is.context f.block.block before
+    observes_so : (before : w.States) → w.works.captures captured (w.context_of f.block.block) f.block.block before
         → NamesBehind w stored base p m Observed → ExecutesBehind w stored base p m Observed
     observes_so before read names =
         let s : StandsWithFront w stored e.points e.point p (inner w m) (inner w Observed) o.front =
@@ -150,7 +150,7 @@ module _ {B C I P R D H G U : Type 0} (w : Workings B C I P R D H G U) (laws : L
 
     -- Execution stands once the application has observed the states behind the block, where what was captured was read in the context
     -- in which they are observed, of some states before.
-    pub Executes-observes : (before : w.States) → w.works.captures captured o.observes.left_is.context f.block.block before
+    pub Executes-observes : (before : w.States) → w.works.captures captured (w.context_of f.block.block) f.block.block before
         → NamesBehind w stored base p m now → ExecutesBehind w stored base p m now
     Executes-observes before read names =
         subst (λ (n : Moment w). ExecutesBehind w stored base p m n) (sym o.becomes)

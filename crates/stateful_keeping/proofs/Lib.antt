@@ -1,3 +1,4 @@
+pub mod CapturedKept
 pub mod ParksNone
 pub mod WaysBeside
 pub mod WaysTurned

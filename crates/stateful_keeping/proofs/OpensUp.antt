@@ -9,11 +9,12 @@ use Rattle.stateful_history.specs.Past.{Past, Made}
 use Rattle.stateful_history.specs.declared.mark.Mark.TheVariants.{Opened}
 use Rattle.stateful_exec.specs.Workings.{Workings}
 use Rattle.stateful_standing.specs.Setting.{setting}
-use Rattle.stateful_standing.proofs.EarnedJudged.{IsStoredNow}
+use Rattle.stateful_standing.specs.Storing.{IsStoredNow}
 use Rattle.stateful_keeping.specs.Down.{IsDownAt}
 use Rattle.stateful_keeping.specs.OpenedBehind.{OpenedBehind}
 use Rattle.stateful_keeping.specs.Stands.{IsUpAt}
 use Rattle.stateful_keeping.specs.Ways.{StoresHeights}
+use Rattle.stateful_keeping.proofs.CapturedKept.{opens-captured}
 use Rattle.stateful_keeping.proofs.BarriersDown.{NoneLive}
 use Rattle.stateful_keeping.proofs.ExecutesOpens.{Executes-opens}
 use Rattle.stateful_keeping.proofs.LoopOpens.{LoopStands-opens}
@@ -38,6 +39,7 @@ module _ {B C I P R D H G U : Type 0} (w : Workings B C I P R D H G U) (laws : L
     in_order = opens_order w stored_now floor keep m now o;
     executes = Executes-opens w stored stored_now floor keep p m now h.nothing h.counted.numbers names stored_is o;
     loop = LoopStands-opens w stored stored_now floor keep p m now o h.empty.barriers none_live;
+    captured = opens-captured w stored_now floor keep m now h.empty.front.0 o;
     tickets = opens-tickets w stored (Made (Opened (anchor_by w.header o.block)) ∷ p) stored_now floor keep m now h.empty.queue h.empty.actions
         h.empty.front.0 o;
     ways = WaysKept-opens w stored stored_now floor keep p m now heights stored_is o;

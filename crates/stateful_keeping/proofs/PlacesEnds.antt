@@ -34,7 +34,7 @@ use Rattle.stateful_standing.proofs.Acquired.{Serves-acquires}
 use Rattle.stateful_standing.proofs.AnewStands as anew
 use Rattle.stateful_standing.proofs.AnewStands.{MayWait, entries_apart}
 use Rattle.stateful_standing.proofs.AsksKept.{AsksAlong-acquires, AsksForThese-acquires}
-use Rattle.stateful_standing.proofs.EarnedJudged.{IsStoredNow}
+use Rattle.stateful_standing.specs.Storing.{IsStoredNow}
 use Rattle.stateful_standing.proofs.EarnedLeft.{LeavesBehind-acquires}
 use Rattle.stateful_standing.proofs.KeptInTurn.{IsCarried, IsGrounded, AreGrounded, AreGrounded-in_turn}
 use Rattle.stateful_standing.proofs.KeptMarks.{EachMark-behind, KeepsReady, KeepsReady-then}

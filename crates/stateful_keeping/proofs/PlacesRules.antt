@@ -29,7 +29,7 @@ use Rattle.stateful_standing.specs.Setting.{setting}
 use Rattle.stateful_standing.specs.Ways.{WaysStand}
 use Rattle.stateful_standing.proofs.Arrivals.{live_below}
 use Rattle.stateful_standing.proofs.DueStands.{IsDue-quietly}
-use Rattle.stateful_standing.proofs.EarnedJudged.{IsStoredNow}
+use Rattle.stateful_standing.specs.Storing.{IsStoredNow}
 use Rattle.stateful_standing.proofs.EarnedLeft.{LeavesBehind-advances}
 use Rattle.stateful_standing.proofs.MovedStands.{TablesStand-free}
 use Rattle.stateful_standing.proofs.PlaceStarts.{live-request}

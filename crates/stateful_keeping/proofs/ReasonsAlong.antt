@@ -11,12 +11,12 @@ use Rattle.stateful_history.proofs.Marks.{EachMark-append}
 use Rattle.stateful_exec.specs.Workings.{Workings}
 use Rattle.stateful_standing.specs.Building.{BuildsTakeTurns}
 use Rattle.stateful_standing.specs.Fronting.{RunsTakeTurns}
-use Rattle.stateful_standing.proofs.EarnedJudged.{IsStoredNow}
+use Rattle.stateful_standing.specs.Storing.{IsStoredNow}
 use Rattle.stateful_standing.specs.Setting.{setting}
 use Rattle.stateful_processing.specs.Intake.{Counts, TakesIn}
 use Rattle.stateful_processing.specs.Moments.{Moment}
 use Rattle.stateful_processing.specs.Rules.{Rule, Along, none, further}
-use Rattle.stateful_keeping.specs.Behind.{RuleMay, UpBehind}
+use Rattle.stateful_keeping.specs.Behind.{UpBehind}
 use Rattle.stateful_keeping.specs.Reasons.{IsTrusted, ReasonsStand, HasItsReason, ReasonsBehind}
 use Rattle.stateful_keeping.specs.Stands.{IsUpAt}
 use Rattle.stateful_keeping.specs.TakenBehind.{TakenBehind}
@@ -42,7 +42,7 @@ module _ {B C I P R D H G U : Type 0} (w : Workings B C I P R D H G U) (laws : L
 
   module _ (p : Past B C I) (stored_now : ℕ → Option (Named B)) (stored_is : IsStoredNow stored p stored_now) (provider : P)
       (runs_cost : RunsTakeTurns w) (builds_cost : BuildsTakeTurns w) (stores : StoresFinalized w.header stored p) (m : Moment w) where
-    -- what is taken of each rule, and what is trusted and kept at it
+    -- what is trusted and kept at each rule
     abbrev pub AsksOfRules : Type 0
     AsksOfRules = (more : List (Mark B)) (mid next : Moment w) → mid.marks ≡ m.marks ++ more → IsUpAt w stored base (after p more) mid
         → Along w stored_now provider m mid → Rule w stored_now provider mid next
@@ -50,15 +50,13 @@ module _ {B C I P R D H G U : Type 0} (w : Workings B C I P R D H G U) (laws : L
 
     -- each false verdict and each decline of rules, one after another, has its reason
     pub reasons-along : (now : Moment w) → IsUpAt w stored base p m
-        → ((more : List (Mark B)) (mid next : Moment w) → IsUpAt w stored base (after p more) mid → Rule w stored_now provider mid next
-        → RuleMay w mid next)
         → AsksOfRules → Along w stored_now provider m now → ReasonsBehind w stored base e marks p m now
-    reasons-along _ h may asks none = reasons_none w stored base e marks p m m refl
-    reasons-along now h may asks (further {mid = mid} along rule) =
-        let one : UpBehind w stored base p m mid = along-up w stored base laws p stored_now stored_is provider runs_cost builds_cost stores m mid h may along in
+    reasons-along _ h asks none = reasons_none w stored base e marks p m m refl
+    reasons-along now h asks (further {mid = mid} along rule) =
+        let one : UpBehind w stored base p m mid = along-up w stored base laws p stored_now stored_is provider runs_cost builds_cost stores m mid h along in
         let there : IsUpAt w stored base (after p one.more) mid = one.up (rule_is_up w stored_now provider mid now rule) in
         let a = asks one.more mid now one.marks_are there along rule in
-        reasons_then p m mid now one.more one.marks_are (reasons-along mid h may asks along)
+        reasons_then p m mid now one.more one.marks_are (reasons-along mid h asks along)
         (reasons-rule w laws stored base e marks (after p one.more) stored_now (IsStoredNow-after stored p stored_now stored_is one.more one.of_rules)
         a.0 provider mid now there a.1 rule)
 

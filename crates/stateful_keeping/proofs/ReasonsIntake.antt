@@ -33,7 +33,7 @@ use Rattle.stateful_standing.specs.Building.{IsBuilding}
 use Rattle.stateful_standing.specs.Gathering.{gathered, AreLinked, IsGathered}
 use Rattle.stateful_standing.specs.Requesting.{first_of}
 use Rattle.stateful_standing.specs.Setting.{setting}
-use Rattle.stateful_standing.proofs.EarnedJudged.{IsStoredNow}
+use Rattle.stateful_standing.specs.Storing.{IsStoredNow}
 use Rattle.stateful_standing.proofs.Gathered.{AreLinked-fetched}
 use Rattle.stateful_standing.proofs.ReasonBuilt.{built-reason}
 use Rattle.stateful_standing.proofs.ReasonFetched.{fetched-reason}

@@ -23,7 +23,7 @@ use Rattle.stateful_standing.specs.Gathering.{GatheringsStand}
 use Rattle.stateful_standing.specs.Requesting.{first_of}
 use Rattle.stateful_standing.specs.Standing.{TablesStand}
 use Rattle.stateful_standing.specs.Ways.{WaysStand}
-use Rattle.stateful_standing.proofs.EarnedJudged.{IsStoredNow}
+use Rattle.stateful_standing.specs.Storing.{IsStoredNow}
 use Rattle.stateful_standing.proofs.EarnedLeft.{LeavesBehind-advances}
 use Rattle.stateful_standing.proofs.FollowStands.{ticket_of, request_of}
 use Rattle.stateful_standing.proofs.GatheredResumed.{linked-resumed}

@@ -24,7 +24,7 @@ use Rattle.stateful_exec.specs.declared.state.Tables.{Tables}
 use Rattle.stateful_standing.specs.Gathering.{gathered, AreLinked}
 use Rattle.stateful_standing.specs.Requesting.{first_of}
 use Rattle.stateful_standing.specs.Setting.{setting}
-use Rattle.stateful_standing.proofs.EarnedJudged.{IsStoredNow}
+use Rattle.stateful_standing.specs.Storing.{IsStoredNow}
 use Rattle.stateful_standing.proofs.MovedStands.{TablesStand-free}
 use Rattle.stateful_standing.proofs.QueueLost.{declined-queued}
 use Rattle.stateful_standing.proofs.ReasonAcquired.{acquires-reason}

@@ -37,7 +37,7 @@ use Rattle.stateful_standing.proofs.Acquired.{Serves-acquires}
 use Rattle.stateful_standing.proofs.AnewStands as anew
 use Rattle.stateful_standing.proofs.AnewStands.{MayWait, entries_apart, IsResumed, IsResumed-by}
 use Rattle.stateful_standing.proofs.EarnedAcquired.{acquires-Earned}
-use Rattle.stateful_standing.proofs.EarnedJudged.{IsStoredNow}
+use Rattle.stateful_standing.specs.Storing.{IsStoredNow}
 use Rattle.stateful_standing.proofs.EarnedLeft.{LeavesBehind-advances, LeavesBehind-acquires}
 use Rattle.stateful_standing.proofs.EarnedMarks.{EarnsBehind, advances-Earned}
 use Rattle.stateful_standing.proofs.FollowStands.{ticket_of, request_of}

@@ -7,7 +7,7 @@ use Rattle.stateful_history.specs.Opening.{is_down, opening, opens}
 use Rattle.stateful_history.specs.Past.{Past, Made, after}
 use Rattle.stateful_history.specs.declared.mark.Mark.{Mark}
 use Rattle.stateful_history.specs.declared.mark.Mark.TheVariants.{Opened, Converged, Pruned, Stopped}
-use Rattle.stateful_standing.proofs.EarnedJudged.{IsStoredNow}
+use Rattle.stateful_standing.specs.Storing.{IsStoredNow}
 use Rattle.stateful_keeping.specs.RuleMarks.{IsOfRule}
 
 module _ {B C I : Type 0} where

@@ -13,19 +13,20 @@ use Rattle.stateful_exec.specs.Workings.{Workings, Point}
 use Rattle.stateful_standing.specs.Building.{BuildsTakeTurns}
 use Rattle.stateful_standing.specs.Fronting.{RunsTakeTurns}
 use Rattle.stateful_standing.specs.Setting.{setting}
-use Rattle.stateful_standing.proofs.EarnedJudged.{IsStoredNow}
+use Rattle.stateful_standing.specs.Storing.{IsStoredNow}
 use Rattle.stateful_processing.proofs.Sounding.{rule_sound}
 use Rattle.stateful_processing.specs.Moments.{Moment}
 use Rattle.stateful_processing.specs.Rules.{IsFinalizing, HasStates, AppliesBlock, Rule}
 use Rattle.stateful_processing.specs.Sound.{Sound}
 use Rattle.stateful_processing.specs.declared.tables.Finalizing.{Finalizing}
-use Rattle.stateful_keeping.specs.Behind.{UpBehind, RuleMay}
+use Rattle.stateful_keeping.specs.Behind.{UpBehind}
 use Rattle.stateful_keeping.specs.Checkpoints.{Keeping}
 use Rattle.stateful_keeping.specs.Execution.{Executes, ExecutesBehind}
 use Rattle.stateful_keeping.specs.RuleMarks.{IsOfRule, MarksBehind}
-use Rattle.stateful_keeping.specs.Stands.{IsUpAt}
+use Rattle.stateful_keeping.specs.Stands.{CapturedStands, IsUpAt}
 use Rattle.stateful_keeping.specs.Tickets.{TicketsBehind}
 use Rattle.stateful_keeping.specs.Ways.{StoresFinalized, WaysKept, WaysBehind}
+use Rattle.stateful_keeping.proofs.CapturedKept.{rule-captured}
 use Rattle.stateful_keeping.proofs.AnchorStands.{Executes-anchor, Executes-folded}
 use Rattle.stateful_keeping.proofs.ExecutesApplies.{Executes-applies}
 use Rattle.stateful_keeping.proofs.ExecutesRules.{executes-rule}
@@ -68,9 +69,9 @@ module _ {B C I P R D H G U : Type 0} (w : Workings B C I P R D H G U) (stored :
       })
 
   -- the parts stand behind the same marks
-  pub up_behind : Sound w now → IsInOrder now.loop.durability → ExecutesBehind w stored base p m now → TicketsBehind w stored p m now
-      → WaysBehind w stored p m now → MarksBehind w m now → DurablyBehind w stored base p m now → UpBehind w stored base p m now
-  up_behind sound in_order executes tickets ways marks loop =
+  pub up_behind : Sound w now → IsInOrder now.loop.durability → CapturedStands w now.loop.front → ExecutesBehind w stored base p m now
+      → TicketsBehind w stored p m now → WaysBehind w stored p m now → MarksBehind w m now → DurablyBehind w stored base p m now → UpBehind w stored base p m now
+  up_behind sound in_order captured executes tickets ways marks loop =
       let e = executes_at loop.more loop.marks_are executes in
       let t = tickets_at w stored p m now loop.more loop.marks_are tickets in
       record {
@@ -85,6 +86,7 @@ module _ {B C I P R D H G U : Type 0} (w : Workings B C I P R D H G U) (stored :
           in_order = in_order;
           executes = e.0;
           loop = loop.loop up;
+          captured = captured;
           tickets = t;
           ways = ways_at loop.more loop.marks_are ways;
         };
@@ -108,14 +110,14 @@ module _ {B C I P R D H G U : Type 0} (w : Workings B C I P R D H G U) (laws : L
       subst (λ (x : Point w). ShowsStates w stored f.block r.batch x) same
       (record { next = a.q; rest = a.rest; shows = a.shows; steps = a.matches.step })
 
-  -- The machine stands behind a rule, where the store has the finalized blocks that came, or none, at their heights, and what is
-  -- taken of a rule holds.
-  pub rule-up : RunsTakeTurns w → BuildsTakeTurns w → StoresFinalized w.header stored p → RuleMay w m now
-      → Rule w stored_now provider m now → UpBehind w stored base p m now
-  rule-up runs_cost builds_cost stores may rule =
+  -- The machine stands behind a rule, where the store has the finalized blocks that came, or none, at their heights.
+  pub rule-up : RunsTakeTurns w → BuildsTakeTurns w → StoresFinalized w.header stored p → Rule w stored_now provider m now
+      → UpBehind w stored base p m now
+  rule-up runs_cost builds_cost stores rule =
       up_behind w stored base p m now (rule_sound w laws stored_now provider m now rule h.sound)
       (rule_order w stored_now provider m now h.sound rule h.in_order)
-      (executes-rule w laws stored base p stored_now stored_is m now h runs_cost builds_cost provider may rule)
+      (rule-captured w stored_now provider m now h.executes.point h.executes.located rule h.captured)
+      (executes-rule w laws stored base p stored_now stored_is m now h runs_cost builds_cost provider rule)
       (rule-tickets w stored stored_now p base m h.executes h.tickets provider now rule)
       (WaysBehind-rule w laws stored stored_now base p m now h.sound h.executes h.tickets h.ways stored_is stores provider rule)
       (rule_marks w stored_now provider m now rule)

@@ -14,7 +14,7 @@ use Rattle.stateful_history.specs.declared.event.Event.TheVariants as event
 use Rattle.stateful_history.specs.declared.mark.Mark.{Mark}
 use Rattle.stateful_exec.specs.Workings.{Workings}
 use Rattle.stateful_standing.specs.Setting.{setting}
-use Rattle.stateful_standing.proofs.EarnedJudged.{IsStoredNow}
+use Rattle.stateful_standing.specs.Storing.{IsStoredNow}
 use Rattle.stateful_processing.proofs.SoundingIntake.{taken_in_sound}
 use Rattle.stateful_processing.specs.Intake.{Counts, TakesIn}
 use Rattle.stateful_processing.specs.Moments.{Moment}
@@ -23,10 +23,11 @@ use Rattle.stateful_processing.specs.Sound.{Sound, IsUp}
 use Rattle.stateful_keeping.specs.Durability.{IsDurablySaid, LoopBehind}
 use Rattle.stateful_keeping.specs.Execution.{Executes, NamesBehind, ExecutesBehind}
 use Rattle.stateful_keeping.specs.RuleMarks.{MarksBehind}
-use Rattle.stateful_keeping.specs.Stands.{LoopStands, IsUpAt}
+use Rattle.stateful_keeping.specs.Stands.{CapturedStands, LoopStands, IsUpAt}
 use Rattle.stateful_keeping.specs.TakenBehind.{TakenBehind}
 use Rattle.stateful_keeping.specs.Tickets.{TicketsStand, TicketsBehind}
 use Rattle.stateful_keeping.specs.Ways.{WaysKept, WaysBehind}
+use Rattle.stateful_keeping.proofs.CapturedKept.{taken_in-captured}
 use Rattle.stateful_keeping.proofs.ExecutesTaken.{Executes-taken}
 use Rattle.stateful_keeping.proofs.LoopIntake.{LoopBehind-takes_in}
 use Rattle.stateful_keeping.proofs.MarksOfRules.{taken_in_marks}
@@ -57,9 +58,9 @@ module _ {B C I P R D H G U : Type 0} (w : Workings B C I P R D H G U) where
 module _ {B C I P R D H G U : Type 0} (w : Workings B C I P R D H G U) (stored : ℕ → Option (Named B)) (base : w.States) (q : Past B C I)
     (m now : Moment w) where
   -- What stands behind the event is put together of what stands of execution, of the loop, of what waits and of the ways.
-  pub TakenBehind-of : Sound w now → IsInOrder now.loop.durability → MarksBehind w m now → ExecutesBehind w stored base q m now
+  pub TakenBehind-of : Sound w now → IsInOrder now.loop.durability → CapturedStands w now.loop.front → MarksBehind w m now → ExecutesBehind w stored base q m now
       → LoopBehind w stored base q m now → TicketsBehind w stored q m now → WaysBehind w stored q m now → TakenBehind w stored base q m now
-  TakenBehind-of sound in_order made x l t k =
+  TakenBehind-of sound in_order captured made x l t k =
       let by_execution : x.more ≡ made.more = append_cancel_left m.marks x.more made.more (sym x.marks_are ∙ made.marks_are) in
       let by_loop : l.more ≡ made.more = append_cancel_left m.marks l.more made.more (sym l.marks_are ∙ made.marks_are) in
       let by_tickets : t.more ≡ made.more = append_cancel_left m.marks t.more made.more (sym t.marks_are ∙ made.marks_are) in
@@ -73,6 +74,7 @@ module _ {B C I P R D H G U : Type 0} (w : Workings B C I P R D H G U) (stored :
           in_order = in_order;
           executes = subst (λ (marks : List (Mark B)). Executes w stored base (after q marks) now) by_execution x.executes;
           loop = subst (λ (marks : List (Mark B)). LoopStands w stored base (after q marks) now) by_loop l.loop;
+          captured = captured;
           tickets = subst (λ (marks : List (Mark B)). TicketsStand w stored (after q marks) now) by_tickets t.tickets;
           ways = subst (λ (marks : List (Mark B)). WaysKept w stored (after q marks) now.execution.state) by_ways k.kept;
         };
@@ -93,6 +95,7 @@ module _ {B C I P R D H G U : Type 0} (w : Workings B C I P R D H G U) (laws : L
       TakenBehind-of w stored base (Came e ∷ p) m now
       (taken_in_sound w laws stored_now counts m now e takes u)
       (taken_in_order w stored_now counts e m now takes h.in_order)
+      (taken_in-captured w stored_now counts e m now takes h.captured)
       made
       (Executes-taken w laws stored base p stored_now stored_is w.kind.count counts m now h.executes h.ways e on live names takes)
       (LoopBehind-takes_in w stored base p m now h.loop laws u stored_now counts e on takes)

@@ -22,7 +22,7 @@ use Rattle.stateful_exec.specs.declared.walk.Acquired.TheVariants as acquired
 use Rattle.stateful_standing.specs.Ground.{IsGround}
 use Rattle.stateful_standing.specs.Requesting.{first_of}
 use Rattle.stateful_standing.specs.Setting.{setting}
-use Rattle.stateful_standing.proofs.EarnedJudged.{IsStoredNow}
+use Rattle.stateful_standing.specs.Storing.{IsStoredNow}
 
 eq-other : (a b : ℕ) → a ≢ b → (a == b) ≡ false
 eq-other a b ne = grind (arith, common_steps)

@@ -24,7 +24,7 @@ use Rattle.stateful_exec.specs.declared.tables.Phase.TheVariants.{Parked}
 use Rattle.stateful_exec.specs.declared.tables.Requested.{Requested}
 use Rattle.stateful_standing.specs.Setting.{setting}
 use Rattle.stateful_standing.specs.Ways.{IsOnOpenWay, WaysStand}
-use Rattle.stateful_standing.proofs.EarnedJudged.{IsStoredNow}
+use Rattle.stateful_standing.specs.Storing.{IsStoredNow}
 use Rattle.stateful_standing.proofs.SamePast.{IsSamePast}
 use Rattle.stateful_processing.specs.Moments.{Moment}
 use Rattle.stateful_processing.specs.Opening.{Opens}

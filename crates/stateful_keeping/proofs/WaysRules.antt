@@ -13,7 +13,7 @@ use Rattle.stateful_history.specs.declared.mark.Mark.{Mark}
 use Rattle.stateful_history.specs.declared.mark.Mark.TheVariants.{BarrierBegun, BarrierDone, Databases}
 use Rattle.stateful_exec.specs.Workings.{Workings}
 use Rattle.stateful_standing.proofs.EarnedCarried.{IsMild}
-use Rattle.stateful_standing.proofs.EarnedJudged.{IsStoredNow}
+use Rattle.stateful_standing.specs.Storing.{IsStoredNow}
 use Rattle.stateful_processing.specs.Moments.{Moment, Executing, with_loop}
 use Rattle.stateful_processing.specs.Rules as rules
 use Rattle.stateful_processing.specs.Rules.{acknowledged, BeginsBarrier, CompletesBarrier, Takes, DoesMessage, Rule}

@@ -1,5 +1,5 @@
--- What stands behind a rule of the loop of a machine that was up, and what is taken of one of the rules.
-use Rattle.std.specs.Prelude.{◌≡◌, ◌≢◌, ◌<◌, ℕ, true, Option, Some, None, List, ◌++◌, All}
+-- What stands behind a rule of the loop of a machine that was up.
+use Rattle.std.specs.Prelude.{◌≡◌, ◌≢◌, ◌<◌, ℕ, true, Option, None, List, ◌++◌, All}
 use Rattle.stateful_types.specs.Names.{Named}
 use Rattle.stateful_durability.specs.Durability.{IsInOrder}
 use Rattle.stateful_history.specs.Barriers.{begun_over}
@@ -7,9 +7,7 @@ use Rattle.stateful_history.specs.Holding.{Holds}
 use Rattle.stateful_history.specs.Joined.{TrueIsEarned}
 use Rattle.stateful_history.specs.Past.{Past, EachMark, after}
 use Rattle.stateful_history.specs.declared.mark.Mark.{Mark}
-use Rattle.stateful_exec.specs.Finalizing.{front_at}
 use Rattle.stateful_exec.specs.Workings.{Workings}
-use Rattle.stateful_exec.specs.declared.front.Stage.TheVariants.{Advanced}
 use Rattle.stateful_standing.specs.Setting.{setting}
 use Rattle.stateful_keeping.specs.Durability.{IsDurablySaid}
 use Rattle.stateful_keeping.specs.Execution.{Executes}
@@ -17,9 +15,7 @@ use Rattle.stateful_keeping.specs.RuleMarks.{IsOfRule}
 use Rattle.stateful_keeping.specs.Stands.{IsUpAt}
 use Rattle.stateful_keeping.specs.Tickets.{TicketsStand}
 use Rattle.stateful_processing.specs.Moments.{Moment}
-use Rattle.stateful_processing.specs.Rules.{IsFinalizing, ObservesBlock}
 use Rattle.stateful_processing.specs.Sound.{Sound}
-use Rattle.stateful_processing.specs.declared.tables.Finalizing.{Finalizing}
 
 module _ {B C I P R D H G U : Type 0} (w : Workings B C I P R D H G U) (stored : ℕ → Option (Named B))
     (base : w.States) (p : Past B C I) (m now : Moment w) where
@@ -41,11 +37,3 @@ module _ {B C I P R D H G U : Type 0} (w : Workings B C I P R D H G U) (stored :
     pub tickets : TicketsStand w stored (after p more) now
     pub holds : Holds (setting w stored) w.kind base (after p more) now.members
     pub numbers : (k : ℕ) → begun_over k (after p more) ≢ None → k < now.loop.next_barrier
-
--- What the machine doesn't give yet of a rule: where a block is observed, what was captured was read in the context in which it
--- is observed, of some states.
-pub record RuleMay {B C I P R D H G U : Type 0} (w : Workings B C I P R D H G U) (m now : Moment w) : Type 0 where
-  pub observes_captured : (f : Finalizing B G) (captured : G) → IsFinalizing w m f
-      → m.execution.front ≡ front_at f.block Advanced → f.captured ≡ Some captured
-      → (o : ObservesBlock w f captured m now)
-      → (before : w.States) × w.works.captures captured o.observes.left_is.context f.block.block before

@@ -1,5 +1,5 @@
 -- What a machine that is up stands for.
-use Rattle.std.specs.Prelude.{◌≡◌, ℕ, Option}
+use Rattle.std.specs.Prelude.{◌≡◌, ℕ, Option, IfSome}
 use Rattle.stateful_types.specs.Names.{Named}
 use Rattle.stateful_types.specs.declared.anchor.Anchor.{Anchor}
 use Rattle.stateful_durability.specs.Durability.{IsInOrder}
@@ -14,6 +14,17 @@ use Rattle.stateful_keeping.specs.Tickets.{TicketsStand}
 use Rattle.stateful_keeping.specs.Ways.{WaysKept}
 use Rattle.stateful_processing.specs.Moments.{Moment}
 use Rattle.stateful_processing.specs.Sound.{Sound}
+use Rattle.stateful_processing.specs.declared.tables.Finalizing.{Finalizing}
+
+module _ {B C I P R D H G U : Type 0} (w : Workings B C I P R D H G U) where
+  -- this was read for the block, in what consensus knows of it, of some states
+  pub record IsCaptured (b : Named B) (captured : G) : Type 0 where
+    pub before : w.States
+    pub read : w.works.captures captured (w.context_of b.block) b.block before
+
+  -- what was captured for the block that is finalized was read for it
+  abbrev pub CapturedStands : Option (Finalizing B G) → Type 0
+  CapturedStands front = IfSome front (λ f. IfSome f.captured (λ captured. IsCaptured f.block captured))
 
 module _ {B C I P R D H G U : Type 0} (w : Workings B C I P R D H G U) (stored : ℕ → Option (Named B)) (base : w.States) (p : Past B C I) where
   -- The databases keep what was applied since the opening, and are durable as far as the loop has it; the open barriers stand,
@@ -33,5 +44,6 @@ module _ {B C I P R D H G U : Type 0} (w : Workings B C I P R D H G U) (stored :
     pub in_order : IsInOrder m.loop.durability
     pub executes : Executes w stored base p m
     pub loop : LoopStands m
+    pub captured : CapturedStands w m.loop.front
     pub tickets : TicketsStand w stored p m
     pub ways : WaysKept w stored p m.execution.state

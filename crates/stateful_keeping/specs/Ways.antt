@@ -34,6 +34,11 @@ module _ {B : Type 0} (header : Header B) (stored : ℕ → Option (Named B)) wh
   StoresFinalized (Came (Finalized t b) ∷ p) = StoresAs b × StoresFinalized p
   StoresFinalized (item ∷ p) = StoresFinalized p
 
+  -- The store is honest: what it has at a height is a block of that height, and the one that came as finalized, if one came.
+  pub record HasHonestStore {C I : Type 0} (p : Past B C I) : Type 0 where
+    pub heights : StoresHeights
+    pub finalized : StoresFinalized p
+
 module _ {B C I P R D H G U : Type 0} (w : Workings B C I P R D H G U) (stored : ℕ → Option (Named B)) (p : Past B C I) where
   -- where the store has a block of the anchor's height, it has the anchor's
   abbrev pub StoresAnchor : Type 0

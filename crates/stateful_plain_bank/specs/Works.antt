@@ -1,8 +1,9 @@
 -- How the bank works over one database that is kept whole.
-use Rattle.std.specs.Prelude.{ℕ, Some}
+use Rattle.std.proofs.Common.{◌≡◌, ◌<◌, ℕ, max, Some, some_injective, subst, arith}
+use Rattle.std.proofs.lemmas.Grind.{common_steps}
 use Rattle.stateful_types.specs.declared.round.Round.{Round}
 use Rattle.stateful_types.specs.declared.target.Target.{Target}
-use Rattle.stateful_db.specs.Works.{Works}
+use Rattle.stateful_db.specs.Works.{Works, TakesTurns}
 use Rattle.stateful_bank.specs.declared.ask.Ask.{Ask}
 use Rattle.stateful_bank.specs.declared.block.BankBlock.{BankBlock}
 use Rattle.stateful_bank.specs.Balances.{run_turns}
@@ -30,4 +31,14 @@ bank_works = record {
   hooks = λ hooked h turns. IsLeft hooked h.block.slow turns;
   Notes = Unit {0};
   noted = λ notes block. notes;
+}
+
+at_least_one : (x n : ℕ) → Some (max 1 x) ≡ Some n → 0 < n
+at_least_one x n is = grind (arith, common_steps)
+
+-- runs and builds take a turn at least
+pub bank_takes_turns : TakesTurns bank_works
+bank_takes_turns = record {
+  runs = λ f s b n is. at_least_one _ n is;
+  builds = λ asked s n is. at_least_one _ n is;
 }

@@ -117,7 +117,7 @@ impl Application for Bank {
     ghost use Rattle.stateful_plain_bank.specs.Hooks.{IsLeft, GoesOn};
     ghost use Rattle.stateful_plain_bank.specs.Runs.{IsRun, EachRunAt, IsSealed, counted};
     ghost use Rattle.stateful_plain_bank.specs.Builds.{IsBuild, EachBuildAt, IsBuilt};
-    ghost use Rattle.stateful_plain_bank.specs.Works.{bank_works};
+    ghost use Rattle.stateful_plain_bank.specs.Works.{bank_works, bank_takes_turns};
 
     type SigningScheme = VoteScheme;
 
@@ -142,6 +142,8 @@ impl Application for Bank {
     ghost works = { bank_works };
 
     ghost notes = { λ bank. tt };
+
+    ghost takes_turns = { bank_takes_turns };
 
     /// A block of another number of targets than one commits to the empty state.
     fn sync_targets(block: &BankBlock) -> Target {

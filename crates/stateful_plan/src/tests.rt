@@ -222,6 +222,8 @@ impl Block for Letter {
       bytes = λ b. b.letter ∷ [];
     } };
 
+    ghost context_of = { λ b. record { epoch = record { 0 = 0 }; view = record { 0 = 0 } } };
+
     fn parent(&self) -> Digest {
         Digest([0; 32])
     }

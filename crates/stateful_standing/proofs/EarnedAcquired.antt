@@ -22,7 +22,8 @@ use Rattle.stateful_standing.specs.Standing.{TablesStand, IsInHand}
 use Rattle.stateful_standing.proofs.Acquired.{IsWayOf-ready}
 use Rattle.stateful_standing.proofs.ReadyWalks.{ready-at_hand}
 use Rattle.stateful_standing.proofs.EarnedPath.{IsFolded}
-use Rattle.stateful_standing.proofs.EarnedJudged.{IsStoredNow, Earned-judged}
+use Rattle.stateful_standing.specs.Storing.{IsStoredNow}
+use Rattle.stateful_standing.proofs.EarnedJudged.{Earned-judged}
 use Rattle.stateful_standing.proofs.EarnedMarks.{EarnsBehind, IsTrue, concludes-Earned, concludes-invalid, advances-Earned}
 
 module _ {B C I P R D H G U : Type 0} (w : Workings B C I P R D H G U) (stored : ℕ → Option (Named B)) (base : w.States) (p : Past B C I) (points : Digest → Point w) (point : Point w) (m : Moment w) (s : TablesStand w stored p points point m.next m.state)

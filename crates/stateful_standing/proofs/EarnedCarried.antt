@@ -11,7 +11,7 @@ use Rattle.stateful_history.specs.declared.mark.Mark.TheVariants.{Opened, Conver
 use Rattle.stateful_exec.specs.Ending.{InTurn, none, next}
 use Rattle.stateful_exec.specs.Moments.{Moment}
 use Rattle.stateful_exec.specs.Workings.{Workings, Point}
-use Rattle.stateful_standing.proofs.EarnedJudged.{IsStoredNow}
+use Rattle.stateful_standing.specs.Storing.{IsStoredNow}
 use Rattle.stateful_standing.proofs.EarnedMarks.{AreEarned, EarnsBehind}
 use Rattle.stateful_standing.proofs.EarnedPath.{IsFolded}
 use Rattle.stateful_standing.proofs.EarnedTogether.{EarnsBehind-same, EarnsBehind-then}

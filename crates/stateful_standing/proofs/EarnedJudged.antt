@@ -20,6 +20,7 @@ use Rattle.stateful_exec.specs.declared.state.Tables.{Tables}
 use Rattle.stateful_standing.specs.Setting.{setting}
 use Rattle.stateful_standing.specs.Caching.{IsKnownBy}
 use Rattle.stateful_standing.specs.Standing.{TablesStand}
+use Rattle.stateful_standing.specs.Storing.{IsStoredNow}
 use Rattle.stateful_standing.proofs.EarnedPath.{IsFolded, Joined-at_hand}
 
 nat_eq-other : (a b : ℕ) → a ≢ b → (a == b) ≡ false
@@ -34,10 +35,6 @@ nat_lt-below a b l = grind (arith, common_steps)
 cond_same : {X Y : Type 0} (f : X → Y) (c : Bool) (o : Option X) → (if c then None else option_map f o) ≡ option_map f (if c then None else o)
 cond_same f true o = refl
 cond_same f false o = refl
-
--- the blocks that the store has now are those that it was handed and that weren't pruned since
-abbrev pub IsStoredNow : {B C I : Type 0} → (ℕ → Option (Named B)) → Past B C I → (ℕ → Option (Named B)) → Type 0
-IsStoredNow stored p stored_now = (h : ℕ) → stored_now h ≡ (if nat_lt h (pruned_below p) then None else stored h)
 
 nat_lt-not_below : (a b : ℕ) → b < a → nat_lt a b ≡ false
 nat_lt-not_below a b l = grind (arith, common_steps)

@@ -37,14 +37,14 @@ module _ {B C I P R D H G U : Type 0} (w : Workings B C I P R D H G U) (stored :
         (TablesStand-numbered w stored p points point next old (old.next_job + 1) (omega arith) s)
 
     -- the finalization stands with the hook, which costs some turn
-    pub FrontStands-hooks : (members : w.kind.Members) → w.kind.point members ≡ Some point → (captured : G) (hook : H) (left : IsLeftBehind w b captured members (hooked.Pending hook)) (before : w.States) → w.works.captures captured left.context b.block before
+    pub FrontStands-hooks : (members : w.kind.Members) → w.kind.point members ≡ Some point → (captured : G) (hook : H) (left : IsLeftBehind w b captured members (hooked.Pending hook)) (before : w.States) → w.works.captures captured (w.context_of b.block) b.block before
         → FrontStands w stored (Made (Started old.next_job Hook b.digest) ∷ p) point next old.anchor (front_at b (Hooking old.next_job hook))
     FrontStands-hooks members located captured hook left before read = record {
       at_stage = (
         f.at_stage,
         record {
           job = record { live = rw (eq-eqb old.next_job old.next_job refl) refl; is = rw (eq-eqb old.next_job old.next_job refl) refl };
-          context = left.context;
+          context = w.context_of b.block;
           round = left.round;
           before = before;
           hooks = rw (s.numbers.unturned old.next_job (omega arith)) (left.hooks before point read located);

@@ -99,7 +99,7 @@ module _ {B C I P R D H G U : Type 0} (w : Workings B C I P R D H G U) (stored :
         settled_hook j c h next_hook answer after_turn count (subst (λ o. FrontStands w stored p point m.next m.state.anchor o) is_live.is f) had settles same
     StandsWithFront-hooks count front after_turn j b hook live f (unhooked off marks is) same = absurd (off b hook live)
 
-    observed : (b : Named B) (captured : G) (hook : Hooked H) (front : Option (Front B R U H)) (live : Bool) → (left : IsLeftBehind w b captured m.members hook) → (before : w.States) → w.works.captures captured left.context b.block before
+    observed : (b : Named B) (captured : G) (hook : Hooked H) (front : Option (Front B R U H)) (live : Bool) → (left : IsLeftBehind w b captured m.members hook) → (before : w.States) → w.works.captures captured (w.context_of b.block) b.block before
         → HooksOn w b hook m.state now.state m.marks now.marks front live → now.members ≡ m.members → now.next ≡ m.next → FrontStands w stored p point m.next m.state.anchor (front_at b Advanced) → StandsWithFront p m now front
     observed b captured hooked.Done front live left before read is members next f = record {
       more = [];
@@ -120,6 +120,6 @@ module _ {B C I P R D H G U : Type 0} (w : Workings B C I P R D H G U) (stored :
 
     -- Behind what the application observes of the finalized block, and the hook that it may leave, where what it has read was in
     -- the context that it is left with.
-    pub StandsWithFront-observes : (b : Named B) (captured : G) (front : Option (Front B R U H)) (live : Bool) → (o : Observes w b captured m.members m.state now.state m.marks now.marks front live) → (before : w.States) → w.works.captures captured o.left_is.context b.block before
+    pub StandsWithFront-observes : (b : Named B) (captured : G) (front : Option (Front B R U H)) (live : Bool) → (o : Observes w b captured m.members m.state now.state m.marks now.marks front live) → (before : w.States) → w.works.captures captured (w.context_of b.block) b.block before
         → now.members ≡ m.members → now.next ≡ m.next → FrontStands w stored p point m.next m.state.anchor (front_at b Advanced) → StandsWithFront p m now front
     StandsWithFront-observes b captured front live o before read members next f = observed b captured o.hook front live o.left_is before read o.hooks_on members next f

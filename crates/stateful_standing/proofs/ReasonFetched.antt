@@ -21,7 +21,7 @@ use Rattle.stateful_standing.specs.Gathering.{gathered, AreLinked}
 use Rattle.stateful_standing.specs.Requesting.{first_of}
 use Rattle.stateful_standing.specs.Standing.{TablesStand}
 use Rattle.stateful_standing.proofs.Cancelled.{own_fetch}
-use Rattle.stateful_standing.proofs.EarnedJudged.{IsStoredNow}
+use Rattle.stateful_standing.specs.Storing.{IsStoredNow}
 use Rattle.stateful_standing.proofs.FetchStands.{TablesStand-fetched, IsInHand-fetched, acquired-fetched}
 use Rattle.stateful_standing.proofs.KeptMarks.{KeepsBehind, KeepsBehind-same}
 use Rattle.stateful_standing.proofs.ReasonAcquired.{acquires-reason}

@@ -29,7 +29,7 @@ use Rattle.stateful_standing.specs.Gathering.{gathered, AreLinked}
 use Rattle.stateful_standing.specs.Requesting.{first_of, steps, IsWayOf}
 use Rattle.stateful_standing.specs.Ways.{KeepOff, IsUnsettled, WaysStand}
 use Rattle.stateful_standing.proofs.Acquired.{Serves-acquires}
-use Rattle.stateful_standing.proofs.EarnedJudged.{IsStoredNow}
+use Rattle.stateful_standing.specs.Storing.{IsStoredNow}
 use Rattle.stateful_standing.proofs.EarnedLeft.{LeavesBehind-advances, LeavesBehind-acquires}
 use Rattle.stateful_standing.proofs.FollowStands.{ticket_of, request_of}
 use Rattle.stateful_standing.proofs.KeptInTurn.{IsCarried, AreGrounded, AreGrounded-in_turn}

@@ -29,7 +29,8 @@ use Rattle.stateful_standing.specs.Setting.{setting}
 use Rattle.stateful_standing.specs.Gathering.{AreLinked}
 use Rattle.stateful_standing.proofs.Acquired.{leads_down, first_walked}
 use Rattle.stateful_standing.proofs.AdvanceStands.{All-front, All-back}
-use Rattle.stateful_standing.proofs.EarnedJudged.{IsStoredNow, canonical-at, canonical-below, canonical-above}
+use Rattle.stateful_standing.specs.Storing.{IsStoredNow}
+use Rattle.stateful_standing.proofs.EarnedJudged.{canonical-at, canonical-below, canonical-above}
 use Rattle.stateful_standing.proofs.EarnedPath.{IsFolded}
 use Rattle.stateful_standing.proofs.ReasonMissing.{Missing-along, Missing-child, Missing-first}
 

@@ -15,3 +15,4 @@ pub mod Beside
 pub mod Ground
 pub mod Crossing
 pub mod Orderly
+pub mod Storing

@@ -171,6 +171,8 @@ impl Block for Numbered {
       bytes = λ b. b.number ∷ [];
     } };
 
+    ghost context_of = { λ b. b.place.round };
+
     fn parent(&self) -> Digest {
         self.place.digest
     }

@@ -29,6 +29,8 @@ impl Block for Letter {
       bytes = λ b. b.letter ∷ [];
     } };
 
+    ghost context_of = { λ b. b.round };
+
     fn parent(&self) -> Digest {
         self.parent
     }

@@ -23,6 +23,9 @@ pub trait Block {
     /// What the block says of itself: its parent, height, round and bytes.
     ghost header: { Header Self };
 
+    /// What consensus knows of it.
+    ghost context_of: { Self → Self.Context };
+
     /// The digest of its parent.
     fn parent(&self) -> Digest
         ensures { result ≡ header.parent self.now };
@@ -31,9 +34,10 @@ pub trait Block {
     fn height(&self) -> Height
         ensures { result.0 ≡ header.height self.now };
 
-    /// What consensus knows of it.
+    /// What consensus knows of it, of the round that it says.
     fn context(&self) -> Self::Context
-        ensures { Self.Context.round_of result ≡ header.round self.now };
+        ensures same { result ≡ context_of self.now }
+        ensures round { Self.Context.round_of result ≡ header.round self.now };
 
     /// Appends the block's bytes.
     fn encode(&self, out: &mut Vec<u8>) -> Result<(), OutOfMemory>

@@ -12,3 +12,4 @@ pub mod StepStands
 pub mod StoresBefore
 pub mod StepsStand
 pub mod HistoryStands
+pub mod StillStands

@@ -7,7 +7,7 @@ use Rattle.stateful_history.specs.Past.{Past, Came, Made}
 use Rattle.stateful_history.specs.declared.event.Event.{Event}
 use Rattle.stateful_history.specs.declared.event.Event.TheVariants.{Flushed, Restart}
 use Rattle.stateful_history.specs.declared.mark.Mark.TheVariants.{BarrierBegun, BarrierDone, Stopped}
-use Rattle.stateful_core.specs.Machine.{numbered}
+use Rattle.stateful_whole.specs.Machine.{numbered}
 
 lower : (i few many : ℕ) → few ≤ many → nat_lt i few ≡ true → nat_lt i many ≡ true
 lower i few many le lt = grind (arith, common_steps)

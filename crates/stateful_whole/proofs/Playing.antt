@@ -2,7 +2,7 @@
 use Rattle.std.proofs.Common.{◌≡◌, ◌≢◌, ◌⊎◌, ◌++◌, ◌∷◌, [], inl, inr, ℕ, true, false, not, List, All, Option, sym, ap, ◌∙◌, subst, append_assoc, true≢false}
 use Rattle.std.specs.List.{Contains}
 use Rattle.std.proofs.lemmas.List.{append_cancel_left}
-use Rattle.std.proofs.lemmas.List.Elements.{All-append, Contains-append_right, Contains-push}
+use Rattle.std.proofs.lemmas.List.Elements.{All-append, All-push, Contains-append_right, Contains-push}
 use Rattle.stateful_types.specs.Names.{Named}
 use Rattle.stateful_db.specs.Laws.{Laws}
 use Rattle.stateful_history.specs.Canonical.{pruned_below}
@@ -25,7 +25,7 @@ use Rattle.stateful_register.specs.declared.register.Register.{Register}
 use Rattle.stateful_standing.specs.Building.{BuildsTakeTurns}
 use Rattle.stateful_standing.specs.Fronting.{RunsTakeTurns}
 use Rattle.stateful_standing.specs.Setting.{setting}
-use Rattle.stateful_standing.proofs.EarnedJudged.{IsStoredNow}
+use Rattle.stateful_standing.specs.Storing.{IsStoredNow}
 use Rattle.stateful_keeping.specs.Down.{IsEnding}
 use Rattle.stateful_keeping.specs.EventBehind.{EventBehind, StoppedBehind}
 use Rattle.stateful_keeping.specs.Execution.{NamesBehind}
@@ -41,12 +41,12 @@ use Rattle.stateful_processing.specs.Clearing.{IsCleared}
 use Rattle.stateful_processing.specs.Intake.{Counts, TakesIn}
 use Rattle.stateful_processing.specs.Intake as intake
 use Rattle.stateful_processing.specs.Moments.{Moment}
-use Rattle.stateful_core.specs.Machine.{numbered}
-use Rattle.stateful_core.specs.Steps.{Stops, Advances}
+use Rattle.stateful_whole.specs.Machine.{numbered}
+use Rattle.stateful_whole.specs.Steps.{Stops, Advances}
 use Rattle.stateful_whole.specs.Stands.{StandsAt}
-use Rattle.stateful_whole.specs.StepBehind.{StepBehind, RulesMay}
+use Rattle.stateful_whole.specs.StepBehind.{IsCommittedTo, StepBehind}
 use Rattle.stateful_whole.proofs.LiveFlushes.{numbered_le, names_live-more}
-use Rattle.stateful_whole.proofs.StartRules.{PrunedIsDue-rules, PrunedIsDue-ends, PrunedIsDue-stopped, EndsStopped-unbroken, BrokeBefore-after, StartsClean-rules, StartsClean-ends, StopsClean-rules, StopsClean-ends, OpenedIsStored-rules, OpenedIsStored-ends, OpenedIsStored-stopped}
+use Rattle.stateful_whole.proofs.StartRules.{IsCommittedTo-rules, IsCommittedTo-ends, PrunedIsDue-rules, PrunedIsDue-ends, PrunedIsDue-stopped, EndsStopped-unbroken, BrokeBefore-after, StartsClean-rules, StartsClean-ends, StopsClean-rules, StopsClean-ends, OpenedIsStored-rules, OpenedIsStored-ends, OpenedIsStored-stopped}
 use Rattle.stateful_whole.proofs.StaysUp.{Broke, along-stays, takes_in-stays}
 use Rattle.stateful_whole.proofs.Stepping.{may_come-up, is_down-came, base-same, StepBehind-of}
 use Rattle.stateful_whole.proofs.Unbroken.{IsUnbroken, UnbrokenBehind, taken_in_unbroken, along_unbroken}
@@ -55,7 +55,7 @@ use Rattle.stateful_whole.proofs.WorkEnds.{IsWorkEnd, EndsAll-ends, IsWorkEnd-en
 module _ {B C I P R D H G U : Type 0} (w : Workings B C I P R D H G U) (laws : Laws w.kind) (stored : ℕ → Option (Named B)) (base : w.States)
     (p : Past B C I) (stored_now : ℕ → Option (Named B)) (stored_is : IsStoredNow stored p stored_now) (counts : Counts R D H) (provider : P)
     (runs_cost : RunsTakeTurns w) (builds_cost : BuildsTakeTurns w) (event : Event B C I) (on : IsRestart event → ⊥)
-    (may_come_is : may_come (numbered w.kind.count) p event ≡ true) (may : RulesMay w stored stored_now provider base (Came event ∷ p))
+    (may_come_is : may_come (numbered w.kind.count) p event ≡ true)
     (stores : StoresFinalized w.header stored (Came event ∷ p))
     (m settled : Moment w) (s : StandsAt w stored base p m) (a : Advances w stored_now provider counts event m settled) where
   abbrev q : Past B C I
@@ -68,16 +68,16 @@ module _ {B C I P R D H G U : Type 0} (w : Workings B C I P R D H G U) (laws : L
   up = s.up_is ∙ ap (λ b. not b) was_up
 
   marks_are : settled.marks ≡ m.marks ++ settled.marks
-  marks_are = ap (λ (ms : List (Mark B)). ms ++ settled.marks) (sym s.unmarked)
+  marks_are = ap (λ (ms : List (Mark B)). ms ++ settled.marks) (sym s.restart.unmarked)
 
   behind : NamesBehind w stored base q m settled → EventBehind w stored base q m settled
   behind names =
       event-up w laws stored base p stored_now stored_is counts provider runs_cost builds_cost event m a.taken settled up (s.up up).1 (s.up up).0 on
       (names_live-more (numbered w.kind.count) w.kind.count (numbered_le w.kind.count) p event
-      (may_come-live (numbered w.kind.count) p event on may_come_is)) names stores may a.takes a.settles.along
+      (may_come-live (numbered w.kind.count) p event on may_come_is)) names stores a.takes a.settles.along
 
   more_are : (more : List (Mark B)) (last : Moment w) → last.marks ≡ m.marks ++ more → more ≡ last.marks
-  more_are more last is = sym (is ∙ ap (λ (ms : List (Mark B)). ms ++ more) s.unmarked)
+  more_are more last is = sym (is ∙ ap (λ (ms : List (Mark B)). ms ++ more) s.restart.unmarked)
 
   -- it isn't behind a stop
   still_up : settled.loop.up ≡ true → event ≡ Stop → ⊥
@@ -114,6 +114,7 @@ module _ {B C I P R D H G U : Type 0} (w : Workings B C I P R D H G U) (laws : L
         said = b.said;
         due = λ rule. PrunedIsDue-rules (setting w stored) rule q b.more b.of_rules;
         opened = OpenedIsStored-rules (setting w stored) event q b.more b.of_rules;
+        committed = IsCommittedTo-rules w stored base b.more b.of_rules;
         clean_start = StartsClean-rules q b.more b.of_rules;
         clean_stop = StopsClean-rules event b.more q b.more b.of_rules;
         ends_stopped = EndsStopped-unbroken event b.more no_stop unbroken;
@@ -219,6 +220,9 @@ module _ {B C I P R D H G U : Type 0} (w : Workings B C I P R D H G U) (laws : L
       opened = each_down (OpenedIsStored (setting w stored) event) (OpenedIsStored-rules (setting w stored) event q b.more b.of_rules)
           (OpenedIsStored-ends (setting w stored) event (after q b.more) over ends_work)
           (OpenedIsStored-stopped (setting w stored) event (after (after q b.more) over));
+      committed = subst (λ (ms : List (Mark B)). All (IsCommittedTo w stored base) ms) (sym down_are_both)
+          (All-append (IsCommittedTo w stored base) b.more last (IsCommittedTo-rules w stored base b.more b.of_rules)
+          (All-push (IsCommittedTo w stored base) over Stopped (IsCommittedTo-ends w stored base over ends_work) tt));
       clean_start = each_down StartsClean (StartsClean-rules q b.more b.of_rules) (StartsClean-ends (after q b.more) over ends_work) tt;
       clean_stop = each_down (StopsClean event down.more) (StopsClean-rules event down.more q b.more b.of_rules)
           (StopsClean-ends event down.more (inr (inr has_stopped)) (after q b.more) over ends_work) (why_here, none_live);

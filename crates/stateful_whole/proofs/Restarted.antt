@@ -22,7 +22,7 @@ use Rattle.stateful_register.specs.Ends.{EndsAll, LeavesNothing}
 use Rattle.stateful_register.specs.Register.{RegisterStands}
 use Rattle.stateful_register.specs.declared.register.Register.{Register}
 use Rattle.stateful_standing.specs.Setting.{setting}
-use Rattle.stateful_standing.proofs.EarnedJudged.{IsStoredNow}
+use Rattle.stateful_standing.specs.Storing.{IsStoredNow}
 use Rattle.stateful_keeping.specs.Down.{IsEnding}
 use Rattle.stateful_keeping.specs.EventBehind.{RestartedBehind}
 use Rattle.stateful_keeping.specs.Ways.{StoresHeights}
@@ -33,18 +33,18 @@ use Rattle.stateful_keeping.proofs.Restarting.{opening-ends, pruned-ends}
 use Rattle.stateful_processing.specs.Clearing.{IsCleared}
 use Rattle.stateful_processing.specs.Moments.{Moment}
 use Rattle.stateful_processing.specs.Opening.{Opens}
-use Rattle.stateful_core.specs.Machine.{numbered}
-use Rattle.stateful_core.specs.Steps.{Restarts}
-use Rattle.stateful_whole.specs.Stands.{StandsAt}
-use Rattle.stateful_whole.specs.StepBehind.{StepBehind}
+use Rattle.stateful_whole.specs.Machine.{numbered}
+use Rattle.stateful_whole.specs.Steps.{Restarts}
+use Rattle.stateful_whole.specs.Stands.{CanRestartAt}
+use Rattle.stateful_whole.specs.StepBehind.{IsCommittedTo, StepBehind}
 use Rattle.stateful_whole.proofs.OpensQuiet.{opens-quiet}
-use Rattle.stateful_whole.proofs.StartRules.{PrunedIsDue-ends, PrunedIsDue-opened, EndsStopped-restart, StartsClean-ends, StopsClean-ends, OpenedIsStored-ends}
+use Rattle.stateful_whole.proofs.StartRules.{IsCommittedTo-ends, PrunedIsDue-ends, PrunedIsDue-opened, EndsStopped-restart, StartsClean-ends, StopsClean-ends, OpenedIsStored-ends}
 use Rattle.stateful_whole.proofs.Stepping.{base-opened, StepBehind-of}
 use Rattle.stateful_whole.proofs.WorkEnds.{IsWorkEnd, EndsAll-ends, IsWorkEnd-ending, is_down-ends, opens-opened}
 
 module _ {B C I P R D H G U : Type 0} (w : Workings B C I P R D H G U) (laws : Laws w.kind) (stored : ℕ → Option (Named B)) (base : w.States)
     (p : Past B C I) (stored_now : ℕ → Option (Named B)) (stored_is : IsStoredNow stored p stored_now) (heights : StoresHeights w.header stored)
-    (floor : Floor) (keep : List ℕ) (m now : Moment w) (s : StandsAt w stored base p m) where
+    (floor : Floor) (keep : List ℕ) (m now : Moment w) (s : CanRestartAt w p m) where
   abbrev event : Event B C I
   event = Restart floor keep
 
@@ -102,6 +102,10 @@ module _ {B C I P R D H G U : Type 0} (w : Workings B C I P R D H G U) (laws : L
     at_stored : OpenedIsStored (setting w stored) event (after q over) (Opened anchor)
     at_stored = (opening-ends q over ending, (o.block, is_stored, refl, heights (reopened_height floor) o.block is_stored))
 
+    -- that block commits to the states that the databases hold
+    committed_here : IsCommittedTo w stored o.opening.at.1 (Opened anchor)
+    committed_here = (o.block, rw (heights (reopened_height floor) o.block is_stored) is_stored, o.opening.targets_are)
+
     restarts_at : StepBehind w stored base p (Restart floor keep) now
     restarts_at = StepBehind-of w stored base p (Restart floor keep) now o.opening.at.1 b.more more_are (record {
       base_is = base-opened base b.more (w.kind.point now.members) o.opening.at
@@ -111,6 +115,9 @@ module _ {B C I P R D H G U : Type 0} (w : Workings B C I P R D H G U) (laws : L
       due = λ rule. each_restart (PrunedIsDue (setting w stored) rule) (PrunedIsDue-ends (setting w stored) rule q over ends_work)
           (PrunedIsDue-opened (setting w stored) rule (after q over) anchor);
       opened = each_restart (OpenedIsStored (setting w stored) event) (OpenedIsStored-ends (setting w stored) event q over ends_work) at_stored;
+      committed = subst (λ (ms : List (Mark B)). All (IsCommittedTo w stored o.opening.at.1) ms) (sym all_are)
+          (All-push (IsCommittedTo w stored o.opening.at.1) over (Opened anchor) (IsCommittedTo-ends w stored o.opening.at.1 over ends_work)
+          committed_here);
       clean_start = each_restart StartsClean (StartsClean-ends q over ends_work) nothing;
       clean_stop = each_restart (StopsClean event b.more) (StopsClean-ends event b.more (inr (inl tt)) q over ends_work) tt;
       ends_stopped = subst (λ (ms : List (Mark B)). EndsStopped event ms) (sym all_are) (EndsStopped-restart floor keep over anchor ends_work);

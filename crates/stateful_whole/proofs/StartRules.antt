@@ -1,6 +1,7 @@
 -- The rules on openings and stops are kept by marks of rules, and by those by which live work ends.
 use Rattle.std.proofs.Common.{◌≢◌, ◌∷◌, ◌++◌, [], inl, inr, ℕ, false, List, All, Option, Some, None}
 use Rattle.std.proofs.lemmas.List.Elements.{All-head, All-tail, All-push, All-weaker}
+use Rattle.stateful_types.specs.Names.{Named}
 use Rattle.stateful_types.specs.declared.anchor.Anchor.{Anchor}
 use Rattle.stateful_types.specs.declared.floor.Floor.{Floor}
 use Rattle.stateful_history.specs.Past.{Past, Made, EachMark, after}
@@ -12,8 +13,10 @@ use Rattle.stateful_history.specs.declared.event.Event.{Event}
 use Rattle.stateful_history.specs.declared.event.Event.TheVariants.{Restart, Stop}
 use Rattle.stateful_history.specs.declared.mark.Mark.{Mark}
 use Rattle.stateful_history.specs.declared.mark.Mark.TheVariants.{Pruned, BarrierDone, Opened, Dropped, Stopped}
+use Rattle.stateful_exec.specs.Workings.{Workings}
 use Rattle.stateful_standing.proofs.PauseKnown.{Any-found}
 use Rattle.stateful_keeping.specs.RuleMarks.{IsOfRule}
+use Rattle.stateful_whole.specs.StepBehind.{IsCommittedTo}
 use Rattle.stateful_whole.proofs.Unbroken.{IsUnbroken}
 use Rattle.stateful_whole.proofs.WorkEnds.{IsWorkEnd}
 
@@ -138,3 +141,20 @@ module _ {B C I : Type 0} where
     pub OpenedIsStored-stopped : (event : Event B C I) (p : Past B C I) → OpenedIsStored s event p Stopped
     OpenedIsStored-stopped (Restart floor keep) p = tt
     OpenedIsStored-stopped event p = tt
+
+module _ {B C I P R D H G U : Type 0} (w : Workings B C I P R D H G U) (stored : ℕ → Option (Named B)) (base : w.States) where
+  commits_rule : (mark : Mark B) → IsOfRule mark → IsCommittedTo w stored base mark
+  commits_rule (Opened anchor) is = absurd is
+  commits_rule mark is = tt
+
+  -- marks of rules open nothing
+  pub IsCommittedTo-rules : (marks : List (Mark B)) → All IsOfRule marks → All (IsCommittedTo w stored base) marks
+  IsCommittedTo-rules = All-weaker IsOfRule (IsCommittedTo w stored base) commits_rule
+
+  commits_end : (mark : Mark B) → IsWorkEnd mark → IsCommittedTo w stored base mark
+  commits_end (Opened anchor) is = absurd is
+  commits_end mark is = tt
+
+  -- neither do those by which live work ends
+  pub IsCommittedTo-ends : (marks : List (Mark B)) → All IsWorkEnd marks → All (IsCommittedTo w stored base) marks
+  IsCommittedTo-ends = All-weaker IsWorkEnd (IsCommittedTo w stored base) commits_end

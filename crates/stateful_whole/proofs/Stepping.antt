@@ -1,5 +1,5 @@
 -- Put together: what stands behind an event and some marks is what stands behind the step that made them.
-use Rattle.std.proofs.Common.{◌≡◌, ◌∷◌, [], ℕ, Bool, true, false, not, ◌&&◌, if◌then◌else◌, List, Option, Some, refl, sym, ap, ◌∙◌, subst}
+use Rattle.std.proofs.Common.{◌≡◌, ◌∷◌, [], ℕ, Bool, true, false, not, ◌&&◌, if◌then◌else◌, List, All, Option, Some, refl, sym, ap, ◌∙◌, subst}
 use Rattle.stateful_types.specs.Names.{Named}
 use Rattle.stateful_history.specs.Canonical.{pruned_below}
 use Rattle.stateful_history.specs.Holding.{Holds}
@@ -15,13 +15,13 @@ use Rattle.stateful_history.specs.declared.event.Event.TheVariants.{Restart}
 use Rattle.stateful_history.specs.declared.mark.Mark.{Mark}
 use Rattle.stateful_exec.specs.Workings.{Workings}
 use Rattle.stateful_standing.specs.Setting.{setting}
-use Rattle.stateful_standing.proofs.EarnedJudged.{IsStoredNow}
+use Rattle.stateful_standing.specs.Storing.{IsStoredNow}
 use Rattle.stateful_keeping.specs.Down.{IsEmpty, IsCounted}
 use Rattle.stateful_keeping.specs.Durability.{IsDurablySaid}
 use Rattle.stateful_keeping.specs.Stands.{IsUpAt}
 use Rattle.stateful_processing.specs.Moments.{Moment}
 use Rattle.stateful_processing.specs.Rules.{Quiet}
-use Rattle.stateful_whole.specs.StepBehind.{StepBehind}
+use Rattle.stateful_whole.specs.StepBehind.{IsCommittedTo, StepBehind}
 use Rattle.stateful_whole.proofs.Unmarked.{Quiet-marks, IsCounted-marks, IsUpAt-marks}
 
 first_of : (a b : Bool) → (a && b) ≡ true → a ≡ true
@@ -67,6 +67,7 @@ module _ {B C I P R D H G U : Type 0} (w : Workings B C I P R D H G U) (stored :
       pub said : EachMark (IsDurablySaid w) (Came event ∷ p) marks
       pub due : (rule : Option (PruneRule w.Targets)) → EachMark (PrunedIsDue (setting w stored) rule) (Came event ∷ p) marks
       pub opened : EachMark (OpenedIsStored (setting w stored) event) (Came event ∷ p) marks
+      pub committed : All (IsCommittedTo w stored next) marks
       pub clean_start : EachMark StartsClean (Came event ∷ p) marks
       pub clean_stop : EachMark (StopsClean event marks) (Came event ∷ p) marks
       pub ends_stopped : EndsStopped event marks
@@ -89,15 +90,15 @@ module _ {B C I P R D H G U : Type 0} (w : Workings B C I P R D H G U) (stored :
         said = k.said;
         due = k.due;
         opened = k.opened;
+        committed = k.committed;
         clean_start = k.clean_start;
         clean_stop = k.clean_stop;
         ends_stopped = k.ends_stopped;
         holds = k.holds;
         pruned = k.pruned;
         stands = record {
-          unmarked = refl;
+          restart = record { unmarked = refl; counted = IsCounted-marks w now [] (after q now.marks) k.counted };
           up_is = k.up_is;
-          counted = IsCounted-marks w now [] (after q now.marks) k.counted;
           up = λ up. (IsUpAt-marks w now [] stored next (after q now.marks) (k.up up).0, Quiet-marks w now [] (k.up up).1);
           down = k.down;
         };

@@ -83,6 +83,7 @@ module _ {B C I P R D H G U : Type 0} (w : Workings B C I P R D H G U) (m : Mome
       in_order = h.in_order;
       executes = executes_marks h.executes;
       loop = loop_marks h.loop;
+      captured = h.captured;
       tickets = tickets_marks h.tickets;
       ways = h.ways;
     }

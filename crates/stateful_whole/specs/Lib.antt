@@ -1,2 +1,5 @@
+pub mod Machine
+pub mod Steps
+pub mod Entering
 pub mod Stands
 pub mod StepBehind

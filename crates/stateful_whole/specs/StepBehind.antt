@@ -1,47 +1,39 @@
 -- What stands behind a step, and behind steps one after another.
-use Rattle.std.specs.Prelude.{◌≡◌, ℕ, false, Option, List, [], ◌∷◌}
+use Rattle.std.specs.Prelude.{◌≡◌, ℕ, false, Option, Some, List, [], ◌∷◌, All}
 use Rattle.stateful_types.specs.Names.{Named}
 use Rattle.stateful_history.specs.Canonical.{pruned_below}
 use Rattle.stateful_history.specs.Holding.{Holds}
 use Rattle.stateful_history.specs.Joined.{TrueIsEarned}
 use Rattle.stateful_history.specs.Opening.{base_after}
-use Rattle.stateful_history.specs.Past.{Past, Came, EachMark, after, after_entry}
+use Rattle.stateful_history.specs.Past.{Past, Came, EachMark, after_entry}
 use Rattle.stateful_history.specs.Prunes.{PruneRule, PrunedIsDue}
 use Rattle.stateful_history.specs.Restarts.{OpenedIsStored}
 use Rattle.stateful_history.specs.Stops.{StopsClean, StartsClean, EndsStopped}
 use Rattle.stateful_history.specs.declared.entry.Entry.{Entry}
 use Rattle.stateful_history.specs.declared.event.Event.{Event}
 use Rattle.stateful_history.specs.declared.mark.Mark.{Mark}
+use Rattle.stateful_history.specs.declared.mark.Mark.TheVariants.{Opened}
 use Rattle.stateful_exec.specs.Workings.{Workings}
+use Rattle.stateful_register.specs.declared.register.Register.{Register}
 use Rattle.stateful_standing.specs.Setting.{setting}
-use Rattle.stateful_keeping.specs.Behind.{RuleMay}
 use Rattle.stateful_keeping.specs.Down.{IsEmpty}
 use Rattle.stateful_keeping.specs.Durability.{IsDurablySaid}
-use Rattle.stateful_keeping.specs.Stands.{IsUpAt}
 use Rattle.stateful_processing.specs.Moments.{Moment}
-use Rattle.stateful_processing.specs.Rules.{Rule}
-use Rattle.stateful_whole.specs.Stands.{StandsAt}
-
-module _ {B C I P R D H G U : Type 0} (w : Workings B C I P R D H G U)
-    (stored stored_now : ℕ → Option (Named B)) (provider : P) where
-  -- what the machine doesn't give yet holds at each rule that goes behind this past
-  abbrev pub RulesMay : w.States → Past B C I → Type 0
-  RulesMay base q = (more : List (Mark B)) (here next : Moment w)
-      → IsUpAt w stored base (after q more) here → Rule w stored_now provider here next
-      → RuleMay w here next
-
-  -- so it is in each of these entries
-  abbrev pub EachMay : Past B C I → List (Entry B C I) → Type 0
-  EachMay p [] = Unit {0}
-  EachMay p (entry ∷ entries) =
-      ((base : w.States) → RulesMay base (Came entry.event ∷ p))
-      × EachMay (after_entry p entry.event entry.marks) entries
+use Rattle.stateful_whole.specs.Stands.{StandsAt, Stands}
 
 module _ {B C I P R D H G U : Type 0} (w : Workings B C I P R D H G U)
     (stored : ℕ → Option (Named B)) where
+  -- an opening is at a height whose block in the store commits to these states
+  abbrev pub IsCommittedTo : w.States → Mark B → Type 0
+  IsCommittedTo base (Opened anchor) =
+      (b : Named B)
+      × (stored anchor.height.0 ≡ Some b)
+      × (w.kind.target_of base ≡ w.works.meaning.targets b.block)
+  IsCommittedTo base mark = Unit {0}
+
   module _ (base : w.States) (p : Past B C I) (event : Event B C I) (now : Moment w) where
     -- Behind an event and its marks the history is based on these states: what the databases hold,
-    -- where it was opened, and else those before. True verdicts among the marks are earned over them;
+    -- where it was opened, to which the store's block commits, and else those before. True verdicts among the marks are earned over them;
     -- those of barriers and acknowledgements keep their rules, and so do those of openings and stops;
     -- and nothing was pruned. The databases hold what was applied. The machine stands for the past
     -- with the entry; where it is down nothing goes on.
@@ -53,6 +45,7 @@ module _ {B C I P R D H G U : Type 0} (w : Workings B C I P R D H G U)
       pub due : (rule : Option (PruneRule w.Targets))
           → EachMark (PrunedIsDue (setting w stored) rule) (Came event ∷ p) now.marks
       pub opened : EachMark (OpenedIsStored (setting w stored) event) (Came event ∷ p) now.marks
+      pub committed : All (IsCommittedTo base_behind) now.marks
       pub clean_start : EachMark StartsClean (Came event ∷ p) now.marks
       pub clean_stop : EachMark (StopsClean event now.marks) (Came event ∷ p) now.marks
       pub ends_stopped : EndsStopped event now.marks
@@ -63,11 +56,23 @@ module _ {B C I P R D H G U : Type 0} (w : Workings B C I P R D H G U)
           (record now { marks = [] })
       pub empty : now.loop.up ≡ false → IsEmpty w now
 
-  -- Behind each of these entries it stands so, one after another, and at last for the past with all.
-  abbrev pub StepsBehind : w.States → Past B C I → List (Entry B C I) → Moment w → Type 0
-  StepsBehind base p [] last = StandsAt w stored base p last
-  StepsBehind base p (entry ∷ entries) last =
+    -- Besides, this register stands for the past with the entry.
+    pub record Continues (register : Register) : Type 0 where
+      pub behind : StepBehind
+      pub stands : Stands w stored behind.base_behind (after_entry p event now.marks) false register
+          (record now { marks = [] })
+
+  -- Behind each of these entries it stands so, one after another, and over the states on which the history is based at last
+  -- this holds.
+  abbrev pub EachStands : (w.States → Type 0) → w.States → Past B C I → List (Entry B C I) → Type 0
+  EachStands Last base p [] = Last base
+  EachStands Last base p (entry ∷ entries) =
       (new : Moment w)
       × (new.marks ≡ entry.marks)
       × (b : StepBehind base p entry.event new)
-      × StepsBehind b.base_behind (after_entry p entry.event entry.marks) entries last
+      × EachStands Last b.base_behind (after_entry p entry.event entry.marks) entries
+
+  -- The machine stands for the past, with this register, and its databases hold what was applied.
+  pub record StandsAndHolds (base : w.States) (p : Past B C I) (register : Register) (m : Moment w) : Type 0 where
+    pub stands : Stands w stored base p false register m
+    pub holds : Holds (setting w stored) w.kind base p m.members

@@ -3,15 +3,15 @@ use Rattle.stateful_history.specs.Past.{after_all}
 use Rattle.stateful_register.specs.Register.{RegisterStands}
 use Rattle.stateful_exec.specs.Workings.{workings}
 use Rattle.stateful_processing.specs.Moments.{moment}
-use Rattle.stateful_core.specs.Driving.{Steps}
+use Rattle.stateful_whole.specs.Entering.{Steps}
 use Rattle.stateful_core.specs.Faults.{tally, HasNotFallen}
-use Rattle.stateful_core.specs.Machine.{IsSafe, numbered}
+use Rattle.stateful_whole.specs.Machine.{IsSafe, numbered}
 use Rattle.stateful_core.proofs.driving.drive.Given as goal
 
 abbrev pub invariant-loop-event : goal.invariant-loop-event
 invariant-loop-event g l =
     let D = g.A.Databases.DatabaseSet in
-    let w = workings g.A.Block.Block.header g.A.Context.Rounded.round_of g.A.Application.works D.kind D.shows in
+    let w = workings g.A.Block.Block.header g.A.Block.Block.context_of g.A.Context.Rounded.round_of g.A.Application.works D.kind D.shows in
     record {
       all : l.yielded ++ l.event-iterator.rest.items ≡ l.fn.events.items;
       events : map (λ entry. entry.event) l.driven.history.items ≡ l.yielded;

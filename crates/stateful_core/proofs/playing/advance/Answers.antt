@@ -9,21 +9,21 @@ use Rattle.stateful_core.proofs.playing.advance.Goals as goal
 pub settle-requires-clause-none_away : goal.settle-requires-clause-none_away
 settle-requires-clause-none_away g c =
     let D = g.A.Databases.DatabaseSet in
-    let w = workings g.A.Block.Block.header g.A.Context.Rounded.round_of g.A.Application.works D.kind D.shows in
+    let w = workings g.A.Block.Block.header g.A.Block.Block.context_of g.A.Context.Rounded.round_of g.A.Application.works D.kind D.shows in
     (taken_in_sound w g.met.A.Databases.DatabaseSet.laws
     (g.S.BlockStore.stored c.args.store.now) _ _ _ c.args.event.now c.in_ok-take_in.ensures.ok c.requires.up).none_away
 
 pub settle-requires-clause-up : goal.settle-requires-clause-up
 settle-requires-clause-up g c =
     let D = g.A.Databases.DatabaseSet in
-    let w = workings g.A.Block.Block.header g.A.Context.Rounded.round_of g.A.Application.works D.kind D.shows in
+    let w = workings g.A.Block.Block.header g.A.Block.Block.context_of g.A.Context.Rounded.round_of g.A.Application.works D.kind D.shows in
     (taken_in_sound w g.met.A.Databases.DatabaseSet.laws
     (g.S.BlockStore.stored c.args.store.now) _ _ _ c.args.event.now c.in_ok-take_in.ensures.ok c.requires.up).up
 
 pub returns-clause-ok : goal.returns-clause-ok
 returns-clause-ok g c =
     let D = g.A.Databases.DatabaseSet in
-    let w = workings g.A.Block.Block.header g.A.Context.Rounded.round_of g.A.Application.works D.kind D.shows in
+    let w = workings g.A.Block.Block.header g.A.Block.Block.context_of g.A.Context.Rounded.round_of g.A.Application.works D.kind D.shows in
     on_ok_weaker c.settle.result
     (λ settles. record {
       taken = moment w (executing c.take_in.new.handler) c.take_in.new.processing (D.members c.take_in.new.databases)

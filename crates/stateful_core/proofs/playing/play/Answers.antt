@@ -9,14 +9,14 @@ use Rattle.stateful_core.proofs.playing.play.Goals as goal
 pub returns-in_err-advance-clause-other : goal.returns-in_err-advance-clause-other
 returns-in_err-advance-clause-other g c =
     let D = g.A.Databases.DatabaseSet in
-    let w = workings g.A.Block.Block.header g.A.Context.Rounded.round_of g.A.Application.works D.kind D.shows in
+    let w = workings g.A.Block.Block.header g.A.Block.Block.context_of g.A.Context.Rounded.round_of g.A.Application.works D.kind D.shows in
     converted _ c.from_residual.result c.in_err-advance.field-0.0 c.from_residual.ensures.1
     (play_other w _ _ _ _ _ _ _ _ _ c.in_err-advance.ensures.fault)
 
 pub returns-in_ok-stop-clause-ok : goal.returns-in_ok-stop-clause-ok
 returns-in_ok-stop-clause-ok g c =
     let D = g.A.Databases.DatabaseSet in
-    let w = workings g.A.Block.Block.header g.A.Context.Rounded.round_of g.A.Application.works D.kind D.shows in
+    let w = workings g.A.Block.Block.header g.A.Block.Block.context_of g.A.Context.Rounded.round_of g.A.Application.works D.kind D.shows in
     record {
       settled = moment w (executing c.advance.new.handler) c.advance.new.processing (D.members c.advance.new.databases)
           (D.next c.advance.new.databases) c.advance.new.marks.items;
@@ -33,7 +33,7 @@ returns-in_ok-stop-clause-ok g c =
 pub returns-in_ok-stop-clause-sound : goal.returns-in_ok-stop-clause-sound
 returns-in_ok-stop-clause-sound g c =
     let D = g.A.Databases.DatabaseSet in
-    let w = workings g.A.Block.Block.header g.A.Context.Rounded.round_of g.A.Application.works D.kind D.shows in
+    let w = workings g.A.Block.Block.header g.A.Block.Block.context_of g.A.Context.Rounded.round_of g.A.Application.works D.kind D.shows in
     cleared_sound w _ _ (c.in_ok-stop.ensures.cleared (D.members c.advance.new.databases)
     (D.next c.advance.new.databases) c.stop.new.marks.items) c.in_ok-advance.ensures.sound.none_away
 
@@ -54,7 +54,7 @@ returns-in_ok-stop-clause-barrier g c =
 pub returns-else-not-processing-clause-ok : goal.returns-else-not-processing-clause-ok
 returns-else-not-processing-clause-ok g c =
     let D = g.A.Databases.DatabaseSet in
-    let w = workings g.A.Block.Block.header g.A.Context.Rounded.round_of g.A.Application.works D.kind D.shows in
+    let w = workings g.A.Block.Block.header g.A.Block.Block.context_of g.A.Context.Rounded.round_of g.A.Application.works D.kind D.shows in
     record {
       settled = moment w (executing c.advance.new.handler) c.advance.new.processing (D.members c.advance.new.databases)
           (D.next c.advance.new.databases) c.advance.new.marks.items;

@@ -21,7 +21,7 @@ returns-in_err-open-clause-barrier g c =
 pub returns-clause-ok : goal.returns-clause-ok
 returns-clause-ok g c =
     let D = g.A.Databases.DatabaseSet in
-    let w = workings g.A.Block.Block.header g.A.Context.Rounded.round_of g.A.Application.works D.kind D.shows in
+    let w = workings g.A.Block.Block.header g.A.Block.Block.context_of g.A.Context.Rounded.round_of g.A.Application.works D.kind D.shows in
     record {
       cleared = moment w (executing c.clear.new.handler) c.clear.new.processing (D.members c.args.databases.now)
           (D.next c.args.databases.now) c.end_work.new.marks.items;
@@ -33,7 +33,7 @@ returns-clause-ok g c =
 pub returns-clause-sound : goal.returns-clause-sound
 returns-clause-sound g c =
     let D = g.A.Databases.DatabaseSet in
-    let w = workings g.A.Block.Block.header g.A.Context.Rounded.round_of g.A.Application.works D.kind D.shows in
+    let w = workings g.A.Block.Block.header g.A.Block.Block.context_of g.A.Context.Rounded.round_of g.A.Application.works D.kind D.shows in
     let cleared = c.clear.ensures.cleared (D.members c.args.databases.now) (D.next c.args.databases.now) [] in
     opens_sound w g.met.A.Databases.DatabaseSet.laws
     (g.S.BlockStore.stored c.args.store.now) c.args.floor.now c.args.keep.now _ _ c.in_ok-open.ensures.ok cleared.barriers cleared.front.0

@@ -22,7 +22,7 @@ rules-init g c = record {
 pub returns-in_err-go_on-clause-fault : goal.returns-in_err-go_on-clause-fault
 returns-in_err-go_on-clause-fault g c =
     let D = g.A.Databases.DatabaseSet in
-    let w = workings g.A.Block.Block.header g.A.Context.Rounded.round_of g.A.Application.works D.kind D.shows in
+    let w = workings g.A.Block.Block.header g.A.Block.Block.context_of g.A.Context.Rounded.round_of g.A.Application.works D.kind D.shows in
     let i = c.rules.invariant in
     converted _ c.from_residual.result c.in_err-go_on.field-0.0 c.from_residual.ensures.1
     (record {
@@ -36,7 +36,7 @@ returns-in_err-go_on-clause-fault g c =
 pub rules-smaller : goal.rules-smaller
 rules-smaller g c =
     let D = g.A.Databases.DatabaseSet in
-    let w = workings g.A.Block.Block.header g.A.Context.Rounded.round_of g.A.Application.works D.kind D.shows in
+    let w = workings g.A.Block.Block.header g.A.Block.Block.context_of g.A.Context.Rounded.round_of g.A.Application.works D.kind D.shows in
     let stored = g.S.BlockStore.stored c.args.store.now in
     let old = moment w (executing c.rules.handler) c.rules.processing (D.members c.rules.databases) (D.next c.rules.databases) c.rules.marks.items in
     let new = moment w (executing c.go_on.new.handler) c.go_on.new.processing (D.members c.go_on.new.databases)
@@ -47,7 +47,7 @@ rules-smaller g c =
 pub rules-preserved : goal.rules-preserved
 rules-preserved g c =
     let D = g.A.Databases.DatabaseSet in
-    let w = workings g.A.Block.Block.header g.A.Context.Rounded.round_of g.A.Application.works D.kind D.shows in
+    let w = workings g.A.Block.Block.header g.A.Block.Block.context_of g.A.Context.Rounded.round_of g.A.Application.works D.kind D.shows in
     let stored = g.S.BlockStore.stored c.args.store.now in
     let old = moment w (executing c.rules.handler) c.rules.processing (D.members c.rules.databases) (D.next c.rules.databases) c.rules.marks.items in
     let new = moment w (executing c.go_on.new.handler) c.go_on.new.processing (D.members c.go_on.new.databases)
@@ -70,7 +70,7 @@ rules-preserved g c =
 pub returns-clause-ok : goal.returns-clause-ok
 returns-clause-ok g c =
     let D = g.A.Databases.DatabaseSet in
-    let w = workings g.A.Block.Block.header g.A.Context.Rounded.round_of g.A.Application.works D.kind D.shows in
+    let w = workings g.A.Block.Block.header g.A.Block.Block.context_of g.A.Context.Rounded.round_of g.A.Application.works D.kind D.shows in
     let stored = g.S.BlockStore.stored c.args.store.now in
     let start = moment w (executing c.args.handler.now) c.args.processing.now (D.members c.args.databases.now)
     (D.next c.args.databases.now) c.args.marks.now.items in
@@ -87,7 +87,7 @@ returns-clause-ok g c =
 pub returns-clause-sound : goal.returns-clause-sound
 returns-clause-sound g c =
     let D = g.A.Databases.DatabaseSet in
-    let w = workings g.A.Block.Block.header g.A.Context.Rounded.round_of g.A.Application.works D.kind D.shows in
+    let w = workings g.A.Block.Block.header g.A.Block.Block.context_of g.A.Context.Rounded.round_of g.A.Application.works D.kind D.shows in
     let stored = g.S.BlockStore.stored c.args.store.now in
     let old = moment w (executing c.rules.handler) c.rules.processing (D.members c.rules.databases) (D.next c.rules.databases) c.rules.marks.items in
     let new = moment w (executing c.go_on.new.handler) c.go_on.new.processing (D.members c.go_on.new.databases)

@@ -11,7 +11,7 @@ use Rattle.stateful_core.proofs.settling.settle.Given as goal
 abbrev pub invariant-rules : goal.invariant-rules
 invariant-rules g l =
     let D = g.A.Databases.DatabaseSet in
-    let w = workings g.A.Block.Block.header g.A.Context.Rounded.round_of g.A.Application.works D.kind D.shows in
+    let w = workings g.A.Block.Block.header g.A.Block.Block.context_of g.A.Context.Rounded.round_of g.A.Application.works D.kind D.shows in
     record {
       along : Along w (g.S.BlockStore.stored l.store) l.provider
           (moment w (executing l.fn.handler) l.fn.processing (D.members l.fn.databases) (D.next l.fn.databases) l.fn.marks.items)
@@ -26,5 +26,5 @@ invariant-rules g l =
 abbrev pub decreases-rules : goal.decreases-rules
 decreases-rules g l =
     let D = g.A.Databases.DatabaseSet in
-    let w = workings g.A.Block.Block.header g.A.Context.Rounded.round_of g.A.Application.works D.kind D.shows in
+    let w = workings g.A.Block.Block.header g.A.Block.Block.context_of g.A.Context.Rounded.round_of g.A.Application.works D.kind D.shows in
     weight w (moment w (executing l.handler) l.processing (D.members l.databases) (D.next l.databases) l.marks.items)

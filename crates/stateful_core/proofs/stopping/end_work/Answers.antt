@@ -3,7 +3,7 @@ use Rattle.stateful_history.specs.Past.{after_entry}
 use Rattle.stateful_history.specs.declared.mark.Mark.{Mark}
 use Rattle.stateful_register.specs.Register.{RegisterStands}
 use Rattle.stateful_register.proofs.Entries.{RegisterStands-same}
-use Rattle.stateful_core.specs.Machine.{numbered}
+use Rattle.stateful_whole.specs.Machine.{numbered}
 use Rattle.stateful_core.proofs.stopping.end_work.Goals as goal
 
 pub returns : goal.returns

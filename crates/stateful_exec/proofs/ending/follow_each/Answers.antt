@@ -8,7 +8,7 @@ use Rattle.stateful_exec.proofs.ending.follow_each.Goals as goal
 
 pub loop-next-init : goal.loop-next-init
 loop-next-init g c =
-    let w = workings g.A.Block.Block.header g.A.Context.Rounded.round_of g.A.Application.works g.A.Databases.DatabaseSet.kind g.A.Databases.DatabaseSet.shows in
+    let w = workings g.A.Block.Block.header g.A.Block.Block.context_of g.A.Context.Rounded.round_of g.A.Application.works g.A.Databases.DatabaseSet.kind g.A.Databases.DatabaseSet.shows in
     record {
       reached = Reached-first (Follows w c.args.block.now c.args.how) c.args.released.items _ _ c.into_iter-next-iterator.ensures.into_iter_gives.0;
       members = refl;
@@ -20,7 +20,7 @@ loop-next-init g c =
 
 pub loop-next-preserved : goal.loop-next-preserved
 loop-next-preserved g c =
-    let w = workings g.A.Block.Block.header g.A.Context.Rounded.round_of g.A.Application.works g.A.Databases.DatabaseSet.kind g.A.Databases.DatabaseSet.shows in
+    let w = workings g.A.Block.Block.header g.A.Block.Block.context_of g.A.Context.Rounded.round_of g.A.Application.works g.A.Databases.DatabaseSet.kind g.A.Databases.DatabaseSet.shows in
     let i = c.loop-next.invariant in
     let f = c.in_ok-follow.ensures in
     record {
@@ -34,7 +34,7 @@ loop-next-preserved g c =
 
 pub returns-in_err-follow-clause-fault : goal.returns-in_err-follow-clause-fault
 returns-in_err-follow-clause-fault g c =
-    let w = workings g.A.Block.Block.header g.A.Context.Rounded.round_of g.A.Application.works g.A.Databases.DatabaseSet.kind g.A.Databases.DatabaseSet.shows in
+    let w = workings g.A.Block.Block.header g.A.Block.Block.context_of g.A.Context.Rounded.round_of g.A.Application.works g.A.Databases.DatabaseSet.kind g.A.Databases.DatabaseSet.shows in
     let i = c.loop-next.invariant in
     let later = Rose (g.A.Faulty.count c.args.application.now) (g.A.Faulty.count c.follow.new.application) in
     Reached-refused (Follows w c.args.block.now c.args.how) c.args.released.items _ _ _ _ i.reached (λ r m e. FaultsAdvance w later m r.path e) c.from_residual.result c.in_err-follow.field-0.0 c.from_residual.ensures.1 c.in-Some.next _ c.in-Some.ensures.steps.0

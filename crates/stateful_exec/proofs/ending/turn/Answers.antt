@@ -6,7 +6,7 @@ use Rattle.stateful_exec.proofs.ending.turn.Goals as goal
 
 pub returns-clause-ok : goal.returns-clause-ok
 returns-clause-ok g c =
-    turns_run (workings g.A.Block.Block.header g.A.Context.Rounded.round_of g.A.Application.works g.A.Databases.DatabaseSet.kind g.A.Databases.DatabaseSet.shows)
+    turns_run (workings g.A.Block.Block.header g.A.Block.Block.context_of g.A.Context.Rounded.round_of g.A.Application.works g.A.Databases.DatabaseSet.kind g.A.Databases.DatabaseSet.shows)
     g.A.Run.Faulty.count (g.A.Databases.DatabaseSet.members c.args.databases.now) c.args.job c.args.tables.now c.take_run-live.new.self _ c.take_run-live.result c.turn-answer.new.run c.turn-answer.result
     c.take_run-live.ensures.run c.take_run-live.ensures.rest c.take_run-live.ensures.again c.turn-answer.ensures.ok c.turn-answer.ensures.cost c.turn-answer.ensures.failed c.in_ok-put_run.ensures.ok
 

@@ -8,7 +8,7 @@ use Rattle.stateful_exec.proofs.resuming.acquire_each.Goals as goal
 
 pub loop-ticket-init : goal.loop-ticket-init
 loop-ticket-init g c =
-    let w = workings g.A.Block.Block.header g.A.Context.Rounded.round_of g.A.Application.works g.A.Databases.DatabaseSet.kind g.A.Databases.DatabaseSet.shows in
+    let w = workings g.A.Block.Block.header g.A.Block.Block.context_of g.A.Context.Rounded.round_of g.A.Application.works g.A.Databases.DatabaseSet.kind g.A.Databases.DatabaseSet.shows in
     record {
       reached = Reached-first (AcquiresAnew w (g.S.BlockStore.stored c.args.store.now)) c.args.unacquired.items _ _ c.into_iter-ticket-iterator.ensures.into_iter_gives.0;
       members = refl;
@@ -20,7 +20,7 @@ loop-ticket-init g c =
 
 pub loop-ticket-preserved : goal.loop-ticket-preserved
 loop-ticket-preserved g c =
-    let w = workings g.A.Block.Block.header g.A.Context.Rounded.round_of g.A.Application.works g.A.Databases.DatabaseSet.kind g.A.Databases.DatabaseSet.shows in
+    let w = workings g.A.Block.Block.header g.A.Block.Block.context_of g.A.Context.Rounded.round_of g.A.Application.works g.A.Databases.DatabaseSet.kind g.A.Databases.DatabaseSet.shows in
     let i = c.loop-ticket.invariant in
     let f = c.in_ok-acquire.ensures in
     record {
@@ -34,7 +34,7 @@ loop-ticket-preserved g c =
 
 pub returns-in_err-acquire-clause-fault : goal.returns-in_err-acquire-clause-fault
 returns-in_err-acquire-clause-fault g c =
-    let w = workings g.A.Block.Block.header g.A.Context.Rounded.round_of g.A.Application.works g.A.Databases.DatabaseSet.kind g.A.Databases.DatabaseSet.shows in
+    let w = workings g.A.Block.Block.header g.A.Block.Block.context_of g.A.Context.Rounded.round_of g.A.Application.works g.A.Databases.DatabaseSet.kind g.A.Databases.DatabaseSet.shows in
     let stored = g.S.BlockStore.stored c.args.store.now in
     let i = c.loop-ticket.invariant in
     let later = Rose (g.A.Faulty.count c.args.application.now) (g.A.Faulty.count c.acquire.new.application) in
@@ -47,5 +47,5 @@ returns-in_err-acquire-clause-notes g c =
 
 pub returns-clause-ok : goal.returns-clause-ok
 returns-clause-ok g c =
-    let w = workings g.A.Block.Block.header g.A.Context.Rounded.round_of g.A.Application.works g.A.Databases.DatabaseSet.kind g.A.Databases.DatabaseSet.shows in
+    let w = workings g.A.Block.Block.header g.A.Block.Block.context_of g.A.Context.Rounded.round_of g.A.Application.works g.A.Databases.DatabaseSet.kind g.A.Databases.DatabaseSet.shows in
     Reached-all (AcquiresAnew w (g.S.BlockStore.stored c.args.store.now)) c.args.unacquired.items _ _ _ _ c.loop-ticket.invariant.reached _ c.loop-ticket.ticket-iterator.rest.ok.0 c.in-None.ensures.steps.0

@@ -7,7 +7,7 @@ use Rattle.stateful_exec.proofs.resuming.advance_each.Goals as goal
 
 pub loop-next-init : goal.loop-next-init
 loop-next-init g c =
-    let w = workings g.A.Block.Block.header g.A.Context.Rounded.round_of g.A.Application.works g.A.Databases.DatabaseSet.kind g.A.Databases.DatabaseSet.shows in
+    let w = workings g.A.Block.Block.header g.A.Block.Block.context_of g.A.Context.Rounded.round_of g.A.Application.works g.A.Databases.DatabaseSet.kind g.A.Databases.DatabaseSet.shows in
     record {
       reached = Reached-first (GoesAlong w) c.args.parked.items _ _ c.into_iter-next-iterator.ensures.into_iter_gives.0;
       members = refl;
@@ -19,7 +19,7 @@ loop-next-init g c =
 
 pub loop-next-preserved : goal.loop-next-preserved
 loop-next-preserved g c =
-    let w = workings g.A.Block.Block.header g.A.Context.Rounded.round_of g.A.Application.works g.A.Databases.DatabaseSet.kind g.A.Databases.DatabaseSet.shows in
+    let w = workings g.A.Block.Block.header g.A.Block.Block.context_of g.A.Context.Rounded.round_of g.A.Application.works g.A.Databases.DatabaseSet.kind g.A.Databases.DatabaseSet.shows in
     let i = c.loop-next.invariant in
     let f = c.in_ok-advance.ensures in
     record {
@@ -33,7 +33,7 @@ loop-next-preserved g c =
 
 pub returns-in_err-advance-clause-fault : goal.returns-in_err-advance-clause-fault
 returns-in_err-advance-clause-fault g c =
-    let w = workings g.A.Block.Block.header g.A.Context.Rounded.round_of g.A.Application.works g.A.Databases.DatabaseSet.kind g.A.Databases.DatabaseSet.shows in
+    let w = workings g.A.Block.Block.header g.A.Block.Block.context_of g.A.Context.Rounded.round_of g.A.Application.works g.A.Databases.DatabaseSet.kind g.A.Databases.DatabaseSet.shows in
     let i = c.loop-next.invariant in
     let later = Rose (g.A.Faulty.count c.args.application.now) (g.A.Faulty.count c.advance.new.application) in
     Reached-refused (GoesAlong w) c.args.parked.items _ _ _ _ i.reached (FaultsAlong w later) c.from_residual.result c.in_err-advance.field-0.0 c.from_residual.ensures.1 c.in-Some.next _ c.in-Some.ensures.steps.0

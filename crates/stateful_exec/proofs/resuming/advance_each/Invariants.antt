@@ -8,7 +8,7 @@ use Rattle.stateful_exec.proofs.resuming.advance_each.Given as goal
 
 abbrev pub invariant-loop-next : goal.invariant-loop-next
 invariant-loop-next g l =
-    let w = workings g.A.Block.Block.header g.A.Context.Rounded.round_of g.A.Application.works g.A.Databases.DatabaseSet.kind g.A.Databases.DatabaseSet.shows in
+    let w = workings g.A.Block.Block.header g.A.Block.Block.context_of g.A.Context.Rounded.round_of g.A.Application.works g.A.Databases.DatabaseSet.kind g.A.Databases.DatabaseSet.shows in
     record {
       reached : Reached (GoesAlong w) l.fn.parked.items
           (moment w l.fn.tables (g.A.Databases.DatabaseSet.members l.fn.databases) (g.A.Databases.DatabaseSet.next l.fn.databases) l.fn.marks.items)

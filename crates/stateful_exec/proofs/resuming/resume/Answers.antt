@@ -7,7 +7,7 @@ use Rattle.stateful_exec.proofs.resuming.resume.Goals as goal
 
 pub returns-clause-ok : goal.returns-clause-ok
 returns-clause-ok g c =
-    let w = workings g.A.Block.Block.header g.A.Context.Rounded.round_of g.A.Application.works g.A.Databases.DatabaseSet.kind g.A.Databases.DatabaseSet.shows in
+    let w = workings g.A.Block.Block.header g.A.Block.Block.context_of g.A.Context.Rounded.round_of g.A.Application.works g.A.Databases.DatabaseSet.kind g.A.Databases.DatabaseSet.shows in
     on_ok_weaker c.acquire_each.result
     (resumed w (g.S.BlockStore.stored c.args.store.now) (g.A.Databases.DatabaseSet.members c.args.databases.now) (g.A.Databases.DatabaseSet.next c.args.databases.now) c.args.marks.now.items
     c.args.tables.now c.take_parked.new.self c.end_pause.new.self c.in_ok-parked.parked.items c.in_ok-parked.ensures.out c.in_ok-parked.ensures.rest c.end_pause.ensures
@@ -17,7 +17,7 @@ returns-clause-ok g c =
 
 pub returns-clause-fault : goal.returns-clause-fault
 returns-clause-fault g c =
-    let w = workings g.A.Block.Block.header g.A.Context.Rounded.round_of g.A.Application.works g.A.Databases.DatabaseSet.kind g.A.Databases.DatabaseSet.shows in
+    let w = workings g.A.Block.Block.header g.A.Block.Block.context_of g.A.Context.Rounded.round_of g.A.Application.works g.A.Databases.DatabaseSet.kind g.A.Databases.DatabaseSet.shows in
     IfErr-weaker c.acquire_each.result _ _
     (unresumed w (g.S.BlockStore.stored c.args.store.now) (g.A.Databases.DatabaseSet.members c.args.databases.now) (g.A.Databases.DatabaseSet.next c.args.databases.now) c.args.marks.now.items
     c.args.tables.now c.take_parked.new.self c.end_pause.new.self c.in_ok-parked.parked.items c.in_ok-parked.ensures.out c.in_ok-parked.ensures.rest c.end_pause.ensures

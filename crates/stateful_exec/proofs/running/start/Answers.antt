@@ -8,10 +8,10 @@ use Rattle.stateful_exec.proofs.running.start.Goals as goal
 
 pub returns-clause-ok : goal.returns-clause-ok
 returns-clause-ok g c =
-    let w = workings g.A.Block.Block.header g.A.Context.Rounded.round_of g.A.Application.works g.A.Databases.DatabaseSet.kind g.A.Databases.DatabaseSet.shows in
+    let w = workings g.A.Block.Block.header g.A.Block.Block.context_of g.A.Context.Rounded.round_of g.A.Application.works g.A.Databases.DatabaseSet.kind g.A.Databases.DatabaseSet.shows in
     let next = g.A.Databases.DatabaseSet.next c.args.databases.now in
     IsOver-weaker w _ _ _ _ _ _ _ _ (λ q cs opened. record {
       context = c.context-context.result;
-      round = c.context-context.ensures ∙ ap g.A.Block.Block.header.round c.inner.ensures;
+      round = c.context-context.ensures.round ∙ ap g.A.Block.Block.header.round c.inner.ensures;
       runs = subst (λ (a : Ancestry g.row.A-Block.Denot). g.A.Application.works.runs c.in_ok-process.field-0 (run_of Candidate c.context-context.result a next q cs) 0) c.in_ok-ancestry.ensures (c.in_ok-process.ensures.ok _ q cs opened);
     }) c.in_ok-batches.ensures.ok

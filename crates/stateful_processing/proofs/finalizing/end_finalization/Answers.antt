@@ -11,7 +11,7 @@ use Rattle.stateful_processing.proofs.finalizing.end_finalization.Goals as goal
 
 pub returns-in_err-resume-clause-fault : goal.returns-in_err-resume-clause-fault
 returns-in_err-resume-clause-fault g c =
-    let w = workings g.A.Block.Block.header g.A.Context.Rounded.round_of g.A.Application.works g.A.Databases.DatabaseSet.kind g.A.Databases.DatabaseSet.shows in
+    let w = workings g.A.Block.Block.header g.A.Block.Block.context_of g.A.Context.Rounded.round_of g.A.Application.works g.A.Databases.DatabaseSet.kind g.A.Databases.DatabaseSet.shows in
     let fault = c.in_err-resume.field-0.0 in
     converted _ c.from_residual-in_err-resume.result (error_of_exec fault) c.from_residual-in_err-resume.ensures.1
     (inr (
@@ -25,7 +25,7 @@ returns-in_err-resume-clause-fault g c =
 
 pub returns-clause-ok : goal.returns-clause-ok
 returns-clause-ok g c =
-    let w = workings g.A.Block.Block.header g.A.Context.Rounded.round_of g.A.Application.works g.A.Databases.DatabaseSet.kind g.A.Databases.DatabaseSet.shows in
+    let w = workings g.A.Block.Block.header g.A.Block.Block.context_of g.A.Context.Rounded.round_of g.A.Application.works g.A.Databases.DatabaseSet.kind g.A.Databases.DatabaseSet.shows in
     let o = c.in_ok-resume.ensures in
     ends_finalization w (g.S.BlockStore.stored c.args.store.now) c.args.ticket c.args.block
     (executing c.args.handler.now) (executing c.drop_root.new.self) (executing c.resume.new.self)

@@ -10,7 +10,7 @@ use Rattle.stateful_processing.proofs.finalizing.go_on_advanced.Goals as goal
 
 pub returns-then-needs_barrier-clause-ok : goal.returns-then-needs_barrier-clause-ok
 returns-then-needs_barrier-clause-ok g c =
-    let w = workings g.A.Block.Block.header g.A.Context.Rounded.round_of g.A.Application.works g.A.Databases.DatabaseSet.kind g.A.Databases.DatabaseSet.shows in
+    let w = workings g.A.Block.Block.header g.A.Block.Block.context_of g.A.Context.Rounded.round_of g.A.Application.works g.A.Databases.DatabaseSet.kind g.A.Databases.DatabaseSet.shows in
     let e = executing c.args.handler.now in
     let m = moment w e c.args.processing.now (g.A.Databases.DatabaseSet.members c.args.databases.now)
     (g.A.Databases.DatabaseSet.next c.args.databases.now) c.args.marks.now.items in
@@ -26,7 +26,7 @@ returns-then-needs_barrier-clause-fault g c =
 
 pub returns-else-needs_barrier-clause-ok : goal.returns-else-needs_barrier-clause-ok
 returns-else-needs_barrier-clause-ok g c =
-    let w = workings g.A.Block.Block.header g.A.Context.Rounded.round_of g.A.Application.works g.A.Databases.DatabaseSet.kind g.A.Databases.DatabaseSet.shows in
+    let w = workings g.A.Block.Block.header g.A.Block.Block.context_of g.A.Context.Rounded.round_of g.A.Application.works g.A.Databases.DatabaseSet.kind g.A.Databases.DatabaseSet.shows in
     on_ok_weaker c.observe.result
     (λ o provider. observes c.requires.finalizing c.requires.advanced c.in-Some.is (λ needed. true≢false (sym (c.needs_barrier.ensures.needed.1 needed) ∙ c.if-needs_barrier.false))
     (observes_with w c.args.front _ c.in-Some.captured _ _ (Some c.args.front) refl refl o))
@@ -38,7 +38,7 @@ returns-else-needs_barrier-clause-fault g c =
 
 pub returns-in-None-clause-ok : goal.returns-in-None-clause-ok
 returns-in-None-clause-ok g c =
-    let w = workings g.A.Block.Block.header g.A.Context.Rounded.round_of g.A.Application.works g.A.Databases.DatabaseSet.kind g.A.Databases.DatabaseSet.shows in
+    let w = workings g.A.Block.Block.header g.A.Block.Block.context_of g.A.Context.Rounded.round_of g.A.Application.works g.A.Databases.DatabaseSet.kind g.A.Databases.DatabaseSet.shows in
     on_ok_weaker c.end_finalization.result
     (λ e provider. ends c.requires.finalizing c.requires.advanced c.in-None.is (ends_with w _ c.args.front _ _ _ (Some c.args.front) refl refl e))
     c.end_finalization.ensures.ok

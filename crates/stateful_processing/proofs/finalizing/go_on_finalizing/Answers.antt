@@ -9,7 +9,7 @@ use Rattle.stateful_processing.proofs.finalizing.go_on_finalizing.Goals as goal
 
 pub returns-then-awaited-gt0-clause-ok : goal.returns-then-awaited-gt0-clause-ok
 returns-then-awaited-gt0-clause-ok g c = λ provider.
-    let w = workings g.A.Block.Block.header g.A.Context.Rounded.round_of g.A.Application.works g.A.Databases.DatabaseSet.kind g.A.Databases.DatabaseSet.shows in
+    let w = workings g.A.Block.Block.header g.A.Block.Block.context_of g.A.Context.Rounded.round_of g.A.Application.works g.A.Databases.DatabaseSet.kind g.A.Databases.DatabaseSet.shows in
     let is = sym c.in-Begun.is ∙ c.progress_of.ensures in (
       quiet_waiting w _ c.args.front c.requires.finalizing
           (λ e zero. some_awaited c.awaited.result (counts_once c.awaited.result zero c.awaited.ensures) c.if-awaited-gt0.true)
@@ -24,7 +24,7 @@ returns-in_err-run_or_apply-in-Begun-clause-fault g c =
 
 pub returns-in_err-apply-in-Ran-clause-fault : goal.returns-in_err-apply-in-Ran-clause-fault
 returns-in_err-apply-in-Ran-clause-fault g c =
-    let w = workings g.A.Block.Block.header g.A.Context.Rounded.round_of g.A.Application.works g.A.Databases.DatabaseSet.kind g.A.Databases.DatabaseSet.shows in
+    let w = workings g.A.Block.Block.header g.A.Block.Block.context_of g.A.Context.Rounded.round_of g.A.Application.works g.A.Databases.DatabaseSet.kind g.A.Databases.DatabaseSet.shows in
     let ran = at_ran w c.args.processing.now.durability c.args.front c.args.handler.now.front c.requires.up.front (sym c.progress_of.ensures ∙ c.in-Ran.is) in
     converted _ c.from_residual-in_err-apply-in-Ran.result c.in_err-apply-in-Ran.field-0.0 c.from_residual-in_err-apply-in-Ran.ensures.1
     (fault_applied w _ _ _ _ _ c.args.front _ c.requires.finalizing (inr (ran.0, ran.1)) _ c.in_err-apply-in-Ran.ensures.fault)
@@ -41,6 +41,6 @@ returns-in_ok-run_or_apply-in-Begun-clause-ok g c = λ provider. c.in_ok-run_or_
 
 pub returns-in_ok-apply-in-Ran-clause-ok : goal.returns-in_ok-apply-in-Ran-clause-ok
 returns-in_ok-apply-in-Ran-clause-ok g c = λ provider.
-    let w = workings g.A.Block.Block.header g.A.Context.Rounded.round_of g.A.Application.works g.A.Databases.DatabaseSet.kind g.A.Databases.DatabaseSet.shows in
+    let w = workings g.A.Block.Block.header g.A.Block.Block.context_of g.A.Context.Rounded.round_of g.A.Application.works g.A.Databases.DatabaseSet.kind g.A.Databases.DatabaseSet.shows in
     let ran = at_ran w c.args.processing.now.durability c.args.front c.args.handler.now.front c.requires.up.front (sym c.progress_of.ensures ∙ c.in-Ran.is) in
     applies c.requires.finalizing ran.2 (inr (ran.0, ran.1)) (applies_with w c.args.front _ _ (Some c.args.front) c.in_ok-apply-in-Ran.ensures.ok)

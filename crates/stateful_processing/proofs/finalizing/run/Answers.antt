@@ -5,7 +5,7 @@ use Rattle.stateful_exec.specs.Workings.{workings}
 
 pub returns-clause-ok : goal.returns-clause-ok
 returns-clause-ok g c = λ l.
-    let w = workings g.A.Block.Block.header g.A.Context.Rounded.round_of g.A.Application.works g.A.Databases.DatabaseSet.kind g.A.Databases.DatabaseSet.shows in
+    let w = workings g.A.Block.Block.header g.A.Block.Block.context_of g.A.Context.Rounded.round_of g.A.Application.works g.A.Databases.DatabaseSet.kind g.A.Databases.DatabaseSet.shows in
     let o = c.in_ok-run_finalized.ensures in
     let new = c.run_finalized.new in
     record {

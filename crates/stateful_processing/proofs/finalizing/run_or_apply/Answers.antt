@@ -16,7 +16,7 @@ returns-in_err-run-clause-fault g c =
 
 pub returns-then-cached-clause-ok : goal.returns-then-cached-clause-ok
 returns-then-cached-clause-ok g c =
-    let w = workings g.A.Block.Block.header g.A.Context.Rounded.round_of g.A.Application.works g.A.Databases.DatabaseSet.kind g.A.Databases.DatabaseSet.shows in
+    let w = workings g.A.Block.Block.header g.A.Block.Block.context_of g.A.Context.Rounded.round_of g.A.Application.works g.A.Databases.DatabaseSet.kind g.A.Databases.DatabaseSet.shows in
     let cached = is_cached c.args.handler.now.state.cache c.digest.result c.args.front.block.digest c.cached.result
     c.digest.ensures c.cached.ensures c.if-cached.true in
     on_ok_weaker c.apply.result (λ a stored provider. applies c.requires.finalizing c.requires.unread (inl (c.requires.begun, c.requires.idle, cached))
@@ -25,7 +25,7 @@ returns-then-cached-clause-ok g c =
 
 pub returns-then-cached-clause-fault : goal.returns-then-cached-clause-fault
 returns-then-cached-clause-fault g c =
-    let w = workings g.A.Block.Block.header g.A.Context.Rounded.round_of g.A.Application.works g.A.Databases.DatabaseSet.kind g.A.Databases.DatabaseSet.shows in
+    let w = workings g.A.Block.Block.header g.A.Block.Block.context_of g.A.Context.Rounded.round_of g.A.Application.works g.A.Databases.DatabaseSet.kind g.A.Databases.DatabaseSet.shows in
     let cached = is_cached c.args.handler.now.state.cache c.digest.result c.args.front.block.digest c.cached.result
     c.digest.ensures c.cached.ensures c.if-cached.true in
     MatchResult-weaker c.apply.result c.apply.ensures.fault (λ x p. p)

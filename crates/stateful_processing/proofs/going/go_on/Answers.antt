@@ -15,7 +15,7 @@ returns-then-branch-clause-ok g c =
 
 pub returns-then-is_some-clause-ok : goal.returns-then-is_some-clause-ok
 returns-then-is_some-clause-ok g c =
-    let w = workings g.A.Block.Block.header g.A.Context.Rounded.round_of g.A.Application.works g.A.Databases.DatabaseSet.kind g.A.Databases.DatabaseSet.shows in
+    let w = workings g.A.Block.Block.header g.A.Block.Block.context_of g.A.Context.Rounded.round_of g.A.Application.works g.A.Databases.DatabaseSet.kind g.A.Databases.DatabaseSet.shows in
     let none = c.in_ok-collect.ensures.none c.if-branch.false in
     let stored = g.S.BlockStore.stored c.args.store.now in
     let members = g.A.Databases.DatabaseSet.members c.args.databases.now in
@@ -29,7 +29,7 @@ returns-then-is_some-clause-ok g c =
 
 pub returns-then-is_some-clause-fault : goal.returns-then-is_some-clause-fault
 returns-then-is_some-clause-fault g c =
-    let w = workings g.A.Block.Block.header g.A.Context.Rounded.round_of g.A.Application.works g.A.Databases.DatabaseSet.kind g.A.Databases.DatabaseSet.shows in
+    let w = workings g.A.Block.Block.header g.A.Block.Block.context_of g.A.Context.Rounded.round_of g.A.Application.works g.A.Databases.DatabaseSet.kind g.A.Databases.DatabaseSet.shows in
     let none = c.in_ok-collect.ensures.none c.if-branch.false in
     let stored = g.S.BlockStore.stored c.args.store.now in
     let members = g.A.Databases.DatabaseSet.members c.args.databases.now in
@@ -43,7 +43,7 @@ returns-then-is_some-clause-fault g c =
 
 pub go_on_finalizing-requires-clause-up : goal.go_on_finalizing-requires-clause-up
 go_on_finalizing-requires-clause-up g c =
-    let w = workings g.A.Block.Block.header g.A.Context.Rounded.round_of g.A.Application.works g.A.Databases.DatabaseSet.kind g.A.Databases.DatabaseSet.shows in
+    let w = workings g.A.Block.Block.header g.A.Block.Block.context_of g.A.Context.Rounded.round_of g.A.Application.works g.A.Databases.DatabaseSet.kind g.A.Databases.DatabaseSet.shows in
     let none = c.in_ok-collect.ensures.none c.if-branch.false in
     let stored = g.S.BlockStore.stored c.args.store.now in
     let members = g.A.Databases.DatabaseSet.members c.args.databases.now in
@@ -57,7 +57,7 @@ go_on_finalizing-requires-clause-up g c =
 
 pub go_on_idle-requires-clause-up : goal.go_on_idle-requires-clause-up
 go_on_idle-requires-clause-up g c =
-    let w = workings g.A.Block.Block.header g.A.Context.Rounded.round_of g.A.Application.works g.A.Databases.DatabaseSet.kind g.A.Databases.DatabaseSet.shows in
+    let w = workings g.A.Block.Block.header g.A.Block.Block.context_of g.A.Context.Rounded.round_of g.A.Application.works g.A.Databases.DatabaseSet.kind g.A.Databases.DatabaseSet.shows in
     let none = c.in_ok-collect.ensures.none c.if-branch.false in
     let stored = g.S.BlockStore.stored c.args.store.now in
     let members = g.A.Databases.DatabaseSet.members c.args.databases.now in
@@ -71,7 +71,7 @@ go_on_idle-requires-clause-up g c =
 
 pub returns-in-Some-clause-ok : goal.returns-in-Some-clause-ok
 returns-in-Some-clause-ok g c =
-    let w = workings g.A.Block.Block.header g.A.Context.Rounded.round_of g.A.Application.works g.A.Databases.DatabaseSet.kind g.A.Databases.DatabaseSet.shows in
+    let w = workings g.A.Block.Block.header g.A.Block.Block.context_of g.A.Context.Rounded.round_of g.A.Application.works g.A.Databases.DatabaseSet.kind g.A.Databases.DatabaseSet.shows in
     let none = c.in_ok-collect.ensures.none c.if-branch.false in
     let stored = g.S.BlockStore.stored c.args.store.now in
     let members = g.A.Databases.DatabaseSet.members c.args.databases.now in
@@ -85,7 +85,7 @@ returns-in-Some-clause-ok g c =
 
 pub returns-in-Some-clause-fault : goal.returns-in-Some-clause-fault
 returns-in-Some-clause-fault g c =
-    let w = workings g.A.Block.Block.header g.A.Context.Rounded.round_of g.A.Application.works g.A.Databases.DatabaseSet.kind g.A.Databases.DatabaseSet.shows in
+    let w = workings g.A.Block.Block.header g.A.Block.Block.context_of g.A.Context.Rounded.round_of g.A.Application.works g.A.Databases.DatabaseSet.kind g.A.Databases.DatabaseSet.shows in
     let none = c.in_ok-collect.ensures.none c.if-branch.false in
     let stored = g.S.BlockStore.stored c.args.store.now in
     let members = g.A.Databases.DatabaseSet.members c.args.databases.now in
@@ -99,7 +99,7 @@ returns-in-Some-clause-fault g c =
 
 pub returns-in-None-clause-ok : goal.returns-in-None-clause-ok
 returns-in-None-clause-ok g c =
-    let w = workings g.A.Block.Block.header g.A.Context.Rounded.round_of g.A.Application.works g.A.Databases.DatabaseSet.kind g.A.Databases.DatabaseSet.shows in
+    let w = workings g.A.Block.Block.header g.A.Block.Block.context_of g.A.Context.Rounded.round_of g.A.Application.works g.A.Databases.DatabaseSet.kind g.A.Databases.DatabaseSet.shows in
     let none = c.in_ok-collect.ensures.none c.if-branch.false in
     let stored = g.S.BlockStore.stored c.args.store.now in
     let members = g.A.Databases.DatabaseSet.members c.args.databases.now in
@@ -113,7 +113,7 @@ returns-in-None-clause-ok g c =
 
 pub returns-in-None-clause-fault : goal.returns-in-None-clause-fault
 returns-in-None-clause-fault g c =
-    let w = workings g.A.Block.Block.header g.A.Context.Rounded.round_of g.A.Application.works g.A.Databases.DatabaseSet.kind g.A.Databases.DatabaseSet.shows in
+    let w = workings g.A.Block.Block.header g.A.Block.Block.context_of g.A.Context.Rounded.round_of g.A.Application.works g.A.Databases.DatabaseSet.kind g.A.Databases.DatabaseSet.shows in
     let none = c.in_ok-collect.ensures.none c.if-branch.false in
     let stored = g.S.BlockStore.stored c.args.store.now in
     let members = g.A.Databases.DatabaseSet.members c.args.databases.now in

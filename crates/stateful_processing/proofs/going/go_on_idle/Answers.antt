@@ -8,13 +8,13 @@ use Rattle.stateful_processing.proofs.going.go_on_idle.Goals as goal
 
 pub returns-in-Some-clause-ok : goal.returns-in-Some-clause-ok
 returns-in-Some-clause-ok g c =
-    let w = workings g.A.Block.Block.header g.A.Context.Rounded.round_of g.A.Application.works g.A.Databases.DatabaseSet.kind g.A.Databases.DatabaseSet.shows in
+    let w = workings g.A.Block.Block.header g.A.Block.Block.context_of g.A.Context.Rounded.round_of g.A.Application.works g.A.Databases.DatabaseSet.kind g.A.Databases.DatabaseSet.shows in
     breaks_barrier w _ _ (executing c.args.handler.now) c.args.processing.now _ _ _ c.args.marks.now.items _ c.in-Some.number c.in-Some.height c.requires.idle
     (search rules) c.in_ok-break_barrier.ensures.ok.0 c.in_ok-break_barrier.ensures.ok.1
 
 pub returns-in-Some-flushed-clause-ok : goal.returns-in-Some-flushed-clause-ok
 returns-in-Some-flushed-clause-ok g c =
-    let w = workings g.A.Block.Block.header g.A.Context.Rounded.round_of g.A.Application.works g.A.Databases.DatabaseSet.kind g.A.Databases.DatabaseSet.shows in
+    let w = workings g.A.Block.Block.header g.A.Block.Block.context_of g.A.Context.Rounded.round_of g.A.Application.works g.A.Databases.DatabaseSet.kind g.A.Databases.DatabaseSet.shows in
     completes_barrier w _ _ (executing c.args.handler.now) c.args.processing.now _ _ _ c.args.marks.now.items _ c.in-Some-flushed.number c.in-Some-flushed.height c.requires.idle
     (search rules) (search rules)
     (λ a number height. c.in_ok-complete_barrier.ensures.ok (executing c.args.handler.now) a _ _ number height)

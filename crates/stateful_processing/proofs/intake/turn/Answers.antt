@@ -29,7 +29,7 @@ pub returns-in_ok-turn_hook-clause-ok : goal.returns-in_ok-turn_hook-clause-ok
 returns-in_ok-turn_hook-clause-ok g c =
     let members = g.A.Databases.DatabaseSet.members c.args.databases.now in
     let next = g.A.Databases.DatabaseSet.next c.args.databases.now in
-    let w = workings g.A.Block.Block.header g.A.Context.Rounded.round_of g.A.Application.works g.A.Databases.DatabaseSet.kind g.A.Databases.DatabaseSet.shows in
+    let w = workings g.A.Block.Block.header g.A.Block.Block.context_of g.A.Context.Rounded.round_of g.A.Application.works g.A.Databases.DatabaseSet.kind g.A.Databases.DatabaseSet.shows in
     λ l. by_hook (λ (b, live). c.builds.ensures.no c.if-builds.false b live) (c.hooks.ensures.yes c.if-hooks.true) c.in_ok-turn_hook.ensures.ok
     (ap (λ handler. moment w (executing handler) l members next c.turn_hook.new.marks.items) c.in_ok-turn_hook.ensures.rest)
 

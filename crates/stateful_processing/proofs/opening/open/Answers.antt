@@ -11,7 +11,7 @@ use Rattle.stateful_processing.proofs.opening.open.Goals as goal
 
 pub returns-in_err-init-clause-fault : goal.returns-in_err-init-clause-fault
 returns-in_err-init-clause-fault g c =
-    let w = workings g.A.Block.Block.header g.A.Context.Rounded.round_of g.A.Application.works g.A.Databases.DatabaseSet.kind g.A.Databases.DatabaseSet.shows in
+    let w = workings g.A.Block.Block.header g.A.Block.Block.context_of g.A.Context.Rounded.round_of g.A.Application.works g.A.Databases.DatabaseSet.kind g.A.Databases.DatabaseSet.shows in
     let stored = g.S.BlockStore.stored c.args.store.now in
     let before = g.A.Databases.DatabaseSet.counted c.args.databases.now in
     let now = g.A.Databases.DatabaseSet.counted c.init.new.self in

@@ -20,7 +20,7 @@ returns-in_err-push-in-Declined-clause-fault g c = out_of_memory _ c.from_residu
 
 pub returns-in_ok-push-in-Some-clause-ok : goal.returns-in_ok-push-in-Some-clause-ok
 returns-in_ok-push-in-Some-clause-ok g c = λ l.
-    let w = workings g.A.Block.Block.header g.A.Context.Rounded.round_of g.A.Application.works g.A.Databases.DatabaseSet.kind g.A.Databases.DatabaseSet.shows in
+    let w = workings g.A.Block.Block.header g.A.Block.Block.context_of g.A.Context.Rounded.round_of g.A.Application.works g.A.Databases.DatabaseSet.kind g.A.Databases.DatabaseSet.shows in
     begun w (executing c.args.handler.now) (executing c.propose.new.self) l (g.A.Databases.DatabaseSet.members c.args.databases.now)
     (g.A.Databases.DatabaseSet.members c.propose.new.databases) (g.A.Databases.DatabaseSet.next c.args.databases.now)
     (g.A.Databases.DatabaseSet.next c.propose.new.databases) c.args.marks.now.items c.push.new.self.items c.args.ticket c.args.provider c.in_ok-started.ensures.members c.in_ok-started.ensures.front
@@ -30,7 +30,7 @@ returns-in_ok-push-in-Some-clause-ok g c = λ l.
 
 pub returns-in_ok-push-in-Declined-clause-ok : goal.returns-in_ok-push-in-Declined-clause-ok
 returns-in_ok-push-in-Declined-clause-ok g c = λ l.
-    let w = workings g.A.Block.Block.header g.A.Context.Rounded.round_of g.A.Application.works g.A.Databases.DatabaseSet.kind g.A.Databases.DatabaseSet.shows in
+    let w = workings g.A.Block.Block.header g.A.Block.Block.context_of g.A.Context.Rounded.round_of g.A.Application.works g.A.Databases.DatabaseSet.kind g.A.Databases.DatabaseSet.shows in
     declined w (executing c.args.handler.now) (executing c.propose.new.self) l (g.A.Databases.DatabaseSet.members c.args.databases.now)
     (g.A.Databases.DatabaseSet.members c.propose.new.databases) (g.A.Databases.DatabaseSet.next c.args.databases.now)
     (g.A.Databases.DatabaseSet.next c.propose.new.databases) c.args.marks.now.items c.push-in-Declined.new.self.items c.args.ticket c.args.provider c.in_ok-started.ensures.members

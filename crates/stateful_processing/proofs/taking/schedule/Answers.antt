@@ -9,5 +9,5 @@ returns-in_err-schedule-clause-fault g c = refused _ c.from_residual.result c.in
 
 pub returns-clause-ok : goal.returns-clause-ok
 returns-clause-ok g c = λ l.
-    let w = workings g.A.Block.Block.header g.A.Context.Rounded.round_of g.A.Application.works g.A.Databases.DatabaseSet.kind g.A.Databases.DatabaseSet.shows in
+    let w = workings g.A.Block.Block.header g.A.Block.Block.context_of g.A.Context.Rounded.round_of g.A.Application.works g.A.Databases.DatabaseSet.kind g.A.Databases.DatabaseSet.shows in
     scheduled w (executing c.args.handler.now) (executing c.schedule.new.self) l _ _ _ _ _ _ _ c.args.request c.in_ok-schedule.ensures.works c.in_ok-schedule.ensures.ok

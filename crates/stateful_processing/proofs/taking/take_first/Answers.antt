@@ -15,7 +15,7 @@ returns-in_err-build-in-Build-clause-fault g c =
 
 pub returns-in_err-take_message-in-Message-clause-fault : goal.returns-in_err-take_message-in-Message-clause-fault
 returns-in_err-take_message-in-Message-clause-fault g c =
-    let w = workings g.A.Block.Block.header g.A.Context.Rounded.round_of g.A.Application.works g.A.Databases.DatabaseSet.kind g.A.Databases.DatabaseSet.shows in
+    let w = workings g.A.Block.Block.header g.A.Block.Block.context_of g.A.Context.Rounded.round_of g.A.Application.works g.A.Databases.DatabaseSet.kind g.A.Databases.DatabaseSet.shows in
     let m = moment w (executing c.args.handler.now) c.args.processing.now (g.A.Databases.DatabaseSet.members c.args.databases.now) (g.A.Databases.DatabaseSet.next c.args.databases.now) c.args.marks.now.items in
     let first = c.in-Some.ensures.some ∙ ap (λ action. action ∷ c.pop.new.self) c.in-Message.is in
     converted _ c.from_residual-in_err-take_message-in-Message.result c.in_err-take_message-in-Message.field-0.0 c.from_residual-in_err-take_message-in-Message.ensures.1
@@ -33,7 +33,7 @@ returns-in_ok-take_message-in-Message-clause-ok g c =
 
 pub returns-in_err-take_message-clause-fault : goal.returns-in_err-take_message-clause-fault
 returns-in_err-take_message-clause-fault g c =
-    let w = workings g.A.Block.Block.header g.A.Context.Rounded.round_of g.A.Application.works g.A.Databases.DatabaseSet.kind g.A.Databases.DatabaseSet.shows in
+    let w = workings g.A.Block.Block.header g.A.Block.Block.context_of g.A.Context.Rounded.round_of g.A.Application.works g.A.Databases.DatabaseSet.kind g.A.Databases.DatabaseSet.shows in
     let m = moment w (executing c.args.handler.now) c.args.processing.now (g.A.Databases.DatabaseSet.members c.args.databases.now) (g.A.Databases.DatabaseSet.next c.args.databases.now) c.args.marks.now.items in
     let none = c.in_default.ensures.none in
     let taken = takes_message w (g.S.BlockStore.stored c.args.store.now) m c.requires.calm c.pop.new.self none.0 none.1
@@ -43,7 +43,7 @@ returns-in_err-take_message-clause-fault g c =
 
 pub returns-clause-ok : goal.returns-clause-ok
 returns-clause-ok g c =
-    let w = workings g.A.Block.Block.header g.A.Context.Rounded.round_of g.A.Application.works g.A.Databases.DatabaseSet.kind g.A.Databases.DatabaseSet.shows in
+    let w = workings g.A.Block.Block.header g.A.Block.Block.context_of g.A.Context.Rounded.round_of g.A.Application.works g.A.Databases.DatabaseSet.kind g.A.Databases.DatabaseSet.shows in
     let m = moment w (executing c.args.handler.now) c.args.processing.now (g.A.Databases.DatabaseSet.members c.args.databases.now) (g.A.Databases.DatabaseSet.next c.args.databases.now) c.args.marks.now.items in
     let none = c.in_default.ensures.none in
     takes c.requires.calm (takes_message w (g.S.BlockStore.stored c.args.store.now) m c.requires.calm c.pop.new.self none.0 none.1

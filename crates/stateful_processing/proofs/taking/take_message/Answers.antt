@@ -15,7 +15,7 @@ returns-in-Request-clause-ok g c = on_ok_weaker c.schedule.result (λ does. rw c
 
 pub returns-in_ok-push-in-Subscribe-clause-ok : goal.returns-in_ok-push-in-Subscribe-clause-ok
 returns-in_ok-push-in-Subscribe-clause-ok g c =
-    let w = workings g.A.Block.Block.header g.A.Context.Rounded.round_of g.A.Application.works g.A.Databases.DatabaseSet.kind g.A.Databases.DatabaseSet.shows in
+    let w = workings g.A.Block.Block.header g.A.Block.Block.context_of g.A.Context.Rounded.round_of g.A.Application.works g.A.Databases.DatabaseSet.kind g.A.Databases.DatabaseSet.shows in
     rw c.in-Subscribe.is (answers (ap (moment w (executing c.args.handler.now) c.args.processing.now (g.A.Databases.DatabaseSet.members c.args.databases.now) (g.A.Databases.DatabaseSet.next c.args.databases.now)) c.in_ok-push-in-Subscribe.ensures.items))
 
 pub returns-else-branch-clause-ok : goal.returns-else-branch-clause-ok

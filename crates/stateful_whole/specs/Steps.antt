@@ -16,7 +16,7 @@ use Rattle.stateful_processing.specs.Intake.{Counts, TakesIn}
 use Rattle.stateful_processing.specs.Moments.{Moment}
 use Rattle.stateful_processing.specs.Opening.{Opens}
 use Rattle.stateful_processing.specs.Rules.{Along, Quiet}
-use Rattle.stateful_core.specs.Machine.{numbered}
+use Rattle.stateful_whole.specs.Machine.{numbered}
 
 module _ {B C I : Type 0} (count : ℕ) (register : Register) where
   -- behind an event with these marks all live work ends by further ones, whatever past the register stands for
