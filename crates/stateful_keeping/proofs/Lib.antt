@@ -142,3 +142,5 @@ pub mod InHandOpened
 pub mod SettledKept
 pub mod SettledRules
 pub mod SettledIntake
+pub mod AppliedFurther
+pub mod HeldFurther
