@@ -14,8 +14,8 @@ module _ {B C I P R D H G U : Type 0} (w : Workings B C I P R D H G U) where
   abbrev pub KeepsStates : (old new : w.kind.Members) → Type 0
   KeepsStates old new = (i : ℕ) (s : w.States) → w.kind.HasState old i s → w.kind.HasState new i s
 
-  -- The batch of a finalized block was being applied: each database that is here has its part of the
-  -- states before, or of those that the batch shows.
+  -- The batch of a finalized block was being applied: each database that is here has its part of
+  -- the states before, or of those that the batch shows.
   pub record LeavesApply (b : Named B) (e : Executing B C I R D H U) (old new : w.kind.Members)
       : Type 0 where
     pub batch : U
@@ -29,8 +29,8 @@ module _ {B C I P R D H G U : Type 0} (w : Workings B C I P R D H G U) where
         → (i : ℕ)
         → w.kind.HasState new i p.1 ⊎ w.kind.HasState new i q.1
 
-  -- Behind a rule that could go and didn't, each database that is here has its part of whatever states
-  -- it had; or it was the rule by which the block in front is applied.
+  -- Behind a rule that could go and didn't, each database that is here has its part of whatever
+  -- states it had; or it was the rule by which the block in front is applied.
   pub data LeavesRule (m : Moment w) (new : w.kind.Members) : Type 0 where
     keeps : KeepsStates m.members new → LeavesRule m new
     applying : {f : Finalizing B G} → IsFinalizing w m f → HasStates w m f.block

@@ -13,3 +13,4 @@ pub mod StoresBefore
 pub mod StepsStand
 pub mod HistoryStands
 pub mod StillStands
+pub mod LeftFurther
