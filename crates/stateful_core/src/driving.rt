@@ -13,7 +13,8 @@ ghost use Rattle.stateful_processing.specs.Moments.{moment};
 ghost use Rattle.stateful_whole.specs.Entering.{Steps};
 ghost use Rattle.stateful_core.specs.Driving.{IsRefused};
 ghost use Rattle.stateful_core.specs.Faults.{tally, HasNotFallen, IsCause};
-ghost use Rattle.stateful_whole.specs.Machine.{IsSafe, IsNew, numbered};
+ghost use Rattle.stateful_whole.specs.Left.{LeavesFurther};
+ghost use Rattle.stateful_whole.specs.Machine.{is_restart, IsSafe, IsNew, numbered};
 ghost use Rattle.stateful_whole.specs.Stands.{Stands, StandsAsWell};
 ghost use Rattle.stateful_whole.specs.StepBehind.{EachStands, StandsAndHolds};
 ghost use Rattle.stateful_whole.specs.Steps.{IsStep};
@@ -96,6 +97,16 @@ fn enter<A: Application + Drop, S: BlockStore<A::Block>>(
         (A.Databases.members driven.new.databases)
         (moment w driven.old.stateful.execution driven.old.stateful.loop
         (A.Databases.members driven.old.databases) (A.Databases.next driven.old.databases) []) e) }
+    ensures behind { IfErr result (λ e. (e ≡ StepError.BadEvent → ⊥)
+        → is_restart event ≡ false
+        → driven.old.stateful.loop.up ≡ true
+        → let w = ⟦<A as Worked>⟧.workings in
+        LeavesFurther w (S.stored store.old) driven.old.stateful.provider
+        (record { run = A.Run.count; build = A.Build.count; hook = A.Hook.count }) event
+        driven.old.stateful.register
+        (moment w driven.old.stateful.execution driven.old.stateful.loop
+        (A.Databases.members driven.old.databases) (A.Databases.next driven.old.databases) [])
+        (A.Databases.members driven.new.databases)) }
     ensures later { HasNotFallen
         (tally (A.count driven.old.stateful.application) (A.Databases.counted driven.old.databases))
         (tally (A.count driven.new.stateful.application)
@@ -181,7 +192,7 @@ pub fn drive<A: Application + Drop, S: BlockStore<A::Block>>(
         (A.Databases.members halt.driven.databases) (A.Databases.next halt.driven.databases) [])) }
     ensures store { store.new ≡ store.old }
 
-    // The event that was refused, and why.
+    // The event that was refused, why, and what it left of the databases.
     ensures refused { IfErr result (λ halt. let w = ⟦<A as Worked>⟧.workings in
         (event : Happening A.Block A.Context A.Input)
         × (rest : List (Happening A.Block A.Context A.Input))

@@ -120,8 +120,7 @@ module _ {B C I P R D H G U : Type 0} (w : Workings B C I P R D H G U) (laws : L
   pub further-kept : (m : Moment w) (new : w.kind.Members) → Executes w stored base p m → KeepsStates w m.members new
       → HoldsFurther (setting w stored) w.kind base p event new
   further-kept m new e same i within =
-      let came = came-applied w.header p event on in
-      (
+      let came = came-applied w.header p event on in (
         [],
         record {
           finalized = All-nil (λ b. WasFinalized q b);
@@ -143,8 +142,7 @@ module _ {B C I P R D H G U : Type 0} (w : Workings B C I P R D H G U) (laws : L
       let top : top_of w.header anchor bs ≡ m.execution.state.anchor =
       let both : Some (top_of w.header anchor bs) ≡ Some m.execution.state.anchor = sym grown.1 ∙ Executes-anchor w stored base r m e in search in
       let all : applied r ++ h.blocks ≡ applied p ++ (bs ++ h.blocks) =
-      ap (λ (xs : List (Named B)). xs ++ h.blocks) (g.applied_is ∙ ap (λ (xs : List (Named B)). xs ++ bs) came.0) ∙ append_assoc (applied p) bs h.blocks in
-      (
+      ap (λ (xs : List (Named B)). xs ++ h.blocks) (g.applied_is ∙ ap (λ (xs : List (Named B)). xs ++ bs) came.0) ∙ append_assoc (applied p) bs h.blocks in (
         bs ++ h.blocks,
         record {
           finalized = All-append (λ b. WasFinalized q b) bs h.blocks g.finalized

@@ -88,3 +88,14 @@ module _ {B C I P R D H G U : Type 0} (w : Workings B C I P R D H G U) (laws : L
           (may_come-live (numbered w.kind.count) p event on (may p s.registered)))
           (NamesBehind-marks w stored base (Came event ∷ p) m taken made (sym is ∙ ap (λ (ms : List (Mark B)). ms ++ made) (sym unmarked)) names)
           honest.finalized takes l.along l.left
+
+-- where the machine was up, and the databases are as they were
+pub unmoved-further : {B C I P R D H G U : Type 0} (w : Workings B C I P R D H G U) (laws : Laws w.kind) (stored_now : ℕ → Option (Named B))
+    (provider : P) (counts : Counts R D H) (event : Event B C I) → is_restart event ≡ false → (register : Register) (m : Moment w)
+    → m.loop.up ≡ true → LeavesFurther w stored_now provider counts event register m m.members
+unmoved-further w laws stored_now provider counts event other register m up = record {
+  made = m.marks;
+  left = taking (λ i s has. has) refl;
+  holds = λ stored base p s stored_is names honest.
+      further-kept w laws stored base p event (isnt_restart event other) m m.members (((s.at refl).up up).0).executes (λ i t has. has);
+}

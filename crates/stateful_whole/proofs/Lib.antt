@@ -14,3 +14,4 @@ pub mod StepsStand
 pub mod HistoryStands
 pub mod StillStands
 pub mod LeftFurther
+pub mod RefusedBehind

@@ -1,9 +1,10 @@
 -- What an event that was refused leaves of the databases.
-use Rattle.std.specs.Prelude.{◌≡◌, ◌∷◌, ℕ, false, Option, List}
+use Rattle.std.specs.Prelude.{◌≡◌, ◌∷◌, [], ℕ, false, Option, List}
 use Rattle.stateful_types.specs.Names.{Named}
 use Rattle.stateful_history.specs.Met.{TrueNames}
-use Rattle.stateful_history.specs.Past.{Past, Came, after_entry}
+use Rattle.stateful_history.specs.Past.{Past, Came, after_entry, after_all}
 use Rattle.stateful_history.specs.Refusals.{HoldsFurther}
+use Rattle.stateful_history.specs.declared.entry.Entry.{Entry}
 use Rattle.stateful_history.specs.declared.event.Event.{Event}
 use Rattle.stateful_history.specs.declared.mark.Mark.{Mark}
 use Rattle.stateful_exec.specs.Workings.{Workings}
@@ -16,6 +17,7 @@ use Rattle.stateful_processing.specs.Left.{KeepsStates, LeavesRule}
 use Rattle.stateful_processing.specs.Moments.{Moment}
 use Rattle.stateful_processing.specs.Rules.{Along}
 use Rattle.stateful_whole.specs.Stands.{Stands}
+use Rattle.stateful_whole.specs.StepBehind.{EachStands}
 
 module _ {B C I P R D H G U : Type 0} (w : Workings B C I P R D H G U)
     (stored_now : ℕ → Option (Named B)) (provider : P) where
@@ -50,3 +52,15 @@ module _ {B C I P R D H G U : Type 0} (w : Workings B C I P R D H G U)
           → TrueNames (setting w stored) (after_entry p event made)
           → HasHonestStore w.header stored (Came event ∷ p)
           → HoldsFurther (setting w stored) w.kind base p event new
+
+    -- The same behind a history that began with a new machine, of the states on which it is based at last.
+    pub record LeavesBehind (history : List (Entry B C I)) (m : Moment w) (new : w.kind.Members)
+        : Type 0 where
+      pub made : List (Mark B)
+      pub left : LeavesPlay m new made
+      pub holds : (base : w.States)
+          → TrueNames (setting w stored_now) (after_entry (after_all [] history) event made)
+          → HasHonestStore w.header stored_now (Came event ∷ after_all [] history)
+          → EachStands w stored_now
+          (λ last. HoldsFurther (setting w stored_now) w.kind last (after_all [] history) event new)
+          base [] history

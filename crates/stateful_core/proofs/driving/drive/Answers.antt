@@ -6,6 +6,7 @@ use Rattle.stateful_register.proofs.Entries.{RegisterStands-none}
 use Rattle.stateful_processing.specs.Moments.{moment}
 use Rattle.stateful_whole.specs.Stands.{Stands}
 use Rattle.stateful_whole.proofs.HistoryStands.{history-registered, history-leaves}
+use Rattle.stateful_whole.proofs.RefusedBehind.{leaves-behind}
 use Rattle.stateful_core.specs.Faults.{tally}
 use Rattle.stateful_core.proofs.Adding.{event_at, events-push, Steps-push}
 use Rattle.stateful_core.proofs.Counts.{HasNotFallen-itself, HasNotFallen-further}
@@ -71,6 +72,13 @@ returns-in-Err-clause-refused g c =
         before = tally (g.A.Faulty.count was.stateful.application) (D.counted was.databases);
         later = i.later;
         cause = rw (i.store, i.provider) at c.in-Err.ensures.cause;
+        behind = λ lawful other up.
+            let takes = g.met.A.Application.takes_turns in
+            leaves-behind w g.met.A.Databases.DatabaseSet.laws (g.S.BlockStore.stored c.args.store.now) _ c.args.stateful.provider
+            (λ f states b n is. takes.runs f states b n is) (λ asked states n is. takes.builds asked states n is)
+            _ _ _ _ was.history.items c.requires.new refl c.requires.none_away i.steps was.stateful.register i.registered c.in-Some.event
+            (D.members c.enter.new.driven.databases)
+            ((rw (i.store, i.provider) at c.in-Err.ensures.behind) lawful other up);
       }),
     )
 

@@ -69,9 +69,12 @@ returns-in_err-stop-clause-left g c =
     let D = g.A.Databases.DatabaseSet in
     let w = workings g.A.Block.Block.header g.A.Block.Block.context_of g.A.Context.Rounded.round_of g.A.Application.works D.kind D.shows in
     let a = c.in_ok-advance.ensures.ok in
-    err_holds c.from_residual-in_err-stop.result (a.taken.marks, going a.takes refl (record {
-      reached = moment w (executing c.advance.new.handler) c.advance.new.processing (D.members c.advance.new.databases)
-          (D.next c.advance.new.databases) c.advance.new.marks.items;
-      along = a.settles.along;
-      left = keeps (λ i s has. has);
-    }))
+    err_holds c.from_residual-in_err-stop.result (
+      a.taken.marks,
+      going a.takes refl (record {
+        reached = moment w (executing c.advance.new.handler) c.advance.new.processing (D.members c.advance.new.databases)
+            (D.next c.advance.new.databases) c.advance.new.marks.items;
+        along = a.settles.along;
+        left = keeps (λ i s has. has);
+      }),
+    )
