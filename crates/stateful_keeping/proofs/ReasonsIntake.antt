@@ -31,7 +31,6 @@ use Rattle.stateful_exec.specs.declared.state.Tables.{Tables}
 use Rattle.stateful_exec.specs.declared.tables.Requested.{Requested}
 use Rattle.stateful_standing.specs.Building.{IsBuilding}
 use Rattle.stateful_standing.specs.Gathering.{gathered, AreLinked, IsGathered}
-use Rattle.stateful_standing.specs.Requesting.{first_of}
 use Rattle.stateful_standing.specs.Setting.{setting}
 use Rattle.stateful_standing.specs.Storing.{IsStoredNow}
 use Rattle.stateful_standing.proofs.Gathered.{AreLinked-fetched}
@@ -192,7 +191,7 @@ module _ {B C I P R D H G U : Type 0} (w : Workings B C I P R D H G U) (laws : L
         (fetched-reason w stored base p e.points e.point tables_now.anchor (inner w m) e.tables
         (subst (λ (x : Pause). IsGround w stored base p e.points e.point m.next tables_now.anchor x tables_now.anchor tables_now.cache)
         (sym free.pause_is) free.ground)
-        free.pause_is f answer marks names stored_now stored_is linked (λ u r fetching. trust.straight (first_of r.request).digest) then rule)
+        free.pause_is f answer marks names stored_now stored_is linked then rule)
 
     reasons-fetched : IsFetched w stored_now (inner w m) f answer then
         → ReasonsBehind w stored base (Fetched f answer) marks (Came (Fetched f answer) ∷ p) m now
