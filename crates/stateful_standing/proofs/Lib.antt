@@ -152,3 +152,5 @@ pub mod GroundOpened
 pub mod LinkedOn
 pub mod LinkedServed
 pub mod LinkedTurned
+pub mod LinkedResumed
+pub mod LinkedFetched

@@ -1,15 +1,18 @@
 -- What was gathered stays linked, and the parents of queued proposals known or lost, behind a request that is served.
-use Rattle.std.proofs.Common.{◌≡◌, ◌++◌, inr, ℕ, List, [], ◌∷◌, All, Option, refl, sym, ◌∙◌, subst}
+use Rattle.std.proofs.Common.{◌≡◌, ◌++◌, inl, inr, ℕ, List, [], ◌∷◌, All, Option, Some, refl, sym, ◌∙◌, subst}
 use Rattle.std.proofs.lemmas.List.Elements.{All-head}
 use Rattle.stateful_types.specs.Names.{Named}
 use Rattle.stateful_types.specs.declared.anchor.Anchor.{Anchor}
 use Rattle.stateful_types.specs.declared.digest.Digest.{Digest}
 use Rattle.stateful_history.specs.Known.{Known}
-use Rattle.stateful_history.specs.Met.{Met, TrueNames}
+use Rattle.stateful_history.specs.Met.{Brings, Met, TrueNames}
 use Rattle.stateful_history.specs.Numbers.{NumberIsNew}
-use Rattle.stateful_history.specs.Past.{Past, EachMark, after}
+use Rattle.stateful_history.specs.Past.{Past, Made, EachMark, after}
+use Rattle.stateful_history.specs.Setting.{Setting}
 use Rattle.stateful_history.specs.declared.mark.How.{How}
+use Rattle.stateful_history.specs.declared.mark.JobKind.TheVariants.{Candidate}
 use Rattle.stateful_history.specs.declared.mark.Mark.{Mark}
+use Rattle.stateful_history.specs.declared.mark.Mark.TheVariants.{Asked, Started, Verdict, Declined}
 use Rattle.stateful_cache.specs.Cache.{IsIn, IsAtHand}
 use Rattle.stateful_exec.specs.Ending.{IsGivenUp, Follows, given_up, held, failed, parked, goes_on}
 use Rattle.stateful_exec.specs.Moments.{Moment}
@@ -36,6 +39,23 @@ use Rattle.stateful_standing.proofs.QueueAdvances.{same_queue, concludes_invalid
 use Rattle.stateful_standing.proofs.ReasonAdvances.{closed_by, parent_here}
 use Rattle.stateful_standing.proofs.ReasonGround.{IsGround, round_of_top}
 use Rattle.stateful_standing.proofs.ServedMarks.{IsServedBy, AreServedBy, concludes-marks, advances-marks, acquires-marks, follows-marks}
+
+module _ {B C I S T : Type 0} (s : Setting B S T) where
+  brings_none : (p : Past B C I) (t : ℕ) (mark : Mark B) → IsServedBy t mark → (b : Named B) → Brings {C = C} {I = I} (Made mark) b → ⊥
+  brings_none p t (Verdict u good) is b brought = brought
+  brings_none p t (Declined u) is b brought = brought
+  brings_none p t (Asked f (Some u) d) is b brought = brought
+  brings_none p t (Started j Candidate d) is b brought = brought
+  brings_none p t mark is b brought = absurd is
+
+  -- names that are true are so behind the marks of a request that is served
+  pub names-served : (marks : List (Mark B)) (p : Past B C I) (t : ℕ) → AreServedBy t p marks → TrueNames s p → TrueNames s (after p marks)
+  names-served [] p t are names = names
+  names-served (mark ∷ marks) p t are names = names-served marks (Made mark ∷ p) t are.1 (λ x y has_x has_y. names x y (before x has_x) (before y has_y))
+    where
+      before : (b : Named B) → Met s (Made mark ∷ p) b → Met s p b
+      before b (inl brought) = absurd (brings_none p t mark are.0 b brought)
+      before b (inr met) = met
 
 module _ {B C I P R D H G U : Type 0} (w : Workings B C I P R D H G U) (stored : ℕ → Option (Named B)) (base : w.States) (p : Past B C I)
     (points : Digest → Point w) (point : Point w) (m now : Moment w) (s : TablesStand w stored p points point m.next m.state)
