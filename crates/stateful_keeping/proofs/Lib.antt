@@ -127,11 +127,14 @@ pub mod ReasonsPlain
 pub mod ReasonsResumed
 pub mod ReasonsRules
 pub mod ReasonsMoved
+pub mod FollowsMoved
 pub mod ReasonsSettled
 pub mod ReasonsTurned
 pub mod ReasonsIntake
 pub mod ReasonsLinked
 pub mod ReasonsAlong
+pub mod LinkedMoved
+pub mod LinkedRun
 pub mod QuietWaits
 pub mod HandKept
 pub mod InHandRules

@@ -154,3 +154,4 @@ pub mod LinkedServed
 pub mod LinkedTurned
 pub mod LinkedResumed
 pub mod LinkedFetched
+pub mod LinkedBegan
