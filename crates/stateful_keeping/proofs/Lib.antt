@@ -135,6 +135,7 @@ pub mod ReasonsLinked
 pub mod ReasonsAlong
 pub mod LinkedMoved
 pub mod LinkedRun
+pub mod LinkedRules
 pub mod QuietWaits
 pub mod HandKept
 pub mod InHandRules

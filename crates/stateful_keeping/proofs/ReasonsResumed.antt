@@ -1,5 +1,5 @@
 -- False verdicts and declines have their reasons: those of the requests that are served once a finalization has ended.
-use Rattle.std.proofs.Common.{◌≡◌, ℕ, get_or, List, [], ◌∷◌, All, Option, Some, refl, sym, ◌∙◌, subst}
+use Rattle.std.proofs.Common.{◌≡◌, ◌++◌, ℕ, get_or, List, [], ◌∷◌, All, Option, Some, refl, sym, ◌∙◌, subst}
 use Rattle.std.proofs.lemmas.List.{append_cancel_left}
 use Rattle.stateful_types.specs.Names.{Named}
 use Rattle.stateful_types.specs.declared.anchor.Anchor.{Anchor}
@@ -101,9 +101,15 @@ module _ {B C I P R D H G U : Type 0} (w : Workings B C I P R D H G U) (stored h
               gone.ready.stays.stored_is e.0 e.1.request [] needs;
         }
 
+    -- behind the parked requests those that acquire anew what they need may do so
+    pub resumed-may : (more : List (Mark B)) → r.mid.marks ≡ m.marks ++ more
+        → All (λ e. MayAcquire w stored held base tip (after p more) r.mid.state.pause r.mid.state.anchor r.mid.state.cache e)
+        (unacquired_in r.mid.state.requests)
+    resumed-may more is = subst (λ (ms : List (Mark B)). All (λ e. MayAcquire w stored held base tip
+        (after p ms) r.mid.state.pause r.mid.state.anchor r.mid.state.cache e) (unacquired_in r.mid.state.requests))
+        (append_cancel_left m.marks gone.more more (sym gone.marks_are ∙ is)) may
+
     -- each mark behind the end of a pause keeps the rule
     pub resumed-reasons : KeepsBehind w Rule p m now
-    resumed-reasons = resumes-reason w stored held base tip points point event marks other_states p m s g ways located drawn now r (λ first.
-        subst (λ (ms : List (Mark B)). All (λ e. MayAcquire w stored held base tip
-        (after p ms) r.mid.state.pause r.mid.state.anchor r.mid.state.cache e) (unacquired_in r.mid.state.requests))
-        (append_cancel_left m.marks gone.more first.more (sym gone.marks_are ∙ first.marks_are)) may)
+    resumed-reasons = resumes-reason w stored held base tip points point event marks other_states p m s g ways located drawn now r
+        (λ first. resumed-may first.more first.marks_are)

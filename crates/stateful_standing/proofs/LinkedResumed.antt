@@ -1,7 +1,7 @@
 -- What was gathered stays linked, and the parents of queued proposals known or lost, behind the requests that go on behind a pause.
 use Rattle.std.proofs.Common.{◌≡◌, ◌≢◌, ◌++◌, ℕ, not, get_or, is_none, List, [], ◌∷◌, All, Option, Some, refl, sym, ap, ◌∙◌, subst}
 use Rattle.std.proofs.lemmas.List.{append_assoc}
-use Rattle.std.proofs.lemmas.List.Elements.{All-nil, All-filter, All-weaker}
+use Rattle.std.proofs.lemmas.List.Elements.{All-nil, All-filter}
 use Rattle.std.proofs.lemmas.List.Kept.{AllPairs-filter}
 use Rattle.stateful_types.specs.Names.{Named}
 use Rattle.stateful_types.specs.declared.anchor.Anchor.{Anchor}
@@ -32,7 +32,7 @@ use Rattle.stateful_standing.proofs.AnewStands as anew
 use Rattle.stateful_standing.proofs.AnewStands.{MayWait, entries_apart}
 use Rattle.stateful_standing.proofs.EarnedLeft.{LeavesBehind-advances, LeavesBehind-acquires}
 use Rattle.stateful_standing.proofs.FollowStands.{ticket_of, request_of}
-use Rattle.stateful_standing.proofs.Gathered.{AreLinked-brought, honest-after, answered-after}
+use Rattle.stateful_standing.proofs.Gathered.{AreLinked-brought}
 use Rattle.stateful_standing.proofs.KeptInTurn.{AreGrounded, AreGrounded-in_turn}
 use Rattle.stateful_standing.proofs.KeptMarks.{KeepsReady}
 use Rattle.stateful_standing.proofs.LinkedOn.{StaysLinked}
@@ -134,9 +134,9 @@ module _ {B C I P R D H G U : Type 0} (w : Workings B C I P R D H G U) (stored h
             let e = get_or m.state.requests k d in
             AreLinked-brought (setting w stored) e.1.request e.1.acquired ((h.gatherings k d l).linked honest answered))
 
-    -- It stays so behind a pause, where those that acquire anew what they need may do so, as long as what came with them is linked.
+    -- It stays so behind a pause, where those that acquire anew what they need may do so.
     pub StaysLinked-resumed : (now : Moment w) (r : Resumes w held m now)
-        → ((more : List (Mark B)) → r.mid.marks ≡ m.marks ++ more → All (λ e. AreLinked (setting w stored) (gathered e.1.request [])) (unacquired_in r.mid.state.requests)
+        → ((more : List (Mark B)) → r.mid.marks ≡ m.marks ++ more
         → All (λ e. MayAcquire w stored held base tip (after p more) r.mid.state.pause r.mid.state.anchor r.mid.state.cache e) (unacquired_in r.mid.state.requests))
         → LinkedBehind w stored base p m now
     StaysLinked-resumed now r may = record {
@@ -151,17 +151,8 @@ module _ {B C I P R D H G U : Type 0} (w : Workings B C I P R D H G U) (stored h
         stands : TablesStand w stored (after p first.more) points point r.mid.next r.mid.state
         stands = first.ready.grounded.ready.stands
 
-        linked_mid : All (λ (e : ℕ × Requested B C I). AreLinked (setting w stored) (gathered e.1.request [])) (unacquired_in r.mid.state.requests)
-        linked_mid =
-            All-filter (λ (e : ℕ × Requested B C I). is_unacquired e.1.phase) (λ e. AreLinked (setting w stored) (gathered e.1.request []))
-            r.mid.state.requests
-            (All-weaker (λ (e : ℕ × Requested B C I). IsGathered (setting w stored) (after p first.more) e.1) (λ e. AreLinked (setting w stored) (gathered e.1.request []))
-            (λ e h. AreLinked-brought (setting w stored) e.1.request e.1.acquired
-            (h.linked (honest-after (setting w stored) p first.more honest) (answered-after (setting w stored) p first.more answered)))
-            r.mid.state.requests first.ready.stays.gatherings)
-
         may_acquire : All (λ e. MayAcquire w stored held base tip (after p first.more) r.mid.state.pause r.mid.state.anchor r.mid.state.cache e) (unacquired_in r.mid.state.requests)
-        may_acquire = may first.more first.marks_are linked_mid
+        may_acquire = may first.more first.marks_are
 
         may_wait : All (MayWait w stored held points point other_states (after p first.more) (unsettled w r.mid)) (unacquired_in r.mid.state.requests)
         may_wait = λ k d l. (may_acquire k d l).may_wait
