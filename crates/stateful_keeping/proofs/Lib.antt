@@ -136,6 +136,7 @@ pub mod ReasonsAlong
 pub mod LinkedMoved
 pub mod LinkedRun
 pub mod LinkedRules
+pub mod LinkedIntake
 pub mod QuietWaits
 pub mod HandKept
 pub mod InHandRules
