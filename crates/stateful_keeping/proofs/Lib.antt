@@ -123,6 +123,7 @@ pub mod EventDown
 pub mod EventRestarts
 pub mod GroundPaused
 pub mod RoundsLater
+pub mod Trusted
 pub mod ReasonsPlain
 pub mod ReasonsResumed
 pub mod ReasonsRules
@@ -132,11 +133,13 @@ pub mod ReasonsSettled
 pub mod ReasonsTurned
 pub mod ReasonsIntake
 pub mod ReasonsLinked
-pub mod ReasonsAlong
 pub mod LinkedMoved
 pub mod LinkedRun
 pub mod LinkedRules
 pub mod LinkedIntake
+pub mod ReasonsStand
+pub mod ReasonsAlong
+pub mod ReasonsUp
 pub mod QuietWaits
 pub mod HandKept
 pub mod InHandRules

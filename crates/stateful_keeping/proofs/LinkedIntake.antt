@@ -36,12 +36,12 @@ use Rattle.stateful_processing.specs.Intake as intake
 use Rattle.stateful_processing.specs.Moments.{Moment, inner, with_inner}
 use Rattle.stateful_keeping.specs.Execution.{Executes, IsPlaced, IsFree, NamesBehind}
 use Rattle.stateful_keeping.specs.Reasons.{IsTrusted}
-use Rattle.stateful_keeping.specs.Rounds.{RoundsRise}
 use Rattle.stateful_keeping.specs.Stands.{IsUpAt}
 use Rattle.stateful_keeping.proofs.LinkedRules.{TablesLinkedBehind, AreStill, one_still, none_still}
 use Rattle.stateful_keeping.proofs.LinkedRun.{StaysLinked-turn, StaysLinked-run}
 use Rattle.stateful_keeping.proofs.Places.{fetches-free}
 use Rattle.stateful_keeping.proofs.RoundsLater.{front-finalized}
+use Rattle.stateful_keeping.proofs.Trusted.{IsTrusted-before}
 
 module _ {B C I : Type 0} (p : Past B C I) where
   came_still : (e : Event B C I) → (IsRestart e → ⊥) → IsStill {B = B} (Came e)
@@ -213,14 +213,14 @@ module _ {B C I P R D H G U : Type 0} (w : Workings B C I P R D H G U) (laws : L
         final_settled b moved answer marks last rule is state
     final_turn count marks last (not_live none_live same after_is) is state = as_was (is ∙ same) state
 
-    rise : RoundsRise (setting w stored) p
-    rise t parent b is met on = trust.rise t parent b is (inr met) on
+    before : IsTrusted w stored p
+    before = IsTrusted-before w stored (Came (Turn j)) p trust
 
     run_turn : (then : exec.Moment w) (last : Option (Front B R U H)) → Completes w counts.run (inner w m) m.execution.front j then last
         → now.marks ≡ then.marks → now.execution.state ≡ then.state → Behind
     run_turn then last (candidate steps after_is) is state =
         by_execution (Turn j) (λ r. r) names behind then is state
-        (StaysLinked-run w laws stored base p m u.executes u.ways rise trust.honest trust.answered h j counts.run then steps
+        (StaysLinked-run w laws stored base p m u.executes u.ways before.rise before.honest before.answered h j counts.run then steps
         (front-finalized w stored base p m u up))
     run_turn then last (finalized off steps same) is state =
         final_turn counts.run then.marks last steps is (state ∙ ap (λ (n : exec.Moment w). n.state) same)

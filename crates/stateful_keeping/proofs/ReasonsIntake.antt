@@ -44,12 +44,12 @@ use Rattle.stateful_processing.specs.Sound.{FrontAgrees}
 use Rattle.stateful_processing.specs.declared.tables.Finalizing.{Finalizing}
 use Rattle.stateful_keeping.specs.Execution.{Executes, IsPlaced, IsFree}
 use Rattle.stateful_keeping.specs.Reasons.{RefusesNone, IsTrusted, ReasonsStand, ReasonsBehind}
-use Rattle.stateful_keeping.specs.Rounds.{RoundsRise}
 use Rattle.stateful_keeping.specs.Stands.{IsUpAt}
 use Rattle.stateful_keeping.proofs.Places.{fetches-free}
 use Rattle.stateful_keeping.proofs.ReasonsPlain.{one_plain, two_plain, reasons_plain, reasons_none, reasons_by}
 use Rattle.stateful_keeping.proofs.ReasonsTurned.{turned-reasons}
 use Rattle.stateful_keeping.proofs.RoundsLater.{front-finalized}
+use Rattle.stateful_keeping.proofs.Trusted.{IsTrusted-before}
 
 cancel_plain : {B C I R U : Type 0} (old new : Tables B C I R U) (t : ℕ) (ms : List (Mark B)) → Cancels old new t ms → All (λ x. RefusesNone x) ms
 cancel_plain old new t ms (idle r there rest is none) = subst (λ l. All (λ x. RefusesNone x) l) (sym none) (All-nil (λ x. RefusesNone x))
@@ -147,10 +147,6 @@ module _ {B C I P R D H G U : Type 0} (w : Workings B C I P R D H G U) (laws : L
   abbrev tables_now : Tables B C I R U
   tables_now = m.execution.state
 
-  -- rounds that rise behind a turn rise before it
-  rise_before : (j : ℕ) → RoundsRise (setting w stored) (Came (Turn j) ∷ p) → RoundsRise (setting w stored) p
-  rise_before j rise t parent b is met on = rise t parent b is (inr met) on
-
   -- a fetch is answered
   module _ (f : ℕ) (answer : Option (Named B)) (trust : IsTrusted w stored (Came (Fetched f answer) ∷ p))
       (names : TrueNames (setting w stored) (Came (Fetched f answer) ∷ p)) (then : exec.Moment w) (is : now.marks ≡ then.marks) where
@@ -191,7 +187,7 @@ module _ {B C I P R D H G U : Type 0} (w : Workings B C I P R D H G U) (laws : L
         → now.marks ≡ then.marks → ReasonsBehind w stored base (Turn j) marks (Came (Turn j) ∷ p) m now
     reasons-run then after (candidate steps same) is =
         reasons_by w stored base (Turn j) marks (Came (Turn j) ∷ p) m now (inner w m) then refl is
-        (turned-reasons w laws stored base (Turn j) marks p m h.executes h.ways (rise_before j trust.rise) j counts.run then steps
+        (turned-reasons w laws stored base (Turn j) marks p m h.executes h.ways (IsTrusted-before w stored (Came (Turn j)) p trust).rise j counts.run then steps
         (front-finalized w stored base p m h up))
     reasons-run then after (finalized off steps same) is =
         final_told w laws stored base (Turn j) marks (Came (Turn j) ∷ p) m now counts.run j then.marks after steps is

@@ -3,7 +3,7 @@ use Rattle.std.specs.Prelude.{◌≡◌, ℕ, false, Option, List, [], ◌++◌,
 use Rattle.stateful_types.specs.Names.{Named}
 use Rattle.stateful_history.specs.Declines.{DeclinedHasReason}
 use Rattle.stateful_history.specs.Honest.{IsHonest, IsAnswered}
-use Rattle.stateful_history.specs.Past.{Past, EachMark}
+use Rattle.stateful_history.specs.Past.{Past, EachMark, after}
 use Rattle.stateful_history.specs.Reasons.{FalseHasReason}
 use Rattle.stateful_history.specs.Setting.{Setting}
 use Rattle.stateful_history.specs.Telling.{telling_of}
@@ -66,3 +66,10 @@ module _ {B C I P R D H G U : Type 0} (w : Workings B C I P R D H G U) (stored :
     pub more : List (Mark B)
     pub marks_are : now.marks ≡ m.marks ++ more
     pub each : EachMark HasItsReason p more
+
+  -- Besides, what is kept for reasons is kept behind these marks.
+  pub record ReasonsUpBehind (p : Past B C I) (m now : Moment w) : Type 0 where
+    pub more : List (Mark B)
+    pub marks_are : now.marks ≡ m.marks ++ more
+    pub each : EachMark HasItsReason p more
+    pub stand : ReasonsStand w stored (after p more) base now
