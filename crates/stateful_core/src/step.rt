@@ -14,6 +14,7 @@ ghost use Rattle.stateful_keeping.specs.Ways.{HasHonestStore};
 ghost use Rattle.stateful_processing.specs.Moments.{moment};
 ghost use Rattle.stateful_core.specs.Faults.{tally, IsCause};
 ghost use Rattle.stateful_core.specs.Machine.{faults_after};
+ghost use Rattle.stateful_whole.specs.Left.{LeavesFurther};
 ghost use Rattle.stateful_whole.specs.Machine.{IsSafe, numbered, is_restart};
 ghost use Rattle.stateful_whole.specs.Stands.{Stands, StandsAsWell};
 ghost use Rattle.stateful_whole.specs.StepBehind.{Continues};
@@ -181,6 +182,20 @@ impl<A: Application + Drop> Stateful<A> {
             → is_restart event ≡ false
             → (self.new ≡ self.old) × (databases.new ≡ databases.old) × IsErrOf result StepError.Failed }
         ensures fails { IfErr result (λ e. (e ≡ StepError.BadEvent → ⊥) → self.new.failed ≡ true) }
+
+        // Behind any other error than BadEvent, at an event that isn't a restart, of a machine that hadn't failed, each database
+        // that is here has its part of the fold over what was applied, and over further blocks, if any: the event may have
+        // applied some before its error.
+        ensures behind { IfErr result (λ e. (e ≡ StepError.BadEvent → ⊥)
+            → self.old.failed ≡ false
+            → is_restart event ≡ false
+            → let w = ⟦<A as Worked>⟧.workings in
+            LeavesFurther w (S.stored store.old) self.old.provider
+            (record { run = A.Run.count; build = A.Build.count; hook = A.Hook.count }) event
+            self.old.register
+            (moment w self.old.execution self.old.loop (A.Databases.members databases.old)
+            (A.Databases.next databases.old) [])
+            (A.Databases.members databases.new)) }
 
         // Counts of faults and numbers never fall, and the store, the provider and the configuration stay.
         ensures later { (n : ℕ)

@@ -42,7 +42,7 @@ use Rattle.stateful_processing.specs.declared.tables.Finalizing.{Finalizing}
 use Rattle.stateful_keeping.specs.Execution.{FetchesNone, IsPausedFor, IsPausedOver, IsPlaced, Executes, ExecutesBehind}
 
 module _ {B C I P R D H G U : Type 0} (w : Workings B C I P R D H G U) (stored : ℕ → Option (Named B)) (b : Named B) where
-  fold_more : (t : Option w.States) (u : w.States) (bs : List (Named B)) → fold (setting w stored) t bs ≡ Some u → (v : w.States)
+  pub fold_more : (t : Option w.States) (u : w.States) (bs : List (Named B)) → fold (setting w stored) t bs ≡ Some u → (v : w.States)
       → w.works.meaning.step u b.block ≡ Some v → fold (setting w stored) t (bs ++ b ∷ []) ≡ Some v
   fold_more t u [] is v step = rw (is, step) refl
   fold_more (Some t) u (c ∷ bs) is v step = fold_more (w.works.meaning.step t c.block) u bs is v step

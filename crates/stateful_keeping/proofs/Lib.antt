@@ -57,6 +57,7 @@ pub mod TicketsCancelled
 pub mod TicketsTurned
 pub mod TicketsStill
 pub mod MarksOfRules
+pub mod PlainMarks
 pub mod RuleItems
 pub mod TicketsCollected
 pub mod TicketsTaken
@@ -149,3 +150,5 @@ pub mod InHandOpened
 pub mod SettledKept
 pub mod SettledRules
 pub mod SettledIntake
+pub mod AppliedFurther
+pub mod HeldFurther

@@ -14,3 +14,4 @@ pub mod StoresBefore
 pub mod StepsStand
 pub mod HistoryStands
 pub mod StillStands
+pub mod LeftFurther
