@@ -4,9 +4,10 @@ ghost use Rattle.std.specs.Prelude.{◌≡◌, ◌↔◌, ℕ, [], IfOk, IsTrue,
 ghost use Rattle.stateful_db.specs.Member.{closed as closed_member};
 ghost use Rattle.stateful_plain.specs.Whole.{initial};
 ghost use Rattle.stateful_script.specs.Laws.{IsPlan};
-ghost use Rattle.stateful_actor.specs.Stepping.{IsNew};
+ghost use Rattle.stateful_processing.specs.Moments.{moment};
+ghost use Rattle.stateful_whole.specs.Machine.{IsNew};
 ghost use Rattle.stateful_play.specs.Plan.{labels_of};
-ghost use Rattle.stateful_play.specs.Play.{IsPlayOf};
+ghost use Rattle.stateful_play.specs.Play.{bank, IsPlayOf};
 ghost use Rattle.stateful_play.specs.Shown.{listed_in};
 
 use crate::event::{WINDOW, events};
@@ -86,7 +87,9 @@ fn labels(alloc: Global, names: &[Name], planned: &[Planned]) -> Result<Vec<Labe
 
 /// A machine that is down.
 fn new_machine(alloc: Global) -> Result<Stateful<Bank>, OutOfMemory>
-    ensures { IfOk result (λ stateful. IsNew stateful.failed stateful.core stateful.register) }
+    ensures { IfOk result (λ stateful. (m : ⟦<Held<Plain> as DatabaseSet>⟧.kind.Members) (n : ℕ)
+        → IsNew bank stateful.failed stateful.register
+        (moment bank stateful.execution stateful.loop m n [])) }
 {
     let config = Config {
         application: Bank::new(alloc),
