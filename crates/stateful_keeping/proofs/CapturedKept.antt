@@ -58,9 +58,9 @@ module _ {B C I P R D H G U : Type 0} (w : Workings B C I P R D H G U) where
   rule-captured stored provider m now point here (takes {x = x} {mid = mid} calm take r) s = does stored x mid now r (front_same m mid (taken x m mid take) s)
 
   turned : (counts : Counts R D H) (j : ℕ) (m now : Moment w) → TurnsJob w counts j m now → now.loop.front ≡ m.loop.front
-  turned counts j m now (build live turn e) = ap (λ n. n.loop.front) e
-  turned counts j m now (hook live is turn e) = ap (λ n. n.loop.front) e
-  turned counts j m now (run live none completes e) = ap (λ n. n.loop.front) e
+  turned counts j m now (build live turns_it e) = ap (λ n. n.loop.front) e
+  turned counts j m now (hook unbuilt live turns_it e) = ap (λ n. n.loop.front) e
+  turned counts j m now (run unbuilt unhooked turns_it e) = ap (λ n. n.loop.front) e
 
   -- an event is taken in
   pub taken_in-captured : (stored : ℕ → Option (Named B)) (counts : Counts R D H) (e : Event B C I) (m now : Moment w) → TakesIn w stored counts m now e

@@ -144,7 +144,7 @@ module _ {B C I P R D H G U : Type 0} (w : Workings B C I P R D H G U) (laws : L
     executes-rule runs_cost builds_cost provider (covers fin advanced captured needed r) =
         Executes-begins_barrier w laws stored base p m now e r
     executes-rule runs_cost builds_cost provider (observes {f = f} {captured = captured} fin advanced is covered o) =
-        executes-observes f captured fin.1.1 is advanced o
+        executes-observes f captured fin.2 is advanced o
     executes-rule runs_cost builds_cost provider (ends {f = f} fin advanced none r) =
         executes-ends f fin advanced r
     executes-rule runs_cost builds_cost provider (breaks {active = active} idle is becomes) = executes-breaks active becomes

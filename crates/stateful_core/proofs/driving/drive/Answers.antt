@@ -1,8 +1,11 @@
-use Rattle.std.proofs.Common.{[], refl, ◌∙◌}
+use Rattle.std.proofs.Common.{[], Bool, refl, sym, ◌∙◌, subst}
+use Rattle.stateful_history.specs.Past.{after_all}
 use Rattle.stateful_cache.proofs.Cutting.{one_over, none_over}
 use Rattle.stateful_exec.specs.Workings.{workings}
 use Rattle.stateful_register.proofs.Entries.{RegisterStands-none}
 use Rattle.stateful_processing.specs.Moments.{moment}
+use Rattle.stateful_whole.specs.Stands.{Stands}
+use Rattle.stateful_whole.proofs.HistoryStands.{history-registered, history-leaves}
 use Rattle.stateful_core.specs.Faults.{tally}
 use Rattle.stateful_core.proofs.Adding.{event_at, events-push, Steps-push}
 use Rattle.stateful_core.proofs.Counts.{HasNotFallen-itself, HasNotFallen-further}
@@ -74,3 +77,30 @@ returns-in-Err-clause-refused g c =
 pub returns-clause-all : goal.returns-clause-all
 returns-clause-all g c = c.loop-event.invariant.events
     ∙ none_over c.loop-event.yielded _ _ _ c.loop-event.invariant.all c.loop-event.event-iterator.rest.ok.0 c.in-None.ensures.steps.0
+
+pub returns-clause-stands : goal.returns-clause-stands
+returns-clause-stands g c =
+    let D = g.A.Databases.DatabaseSet in
+    let w = workings g.A.Block.Block.header g.A.Block.Block.context_of g.A.Context.Rounded.round_of g.A.Application.works D.kind D.shows in
+    let takes = g.met.A.Application.takes_turns in
+    let i = c.loop-event.invariant in
+    λ base names honest. history-registered w g.met.A.Databases.DatabaseSet.laws (g.S.BlockStore.stored c.args.store.now) _ c.args.stateful.provider
+    (λ f states b n is. takes.runs f states b n is) (λ asked states n is. takes.builds asked states n is)
+    _ _ _ _ c.loop-event.driven.history.items c.requires.new refl c.requires.none_away i.steps names honest base
+    c.loop-event.driven.stateful.register i.registered
+
+pub returns-in-Err-clause-still_stands : goal.returns-in-Err-clause-still_stands
+returns-in-Err-clause-still_stands g c =
+    let D = g.A.Databases.DatabaseSet in
+    let w = workings g.A.Block.Block.header g.A.Block.Block.context_of g.A.Context.Rounded.round_of g.A.Application.works D.kind D.shows in
+    let takes = g.met.A.Application.takes_turns in
+    let i = c.loop-event.invariant in
+    let was = c.loop-event.driven in
+    rw c.in-Err.ensures.err
+    (λ base names honest. history-leaves w g.met.A.Databases.DatabaseSet.laws (g.S.BlockStore.stored c.args.store.now) _ c.args.stateful.provider
+    (λ f states b n is. takes.runs f states b n is) (λ asked states n is. takes.builds asked states n is)
+    _ _ _ _ was.history.items c.requires.new refl c.requires.none_away i.steps names honest base
+    was.stateful.register i.registered _
+    (λ last s. c.in-Err.ensures.still (g.S.BlockStore.stored c.args.store.now) last (after_all [] was.history.items)
+    (subst (λ (failed : Bool). Stands w (g.S.BlockStore.stored c.args.store.now) last (after_all [] was.history.items) failed was.stateful.register
+    (moment w was.stateful.execution was.stateful.loop (D.members was.databases) (D.next was.databases) [])) (sym i.working) s.stands)))

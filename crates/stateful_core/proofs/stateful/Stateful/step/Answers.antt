@@ -1,10 +1,11 @@
-use Rattle.std.proofs.Common.{refl}
+use Rattle.std.proofs.Common.{refl, true}
 use Rattle.stateful_exec.specs.Workings.{workings}
 use Rattle.stateful_processing.proofs.Handing.{converted}
 use Rattle.stateful_processing.proofs.SoundingKept.{Sound-kept}
 use Rattle.stateful_whole.proofs.StepStands.{step-stands}
 use Rattle.stateful_whole.proofs.StillStands.{still-stands}
 use Rattle.stateful_core.proofs.Arms.{refused_at_once}
+use Rattle.stateful_core.proofs.Refused.{on_err}
 use Rattle.stateful_core.proofs.stateful.Stateful.step.Goals as goal
 
 pub returns-in_err-admit-clause-cause : goal.returns-in_err-admit-clause-cause
@@ -39,3 +40,22 @@ returns-clause-stands g c =
     base p stored_is c.args.event _ _ _ _ _ c.in_ok-admit.ensures.works s
     (c.in_ok-admit.ensures.yes p s.registered) (rw c.new-marks.ensures.items at c.in_ok-act.ensures.ok)
     (c.in_ok-record.ensures.stands p s.registered) names honest)
+
+pub returns-in_err-admit-clause-still : goal.returns-in_err-admit-clause-still
+returns-in_err-admit-clause-still g c = on_err _ (λ stored base p s. s)
+
+pub returns-in_err-act-clause-still : goal.returns-in_err-act-clause-still
+returns-in_err-act-clause-still g c =
+    let D = g.A.Databases.DatabaseSet in
+    let w = workings g.A.Block.Block.header g.A.Block.Block.context_of g.A.Context.Rounded.round_of g.A.Application.works D.kind D.shows in
+    on_err _ (rw (← c.self.view_is) (λ stored base p s.
+    still-stands w p _ _ c.in_err-act.ensures.numbers c.in_err-act.ensures.barrier c.in_err-act.ensures.none_away stored base _ true _ _ refl refl
+    s.registered s))
+
+pub returns-in_err-record-clause-still : goal.returns-in_err-record-clause-still
+returns-in_err-record-clause-still g c =
+    let D = g.A.Databases.DatabaseSet in
+    let w = workings g.A.Block.Block.header g.A.Block.Block.context_of g.A.Context.Rounded.round_of g.A.Application.works D.kind D.shows in
+    on_err _ (rw (← c.self.view_is) (λ stored base p s.
+    still-stands w p _ _ c.in_ok-act.ensures.numbers c.in_ok-act.ensures.barrier c.in_ok-act.ensures.none_away stored base _ true _ _ refl refl
+    (c.in_err-record.ensures.err p s.registered) s))
