@@ -455,6 +455,12 @@ fn names_errors(rt: HostRuntime) -> Result<(), Fail> {
             text: "#1;began 0 a;started 0 finalized a;#2;ended 0 kept;applied 1 a;barrier 0 1;database 0 closed;halted 3 Database;",
             status: Status::Halted { at: 3 },
         },
+        // The store has a at height 1, and the database s.
+        Row {
+            script: "finalize a;turn 0;restart none 1;finalize s;turn 1;flushed 1 0;restart 1 2;",
+            text: "#1;began 0 a;started 0 finalized a;#2;ended 0 kept;applied 1 a;barrier 0 1;#3;dropped 0;opened 0 genesis;#4;began 1 s;started 1 finalized s;#5;ended 1 kept;applied 1 s;barrier 1 1;#6;durable 1 1;acknowledged 1 1;database 0 closed;halted 7 TargetMismatch;",
+            status: Status::Halted { at: 7 },
+        },
         Row {
             script: "finalize m;turn 0;",
             text: "#1;began 0 m;started 0 finalized m;database 0 0..1;halted 2 FinalizedRejected;",
