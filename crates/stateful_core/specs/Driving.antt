@@ -22,7 +22,7 @@ module _ {B C I P R D H G U : Type 0} (w : Workings B C I P R D H G U) (stored :
       (m : w.kind.Members) (start «end» : Tally) : Type 0 where
     pub register : Register
     pub old : Moment w
-    pub steps : Steps [] first history old
+    pub steps : Steps w stored provider counts [] first history old
     pub registered : RegisterStands (numbered w.kind.count) (after_all [] history) register
     pub before : Tally
     pub later : HasNotFallen start before

@@ -1,7 +1,6 @@
 //! A whole list of events.
 
 ghost use Rattle.std.specs.Prelude.{◌≡◌, ◌<◌, ◌≤◌, ◌++◌, ◌∷◌, [], ℕ, List, Option, true, false, IfOk, IfErr, OnOk, OnErr, length, map, take};
-ghost use Rattle.stateful_types.specs.Names.{Named};
 ghost use Rattle.stateful_history.specs.Met.{TrueNames};
 ghost use Rattle.stateful_history.specs.Past.{Past, after_all};
 ghost use Rattle.stateful_history.specs.declared.event.Event.{Event as Happening};
@@ -15,7 +14,7 @@ ghost use Rattle.stateful_whole.specs.Entering.{Steps};
 ghost use Rattle.stateful_core.specs.Driving.{IsRefused};
 ghost use Rattle.stateful_core.specs.Faults.{tally, HasNotFallen, IsCause};
 ghost use Rattle.stateful_whole.specs.Machine.{IsSafe, IsNew, numbered};
-ghost use Rattle.stateful_whole.specs.Stands.{Stands};
+ghost use Rattle.stateful_whole.specs.Stands.{Stands, StandsAsWell};
 ghost use Rattle.stateful_whole.specs.StepBehind.{EachStands, StandsAndHolds};
 ghost use Rattle.stateful_whole.specs.Steps.{IsStep};
 
@@ -78,13 +77,10 @@ fn enter<A: Application + Drop, S: BlockStore<A::Block>>(
         driven.new.stateful.register) }
     ensures err { OnErr result (driven.new.history.items ≡ driven.old.history.items) }
     ensures still { OnErr result (let w = ⟦<A as Worked>⟧.workings in
-        (stored : ℕ → Option (Named A.Block))
-        (base : A.Databases.States)
-        (p : Past A.Block A.Context A.Input)
-        → Stands w stored base p driven.old.stateful.failed driven.old.stateful.register
+        StandsAsWell w driven.old.stateful.failed driven.old.stateful.register
         (moment w driven.old.stateful.execution driven.old.stateful.loop
         (A.Databases.members driven.old.databases) (A.Databases.next driven.old.databases) [])
-        → Stands w stored base p driven.new.stateful.failed driven.new.stateful.register
+        driven.new.stateful.failed driven.new.stateful.register
         (moment w driven.new.stateful.execution driven.new.stateful.loop
         (A.Databases.members driven.new.databases) (A.Databases.next driven.new.databases) [])) }
     ensures safe { let w = ⟦<A as Worked>⟧.workings in IsSafe w driven.new.stateful.failed

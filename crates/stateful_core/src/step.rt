@@ -14,7 +14,7 @@ ghost use Rattle.stateful_keeping.specs.Ways.{HasHonestStore};
 ghost use Rattle.stateful_processing.specs.Moments.{moment};
 ghost use Rattle.stateful_core.specs.Faults.{tally, IsCause};
 ghost use Rattle.stateful_whole.specs.Machine.{IsSafe, numbered, is_restart};
-ghost use Rattle.stateful_whole.specs.Stands.{Stands};
+ghost use Rattle.stateful_whole.specs.Stands.{Stands, StandsAsWell};
 ghost use Rattle.stateful_whole.specs.StepBehind.{Continues};
 ghost use Rattle.stateful_whole.specs.Steps.{IsStep};
 
@@ -158,13 +158,10 @@ impl<A: Application + Drop> Stateful<A> {
             → RegisterStands (numbered A.Databases.kind.count) p self.old.register
             → RegisterStands (numbered A.Databases.kind.count) p self.new.register) }
         ensures still { OnErr result (let w = ⟦<A as Worked>⟧.workings in
-            (stored : ℕ → Option (Named A.Block))
-            (base : A.Databases.States)
-            (p : Past A.Block A.Context A.Input)
-            → Stands w stored base p self.old.failed self.old.register
+            StandsAsWell w self.old.failed self.old.register
             (moment w self.old.execution self.old.loop (A.Databases.members databases.old)
             (A.Databases.next databases.old) [])
-            → Stands w stored base p self.new.failed self.new.register
+            self.new.failed self.new.register
             (moment w self.new.execution self.new.loop (A.Databases.members databases.new)
             (A.Databases.next databases.new) [])) }
         ensures unchanged { IsErrOf result StepError.BadEvent

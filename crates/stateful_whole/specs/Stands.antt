@@ -36,3 +36,11 @@ module _ {B C I P R D H G U : Type 0} (w : Workings B C I P R D H G U)
     pub registered : RegisterStands (numbered w.kind.count) p register
     pub restart : CanRestartAt w p m
     pub at : failed ≡ false → StandsAt m
+
+-- Whatever past the one machine stands for, the other one stands for too.
+abbrev pub StandsAsWell : {B C I P R D H G U : Type 0} (w : Workings B C I P R D H G U)
+    → (failed : Bool) → Register → Moment w → (now_failed : Bool) → Register → Moment w → Type 0
+StandsAsWell {B} {C} {I} w failed register m now_failed now_register now =
+    (stored : ℕ → Option (Named B)) (base : w.States) (p : Past B C I)
+    → Stands w stored base p failed register m
+    → Stands w stored base p now_failed now_register now

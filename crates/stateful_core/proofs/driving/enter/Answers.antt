@@ -1,5 +1,8 @@
 use Rattle.std.proofs.Common.{rules, ◌≡◌, [], ◌∙◌, refl}
 use Rattle.stateful_history.specs.Past.{after_all}
+use Rattle.stateful_exec.specs.Workings.{workings}
+use Rattle.stateful_processing.specs.Moments.{moment}
+use Rattle.stateful_whole.specs.Stands.{StandsAsWell}
 use Rattle.stateful_core.proofs.Adding.{registered-longer}
 use Rattle.stateful_core.proofs.Refused.{on_err}
 use Rattle.stateful_core.proofs.driving.enter.Goals as goal
@@ -16,10 +19,19 @@ returns-clause-registers g c = λ registered.
     )
 
 pub returns-in_err-reserve-clause-still : goal.returns-in_err-reserve-clause-still
-returns-in_err-reserve-clause-still g c = on_err _ (λ stored base p s. s)
+returns-in_err-reserve-clause-still g c =
+    let D = g.A.Databases.DatabaseSet in
+    let w = workings g.A.Block.Block.header g.A.Block.Block.context_of g.A.Context.Rounded.round_of g.A.Application.works D.kind D.shows in
+    let was = c.args.driven.now.stateful in
+    let old = moment w was.execution was.loop (D.members c.args.driven.now.databases) (D.next c.args.driven.now.databases) [] in
+    let same : StandsAsWell w was.failed was.register old was.failed was.register old = λ stored base p s. s in
+    on_err _ same
 
 pub returns-in_err-kept-clause-still : goal.returns-in_err-kept-clause-still
-returns-in_err-kept-clause-still g c = on_err _ (λ stored base p s. s)
-
-pub returns-in_err-marks-clause-still : goal.returns-in_err-marks-clause-still
-returns-in_err-marks-clause-still g c = on_err _ c.in_err-marks.ensures.still
+returns-in_err-kept-clause-still g c =
+    let D = g.A.Databases.DatabaseSet in
+    let w = workings g.A.Block.Block.header g.A.Block.Block.context_of g.A.Context.Rounded.round_of g.A.Application.works D.kind D.shows in
+    let was = c.args.driven.now.stateful in
+    let old = moment w was.execution was.loop (D.members c.args.driven.now.databases) (D.next c.args.driven.now.databases) [] in
+    let same : StandsAsWell w was.failed was.register old was.failed was.register old = λ stored base p s. s in
+    on_err _ same
