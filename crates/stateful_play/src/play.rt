@@ -14,7 +14,7 @@ use crate::event::{WINDOW, events};
 use crate::plan::{Planned, plan};
 use crate::store::store_of;
 use stateful_bank::{Ask, BankBlock};
-use stateful_core::{Config, Driven, Halted, Stateful, StepError, drive};
+use stateful_core::{Config, Driven, Halted, NewError, Stateful, StepError, drive};
 use stateful_db::{DatabaseSet, Held};
 use stateful_history::Entry;
 use stateful_plain::{Plain, PlainMedium};
@@ -98,7 +98,10 @@ fn new_machine(alloc: Global) -> Result<Stateful<Bank>, OutOfMemory>
         max_pending_acks: WINDOW,
         mailbox_size: MAILBOX,
     };
-    Stateful::new(alloc, config).map_err(|_| OutOfMemory)
+    match Stateful::new(alloc, config) {
+        Ok(stateful) => Ok(stateful),
+        Err(NewError::OutOfMemory) => Err(OutOfMemory),
+    }
 }
 
 /// A database that is closed, on an empty medium that hasn't failed. No call on it is to fail: a script lists none.

@@ -1,5 +1,6 @@
 use Rattle.std.proofs.Common.{Some, None, refl, sym, ◌∙◌}
 use Rattle.std.proofs.lemmas.Bool.{false≢true}
+use Rattle.std.proofs.lemmas.Option.{none-some}
 use Rattle.std.proofs.Math.Path.{fun_ext}
 use Rattle.stateful_plain.specs.Whole.{initial}
 use Rattle.stateful_play.specs.declared.play.Databases.TheVariants as databases
@@ -15,8 +16,13 @@ returns-in-Ok c =
     let events = rw (c.as_slice-6.ensures.value, c.as_slice-7.ensures) at c.in_ok-events.ensures in
     let driven = c.in-Ok.driven in
     let begins = begins_new _ _ _ (c.in_ok-stateful.ensures _ _) c.empty_database.ensures.empty c.empty_database.ensures.batches in
-    let steps = record { first = _; begins = begins; last = _; steps = c.in-Ok.ensures.steps; handed = λ e. refl } in
-    rw c.in_plain.ensures (carried c.args.script.now c.in_ok-planned.planned.items c.in_ok-labels.labels.items driven.history (machine.Plain driven.stateful) (databases.Plain driven.databases) None _ c.in_ok-events.events.items c.requires planned labelled stored events c.in-Ok.ensures.all steps (c.in-Ok.ensures.stands initial) tt)
+    rw c.in_plain.ensures (carried c.args.script.now c.in_ok-planned.planned.items c.in_ok-labels.labels.items driven.history (machine.Plain driven.stateful) (databases.Plain driven.databases) None _ c.in_ok-events.events.items c.requires planned labelled stored events c.in-Ok.ensures.all (record {
+      first = _;
+      begins = begins;
+      last = _;
+      steps = c.in-Ok.ensures.steps;
+      handed = λ e. refl;
+    }) (c.in-Ok.ensures.stands initial) tt)
 
 pub returns : goal.returns
 returns c =
@@ -27,9 +33,13 @@ returns c =
     let halt = c.in-Err.halt in
     let why = c.in-Err.ensures.refused in
     let begins = begins_new _ _ _ (c.in_ok-stateful.ensures _ _) c.empty_database.ensures.empty c.empty_database.ensures.batches in
-    let taken = (c.in-Err.ensures.part, c.in-Err.ensures.at.1, λ e. false≢true (sym c.if-wants_memory.false ∙ c.wants_memory.ensures.1 e)) in
-    let steps = record { first = _; begins = begins; last = _; steps = why.3.steps; handed = λ e. cc } in
-    rw c.in_plain-in-Err.ensures (carried c.args.script.now c.in_ok-planned.planned.items c.in_ok-labels.labels.items halt.driven.history (machine.Plain halt.driven.stateful) (databases.Plain halt.driven.databases) (Some halt.halted) _ c.in_ok-events.events.items c.requires planned labelled stored events taken steps (c.in-Err.ensures.still_stands initial) (record {
+    rw c.in_plain-in-Err.ensures (carried c.args.script.now c.in_ok-planned.planned.items c.in_ok-labels.labels.items halt.driven.history (machine.Plain halt.driven.stateful) (databases.Plain halt.driven.databases) (Some halt.halted) _ c.in_ok-events.events.items c.requires planned labelled stored events (c.in-Err.ensures.part, c.in-Err.ensures.at.1, λ e. false≢true (sym c.if-wants_memory.false ∙ c.wants_memory.ensures.1 e)) (record {
+      first = _;
+      begins = begins;
+      last = _;
+      steps = why.3.steps;
+      handed = λ e. absurd (none-some _ (sym e));
+    }) (c.in-Err.ensures.still_stands initial) (record {
       event = why.0;
       rest = why.1;
       behind = why.2;
