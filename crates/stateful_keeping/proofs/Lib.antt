@@ -141,3 +141,4 @@ pub mod InHandOpened
 pub mod SettledKept
 pub mod SettledRules
 pub mod SettledIntake
+pub mod VerifiedApart
