@@ -142,3 +142,5 @@ pub mod SettledKept
 pub mod SettledRules
 pub mod SettledIntake
 pub mod VerifiedApart
+pub mod RunsCarried
+pub mod LoopCarried
