@@ -152,3 +152,6 @@ pub mod SettledRules
 pub mod SettledIntake
 pub mod AppliedFurther
 pub mod HeldFurther
+pub mod VerifiedApart
+pub mod RunsCarried
+pub mod LoopCarried
