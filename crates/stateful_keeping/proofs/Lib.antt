@@ -141,3 +141,5 @@ pub mod InHandOpened
 pub mod SettledKept
 pub mod SettledRules
 pub mod SettledIntake
+pub mod PlacesFollows
+pub mod PlacesReleased
