@@ -143,3 +143,4 @@ pub mod SettledRules
 pub mod SettledIntake
 pub mod PlacesFollows
 pub mod PlacesReleased
+pub mod LetGo
