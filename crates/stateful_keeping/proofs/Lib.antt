@@ -144,3 +144,4 @@ pub mod SettledIntake
 pub mod PlacesFollows
 pub mod PlacesReleased
 pub mod LetGo
+pub mod PlacesSettled
