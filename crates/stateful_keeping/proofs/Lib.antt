@@ -155,3 +155,7 @@ pub mod HeldFurther
 pub mod VerifiedApart
 pub mod RunsCarried
 pub mod LoopCarried
+pub mod PlacesFollows
+pub mod PlacesReleased
+pub mod LetGo
+pub mod PlacesSettled
