@@ -13,6 +13,7 @@ ghost use Rattle.stateful_standing.specs.Storing.{IsStoredNow};
 ghost use Rattle.stateful_keeping.specs.Ways.{HasHonestStore};
 ghost use Rattle.stateful_processing.specs.Moments.{moment};
 ghost use Rattle.stateful_core.specs.Faults.{tally, IsCause};
+ghost use Rattle.stateful_core.specs.Machine.{faults_after};
 ghost use Rattle.stateful_whole.specs.Left.{LeavesFurther};
 ghost use Rattle.stateful_whole.specs.Machine.{IsSafe, numbered, is_restart};
 ghost use Rattle.stateful_whole.specs.Stands.{Stands, StandsAsWell};
@@ -92,6 +93,16 @@ fn admit<A: Application>(
         return Err(StepError::BadEvent);
     }
     Ok(())
+}
+
+/// One more where the application or a job has failed.
+fn count_fault(faults: u64, acted: &Result<(), StepError>) -> u64
+    ensures { result ≡ faults_after acted.now faults }
+{
+    match acted {
+        Err(StepError::Application) => faults.saturating_add(1),
+        _ => faults,
+    }
 }
 
 impl<A: Application + Drop> Stateful<A> {
@@ -190,6 +201,7 @@ impl<A: Application + Drop> Stateful<A> {
         ensures later { (n : ℕ)
             → A.Databases.counted databases.old n ≤ A.Databases.counted databases.new n }
         ensures application { A.count self.old.application ≤ A.count self.new.application }
+        ensures faults { self.new.faults ≡ faults_after result self.old.faults }
         ensures numbers { Rises self.old.execution.state self.new.execution.state }
         ensures barrier { self.old.loop.next_barrier ≤ self.new.loop.next_barrier }
         ensures same { (store.new ≡ store.old)
@@ -199,7 +211,7 @@ impl<A: Application + Drop> Stateful<A> {
         admit::<A>(self.failed, &self.processing, &self.register, &event)?;
         self.failed = true;
         let mut marks = Vec::new(self.alloc);
-        act(
+        let acted = act(
             &self.db_config,
             &mut self.handler,
             &mut self.processing,
@@ -209,7 +221,12 @@ impl<A: Application + Drop> Stateful<A> {
             store,
             &event,
             &mut marks,
-        )?;
+        );
+        self.faults = count_fault(self.faults, &acted);
+        match acted {
+            Ok(()) => {}
+            Err(error) => return Err(error),
+        }
         self.register
             .record(A::Databases::count(), &event, marks.as_slice())?;
         self.failed = false;

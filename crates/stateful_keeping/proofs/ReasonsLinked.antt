@@ -39,6 +39,13 @@ module _ {B C I P R D H G U : Type 0} (w : Workings B C I P R D H G U) (stored :
     pub queue : All OfMessage m.loop.queue
     pub actions : All OfAction m.loop.actions
 
+  -- what is taken out of the loop is linked
+  pub takes-linked : (x : Message B C I) (m mid : Moment w) → Takes w x m mid → LoopIsLinked m → OfMessage x
+  takes-linked x m mid (of_action {rest = rest} is become) h =
+      All-head OfAction (action.Message x) rest (subst (λ (l : List (Action B C I)). All OfAction l) is h.actions)
+  takes-linked x m mid (of_message {rest = rest} none_first is become) h =
+      All-head OfMessage x rest (subst (λ (l : List (Message B C I)). All OfMessage l) is h.queue)
+
   as_was : (m now : Moment w) → now.loop.queue ≡ m.loop.queue → now.loop.actions ≡ m.loop.actions → LoopIsLinked m → LoopIsLinked now
   as_was m now queue actions h = record { queue = rw queue h.queue; actions = rw actions h.actions }
 

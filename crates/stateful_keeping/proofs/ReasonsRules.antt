@@ -22,7 +22,6 @@ use Rattle.stateful_exec.specs.declared.request.Proposal.{Proposal}
 use Rattle.stateful_exec.specs.declared.request.Request.{Request}
 use Rattle.stateful_exec.specs.declared.state.Tables.{Tables}
 use Rattle.stateful_standing.specs.Gathering.{gathered, AreLinked}
-use Rattle.stateful_standing.specs.Requesting.{first_of}
 use Rattle.stateful_standing.specs.Setting.{setting}
 use Rattle.stateful_standing.specs.Storing.{IsStoredNow}
 use Rattle.stateful_standing.proofs.MovedStands.{TablesStand-free}
@@ -94,7 +93,7 @@ module _ {B C I P R D H G U : Type 0} (w : Workings B C I P R D H G U) (laws : L
           (sym free.pause_is) free.ground)
           free.pause_is stored_now stored_is (ticket_by request) (requested request) r.then
           (record { absent = stands.2.elsewhere.absent; not_queued = stands.2.elsewhere.not_queued; own = refl; asked = stands.0; brought = stands.1 })
-          (All-nil (Met (setting w stored) p)) linked (trust.straight (first_of request).digest) r.acquires)
+          (All-nil (Met (setting w stored) p)) linked r.acquires)
 
       -- the parent of a proposal that can't be built is out of reach
       declined : (t : ℕ) (o : Option (Proposal B C I)) → at m.execution.state.queued t ≡ o → IsSome o → ReasonsStand w stored p base m
@@ -140,7 +139,7 @@ module _ {B C I P R D H G U : Type 0} (w : Workings B C I P R D H G U) (laws : L
         moved.ground
         (WaysStand-free w stored p m.execution.state.anchor m.execution.state moved.moved
         (WaysStand-tip w stored p m.execution.state m.execution.state.anchor moved.ground.folded.tip_is kept))
-        h.located h.drawn stored_is trust.straight stand.gatherings trust.honest trust.answered r.then r.resumes)
+        h.located h.drawn stored_is stand.gatherings trust.honest trust.answered r.then r.resumes)
 
   -- what is taken out of the loop is linked
   takes-linked : (x : Message B C I) (m mid : Moment w) → Takes w x m mid → ReasonsStand w stored p base m → MessageIsLinked (setting w stored) x

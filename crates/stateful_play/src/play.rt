@@ -4,16 +4,17 @@ ghost use Rattle.std.specs.Prelude.{◌≡◌, ◌↔◌, ℕ, [], IfOk, IsTrue,
 ghost use Rattle.stateful_db.specs.Member.{closed as closed_member};
 ghost use Rattle.stateful_plain.specs.Whole.{initial};
 ghost use Rattle.stateful_script.specs.Laws.{IsPlan};
-ghost use Rattle.stateful_actor.specs.Stepping.{IsNew};
+ghost use Rattle.stateful_processing.specs.Moments.{moment};
+ghost use Rattle.stateful_whole.specs.Machine.{IsNew};
 ghost use Rattle.stateful_play.specs.Plan.{labels_of};
-ghost use Rattle.stateful_play.specs.Play.{IsPlayOf};
+ghost use Rattle.stateful_play.specs.Play.{bank, IsPlayOf};
 ghost use Rattle.stateful_play.specs.Shown.{listed_in};
 
 use crate::event::{WINDOW, events};
 use crate::plan::{Planned, plan};
 use crate::store::store_of;
-use stateful_actor::{Config, Driven, Halted, Stateful, StepError, drive};
 use stateful_bank::{Ask, BankBlock};
+use stateful_core::{Config, Driven, Halted, NewError, Stateful, StepError, drive};
 use stateful_db::{DatabaseSet, Held};
 use stateful_history::Entry;
 use stateful_plain::{Plain, PlainMedium};
@@ -86,7 +87,9 @@ fn labels(alloc: Global, names: &[Name], planned: &[Planned]) -> Result<Vec<Labe
 
 /// A machine that is down.
 fn new_machine(alloc: Global) -> Result<Stateful<Bank>, OutOfMemory>
-    ensures { IfOk result (λ stateful. IsNew stateful.failed stateful.core stateful.register) }
+    ensures { IfOk result (λ stateful. (m : ⟦<Held<Plain> as DatabaseSet>⟧.kind.Members) (n : ℕ)
+        → IsNew bank stateful.failed stateful.register
+        (moment bank stateful.execution stateful.loop m n [])) }
 {
     let config = Config {
         application: Bank::new(alloc),
@@ -95,7 +98,10 @@ fn new_machine(alloc: Global) -> Result<Stateful<Bank>, OutOfMemory>
         max_pending_acks: WINDOW,
         mailbox_size: MAILBOX,
     };
-    Stateful::new(alloc, config).map_err(|_| OutOfMemory)
+    match Stateful::new(alloc, config) {
+        Ok(stateful) => Ok(stateful),
+        Err(NewError::OutOfMemory) => Err(OutOfMemory),
+    }
 }
 
 /// A database that is closed, on an empty medium that hasn't failed. No call on it is to fail: a script lists none.

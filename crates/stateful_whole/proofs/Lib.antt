@@ -5,6 +5,7 @@ pub mod Unbroken
 pub mod StartRules
 pub mod OpensQuiet
 pub mod LiveFlushes
+pub mod ReasonsEnd
 pub mod Stepping
 pub mod Playing
 pub mod Restarted

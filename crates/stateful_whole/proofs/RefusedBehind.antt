@@ -54,7 +54,7 @@ module _ {B C I P R D H G U : Type 0} (w : Workings B C I P R D H G U) (laws : L
           finalized = StoresFinalized-before_item w.header stored (Came event) (after_all [] history) honest.finalized;
         } in
         let each = history-registered w laws stored counts provider runs_cost builds_cost failed register first last history blank unmarked away steps
-        (TrueNames-before_entry (setting w stored) (after_all [] history) event l.made names) before base now registered in
+        (TrueNames-before_entry (setting w stored) (after_all [] history) event l.made names) before base false now registered in
         let stored_is : IsStoredNow stored (after_all [] history) stored =
         each-stored w stored stored _ base [] history each (IsStoredNow-new C I stored) in
         EachStands-last w stored _ (λ at. HoldsFurther (setting w stored) w.kind at (after_all [] history) event new)

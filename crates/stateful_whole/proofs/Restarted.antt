@@ -26,10 +26,12 @@ use Rattle.stateful_standing.specs.Setting.{setting}
 use Rattle.stateful_standing.specs.Storing.{IsStoredNow}
 use Rattle.stateful_keeping.specs.Down.{IsEnding}
 use Rattle.stateful_keeping.specs.EventBehind.{RestartedBehind}
+use Rattle.stateful_keeping.specs.Reasons.{HasItsReason}
 use Rattle.stateful_keeping.specs.Ways.{StoresHeights}
 use Rattle.stateful_keeping.proofs.EventRestarts.{event-restarts}
 use Rattle.stateful_keeping.proofs.GoesDown.{IsEmpty-cleared}
 use Rattle.stateful_keeping.proofs.Counting.{IsCounted-up}
+use Rattle.stateful_keeping.proofs.ReasonsStand.{reasons_stand-opens}
 use Rattle.stateful_keeping.proofs.Restarting.{opening-ends, pruned-ends}
 use Rattle.stateful_processing.specs.Clearing.{IsCleared}
 use Rattle.stateful_processing.specs.Moments.{Moment}
@@ -39,6 +41,7 @@ use Rattle.stateful_whole.specs.Steps.{Restarts}
 use Rattle.stateful_whole.specs.Stands.{CanRestartAt}
 use Rattle.stateful_whole.specs.StepBehind.{IsCommittedTo, StepBehind}
 use Rattle.stateful_whole.proofs.OpensQuiet.{opens-quiet}
+use Rattle.stateful_whole.proofs.ReasonsEnd.{HasItsReason-ends}
 use Rattle.stateful_whole.proofs.StartRules.{IsCommittedTo-ends, PrunedIsDue-ends, PrunedIsDue-opened, EndsStopped-restart, StartsClean-ends, StopsClean-ends, OpenedIsStored-ends}
 use Rattle.stateful_whole.proofs.Stepping.{base-opened, StepBehind-of}
 use Rattle.stateful_whole.proofs.WorkEnds.{IsWorkEnd, EndsAll-ends, IsWorkEnd-ending, is_down-ends, opens-opened}
@@ -112,6 +115,8 @@ module _ {B C I P R D H G U : Type 0} (w : Workings B C I P R D H G U) (laws : L
       base_is = base-opened base b.more (w.kind.point now.members) o.opening.at
           (ap (λ (ms : List (Mark B)). opens ms) all_are ∙ opens-opened over anchor) o.opening.here;
       earned = b.earned;
+      reasons = λ trust. each_restart (HasItsReason w stored o.opening.at.1 event b.more)
+          (HasItsReason-ends w stored o.opening.at.1 event b.more (inr (inl tt)) q over ends) (tt, tt);
       said = b.said;
       due = λ rule. each_restart (PrunedIsDue (setting w stored) rule) (PrunedIsDue-ends (setting w stored) rule q over ends_work)
           (PrunedIsDue-opened (setting w stored) rule (after q over) anchor);
@@ -127,6 +132,8 @@ module _ {B C I P R D H G U : Type 0} (w : Workings B C I P R D H G U) (laws : L
       up_is = b.up ∙ ap (λ d. not d) (sym down_is);
       counted = IsCounted-up w stored o.opening.at.1 (after q b.more) now b.stands;
       up = λ up. (b.stands, opens-quiet w stored_now floor keep mid now (IsEmpty-cleared w _ mid cleared) o);
+      reasons_stand = λ up trust. reasons_stand-opens w laws stored o.opening.at.1 (after q b.more) stored_now floor keep mid now cleared.queue
+          cleared.actions o;
       down = λ down. absurd (true≢false (sym b.up ∙ down));
       empty = λ down. absurd (true≢false (sym b.up ∙ down));
     })

@@ -18,6 +18,7 @@ use Rattle.stateful_standing.specs.Setting.{setting}
 use Rattle.stateful_standing.specs.Storing.{IsStoredNow}
 use Rattle.stateful_keeping.specs.Down.{IsEmpty, IsCounted}
 use Rattle.stateful_keeping.specs.Durability.{IsDurablySaid}
+use Rattle.stateful_keeping.specs.Reasons.{IsTrusted, ReasonsStand, HasItsReason}
 use Rattle.stateful_keeping.specs.Stands.{IsUpAt}
 use Rattle.stateful_processing.specs.Moments.{Moment}
 use Rattle.stateful_processing.specs.Rules.{Quiet}
@@ -64,6 +65,7 @@ module _ {B C I P R D H G U : Type 0} (w : Workings B C I P R D H G U) (stored :
     pub record PartsStand : Type 0 where
       pub base_is : next ≡ base_after base marks (w.kind.point now.members)
       pub earned : EachMark (TrueIsEarned (setting w stored) next) (Came event ∷ p) marks
+      pub reasons : IsTrusted w stored (after_entry p event marks) → EachMark (HasItsReason w stored next event marks) (Came event ∷ p) marks
       pub said : EachMark (IsDurablySaid w) (Came event ∷ p) marks
       pub due : (rule : Option (PruneRule w.Targets)) → EachMark (PrunedIsDue (setting w stored) rule) (Came event ∷ p) marks
       pub opened : EachMark (OpenedIsStored (setting w stored) event) (Came event ∷ p) marks
@@ -76,6 +78,8 @@ module _ {B C I P R D H G U : Type 0} (w : Workings B C I P R D H G U) (stored :
       pub up_is : now.loop.up ≡ not (is_down (after_entry p event marks))
       pub counted : IsCounted w (after_entry p event marks) now
       pub up : now.loop.up ≡ true → IsUpAt w stored next (after_entry p event marks) now × Quiet w now
+      pub reasons_stand : now.loop.up ≡ true → IsTrusted w stored (after_entry p event marks)
+          → ReasonsStand w stored (after_entry p event marks) next now
       pub down : now.loop.up ≡ false → NothingLive (after_entry p event marks)
       pub empty : now.loop.up ≡ false → IsEmpty w now
 
@@ -87,6 +91,7 @@ module _ {B C I P R D H G U : Type 0} (w : Workings B C I P R D H G U) (stored :
         base_behind = next;
         base_is = k.base_is;
         earned = k.earned;
+        reasons = k.reasons;
         said = k.said;
         due = k.due;
         opened = k.opened;
@@ -100,6 +105,8 @@ module _ {B C I P R D H G U : Type 0} (w : Workings B C I P R D H G U) (stored :
           restart = record { unmarked = refl; counted = IsCounted-marks w now [] (after q now.marks) k.counted };
           up_is = k.up_is;
           up = λ up. (IsUpAt-marks w now [] stored next (after q now.marks) (k.up up).0, Quiet-marks w now [] (k.up up).1);
+          reasons = λ up trust. let r = k.reasons_stand up trust in
+              record { queue = r.queue; actions = r.actions; gatherings = r.gatherings; reaches = r.reaches };
           down = k.down;
         };
         empty = k.empty;

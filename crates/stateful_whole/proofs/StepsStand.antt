@@ -41,6 +41,7 @@ module _ {B C I P R D H G U : Type 0} (w : Workings B C I P R D H G U) (stored :
     };
     up_is = new.down;
     up = λ up. absurd (true≢false (sym up ∙ new.down));
+    reasons = λ up trust. absurd (true≢false (sym up ∙ new.down));
     down = λ down. record { tickets = λ t. refl; fetches = λ f. refl; jobs = λ j. refl; barriers = λ k. refl };
   }
 

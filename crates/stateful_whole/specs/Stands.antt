@@ -8,6 +8,7 @@ use Rattle.stateful_exec.specs.Workings.{Workings}
 use Rattle.stateful_register.specs.Register.{RegisterStands}
 use Rattle.stateful_register.specs.declared.register.Register.{Register}
 use Rattle.stateful_keeping.specs.Down.{IsCounted}
+use Rattle.stateful_keeping.specs.Reasons.{IsTrusted, ReasonsStand}
 use Rattle.stateful_keeping.specs.Stands.{IsUpAt}
 use Rattle.stateful_processing.specs.Moments.{Moment}
 use Rattle.stateful_processing.specs.Rules.{Quiet}
@@ -22,12 +23,13 @@ module _ {B C I P R D H G U : Type 0} (w : Workings B C I P R D H G U) (p : Past
 
 module _ {B C I P R D H G U : Type 0} (w : Workings B C I P R D H G U)
     (stored : ℕ → Option (Named B)) (base : w.States) (p : Past B C I) where
-  -- The machine is up where the past says so: then it stands for it, and nothing can go on without another event. Where it is
-  -- down nothing is live.
+  -- The machine is up where the past says so: then it stands for it, and nothing can go on without another event; and where the
+  -- world is trusted, what is kept for reasons of false verdicts and declines is kept. Where it is down nothing is live.
   pub record StandsAt (m : Moment w) : Type 0 where
     pub restart : CanRestartAt w p m
     pub up_is : m.loop.up ≡ not (is_down p)
     pub up : m.loop.up ≡ true → IsUpAt w stored base p m × Quiet w m
+    pub reasons : m.loop.up ≡ true → IsTrusted w stored p → ReasonsStand w stored p base m
     pub down : m.loop.up ≡ false → NothingLive p
 
   -- The register stands for the past, and the machine may be restarted behind it. As long as it hasn't failed it stands for

@@ -6,7 +6,7 @@ use Rattle.stateful_processing.specs.Moments.{moment}
 use Rattle.stateful_whole.specs.Stands.{StandsAsWell}
 use Rattle.stateful_whole.proofs.LeftFurther.{unmoved-further}
 use Rattle.stateful_core.proofs.Adding.{registered-longer}
-use Rattle.stateful_core.proofs.Refused.{on_err, if_err}
+use Rattle.stateful_core.proofs.ResultsOfCalls.{on_err, if_err}
 use Rattle.stateful_core.proofs.driving.enter.Goals as goal
 
 pub returns-clause-registers : goal.returns-clause-registers
