@@ -167,7 +167,7 @@ pub fn drive<A: Application + Drop, S: BlockStore<A::Block>>(
         → HasHonestStore A.Block.header (S.stored store.old) (after_all [] driven.history.items)
         → EachStands w (S.stored store.old)
         (λ last. StandsAndHolds w (S.stored store.old) last (after_all [] driven.history.items)
-        driven.stateful.failed driven.stateful.register
+        false driven.stateful.register
         (moment w driven.stateful.execution driven.stateful.loop
         (A.Databases.members driven.databases) (A.Databases.next driven.databases) []))
         base [] driven.history.items) }

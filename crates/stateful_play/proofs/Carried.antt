@@ -63,7 +63,7 @@ pub carried : (script : Script) (made : List Planned) (labels : List Label) (ent
     → AreTaken «end» events (map (λ entry. entry.event) entries.items)
     → AreSteps stored «end» entries.items machine databases
     → KeepWhereHonest stored entries.items machine databases «end»
-    → IfSome «end» (IsHaltedBy stored events entries.items databases)
+    → IfSome «end» (IsHaltedBy stored events entries.items machine databases)
     → IsPlayOf script labels (in_plain entries machine databases «end»)
 carried script made labels entries machine databases «end» stored events plan planned labelled same are taken steps rules halted =
     let honest = subst (λ s. KeepWhereHonest s entries.items machine databases «end») (fun_ext same) rules in
@@ -77,5 +77,5 @@ carried script made labels entries machine databases «end» stored events plan 
       honest = honest_play (store_of made script.events) script.blocks made script.events «end» entries.items planned (rw are at taken);
       steps = subst (λ s. AreSteps s «end» entries.items machine databases) (fun_ext same) steps;
       rules = λ names finalized. honest names (record { heights = heights_stored made script.events; finalized = finalized });
-      refused = subst (λ s. IfSome «end» (IsHaltedBy s (events_of made script.events) entries.items databases)) (fun_ext same) (rw are at halted);
+      refused = subst (λ s. IfSome «end» (IsHaltedBy s (events_of made script.events) entries.items machine databases)) (fun_ext same) (rw are at halted);
     }

@@ -26,11 +26,10 @@ use Rattle.stateful_register.specs.declared.register.Register.{Register}
 use Rattle.stateful_standing.specs.Setting.{setting}
 use Rattle.stateful_processing.specs.Intake.{Counts}
 use Rattle.stateful_processing.specs.Moments.{Moment, moment}
-use Rattle.stateful_processing.specs.declared.error.StepError.TheVariants.{OutOfMemory}
+use Rattle.stateful_processing.specs.declared.error.StepError.TheVariants.{OutOfMemory, BadEvent}
 use Rattle.stateful_keeping.specs.Ways.{StoresFinalized}
 use Rattle.stateful_whole.specs.Entering.{Steps}
 use Rattle.stateful_whole.specs.Machine.{IsNew}
-use Rattle.stateful_whole.specs.Stands.{Stands}
 use Rattle.stateful_whole.specs.StepBehind.{EachStands, StandsAndHolds}
 use Rattle.stateful_core.specs.Driving.{IsRefused}
 use Rattle.stateful_core.specs.Faults.{tally}
@@ -71,12 +70,13 @@ module _ (stored : ℕ → Option (Named BankBlock)) (entries : List (Entry Bank
     (machine : Machine) (d : Databases) where
   -- What holds at the end, over the states on which the history is based at last: where all events were taken in, the machine
   -- stands for them, and the database holds the fold over what was applied. Behind a refusal the machine still stands for the
-  -- events before.
+  -- events before, and so does the database where the machine hasn't failed.
   abbrev pub EndsWell : Option Halted → Whole → Type 0
   EndsWell None base =
-      StandsAndHolds bank stored base (after_all [] entries) (register_of machine) (last_of machine d)
+      StandsAndHolds bank stored base (after_all [] entries) false (register_of machine) (last_of machine d)
   EndsWell (Some halted) base =
-      Stands bank stored base (after_all [] entries) (has_failed machine) (register_of machine) (last_of machine d)
+      StandsAndHolds bank stored base (after_all [] entries) (has_failed machine) (register_of machine)
+      (last_of machine d)
 
   -- where names are true, and the store has the finalized block of each height, each entry keeps the rules
   abbrev pub KeepRules : Option Halted → Type 0
@@ -103,9 +103,10 @@ pub record AreSteps (stored : ℕ → Option (Named BankBlock)) («end» : Optio
   pub handed : «end» ≡ None → last ≡ last_of machine d
 
 -- The event behind those that were taken in was refused with this error, and the machine says why. The bank itself never
--- fails, and no database had failed before the start.
+-- fails, and no database had failed before the start. An event that may not come makes no machine fail.
 pub record IsHaltedBy (stored : ℕ → Option (Named BankBlock)) (events : List BankEvent)
-    (entries : List (Entry BankBlock Round Ask)) (d : Databases) (halted : Halted) : Type 0 where
+    (entries : List (Entry BankBlock Round Ask)) (machine : Machine) (d : Databases)
+    (halted : Halted) : Type 0 where
   pub event : BankEvent
   pub rest : List BankEvent
   pub behind : events ≡ map (λ entry. entry.event) entries ++ event ∷ rest
@@ -113,6 +114,7 @@ pub record IsHaltedBy (stored : ℕ → Option (Named BankBlock)) (events : List
   pub begins : IsFirst first
   pub refused : IsRefused bank stored tt bank_counts first entries event halted.error (member_of d)
       (tally 0 (λ i. 0)) (tally 0 (failed_of d))
+  pub works : halted.error ≡ BadEvent → has_failed machine ≡ false
 
 -- This was played of the script, whose blocks go by these labels: a line that asks for a build names the block that the
 -- build gives, the events were taken in, in each ancestry each block is the parent of the one before it, each entry is a step of
@@ -127,4 +129,5 @@ pub record IsPlayOf (script : Script) (labels : List Label) (p : Played) : Type 
   pub honest : IsHonest (setting bank (store_of blocks script.events)) (after_all [] (entries_of p.history))
   pub steps : AreSteps (store_of blocks script.events) p.«end» (entries_of p.history) p.machine p.databases
   pub rules : KeepRules (store_of blocks script.events) (entries_of p.history) p.machine p.databases p.«end»
-  pub refused : IfSome p.«end» (IsHaltedBy (store_of blocks script.events) (events_of blocks script.events) (entries_of p.history) p.databases)
+  pub refused : IfSome p.«end» (IsHaltedBy (store_of blocks script.events) (events_of blocks script.events) (entries_of p.history) p.machine
+      p.databases)

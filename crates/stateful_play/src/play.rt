@@ -10,7 +10,7 @@ ghost use Rattle.stateful_play.specs.Plan.{labels_of};
 ghost use Rattle.stateful_play.specs.Play.{bank, IsPlayOf};
 ghost use Rattle.stateful_play.specs.Shown.{listed_in};
 
-use crate::event::{WINDOW, events};
+use crate::event::events;
 use crate::plan::{Planned, plan};
 use crate::store::store_of;
 use stateful_bank::{Ask, BankBlock};
@@ -23,9 +23,6 @@ use stateful_script::{Name, Script, World};
 use stateful_text::Label;
 use stateful_types::{Items, OutOfMemory, Round};
 use std::alloc::Global;
-
-/// How many messages a mailbox takes at once. A play has no mailbox.
-const MAILBOX: usize = 1;
 
 /// The entries of a play, by its world.
 #[derive(Drop)]
@@ -95,8 +92,6 @@ fn new_machine(alloc: Global) -> Result<Stateful<Bank>, OutOfMemory>
         application: Bank::new(alloc),
         db_config: (),
         provider: (),
-        max_pending_acks: WINDOW,
-        mailbox_size: MAILBOX,
     };
     match Stateful::new(alloc, config) {
         Ok(stateful) => Ok(stateful),

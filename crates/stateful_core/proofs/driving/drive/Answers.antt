@@ -95,7 +95,7 @@ returns-clause-stands g c =
     λ base names honest. history-registered w g.met.A.Databases.DatabaseSet.laws (g.S.BlockStore.stored c.args.store.now) _ c.args.stateful.provider
     (λ f states b n is. takes.runs f states b n is) (λ asked states n is. takes.builds asked states n is)
     _ _ _ _ c.loop-event.driven.history.items c.requires.new refl c.requires.none_away i.steps names honest base
-    c.loop-event.driven.stateful.failed c.loop-event.driven.stateful.register i.registered
+    false c.loop-event.driven.stateful.register i.registered
 
 pub returns-in-Err-clause-still_stands : goal.returns-in-Err-clause-still_stands
 returns-in-Err-clause-still_stands g c =

@@ -46,4 +46,5 @@ returns c =
       first = _;
       begins = begins;
       refused = rw (fun_ext c.empty_database.ensures.counts) at why.3;
+      works = c.in-Err.ensures.still_works;
     }))
