@@ -13,4 +13,5 @@ pub mod StepStands
 pub mod StoresBefore
 pub mod StepsStand
 pub mod HistoryStands
+pub mod HistoryReasons
 pub mod StillStands
