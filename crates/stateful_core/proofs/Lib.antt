@@ -3,4 +3,4 @@ pub mod Adding
 pub mod Counts
 pub mod Arms
 pub mod OtherErrors
-pub mod Refused
+pub mod ResultsOfCalls

@@ -1,10 +1,12 @@
 //! What an event does: a restart opens, and behind another event goes on what can.
 
-ghost use Rattle.std.specs.Prelude.{◌≡◌, ◌≤◌, [], ℕ, true, false, OnOk, IfErr};
+ghost use Rattle.std.specs.Prelude.{◌≡◌, ◌≤◌, [], ℕ, true, false, List, OnOk, OnErr, IfErr};
 ghost use Rattle.stateful_exec.specs.Starting.{Rises};
 ghost use Rattle.stateful_processing.specs.Moments.{executing, moment};
 ghost use Rattle.stateful_processing.specs.Sound.{Sound};
 ghost use Rattle.stateful_core.specs.Faults.{tally, FaultsStep};
+ghost use Rattle.stateful_history.specs.declared.mark.Mark.{Mark as Marked};
+ghost use Rattle.stateful_whole.specs.Left.{LeavesPlay};
 ghost use Rattle.stateful_whole.specs.Machine.{is_restart};
 ghost use Rattle.stateful_whole.specs.Steps.{IsStep};
 
@@ -55,6 +57,13 @@ pub(crate) fn act<A: Application + Drop, S: BlockStore<A::Block>>(
         (A.Databases.members databases.old) (A.Databases.next databases.old) marks.old.items)
         event.now e) }
     ensures other { IfErr result (λ e. e ≡ StepError.BadEvent → ⊥) }
+    ensures left { is_restart event.now ≡ false → OnErr result (let w = ⟦<A as Worked>⟧.workings in
+        (made : List (Marked A.Block))
+        × LeavesPlay w (S.stored store.now) provider
+        (record { run = A.Run.count; build = A.Build.count; hook = A.Hook.count }) event.now
+        (moment w (executing handler.old) processing.old
+        (A.Databases.members databases.old) (A.Databases.next databases.old) marks.old.items)
+        (A.Databases.members databases.new) made) }
     ensures none_away { A.Databases.kind.NoneAway (A.Databases.members databases.new) }
     ensures later { (n : ℕ)
         → A.Databases.counted databases.old n ≤ A.Databases.counted databases.new n }

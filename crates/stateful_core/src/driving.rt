@@ -1,6 +1,6 @@
 //! A whole list of events.
 
-ghost use Rattle.std.specs.Prelude.{◌≡◌, ◌<◌, ◌≤◌, ◌++◌, ◌∷◌, [], ℕ, List, Option, true, false, IfOk, IfErr, OnOk, OnErr, length, map, take};
+ghost use Rattle.std.specs.Prelude.{◌≡◌, ◌<◌, ◌≤◌, ◌++◌, ◌∷◌, [], ℕ, List, Option, true, false, IfOk, IfErr, OnOk, OnErr, IsErrOf, length, map, take};
 ghost use Rattle.stateful_history.specs.Met.{TrueNames};
 ghost use Rattle.stateful_history.specs.Past.{Past, after_all};
 ghost use Rattle.stateful_history.specs.declared.event.Event.{Event as Happening};
@@ -13,8 +13,9 @@ ghost use Rattle.stateful_processing.specs.Moments.{moment};
 ghost use Rattle.stateful_whole.specs.Entering.{Steps};
 ghost use Rattle.stateful_core.specs.Driving.{IsRefused};
 ghost use Rattle.stateful_core.specs.Faults.{tally, HasNotFallen, IsCause};
-ghost use Rattle.stateful_whole.specs.Machine.{IsSafe, IsNew, numbered};
-ghost use Rattle.stateful_whole.specs.Stands.{Stands, StandsAsWell};
+ghost use Rattle.stateful_whole.specs.Left.{LeavesFurther};
+ghost use Rattle.stateful_whole.specs.Machine.{is_restart, IsSafe, IsNew, numbered};
+ghost use Rattle.stateful_whole.specs.Stands.{StandsAsWell};
 ghost use Rattle.stateful_whole.specs.StepBehind.{EachStands, StandsAndHolds};
 ghost use Rattle.stateful_whole.specs.Steps.{IsStep};
 
@@ -83,6 +84,9 @@ fn enter<A: Application + Drop, S: BlockStore<A::Block>>(
         driven.new.stateful.failed driven.new.stateful.register
         (moment w driven.new.stateful.execution driven.new.stateful.loop
         (A.Databases.members driven.new.databases) (A.Databases.next driven.new.databases) [])) }
+    ensures calm { OnErr result (driven.new.stateful.failed ≡ false
+        → driven.new.databases ≡ driven.old.databases) }
+    ensures bad { IsErrOf result StepError.BadEvent → driven.new.stateful.failed ≡ false }
     ensures safe { let w = ⟦<A as Worked>⟧.workings in IsSafe w driven.new.stateful.failed
         (moment w driven.new.stateful.execution driven.new.stateful.loop
         (A.Databases.members driven.new.databases) (A.Databases.next driven.new.databases) []) }
@@ -96,6 +100,16 @@ fn enter<A: Application + Drop, S: BlockStore<A::Block>>(
         (A.Databases.members driven.new.databases)
         (moment w driven.old.stateful.execution driven.old.stateful.loop
         (A.Databases.members driven.old.databases) (A.Databases.next driven.old.databases) []) e) }
+    ensures behind { IfErr result (λ e. (e ≡ StepError.BadEvent → ⊥)
+        → is_restart event ≡ false
+        → driven.old.stateful.loop.up ≡ true
+        → let w = ⟦<A as Worked>⟧.workings in
+        LeavesFurther w (S.stored store.old) driven.old.stateful.provider
+        (record { run = A.Run.count; build = A.Build.count; hook = A.Hook.count }) event
+        driven.old.stateful.register
+        (moment w driven.old.stateful.execution driven.old.stateful.loop
+        (A.Databases.members driven.old.databases) (A.Databases.next driven.old.databases) [])
+        (A.Databases.members driven.new.databases)) }
     ensures later { HasNotFallen
         (tally (A.count driven.old.stateful.application) (A.Databases.counted driven.old.databases))
         (tally (A.count driven.new.stateful.application)
@@ -145,14 +159,15 @@ pub fn drive<A: Application + Drop, S: BlockStore<A::Block>>(
         (A.Databases.members driven.databases) (A.Databases.next driven.databases) [])) }
 
     // Where names are true and the store is honest each entry keeps the rules, and at the end the machine stands for the
-    // history, and the databases hold what was applied. Behind a refusal it still stands for the events before.
+    // history, and the databases hold what was applied. Behind a refusal it still stands for the events before, in what a
+    // restart needs; and behind BadEvent it hasn't failed.
     ensures stands { IfOk result (λ driven. let w = ⟦<A as Worked>⟧.workings in
         (base : A.Databases.States)
         → TrueNames (setting w (S.stored store.old)) (after_all [] driven.history.items)
         → HasHonestStore A.Block.header (S.stored store.old) (after_all [] driven.history.items)
         → EachStands w (S.stored store.old)
         (λ last. StandsAndHolds w (S.stored store.old) last (after_all [] driven.history.items)
-        driven.stateful.register
+        false driven.stateful.register
         (moment w driven.stateful.execution driven.stateful.loop
         (A.Databases.members driven.databases) (A.Databases.next driven.databases) []))
         base [] driven.history.items) }
@@ -161,7 +176,8 @@ pub fn drive<A: Application + Drop, S: BlockStore<A::Block>>(
         → TrueNames (setting w (S.stored store.old)) (after_all [] halt.driven.history.items)
         → HasHonestStore A.Block.header (S.stored store.old) (after_all [] halt.driven.history.items)
         → EachStands w (S.stored store.old)
-        (λ last. Stands w (S.stored store.old) last (after_all [] halt.driven.history.items)
+        (λ last. StandsAndHolds w (S.stored store.old) last
+        (after_all [] halt.driven.history.items)
         halt.driven.stateful.failed halt.driven.stateful.register
         (moment w halt.driven.stateful.execution halt.driven.stateful.loop
         (A.Databases.members halt.driven.databases) (A.Databases.next halt.driven.databases) []))
@@ -175,13 +191,15 @@ pub fn drive<A: Application + Drop, S: BlockStore<A::Block>>(
         IsSafe w driven.stateful.failed
         (moment w driven.stateful.execution driven.stateful.loop
         (A.Databases.members driven.databases) (A.Databases.next driven.databases) [])) }
+    ensures still_works { IfErr result (λ halt. halt.halted.error ≡ StepError.BadEvent
+        → halt.driven.stateful.failed ≡ false) }
     ensures still_safe { IfErr result (λ halt. let w = ⟦<A as Worked>⟧.workings in
         IsSafe w halt.driven.stateful.failed
         (moment w halt.driven.stateful.execution halt.driven.stateful.loop
         (A.Databases.members halt.driven.databases) (A.Databases.next halt.driven.databases) [])) }
     ensures store { store.new ≡ store.old }
 
-    // The event that was refused, and why.
+    // The event that was refused, why, and what it left of the databases.
     ensures refused { IfErr result (λ halt. let w = ⟦<A as Worked>⟧.workings in
         (event : Happening A.Block A.Context A.Input)
         × (rest : List (Happening A.Block A.Context A.Input))

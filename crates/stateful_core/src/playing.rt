@@ -1,10 +1,12 @@
 //! An event other than a restart.
 
-ghost use Rattle.std.specs.Prelude.{◌≡◌, ◌≤◌, [], ℕ, OnOk, IfErr};
+ghost use Rattle.std.specs.Prelude.{◌≡◌, ◌≤◌, [], ℕ, List, OnOk, OnErr, IfErr};
 ghost use Rattle.stateful_exec.specs.Starting.{Rises};
 ghost use Rattle.stateful_processing.specs.Moments.{executing, moment};
 ghost use Rattle.stateful_processing.specs.Sound.{IsUp, Sound};
 ghost use Rattle.stateful_core.specs.Faults.{tally, FaultsPlay};
+ghost use Rattle.stateful_history.specs.declared.mark.Mark.{Mark as Marked};
+ghost use Rattle.stateful_whole.specs.Left.{LeavesPlay};
 ghost use Rattle.stateful_whole.specs.Steps.{Advances, Plays};
 
 use crate::settling::settle;
@@ -48,6 +50,13 @@ fn advance<A: Application + Drop, S: BlockStore<A::Block>>(
         (moment w (executing handler.old) processing.old
         (A.Databases.members databases.old) (A.Databases.next databases.old) marks.old.items)
         event.now e) }
+    ensures left { OnErr result (let w = ⟦<A as Worked>⟧.workings in
+        (made : List (Marked A.Block))
+        × LeavesPlay w (S.stored store.now) provider
+        (record { run = A.Run.count; build = A.Build.count; hook = A.Hook.count }) event.now
+        (moment w (executing handler.old) processing.old
+        (A.Databases.members databases.old) (A.Databases.next databases.old) marks.old.items)
+        (A.Databases.members databases.new) made) }
     ensures none_away { A.Databases.kind.NoneAway (A.Databases.members databases.old)
         → A.Databases.kind.NoneAway (A.Databases.members databases.new) }
     ensures later { (n : ℕ)
@@ -95,6 +104,13 @@ pub(crate) fn play<A: Application + Drop, S: BlockStore<A::Block>>(
         (A.Databases.members databases.old) (A.Databases.next databases.old) marks.old.items)
         event.now e) }
     ensures other { IfErr result (λ e. e ≡ StepError.BadEvent → ⊥) }
+    ensures left { OnErr result (let w = ⟦<A as Worked>⟧.workings in
+        (made : List (Marked A.Block))
+        × LeavesPlay w (S.stored store.now) provider
+        (record { run = A.Run.count; build = A.Build.count; hook = A.Hook.count }) event.now
+        (moment w (executing handler.old) processing.old
+        (A.Databases.members databases.old) (A.Databases.next databases.old) marks.old.items)
+        (A.Databases.members databases.new) made) }
     ensures none_away { A.Databases.kind.NoneAway (A.Databases.members databases.old)
         → A.Databases.kind.NoneAway (A.Databases.members databases.new) }
     ensures later { (n : ℕ)

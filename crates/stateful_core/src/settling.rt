@@ -1,10 +1,11 @@
 //! One thing after another goes on.
 
-ghost use Rattle.std.specs.Prelude.{◌≡◌, ◌≤◌, ℕ, true, OnOk, IfErr};
+ghost use Rattle.std.specs.Prelude.{◌≡◌, ◌≤◌, ℕ, true, OnOk, OnErr, IfErr};
 ghost use Rattle.stateful_exec.specs.Starting.{Rises};
 ghost use Rattle.stateful_processing.specs.Moments.{executing, moment};
 ghost use Rattle.stateful_processing.specs.Sound.{IsUp, Sound};
 ghost use Rattle.stateful_core.specs.Faults.{tally, FaultsSettling};
+ghost use Rattle.stateful_whole.specs.Left.{LeavesSettling};
 ghost use Rattle.stateful_whole.specs.Steps.{Settles};
 
 use stateful_db::{Application, DatabaseSet};
@@ -43,6 +44,11 @@ pub(crate) fn settle<A: Application + Drop, S: BlockStore<A::Block>>(
         (A.Databases.members databases.new)
         (moment w (executing handler.old) processing.old
         (A.Databases.members databases.old) (A.Databases.next databases.old) marks.old.items) e) }
+    ensures left { OnErr result (let w = ⟦<A as Worked>⟧.workings in
+        LeavesSettling w (S.stored store.now) provider
+        (moment w (executing handler.old) processing.old
+        (A.Databases.members databases.old) (A.Databases.next databases.old) marks.old.items)
+        (A.Databases.members databases.new)) }
     ensures none_away { A.Databases.kind.NoneAway (A.Databases.members databases.old)
         → A.Databases.kind.NoneAway (A.Databases.members databases.new) }
     ensures later { (n : ℕ)

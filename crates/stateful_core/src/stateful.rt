@@ -13,15 +13,12 @@ use std::alloc::Global;
 use std::marker::Model;
 use thiserror::Error;
 
-/// What a machine is made of: the application, how its databases are opened, what its builds are given, how many
-/// finalizations may be unacknowledged, and how many messages a mailbox takes at once (both at least 1).
+/// What a machine is made of: the application, how its databases are opened, and what its builds are given.
 #[derive(Drop)]
 pub struct Config<A: Application + Drop> {
     pub application: A,
     pub db_config: <A::Databases as DatabaseSet>::Config,
     pub provider: A::Provider,
-    pub max_pending_acks: usize,
-    pub mailbox_size: usize,
 }
 
 /// Why a machine was not made.
@@ -47,6 +44,7 @@ pub struct Stateful<A: Application + Drop> {
     pub(crate) provider: A::Provider,
     pub(crate) db_config: <A::Databases as DatabaseSet>::Config,
     pub(crate) failed: bool,
+    pub(crate) faults: u64,
 }
 
 impl<A: Application + Drop> Model for Stateful<A> {
@@ -61,7 +59,7 @@ impl<A: Application + Drop> Model for Stateful<A> {
 
     ghost coded = { Prim.hlevel (codes, btree_map_code) };
 
-    ghost view = { λ s. record { application = s.handler.application; execution = executing s.handler; loop = s.processing; register = s.register; provider = s.provider; config = s.db_config; failed = s.failed } };
+    ghost view = { λ s. record { application = s.handler.application; execution = executing s.handler; loop = s.processing; register = s.register; provider = s.provider; config = s.db_config; failed = s.failed; faults = s.faults } };
 }
 
 /// The anchor of a machine that has opened nothing yet. Nothing is read off it while the machine is down.
@@ -88,8 +86,6 @@ impl<A: Application + Drop> Stateful<A> {
             application,
             db_config,
             provider,
-            max_pending_acks: _,
-            mailbox_size: _,
         } = config;
         let processor = Processor::new(alloc, application, NOWHERE)?;
         Ok(Stateful {
@@ -100,7 +96,15 @@ impl<A: Application + Drop> Stateful<A> {
             provider,
             db_config,
             failed: false,
+            faults: 0,
         })
+    }
+
+    /// In how many events the application, a run, a build or a hook has failed. It stays at the last number.
+    pub fn faults(&self) -> u64
+        ensures { result ≡ self.now.faults }
+    {
+        self.faults
     }
 
     /// The application as it is.

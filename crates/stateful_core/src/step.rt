@@ -13,6 +13,8 @@ ghost use Rattle.stateful_standing.specs.Storing.{IsStoredNow};
 ghost use Rattle.stateful_keeping.specs.Ways.{HasHonestStore};
 ghost use Rattle.stateful_processing.specs.Moments.{moment};
 ghost use Rattle.stateful_core.specs.Faults.{tally, IsCause};
+ghost use Rattle.stateful_core.specs.Machine.{faults_after};
+ghost use Rattle.stateful_whole.specs.Left.{LeavesFurther};
 ghost use Rattle.stateful_whole.specs.Machine.{IsSafe, numbered, is_restart};
 ghost use Rattle.stateful_whole.specs.Stands.{Stands, StandsAsWell};
 ghost use Rattle.stateful_whole.specs.StepBehind.{Continues};
@@ -93,6 +95,16 @@ fn admit<A: Application>(
     Ok(())
 }
 
+/// One more where the application or a job has failed.
+fn count_fault(faults: u64, acted: &Result<(), StepError>) -> u64
+    ensures { result ≡ faults_after acted.now faults }
+{
+    match acted {
+        Err(StepError::Application) => faults.saturating_add(1),
+        _ => faults,
+    }
+}
+
 impl<A: Application + Drop> Stateful<A> {
     /// Takes one event in, and answers the marks that it made. The order of refusals is `Failed`, `BadEvent`, then the
     /// cause that arises first.
@@ -171,10 +183,25 @@ impl<A: Application + Drop> Stateful<A> {
             → (self.new ≡ self.old) × (databases.new ≡ databases.old) × IsErrOf result StepError.Failed }
         ensures fails { IfErr result (λ e. (e ≡ StepError.BadEvent → ⊥) → self.new.failed ≡ true) }
 
+        // Behind any other error than BadEvent, at an event that isn't a restart, of a machine that hadn't failed, each database
+        // that is here has its part of the fold over what was applied, and over further blocks, if any: the event may have
+        // applied some before its error.
+        ensures behind { IfErr result (λ e. (e ≡ StepError.BadEvent → ⊥)
+            → self.old.failed ≡ false
+            → is_restart event ≡ false
+            → let w = ⟦<A as Worked>⟧.workings in
+            LeavesFurther w (S.stored store.old) self.old.provider
+            (record { run = A.Run.count; build = A.Build.count; hook = A.Hook.count }) event
+            self.old.register
+            (moment w self.old.execution self.old.loop (A.Databases.members databases.old)
+            (A.Databases.next databases.old) [])
+            (A.Databases.members databases.new)) }
+
         // Counts of faults and numbers never fall, and the store, the provider and the configuration stay.
         ensures later { (n : ℕ)
             → A.Databases.counted databases.old n ≤ A.Databases.counted databases.new n }
         ensures application { A.count self.old.application ≤ A.count self.new.application }
+        ensures faults { self.new.faults ≡ faults_after result self.old.faults }
         ensures numbers { Rises self.old.execution.state self.new.execution.state }
         ensures barrier { self.old.loop.next_barrier ≤ self.new.loop.next_barrier }
         ensures same { (store.new ≡ store.old)
@@ -184,7 +211,7 @@ impl<A: Application + Drop> Stateful<A> {
         admit::<A>(self.failed, &self.processing, &self.register, &event)?;
         self.failed = true;
         let mut marks = Vec::new(self.alloc);
-        act(
+        let acted = act(
             &self.db_config,
             &mut self.handler,
             &mut self.processing,
@@ -194,7 +221,12 @@ impl<A: Application + Drop> Stateful<A> {
             store,
             &event,
             &mut marks,
-        )?;
+        );
+        self.faults = count_fault(self.faults, &acted);
+        match acted {
+            Ok(()) => {}
+            Err(error) => return Err(error),
+        }
         self.register
             .record(A::Databases::count(), &event, marks.as_slice())?;
         self.failed = false;

@@ -39,10 +39,10 @@ use Rattle.stateful_standing.proofs.ReasonGround.{round_of_top}
 use Rattle.stateful_standing.proofs.StepsStand.{IsPaused, plain, goes, has_moved}
 use Rattle.stateful_keeping.specs.Execution.{IsFree, IsPausedFor, HasMovedOn}
 use Rattle.stateful_keeping.proofs.CandidateStands.{StandsStepped}
-use Rattle.stateful_keeping.proofs.EarnedOff.{IsClosedIn}
-use Rattle.stateful_keeping.proofs.EarnedTurned.{IsOpen, EarnsBehind-settled}
+use Rattle.stateful_keeping.proofs.EarnedTurned.{EarnsBehind-settled}
 use Rattle.stateful_keeping.proofs.JobMarks.{IsGrown-turn}
 use Rattle.stateful_keeping.proofs.FetchesNone.{FetchesNone-steps}
+use Rattle.stateful_keeping.proofs.LetGo.{IsLetGo, let-go-free, let-go-over, let-go-moved}
 use Rattle.stateful_keeping.proofs.PlacedBehind.{IsGrown, tip_apart, round_of_block, IsFree-behind, IsPausedFor-behind, HasMovedOn-behind}
 use Rattle.stateful_keeping.proofs.StepsLeave.{pause-steps}
 
@@ -54,31 +54,25 @@ module _ {B C I P R D H G U : Type 0} (w : Workings B C I P R D H G U) (laws : L
   abbrev given : Past B C I
   given = Came (Turn j) ∷ p
 
-  -- what the requests that waited for a run are released to, and what true verdicts are earned by then
-  abbrev IsLetGo : (o : Option U) (running : Tables B C I R U) → Settles w (record m { state = running }) j o now → Type 0
-  IsLetGo o running settles =
-      IsReleased w stored (Made (Ended j settles.how) ∷ Came (Turn j) ∷ p) point j settles.block settles.done × IsOpen settles.done.state
-
-  earned_by : TrueNames (setting w stored) p → (tip : Anchor) → IsFolded w stored base p m.state.anchor tip point
-      → IsRoundOf w stored p m.state.anchor
-      →
-      ((o : Option U) (running : Tables B C I R U) → TurnsRun w count m.members j m.state running (Ok (Done o)) →
-      (settles : Settles w (record m { state = running }) j o now) → IsLetGo o running settles) → EarnsBehind w stored base given m now
-  earned_by names tip folded round lets = go turn.running turn.answer turn.turns turn.settles
+  -- each mark keeps the rule, where the end of the run lets go what waited for it
+  earned_by : ((o : Option U) (running : Tables B C I R U) → TurnsRun w count m.members j m.state running (Ok (Done o))
+      → (settles : Settles w (record m { state = running }) j o now) → IsLetGo w stored base p point m j settles.block settles.how settles.done)
+      → EarnsBehind w stored base given m now
+  earned_by lets = go turn.running turn.answer turn.turns turn.settles
     where
       go : (running : Tables B C I R U) (answer : Result (Moved (Option U)) AppFault) → TurnsRun w count m.members j m.state running answer
           → SettlesBy w (record m { state = running }) j answer now → EarnsBehind w stored base (Came (Turn j) ∷ p) m now
       go running (Ok Pending) turns is = EarnsBehind-same w stored base (Came (Turn j) ∷ p) m now (ap (λ (n : Moment w). n.marks) is)
       go running (Ok (Done o)) turns settles =
-          let l : IsLetGo o running settles = lets o running turns settles in
-          EarnsBehind-settled w stored base p point m names located drawn tip folded round laws.ids.issued_other j settles.block settles.how _
-          settles.done now settles.ends.becomes
-          (ap (λ (v : Tables B C I R U). v.anchor) turns.state) l.0 l.1
+          let l : IsLetGo w stored base p point m j settles.block settles.how settles.done = lets o running turns settles in
+          EarnsBehind-settled w stored base p point m l.names located drawn l.tip l.folded l.round laws.ids.issued_other j settles.block settles.how _
+          settles.done settles.ends.becomes
+          (ap (λ (v : Tables B C I R U). v.anchor) turns.state) l.released l.free_way
           (subst (λ (n : Moment w). All (λ (r : Released B C I). KeepOff n.state.anchor (steps r.path)) (released_on j n.state.requests))
           (sym settles.ends.becomes)
           (subst (λ (v : Tables B C I R U). All (λ (r : Released B C I). KeepOff v.anchor (steps r.path)) (released_on j v.requests))
           (sym turns.state) off))
-          settles.follow
+          now settles.follow
       go running (Err fault) turns settles = absurd settles
 
   -- What stands behind the turn, where execution is placed so before it: it is so placed again, and each mark keeps the rule.
@@ -110,20 +104,8 @@ module _ {B C I P R D H G U : Type 0} (w : Workings B C I P R D H G U) (laws : L
         (sym f.pause_is) tt) crosses ∙ f.pause_is) f.pause_is turn) f
 
     EarnsBehind-free : EarnsBehind w stored base given m now
-    EarnsBehind-free = earned_by f.ground.names m.state.anchor f.ground.folded round_free lets
-      where
-        lets : (o : Option U) (running : Tables B C I R U) → TurnsRun w count m.members j m.state running (Ok (Done o))
-            → (settles : Settles w (record m { state = running }) j o now) → IsLetGo o running settles
-        lets o running turns settles =
-            let free : running.pause ≡ Free = ap (λ (v : Tables B C I R U). v.pause) turns.state ∙ f.pause_is in
-            let stays : settles.ends.pause ≡ running.pause =
-            plain_stays w.header settles.block running.pause settles.ends.pause
-            (subst (λ (x : Pause). IsPlain x) (sym free) tt) settles.ends.crosses in
-            let done : settles.done.state.pause ≡ Free = ap (λ (n : Moment w). n.state.pause) settles.ends.becomes ∙ stays ∙ free in (
-              (IsReleasedFrom-plain w stored p point m j settles.block o settles.how settles.done points s located f.ground.names round_free
-                  (subst (λ (x : Pause). IsPlain x) (sym f.pause_is) tt) f.ground.folded.tip_is count running turns settles.ends).released,
-              inl (subst (λ (x : Pause). IsClosedIn x settles.done.state.cache) (sym done) tt),
-            )
+    EarnsBehind-free = earned_by (λ o running turns settles.
+        let-go-free w stored base p point m j settles.block settles.how settles.done points s located count o running turns settles.ends f)
 
     -- execution is free of a pause still
     pub turned_free : IsTurned (λ q then ids v. IsFree w stored base q then point ids v)
@@ -168,18 +150,8 @@ module _ {B C I P R D H G U : Type 0} (w : Workings B C I P R D H G U) (laws : L
         by (has_moved h tip) = absurd (no_tip tip)
 
     EarnsBehind-over : EarnsBehind w stored base given m now
-    EarnsBehind-over = earned_by f.ground.names (anchor_by w.header b) f.ground.folded round_over lets
-      where
-        closed : (q : Past B C I) (done : Moment w) → GoesOn w stored q done → IsClosedIn done.state.pause done.state.cache
-        closed q done g = subst (λ (x : Pause). IsClosedIn x done.state.cache) (sym g.pause_is) g.goes_on.closed
-
-        lets : (o : Option U) (running : Tables B C I R U) → TurnsRun w count m.members j m.state running (Ok (Done o))
-            → (settles : Settles w (record m { state = running }) j o now) → IsLetGo o running settles
-        lets o running turns settles =
-            let r =
-            IsReleasedFrom-over w stored p point m j settles.block o settles.how settles.done points s located f.ground.names round_over
-            over count running turns settles.ends in
-            (r.0.released, inl (closed (Made (Ended j settles.how) ∷ Came (Turn j) ∷ p) settles.done r.1))
+    EarnsBehind-over = earned_by (λ o running turns settles.
+        let-go-over w stored base p point m j settles.block settles.how settles.done points s located count o running turns settles.ends b f)
 
     -- it is paused for the finalization still
     pub turned_over : IsTurned (λ q then ids v. IsPausedFor w stored base q then point ids v b)
@@ -232,17 +204,8 @@ module _ {B C I P R D H G U : Type 0} (w : Workings B C I P R D H G U) (laws : L
             (FetchesNone-steps w count m now j turn f.settled) f
 
     EarnsBehind-moved : EarnsBehind w stored base given m now
-    EarnsBehind-moved = earned_by f.ground.names m.state.anchor f.ground.folded round_moved lets
-      where
-        lets : (o : Option U) (running : Tables B C I R U) → TurnsRun w count m.members j m.state running (Ok (Done o))
-            → (settles : Settles w (record m { state = running }) j o now) → IsLetGo o running settles
-        lets o running turns settles = (
-          (IsReleasedFrom-moved w stored p point m j settles.block o settles.how settles.done points s located f.ground.names round_moved
-              f.ground.folded.tip_is f.moved count running turns settles.ends).released,
-          inr
-              (HasMoved-ended w stored p point m j settles.block o settles.how settles.done points s located f.ground.names round_moved
-              f.ground.folded.tip_is f.moved count running turns settles.ends),
-        )
+    EarnsBehind-moved = earned_by (λ o running turns settles.
+        let-go-moved w stored base p point m j settles.block settles.how settles.done points s located count o running turns settles.ends f)
 
     -- it has moved on to the finalized block still
     pub turned_moved : IsTurned (λ q then ids v. HasMovedOn w stored base q then point ids v)

@@ -98,9 +98,9 @@ module _ {B C I P R D H G U : Type 0} (w : Workings B C I P R D H G U) (stored :
       inr (record { boundary = h.boundary; pause_is = l.left.pause ∙ h.pause_is; moved = rw (l.left.anchor, l.left.cache) h.moved })
 
   -- one of them is served, and the others are to follow behind it
-  by_right : (r : Released B C I) (rs : List (Released B C I)) (p : Past B C I) (m now : Moment w) → AreToFollow (r ∷ rs) p m
+  pub follows-by_right : (r : Released B C I) (rs : List (Released B C I)) (p : Past B C I) (m now : Moment w) → AreToFollow (r ∷ rs) p m
       → Follows w b how r m now → ServesByRight w stored base (Follows w b how) AreToFollow rs p m now
-  by_right r rs p m now a rule = record {
+  follows-by_right r rs p m now a rule = record {
     more = v.behind.more;
     marks_are = v.behind.marks_are;
     each =
@@ -156,69 +156,70 @@ module _ {B C I P R D H G U : Type 0} (w : Workings B C I P R D H G U) (stored :
   -- each mark of the requests that follow keeps the rule
   pub EarnsBehind-to_follow : (rs : List (Released B C I)) (p : Past B C I) (m last : Moment w) → AreToFollow rs p m
       → InTurn (Follows w b how) rs m last → EarnsBehind w stored base p m last
-  EarnsBehind-to_follow rs p m last ready turns = EarnsBehind-in_turn w stored base (Follows w b how) AreToFollow by_right rs p m last ready turns
+  EarnsBehind-to_follow rs p m last ready turns = EarnsBehind-in_turn w stored base (Follows w b how) AreToFollow follows-by_right rs p m last
+      ready turns
 
 module _ {B C I P R D H G U : Type 0} (w : Workings B C I P R D H G U) (stored : ℕ → Option (Named B)) (base : w.States) (p : Past B C I)
     (point : Point w) (m : Moment w)
     (names : TrueNames (setting w stored) p) (located : w.kind.point m.members ≡ Some point) (drawn : w.kind.issued m.next (point ∷ []))
     (tip : Anchor) (folded : IsFolded w stored base p m.state.anchor tip point) (round : IsRoundOf w stored p m.state.anchor)
     (other_states : (n i : w.Ids) (x y : w.States) (c : List (Point w)) → w.kind.issued n ((i, x) ∷ c) → w.kind.issued n ((i, y) ∷ c)) where
-  -- each mark from the end of the run on keeps the rule
-  pub EarnsBehind-settled : (j : ℕ) (b : Named B) (how : How) (state : Tables B C I R U) (done last : Moment w)
-      → Becomes w m state (Ended j how ∷ []) done → state.anchor ≡ m.state.anchor
-      → IsReleased w stored (Made (Ended j how) ∷ Came (Turn j) ∷ p) point j b done → IsOpen done.state
-      → All (λ (r : Released B C I). KeepOff done.state.anchor (steps r.path)) (released_on j done.state.requests)
-      → InTurn (Follows w b how) (released_on j done.state.requests)
-      (record done { state = released j done.state }) last → EarnsBehind w stored base (Came (Turn j) ∷ p) m last
-  EarnsBehind-settled j b how state done last becomes same rel free_way off follow = record {
-    more = Ended j how ∷ e.more;
-    marks_are =
-        e.marks_are ∙ ap (λ marks. marks ++ e.more) (ap (λ (n : Moment w). n.marks) becomes) ∙ append_assoc m.marks (Ended j how ∷ []) e.more;
-    each = (tt, e.each);
-  }
-    where
-      old : (x : Named B) → Met (setting w stored) (Made (Ended j how) ∷ Came (Turn j) ∷ p) x → Met (setting w stored) p x
-      old x (inl brought) = absurd brought
-      old x (inr (inl brought)) = absurd brought
-      old x (inr (inr met)) = met
+  module _ (j : ℕ) (b : Named B) (how : How) (state : Tables B C I R U) (done : Moment w) (becomes : Becomes w m state (Ended j how ∷ []) done)
+      (same : state.anchor ≡ m.state.anchor) (rel : IsReleased w stored (Made (Ended j how) ∷ Came (Turn j) ∷ p) point j b done)
+      (free_way : IsOpen done.state)
+      (off : All (λ (r : Released B C I). KeepOff done.state.anchor (steps r.path)) (released_on j done.state.requests)) where
+    old : (x : Named B) → Met (setting w stored) (Made (Ended j how) ∷ Came (Turn j) ∷ p) x → Met (setting w stored) p x
+    old x (inl brought) = absurd brought
+    old x (inr (inl brought)) = absurd brought
+    old x (inr (inr met)) = met
 
-      anchored : done.state.anchor ≡ m.state.anchor
-      anchored = ap (λ (n : Moment w). n.state.anchor) becomes ∙ same
+    anchored : done.state.anchor ≡ m.state.anchor
+    anchored = ap (λ (n : Moment w). n.state.anchor) becomes ∙ same
 
-      open_so : IsOpen done.state → IsOpen (released j done.state)
-      open_so (inl closed) = inl closed
-      open_so (inr h) = inr (record { boundary = h.boundary; pause_is = h.pause_is; moved = h.moved })
+    open_so : IsOpen done.state → IsOpen (released j done.state)
+    open_so (inl closed) = inl closed
+    open_so (inr h) = inr (record { boundary = h.boundary; pause_is = h.pause_is; moved = h.moved })
 
-      ready : AreToFollow w stored base rel.points point tip other_states b how (released_on j done.state.requests)
-          (Made (Ended j how) ∷ Came (Turn j) ∷ p) (record done { state = released j done.state })
+    -- the requests that waited for a run are to follow, behind the mark of its end
+    pub AreToFollow-settled : AreToFollow w stored base rel.points point tip other_states b how (released_on j done.state.requests)
+        (Made (Ended j how) ∷ Came (Turn j) ∷ p) (record done { state = released j done.state })
+    AreToFollow-settled = record {
       ready = record {
-        ready = record {
-          stands = rel.tables;
-          names = λ x y has_x has_y. names x y (old x has_x) (old y has_y);
-          located = ap (λ (n : Moment w). w.kind.point n.members) becomes ∙ located;
-          drawn = rw becomes drawn;
-        };
-        folded =
-            subst (λ (x : Anchor). IsFolded w stored base (Made (Ended j how) ∷ Came (Turn j) ∷ p) x tip point) (sym anchored)
-            (record { anchor_is = folded.anchor_is; tip_is = folded.tip_is; folded = folded.folded });
-        round = λ x met is. round x (old x met) (is ∙ ap (λ (y : Anchor). y.digest) anchored) ∙ ap (λ (y : Anchor). y.round) (sym anchored);
-        free_way = open_so free_way;
-        each = All-weaker (IsTakenOut w stored (Made (Ended j how) ∷ Came (Turn j) ∷ p) (not_on j done.state.requests) done.state.queued b)
-            (IsOnWay w stored rel.points point ticket_of request_of path_of (Made (Ended j how) ∷ Came (Turn j) ∷ p)
-            (record done { state = released j done.state }))
-            (λ x t. record {
-              hand = record { absent = t.gone; not_queued = t.unqueued; own = t.own; brought = t.brought; asked = t.asked };
-              way = t.way;
-            })
-            (released_on j done.state.requests) rel.in_hand;
-        apart = rel.apart;
-        leads =
-            All-weaker (IsTakenOut w stored (Made (Ended j how) ∷ Came (Turn j) ∷ p) (not_on j done.state.requests) done.state.queued b)
-            (λ (x : Released B C I). x.path.parent ≡ b) (λ x t. t.leads) (released_on j done.state.requests) rel.in_hand;
-        off = off;
-      }
+        stands = rel.tables;
+        names = λ x y has_x has_y. names x y (old x has_x) (old y has_y);
+        located = ap (λ (n : Moment w). w.kind.point n.members) becomes ∙ located;
+        drawn = rw becomes drawn;
+      };
+      folded =
+          subst (λ (x : Anchor). IsFolded w stored base (Made (Ended j how) ∷ Came (Turn j) ∷ p) x tip point) (sym anchored)
+          (record { anchor_is = folded.anchor_is; tip_is = folded.tip_is; folded = folded.folded });
+      round = λ x met is. round x (old x met) (is ∙ ap (λ (y : Anchor). y.digest) anchored) ∙ ap (λ (y : Anchor). y.round) (sym anchored);
+      free_way = open_so free_way;
+      each = All-weaker (IsTakenOut w stored (Made (Ended j how) ∷ Came (Turn j) ∷ p) (not_on j done.state.requests) done.state.queued b)
+          (IsOnWay w stored rel.points point ticket_of request_of path_of (Made (Ended j how) ∷ Came (Turn j) ∷ p)
+          (record done { state = released j done.state }))
+          (λ x t. record {
+            hand = record { absent = t.gone; not_queued = t.unqueued; own = t.own; brought = t.brought; asked = t.asked };
+            way = t.way;
+          })
+          (released_on j done.state.requests) rel.in_hand;
+      apart = rel.apart;
+      leads =
+          All-weaker (IsTakenOut w stored (Made (Ended j how) ∷ Came (Turn j) ∷ p) (not_on j done.state.requests) done.state.queued b)
+          (λ (x : Released B C I). x.path.parent ≡ b) (λ x t. t.leads) (released_on j done.state.requests) rel.in_hand;
+      off = off;
+    }
 
-      e : EarnsBehind w stored base (Made (Ended j how) ∷ Came (Turn j) ∷ p) (record done { state = released j done.state }) last
-      e =
-          EarnsBehind-to_follow w stored base rel.points point tip other_states b how (released_on j done.state.requests)
-          (Made (Ended j how) ∷ Came (Turn j) ∷ p) (record done { state = released j done.state }) last ready follow
+    -- each mark from the end of the run on keeps the rule
+    pub EarnsBehind-settled : (last : Moment w) → InTurn (Follows w b how) (released_on j done.state.requests)
+        (record done { state = released j done.state }) last → EarnsBehind w stored base (Came (Turn j) ∷ p) m last
+    EarnsBehind-settled last follow =
+        let e : EarnsBehind w stored base (Made (Ended j how) ∷ Came (Turn j) ∷ p) (record done { state = released j done.state }) last =
+        EarnsBehind-to_follow w stored base rel.points point tip other_states b how (released_on j done.state.requests)
+        (Made (Ended j how) ∷ Came (Turn j) ∷ p) (record done { state = released j done.state }) last AreToFollow-settled follow in
+        record {
+          more = Ended j how ∷ e.more;
+          marks_are =
+              e.marks_are ∙ ap (λ marks. marks ++ e.more) (ap (λ (n : Moment w). n.marks) becomes) ∙ append_assoc m.marks (Ended j how ∷ []) e.more;
+          each = (tt, e.each);
+        }

@@ -57,6 +57,7 @@ pub mod TicketsCancelled
 pub mod TicketsTurned
 pub mod TicketsStill
 pub mod MarksOfRules
+pub mod PlainMarks
 pub mod RuleItems
 pub mod TicketsCollected
 pub mod TicketsTaken
@@ -149,3 +150,12 @@ pub mod InHandOpened
 pub mod SettledKept
 pub mod SettledRules
 pub mod SettledIntake
+pub mod AppliedFurther
+pub mod HeldFurther
+pub mod VerifiedApart
+pub mod RunsCarried
+pub mod LoopCarried
+pub mod PlacesFollows
+pub mod PlacesReleased
+pub mod LetGo
+pub mod PlacesSettled

@@ -20,7 +20,7 @@ use Rattle.stateful_exec.specs.declared.state.Tables.{Tables}
 use Rattle.stateful_processing.specs.Intake.{Counts, TurnsJob, build, hook, run, Builds, Hooks, TakesIn, enters, cancels, fetched, turns, flushes, stops, progresses, restarts}
 use Rattle.stateful_processing.specs.Moments.{Moment, inner, with_inner}
 use Rattle.stateful_keeping.specs.Execution.{NamesBehind}
-use Rattle.stateful_keeping.specs.Places.{PlacesKept, PlacesBehind, EndedRunsMay}
+use Rattle.stateful_keeping.specs.Places.{PlacesKept, PlacesBehind}
 use Rattle.stateful_keeping.specs.RuleMarks.{MarksBehind}
 use Rattle.stateful_keeping.specs.Stands.{IsUpAt}
 use Rattle.stateful_keeping.proofs.MarksOfRules.{taken_in_marks}
@@ -28,13 +28,14 @@ use Rattle.stateful_keeping.proofs.NamesBehind.{NamesBehind-before}
 use Rattle.stateful_keeping.proofs.PlacesBuilt.{places-build}
 use Rattle.stateful_keeping.proofs.PlacesEvents.{kept-came, places-besides, places-cancels}
 use Rattle.stateful_keeping.proofs.PlacesFetched.{places-fetched}
+use Rattle.stateful_keeping.proofs.PlacesSettled.{places-settles}
 use Rattle.stateful_keeping.proofs.PlacesStill.{IsStill, places-still}
 use Rattle.stateful_keeping.proofs.PlacesTurned.{places-hook, places-final}
 use Rattle.stateful_keeping.proofs.RunTurned.{none_live}
 
 module _ {B C I P R D H G U : Type 0} (w : Workings B C I P R D H G U) (laws : Laws w.kind) (stored : ℕ → Option (Named B)) (base : w.States)
     (p : Past B C I) (stored_now : ℕ → Option (Named B)) (counts : Counts R D H) (m now : Moment w) (h : IsUpAt w stored base p m)
-    (k : PlacesKept w stored p m) (ended : EndedRunsMay w stored base p counts m) where
+    (k : PlacesKept w stored p m) where
   stepped : (j : ℕ) → PlacesKept w stored (Came (event.Turn j) ∷ p) m → (then : exec.Moment w) (running : Tables B C I R U)
       (answer : Result (Moved (Option U)) AppFault) → TurnsRun w counts.run m.members j m.execution.state running answer
       → SettlesBy w (record (inner w m) { state = running }) j answer then
@@ -44,7 +45,8 @@ module _ {B C I P R D H G U : Type 0} (w : Workings B C I P R D H G U) (laws : L
       (places-still w stored base (Came (event.Turn j) ∷ p) m _ [] (sym (append-nil m.marks)) tt (All-nil IsStill)
       (ap (λ (v : Tables B C I R U). v.requests) had.state) (ap (λ (v : Tables B C I R U). v.queued) had.state)
       (ap (λ (v : Tables B C I R U). v.cache) had.state) refl refl refl kept)
-  stepped j kept then running (Ok (Done o)) had settles = ended j o running then had settles kept
+  stepped j kept then running (Ok (Done o)) had settles =
+      places-settles w laws stored base p j m h.executes h.ways k kept counts.run o running then had settles
   stepped j kept then running (Err fault) had settles = absurd settles
 
   run_turned : (j : ℕ) → live_job j p ≡ true → PlacesKept w stored (Came (event.Turn j) ∷ p) m → (then : exec.Moment w)

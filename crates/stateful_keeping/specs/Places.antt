@@ -1,24 +1,20 @@
 -- Marks in their places, and what is kept for them beside what a machine that is up stands for.
-use Rattle.std.specs.Prelude.{◌≡◌, ◌⊎◌, ◌<◌, ℕ, true, false, Option, Some, None, Ok, List, ◌∷◌, ◌++◌}
+use Rattle.std.specs.Prelude.{◌≡◌, ◌⊎◌, ◌<◌, ℕ, true, false, Option, Some, None, List, ◌++◌}
 use Rattle.stateful_types.specs.Names.{Named}
 use Rattle.stateful_types.specs.declared.digest.Digest.{Digest}
-use Rattle.stateful_types.specs.declared.outcome.Moved.TheVariants.{Done}
 use Rattle.stateful_history.specs.Answers.{EndsLive, was_cancelled, NamesNoCancelled}
 use Rattle.stateful_history.specs.Fetches.{AskedIsNeeded, WasAsked}
 use Rattle.stateful_history.specs.Jobs.{job_of, started_for}
 use Rattle.stateful_history.specs.Live.{live_ticket, bound_of}
 use Rattle.stateful_history.specs.Numbers.{NumberIsNew}
 use Rattle.stateful_history.specs.Opening.{is_handing_over}
-use Rattle.stateful_history.specs.Past.{Past, Came, EachMark, after}
+use Rattle.stateful_history.specs.Past.{Past, EachMark, after}
 use Rattle.stateful_history.specs.Requests.{IsLiveRequest}
 use Rattle.stateful_history.specs.Runs.{StartsWell, unhooked}
-use Rattle.stateful_history.specs.declared.event.Event.TheVariants.{Turn}
 use Rattle.stateful_history.specs.declared.mark.How.TheVariants.{Cancelled}
 use Rattle.stateful_history.specs.declared.mark.JobKind.TheVariants.{Candidate}
 use Rattle.stateful_history.specs.declared.mark.Mark.{Mark}
 use Rattle.stateful_history.specs.declared.mark.Mark.TheVariants.{Ended}
-use Rattle.stateful_exec.specs.Ending.{TurnsRun, Settles}
-use Rattle.stateful_exec.specs.Moments as exec
 use Rattle.stateful_exec.specs.Workings.{Workings}
 use Rattle.stateful_exec.specs.declared.building.Building.{Building}
 use Rattle.stateful_exec.specs.declared.front.Front.{Front}
@@ -30,8 +26,7 @@ use Rattle.stateful_standing.specs.Gathering.{AsksAlong, AsksNothing}
 use Rattle.stateful_standing.specs.Orderly.{IsOrderly}
 use Rattle.stateful_standing.specs.Setting.{setting}
 use Rattle.stateful_keeping.specs.Tickets.{IsOutside}
-use Rattle.stateful_processing.specs.Intake.{Counts}
-use Rattle.stateful_processing.specs.Moments.{Moment, inner, with_inner}
+use Rattle.stateful_processing.specs.Moments.{Moment}
 use Rattle.stateful_processing.specs.declared.tables.Finalizing.{Finalizing}
 
 module _ {B C I : Type 0} where
@@ -102,14 +97,3 @@ module _ {B C I P R D H G U : Type 0} (w : Workings B C I P R D H G U) (stored :
     pub marks_are : now.marks ≡ m.marks ++ more
     pub each : EachMark (IsInPlace base) p more
     pub kept : PlacesKept (after p more) now
-
--- What isn't shown yet of events: where a candidate run has ended, the marks of its end and of what
--- follows it are in their places, and what is kept for them is kept.
-abbrev pub EndedRunsMay : {B C I P R D H G U : Type 0} (w : Workings B C I P R D H G U)
-    (stored : ℕ → Option (Named B)) (base : w.States) (p : Past B C I) (counts : Counts R D H) (m : Moment w) → Type 0
-EndedRunsMay {B} {C} {I} {P} {R} {D} {H} {G} {U} w stored base p counts m =
-    (j : ℕ) (o : Option U) (running : Tables B C I R U) (then : exec.Moment w)
-    → TurnsRun w counts.run m.members j m.execution.state running (Ok (Done o))
-    → Settles w (record (inner w m) { state = running }) j o then
-    → PlacesKept w stored (Came (Turn j) ∷ p) m
-    → PlacesBehind w stored base (Came (Turn j) ∷ p) m (with_inner w m then)

@@ -5,7 +5,7 @@ ghost use Rattle.stateful_text.specs.Transcript.{ending_of};
 ghost use Rattle.stateful_play.specs.Shown.{member_of, shown_of, error_name, ending_by, text_of};
 
 use crate::play::{Databases, History, Played, Told};
-use stateful_actor::{Halted, StepError};
+use stateful_core::{Halted, StepError};
 use stateful_db::{DatabaseSet, Held};
 use stateful_plain::Plain;
 use stateful_text::{End, Shown, transcript};
@@ -23,13 +23,17 @@ fn name_of(error: StepError) -> &'static str
         StepError::SkippedHeight { .. } => "SkippedHeight",
         StepError::NotExtending { .. } => "NotExtending",
         StepError::ConflictAtAnchor { .. } => "ConflictAtAnchor",
+        StepError::FinalizedRejected { .. } => "FinalizedRejected",
+        StepError::FinalizedMismatch { .. } => "FinalizedMismatch",
+        StepError::ProposalMismatch(_) => "ProposalMismatch",
+        StepError::ProposalStale { .. } => "ProposalStale",
+        StepError::PendingChanged { .. } => "PendingChanged",
         StepError::Application => "Application",
         StepError::MissingBlock { .. } => "MissingBlock",
         StepError::BadEvent => "BadEvent",
         StepError::Failed => "Failed",
         StepError::Exhausted => "Exhausted",
         StepError::DatabaseFault { .. } => "DatabaseFault",
-        StepError::NotYet => "NotYet",
         StepError::OutOfMemory => "OutOfMemory",
     }
 }

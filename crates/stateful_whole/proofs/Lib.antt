@@ -15,3 +15,5 @@ pub mod StepsStand
 pub mod HistoryStands
 pub mod HistoryReasons
 pub mod StillStands
+pub mod LeftFurther
+pub mod RefusedBehind

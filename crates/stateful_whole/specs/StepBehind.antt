@@ -1,5 +1,5 @@
 -- What stands behind a step, and behind steps one after another.
-use Rattle.std.specs.Prelude.{◌≡◌, ℕ, false, Option, Some, List, [], ◌∷◌, All}
+use Rattle.std.specs.Prelude.{◌≡◌, ℕ, Bool, false, Option, Some, List, [], ◌∷◌, All}
 use Rattle.stateful_types.specs.Names.{Named}
 use Rattle.stateful_history.specs.Canonical.{pruned_below}
 use Rattle.stateful_history.specs.Holding.{Holds}
@@ -76,7 +76,8 @@ module _ {B C I P R D H G U : Type 0} (w : Workings B C I P R D H G U)
       × (b : StepBehind base p entry.event new)
       × EachStands Last b.base_behind (after_entry p entry.event entry.marks) entries
 
-  -- The machine stands for the past, with this register, and its databases hold what was applied.
-  pub record StandsAndHolds (base : w.States) (p : Past B C I) (register : Register) (m : Moment w) : Type 0 where
-    pub stands : Stands w stored base p false register m
-    pub holds : Holds (setting w stored) w.kind base p m.members
+  -- The machine stands for the past, with this register; and as long as it hasn't failed its databases hold what was applied.
+  pub record StandsAndHolds (base : w.States) (p : Past B C I) (failed : Bool) (register : Register)
+      (m : Moment w) : Type 0 where
+    pub stands : Stands w stored base p failed register m
+    pub holds : failed ≡ false → Holds (setting w stored) w.kind base p m.members

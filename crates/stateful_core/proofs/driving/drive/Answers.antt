@@ -1,4 +1,4 @@
-use Rattle.std.proofs.Common.{[], Bool, refl, sym, ◌∙◌, subst}
+use Rattle.std.proofs.Common.{[], Bool, false, refl, sym, ◌∙◌, subst}
 use Rattle.stateful_history.specs.Past.{after_all}
 use Rattle.stateful_cache.proofs.Cutting.{one_over, none_over}
 use Rattle.stateful_exec.specs.Workings.{workings}
@@ -6,6 +6,7 @@ use Rattle.stateful_register.proofs.Entries.{RegisterStands-none}
 use Rattle.stateful_processing.specs.Moments.{moment}
 use Rattle.stateful_whole.specs.Stands.{Stands}
 use Rattle.stateful_whole.proofs.HistoryStands.{history-registered, history-leaves}
+use Rattle.stateful_whole.proofs.RefusedBehind.{leaves-behind}
 use Rattle.stateful_core.specs.Faults.{tally}
 use Rattle.stateful_core.proofs.Adding.{event_at, events-push, Steps-push}
 use Rattle.stateful_core.proofs.Counts.{HasNotFallen-itself, HasNotFallen-further}
@@ -71,6 +72,13 @@ returns-in-Err-clause-refused g c =
         before = tally (g.A.Faulty.count was.stateful.application) (D.counted was.databases);
         later = i.later;
         cause = rw (i.store, i.provider) at c.in-Err.ensures.cause;
+        behind = λ lawful other up.
+            let takes = g.met.A.Application.takes_turns in
+            leaves-behind w g.met.A.Databases.DatabaseSet.laws (g.S.BlockStore.stored c.args.store.now) _ c.args.stateful.provider
+            (λ f states b n is. takes.runs f states b n is) (λ asked states n is. takes.builds asked states n is)
+            _ _ _ _ was.history.items c.requires.new refl c.requires.none_away i.steps was.stateful.register i.registered c.in-Some.event
+            (D.members c.enter.new.driven.databases)
+            ((rw (i.store, i.provider) at c.in-Err.ensures.behind) lawful other up);
       }),
     )
 
@@ -87,7 +95,7 @@ returns-clause-stands g c =
     λ base names honest. history-registered w g.met.A.Databases.DatabaseSet.laws (g.S.BlockStore.stored c.args.store.now) _ c.args.stateful.provider
     (λ f states b n is. takes.runs f states b n is) (λ asked states n is. takes.builds asked states n is)
     _ _ _ _ c.loop-event.driven.history.items c.requires.new refl c.requires.none_away i.steps names honest base
-    c.loop-event.driven.stateful.register i.registered
+    false c.loop-event.driven.stateful.register i.registered
 
 pub returns-in-Err-clause-still_stands : goal.returns-in-Err-clause-still_stands
 returns-in-Err-clause-still_stands g c =
@@ -100,7 +108,10 @@ returns-in-Err-clause-still_stands g c =
     (λ base names honest. history-leaves w g.met.A.Databases.DatabaseSet.laws (g.S.BlockStore.stored c.args.store.now) _ c.args.stateful.provider
     (λ f states b n is. takes.runs f states b n is) (λ asked states n is. takes.builds asked states n is)
     _ _ _ _ was.history.items c.requires.new refl c.requires.none_away i.steps names honest base
-    was.stateful.register i.registered _
-    (λ last s. c.in-Err.ensures.still (g.S.BlockStore.stored c.args.store.now) last (after_all [] was.history.items)
-    (subst (λ (failed : Bool). Stands w (g.S.BlockStore.stored c.args.store.now) last (after_all [] was.history.items) failed was.stateful.register
-    (moment w was.stateful.execution was.stateful.loop (D.members was.databases) (D.next was.databases) [])) (sym i.working) s.stands)))
+    false was.stateful.register i.registered _
+    (λ last s. record {
+      stands = c.in-Err.ensures.still (g.S.BlockStore.stored c.args.store.now) last (after_all [] was.history.items)
+          (subst (λ (failed : Bool). Stands w (g.S.BlockStore.stored c.args.store.now) last (after_all [] was.history.items) failed was.stateful.register
+          (moment w was.stateful.execution was.stateful.loop (D.members was.databases) (D.next was.databases) [])) (sym i.working) s.stands);
+      holds = λ works. rw (c.in-Err.ensures.calm works) (s.holds refl);
+    }))

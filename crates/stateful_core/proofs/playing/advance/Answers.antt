@@ -1,8 +1,11 @@
+use Rattle.std.proofs.Common.{refl}
 use Rattle.std.proofs.lemmas.Result.{on_ok_weaker}
 use Rattle.stateful_exec.specs.Workings.{workings}
 use Rattle.stateful_processing.specs.Moments.{executing, moment}
 use Rattle.stateful_processing.proofs.Intakes.{on_err}
 use Rattle.stateful_processing.proofs.SoundingIntake.{taken_in_sound}
+use Rattle.stateful_processing.proofs.Handing.{err_holds}
+use Rattle.stateful_whole.specs.Left.{taking, going as leaves_going}
 use Rattle.stateful_core.specs.Faults.{going}
 use Rattle.stateful_core.proofs.playing.advance.Goals as goal
 
@@ -37,3 +40,10 @@ returns-clause-fault g c =
     on_err c.settle.result _ _ c.settle.ensures.fault
     (λ e fault. going c.in_ok-take_in.ensures.ok
     (record { application = c.in_ok-take_in.ensures.application; databases = c.in_ok-take_in.ensures.later }) fault)
+
+pub returns-in_err-take_in-clause-left : goal.returns-in_err-take_in-clause-left
+returns-in_err-take_in-clause-left g c = err_holds c.from_residual.result (c.args.marks.now.items, taking c.in_err-take_in.ensures.left refl)
+
+pub returns-clause-left : goal.returns-clause-left
+returns-clause-left g c =
+    on_err c.settle.result _ _ c.settle.ensures.left (λ e left. (c.take_in.new.marks.items, leaves_going c.in_ok-take_in.ensures.ok refl left))

@@ -1,8 +1,10 @@
 use Rattle.std.proofs.Common.{inl, inr, refl, arith}
 use Rattle.stateful_exec.specs.Workings.{workings}
+use Rattle.stateful_processing.specs.Left.{keeps}
 use Rattle.stateful_processing.specs.Moments.{executing, moment}
-use Rattle.stateful_processing.proofs.Handing.{converted}
+use Rattle.stateful_processing.proofs.Handing.{converted, err_holds}
 use Rattle.stateful_processing.proofs.SoundingOpenings.{cleared_sound}
+use Rattle.stateful_whole.specs.Left.{going}
 use Rattle.stateful_core.proofs.OtherErrors.{play_other}
 use Rattle.stateful_core.proofs.playing.play.Goals as goal
 
@@ -61,3 +63,18 @@ returns-else-not-processing-clause-ok g c =
       advances = c.in_ok-advance.ensures.ok;
       ends = inl (c.if-not-processing.false, refl);
     }
+
+pub returns-in_err-stop-clause-left : goal.returns-in_err-stop-clause-left
+returns-in_err-stop-clause-left g c =
+    let D = g.A.Databases.DatabaseSet in
+    let w = workings g.A.Block.Block.header g.A.Block.Block.context_of g.A.Context.Rounded.round_of g.A.Application.works D.kind D.shows in
+    let a = c.in_ok-advance.ensures.ok in
+    err_holds c.from_residual-in_err-stop.result (
+      a.taken.marks,
+      going a.takes refl (record {
+        reached = moment w (executing c.advance.new.handler) c.advance.new.processing (D.members c.advance.new.databases)
+            (D.next c.advance.new.databases) c.advance.new.marks.items;
+        along = a.settles.along;
+        left = keeps (λ i s has. has);
+      }),
+    )

@@ -4,7 +4,7 @@ use Rattle.stateful_processing.specs.Moments.{Moment, executing, moment}
 use Rattle.stateful_processing.specs.Rules.{none, further, Along, Goes, Quiet}
 use Rattle.stateful_processing.specs.Sound.{Sound}
 use Rattle.stateful_processing.proofs.Falling.{falls}
-use Rattle.stateful_processing.proofs.Handing.{converted}
+use Rattle.stateful_processing.proofs.Handing.{converted, err_holds}
 use Rattle.stateful_processing.proofs.Sounding.{rule_sound}
 use Rattle.stateful_core.specs.Faults.{tally}
 use Rattle.stateful_core.proofs.Counts.{HasNotFallen-itself, HasNotFallen-further}
@@ -103,3 +103,13 @@ pub returns-clause-numbers : goal.returns-clause-numbers
 returns-clause-numbers g c =
     let a = c.rules.invariant.numbers in
     let b = c.in_ok-go_on.ensures.numbers in (omega arith, omega arith)
+
+pub returns-in_err-go_on-clause-left : goal.returns-in_err-go_on-clause-left
+returns-in_err-go_on-clause-left g c =
+    let D = g.A.Databases.DatabaseSet in
+    let w = workings g.A.Block.Block.header g.A.Block.Block.context_of g.A.Context.Rounded.round_of g.A.Application.works D.kind D.shows in
+    err_holds c.from_residual.result (record {
+      reached = moment w (executing c.rules.handler) c.rules.processing (D.members c.rules.databases) (D.next c.rules.databases) c.rules.marks.items;
+      along = c.rules.invariant.along;
+      left = c.in_err-go_on.ensures.left;
+    })
