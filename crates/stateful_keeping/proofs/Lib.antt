@@ -145,3 +145,4 @@ pub mod PlacesFollows
 pub mod PlacesReleased
 pub mod LetGo
 pub mod PlacesSettled
+pub mod PlacesAlong
