@@ -146,3 +146,4 @@ pub mod PlacesReleased
 pub mod LetGo
 pub mod PlacesSettled
 pub mod PlacesAlong
+pub mod PlacesOpened
