@@ -13,3 +13,5 @@ pub mod StoresBefore
 pub mod StepsStand
 pub mod HistoryStands
 pub mod StillStands
+pub mod WorkNamed
+pub mod WorkPlaces
