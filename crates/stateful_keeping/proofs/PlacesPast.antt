@@ -21,9 +21,10 @@ use Rattle.stateful_standing.specs.Outstanding.{TicketsApart}
 use Rattle.stateful_standing.specs.Setting.{setting}
 use Rattle.stateful_standing.proofs.PlaceCancelled.{StandsOn-longer}
 use Rattle.stateful_standing.proofs.ServedMarks.{TicketsApart-after}
-use Rattle.stateful_keeping.specs.Places.{CancelledIsGone, EndsNoRun, IsOrderlyPast, PastKept}
+use Rattle.stateful_processing.specs.Moments.{Moment}
+use Rattle.stateful_keeping.specs.Places.{CancelledIsGone, EndsNoRun, IsOrderlyPast, PastKept, PlacesKept}
 use Rattle.stateful_keeping.specs.RuleMarks.{IsOfRule}
-use Rattle.stateful_keeping.proofs.Uncancelled.{live-uncancelled, gone-mark}
+use Rattle.stateful_keeping.proofs.Uncancelled.{live-uncancelled, gone-mark, gone-first}
 
 -- no block is asked for
 abbrev pub IsAskless : {B : Type 0} → Mark B → Type 0
@@ -165,3 +166,22 @@ module _ {B C I P R D H G U : Type 0} (w : Workings B C I P R D H G U) (stored :
     past = past-ends p more ends whole h.past;
     earlier = λ t d was. subst (λ n. t < n) (sym (bound_after p more)) (h.earlier t d (asked-before t d p more askless was));
   }
+
+  -- what is kept before all else
+  none_again : (p : Past B C I) → p ≡ [] → (d : Digest) → MayRunAgain (setting w stored) p d
+  none_again p none d [] q j how is spent = cc
+  none_again p none d (x ∷ later) q j how is spent = cc
+
+  pub past-kept-first : (p : Past B C I) → p ≡ [] → PastKept w stored p
+  past-kept-first p none = record {
+    past = record {
+      orderly = orderly-gone p (gone-first p none) (λ t some. rw none refl) (none_again p none);
+      gone = gone-first p none;
+      whole = rw none refl;
+    };
+    earlier = λ t d was. absurd (subst (λ (q : Past B C I). WasAsked t d q) none was);
+  }
+
+  -- and what is kept while the machine is up
+  pub past-kept : (p : Past B C I) (m : Moment w) → PlacesKept w stored p m → PastKept w stored p
+  past-kept p m k = record { past = k.past; earlier = k.asks.earlier }

@@ -18,7 +18,9 @@ use Rattle.stateful_standing.specs.Setting.{setting}
 use Rattle.stateful_standing.specs.Storing.{IsStoredNow}
 use Rattle.stateful_keeping.specs.Down.{IsEmpty, IsCounted}
 use Rattle.stateful_keeping.specs.Durability.{IsDurablySaid}
+use Rattle.stateful_keeping.specs.Places.{IsInPlace, PastKept, PlacesKept}
 use Rattle.stateful_keeping.specs.Stands.{IsUpAt}
+use Rattle.stateful_keeping.proofs.PlacesScheduled.{kept-same}
 use Rattle.stateful_processing.specs.Moments.{Moment}
 use Rattle.stateful_processing.specs.Rules.{Quiet}
 use Rattle.stateful_whole.specs.StepBehind.{IsCommittedTo, StepBehind}
@@ -65,6 +67,7 @@ module _ {B C I P R D H G U : Type 0} (w : Workings B C I P R D H G U) (stored :
       pub base_is : next ≡ base_after base marks (w.kind.point now.members)
       pub earned : EachMark (TrueIsEarned (setting w stored) next) (Came event ∷ p) marks
       pub said : EachMark (IsDurablySaid w) (Came event ∷ p) marks
+      pub in_place : EachMark (IsInPlace w stored next) (Came event ∷ p) marks
       pub due : (rule : Option (PruneRule w.Targets)) → EachMark (PrunedIsDue (setting w stored) rule) (Came event ∷ p) marks
       pub opened : EachMark (OpenedIsStored (setting w stored) event) (Came event ∷ p) marks
       pub committed : All (IsCommittedTo w stored next) marks
@@ -77,6 +80,8 @@ module _ {B C I P R D H G U : Type 0} (w : Workings B C I P R D H G U) (stored :
       pub counted : IsCounted w (after_entry p event marks) now
       pub up : now.loop.up ≡ true → IsUpAt w stored next (after_entry p event marks) now × Quiet w now
       pub down : now.loop.up ≡ false → NothingLive (after_entry p event marks)
+      pub past : PastKept w stored (after_entry p event marks)
+      pub places : now.loop.up ≡ true → PlacesKept w stored (after_entry p event marks) now
       pub empty : now.loop.up ≡ false → IsEmpty w now
 
   -- It stands behind the step, where these are its marks.
@@ -88,6 +93,7 @@ module _ {B C I P R D H G U : Type 0} (w : Workings B C I P R D H G U) (stored :
         base_is = k.base_is;
         earned = k.earned;
         said = k.said;
+        places = k.in_place;
         due = k.due;
         opened = k.opened;
         committed = k.committed;
@@ -101,6 +107,8 @@ module _ {B C I P R D H G U : Type 0} (w : Workings B C I P R D H G U) (stored :
           up_is = k.up_is;
           up = λ up. (IsUpAt-marks w now [] stored next (after q now.marks) (k.up up).0, Quiet-marks w now [] (k.up up).1);
           down = k.down;
+          past = k.past;
+          places = λ up. kept-same w stored next (after q now.marks) now (record now { marks = [] }) refl refl (k.places up);
         };
         empty = k.empty;
       }
