@@ -159,3 +159,5 @@ pub mod PlacesFollows
 pub mod PlacesReleased
 pub mod LetGo
 pub mod PlacesSettled
+pub mod PlacesAlong
+pub mod PlacesOpened

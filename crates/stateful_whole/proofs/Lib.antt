@@ -17,3 +17,5 @@ pub mod HistoryReasons
 pub mod StillStands
 pub mod LeftFurther
 pub mod RefusedBehind
+pub mod WorkNamed
+pub mod WorkPlaces

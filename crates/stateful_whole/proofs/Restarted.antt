@@ -27,11 +27,15 @@ use Rattle.stateful_standing.specs.Storing.{IsStoredNow}
 use Rattle.stateful_keeping.specs.Down.{IsEnding}
 use Rattle.stateful_keeping.specs.EventBehind.{RestartedBehind}
 use Rattle.stateful_keeping.specs.Reasons.{HasItsReason}
+use Rattle.stateful_keeping.specs.Places.{IsInPlace, PastKept, PlacesKept}
 use Rattle.stateful_keeping.specs.Ways.{StoresHeights}
 use Rattle.stateful_keeping.proofs.EventRestarts.{event-restarts}
 use Rattle.stateful_keeping.proofs.GoesDown.{IsEmpty-cleared}
 use Rattle.stateful_keeping.proofs.Counting.{IsCounted-up}
 use Rattle.stateful_keeping.proofs.ReasonsStand.{reasons_stand-opens}
+use Rattle.stateful_keeping.proofs.PlacesCame.{past-kept-came}
+use Rattle.stateful_keeping.proofs.PlacesOpened.{kept-opens}
+use Rattle.stateful_keeping.proofs.PlacesPast.{past-kept}
 use Rattle.stateful_keeping.proofs.Restarting.{opening-ends, pruned-ends}
 use Rattle.stateful_processing.specs.Clearing.{IsCleared}
 use Rattle.stateful_processing.specs.Moments.{Moment}
@@ -45,10 +49,12 @@ use Rattle.stateful_whole.proofs.ReasonsEnd.{HasItsReason-ends}
 use Rattle.stateful_whole.proofs.StartRules.{IsCommittedTo-ends, PrunedIsDue-ends, PrunedIsDue-opened, EndsStopped-restart, StartsClean-ends, StopsClean-ends, OpenedIsStored-ends}
 use Rattle.stateful_whole.proofs.Stepping.{base-opened, StepBehind-of}
 use Rattle.stateful_whole.proofs.WorkEnds.{IsWorkEnd, EndsAll-ends, IsWorkEnd-ending, is_down-ends, opens-opened}
+use Rattle.stateful_whole.proofs.WorkNamed.{NamesWork, EndsAll-named}
+use Rattle.stateful_whole.proofs.WorkPlaces.{work-in_place, past-work}
 
 module _ {B C I P R D H G U : Type 0} (w : Workings B C I P R D H G U) (laws : Laws w.kind) (stored : ℕ → Option (Named B)) (base : w.States)
     (p : Past B C I) (stored_now : ℕ → Option (Named B)) (stored_is : IsStoredNow stored p stored_now) (heights : StoresHeights w.header stored)
-    (floor : Floor) (keep : List ℕ) (m now : Moment w) (s : CanRestartAt w p m) where
+    (floor : Floor) (keep : List ℕ) (m now : Moment w) (s : CanRestartAt w p m) (held : PastKept w stored p) where
   abbrev event : Event B C I
   event = Restart floor keep
 
@@ -95,6 +101,17 @@ module _ {B C I P R D H G U : Type 0} (w : Workings B C I P R D H G U) (laws : L
     each_restart Rule ends_over opens_here =
         subst (λ (ms : List (Mark B)). EachMark Rule q ms) (sym all_are) (EachMark-push Rule q over (Opened anchor) ends_over opens_here)
 
+    -- what is kept behind the restart, and each mark by which live work ends names live work
+    kept_first : PastKept w stored q
+    kept_first = past-kept-came w stored (numbered w.kind.count) p event refl held
+
+    named : EachMark NamesWork q over
+    named = EndsAll-named q over ends
+
+    placed : PlacesKept w stored (after q b.more) now
+    placed = subst (λ (r : Past B C I). PlacesKept w stored r now) (sym past_is)
+        (kept-opens w stored stored_now floor keep (after q over) mid now (past-work w stored q over named kept_first) nothing cleared.front.0 o)
+
     -- the block of the opening is the store's of the height that is opened
     is_stored : stored (reopened_height floor) ≡ Some o.block
     is_stored = kept (nat_lt (reopened_height floor) (pruned_below p)) (sym (stored_is (reopened_height floor)) ∙ o.is_stored)
@@ -118,6 +135,8 @@ module _ {B C I P R D H G U : Type 0} (w : Workings B C I P R D H G U) (laws : L
       reasons = λ trust. each_restart (HasItsReason w stored o.opening.at.1 event b.more)
           (HasItsReason-ends w stored o.opening.at.1 event b.more (inr (inl tt)) q over ends) (tt, tt);
       said = b.said;
+      in_place = each_restart (IsInPlace w stored o.opening.at.1) (work-in_place w stored o.opening.at.1 q over kept_first.past.gone named)
+          (tt, tt, tt, tt, tt);
       due = λ rule. each_restart (PrunedIsDue (setting w stored) rule) (PrunedIsDue-ends (setting w stored) rule q over ends_work)
           (PrunedIsDue-opened (setting w stored) rule (after q over) anchor);
       opened = each_restart (OpenedIsStored (setting w stored) event) (OpenedIsStored-ends (setting w stored) event q over ends_work) at_stored;
@@ -135,6 +154,8 @@ module _ {B C I P R D H G U : Type 0} (w : Workings B C I P R D H G U) (laws : L
       reasons_stand = λ up trust. reasons_stand-opens w laws stored o.opening.at.1 (after q b.more) stored_now floor keep mid now cleared.queue
           cleared.actions o;
       down = λ down. absurd (true≢false (sym b.up ∙ down));
+      past = past-kept w stored (after q b.more) now placed;
+      places = λ up. placed;
       empty = λ down. absurd (true≢false (sym b.up ∙ down));
     })
 

@@ -19,7 +19,9 @@ use Rattle.stateful_standing.specs.Storing.{IsStoredNow}
 use Rattle.stateful_keeping.specs.Down.{IsEmpty, IsCounted}
 use Rattle.stateful_keeping.specs.Durability.{IsDurablySaid}
 use Rattle.stateful_keeping.specs.Reasons.{IsTrusted, ReasonsStand, HasItsReason}
+use Rattle.stateful_keeping.specs.Places.{IsInPlace, PastKept, PlacesKept}
 use Rattle.stateful_keeping.specs.Stands.{IsUpAt}
+use Rattle.stateful_keeping.proofs.PlacesScheduled.{kept-same}
 use Rattle.stateful_processing.specs.Moments.{Moment}
 use Rattle.stateful_processing.specs.Rules.{Quiet}
 use Rattle.stateful_whole.specs.StepBehind.{IsCommittedTo, StepBehind}
@@ -67,6 +69,7 @@ module _ {B C I P R D H G U : Type 0} (w : Workings B C I P R D H G U) (stored :
       pub earned : EachMark (TrueIsEarned (setting w stored) next) (Came event ∷ p) marks
       pub reasons : IsTrusted w stored (after_entry p event marks) → EachMark (HasItsReason w stored next event marks) (Came event ∷ p) marks
       pub said : EachMark (IsDurablySaid w) (Came event ∷ p) marks
+      pub in_place : EachMark (IsInPlace w stored next) (Came event ∷ p) marks
       pub due : (rule : Option (PruneRule w.Targets)) → EachMark (PrunedIsDue (setting w stored) rule) (Came event ∷ p) marks
       pub opened : EachMark (OpenedIsStored (setting w stored) event) (Came event ∷ p) marks
       pub committed : All (IsCommittedTo w stored next) marks
@@ -81,6 +84,8 @@ module _ {B C I P R D H G U : Type 0} (w : Workings B C I P R D H G U) (stored :
       pub reasons_stand : now.loop.up ≡ true → IsTrusted w stored (after_entry p event marks)
           → ReasonsStand w stored (after_entry p event marks) next now
       pub down : now.loop.up ≡ false → NothingLive (after_entry p event marks)
+      pub past : PastKept w stored (after_entry p event marks)
+      pub places : now.loop.up ≡ true → PlacesKept w stored (after_entry p event marks) now
       pub empty : now.loop.up ≡ false → IsEmpty w now
 
   -- It stands behind the step, where these are its marks.
@@ -93,6 +98,7 @@ module _ {B C I P R D H G U : Type 0} (w : Workings B C I P R D H G U) (stored :
         earned = k.earned;
         reasons = k.reasons;
         said = k.said;
+        places = k.in_place;
         due = k.due;
         opened = k.opened;
         committed = k.committed;
@@ -108,6 +114,8 @@ module _ {B C I P R D H G U : Type 0} (w : Workings B C I P R D H G U) (stored :
           reasons = λ up trust. let r = k.reasons_stand up trust in
               record { queue = r.queue; actions = r.actions; gatherings = r.gatherings; reaches = r.reaches };
           down = k.down;
+          past = k.past;
+          places = λ up. kept-same w stored next (after q now.marks) now (record now { marks = [] }) refl refl (k.places up);
         };
         empty = k.empty;
       }

@@ -33,5 +33,6 @@ module _ {B C I P R D H G U : Type 0} (w : Workings B C I P R D H G U) (p : Past
   still-stands stored base failed now_failed register now_register unmarked fails registered s = record {
     registered = registered;
     restart = record { unmarked = unmarked; counted = counted-later s.restart.counted };
+    past = s.past;
     at = λ works. absurd (true≢false (sym fails ∙ works));
   }

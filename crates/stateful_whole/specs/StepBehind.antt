@@ -19,6 +19,7 @@ use Rattle.stateful_standing.specs.Setting.{setting}
 use Rattle.stateful_keeping.specs.Down.{IsEmpty}
 use Rattle.stateful_keeping.specs.Durability.{IsDurablySaid}
 use Rattle.stateful_keeping.specs.Reasons.{IsTrusted, HasItsReason}
+use Rattle.stateful_keeping.specs.Places.{IsInPlace}
 use Rattle.stateful_processing.specs.Moments.{Moment}
 use Rattle.stateful_whole.specs.Stands.{StandsAt, Stands}
 
@@ -37,8 +38,9 @@ module _ {B C I P R D H G U : Type 0} (w : Workings B C I P R D H G U)
     -- where it was opened, to which the store's block commits, and else those before. True verdicts
     -- among the marks are earned over them; false ones and declined proposals have their reasons,
     -- where the world is trusted; those of barriers and acknowledgements keep their rules, and so do
-    -- those of openings and stops; and nothing was pruned. The databases hold what was applied. The
-    -- machine stands for the past with the entry; where it is down nothing goes on.
+    -- those of openings and stops; each is in its place; and nothing was pruned. The databases hold
+    -- what was applied. The machine stands for the past with the entry; where it is down nothing goes
+    -- on.
     pub record StepBehind : Type 0 where
       pub base_behind : w.States
       pub base_is : base_behind ≡ base_after base now.marks (w.kind.point now.members)
@@ -46,6 +48,7 @@ module _ {B C I P R D H G U : Type 0} (w : Workings B C I P R D H G U)
       pub reasons : IsTrusted w stored (after_entry p event now.marks)
           → EachMark (HasItsReason w stored base_behind event now.marks) (Came event ∷ p) now.marks
       pub said : EachMark (IsDurablySaid w) (Came event ∷ p) now.marks
+      pub places : EachMark (IsInPlace w stored base_behind) (Came event ∷ p) now.marks
       pub due : (rule : Option (PruneRule w.Targets))
           → EachMark (PrunedIsDue (setting w stored) rule) (Came event ∷ p) now.marks
       pub opened : EachMark (OpenedIsStored (setting w stored) event) (Came event ∷ p) now.marks
