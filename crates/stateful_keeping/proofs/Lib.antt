@@ -144,3 +144,6 @@ pub mod SettledIntake
 pub mod VerifiedApart
 pub mod RunsCarried
 pub mod LoopCarried
+pub mod StatesKept
+pub mod AbstainsKept
+pub mod GoesRules
