@@ -147,3 +147,5 @@ pub mod LoopCarried
 pub mod StatesKept
 pub mod AbstainsKept
 pub mod GoesRules
+pub mod IntakeCarried
+pub mod GoesTakes
