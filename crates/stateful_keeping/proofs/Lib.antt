@@ -149,3 +149,4 @@ pub mod AbstainsKept
 pub mod GoesRules
 pub mod IntakeCarried
 pub mod GoesTakes
+pub mod HandsUp
