@@ -150,3 +150,4 @@ pub mod GoesRules
 pub mod IntakeCarried
 pub mod GoesTakes
 pub mod HandsUp
+pub mod HandsOpened
