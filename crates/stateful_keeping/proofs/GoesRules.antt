@@ -1,5 +1,5 @@
 -- Behind each rule of the loop live runs go on turning, and where nothing pauses each request that waits abstains.
-use Rattle.std.proofs.Common.{◌≡◌, ◌≤◌, ◌<◌, ◌++◌, inl, inr, ◌⊎◌, ℕ, List, [], ◌∷◌, map, All, Option, None, Some, get_or, refl, sym, ap, ◌∙◌, subst, arith}
+use Rattle.std.proofs.Common.{◌≡◌, ◌≤◌, ◌<◌, inl, inr, ◌⊎◌, ℕ, List, [], ◌∷◌, map, All, Option, None, Some, get_or, refl, sym, ap, ◌∙◌, subst, arith}
 use Rattle.std.proofs.lemmas.List.{append_cancel_left}
 use Rattle.std.proofs.lemmas.List.Elements.{All-weaker}
 use Rattle.stateful_types.specs.Names.{Named}
@@ -21,7 +21,6 @@ use Rattle.stateful_exec.specs.Workings.{Workings, Point}
 use Rattle.stateful_exec.specs.declared.front.Front.{Front}
 use Rattle.stateful_exec.specs.declared.front.Stage.{Stage}
 use Rattle.stateful_exec.specs.declared.front.Stage.TheVariants.{Begun, Running, Ran, Advanced, Hooking}
-use Rattle.stateful_exec.specs.declared.pause.Pause.{Pause}
 use Rattle.stateful_exec.specs.declared.pause.Pause.TheVariants.{Free, Finalizing}
 use Rattle.stateful_exec.specs.declared.request.Request.{Request}
 use Rattle.stateful_exec.specs.declared.state.Tables.{Tables}
@@ -31,13 +30,13 @@ use Rattle.stateful_exec.specs.declared.tables.Requested.{Requested}
 use Rattle.stateful_exec.specs.declared.walk.Acquired.TheVariants as acquired
 use Rattle.stateful_standing.specs.Fronting.{RunsTakeTurns}
 use Rattle.stateful_standing.specs.Outstanding.{GoesOnTurning, RunsGoOn}
-use Rattle.stateful_standing.specs.Requesting.{first_of, AllAbstain}
+use Rattle.stateful_standing.specs.Requesting.{first_of}
 use Rattle.stateful_standing.specs.Running.{IsRunning}
 use Rattle.stateful_standing.specs.Setting.{setting}
 use Rattle.stateful_standing.specs.Storing.{IsStoredNow}
 use Rattle.stateful_standing.proofs.EarnedCarried.{IsMild}
 use Rattle.stateful_standing.proofs.RunsKept.{turns-after}
-use Rattle.stateful_processing.specs.Moments.{Moment, inner}
+use Rattle.stateful_processing.specs.Moments.{Moment}
 use Rattle.stateful_processing.specs.Rules.{IsFinalizing, HasStates, AppliesBlock, Rule}
 use Rattle.stateful_processing.specs.declared.tables.Finalizing.{Finalizing as Finalizes}
 use Rattle.stateful_keeping.specs.Behind.{UpBehind}

@@ -1,5 +1,5 @@
 -- Behind each event that is taken in live runs go on turning, and where nothing pauses each request that waits abstains.
-use Rattle.std.proofs.Common.{◌≡◌, ◌≢◌, ◌≤◌, ◌<◌, ◌+◌, ◌++◌, ◌==◌, inl, inr, ◌⊎◌, option_map, ℕ, Bool, true, false, List, [], ◌∷◌, All, Option, None, Some, IfSome, get_or, refl, sym, ap, ◌∙◌, subst, arith}
+use Rattle.std.proofs.Common.{◌≡◌, ◌≢◌, ◌≤◌, ◌<◌, ◌+◌, ◌==◌, inl, inr, ◌⊎◌, option_map, ℕ, Bool, true, false, List, [], ◌∷◌, All, Option, None, Some, IfSome, get_or, refl, sym, ap, ◌∙◌, subst, arith}
 use Rattle.std.proofs.lemmas.Bool.{eqb-true, eq-eqb}
 use Rattle.std.proofs.lemmas.List.{append_cancel_left}
 use Rattle.std.proofs.lemmas.List.Elements.{All-weaker}
@@ -12,11 +12,9 @@ use Rattle.stateful_db.specs.Works.{run_of, Costs}
 use Rattle.stateful_history.specs.Asked.{asked_for}
 use Rattle.stateful_history.specs.Fetches.{Abstains}
 use Rattle.stateful_history.specs.Jobs.{JobOf, job_of, started_for, turns, IsLiveJob}
-use Rattle.stateful_history.specs.Live.{live_job, live_fetch, names_live}
+use Rattle.stateful_history.specs.Live.{live_job, names_live}
 use Rattle.stateful_history.specs.Met.{TrueNames}
 use Rattle.stateful_history.specs.Past.{Past, Came, after}
-use Rattle.stateful_history.specs.Setting.{parent_of}
-use Rattle.stateful_history.specs.States.{HasState}
 use Rattle.stateful_history.specs.Stops.{IsRestart}
 use Rattle.stateful_history.specs.declared.event.Event.{Event}
 use Rattle.stateful_history.specs.declared.event.Event.TheVariants as event
@@ -54,8 +52,7 @@ use Rattle.stateful_processing.specs.Intake as intake
 use Rattle.stateful_processing.specs.Intake.{Counts, Builds, Hooks, TurnsJob, TakesIn}
 use Rattle.stateful_processing.specs.Moments.{Moment, inner}
 use Rattle.stateful_keeping.specs.Execution.{Executes}
-use Rattle.stateful_keeping.specs.InHand.{NoneOpen, GoesOnAt}
-use Rattle.stateful_keeping.specs.Stands.{IsUpAt}
+use Rattle.stateful_keeping.specs.InHand.{GoesOnAt}
 use Rattle.stateful_keeping.specs.TakenBehind.{TakenBehind}
 use Rattle.stateful_keeping.proofs.AbstainsKept.{Abstains-mild, Abstains-came}
 use Rattle.stateful_keeping.proofs.ExecutesKept.{Executes-names}
@@ -127,7 +124,8 @@ module _ {B C I P R D H G U : Type 0} (w : Workings B C I P R D H G U) (stored :
       -- what the turn says of its cost
       turned-costs : Costs {T = Option U} Cost Pending (turns j p)
       turned-costs = turn.costs
-          (run_of finality.Candidate own.context (record { first = live.block; rest = own.parent ∷ [] }) own.own (x.points own.parent.digest) own.below)
+          (run_of finality.Candidate own.context (record { first = live.block; rest = own.parent ∷ [] }) own.own
+          (x.points own.parent.digest) own.below)
           (turns j p) x.point own.runs x.located
           (subst (λ (y : Point w). IsPoint y (x.points own.parent.digest ∷ own.below)) x.tables.at_anchor (Stacked-point w own.chain))
 
@@ -232,8 +230,8 @@ module _ {B C I P R D H G U : Type 0} (w : Workings B C I P R D H G U) (stored :
     goes_unturned : IsNoTurn e → GoesOnAt w stored base last now
     goes_unturned off = goes_of (OfRuns w m.execution.state.next_job OfRun OfWaiting m.execution.state.runs)
         (takes_carry w m.execution.state.next_job OfRun OfWaiting
-        (λ j b le. started-Goes w stored base p m x runs_cost last j b le (as_often j)) stored_now m.execution.state.anchor must counts m now e refl off
-        none_found takes)
+        (λ j b le. started-Goes w stored base p m x runs_cost last j b le (as_often j)) stored_now m.execution.state.anchor must counts m now e
+        refl off none_found takes)
         (λ mild k d l.
         let r = get_or m.execution.state.runs k d in
         Goes-kept w stored base p m x r.0 r.1 (x.tables.runs.each k d l) last names (keeps mild) (as_often r.0) (goes.runs k d l))

@@ -1,5 +1,5 @@
 -- Behind a whole event, but for a restart, all that is live is in hand, and goes on.
-use Rattle.std.proofs.Common.{◌≡◌, ◌++◌, ◌∷◌, [], ℕ, true, List, Option, refl, sym, ap, ◌∙◌, subst, append_assoc, append-nil}
+use Rattle.std.proofs.Common.{◌≡◌, ◌++◌, ◌∷◌, [], ℕ, true, List, Option, sym, ap, ◌∙◌, subst, append_assoc, append-nil}
 use Rattle.std.proofs.lemmas.List.{append_cancel_left}
 use Rattle.stateful_types.specs.Names.{Named}
 use Rattle.stateful_db.specs.Laws.{Laws}
@@ -57,7 +57,8 @@ module _ {B C I P R D H G U : Type 0} (w : Workings B C I P R D H G U) (stored :
     goes = subst (λ (q : Past B C I). GoesOnAt w stored base q now) (sym (after-append p more b.more)) b.goes;
   }
 
-  module _ (laws : Laws w.kind) (stored_now : ℕ → Option (Named B)) (provider : P) (runs_cost : RunsTakeTurns w) (builds_cost : BuildsTakeTurns w) where
+  module _ (laws : Laws w.kind) (stored_now : ℕ → Option (Named B)) (provider : P) (runs_cost : RunsTakeTurns w)
+      (builds_cost : BuildsTakeTurns w) where
     -- behind a rule
     pub hands-rule : (p : Past B C I) → IsStoredNow stored p stored_now → (m now : Moment w) → IsUpAt w stored base p m → AllInHand w p m
         → GoesOnAt w stored base p m → Rule w stored_now provider m now → UpBehind w stored base p m now → HandsBehind w stored base p m now

@@ -1,6 +1,6 @@
 -- Behind each event that is taken in a live candidate run was live before, or its number was drawn since; and where nothing pauses a
 -- request that waits waited before, or it was found that it has to.
-use Rattle.std.proofs.Common.{◌≡◌, ◌≢◌, ◌≤◌, ◌+◌, ◌++◌, ◌⊎◌, inl, inr, ℕ, List, [], ◌∷◌, All, Option, None, Some, Result, Ok, Err, get_or, refl, sym, ap, ◌∙◌, subst, append-nil, arith}
+use Rattle.std.proofs.Common.{◌≡◌, ◌≢◌, ◌≤◌, ◌+◌, ◌++◌, ◌⊎◌, inl, inr, ℕ, List, [], ◌∷◌, All, Option, None, Result, Ok, Err, refl, sym, ap, ◌∙◌, subst, append-nil, arith}
 use Rattle.std.proofs.lemmas.List.Elements.{All-nil, All-cons}
 use Rattle.stateful_types.specs.Names.{Named}
 use Rattle.stateful_types.specs.declared.anchor.Anchor.{Anchor}
@@ -10,7 +10,6 @@ use Rattle.stateful_types.specs.declared.outcome.Moved.{Moved}
 use Rattle.stateful_types.specs.declared.outcome.Moved.TheVariants.{Pending, Done}
 use Rattle.stateful_db.specs.declared.application.AppFault.{AppFault}
 use Rattle.stateful_db.specs.declared.application.ProposedBlock.{ProposedBlock}
-use Rattle.stateful_history.specs.Stops.{IsRestart}
 use Rattle.stateful_history.specs.declared.event.Event.{Event}
 use Rattle.stateful_history.specs.declared.event.Event.TheVariants as event
 use Rattle.stateful_history.specs.declared.mark.Decision.{Decision}
@@ -40,7 +39,7 @@ use Rattle.stateful_standing.proofs.Removing.{none_at}
 use Rattle.stateful_processing.specs.Intake as intake
 use Rattle.stateful_processing.specs.Intake.{Counts, Builds, Hooks, TurnsJob, TakesIn}
 use Rattle.stateful_processing.specs.Moments.{Moment, inner, with_inner}
-use Rattle.stateful_keeping.proofs.RunsCarried.{OfRuns, OfRequests, CarriesFrom, OfTurned, carries_still, carries_same, carries_steps, carries_gives_up, carries_fetched}
+use Rattle.stateful_keeping.proofs.RunsCarried.{OfRuns, OfRequests, CarriesFrom, OfTurned, carries_same, carries_steps, carries_gives_up, carries_fetched}
 use Rattle.stateful_keeping.proofs.SettledIntake.{crossed_free, pause_fetched}
 use Rattle.stateful_keeping.proofs.StepsLeave.{pause-steps}
 
@@ -144,7 +143,8 @@ module _ {B C I P R D H G U : Type 0} (w : Workings B C I P R D H G U) (first : 
     hooks count marks next (unhooked off is stays) = unmarked marks is
     hooks count marks next (hook_turned {b = b} {now = now} {answer = answer} live had settles) = by answer settles
       where
-        by : (answer : Result (Moved Unit) AppFault) → SettlesHook w j b now answer m.marks marks next → Turns_to (record (inner w m) { marks = marks })
+        by : (answer : Result (Moved Unit) AppFault) → SettlesHook w j b now answer m.marks marks next
+            → Turns_to (record (inner w m) { marks = marks })
         by (Ok Pending) is = unmarked marks is.0
         by (Ok (Done over)) is = marked marks (Ended j Hooked ∷ []) is.0 (one_mild (Ended j Hooked) tt)
         by (Err fault) is = absurd is
