@@ -161,3 +161,10 @@ pub mod LetGo
 pub mod PlacesSettled
 pub mod PlacesAlong
 pub mod PlacesOpened
+pub mod StatesKept
+pub mod AbstainsKept
+pub mod GoesRules
+pub mod IntakeCarried
+pub mod GoesTakes
+pub mod HandsUp
+pub mod HandsOpened

@@ -6,7 +6,7 @@ use Rattle.std.proofs.lemmas.List.Elements.{All-append, All-push, Contains-appen
 use Rattle.stateful_types.specs.Names.{Named}
 use Rattle.stateful_db.specs.Laws.{Laws}
 use Rattle.stateful_history.specs.Canonical.{pruned_below}
-use Rattle.stateful_history.specs.Live.{may_come}
+use Rattle.stateful_history.specs.Live.{names_live, may_come}
 use Rattle.stateful_history.specs.Met.{TrueNames}
 use Rattle.stateful_history.specs.Opening.{is_down, opens}
 use Rattle.stateful_history.specs.Past.{Past, Came, Made, EachMark, after, after_entry}
@@ -31,10 +31,14 @@ use Rattle.stateful_keeping.specs.EventBehind.{EventBehind, StoppedBehind}
 use Rattle.stateful_keeping.specs.Execution.{NamesBehind}
 use Rattle.stateful_keeping.specs.Reasons.{IsTrusted, ReasonsStand, HasItsReason, ReasonsUpBehind}
 use Rattle.stateful_keeping.specs.Places.{IsInPlace, PastKept, PlacesKept, PlacesBehind}
+use Rattle.stateful_keeping.specs.HandsBehind.{HandsBehind}
+use Rattle.stateful_keeping.specs.InHand.{VerifiedApart}
 use Rattle.stateful_keeping.specs.Ways.{StoresFinalized}
 use Rattle.stateful_keeping.proofs.Counting.{ends_stopped}
 use Rattle.stateful_keeping.proofs.EventDown.{event-down}
 use Rattle.stateful_keeping.proofs.EventUp.{event-up}
+use Rattle.stateful_keeping.proofs.HandsUp.{hands_at, hands-up}
+use Rattle.stateful_keeping.proofs.InHandOpened.{VerifiedApart-marks}
 use Rattle.stateful_keeping.proofs.NamesBehind.{NamesBehind-marks, NamesBehind-later}
 use Rattle.stateful_keeping.proofs.ReasonsUp.{reasons-up}
 use Rattle.stateful_keeping.proofs.PlacesAlong.{places-up}
@@ -43,6 +47,7 @@ use Rattle.stateful_keeping.proofs.Restarting.{pruned-ends}
 use Rattle.stateful_keeping.proofs.RuleItems.{is_down-after, pruned_below-after, opens-none}
 use Rattle.stateful_keeping.proofs.TakenIn.{may_come-live}
 use Rattle.stateful_keeping.proofs.Trusted.{IsTrusted-before, IsTrusted-before_marks}
+use Rattle.stateful_keeping.proofs.VerifiedApart.{VerifiedApart-came}
 use Rattle.stateful_processing.specs.Clearing.{IsCleared}
 use Rattle.stateful_processing.specs.Intake.{Counts, TakesIn}
 use Rattle.stateful_processing.specs.Intake as intake
@@ -110,6 +115,21 @@ module _ {B C I P R D H G U : Type 0} (w : Workings B C I P R D H G U) (laws : L
       (names_live-more (numbered w.kind.count) w.kind.count (numbered_le w.kind.count) p event
       (may_come-live (numbered w.kind.count) p event on may_come_is)) names stores a.takes a.settles.along
 
+  -- the event names what is live
+  names_live_is : names_live (numbered w.kind.count) p event ≡ true
+  names_live_is = may_come-live (numbered w.kind.count) p event on may_come_is
+
+  -- tickets are apart behind it, and behind marks
+  apart : (more : List (Mark B)) → VerifiedApart (after q more)
+  apart more = VerifiedApart-marks q more (VerifiedApart-came (numbered w.kind.count) p event names_live_is s.restart.apart)
+
+  -- all that is live is in hand behind it
+  hands : NamesBehind w stored base q m settled → HandsBehind w stored base q m settled
+  hands names =
+      hands-up w laws stored base p stored_now stored_is counts provider runs_cost builds_cost event m a.taken settled up (s.up up).1 (s.up up).0
+      (s.hands up).0 (s.hands up).1 on
+      (names_live-more (numbered w.kind.count) w.kind.count (numbered_le w.kind.count) p event names_live_is) names stores a.takes a.settles.along
+
   more_are : (more : List (Mark B)) (last : Moment w) → last.marks ≡ m.marks ++ more → more ≡ last.marks
   more_are more last is = sym (is ∙ ap (λ (ms : List (Mark B)). ms ++ more) s.restart.unmarked)
 
@@ -165,6 +185,8 @@ module _ {B C I P R D H G U : Type 0} (w : Workings B C I P R D H G U) (laws : L
         counted = b.counted;
         up = λ up. (b.up up, a.settles.quiet);
         reasons_stand = λ up trust. (reasons_of b.more b (reasons_behind b.more names_there b trust)).1;
+        apart = apart b.more;
+        hands = λ up. hands_at w stored base q m settled b.more b.marks_are (hands names_there);
         down = λ down. absurd (true≢false (sym still ∙ down));
         past = past-kept w stored (after q b.more) settled kept;
         places = λ up. kept;
@@ -304,6 +326,8 @@ module _ {B C I P R D H G U : Type 0} (w : Workings B C I P R D H G U) (laws : L
       counted = down.down.counted;
       up = λ up. absurd (true≢false (sym up ∙ down.down.empty.up));
       reasons_stand = λ up trust. absurd (true≢false (sym up ∙ down.down.empty.up));
+      apart = apart down.more;
+      hands = λ up. absurd (true≢false (sym up ∙ down.down.empty.up));
       down = λ is. down.down.nothing;
       past = subst (λ (r : Past B C I). PastKept w stored r) (sym last_is)
           (past-stopped w stored (after (after q b.more) over) (past-work w stored (after q b.more) over named kept_first));

@@ -7,6 +7,7 @@ use Rattle.stateful_types.specs.declared.anchor.Anchor.{Anchor}
 use Rattle.stateful_types.specs.declared.floor.Floor.{Floor}
 use Rattle.stateful_db.specs.Laws.{Laws}
 use Rattle.stateful_history.specs.Canonical.{pruned_below}
+use Rattle.stateful_history.specs.Live.{live_ticket}
 use Rattle.stateful_history.specs.Met.{TrueNames}
 use Rattle.stateful_history.specs.Opening.{is_down, opens}
 use Rattle.stateful_history.specs.Past.{Past, Came, Made, EachMark, after, after_entry}
@@ -24,7 +25,7 @@ use Rattle.stateful_register.specs.Register.{RegisterStands}
 use Rattle.stateful_register.specs.declared.register.Register.{Register}
 use Rattle.stateful_standing.specs.Setting.{setting}
 use Rattle.stateful_standing.specs.Storing.{IsStoredNow}
-use Rattle.stateful_keeping.specs.Down.{IsEnding}
+use Rattle.stateful_keeping.specs.Down.{IsEnding, IsEmpty}
 use Rattle.stateful_keeping.specs.EventBehind.{RestartedBehind}
 use Rattle.stateful_keeping.specs.Reasons.{HasItsReason}
 use Rattle.stateful_keeping.specs.Places.{IsInPlace, PastKept, PlacesKept}
@@ -36,7 +37,10 @@ use Rattle.stateful_keeping.proofs.ReasonsStand.{reasons_stand-opens}
 use Rattle.stateful_keeping.proofs.PlacesCame.{past-kept-came}
 use Rattle.stateful_keeping.proofs.PlacesOpened.{kept-opens}
 use Rattle.stateful_keeping.proofs.PlacesPast.{past-kept}
+use Rattle.stateful_keeping.proofs.HandsOpened.{hands-opens, goes-opens}
+use Rattle.stateful_keeping.proofs.InHandOpened.{VerifiedApart-marks}
 use Rattle.stateful_keeping.proofs.Restarting.{opening-ends, pruned-ends}
+use Rattle.stateful_keeping.proofs.VerifiedApart.{VerifiedApart-came}
 use Rattle.stateful_processing.specs.Clearing.{IsCleared}
 use Rattle.stateful_processing.specs.Moments.{Moment}
 use Rattle.stateful_processing.specs.Opening.{Opens}
@@ -89,6 +93,12 @@ module _ {B C I P R D H G U : Type 0} (w : Workings B C I P R D H G U) (laws : L
 
     past_is : after q b.more ≡ Made (Opened anchor) ∷ after q over
     past_is = ap (λ (ms : List (Mark B)). after q ms) all_are ∙ after-push q over (Opened anchor)
+
+    empty : IsEmpty w mid
+    empty = IsEmpty-cleared w _ mid cleared
+
+    none_live : (t : ℕ) → live_ticket t (after q b.more) ≡ None
+    none_live t = ap (λ (r : Past B C I). live_ticket t r) past_is ∙ nothing.tickets t
 
     down_is : is_down (after q b.more) ≡ false
     down_is = ap (λ (r : Past B C I). is_down r) past_is ∙ is_down-ends q over ends_work
@@ -150,9 +160,14 @@ module _ {B C I P R D H G U : Type 0} (w : Workings B C I P R D H G U) (laws : L
       pruned = none_prunes;
       up_is = b.up ∙ ap (λ d. not d) (sym down_is);
       counted = IsCounted-up w stored o.opening.at.1 (after q b.more) now b.stands;
-      up = λ up. (b.stands, opens-quiet w stored_now floor keep mid now (IsEmpty-cleared w _ mid cleared) o);
+      up = λ up. (b.stands, opens-quiet w stored_now floor keep mid now empty o);
       reasons_stand = λ up trust. reasons_stand-opens w laws stored o.opening.at.1 (after q b.more) stored_now floor keep mid now cleared.queue
           cleared.actions o;
+      apart = VerifiedApart-marks q b.more (VerifiedApart-came (numbered w.kind.count) p event refl s.apart);
+      hands = λ up. (
+        hands-opens w stored_now floor keep mid now o (after q b.more) empty none_live,
+        goes-opens w stored_now floor keep mid now o (after q b.more) stored o.opening.at.1,
+      );
       down = λ down. absurd (true≢false (sym b.up ∙ down));
       past = past-kept w stored (after q b.more) now placed;
       places = λ up. placed;
