@@ -168,3 +168,9 @@ pub mod IntakeCarried
 pub mod GoesTakes
 pub mod HandsUp
 pub mod HandsOpened
+pub mod Reaching
+pub mod MediaChanges
+pub mod MediaKept
+pub mod MediaRules
+pub mod MediaAlong
+pub mod MediaOpens
