@@ -26,9 +26,7 @@ use Rattle.stateful_keeping.specs.Stands.{IsUpAt}
 use Rattle.stateful_keeping.specs.TakenBehind.{TakenBehind}
 use Rattle.stateful_keeping.specs.Ways.{StoresFinalized}
 use Rattle.stateful_keeping.proofs.AlongUp.{along-up, rule_is_up}
-use Rattle.stateful_keeping.proofs.EventUp.{names-taken}
 use Rattle.stateful_keeping.proofs.ExecutesApplies.{over_begun}
-use Rattle.stateful_keeping.proofs.MarksOfRules.{taken_in_marks}
 use Rattle.stateful_keeping.proofs.MediaKept.{KeepsReopenable-preserved}
 use Rattle.stateful_keeping.proofs.MediaRules.{rule-media, taken-media}
 use Rattle.stateful_keeping.proofs.Reaching.{CanReopen-came, CanReopen-after}

@@ -1,12 +1,9 @@
 -- What each rule of the loop, and each event that is taken in, changes of the databases.
-use Rattle.std.proofs.Common.{◌≡◌, ◌⊎◌, ◌++◌, ◌∷◌, [], inl, inr, ℕ, Bool, false, List, Option, refl, sym, ap, ◌∙◌}
+use Rattle.std.proofs.Common.{◌≡◌, ◌++◌, ◌∷◌, [], ℕ, Bool, false, List, Option, refl, ap, ◌∙◌}
 use Rattle.stateful_types.specs.Names.{Named}
-use Rattle.stateful_types.specs.declared.anchor.Anchor.{Anchor}
 use Rattle.stateful_db.specs.declared.application.Hooked.{Hooked}
 use Rattle.stateful_db.specs.declared.application.Hooked.TheVariants as hooked
-use Rattle.stateful_db.specs.declared.barrier.Flushed.{Flushed}
 use Rattle.stateful_db.specs.declared.barrier.Flushed.TheVariants.{Good, Interrupted}
-use Rattle.stateful_history.specs.Stops.{IsRestart}
 use Rattle.stateful_history.specs.declared.event.Event.{Event}
 use Rattle.stateful_history.specs.declared.mark.Mark.{Mark}
 use Rattle.stateful_history.specs.declared.mark.Mark.TheVariants.{BarrierDone}
@@ -21,7 +18,7 @@ use Rattle.stateful_processing.proofs.SoundingTurns.{gives_up_anchor, builds_sta
 use Rattle.stateful_processing.proofs.Staying.{Stays, Acquires-stays, Resumes-stays}
 use Rattle.stateful_processing.specs.Intake.{Counts, TurnsJob, build, hook, run, TakesIn, enters, cancels, fetched, turns, flushes, stops, progresses, restarts}
 use Rattle.stateful_processing.specs.Moments.{Moment, inner, with_inner}
-use Rattle.stateful_processing.specs.Rules.{Schedules, Builds, starts, declines, BeginsFinalization, DoesMessage, schedules, answers, acknowledges, holds, begins, AppliesBlock, ObservesBlock, IsFinalizing, HasStates, Takes, of_action, of_message, Rule, collects, puts_off, runs, applies, covers, observes, ends, breaks, completes, builds, takes}
+use Rattle.stateful_processing.specs.Rules.{Schedules, Builds, starts, declines, BeginsFinalization, DoesMessage, schedules, answers, acknowledges, holds, begins, AppliesBlock, IsFinalizing, HasStates, Takes, of_action, of_message, Rule, collects, puts_off, runs, applies, covers, observes, ends, breaks, completes, builds, takes}
 use Rattle.stateful_processing.specs.declared.barriers.Active.{Active}
 use Rattle.stateful_processing.specs.declared.message.Message.{Message}
 use Rattle.stateful_processing.specs.declared.tables.Finalizing.{Finalizing}

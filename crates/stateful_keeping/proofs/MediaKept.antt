@@ -1,14 +1,12 @@
 -- What the media keep is kept by databases that keep their checkpoints, behind an apply, and at an opening.
-use Rattle.std.proofs.Common.{◌≡◌, ◌≤◌, ◌<◌, ◌+◌, ◌-◌, ⊎_elim, inl, inr, ℕ, List, [], ◌∷◌, length, Option, Some, refl, sym, ap, ◌∙◌, subst, arith}
+use Rattle.std.proofs.Common.{◌≡◌, ◌≤◌, ◌<◌, ◌+◌, ⊎_elim, ℕ, Option, Some, sym, ◌∙◌, subst, arith}
 use Rattle.std.proofs.lemmas.Bool.{cases_lt}
 use Rattle.stateful_types.specs.Anchor.{anchor_by}
 use Rattle.stateful_types.specs.Names.{Named}
 use Rattle.stateful_types.specs.declared.anchor.Anchor.{Anchor}
 use Rattle.stateful_db.specs.Databases.{Databases, Preserves, IsOpening}
 use Rattle.stateful_db.specs.Laws.{Laws}
-use Rattle.stateful_history.specs.Anchors.{applied}
 use Rattle.stateful_history.specs.Durable.{durable}
-use Rattle.stateful_history.specs.Opening.{opening}
 use Rattle.stateful_history.specs.Past.{Past}
 use Rattle.stateful_exec.specs.Workings.{Workings, Point}
 use Rattle.stateful_standing.specs.Setting.{setting}

@@ -1,5 +1,5 @@
 -- What the media keep is kept where the databases are opened, and where they aren't; and what keeps them from being opened.
-use Rattle.std.proofs.Common.{◌≡◌, ◌≤◌, ◌<◌, ◌^◌, ◌⊎◌, ◌∷◌, [], inl, inr, ℕ, List, All, Option, Some, None, refl, sym, ap, ◌∙◌, subst, arith}
+use Rattle.std.proofs.Common.{◌≡◌, ◌≤◌, ◌<◌, ◌^◌, ◌⊎◌, ◌∷◌, inl, inr, ℕ, List, All, Option, Some, None, refl, sym, ap, ◌∙◌, subst, arith}
 use Rattle.stateful_types.specs.Anchor.{anchor_by}
 use Rattle.stateful_types.specs.Causes.{Rose}
 use Rattle.stateful_types.specs.Names.{Named}
@@ -22,7 +22,7 @@ use Rattle.stateful_processing.specs.Opening.{Opens, FailsToOpen, FaultsOpening}
 use Rattle.stateful_processing.specs.declared.error.StepError.{StepError}
 use Rattle.stateful_processing.specs.declared.error.StepError.TheVariants.{Database, TargetMismatch, MissingBlock, OutOfMemory}
 use Rattle.stateful_keeping.specs.Down.{IsEnding}
-use Rattle.stateful_keeping.specs.Media.{KeepsAt, KeepsDurably, targets_of, TargetsRise, KeepsReopenable, MediaKept}
+use Rattle.stateful_keeping.specs.Media.{KeepsDurably, targets_of, TargetsRise, KeepsReopenable, MediaKept}
 use Rattle.stateful_keeping.specs.Ways.{StoresHeights}
 use Rattle.stateful_keeping.proofs.ExecutesOpens.{handed}
 use Rattle.stateful_keeping.proofs.MediaKept.{KeepsHeights-opened}

@@ -1,17 +1,16 @@
 -- What the media keep is kept behind each rule of the loop, and behind each event that is taken in.
-use Rattle.std.proofs.Common.{◌≡◌, ◌≤◌, ◌<◌, ◌⊎◌, ◌++◌, ◌∷◌, [], inl, inr, ℕ, true, false, List, All, Option, Some, None, refl, sym, ap, ◌∙◌, subst, arith}
+use Rattle.std.proofs.Common.{◌≡◌, ◌≤◌, ◌⊎◌, ◌∷◌, [], inl, inr, ℕ, true, false, List, All, Option, Some, None, sym, ap, ◌∙◌, subst, arith}
 use Rattle.std.proofs.lemmas.List.{append_cancel_left}
 use Rattle.stateful_types.specs.Anchor.{anchor_by}
 use Rattle.stateful_types.specs.Names.{Named}
 use Rattle.stateful_types.specs.declared.anchor.Anchor.{Anchor}
-use Rattle.stateful_types.specs.declared.digest.Digest.{Digest}
 use Rattle.stateful_db.specs.Databases.{Preserves}
 use Rattle.stateful_db.specs.Laws.{Laws}
 use Rattle.stateful_durability.specs.Durability.{Coverage}
 use Rattle.stateful_history.specs.Durable.{durable}
 use Rattle.stateful_history.specs.Opening.{opening}
 use Rattle.stateful_history.specs.Past.{Past, Came, Made, EachMark, after}
-use Rattle.stateful_history.specs.Restarts.{WasReached, CanReopen}
+use Rattle.stateful_history.specs.Restarts.{WasReached}
 use Rattle.stateful_history.specs.Stops.{IsRestart}
 use Rattle.stateful_history.specs.declared.event.Event.{Event}
 use Rattle.stateful_history.specs.declared.mark.Mark.{Mark}
@@ -23,7 +22,6 @@ use Rattle.stateful_processing.proofs.Leaving.{Preserves-same}
 use Rattle.stateful_processing.specs.Intake.{Counts, TakesIn}
 use Rattle.stateful_processing.specs.Moments.{Moment}
 use Rattle.stateful_processing.specs.Rules.{IsFinalizing, HasStates, AppliesBlock, Rule}
-use Rattle.stateful_processing.specs.declared.barriers.Active.{Active}
 use Rattle.stateful_processing.specs.declared.tables.Finalizing.{Finalizing}
 use Rattle.stateful_keeping.specs.Behind.{UpBehind}
 use Rattle.stateful_keeping.specs.Durability.{IsDurablySaid}
@@ -36,7 +34,7 @@ use Rattle.stateful_keeping.proofs.AnchorStands.{Executes-anchor}
 use Rattle.stateful_keeping.proofs.AppliedFurther.{front-child}
 use Rattle.stateful_keeping.proofs.ExecutesApplies.{IsAppliedBehind, Executes-applies, over_begun}
 use Rattle.stateful_keeping.proofs.ExecutesOpens.{stored-Met}
-use Rattle.stateful_keeping.proofs.MediaChanges.{IsStill, RuleChanges, still, barrier, applied_one, broke_one, rule-changes, HasSameHeights, TakenChanges, same, flushed_one, taken-changes}
+use Rattle.stateful_keeping.proofs.MediaChanges.{RuleChanges, still, barrier, applied_one, broke_one, rule-changes, HasSameHeights, TakenChanges, same, flushed_one, taken-changes}
 use Rattle.stateful_keeping.proofs.MediaKept.{KeepsDurably-preserved, KeepsHeights-preserved, KeepsHeights-applied, KeepsDurably-height}
 use Rattle.stateful_keeping.proofs.Reaching.{unopened-none, reached-came, opening-came, reached-after}
 use Rattle.stateful_keeping.proofs.RuleItems.{opening-after}
