@@ -147,3 +147,5 @@ pub mod LetGo
 pub mod PlacesSettled
 pub mod PlacesAlong
 pub mod PlacesOpened
+pub mod Unruled
+pub mod DulyRules
