@@ -149,3 +149,4 @@ pub mod PlacesAlong
 pub mod PlacesOpened
 pub mod Unruled
 pub mod DulyRules
+pub mod DulyTurned
