@@ -150,3 +150,5 @@ pub mod PlacesOpened
 pub mod Unruled
 pub mod DulyRules
 pub mod DulyTurned
+pub mod DulyTaken
+pub mod DulyAlong
