@@ -15,3 +15,4 @@ pub mod HistoryStands
 pub mod StillStands
 pub mod WorkNamed
 pub mod WorkPlaces
+pub mod WorkDuly

@@ -5,9 +5,10 @@ use Rattle.stateful_history.specs.Canonical.{pruned_below}
 use Rattle.stateful_history.specs.Holding.{Holds}
 use Rattle.stateful_history.specs.Joined.{TrueIsEarned}
 use Rattle.stateful_history.specs.Opening.{base_after}
-use Rattle.stateful_history.specs.Past.{Past, Came, EachMark, after_entry}
+use Rattle.stateful_history.specs.Past.{Past, Came, EachMark, EachNext, after_entry}
 use Rattle.stateful_history.specs.Prunes.{PruneRule, PrunedIsDue}
 use Rattle.stateful_history.specs.Restarts.{OpenedIsStored}
+use Rattle.stateful_history.specs.Runs.{BuildIsAnswered}
 use Rattle.stateful_history.specs.Stops.{StopsClean, StartsClean, EndsStopped}
 use Rattle.stateful_history.specs.declared.entry.Entry.{Entry}
 use Rattle.stateful_history.specs.declared.event.Event.{Event}
@@ -17,6 +18,7 @@ use Rattle.stateful_exec.specs.Workings.{Workings}
 use Rattle.stateful_register.specs.declared.register.Register.{Register}
 use Rattle.stateful_standing.specs.Setting.{setting}
 use Rattle.stateful_keeping.specs.Down.{IsEmpty}
+use Rattle.stateful_keeping.specs.Duly.{IsDulySaid}
 use Rattle.stateful_keeping.specs.Durability.{IsDurablySaid}
 use Rattle.stateful_keeping.specs.Places.{IsInPlace}
 use Rattle.stateful_processing.specs.Moments.{Moment}
@@ -35,8 +37,9 @@ module _ {B C I P R D H G U : Type 0} (w : Workings B C I P R D H G U)
   module _ (base : w.States) (p : Past B C I) (event : Event B C I) (now : Moment w) where
     -- Behind an event and its marks the history is based on these states: what the databases hold,
     -- where it was opened, to which the store's block commits, and else those before. True verdicts among the marks are earned over them;
-    -- those of barriers and acknowledgements keep their rules, and so do those of openings and stops;
-    -- each is in its place; and nothing was pruned. The databases hold what was applied. The machine stands for the past
+    -- those of barriers and acknowledgements keep their rules, and so do those of openings and stops,
+    -- of jobs, answers to builds, withdrawn fetches and finalizations; each is in its place; and
+    -- nothing was pruned. The databases hold what was applied. The machine stands for the past
     -- with the entry; where it is down nothing goes on.
     pub record StepBehind : Type 0 where
       pub base_behind : w.States
@@ -44,6 +47,8 @@ module _ {B C I P R D H G U : Type 0} (w : Workings B C I P R D H G U)
       pub earned : EachMark (TrueIsEarned (setting w stored) base_behind) (Came event ∷ p) now.marks
       pub said : EachMark (IsDurablySaid w) (Came event ∷ p) now.marks
       pub places : EachMark (IsInPlace w stored base_behind) (Came event ∷ p) now.marks
+      pub duly : EachMark (IsDulySaid w stored base_behind event now.marks) (Came event ∷ p) now.marks
+      pub builds : EachNext BuildIsAnswered (Came event ∷ p) now.marks
       pub due : (rule : Option (PruneRule w.Targets))
           → EachMark (PrunedIsDue (setting w stored) rule) (Came event ∷ p) now.marks
       pub opened : EachMark (OpenedIsStored (setting w stored) event) (Came event ∷ p) now.marks
