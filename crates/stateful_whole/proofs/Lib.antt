@@ -16,3 +16,4 @@ pub mod StillStands
 pub mod WorkNamed
 pub mod WorkPlaces
 pub mod WorkDuly
+pub mod EntryRules
