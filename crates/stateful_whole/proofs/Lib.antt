@@ -17,3 +17,4 @@ pub mod WorkNamed
 pub mod WorkPlaces
 pub mod WorkDuly
 pub mod EntryRules
+pub mod WantedRuns
