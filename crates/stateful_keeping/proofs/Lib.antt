@@ -168,3 +168,8 @@ pub mod IntakeCarried
 pub mod GoesTakes
 pub mod HandsUp
 pub mod HandsOpened
+pub mod Unruled
+pub mod DulyRules
+pub mod DulyTurned
+pub mod DulyTaken
+pub mod DulyAlong

@@ -19,3 +19,6 @@ pub mod LeftFurther
 pub mod RefusedBehind
 pub mod WorkNamed
 pub mod WorkPlaces
+pub mod WorkDuly
+pub mod EntryRules
+pub mod WantedRuns
