@@ -1,7 +1,7 @@
 -- The requests that waited for a run follow its end in turn, once the anchor has moved on: what a rule on marks and what stays are
 -- carried by from one to the next.
-use Rattle.std.proofs.Common.{◌≡◌, ◌≢◌, ◌++◌, ℕ, suc, get_or, List, [], ◌∷◌, All, AllPairs, Option, Some, Ok, inr, refl, sym, ◌∙◌, subst, arith}
-use Rattle.std.proofs.lemmas.List.{append_assoc, append_cancel_left}
+use Rattle.std.proofs.Common.{◌≡◌, ◌≢◌, ◌++◌, ℕ, suc, get_or, List, [], ◌∷◌, All, AllPairs, Option, Some, inr, refl, sym, ◌∙◌, subst, arith}
+use Rattle.std.proofs.lemmas.List.{append_cancel_left}
 use Rattle.std.proofs.lemmas.List.Elements.{All-head, All-tail}
 use Rattle.stateful_types.specs.Names.{Named}
 use Rattle.stateful_types.specs.declared.anchor.Anchor.{Anchor}
@@ -16,7 +16,7 @@ use Rattle.stateful_history.specs.declared.mark.Mark.{Mark}
 use Rattle.stateful_history.specs.declared.mark.Mark.TheVariants.{Ended}
 use Rattle.stateful_cache.specs.declared.cache.Cached.{Cached}
 use Rattle.stateful_table.specs.Table.{at, put, without}
-use Rattle.stateful_exec.specs.Ending.{released, IsTold, EndsRun, TurnsRun, Turns, InTurn, Follows}
+use Rattle.stateful_exec.specs.Ending.{released, IsTold, EndsRun, Turns, InTurn, Follows}
 use Rattle.stateful_exec.specs.Moments.{Moment, moment}
 use Rattle.stateful_exec.specs.Phase.{released_on}
 use Rattle.stateful_exec.specs.Workings.{Workings, Point}
@@ -39,10 +39,9 @@ use Rattle.stateful_standing.proofs.FollowStands.{ticket_of, Serves-follows}
 use Rattle.stateful_standing.proofs.InTurn.{IsReady}
 use Rattle.stateful_standing.proofs.KeptInTurn.{IsCarried, IsCarried-served}
 use Rattle.stateful_standing.proofs.KeptMarks.{KeepsBehind, KeepsReady, KeepsReady-in_turn, EachMark-behind}
-use Rattle.stateful_standing.proofs.MovedStands.{TablesStand-free, HasMoved-ended, IsReleasedFrom-moved}
+use Rattle.stateful_standing.proofs.MovedStands.{TablesStand-free}
 use Rattle.stateful_standing.proofs.ReasonEnded.{HasEnded, HasEnded-told}
 use Rattle.stateful_standing.proofs.ReasonFollowed.{HasEnded-same, HasWaited, HasWaited-same}
-use Rattle.stateful_standing.proofs.ReasonGround.{round_of_top}
 use Rattle.stateful_standing.proofs.ReasonSettled.{IsSamePast-turned}
 use Rattle.stateful_standing.proofs.Served.{Serves}
 use Rattle.stateful_standing.proofs.WaysKept.{IsUnsettled-same}

@@ -20,7 +20,7 @@ use Rattle.stateful_standing.specs.Building.{BuildsTakeTurns}
 use Rattle.stateful_standing.specs.Fronting.{RunsTakeTurns}
 use Rattle.stateful_standing.specs.Setting.{setting}
 use Rattle.stateful_standing.specs.Storing.{IsStoredNow}
-use Rattle.stateful_standing.proofs.AnchorMoves.{IsApplied, IsApplied-moves}
+use Rattle.stateful_standing.proofs.AnchorMoves.{IsApplied, IsAppliedOver-moves}
 use Rattle.stateful_processing.specs.Intake.{Counts, TakesIn}
 use Rattle.stateful_processing.specs.Left.{KeepsStates, LeavesApply, LeavesRule, keeps, applying}
 use Rattle.stateful_processing.specs.Moments.{Moment}
@@ -75,8 +75,9 @@ module _ {B C I P R D H G U : Type 0} (w : Workings B C I P R D H G U) (laws : L
     in_part tickets f fin states left =
         let o = over_begun w stored base q m f.block e states in
         let a : IsApplied w stored q e.point m.next f.block left.state left.batch =
-        IsApplied-moves w stored q e.points e.point m.next m.execution.state left.state e.tables o.paused.boundary o.paused.pause_is o.paused.ground.names
-        o.paused.finalizes o.retained f.block o.begun m.members m.execution.front left.front e.fronts left.batch left.captured left.moves in
+        (IsAppliedOver-moves w stored q e.points e.point m.next m.execution.state left.state e.tables o.paused.boundary o.paused.pause_is
+        o.paused.ground.names o.paused.finalizes o.retained f.block o.begun m.members m.execution.front left.front e.fronts left.batch left.captured
+        left.moves).applied in
         of a (left.states e.point (a.points f.block.digest) a.rest e.located a.shows i)
       where
         of : (a : IsApplied w stored q e.point m.next f.block left.state left.batch)

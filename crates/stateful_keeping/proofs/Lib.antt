@@ -159,3 +159,12 @@ pub mod PlacesFollows
 pub mod PlacesReleased
 pub mod LetGo
 pub mod PlacesSettled
+pub mod PlacesAlong
+pub mod PlacesOpened
+pub mod StatesKept
+pub mod AbstainsKept
+pub mod GoesRules
+pub mod IntakeCarried
+pub mod GoesTakes
+pub mod HandsUp
+pub mod HandsOpened

@@ -1,5 +1,5 @@
 -- What was gathered stays linked, and the parents of queued proposals known or lost, behind an event that is taken in.
-use Rattle.std.proofs.Common.{◌≡◌, ◌++◌, ◌∷◌, [], inl, inr, ℕ, true, List, Option, Some, None, Result, Ok, Err, All, refl, sym, ap, ◌∙◌, subst, append-nil}
+use Rattle.std.proofs.Common.{◌≡◌, ◌++◌, ◌∷◌, [], ℕ, true, List, Option, None, Result, Ok, Err, sym, ap, ◌∙◌, subst, append-nil}
 use Rattle.std.proofs.lemmas.List.Elements.{All-cons}
 use Rattle.stateful_types.specs.Names.{Named}
 use Rattle.stateful_types.specs.declared.outcome.Handoff.{Handoff}
@@ -38,7 +38,7 @@ use Rattle.stateful_keeping.specs.Execution.{Executes, IsPlaced, IsFree, NamesBe
 use Rattle.stateful_keeping.specs.Reasons.{IsTrusted}
 use Rattle.stateful_keeping.specs.Stands.{IsUpAt}
 use Rattle.stateful_keeping.proofs.LinkedRules.{TablesLinkedBehind, AreStill, one_still, none_still}
-use Rattle.stateful_keeping.proofs.LinkedRun.{StaysLinked-turn, StaysLinked-run}
+use Rattle.stateful_keeping.proofs.LinkedRun.{StaysLinked-run}
 use Rattle.stateful_keeping.proofs.Places.{fetches-free}
 use Rattle.stateful_keeping.proofs.RoundsLater.{front-finalized}
 use Rattle.stateful_keeping.proofs.Trusted.{IsTrusted-before}

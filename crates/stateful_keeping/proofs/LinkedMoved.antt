@@ -1,5 +1,5 @@
 -- What was gathered stays linked, and the parents of queued proposals known or lost, behind the end of a run once the anchor has moved on.
-use Rattle.std.proofs.Common.{◌≡◌, ◌++◌, inr, ℕ, List, [], ◌∷◌, All, Option, Some, Ok, refl, sym, ◌∙◌, subst}
+use Rattle.std.proofs.Common.{◌≡◌, inr, ℕ, List, [], ◌∷◌, All, Option, Some, Ok, refl, sym, ◌∙◌, subst}
 use Rattle.std.proofs.lemmas.List.{append_assoc}
 use Rattle.std.proofs.lemmas.List.Elements.{All-head}
 use Rattle.stateful_types.specs.Names.{Named}

@@ -1,6 +1,5 @@
 -- What was gathered stays linked, and the parents of queued proposals known or lost, behind each rule of the loop.
-use Rattle.std.proofs.Common.{◌≡◌, ◌<◌, ◌++◌, ◌∷◌, [], ℕ, Bool, List, Option, None, Some, All, map, get_or, refl, sym, ap, ◌∙◌, subst, append-nil, arith}
-use Rattle.std.proofs.lemmas.List.{append_cancel_left}
+use Rattle.std.proofs.Common.{◌≡◌, ◌<◌, ◌++◌, ◌∷◌, [], ℕ, Bool, List, Option, None, Some, All, map, refl, sym, ap, ◌∙◌, subst, append-nil, arith}
 use Rattle.std.proofs.lemmas.List.Elements.{All-nil, All-cons, All-head}
 use Rattle.stateful_types.specs.Names.{Named}
 use Rattle.stateful_db.specs.Laws.{Laws}
@@ -13,7 +12,6 @@ use Rattle.stateful_history.specs.declared.event.Event.TheVariants.{Stop}
 use Rattle.stateful_history.specs.declared.mark.Mark.{Mark}
 use Rattle.stateful_history.specs.declared.mark.Mark.TheVariants as mark
 use Rattle.stateful_exec.specs.Finalizing.{front_at, HooksOn}
-use Rattle.stateful_exec.specs.Phase.{unacquired_in}
 use Rattle.stateful_exec.specs.Request.{ticket_by}
 use Rattle.stateful_exec.specs.Rules.{requested}
 use Rattle.stateful_exec.specs.Workings.{Workings}
@@ -38,10 +36,9 @@ use Rattle.stateful_standing.proofs.LinkedTurned.{LinkedBehind}
 use Rattle.stateful_standing.proofs.MovedStands.{TablesStand-free}
 use Rattle.stateful_standing.proofs.QueueServed.{queue-met}
 use Rattle.stateful_standing.proofs.ServedMarks.{acquires-marks}
-use Rattle.stateful_processing.specs.Moments.{Moment, Executing, inner, with_inner, with_loop}
-use Rattle.stateful_processing.specs.Rules.{acknowledged, Schedules, Builds, starts, declines, BeginsBarrier, BeginsFinalization, EndsFinalization, DoesMessage, schedules, answers, acknowledges, holds, begins, Takes, Rule}
+use Rattle.stateful_processing.specs.Moments.{Moment, Executing, inner, with_loop}
+use Rattle.stateful_processing.specs.Rules.{acknowledged, Schedules, Builds, starts, declines, BeginsBarrier, BeginsFinalization, EndsFinalization, DoesMessage, schedules, answers, acknowledges, holds, begins, Rule}
 use Rattle.stateful_processing.specs.Rules as rule
-use Rattle.stateful_processing.specs.declared.message.Action.TheVariants as action
 use Rattle.stateful_processing.specs.declared.message.Message.{Message}
 use Rattle.stateful_processing.specs.declared.message.Message.TheVariants as message
 use Rattle.stateful_processing.specs.declared.tables.Finalizing.{Finalizing}
@@ -49,7 +46,6 @@ use Rattle.stateful_keeping.specs.Execution.{Executes, IsPlaced, IsFree, HasMove
 use Rattle.stateful_keeping.specs.Reasons.{MessageIsLinked, IsTrusted}
 use Rattle.stateful_keeping.specs.Stands.{IsUpAt}
 use Rattle.stateful_keeping.specs.Tickets.{MessageStands}
-use Rattle.stateful_keeping.specs.Ways.{WaysKept}
 use Rattle.stateful_keeping.proofs.Acknowledging.{finalized-Met}
 use Rattle.stateful_keeping.proofs.AnchorStands.{Executes-takes, idle-front}
 use Rattle.stateful_keeping.proofs.ExecutesKept.{Executes-same}
@@ -57,7 +53,7 @@ use Rattle.stateful_keeping.proofs.MarksOfRules.{takes-marks}
 use Rattle.stateful_keeping.proofs.ReasonsLinked.{LoopIsLinked, takes-linked}
 use Rattle.stateful_keeping.proofs.ReasonsResumed.{resumed-may}
 use Rattle.stateful_keeping.proofs.RoundsLater.{later-finalized}
-use Rattle.stateful_keeping.proofs.TicketsTaken.{action_taken, message_taken, takes-taken, takes-execution}
+use Rattle.stateful_keeping.proofs.TicketsTaken.{message_taken, takes-taken, takes-execution}
 use Rattle.stateful_keeping.proofs.WaysBehind.{WaysStand-free}
 use Rattle.stateful_keeping.proofs.WaysBeside.{WaysStand-tip}
 

@@ -1,6 +1,6 @@
 -- Behind each rule of the loop a live candidate run was live before, or its number was drawn since; and where nothing pauses a
 -- request that waits waited before, or it was found that it has to.
-use Rattle.std.proofs.Common.{◌≡◌, ◌≤◌, ◌+◌, ◌++◌, ◌⊎◌, inl, inr, ℕ, true, false, List, [], ◌∷◌, map, All, Option, refl, sym, ap, ◌∙◌, subst, append-nil, arith}
+use Rattle.std.proofs.Common.{◌≡◌, ◌≤◌, ◌+◌, ◌++◌, ◌⊎◌, inl, inr, ℕ, true, false, List, [], ◌∷◌, map, All, Option, sym, ap, ◌∙◌, subst, append-nil, arith}
 use Rattle.std.proofs.lemmas.List.Elements.{All-nil, All-cons}
 use Rattle.stateful_types.specs.Names.{Named}
 use Rattle.stateful_types.specs.declared.anchor.Anchor.{Anchor}
@@ -31,7 +31,7 @@ use Rattle.stateful_processing.specs.declared.barriers.Active.{Active}
 use Rattle.stateful_processing.specs.declared.message.Message.{Message}
 use Rattle.stateful_processing.specs.declared.tables.Finalizing.{Finalizing as Finalizes}
 use Rattle.stateful_processing.specs.declared.tables.Processing.{Processing}
-use Rattle.stateful_keeping.proofs.RunsCarried.{OfRequests, Carries, carries_still, carries_same, carries_acquires, carries_resumes, waiting_resumed}
+use Rattle.stateful_keeping.proofs.RunsCarried.{OfRequests, Carries, carries_still, carries_acquires, carries_resumes, waiting_resumed}
 
 one_mild : {B : Type 0} (x : Mark B) → IsMild x → All (λ y. IsMild y) (x ∷ [])
 one_mild x mild = All-cons (λ y. IsMild y) x [] mild (All-nil (λ y. IsMild y))
@@ -114,7 +114,8 @@ module _ {B C I P R D H G U : Type 0} (w : Workings B C I P R D H G U) (first : 
 
   builds : (provider : P) (t : ℕ) (m now : Moment w) → Builds w provider t m now → CarriesAt m now
   builds provider t m now (rules.starts {state = state} s is) =
-      still m now _ (ap (λ (n : Moment w). n.marks) is) (one_mild (mark.Started m.execution.state.next_job job.Build s.proposal.ancestry.first.digest) tt)
+      still m now _ (ap (λ (n : Moment w). n.marks) is)
+      (one_mild (mark.Started m.execution.state.next_job job.Build s.proposal.ancestry.first.digest) tt)
       (from (λ v. v.anchor))
       (let jobs : now.execution.state.next_job ≡ m.execution.state.next_job + 1 = from (λ v. v.next_job) in omega (arith, jobs))
       (from (λ v. v.runs)) (from (λ v. v.requests)) (from (λ v. v.pause))
@@ -126,7 +127,8 @@ module _ {B C I P R D H G U : Type 0} (w : Workings B C I P R D H G U) (first : 
       from f = ap (λ (n : Moment w). f n.execution.state) is ∙ ap f s.state
   builds provider t m now (rules.declines off is) =
       still m now _ (ap (λ (n : Moment w). n.marks) is) (one_mild (mark.Declined t) tt) (ap (λ (n : Moment w). n.execution.state.anchor) is)
-      (let jobs : now.execution.state.next_job ≡ m.execution.state.next_job = ap (λ (n : Moment w). n.execution.state.next_job) is in omega (arith, jobs))
+      (let jobs : now.execution.state.next_job ≡ m.execution.state.next_job = ap (λ (n : Moment w). n.execution.state.next_job) is in
+      omega (arith, jobs))
       (ap (λ (n : Moment w). n.execution.state.runs) is) (ap (λ (n : Moment w). n.execution.state.requests) is)
       (ap (λ (n : Moment w). n.execution.state.pause) is)
 
@@ -136,18 +138,21 @@ module _ {B C I P R D H G U : Type 0} (w : Workings B C I P R D H G U) (first : 
     where
       by : (hook : Hooked H) → HooksOn w f.block hook m.execution.state r.state m.marks r.marks r.front r.live → CarriesAt m now
       by hooked.Done on = still m now [] (ap (λ (n : Moment w). n.marks) r.becomes ∙ on.1 ∙ sym (append-nil m.marks)) (All-nil (λ x. IsMild x))
-          (from (λ v. v.anchor)) (let jobs : now.execution.state.next_job ≡ m.execution.state.next_job = from (λ v. v.next_job) in omega (arith, jobs))
+          (from (λ v. v.anchor))
+          (let jobs : now.execution.state.next_job ≡ m.execution.state.next_job = from (λ v. v.next_job) in omega (arith, jobs))
           (from (λ v. v.runs)) (from (λ v. v.requests)) (from (λ v. v.pause))
         where
           from : {X : Type 0} (g : Tables B C I R U → X) → g now.execution.state ≡ g m.execution.state
           from g = ap (λ (n : Moment w). g n.execution.state) r.becomes ∙ ap g on.0
       by (hooked.Pending hook) on =
-          still m now _ (ap (λ (n : Moment w). n.marks) r.becomes ∙ on.2) (one_mild (mark.Started m.execution.state.next_job job.Hook f.block.digest) tt)
+          still m now _ (ap (λ (n : Moment w). n.marks) r.becomes ∙ on.2)
+          (one_mild (mark.Started m.execution.state.next_job job.Hook f.block.digest) tt)
           (from (λ v. v.anchor))
           (let jobs : now.execution.state.next_job ≡ m.execution.state.next_job + 1 = from (λ v. v.next_job) in omega (arith, jobs))
           (from (λ v. v.runs)) (from (λ v. v.requests)) (from (λ v. v.pause))
         where
-          from : {X : Type 0} (g : Tables B C I R U → X) → g now.execution.state ≡ g (record m.execution.state { next_job = m.execution.state.next_job + 1 })
+          from : {X : Type 0} (g : Tables B C I R U → X)
+              → g now.execution.state ≡ g (record m.execution.state { next_job = m.execution.state.next_job + 1 })
           from g = ap (λ (n : Moment w). g n.execution.state) r.becomes ∙ ap g on.0
 
   -- a finalization begins
@@ -168,10 +173,11 @@ module _ {B C I P R D H G U : Type 0} (w : Workings B C I P R D H G U) (first : 
       (must : (t : ℕ) (request : Request B C I) (more : List (Named B)) (cache : List (Cached U))
       → IsPrepared w.header anchor cache stored_now request more acquired.Waits → OfWaiting t (first_of request)) where
     -- a request acquires what it needs
-    schedules : (request : Request B C I) (m now : Moment w) → m.execution.state.anchor ≡ anchor → Schedules w stored_now request m now → CarriesAt m now
+    schedules : (request : Request B C I) (m now : Moment w) → m.execution.state.anchor ≡ anchor → Schedules w stored_now request m now
+        → CarriesAt m now
     schedules request m now here r = subst (λ (n : Moment w). CarriesAt m n) (sym r.becomes) (record {
-      carries = carries_acquires w first OfRun OfWaiting started stored_now anchor must (inner w m) r.then (ticket_by request) (requested request) here
-          r.acquires;
+      carries = carries_acquires w first OfRun OfWaiting started stored_now anchor must (inner w m) r.then (ticket_by request) (requested request)
+          here r.acquires;
       freed = λ free. inl (sym
           (LeavesBehind-acquires w stored_now (inner w m) r.then (ticket_by request) (requested request) r.acquires).left.pause ∙ free);
     })
@@ -209,11 +215,13 @@ module _ {B C I P R D H G U : Type 0} (w : Workings B C I P R D H G U) (first : 
         (let jobs : now.execution.state.next_job ≡ m.execution.state.next_job + 1 = from (λ v. v.next_job) in omega (arith, jobs))
         (from (λ v. v.runs)) (from (λ v. v.requests)) (from (λ v. v.pause)))
       where
-        from : {X : Type 0} (g : Tables B C I R U → X) → g now.execution.state ≡ g (record m.execution.state { next_job = m.execution.state.next_job + 1 })
+        from : {X : Type 0} (g : Tables B C I R U → X)
+            → g now.execution.state ≡ g (record m.execution.state { next_job = m.execution.state.next_job + 1 })
         from g = ap (λ (n : Moment w). g n.execution.state) r.becomes ∙ ap g r.runs.state
     rule_carries provider m now here (rules.applies {f = f} fronts captured states r) = applied f fronts states r
     rule_carries provider m now here (rules.covers fronts advanced captured needed r) = carried (begins_barrier m now r)
-    rule_carries provider m now here (rules.observes {f = f} {captured = captured} fronts advanced is covered r) = carried (observes f captured m now r)
+    rule_carries provider m now here (rules.observes {f = f} {captured = captured} fronts advanced is covered r) =
+        carried (observes f captured m now r)
     rule_carries provider m now here (rules.ends {f = f} fronts advanced captured r) = carried
         (subst (λ (n : Moment w). CarriesAt m n) (sym r.becomes) (record {
           carries = carries_resumes w first OfRun OfWaiting started stored_now anchor must (inner w m) r.then here r.resumes;
@@ -232,6 +240,8 @@ module _ {B C I P R D H G U : Type 0} (w : Workings B C I P R D H G U) (first : 
       where
         by : Takes w x m mid → RuleCarries m now
         by (of_action {rest = rest} is become) = looped m (record m.loop { actions = rest }) now
-            (does (with_loop w m (record m.loop { actions = rest })) now x here (subst (λ (n : Moment w). DoesMessage w stored_now n now x) become done))
+            (does (with_loop w m (record m.loop { actions = rest })) now x here
+            (subst (λ (n : Moment w). DoesMessage w stored_now n now x) become done))
         by (of_message {rest = rest} none is become) = looped m (record m.loop { queue = rest }) now
-            (does (with_loop w m (record m.loop { queue = rest })) now x here (subst (λ (n : Moment w). DoesMessage w stored_now n now x) become done))
+            (does (with_loop w m (record m.loop { queue = rest })) now x here
+            (subst (λ (n : Moment w). DoesMessage w stored_now n now x) become done))

@@ -21,7 +21,7 @@ use Rattle.stateful_standing.specs.Outstanding.{TicketsApart}
 use Rattle.stateful_standing.specs.Setting.{setting}
 use Rattle.stateful_standing.proofs.Removing.{differ}
 use Rattle.stateful_standing.proofs.SpentRuns.{MayRunAgain-item}
-use Rattle.stateful_keeping.specs.Places.{IsOrderlyPast}
+use Rattle.stateful_keeping.specs.Places.{IsOrderlyPast, PastKept}
 use Rattle.stateful_keeping.proofs.PlacesPast.{orderly-gone, live_off}
 use Rattle.stateful_keeping.proofs.Uncancelled.{gone-event}
 
@@ -136,9 +136,10 @@ module _ {B C I : Type 0} where
   pub asked-came : (p : Past B C I) (e : Event B C I) (t : ℕ) (d : Digest) → WasAsked t d (Came e ∷ p) → WasAsked t d p
   asked-came p e t d was = was
 
-  pub whole-came : (p : Past B C I) (e : Event B C I) → (IsRestart e → ⊥) → is_handing_over (Came e ∷ p) ≡ is_handing_over p
-  whole-came p (event.Restart floor keep) on = absurd (on tt)
-  whole-came p e on = refl
+  -- behind an event no handover goes on, where none did
+  pub whole-came : (p : Past B C I) (e : Event B C I) → is_handing_over p ≡ false → is_handing_over (Came e ∷ p) ≡ false
+  whole-came p (event.Restart floor keep) whole = refl
+  whole-came p e whole = whole
 
   pub begun-came : (p : Past B C I) (e : Event B C I) → (IsRestart e → ⊥) → begun (Came e ∷ p) ≡ begun p
   begun-came p (event.Restart floor keep) on = absurd (on tt)
@@ -149,15 +150,23 @@ module _ {B C I : Type 0} where
   unhooked-came p e on = refl
 
 module _ {B C I P R D H G U : Type 0} (w : Workings B C I P R D H G U) (stored : ℕ → Option (Named B)) where
-  -- A past stays in order behind an event that names what is live, and is no restart.
-  pub past-came : (count : ℕ) (p : Past B C I) (e : Event B C I) → (IsRestart e → ⊥) → names_live count p e ≡ true → IsOrderlyPast w stored p
+  -- A past stays in order behind an event that names what is live.
+  pub past-came : (count : ℕ) (p : Past B C I) (e : Event B C I) → names_live count p e ≡ true → IsOrderlyPast w stored p
       → IsOrderlyPast w stored (Came e ∷ p)
-  past-came count p e on live h =
+  past-came count p e live h =
       let gone = gone-event count p e live h.gone in
       record {
         orderly = orderly-gone w stored (Came e ∷ p) gone (apart-came count p e live h.orderly.apart)
             (λ d. MayRunAgain-item (setting w stored) p (Came e) (λ t b is. subject-came count p e live t b is) (λ j how is. cc) d
             (h.orderly.again d));
         gone = gone;
-        whole = whole-came p e on ∙ h.whole;
+        whole = whole-came p e h.whole;
       }
+
+  -- And what was asked for a ticket was so for an earlier one.
+  pub past-kept-came : (count : ℕ) (p : Past B C I) (e : Event B C I) → names_live count p e ≡ true → PastKept w stored p
+      → PastKept w stored (Came e ∷ p)
+  past-kept-came count p e live h = record {
+    past = past-came count p e live h.past;
+    earlier = λ t d was. bound-came p e t (h.earlier t d (asked-came p e t d was));
+  }

@@ -39,7 +39,7 @@ module _ {B C I P R D H G U : Type 0} (w : Workings B C I P R D H G U) (stored :
   pub kept-came : (count : ℕ) (e : Event B C I) → (IsRestart e → ⊥) → names_live count p e ≡ true → PlacesKept w stored p m
       → PlacesKept w stored (Came e ∷ p) m
   kept-came count e on live h = record {
-    past = past-came w stored count p e on live h.past;
+    past = past-came w stored count p e live h.past;
     due = IsDue-came (setting w stored) p m.execution.state.cache e (begun-came p e on) m.execution.front h.due;
     asks = record {
       along = λ k d l f fetching x was. h.asks.along k d l f fetching x (asked-came p e _ x was);

@@ -1,5 +1,5 @@
 -- What a past keeps for marks to be in their places is kept behind marks of rules and behind events.
-use Rattle.std.proofs.Common.{◌≡◌, ◌++◌, ◌==◌, if◌then◌else◌, inl, inr, ℕ, Bool, suc, true, false, List, [], ◌∷◌, All, Any, Option, None, Some, MatchOption, refl, sym, ◌∙◌, arith}
+use Rattle.std.proofs.Common.{◌≡◌, ◌++◌, ◌<◌, ◌==◌, if◌then◌else◌, inl, inr, ℕ, Bool, suc, true, false, List, [], ◌∷◌, All, Any, Option, None, Some, MatchOption, refl, sym, ◌∙◌, subst, arith}
 use Rattle.std.proofs.lemmas.List.Elements.{All-head, All-tail}
 use Rattle.stateful_types.specs.Names.{Named}
 use Rattle.stateful_types.specs.declared.digest.Digest.{Digest}
@@ -21,9 +21,10 @@ use Rattle.stateful_standing.specs.Outstanding.{TicketsApart}
 use Rattle.stateful_standing.specs.Setting.{setting}
 use Rattle.stateful_standing.proofs.PlaceCancelled.{StandsOn-longer}
 use Rattle.stateful_standing.proofs.ServedMarks.{TicketsApart-after}
-use Rattle.stateful_keeping.specs.Places.{CancelledIsGone, EndsNoRun, IsOrderlyPast}
+use Rattle.stateful_processing.specs.Moments.{Moment}
+use Rattle.stateful_keeping.specs.Places.{CancelledIsGone, EndsNoRun, IsOrderlyPast, PastKept, PlacesKept}
 use Rattle.stateful_keeping.specs.RuleMarks.{IsOfRule}
-use Rattle.stateful_keeping.proofs.Uncancelled.{live-uncancelled, gone-mark}
+use Rattle.stateful_keeping.proofs.Uncancelled.{live-uncancelled, gone-mark, gone-first}
 
 -- no block is asked for
 abbrev pub IsAskless : {B : Type 0} → Mark B → Type 0
@@ -143,12 +144,44 @@ module _ {B C I P R D H G U : Type 0} (w : Workings B C I P R D H G U) (stored :
       → IsOrderly w stored p
   orderly-gone p gone apart again = record { apart = apart; live = λ t live. live-uncancelled p gone t _ live; again = again }
 
-  -- A past stays in order behind marks of rules by which no run ends, but by cancels.
-  pub past-after : (p : Past B C I) (more : List (Mark B)) → All IsOfRule more → EachMark EndsNoRun p more → IsOrderlyPast w stored p
-      → IsOrderlyPast w stored (after p more)
-  past-after p more rules ends h = record {
+  -- A past stays in order behind marks by which no run ends, but by cancels, and no handover begins.
+  pub past-ends : (p : Past B C I) (more : List (Mark B)) → EachMark EndsNoRun p more → is_handing_over (after p more) ≡ is_handing_over p
+      → IsOrderlyPast w stored p → IsOrderlyPast w stored (after p more)
+  past-ends p more ends whole h = record {
     orderly = orderly-gone (after p more) (gone-after p more h.gone) (TicketsApart-after p more h.orderly.apart)
         (λ d. again-after (setting w stored) p more ends d (h.orderly.again d));
     gone = gone-after p more h.gone;
-    whole = whole-after p more rules ∙ h.whole;
+    whole = whole ∙ h.whole;
   }
+
+  -- such are marks of rules
+  pub past-after : (p : Past B C I) (more : List (Mark B)) → All IsOfRule more → EachMark EndsNoRun p more → IsOrderlyPast w stored p
+      → IsOrderlyPast w stored (after p more)
+  past-after p more rules ends h = past-ends p more ends (whole-after p more rules) h
+
+  -- What was asked for a ticket stays so for an earlier one, where the marks ask for nothing.
+  pub past-kept-ends : (p : Past B C I) (more : List (Mark B)) → EachMark EndsNoRun p more → All IsAskless more
+      → is_handing_over (after p more) ≡ is_handing_over p → PastKept w stored p → PastKept w stored (after p more)
+  past-kept-ends p more ends askless whole h = record {
+    past = past-ends p more ends whole h.past;
+    earlier = λ t d was. subst (λ n. t < n) (sym (bound_after p more)) (h.earlier t d (asked-before t d p more askless was));
+  }
+
+  -- what is kept before all else
+  none_again : (p : Past B C I) → p ≡ [] → (d : Digest) → MayRunAgain (setting w stored) p d
+  none_again p none d [] q j how is spent = cc
+  none_again p none d (x ∷ later) q j how is spent = cc
+
+  pub past-kept-first : (p : Past B C I) → p ≡ [] → PastKept w stored p
+  past-kept-first p none = record {
+    past = record {
+      orderly = orderly-gone p (gone-first p none) (λ t some. rw none refl) (none_again p none);
+      gone = gone-first p none;
+      whole = rw none refl;
+    };
+    earlier = λ t d was. absurd (subst (λ (q : Past B C I). WasAsked t d q) none was);
+  }
+
+  -- and what is kept while the machine is up
+  pub past-kept : (p : Past B C I) (m : Moment w) → PlacesKept w stored p m → PastKept w stored p
+  past-kept p m k = record { past = k.past; earlier = k.asks.earlier }

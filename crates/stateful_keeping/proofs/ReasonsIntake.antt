@@ -1,5 +1,5 @@
 -- False verdicts and declines have their reasons: those behind an event that is taken in.
-use Rattle.std.proofs.Common.{◌≡◌, ◌++◌, ◌∷◌, [], ℕ, true, List, Option, Some, None, IfSome, IsSome, Result, Ok, Err, inr, All, refl, sym, ap, ◌∙◌, subst}
+use Rattle.std.proofs.Common.{◌≡◌, ◌++◌, ◌∷◌, [], ℕ, true, List, Option, Some, None, IfSome, IsSome, Result, Ok, Err, All, refl, sym, ap, ◌∙◌, subst}
 use Rattle.std.proofs.lemmas.List.Elements.{All-nil}
 use Rattle.stateful_types.specs.Names.{Named}
 use Rattle.stateful_types.specs.declared.outcome.Handoff.{Handoff}
@@ -9,18 +9,16 @@ use Rattle.stateful_types.specs.declared.outcome.Moved.TheVariants.{Pending, Don
 use Rattle.stateful_db.specs.Laws.{Laws}
 use Rattle.stateful_db.specs.declared.application.AppFault.{AppFault}
 use Rattle.stateful_db.specs.declared.application.ProposedBlock.{ProposedBlock}
-use Rattle.stateful_history.specs.Finalizations.{finalized_since}
 use Rattle.stateful_history.specs.Honest.{IsAnswered}
 use Rattle.stateful_history.specs.Met.{TrueNames}
 use Rattle.stateful_history.specs.Past.{Past, Came}
-use Rattle.stateful_history.specs.Requests.{IsLiveReceipt}
 use Rattle.stateful_history.specs.declared.event.Event.{Event}
 use Rattle.stateful_history.specs.declared.event.Event.TheVariants.{Fetched, Turn}
 use Rattle.stateful_history.specs.declared.mark.Mark.{Mark}
 use Rattle.stateful_exec.specs.Built.{TurnsBuild, HasTurn, other, goes_on, ends, EndsBuild, GivesUp, building, asking}
 use Rattle.stateful_exec.specs.Fetching.{Cancels, idle, withdraws, leaves, unqueued, Fetches, IsFetched, found, waits, declines, dead}
 use Rattle.stateful_exec.specs.Fetching as cancel
-use Rattle.stateful_exec.specs.Finalizing.{front_at, TurnsHook, hook_turned, unhooked, SettlesHook, Completes, candidate, finalized, StepsFinal, turned, not_live, SettlesFinal}
+use Rattle.stateful_exec.specs.Finalizing.{TurnsHook, hook_turned, unhooked, SettlesHook, Completes, candidate, finalized, StepsFinal, turned, not_live, SettlesFinal}
 use Rattle.stateful_exec.specs.Moments as exec
 use Rattle.stateful_exec.specs.Workings.{Workings}
 use Rattle.stateful_exec.specs.declared.building.Building.{Building}
@@ -40,8 +38,6 @@ use Rattle.stateful_standing.proofs.ReasonGround.{IsGround}
 use Rattle.stateful_standing.proofs.Removing.{All-at}
 use Rattle.stateful_processing.specs.Intake.{Counts, TakesIn, enters, cancels, fetched, turns, flushes, stops, progresses, restarts, TurnsJob, build, hook, run}
 use Rattle.stateful_processing.specs.Moments.{Moment, inner}
-use Rattle.stateful_processing.specs.Sound.{FrontAgrees}
-use Rattle.stateful_processing.specs.declared.tables.Finalizing.{Finalizing}
 use Rattle.stateful_keeping.specs.Execution.{Executes, IsPlaced, IsFree}
 use Rattle.stateful_keeping.specs.Reasons.{RefusesNone, IsTrusted, ReasonsStand, ReasonsBehind}
 use Rattle.stateful_keeping.specs.Stands.{IsUpAt}

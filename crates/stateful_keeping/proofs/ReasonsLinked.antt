@@ -13,7 +13,7 @@ use Rattle.stateful_standing.specs.Setting.{setting}
 use Rattle.stateful_processing.specs.Intake.{Counts, message_by, TakesIn, enters, cancels, fetched, turns, flushes, stops, progresses, restarts, build, hook, run}
 use Rattle.stateful_processing.specs.Message.{asks_of, asks_for}
 use Rattle.stateful_processing.specs.Moments.{Moment}
-use Rattle.stateful_processing.specs.Rules.{Builds, starts, declines, DoesMessage, schedules, answers, acknowledges, holds, begins, Takes, of_action, of_message, Rule}
+use Rattle.stateful_processing.specs.Rules.{starts, declines, DoesMessage, schedules, answers, acknowledges, holds, begins, Takes, of_action, of_message, Rule}
 use Rattle.stateful_processing.specs.Rules as rule
 use Rattle.stateful_processing.specs.declared.message.Action.{Action}
 use Rattle.stateful_processing.specs.declared.message.Action.TheVariants as action

@@ -20,8 +20,8 @@ use Rattle.stateful_exec.specs.Fetching.{Fetches, IsFetched, found, waits as awa
 use Rattle.stateful_exec.specs.Moments.{Moment, Becomes}
 use Rattle.stateful_exec.specs.Path.{Path}
 use Rattle.stateful_exec.specs.Pausing.{Resumes, GoesAlong, AcquiresAnew, unparked, unsettled}
-use Rattle.stateful_exec.specs.Phase.{is_on, released_on, not_on, is_unacquired, parked_in, unacquired_in, not_unacquired, not_parked}
-use Rattle.stateful_exec.specs.Rules.{requested, moved, taken, ended, Concludes, Advances, arrives, leaves, joins, starts, misses, Acquires, valid, invalid, asks, waits, runs as needs_runs}
+use Rattle.stateful_exec.specs.Phase.{is_on, released_on, is_unacquired, parked_in, unacquired_in, not_unacquired}
+use Rattle.stateful_exec.specs.Rules.{requested, moved, ended, Concludes, Advances, arrives, leaves, joins, starts, misses, Acquires, valid, invalid, asks, waits, runs as needs_runs}
 use Rattle.stateful_exec.specs.Walk.{IsPrepared}
 use Rattle.stateful_exec.specs.Workings.{Workings}
 use Rattle.stateful_exec.specs.declared.building.Building.{Building}
@@ -32,13 +32,13 @@ use Rattle.stateful_exec.specs.declared.request.Verdict.TheVariants.{Valid, Inva
 use Rattle.stateful_exec.specs.declared.state.Tables.{Tables}
 use Rattle.stateful_exec.specs.declared.tables.LiveRun.{LiveRun}
 use Rattle.stateful_exec.specs.declared.tables.Phase.{Phase}
-use Rattle.stateful_exec.specs.declared.tables.Phase.TheVariants.{Open, Fetching, Waiting, Executing, Parked}
+use Rattle.stateful_exec.specs.declared.tables.Phase.TheVariants.{Fetching, Waiting, Executing, Parked}
 use Rattle.stateful_exec.specs.declared.tables.Released.{Released}
 use Rattle.stateful_exec.specs.declared.tables.Requested.{Requested}
 use Rattle.stateful_exec.specs.declared.walk.Acquired.TheVariants as acquired
 use Rattle.stateful_standing.specs.Requesting.{first_of}
 use Rattle.stateful_standing.proofs.EarnedCarried.{IsMild}
-use Rattle.stateful_standing.proofs.EarnedLeft.{LeavesBehind, LeavesBehind-concludes, LeavesBehind-advances, LeavesBehind-acquires, LeavesBehind-follows}
+use Rattle.stateful_standing.proofs.EarnedLeft.{LeavesBehind-concludes, LeavesBehind-advances, LeavesBehind-acquires}
 use Rattle.stateful_standing.proofs.Putting.{All-put}
 use Rattle.stateful_standing.proofs.Removing.{All-without}
 
@@ -107,7 +107,8 @@ module _ {B C I P R D H G U : Type 0} (w : Workings B C I P R D H G U) (first : 
   module _ (started : (j : ℕ) (b : Named B) → first ≤ j → OfRun j b) where
     waiting_put : (requests : List (ℕ × Requested B C I)) (t : ℕ) (r : Requested B C I) → (r.phase ≡ Waiting → OfWaiting t (first_of r.request))
         → OfRequests requests → OfRequests (put requests t r)
-    waiting_put requests t r of_it h = All-put (λ (e : ℕ × Requested B C I). e.1.phase ≡ Waiting → OfWaiting e.0 (first_of e.1.request)) requests t r h of_it
+    waiting_put requests t r of_it h =
+        All-put (λ (e : ℕ × Requested B C I). e.1.phase ≡ Waiting → OfWaiting e.0 (first_of e.1.request)) requests t r h of_it
 
     -- a request moves to another phase, without a new run
     moves : (m now : Moment w) (t : ℕ) (r : Requested B C I) (phase : Phase B) → (phase ≡ Waiting → OfWaiting t (first_of r.request))
@@ -311,7 +312,8 @@ module _ {B C I P R D H G U : Type 0} (w : Workings B C I P R D H G U) (first : 
           → ((t : ℕ) (r : Requested B C I) → Fetches m.state f t r → answer ≡ None → OfWaiting t (first_of r.request))
           → IsFetched w stored_now m f answer now → Carries m now
       carries_fetched m now f answer here none (found t r b fetches is acquires) =
-          carries_then (OfRuns m.state.runs) m (serving w m t) now (serves m t) (carries_acquires (serving w m t) now t (with_block r b) here acquires)
+          carries_then (OfRuns m.state.runs) m (serving w m t) now (serves m t)
+          (carries_acquires (serving w m t) now t (with_block r b) here acquires)
       carries_fetched m now f answer here none (awaits t r fetches is verification becomes) =
           carries_then (OfRuns m.state.runs) m (serving w m t) now (serves m t)
           (moves (serving w m t) now t r Waiting (λ e. none t r fetches is) becomes)

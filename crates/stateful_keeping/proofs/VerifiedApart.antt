@@ -6,7 +6,7 @@ use Rattle.stateful_types.specs.Names.{Named}
 use Rattle.stateful_history.specs.Asked.{verified}
 use Rattle.stateful_history.specs.Finalizations.{finalized_since}
 use Rattle.stateful_history.specs.Live.{bound_of, is_new, names_live}
-use Rattle.stateful_history.specs.Past.{Past, Came, Made}
+use Rattle.stateful_history.specs.Past.{Past, Came}
 use Rattle.stateful_history.specs.Requests.{proposed, subscribed}
 use Rattle.stateful_history.specs.declared.event.Event.{Event}
 use Rattle.stateful_history.specs.declared.event.Event.TheVariants.{Verify, Prepare, Propose, Subscribe, Finalized, Restart}

@@ -16,3 +16,4 @@ pub mod Places
 pub mod EventBehind
 pub mod Rounds
 pub mod Reasons
+pub mod HandsBehind

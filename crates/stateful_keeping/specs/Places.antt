@@ -71,6 +71,11 @@ module _ {B C I P R D H G U : Type 0} (w : Workings B C I P R D H G U) (stored :
       pub gone : CancelledIsGone p
       pub whole : is_handing_over p ≡ false
 
+    -- So it is, and what was asked for a ticket was so for an earlier one: that is kept whether the machine is up or down.
+    pub record PastKept : Type 0 where
+      pub past : IsOrderlyPast
+      pub earlier : (t : ℕ) (d : Digest) → WasAsked t d p → t < bound_of p
+
     module _ (v : Tables B C I R U) (build : Option (Building B C D)) (front : Option (Front B R U H)) where
       -- What was asked for a request that fetches is the parent of what was gathered for it; what was
       -- asked for a ticket was so for an earlier one, which isn't one of a request that is live and in no

@@ -17,7 +17,7 @@ use Rattle.stateful_processing.specs.Moments.{Moment}
 use Rattle.stateful_keeping.specs.Ways.{HasHonestStore}
 use Rattle.stateful_whole.specs.Machine.{IsNew}
 use Rattle.stateful_whole.specs.StepBehind.{EachStands}
-use Rattle.stateful_core.specs.declared.driving.Halted.{Halted}
+use Rattle.stateful_actor.specs.declared.driving.Halted.{Halted}
 use Rattle.stateful_script.specs.Laws.{IsPlan}
 use Rattle.stateful_script.specs.declared.script.Script.{Script}
 use Rattle.stateful_script.specs.declared.script.World.TheVariants as world

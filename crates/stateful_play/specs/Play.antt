@@ -31,9 +31,9 @@ use Rattle.stateful_keeping.specs.Ways.{StoresFinalized}
 use Rattle.stateful_whole.specs.Entering.{Steps}
 use Rattle.stateful_whole.specs.Machine.{IsNew}
 use Rattle.stateful_whole.specs.StepBehind.{EachStands, StandsAndHolds}
-use Rattle.stateful_core.specs.Driving.{IsRefused}
-use Rattle.stateful_core.specs.Faults.{tally}
-use Rattle.stateful_core.specs.declared.driving.Halted.{Halted}
+use Rattle.stateful_actor.specs.Driving.{IsRefused}
+use Rattle.stateful_actor.specs.Faults.{tally}
+use Rattle.stateful_actor.specs.declared.driving.Halted.{Halted}
 use Rattle.stateful_script.specs.declared.script.Script.{Script}
 use Rattle.stateful_script.specs.declared.script.World.TheVariants as world
 use Rattle.stateful_text.specs.declared.shown.Label.{Label}

@@ -3,7 +3,7 @@ use Rattle.std.specs.Prelude.{ℕ, ◌≡◌, ◌<◌, ◌≤◌, ◌⊎◌, ◌
 use Rattle.std.specs.List.{list_all}
 use Rattle.std.specs.Str.{bytes_eq}
 use Rattle.std.specs.Io.KnownBytes.{Consumes, Appends, IsAtEnd}
-use Rattle.stateful_core.specs.declared.driving.Halted.{Halted}
+use Rattle.stateful_actor.specs.declared.driving.Halted.{Halted}
 use Rattle.stateful_script.specs.Script.{script_or_line}
 use Rattle.stateful_script.specs.declared.script.Script.{Script}
 use Rattle.stateful_text.specs.Transcript.{usage_line, script_line}

@@ -12,7 +12,7 @@ use Rattle.stateful_history.specs.declared.entry.Entry.{Entry}
 use Rattle.stateful_register.specs.declared.register.Register.{Register}
 use Rattle.stateful_processing.specs.declared.error.StepError.{StepError}
 use Rattle.stateful_processing.specs.declared.error.StepError.TheVariants as error
-use Rattle.stateful_core.specs.declared.driving.Halted.{Halted}
+use Rattle.stateful_actor.specs.declared.driving.Halted.{Halted}
 use Rattle.stateful_text.specs.declared.shown.Label.{Label}
 use Rattle.stateful_text.specs.declared.shown.Shown.{Shown}
 use Rattle.stateful_text.specs.declared.shown.Shown.TheVariants.{Balances, Closed, Lost, Away}

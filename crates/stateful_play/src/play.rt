@@ -14,7 +14,7 @@ use crate::event::events;
 use crate::plan::{Planned, plan};
 use crate::store::store_of;
 use stateful_bank::{Ask, BankBlock};
-use stateful_core::{Config, Driven, Halted, NewError, Stateful, StepError, drive};
+use stateful_actor::{Config, Driven, Halted, NewError, Stateful, StepError, drive};
 use stateful_db::{DatabaseSet, Held};
 use stateful_history::Entry;
 use stateful_plain::{Plain, PlainMedium};

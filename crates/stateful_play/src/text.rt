@@ -5,7 +5,7 @@ ghost use Rattle.stateful_text.specs.Transcript.{ending_of};
 ghost use Rattle.stateful_play.specs.Shown.{member_of, shown_of, error_name, ending_by, text_of};
 
 use crate::play::{Databases, History, Played, Told};
-use stateful_core::{Halted, StepError};
+use stateful_actor::{Halted, StepError};
 use stateful_db::{DatabaseSet, Held};
 use stateful_plain::Plain;
 use stateful_text::{End, Shown, transcript};

@@ -1,5 +1,5 @@
 -- What was gathered stays linked, and the parents of queued proposals known or lost, where a finalization begins.
-use Rattle.std.proofs.Common.{◌≡◌, ◌≤◌, inr, ℕ, List, ◌∷◌, All, Option, Some}
+use Rattle.std.proofs.Common.{◌≡◌, ◌≤◌, ℕ, List, ◌∷◌, Option, Some}
 use Rattle.std.proofs.lemmas.List.Elements.{All-weaker}
 use Rattle.stateful_types.specs.Names.{Named}
 use Rattle.stateful_types.specs.Round.{IsLater}

@@ -1,6 +1,6 @@
 -- What was gathered stays linked, and the parents of queued proposals known or lost, behind the answer of a fetch, behind a cancel
 -- and where a pause begins.
-use Rattle.std.proofs.Common.{◌≡◌, ◌⊎◌, inl, inr, ℕ, List, [], ◌∷◌, map, All, Option, Some, get_or, refl, sym, subst}
+use Rattle.std.proofs.Common.{◌≡◌, ◌⊎◌, inl, inr, ℕ, List, [], ◌∷◌, All, Option, get_or, refl, sym, subst}
 use Rattle.std.proofs.lemmas.List.{append-nil}
 use Rattle.std.proofs.lemmas.List.Elements.{All-push, All-map, All-nil, All-cons}
 use Rattle.stateful_types.specs.Names.{Named}
@@ -14,7 +14,6 @@ use Rattle.stateful_history.specs.declared.event.Event.TheVariants.{Fetched, Can
 use Rattle.stateful_history.specs.declared.mark.How.TheVariants.{Cancelled}
 use Rattle.stateful_history.specs.declared.mark.Mark.{Mark}
 use Rattle.stateful_history.specs.declared.mark.Mark.TheVariants.{Withdrawn, Ended}
-use Rattle.stateful_history.proofs.Marks.{TrueNames-before_marks}
 use Rattle.stateful_table.specs.Table.{without}
 use Rattle.stateful_exec.specs.Boundary.{Boundary}
 use Rattle.stateful_exec.specs.Fetching.{Fetches, with_block, serving, IsFetched, found, waits, declines, dead, Cancels, idle, withdraws, leaves, ends, unqueued}
@@ -31,9 +30,9 @@ use Rattle.stateful_exec.specs.declared.tables.Phase.{Phase}
 use Rattle.stateful_exec.specs.declared.tables.Phase.TheVariants.{Open, Fetching, Waiting, Executing, Parked}
 use Rattle.stateful_exec.specs.declared.tables.Requested.{Requested}
 use Rattle.stateful_standing.specs.Setting.{setting}
-use Rattle.stateful_standing.specs.Gathering.{gathered, AreLinked, IsGathered}
+use Rattle.stateful_standing.specs.Gathering.{IsGathered}
 use Rattle.stateful_standing.specs.Reaching.{IsLost}
-use Rattle.stateful_standing.specs.Standing.{TablesStand, IsInHand}
+use Rattle.stateful_standing.specs.Standing.{TablesStand}
 use Rattle.stateful_standing.proofs.FetchStands.{TablesStand-fetched, IsInHand-fetched, acquired-fetched}
 use Rattle.stateful_standing.proofs.Gathered.{AreLinked-fetched}
 use Rattle.stateful_standing.proofs.LinkedOn.{IsStill, StaysLinked, met_on, StaysLinked-on, StaysLinked-marks, QueueIsMet}

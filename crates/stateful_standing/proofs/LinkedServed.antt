@@ -1,13 +1,12 @@
 -- What was gathered stays linked, and the parents of queued proposals known or lost, behind a request that is served.
-use Rattle.std.proofs.Common.{◌≡◌, ◌++◌, inl, inr, ℕ, List, [], ◌∷◌, All, Option, Some, refl, sym, ◌∙◌, subst}
-use Rattle.std.proofs.lemmas.List.Elements.{All-head}
+use Rattle.std.proofs.Common.{◌≡◌, ◌++◌, inl, inr, ℕ, List, [], ◌∷◌, All, Option, Some, sym, subst}
 use Rattle.stateful_types.specs.Names.{Named}
 use Rattle.stateful_types.specs.declared.anchor.Anchor.{Anchor}
 use Rattle.stateful_types.specs.declared.digest.Digest.{Digest}
 use Rattle.stateful_history.specs.Known.{Known}
 use Rattle.stateful_history.specs.Met.{Brings, Met, TrueNames}
 use Rattle.stateful_history.specs.Numbers.{NumberIsNew}
-use Rattle.stateful_history.specs.Past.{Past, Made, EachMark, after}
+use Rattle.stateful_history.specs.Past.{Past, Made, after}
 use Rattle.stateful_history.specs.Setting.{Setting}
 use Rattle.stateful_history.specs.declared.mark.How.{How}
 use Rattle.stateful_history.specs.declared.mark.JobKind.TheVariants.{Candidate}
@@ -17,7 +16,7 @@ use Rattle.stateful_cache.specs.Cache.{IsIn, IsAtHand}
 use Rattle.stateful_exec.specs.Ending.{IsGivenUp, Follows, given_up, held, failed, parked, goes_on}
 use Rattle.stateful_exec.specs.Moments.{Moment}
 use Rattle.stateful_exec.specs.Path.{Path}
-use Rattle.stateful_exec.specs.Rules.{IsPassed, first_or, requested, Concludes, Advances, Acquires}
+use Rattle.stateful_exec.specs.Rules.{IsPassed, requested, Concludes, Advances, Acquires}
 use Rattle.stateful_exec.specs.Workings.{Workings, Point}
 use Rattle.stateful_exec.specs.declared.pause.Pause.TheVariants.{Free}
 use Rattle.stateful_exec.specs.declared.request.Verdict.TheVariants as verdict
@@ -35,7 +34,7 @@ use Rattle.stateful_standing.proofs.Gathered.{concludes-new, advances-new, acqui
 use Rattle.stateful_standing.proofs.KeptMarks.{EachMark-behind}
 use Rattle.stateful_standing.proofs.LinkedOn.{StaysLinked}
 use Rattle.stateful_standing.proofs.PlaceAsks.{asked-last}
-use Rattle.stateful_standing.proofs.QueueAdvances.{same_queue, concludes_invalid, QueueReaches-arrives, QueueReaches-advances, QueueReaches-acquires}
+use Rattle.stateful_standing.proofs.QueueAdvances.{same_queue, concludes_invalid, QueueReaches-arrives, QueueReaches-acquires}
 use Rattle.stateful_standing.proofs.ReasonAdvances.{closed_by, parent_here}
 use Rattle.stateful_standing.proofs.ReasonGround.{IsGround, round_of_top}
 use Rattle.stateful_standing.proofs.ServedMarks.{IsServedBy, AreServedBy, concludes-marks, advances-marks, acquires-marks, follows-marks}

@@ -1,6 +1,6 @@
 -- What was gathered stays linked, and the parents of queued proposals known or lost, behind the end of a run and the requests that
 -- waited for it.
-use Rattle.std.proofs.Common.{◌≡◌, ◌++◌, ℕ, not, get_or, List, [], ◌∷◌, All, Option, Some, Ok, refl, sym, ◌∙◌, subst}
+use Rattle.std.proofs.Common.{◌≡◌, ◌++◌, ℕ, not, get_or, List, [], ◌∷◌, All, Option, Some, Ok, refl, ◌∙◌, subst}
 use Rattle.std.proofs.lemmas.List.{append_assoc}
 use Rattle.std.proofs.lemmas.List.Elements.{All-filter}
 use Rattle.stateful_types.specs.Names.{Named}

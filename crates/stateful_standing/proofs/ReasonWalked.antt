@@ -1,5 +1,5 @@
 -- False verdicts and declines have their reasons: what a judgement without a run says, and what a walk finds.
-use Rattle.std.proofs.Common.{◌≡◌, ◌≢◌, ◌<◌, ◌≤◌, ◌⊎◌, ◌↔◌, ◌++◌, inl, inr, ℕ, List, [], ◌∷◌, All, Option, Some, MatchOption, refl, sym, ap, ◌∙◌, subst, arith}
+use Rattle.std.proofs.Common.{◌≡◌, ◌≢◌, ◌<◌, ◌≤◌, ◌⊎◌, ◌↔◌, ◌++◌, inl, inr, ℕ, List, [], ◌∷◌, All, Option, Some, MatchOption, sym, ap, ◌∙◌, subst, arith}
 use Rattle.std.proofs.lemmas.List.{append_assoc}
 use Rattle.std.proofs.lemmas.List.Elements.{All-head, All-tail, All-push, All-weaker}
 use Rattle.stateful_types.specs.Names.{Named}
@@ -11,7 +11,7 @@ use Rattle.stateful_history.specs.Declines.{IsSkipping, IsOutOfReach}
 use Rattle.stateful_history.specs.Known.{Known, IsUnknown}
 use Rattle.stateful_history.specs.Met.{Met, TrueNames}
 use Rattle.stateful_history.specs.Past.{Past}
-use Rattle.stateful_history.specs.Reasons.{Missing, IsMissingAbove, IsReplaced, HasReason}
+use Rattle.stateful_history.specs.Reasons.{Missing, IsMissingAbove, HasReason}
 use Rattle.stateful_history.specs.Reasons as reasons
 use Rattle.stateful_history.specs.Setting.{Setting, parent_of}
 use Rattle.stateful_history.specs.Telling.{telling_of}

@@ -72,7 +72,7 @@ module _ {B C I P R D H G U : Type 0} (w : Workings B C I P R D H G U) (laws : L
   history-registered now_failed now registered = EachStands-last w stored _
       (λ base. StandsAndHolds w stored base (after_all [] history) now_failed now last)
       (λ base at. record {
-        stands = record { registered = registered; restart = at.0.restart; at = λ working. at.0 };
+        stands = record { registered = registered; restart = at.0.restart; past = at.0.past; at = λ working. at.0 };
         holds = λ working. at.1;
       }) base [] history each_stands
 

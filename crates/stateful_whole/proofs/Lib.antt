@@ -13,6 +13,9 @@ pub mod StepStands
 pub mod StoresBefore
 pub mod StepsStand
 pub mod HistoryStands
+pub mod HistoryReasons
 pub mod StillStands
 pub mod LeftFurther
 pub mod RefusedBehind
+pub mod WorkNamed
+pub mod WorkPlaces

@@ -6,7 +6,7 @@ use Rattle.std.proofs.lemmas.List.Elements.{All-append, All-push, Contains-appen
 use Rattle.stateful_types.specs.Names.{Named}
 use Rattle.stateful_db.specs.Laws.{Laws}
 use Rattle.stateful_history.specs.Canonical.{pruned_below}
-use Rattle.stateful_history.specs.Live.{may_come}
+use Rattle.stateful_history.specs.Live.{names_live, may_come}
 use Rattle.stateful_history.specs.Met.{TrueNames}
 use Rattle.stateful_history.specs.Opening.{is_down, opens}
 use Rattle.stateful_history.specs.Past.{Past, Came, Made, EachMark, after, after_entry}
@@ -30,16 +30,24 @@ use Rattle.stateful_keeping.specs.Down.{IsEnding}
 use Rattle.stateful_keeping.specs.EventBehind.{EventBehind, StoppedBehind}
 use Rattle.stateful_keeping.specs.Execution.{NamesBehind}
 use Rattle.stateful_keeping.specs.Reasons.{IsTrusted, ReasonsStand, HasItsReason, ReasonsUpBehind}
+use Rattle.stateful_keeping.specs.Places.{IsInPlace, PastKept, PlacesKept, PlacesBehind}
+use Rattle.stateful_keeping.specs.HandsBehind.{HandsBehind}
+use Rattle.stateful_keeping.specs.InHand.{VerifiedApart}
 use Rattle.stateful_keeping.specs.Ways.{StoresFinalized}
 use Rattle.stateful_keeping.proofs.Counting.{ends_stopped}
 use Rattle.stateful_keeping.proofs.EventDown.{event-down}
 use Rattle.stateful_keeping.proofs.EventUp.{event-up}
+use Rattle.stateful_keeping.proofs.HandsUp.{hands_at, hands-up}
+use Rattle.stateful_keeping.proofs.InHandOpened.{VerifiedApart-marks}
 use Rattle.stateful_keeping.proofs.NamesBehind.{NamesBehind-marks, NamesBehind-later}
 use Rattle.stateful_keeping.proofs.ReasonsUp.{reasons-up}
+use Rattle.stateful_keeping.proofs.PlacesAlong.{places-up}
+use Rattle.stateful_keeping.proofs.PlacesPast.{past-kept}
 use Rattle.stateful_keeping.proofs.Restarting.{pruned-ends}
 use Rattle.stateful_keeping.proofs.RuleItems.{is_down-after, pruned_below-after, opens-none}
 use Rattle.stateful_keeping.proofs.TakenIn.{may_come-live}
 use Rattle.stateful_keeping.proofs.Trusted.{IsTrusted-before, IsTrusted-before_marks}
+use Rattle.stateful_keeping.proofs.VerifiedApart.{VerifiedApart-came}
 use Rattle.stateful_processing.specs.Clearing.{IsCleared}
 use Rattle.stateful_processing.specs.Intake.{Counts, TakesIn}
 use Rattle.stateful_processing.specs.Intake as intake
@@ -55,6 +63,8 @@ use Rattle.stateful_whole.proofs.StaysUp.{Broke, along-stays, takes_in-stays}
 use Rattle.stateful_whole.proofs.Stepping.{may_come-up, is_down-came, base-same, StepBehind-of}
 use Rattle.stateful_whole.proofs.Unbroken.{IsUnbroken, UnbrokenBehind, taken_in_unbroken, along_unbroken}
 use Rattle.stateful_whole.proofs.WorkEnds.{IsWorkEnd, EndsAll-ends, IsWorkEnd-ending, opens-ending, opens-neither}
+use Rattle.stateful_whole.proofs.WorkNamed.{NamesWork, EndsAll-named}
+use Rattle.stateful_whole.proofs.WorkPlaces.{work-in_place, past-work, past-stopped}
 
 module _ {B C I P R D H G U : Type 0} (w : Workings B C I P R D H G U) (laws : Laws w.kind) (stored : ℕ → Option (Named B)) (base : w.States)
     (p : Past B C I) (stored_now : ℕ → Option (Named B)) (stored_is : IsStoredNow stored p stored_now) (counts : Counts R D H) (provider : P)
@@ -97,6 +107,29 @@ module _ {B C I P R D H G U : Type 0} (w : Workings B C I P R D H G U) (laws : L
   reasons_of marks b r = subst (λ (ms : List (Mark B)). EachMark (HasItsReason w stored base event marks) q ms × ReasonsStand w stored (after q ms) base settled)
       (append_cancel_left m.marks r.more b.more (sym r.marks_are ∙ b.marks_are)) (r.each, r.stand)
 
+  -- each mark is in its place
+  placed : NamesBehind w stored base q m settled → PlacesBehind w stored base q m settled
+  placed names =
+      places-up w laws stored base p stored_now stored_is counts provider runs_cost builds_cost event m a.taken settled up (s.up up).1 (s.up up).0
+      (s.places up) on
+      (names_live-more (numbered w.kind.count) w.kind.count (numbered_le w.kind.count) p event
+      (may_come-live (numbered w.kind.count) p event on may_come_is)) names stores a.takes a.settles.along
+
+  -- the event names what is live
+  names_live_is : names_live (numbered w.kind.count) p event ≡ true
+  names_live_is = may_come-live (numbered w.kind.count) p event on may_come_is
+
+  -- tickets are apart behind it, and behind marks
+  apart : (more : List (Mark B)) → VerifiedApart (after q more)
+  apart more = VerifiedApart-marks q more (VerifiedApart-came (numbered w.kind.count) p event names_live_is s.restart.apart)
+
+  -- all that is live is in hand behind it
+  hands : NamesBehind w stored base q m settled → HandsBehind w stored base q m settled
+  hands names =
+      hands-up w laws stored base p stored_now stored_is counts provider runs_cost builds_cost event m a.taken settled up (s.up up).1 (s.up up).0
+      (s.hands up).0 (s.hands up).1 on
+      (names_live-more (numbered w.kind.count) w.kind.count (numbered_le w.kind.count) p event names_live_is) names stores a.takes a.settles.along
+
   more_are : (more : List (Mark B)) (last : Moment w) → last.marks ≡ m.marks ++ more → more ≡ last.marks
   more_are more last is = sym (is ∙ ap (λ (ms : List (Mark B)). ms ++ more) s.restart.unmarked)
 
@@ -120,6 +153,10 @@ module _ {B C I P R D H G U : Type 0} (w : Workings B C I P R D H G U) (laws : L
   goes-on still names =
       let names_there : NamesBehind w stored base q m settled = NamesBehind-marks w stored base q m settled settled.marks marks_are names in
       let b : EventBehind w stored base q m settled = behind names_there in
+      let l : PlacesBehind w stored base q m settled = placed names_there in
+      let same : l.more ≡ b.more = more_are l.more settled l.marks_are ∙ sym (more_are b.more settled b.marks_are) in
+      let kept : PlacesKept w stored (after q b.more) settled =
+      subst (λ (ms : List (Mark B)). PlacesKept w stored (after q ms) settled) same l.kept in
       let none_opens : opens b.more ≡ false = opens-none b.more b.of_rules in
       let down_is : is_down (after q b.more) ≡ false = is_down-after q b.more b.of_rules ∙ is_down-came p event on ∙ was_up in
       let first : UnbrokenBehind w m a.taken = taken_in_unbroken w stored_now counts m a.taken event a.takes in
@@ -135,6 +172,7 @@ module _ {B C I P R D H G U : Type 0} (w : Workings B C I P R D H G U) (laws : L
         earned = b.earned;
         reasons = λ trust. (reasons_of b.more b (reasons_behind b.more names_there b trust)).0;
         said = b.said;
+        in_place = subst (λ (ms : List (Mark B)). EachMark (IsInPlace w stored base) q ms) same l.each;
         due = λ rule. PrunedIsDue-rules (setting w stored) rule q b.more b.of_rules;
         opened = OpenedIsStored-rules (setting w stored) event q b.more b.of_rules;
         committed = IsCommittedTo-rules w stored base b.more b.of_rules;
@@ -147,7 +185,11 @@ module _ {B C I P R D H G U : Type 0} (w : Workings B C I P R D H G U) (laws : L
         counted = b.counted;
         up = λ up. (b.up up, a.settles.quiet);
         reasons_stand = λ up trust. (reasons_of b.more b (reasons_behind b.more names_there b trust)).1;
+        apart = apart b.more;
+        hands = λ up. hands_at w stored base q m settled b.more b.marks_are (hands names_there);
         down = λ down. absurd (true≢false (sym still ∙ down));
+        past = past-kept w stored (after q b.more) settled kept;
+        places = λ up. kept;
         empty = λ down. absurd (true≢false (sym still ∙ down));
       })
 
@@ -167,7 +209,8 @@ module _ {B C I P R D H G U : Type 0} (w : Workings B C I P R D H G U) (laws : L
   module _ (now : Moment w) (over : List (Mark B)) (are : now.marks ≡ settled.marks ++ over ++ Stopped ∷ [])
       (ends : EndsAll (after q settled.marks) over) (leaves : LeavesNothing (after q settled.marks) over)
       (cleared : IsCleared w (record settled { marks = now.marks }) now) (names_there : NamesBehind w stored base q m settled)
-      (b : EventBehind w stored base q m settled) (why : (event ≡ Stop) ⊎ BrokeBefore (after q settled.marks)) where
+      (b : EventBehind w stored base q m settled) (l : PlacesBehind w stored base q m settled)
+      (why : (event ≡ Stop) ⊎ BrokeBefore (after q settled.marks)) where
     abbrev last : List (Mark B)
     last = over ++ Stopped ∷ []
 
@@ -230,6 +273,18 @@ module _ {B C I P R D H G U : Type 0} (w : Workings B C I P R D H G U) (laws : L
         stopped_or_broke (inr broke) = inr (BrokeBefore-after (after q b.more) over
             (subst (λ (ms : List (Mark B)). BrokeBefore (after q ms)) (sym first_are) broke))
 
+    -- what is kept behind the marks of the event, and each mark by which live work ends names live work
+    kept_first : PastKept w stored (after q b.more)
+    kept_first = subst (λ (ms : List (Mark B)). PastKept w stored (after q ms))
+        (more_are l.more settled l.marks_are ∙ sym (more_are b.more settled b.marks_are)) (past-kept w stored (after q l.more) settled l.kept)
+
+    named : EachMark NamesWork (after q b.more) over
+    named = subst (λ (ms : List (Mark B)). EachMark NamesWork (after q ms) over) (sym first_are) (EndsAll-named (after q settled.marks) over ends)
+
+    -- behind all of them
+    last_is : after q down.more ≡ Made Stopped ∷ after (after q b.more) over
+    last_is = ap (λ (ms : List (Mark B)). after q ms) down_are_both ∙ after-append q b.more last ∙ after-push (after q b.more) over Stopped
+
     none_live : NothingLive (Made Stopped ∷ after (after q b.more) over)
     none_live = subst (λ (ms : List (Mark B)). NothingLive (Made Stopped ∷ after (after q ms) over)) (sym first_are) leaves.stopped
 
@@ -248,6 +303,10 @@ module _ {B C I P R D H G U : Type 0} (w : Workings B C I P R D H G U) (laws : L
           (HasItsReason-ends w stored base event down.more (inr (inr has_stopped)) (after q b.more) over
           (subst (λ (ms : List (Mark B)). EndsAll (after q ms) over) (sym first_are) ends)) (tt, tt);
       said = down.said;
+      in_place = each_down (IsInPlace w stored base)
+          (subst (λ (ms : List (Mark B)). EachMark (IsInPlace w stored base) q ms)
+          (more_are l.more settled l.marks_are ∙ sym (more_are b.more settled b.marks_are)) l.each)
+          (work-in_place w stored base (after q b.more) over kept_first.past.gone named) (tt, tt, tt, tt, tt);
       due = λ rule. each_down (PrunedIsDue (setting w stored) rule) (PrunedIsDue-rules (setting w stored) rule q b.more b.of_rules)
           (PrunedIsDue-ends (setting w stored) rule (after q b.more) over ends_work)
           (PrunedIsDue-stopped (setting w stored) rule (after (after q b.more) over));
@@ -267,7 +326,12 @@ module _ {B C I P R D H G U : Type 0} (w : Workings B C I P R D H G U) (laws : L
       counted = down.down.counted;
       up = λ up. absurd (true≢false (sym up ∙ down.down.empty.up));
       reasons_stand = λ up trust. absurd (true≢false (sym up ∙ down.down.empty.up));
+      apart = apart down.more;
+      hands = λ up. absurd (true≢false (sym up ∙ down.down.empty.up));
       down = λ is. down.down.nothing;
+      past = subst (λ (r : Past B C I). PastKept w stored r) (sym last_is)
+          (past-stopped w stored (after (after q b.more) over) (past-work w stored (after q b.more) over named kept_first));
+      places = λ up. absurd (true≢false (sym up ∙ down.down.empty.up));
       empty = λ is. down.down.empty;
     })
 
@@ -284,4 +348,4 @@ module _ {B C I P R D H G U : Type 0} (w : Workings B C I P R D H G U) (laws : L
       let names_there : NamesBehind w stored base q m settled =
       NamesBehind-later w stored base q m settled settled.marks marks_are (over ++ Stopped ∷ [])
       (subst (λ (ms : List (Mark B)). TrueNames (setting w stored) (after q ms)) (append_assoc settled.marks over (Stopped ∷ [])) known) in
-      stops_at now over are work.2 work.3 t.cleared names_there (behind names_there) (why_down t.down)
+      stops_at now over are work.2 work.3 t.cleared names_there (behind names_there) (placed names_there) (why_down t.down)

@@ -1,5 +1,5 @@
 -- The marks by which all live work ends have their reasons: a proposal is declined since the machine stops or starts.
-use Rattle.std.proofs.Common.{◌≡◌, ◌++◌, ◌∷◌, [], inl, inr, ℕ, List, All, map, Option, Some, MatchOption, get_or, sym, subst}
+use Rattle.std.proofs.Common.{◌≡◌, ◌∷◌, [], inl, inr, ℕ, List, All, map, Option, Some, MatchOption, get_or, sym, subst}
 use Rattle.std.proofs.lemmas.List.Elements.{All-head, All-tail, All-same, All-append, All-map, All-weaker, Contains-get_or}
 use Rattle.stateful_types.specs.Names.{Named}
 use Rattle.stateful_history.specs.Declines.{MayDecline}

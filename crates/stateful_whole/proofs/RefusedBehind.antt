@@ -1,5 +1,5 @@
 -- What the databases hold behind a history, and an event that was refused behind it.
-use Rattle.std.proofs.Common.{◌≡◌, ◌∷◌, [], ℕ, Bool, List, Option, subst}
+use Rattle.std.proofs.Common.{◌≡◌, ◌∷◌, [], ℕ, Bool, false, List, Option, subst}
 use Rattle.stateful_types.specs.Names.{Named}
 use Rattle.stateful_db.specs.Laws.{Laws}
 use Rattle.stateful_history.specs.Past.{Past, Came, after_entry, after_all}

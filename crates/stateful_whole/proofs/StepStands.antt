@@ -15,6 +15,7 @@ use Rattle.stateful_standing.specs.Building.{BuildsTakeTurns}
 use Rattle.stateful_standing.specs.Fronting.{RunsTakeTurns}
 use Rattle.stateful_standing.specs.Setting.{setting}
 use Rattle.stateful_standing.specs.Storing.{IsStoredNow}
+use Rattle.stateful_keeping.specs.Places.{PastKept}
 use Rattle.stateful_keeping.specs.Ways.{StoresHeights, StoresFinalized, HasHonestStore}
 use Rattle.stateful_processing.specs.Intake.{Counts}
 use Rattle.stateful_processing.specs.Moments.{Moment}
@@ -47,15 +48,15 @@ module _ {B C I P R D H G U : Type 0} (w : Workings B C I P R D H G U) (laws : L
           played.advances register now registered stopped names
 
   -- The register stood for the past, the event may come behind it, and names are true with the entry. For a restart it is enough
-  -- that the machine may be restarted.
+  -- that the machine may be restarted, and that what a past keeps is kept.
   pub step-behind : (event : Event B C I) (register : Register) (m now : Moment w) → RegisterStands (numbered w.kind.count) p register
-      → CanRestartAt w p m → (is_restart event ≡ false → StandsAt w stored base p m) → may_come (numbered w.kind.count) p event ≡ true
+      → CanRestartAt w p m → PastKept w stored p → (is_restart event ≡ false → StandsAt w stored base p m) → may_come (numbered w.kind.count) p event ≡ true
       → IsStep w stored_now provider counts register event m now
       → TrueNames (setting w stored) (after_entry p event now.marks)
       → StoresFinalized w.header stored (Came event ∷ p) → StepBehind w stored base p event now
-  step-behind (Restart floor keep) register m now registered r s may_come_is step names stores =
-      restarts w laws stored base p stored_now stored_is heights floor keep m now r register registered step names
-  step-behind event register m now registered r s may_come_is step names stores =
+  step-behind (Restart floor keep) register m now registered r kept s may_come_is step names stores =
+      restarts w laws stored base p stored_now stored_is heights floor keep m now r kept register registered step names
+  step-behind event register m now registered r kept s may_come_is step names stores =
       plays event (λ no. no) register m now registered (s refl) may_come_is step names stores
 
 -- Where the new register stands for the past with the entry, register and machine stand for it: names are true with it, and the store
@@ -73,6 +74,6 @@ step-stands w laws stored stored_now counts provider runs_cost builds_cost base 
     may_come_is step registered names honest =
     let b : StepBehind w stored base p event now =
     step-behind w laws stored stored_now counts provider runs_cost builds_cost honest.heights base p stored_is event register m now s.registered
-    s.restart (λ other. s.at (works other)) may_come_is step names
+    s.restart s.past (λ other. s.at (works other)) may_come_is step names
     (StoresFinalized-before_marks w.header stored (Came event ∷ p) now.marks honest.finalized) in
-    record { behind = b; stands = record { registered = registered; restart = b.stands.restart; at = λ working. b.stands } }
+    record { behind = b; stands = record { registered = registered; restart = b.stands.restart; past = b.stands.past; at = λ working. b.stands } }

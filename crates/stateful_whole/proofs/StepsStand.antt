@@ -16,6 +16,8 @@ use Rattle.stateful_standing.specs.Fronting.{RunsTakeTurns}
 use Rattle.stateful_standing.specs.Setting.{setting}
 use Rattle.stateful_standing.specs.Storing.{IsStoredNow}
 use Rattle.stateful_keeping.specs.Ways.{StoresHeights, StoresFinalized}
+use Rattle.stateful_keeping.proofs.PlacesPast.{past-kept-first}
+use Rattle.stateful_keeping.proofs.InHandOpened.{VerifiedApart-none}
 use Rattle.stateful_processing.specs.Intake.{Counts}
 use Rattle.stateful_processing.specs.Moments.{Moment}
 use Rattle.stateful_whole.specs.Entering.{Steps}
@@ -38,11 +40,15 @@ module _ {B C I P R D H G U : Type 0} (w : Workings B C I P R D H G U) (stored :
         barriers = λ k some. absurd (some refl);
         none_away = away;
       };
+      apart = VerifiedApart-none;
     };
     up_is = new.down;
     up = λ up. absurd (true≢false (sym up ∙ new.down));
     reasons = λ up trust. absurd (true≢false (sym up ∙ new.down));
+    hands = λ up. absurd (true≢false (sym up ∙ new.down));
     down = λ down. record { tickets = λ t. refl; fetches = λ f. refl; jobs = λ j. refl; barriers = λ k. refl };
+    past = past-kept-first w stored [] refl;
+    places = λ up. absurd (true≢false (sym up ∙ new.down));
   }
 
   -- and with it its register
@@ -52,6 +58,7 @@ module _ {B C I P R D H G U : Type 0} (w : Workings B C I P R D H G U) (stored :
       let s = StandsAt-new failed register m new unmarked away in record {
         registered = RegisterStands-none (numbered w.kind.count) register new.blank;
         restart = s.restart;
+        past = s.past;
         at = λ working. s;
       }
 
@@ -88,7 +95,7 @@ module _ {B C I P R D H G U : Type 0} (w : Workings B C I P R D H G U) (laws : L
 
       b : StepBehind w stored base p entry.event new
       b = step-behind w laws stored stored_now counts provider runs_cost builds_cost heights base p stored_is entry.event register old new registered
-          s.restart (λ other. s) may_come_is step
+          s.restart s.past (λ other. s) may_come_is step
           (subst (λ (ms : List (Mark B)). TrueNames (setting w stored) (after_entry p entry.event ms)) (sym marks_are) names_here)
           (StoresFinalized-before_marks w.header stored (Came entry.event ∷ p) entry.marks
           (StoresFinalized-before_all w.header stored (after_entry p entry.event entry.marks) entries stores))

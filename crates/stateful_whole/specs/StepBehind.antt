@@ -9,6 +9,8 @@ use Rattle.stateful_history.specs.Past.{Past, Came, EachMark, after_entry}
 use Rattle.stateful_history.specs.Prunes.{PruneRule, PrunedIsDue}
 use Rattle.stateful_history.specs.Restarts.{OpenedIsStored}
 use Rattle.stateful_history.specs.Stops.{StopsClean, StartsClean, EndsStopped}
+use Rattle.stateful_history.specs.Telling.{telling_of}
+use Rattle.stateful_history.specs.Waiting.{AllWait}
 use Rattle.stateful_history.specs.declared.entry.Entry.{Entry}
 use Rattle.stateful_history.specs.declared.event.Event.{Event}
 use Rattle.stateful_history.specs.declared.mark.Mark.{Mark}
@@ -19,6 +21,7 @@ use Rattle.stateful_standing.specs.Setting.{setting}
 use Rattle.stateful_keeping.specs.Down.{IsEmpty}
 use Rattle.stateful_keeping.specs.Durability.{IsDurablySaid}
 use Rattle.stateful_keeping.specs.Reasons.{IsTrusted, HasItsReason}
+use Rattle.stateful_keeping.specs.Places.{IsInPlace}
 use Rattle.stateful_processing.specs.Moments.{Moment}
 use Rattle.stateful_whole.specs.Stands.{StandsAt, Stands}
 
@@ -37,8 +40,9 @@ module _ {B C I P R D H G U : Type 0} (w : Workings B C I P R D H G U)
     -- where it was opened, to which the store's block commits, and else those before. True verdicts
     -- among the marks are earned over them; false ones and declined proposals have their reasons,
     -- where the world is trusted; those of barriers and acknowledgements keep their rules, and so do
-    -- those of openings and stops; and nothing was pruned. The databases hold what was applied. The
-    -- machine stands for the past with the entry; where it is down nothing goes on.
+    -- those of openings and stops; each is in its place; and nothing was pruned. The databases hold
+    -- what was applied. Each live request and receipt waits for outstanding work, whatever the rule on
+    -- prunes. The machine stands for the past with the entry; where it is down nothing goes on.
     pub record StepBehind : Type 0 where
       pub base_behind : w.States
       pub base_is : base_behind ≡ base_after base now.marks (w.kind.point now.members)
@@ -46,6 +50,7 @@ module _ {B C I P R D H G U : Type 0} (w : Workings B C I P R D H G U)
       pub reasons : IsTrusted w stored (after_entry p event now.marks)
           → EachMark (HasItsReason w stored base_behind event now.marks) (Came event ∷ p) now.marks
       pub said : EachMark (IsDurablySaid w) (Came event ∷ p) now.marks
+      pub places : EachMark (IsInPlace w stored base_behind) (Came event ∷ p) now.marks
       pub due : (rule : Option (PruneRule w.Targets))
           → EachMark (PrunedIsDue (setting w stored) rule) (Came event ∷ p) now.marks
       pub opened : EachMark (OpenedIsStored (setting w stored) event) (Came event ∷ p) now.marks
@@ -56,6 +61,9 @@ module _ {B C I P R D H G U : Type 0} (w : Workings B C I P R D H G U)
       pub holds : Holds (setting w stored) w.kind base_behind (after_entry p event now.marks)
           now.members
       pub pruned : pruned_below (after_entry p event now.marks) ≡ pruned_below p
+      pub waits : (rule : Option (PruneRule w.Targets))
+          → AllWait (setting w stored) (telling_of w.works) w.kind.count rule base_behind
+          (after_entry p event now.marks)
       pub stands : StandsAt w stored base_behind (after_entry p event now.marks)
           (record now { marks = [] })
       pub empty : now.loop.up ≡ false → IsEmpty w now

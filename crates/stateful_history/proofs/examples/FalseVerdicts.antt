@@ -19,7 +19,7 @@ module _ {B C I S T : Type 0} (s : Setting B S T) (base : S) (p : Past B C I) (t
   judged : HasReason s base p b → FalseHasReason s base p (Verdict t false)
   judged reason = rw asks reason
 
-  -- its parent x isn't known
+  -- its parent x isn't known; that may be b itself, where b's names make it its own parent
   module _ (x : Named B) (met : Met s p x) (is_parent : x.digest ≡ parent_of s b) (missing : IsUnknown s p x.digest) where
     its_parent : IsMissingAbove s base p b x
     its_parent = record { parent = x; met = met; is_parent = is_parent; missing = itself missing }

@@ -1,0 +1,31 @@
+use Rattle.std.proofs.Common.{◌≡◌, ◌++◌, false, [], map}
+use Rattle.stateful_history.specs.Past.{after_all}
+use Rattle.stateful_register.specs.Register.{RegisterStands}
+use Rattle.stateful_exec.specs.Workings.{workings}
+use Rattle.stateful_processing.specs.Moments.{moment}
+use Rattle.stateful_whole.specs.Entering.{Steps}
+use Rattle.stateful_actor.specs.Faults.{tally, HasNotFallen}
+use Rattle.stateful_whole.specs.Machine.{IsSafe, numbered}
+use Rattle.stateful_actor.proofs.driving.drive.Given as goal
+
+abbrev pub invariant-loop-event : goal.invariant-loop-event
+invariant-loop-event g l =
+    let D = g.A.Databases.DatabaseSet in
+    let w = workings g.A.Block.Block.header g.A.Block.Block.context_of g.A.Context.Rounded.round_of g.A.Application.works D.kind D.shows in
+    record {
+      all : l.yielded ++ l.event-iterator.rest.items ≡ l.fn.events.items;
+      events : map (λ entry. entry.event) l.driven.history.items ≡ l.yielded;
+      steps : Steps w (g.S.BlockStore.stored l.fn.store) l.fn.stateful.provider
+          (record { run = g.A.Run.Faulty.count; build = g.A.Build.Faulty.count; hook = g.A.Hook.Faulty.count }) []
+          (moment w l.fn.stateful.execution l.fn.stateful.loop (D.members l.fn.databases) (D.next l.fn.databases) [])
+          l.driven.history.items
+          (moment w l.driven.stateful.execution l.driven.stateful.loop (D.members l.driven.databases) (D.next l.driven.databases) []);
+      registered : RegisterStands (numbered D.kind.count) (after_all [] l.driven.history.items) l.driven.stateful.register;
+      safe : IsSafe w l.driven.stateful.failed
+          (moment w l.driven.stateful.execution l.driven.stateful.loop (D.members l.driven.databases) (D.next l.driven.databases) []);
+      store : l.store ≡ l.fn.store;
+      provider : l.driven.stateful.provider ≡ l.fn.stateful.provider;
+      working : l.driven.stateful.failed ≡ false;
+      later : HasNotFallen (tally (g.A.Faulty.count l.fn.stateful.application) (D.counted l.fn.databases))
+          (tally (g.A.Faulty.count l.driven.stateful.application) (D.counted l.driven.databases));
+    }

@@ -1,0 +1,58 @@
+use Rattle.std.proofs.Common.{rules, ◌≡◌, [], ◌∙◌, refl}
+use Rattle.stateful_history.specs.Past.{after_all}
+use Rattle.stateful_exec.specs.Workings.{workings}
+use Rattle.stateful_processing.proofs.Handing.{converted}
+use Rattle.stateful_processing.specs.Moments.{moment}
+use Rattle.stateful_whole.specs.Stands.{StandsAsWell}
+use Rattle.stateful_whole.proofs.LeftFurther.{unmoved-further}
+use Rattle.stateful_actor.proofs.Adding.{registered-longer}
+use Rattle.stateful_actor.proofs.ResultsOfCalls.{on_err, if_err}
+use Rattle.stateful_actor.proofs.driving.enter.Goals as goal
+
+pub returns-clause-registers : goal.returns-clause-registers
+returns-clause-registers g c = λ registered.
+    let event : c.in_ok-kept.kept ≡ c.args.event = search rules in
+    let marks : c.from_vec.result ≡ c.in_ok-marks.marks.items = search rules in
+    let stepped = c.in_ok-marks.ensures.registers (after_all [] c.args.driven.now.history.items) registered in (
+      stepped.0,
+      registered-longer _ c.args.driven.now.history.items _ (record { event = c.in_ok-kept.kept; marks = c.from_vec.result }) _
+          (c.in_ok-push.ensures.items ∙ rw c.in_ok-reserve.ensures.items refl)
+          (rw (event, marks) stepped.1),
+    )
+
+pub returns-in_err-reserve-clause-still : goal.returns-in_err-reserve-clause-still
+returns-in_err-reserve-clause-still g c =
+    let D = g.A.Databases.DatabaseSet in
+    let w = workings g.A.Block.Block.header g.A.Block.Block.context_of g.A.Context.Rounded.round_of g.A.Application.works D.kind D.shows in
+    let was = c.args.driven.now.stateful in
+    let old = moment w was.execution was.loop (D.members c.args.driven.now.databases) (D.next c.args.driven.now.databases) [] in
+    let same : StandsAsWell w was.failed was.register old was.failed was.register old = λ stored base p s. s in
+    on_err _ same
+
+pub returns-in_err-kept-clause-still : goal.returns-in_err-kept-clause-still
+returns-in_err-kept-clause-still g c =
+    let D = g.A.Databases.DatabaseSet in
+    let w = workings g.A.Block.Block.header g.A.Block.Block.context_of g.A.Context.Rounded.round_of g.A.Application.works D.kind D.shows in
+    let was = c.args.driven.now.stateful in
+    let old = moment w was.execution was.loop (D.members c.args.driven.now.databases) (D.next c.args.driven.now.databases) [] in
+    let same : StandsAsWell w was.failed was.register old was.failed was.register old = λ stored base p s. s in
+    on_err _ same
+
+pub returns-in_err-reserve-clause-behind : goal.returns-in_err-reserve-clause-behind
+returns-in_err-reserve-clause-behind g c =
+    let D = g.A.Databases.DatabaseSet in
+    let w = workings g.A.Block.Block.header g.A.Block.Block.context_of g.A.Context.Rounded.round_of g.A.Application.works D.kind D.shows in
+    if_err c.from_residual.result _
+    (λ e lawful other up. unmoved-further w g.met.A.Databases.DatabaseSet.laws (g.S.BlockStore.stored c.args.store.now) _ _ c.args.event other _ _ up)
+
+pub returns-in_err-kept-clause-behind : goal.returns-in_err-kept-clause-behind
+returns-in_err-kept-clause-behind g c =
+    let D = g.A.Databases.DatabaseSet in
+    let w = workings g.A.Block.Block.header g.A.Block.Block.context_of g.A.Context.Rounded.round_of g.A.Application.works D.kind D.shows in
+    if_err c.from_residual-in_err-kept.result _
+    (λ e lawful other up. unmoved-further w g.met.A.Databases.DatabaseSet.laws (g.S.BlockStore.stored c.args.store.now) _ _ c.args.event other _ _ up)
+
+pub returns-in_err-marks-clause-behind : goal.returns-in_err-marks-clause-behind
+returns-in_err-marks-clause-behind g c =
+    converted _ c.from_residual-in_err-marks.result c.in_err-marks.field-0.0 c.from_residual-in_err-marks.ensures.1
+    (λ lawful other up. c.in_err-marks.ensures.behind lawful c.requires.working other)

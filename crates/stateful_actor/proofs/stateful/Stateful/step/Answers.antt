@@ -1,0 +1,113 @@
+use Rattle.std.proofs.Common.{[], refl, true, sym, ◌∙◌, ⊎_elim, true≢false}
+use Rattle.stateful_exec.specs.Workings.{workings}
+use Rattle.stateful_processing.proofs.Handing.{converted}
+use Rattle.stateful_processing.proofs.SoundingKept.{Sound-kept}
+use Rattle.stateful_processing.specs.Moments.{executing, moment}
+use Rattle.stateful_whole.specs.Stands.{StandsAsWell}
+use Rattle.stateful_whole.proofs.LeftFurther.{step-leaves, leaves-further}
+use Rattle.stateful_whole.proofs.StepStands.{step-stands}
+use Rattle.stateful_whole.proofs.StillStands.{still-stands}
+use Rattle.stateful_actor.proofs.Arms.{refused_at_once}
+use Rattle.stateful_actor.proofs.ResultsOfCalls.{on_err, if_err, in_ok, in_err}
+use Rattle.stateful_actor.proofs.stateful.Stateful.step.Goals as goal
+
+pub returns-in_err-admit-clause-cause : goal.returns-in_err-admit-clause-cause
+returns-in_err-admit-clause-cause g c =
+    let D = g.A.Databases.DatabaseSet in
+    let w = workings g.A.Block.Block.header g.A.Block.Block.context_of g.A.Context.Rounded.round_of g.A.Application.works D.kind D.shows in
+    rw (← c.self.view_is)
+    (converted _ c.before.from_residual.result c.in_err-admit.field-0.0 c.before.from_residual.ensures.1
+    (refused_at_once w _ _ _ c.self.inside.failed c.self.inside.register c.args.event _ _ _ _ c.in_err-admit.field-0.0 c.in_err-admit.ensures.one c.in_err-admit.ensures.failed c.in_err-admit.ensures.unlawful))
+
+pub returns-clause-does : goal.returns-clause-does
+returns-clause-does g c = rw (← c.self.view_is) (rw c.new-marks.ensures.items at (in_ok _ _ c.in-Ok.is c.act-acted.ensures.ok))
+
+pub returns-clause-safe : goal.returns-clause-safe
+returns-clause-safe g c =
+    let D = g.A.Databases.DatabaseSet in
+    let w = workings g.A.Block.Block.header g.A.Block.Block.context_of g.A.Context.Rounded.round_of g.A.Application.works D.kind D.shows in
+    record {
+      none_away = c.act-acted.ensures.none_away;
+      sound = λ works. Sound-kept w _ _
+          (record { anchor = refl; reached = refl; members = refl; up = refl; front = refl; durability = refl; barriers = refl }) (in_ok _ _ c.in-Ok.is c.act-acted.ensures.sound);
+    }
+
+pub returns-clause-stands : goal.returns-clause-stands
+returns-clause-stands g c =
+    let D = g.A.Databases.DatabaseSet in
+    let w = workings g.A.Block.Block.header g.A.Block.Block.context_of g.A.Context.Rounded.round_of g.A.Application.works D.kind D.shows in
+    let takes = g.met.A.Application.takes_turns in
+    rw (← c.self.view_is) (λ stored base p s stored_is names honest.
+    step-stands w g.met.A.Databases.DatabaseSet.laws stored (g.S.BlockStore.stored c.args.store.now) _ _
+    (λ f states b n is. takes.runs f states b n is) (λ asked states n is. takes.builds asked states n is)
+    base p stored_is c.args.event _ _ _ _ _ c.in_ok-admit.ensures.works s
+    (c.in_ok-admit.ensures.yes p s.registered) (rw c.new-marks.ensures.items at (in_ok _ _ c.in-Ok.is c.act-acted.ensures.ok))
+    ((rw (c.count.ensures, c.as_slice.ensures.value) at c.in_ok-record.ensures.ok) p s.registered) names honest)
+
+pub returns-in_err-admit-clause-still : goal.returns-in_err-admit-clause-still
+returns-in_err-admit-clause-still g c =
+    let D = g.A.Databases.DatabaseSet in
+    let w = workings g.A.Block.Block.header g.A.Block.Block.context_of g.A.Context.Rounded.round_of g.A.Application.works D.kind D.shows in
+    let was = c.self.inside in
+    let old = moment w (executing was.handler) was.processing (D.members c.args.databases.now) (D.next c.args.databases.now) [] in
+    let same : StandsAsWell w was.failed was.register old was.failed was.register old = λ stored base p s. s in
+    rw (← c.self.view_is) (on_err _ same)
+
+pub returns-in-Err-clause-still : goal.returns-in-Err-clause-still
+returns-in-Err-clause-still g c =
+    let D = g.A.Databases.DatabaseSet in
+    let w = workings g.A.Block.Block.header g.A.Block.Block.context_of g.A.Context.Rounded.round_of g.A.Application.works D.kind D.shows in
+    let was = c.self.inside in
+    let old = moment w (executing was.handler) was.processing (D.members c.args.databases.now) (D.next c.args.databases.now) [] in
+    let now = moment w (executing c.act-acted.new.handler) c.act-acted.new.processing (D.members c.act-acted.new.databases) (D.next c.act-acted.new.databases) [] in
+    let still : StandsAsWell w was.failed was.register old true was.register now = λ stored base p s.
+    still-stands w p old now c.act-acted.ensures.numbers c.act-acted.ensures.barrier c.act-acted.ensures.none_away stored base was.failed true
+    was.register was.register refl refl s.registered s in
+    rw (← c.self.view_is) still
+
+pub returns-in_err-record-clause-still : goal.returns-in_err-record-clause-still
+returns-in_err-record-clause-still g c =
+    let D = g.A.Databases.DatabaseSet in
+    let w = workings g.A.Block.Block.header g.A.Block.Block.context_of g.A.Context.Rounded.round_of g.A.Application.works D.kind D.shows in
+    let was = c.self.inside in
+    let old = moment w (executing was.handler) was.processing (D.members c.args.databases.now) (D.next c.args.databases.now) [] in
+    let now = moment w (executing c.act-acted.new.handler) c.act-acted.new.processing (D.members c.act-acted.new.databases) (D.next c.act-acted.new.databases) [] in
+    let still : StandsAsWell w was.failed was.register old true c.record.new.self now = λ stored base p s.
+    still-stands w p old now c.act-acted.ensures.numbers c.act-acted.ensures.barrier c.act-acted.ensures.none_away stored base was.failed true
+    was.register c.record.new.self refl refl ((rw c.count.ensures at c.in_err-record.ensures.err) p s.registered) s in
+    rw (← c.self.view_is) (on_err _ still)
+
+pub returns-in_err-admit-clause-behind : goal.returns-in_err-admit-clause-behind
+returns-in_err-admit-clause-behind g c =
+    rw (← c.self.view_is)
+    (converted _ c.from_residual.result c.in_err-admit.field-0.0 c.from_residual.ensures.1
+    (λ lawful working other.
+    absurd (⊎_elim (λ is. true≢false (sym (c.in_err-admit.ensures.failed is).0 ∙ working)) (λ is. lawful is) c.in_err-admit.ensures.one)))
+
+pub returns-in-Err-clause-behind : goal.returns-in-Err-clause-behind
+returns-in-Err-clause-behind g c =
+    let D = g.A.Databases.DatabaseSet in
+    let w = workings g.A.Block.Block.header g.A.Block.Block.context_of g.A.Context.Rounded.round_of g.A.Application.works D.kind D.shows in
+    let takes = g.met.A.Application.takes_turns in
+    rw (← c.self.view_is)
+    (λ lawful working other.
+    let left = (rw c.new-marks.ensures.items at (in_err _ _ c.in-Err.is c.act-acted.ensures.left)) other in
+    leaves-further w g.met.A.Databases.DatabaseSet.laws (g.S.BlockStore.stored c.args.store.now) _ _
+    (λ f states b n is. takes.runs f states b n is) (λ asked states n is. takes.builds asked states n is)
+    c.args.event other _ _ (c.in_ok-admit.ensures.up other) refl (λ p stands. c.in_ok-admit.ensures.yes p stands)
+    (D.members c.act-acted.new.databases) left.0 left.1)
+
+pub returns-in_err-record-clause-behind : goal.returns-in_err-record-clause-behind
+returns-in_err-record-clause-behind g c =
+    let D = g.A.Databases.DatabaseSet in
+    let w = workings g.A.Block.Block.header g.A.Block.Block.context_of g.A.Context.Rounded.round_of g.A.Application.works D.kind D.shows in
+    let takes = g.met.A.Application.takes_turns in
+    rw (← c.self.view_is)
+    (if_err c.from_residual-in_err-record.result _
+    (λ e lawful working other.
+    let left = step-leaves w (g.S.BlockStore.stored c.args.store.now) _ _ c.args.event _ _ _ other
+    (rw c.new-marks.ensures.items at (in_ok _ _ c.in-Ok.is c.act-acted.ensures.ok)) in
+    leaves-further w g.met.A.Databases.DatabaseSet.laws (g.S.BlockStore.stored c.args.store.now) _ _
+    (λ f states b n is. takes.runs f states b n is) (λ asked states n is. takes.builds asked states n is)
+    c.args.event other _ _ (c.in_ok-admit.ensures.up other) refl (λ p stands. c.in_ok-admit.ensures.yes p stands)
+    (D.members c.act-acted.new.databases) left.0 left.1))

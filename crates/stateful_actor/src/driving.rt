@@ -1,0 +1,234 @@
+//! A whole list of events.
+
+ghost use Rattle.std.specs.Prelude.{◌≡◌, ◌<◌, ◌≤◌, ◌++◌, ◌∷◌, [], ℕ, List, Option, true, false, IfOk, IfErr, OnOk, OnErr, IsErrOf, length, map, take};
+ghost use Rattle.stateful_history.specs.Met.{TrueNames};
+ghost use Rattle.stateful_history.specs.Past.{Past, after_all};
+ghost use Rattle.stateful_history.specs.declared.event.Event.{Event as Happening};
+ghost use Rattle.stateful_history.specs.declared.mark.Mark.{Mark as Marked};
+ghost use Rattle.stateful_history.specs.Live.{may_come};
+ghost use Rattle.stateful_register.specs.Register.{RegisterStands};
+ghost use Rattle.stateful_standing.specs.Setting.{setting};
+ghost use Rattle.stateful_keeping.specs.Ways.{HasHonestStore};
+ghost use Rattle.stateful_processing.specs.Moments.{moment};
+ghost use Rattle.stateful_whole.specs.Entering.{Steps};
+ghost use Rattle.stateful_actor.specs.Driving.{IsRefused};
+ghost use Rattle.stateful_actor.specs.Faults.{tally, HasNotFallen, IsCause};
+ghost use Rattle.stateful_whole.specs.Left.{LeavesFurther};
+ghost use Rattle.stateful_whole.specs.Machine.{is_restart, IsSafe, IsNew, numbered};
+ghost use Rattle.stateful_whole.specs.Stands.{StandsAsWell};
+ghost use Rattle.stateful_whole.specs.StepBehind.{EachStands, StandsAndHolds};
+ghost use Rattle.stateful_whole.specs.Steps.{IsStep};
+
+use crate::stateful::Stateful;
+use stateful_db::{Application, DatabaseSet};
+use stateful_exec::Worked;
+use stateful_history::{Entry, Event};
+use stateful_processing::StepError;
+use stateful_types::{BlockStore, Items, Share};
+use std::alloc::Global;
+
+/// What came of events that were all taken in: the machine, the databases, and the history.
+#[derive(Drop)]
+pub struct Driven<A: Application + Drop> {
+    pub stateful: Stateful<A>,
+    pub databases: A::Databases,
+    pub history: Vec<Entry<A::Block, A::Context, A::Input>>,
+}
+
+/// Which event was refused, and why.
+#[derive(Clone, Copy, Debug, PartialEq, Eq)]
+pub struct Halted {
+    pub at: usize,
+    pub error: StepError,
+}
+
+/// What came of the events before one that was refused.
+#[derive(Drop)]
+pub struct Halt<A: Application + Drop> {
+    pub driven: Driven<A>,
+    pub halted: Halted,
+}
+
+/// Takes in one event, and adds its entry to the history. The room for the entry is taken before.
+fn enter<A: Application + Drop, S: BlockStore<A::Block>>(
+    driven: &mut Driven<A>,
+    store: &mut S,
+    event: Event<A::Block, A::Context, A::Input>,
+) -> Result<(), StepError>
+    requires working { driven.old.stateful.failed ≡ false }
+    requires safe { let w = ⟦<A as Worked>⟧.workings in IsSafe w driven.old.stateful.failed
+        (moment w driven.old.stateful.execution driven.old.stateful.loop
+        (A.Databases.members driven.old.databases) (A.Databases.next driven.old.databases) []) }
+    ensures adds { OnOk result (let w = ⟦<A as Worked>⟧.workings in
+        (marks : List (Marked A.Block))
+        × (driven.new.history.items
+        ≡ driven.old.history.items ++ record { event = event; marks = marks } ∷ [])
+        × IsStep w (S.stored store.old) driven.old.stateful.provider
+        (record { run = A.Run.count; build = A.Build.count; hook = A.Hook.count })
+        driven.old.stateful.register event
+        (moment w driven.old.stateful.execution driven.old.stateful.loop
+        (A.Databases.members driven.old.databases) (A.Databases.next driven.old.databases) [])
+        (moment w driven.new.stateful.execution driven.new.stateful.loop
+        (A.Databases.members driven.new.databases) (A.Databases.next driven.new.databases) marks)) }
+    ensures registers { OnOk result (RegisterStands (numbered A.Databases.kind.count)
+        (after_all [] driven.old.history.items) driven.old.stateful.register
+        → (may_come (numbered A.Databases.kind.count) (after_all [] driven.old.history.items) event
+        ≡ true)
+        × RegisterStands (numbered A.Databases.kind.count) (after_all [] driven.new.history.items)
+        driven.new.stateful.register) }
+    ensures err { OnErr result (driven.new.history.items ≡ driven.old.history.items) }
+    ensures still { OnErr result (let w = ⟦<A as Worked>⟧.workings in
+        StandsAsWell w driven.old.stateful.failed driven.old.stateful.register
+        (moment w driven.old.stateful.execution driven.old.stateful.loop
+        (A.Databases.members driven.old.databases) (A.Databases.next driven.old.databases) [])
+        driven.new.stateful.failed driven.new.stateful.register
+        (moment w driven.new.stateful.execution driven.new.stateful.loop
+        (A.Databases.members driven.new.databases) (A.Databases.next driven.new.databases) [])) }
+    ensures calm { OnErr result (driven.new.stateful.failed ≡ false
+        → driven.new.databases ≡ driven.old.databases) }
+    ensures bad { IsErrOf result StepError.BadEvent → driven.new.stateful.failed ≡ false }
+    ensures safe { let w = ⟦<A as Worked>⟧.workings in IsSafe w driven.new.stateful.failed
+        (moment w driven.new.stateful.execution driven.new.stateful.loop
+        (A.Databases.members driven.new.databases) (A.Databases.next driven.new.databases) []) }
+    ensures works { OnOk result (driven.new.stateful.failed ≡ false) }
+    ensures cause { IfErr result (λ e. let w = ⟦<A as Worked>⟧.workings in
+        IsCause w (S.stored store.old) driven.old.stateful.provider
+        (record { run = A.Run.count; build = A.Build.count; hook = A.Hook.count }) false
+        driven.old.stateful.register event
+        (tally (A.count driven.old.stateful.application) (A.Databases.counted driven.old.databases))
+        (tally (A.count driven.new.stateful.application) (A.Databases.counted driven.new.databases))
+        (A.Databases.members driven.new.databases)
+        (moment w driven.old.stateful.execution driven.old.stateful.loop
+        (A.Databases.members driven.old.databases) (A.Databases.next driven.old.databases) []) e) }
+    ensures behind { IfErr result (λ e. (e ≡ StepError.BadEvent → ⊥)
+        → is_restart event ≡ false
+        → driven.old.stateful.loop.up ≡ true
+        → let w = ⟦<A as Worked>⟧.workings in
+        LeavesFurther w (S.stored store.old) driven.old.stateful.provider
+        (record { run = A.Run.count; build = A.Build.count; hook = A.Hook.count }) event
+        driven.old.stateful.register
+        (moment w driven.old.stateful.execution driven.old.stateful.loop
+        (A.Databases.members driven.old.databases) (A.Databases.next driven.old.databases) [])
+        (A.Databases.members driven.new.databases)) }
+    ensures later { HasNotFallen
+        (tally (A.count driven.old.stateful.application) (A.Databases.counted driven.old.databases))
+        (tally (A.count driven.new.stateful.application)
+        (A.Databases.counted driven.new.databases)) }
+    ensures same { (store.new ≡ store.old)
+        × (driven.new.stateful.provider ≡ driven.old.stateful.provider) }
+{
+    driven.history.reserve(1)?;
+    let kept = event.share()?;
+    let marks = driven.stateful.step(&mut driven.databases, store, event)?;
+    driven.history.push(Entry {
+        event: kept,
+        marks: Items::from_vec(marks),
+    })?;
+    Ok(())
+}
+
+/// Steps through all events, up to the first that is refused. The machine is new, and no database is away.
+pub fn drive<A: Application + Drop, S: BlockStore<A::Block>>(
+    alloc: Global,
+    stateful: Stateful<A>,
+    databases: A::Databases,
+    store: &mut S,
+    events: Vec<Event<A::Block, A::Context, A::Input>>,
+) -> Result<Driven<A>, Halt<A>>
+    requires new { let w = ⟦<A as Worked>⟧.workings in IsNew w stateful.failed stateful.register
+        (moment w stateful.execution stateful.loop
+        (A.Databases.members databases) (A.Databases.next databases) []) }
+    requires none_away { A.Databases.kind.NoneAway (A.Databases.members databases) }
+
+    // The history has the events that were taken in, in their order.
+    ensures all { IfOk result (λ driven. map (λ entry. entry.event) driven.history.items
+        ≡ events.items) }
+    ensures part { IfErr result (λ halt. map (λ entry. entry.event) halt.driven.history.items
+        ≡ take halt.halted.at events.items) }
+    ensures at { IfErr result (λ halt. (halt.halted.at ≡ length halt.driven.history.items)
+        × (halt.halted.at < length events.items)) }
+
+    // Each entry is one step of the machine, from its start on.
+    ensures steps { IfOk result (λ driven. let w = ⟦<A as Worked>⟧.workings in
+        Steps w (S.stored store.old) stateful.provider
+        (record { run = A.Run.count; build = A.Build.count; hook = A.Hook.count }) []
+        (moment w stateful.execution stateful.loop
+        (A.Databases.members databases) (A.Databases.next databases) [])
+        driven.history.items
+        (moment w driven.stateful.execution driven.stateful.loop
+        (A.Databases.members driven.databases) (A.Databases.next driven.databases) [])) }
+
+    // Where names are true and the store is honest each entry keeps the rules, and at the end the machine stands for the
+    // history, and the databases hold what was applied. Behind a refusal it still stands for the events before, in what a
+    // restart needs; and behind BadEvent it hasn't failed.
+    ensures stands { IfOk result (λ driven. let w = ⟦<A as Worked>⟧.workings in
+        (base : A.Databases.States)
+        → TrueNames (setting w (S.stored store.old)) (after_all [] driven.history.items)
+        → HasHonestStore A.Block.header (S.stored store.old) (after_all [] driven.history.items)
+        → EachStands w (S.stored store.old)
+        (λ last. StandsAndHolds w (S.stored store.old) last (after_all [] driven.history.items)
+        false driven.stateful.register
+        (moment w driven.stateful.execution driven.stateful.loop
+        (A.Databases.members driven.databases) (A.Databases.next driven.databases) []))
+        base [] driven.history.items) }
+    ensures still_stands { IfErr result (λ halt. let w = ⟦<A as Worked>⟧.workings in
+        (base : A.Databases.States)
+        → TrueNames (setting w (S.stored store.old)) (after_all [] halt.driven.history.items)
+        → HasHonestStore A.Block.header (S.stored store.old) (after_all [] halt.driven.history.items)
+        → EachStands w (S.stored store.old)
+        (λ last. StandsAndHolds w (S.stored store.old) last
+        (after_all [] halt.driven.history.items)
+        halt.driven.stateful.failed halt.driven.stateful.register
+        (moment w halt.driven.stateful.execution halt.driven.stateful.loop
+        (A.Databases.members halt.driven.databases) (A.Databases.next halt.driven.databases) []))
+        base [] halt.driven.history.items) }
+
+    // The machine works at the end, and its register stands for the history; it may be called again with these databases.
+    ensures works { IfOk result (λ driven. driven.stateful.failed ≡ false) }
+    ensures registered { IfOk result (λ driven. RegisterStands (numbered A.Databases.kind.count)
+        (after_all [] driven.history.items) driven.stateful.register) }
+    ensures safe { IfOk result (λ driven. let w = ⟦<A as Worked>⟧.workings in
+        IsSafe w driven.stateful.failed
+        (moment w driven.stateful.execution driven.stateful.loop
+        (A.Databases.members driven.databases) (A.Databases.next driven.databases) [])) }
+    ensures still_works { IfErr result (λ halt. halt.halted.error ≡ StepError.BadEvent
+        → halt.driven.stateful.failed ≡ false) }
+    ensures still_safe { IfErr result (λ halt. let w = ⟦<A as Worked>⟧.workings in
+        IsSafe w halt.driven.stateful.failed
+        (moment w halt.driven.stateful.execution halt.driven.stateful.loop
+        (A.Databases.members halt.driven.databases) (A.Databases.next halt.driven.databases) [])) }
+    ensures store { store.new ≡ store.old }
+
+    // The event that was refused, why, and what it left of the databases.
+    ensures refused { IfErr result (λ halt. let w = ⟦<A as Worked>⟧.workings in
+        (event : Happening A.Block A.Context A.Input)
+        × (rest : List (Happening A.Block A.Context A.Input))
+        × (events.items ≡ map (λ entry. entry.event) halt.driven.history.items ++ event ∷ rest)
+        × IsRefused w (S.stored store.old) stateful.provider
+        (record { run = A.Run.count; build = A.Build.count; hook = A.Hook.count })
+        (moment w stateful.execution stateful.loop
+        (A.Databases.members databases) (A.Databases.next databases) [])
+        halt.driven.history.items event halt.halted.error (A.Databases.members halt.driven.databases)
+        (tally (A.count stateful.application) (A.Databases.counted databases))
+        (tally (A.count halt.driven.stateful.application)
+        (A.Databases.counted halt.driven.databases))) }
+{
+    let mut driven = Driven {
+        stateful,
+        databases,
+        history: Vec::new(alloc),
+    };
+    for event in events {
+        match enter(&mut driven, store, event) {
+            Ok(()) => {}
+            Err(error) => {
+                let at = driven.history.len();
+                return Err(Halt {
+                    driven,
+                    halted: Halted { at, error },
+                });
+            }
+        }
+    }
+    Ok(driven)
+}

@@ -1,0 +1,235 @@
+//! One event.
+
+ghost use Rattle.std.specs.Prelude.{◌≡◌, ◌≤◌, ◌⊎◌, [], ℕ, Option, true, false, not, IfOk, IfErr, OnOk, OnErr, IsErrOf};
+ghost use Rattle.stateful_types.specs.Names.{Named};
+ghost use Rattle.stateful_history.specs.Live.{may_come};
+ghost use Rattle.stateful_history.specs.Met.{TrueNames};
+ghost use Rattle.stateful_history.specs.Opening.{is_down};
+ghost use Rattle.stateful_history.specs.Past.{Past, after_entry};
+ghost use Rattle.stateful_exec.specs.Starting.{Rises};
+ghost use Rattle.stateful_register.specs.Register.{RegisterStands};
+ghost use Rattle.stateful_standing.specs.Setting.{setting};
+ghost use Rattle.stateful_standing.specs.Storing.{IsStoredNow};
+ghost use Rattle.stateful_keeping.specs.Ways.{HasHonestStore};
+ghost use Rattle.stateful_processing.specs.Moments.{moment};
+ghost use Rattle.stateful_actor.specs.Faults.{tally, IsCause};
+ghost use Rattle.stateful_actor.specs.Machine.{faults_after};
+ghost use Rattle.stateful_whole.specs.Left.{LeavesFurther};
+ghost use Rattle.stateful_whole.specs.Machine.{IsSafe, numbered, is_restart};
+ghost use Rattle.stateful_whole.specs.Stands.{Stands, StandsAsWell};
+ghost use Rattle.stateful_whole.specs.StepBehind.{Continues};
+ghost use Rattle.stateful_whole.specs.Steps.{IsStep};
+
+use crate::acting::act;
+use crate::stateful::Stateful;
+use stateful_db::{Application, DatabaseSet};
+use stateful_exec::Worked;
+use stateful_history::{Event, Mark};
+use stateful_processing::{ProcessingOf, StepError};
+use stateful_register::Register;
+use stateful_types::BlockStore;
+
+/// Whether an event is a restart.
+fn is_restart<B, C, I>(event: &Event<B, C, I>) -> bool
+    ensures { result ≡ is_restart event.now }
+{
+    match event {
+        Event::Restart { .. } => true,
+        _ => false,
+    }
+}
+
+/// Whether the event may come: a restart always, and another one where the machine is up and the register allows it.
+fn may_come<A: Application>(
+    processing: &ProcessingOf<A>,
+    register: &Register,
+    event: &Event<A::Block, A::Context, A::Input>,
+) -> bool
+    ensures up { result ≡ true → is_restart event.now ≡ false → processing.now.up ≡ true }
+    ensures yes { (p : Past A.Block A.Context A.Input)
+        → RegisterStands (numbered A.Databases.kind.count) p register.now
+        → result ≡ true
+        → may_come (numbered A.Databases.kind.count) p event.now ≡ true }
+    ensures no { (p : Past A.Block A.Context A.Input)
+        → RegisterStands (numbered A.Databases.kind.count) p register.now
+        → processing.now.up ≡ not (is_down p)
+        → result ≡ false
+        → may_come (numbered A.Databases.kind.count) p event.now ≡ false }
+{
+    match event {
+        Event::Restart { .. } => true,
+        _ => processing.up && register.allows(event),
+    }
+}
+
+/// Takes an event on, or refuses it: a machine that has failed takes a restart alone, and another event has to be allowed.
+fn admit<A: Application>(
+    failed: bool,
+    processing: &ProcessingOf<A>,
+    register: &Register,
+    event: &Event<A::Block, A::Context, A::Input>,
+) -> Result<(), StepError>
+    ensures works { OnOk result (is_restart event.now ≡ false → failed ≡ false) }
+    ensures up { OnOk result (is_restart event.now ≡ false → processing.now.up ≡ true) }
+    ensures yes { OnOk result ((p : Past A.Block A.Context A.Input)
+        → RegisterStands (numbered A.Databases.kind.count) p register.now
+        → may_come (numbered A.Databases.kind.count) p event.now ≡ true) }
+    ensures one { IfErr result (λ e. (e ≡ StepError.Failed) ⊎ (e ≡ StepError.BadEvent)) }
+    ensures failed { IfErr result (λ e. e ≡ StepError.Failed
+        → (failed ≡ true) × (is_restart event.now ≡ false)) }
+    ensures unlawful { IfErr result (λ e. e ≡ StepError.BadEvent
+        → (p : Past A.Block A.Context A.Input)
+        → RegisterStands (numbered A.Databases.kind.count) p register.now
+        → processing.now.up ≡ not (is_down p)
+        → may_come (numbered A.Databases.kind.count) p event.now ≡ false) }
+    ensures idle { failed ≡ true
+        → is_restart event.now ≡ false
+        → IsErrOf result StepError.Failed }
+{
+    if failed && !is_restart(event) {
+        return Err(StepError::Failed);
+    }
+    if !may_come::<A>(processing, register, event) {
+        return Err(StepError::BadEvent);
+    }
+    Ok(())
+}
+
+/// One more where the application or a job has failed.
+fn count_fault(faults: u64, acted: &Result<(), StepError>) -> u64
+    ensures { result ≡ faults_after acted.now faults }
+{
+    match acted {
+        Err(StepError::Application) => faults.saturating_add(1),
+        _ => faults,
+    }
+}
+
+impl<A: Application + Drop> Stateful<A> {
+    /// Takes one event in, and answers the marks that it made. The order of refusals is `Failed`, `BadEvent`, then the
+    /// cause that arises first.
+    pub fn step<S: BlockStore<A::Block>>(
+        &mut self,
+        databases: &mut A::Databases,
+        store: &mut S,
+        event: Event<A::Block, A::Context, A::Input>,
+    ) -> Result<Vec<Mark<A::Block>>, StepError>
+        requires { let w = ⟦<A as Worked>⟧.workings in IsSafe w self.old.failed
+            (moment w self.old.execution self.old.loop (A.Databases.members databases.old)
+            (A.Databases.next databases.old) []) }
+
+        // The event was taken in, and what could go on has gone on, with these marks.
+        ensures does { IfOk result (λ marks. let w = ⟦<A as Worked>⟧.workings in
+            IsStep w (S.stored store.old) self.old.provider
+            (record { run = A.Run.count; build = A.Build.count; hook = A.Hook.count }) self.old.register event
+            (moment w self.old.execution self.old.loop (A.Databases.members databases.old)
+            (A.Databases.next databases.old) [])
+            (moment w self.new.execution self.new.loop (A.Databases.members databases.new)
+            (A.Databases.next databases.new) marks.items)) }
+
+        // It may come behind whatever the register stood for, and the register stands for that with the entry added.
+        ensures registers { IfOk result (λ marks. (p : Past A.Block A.Context A.Input)
+            → RegisterStands (numbered A.Databases.kind.count) p self.old.register
+            → (may_come (numbered A.Databases.kind.count) p event ≡ true)
+            × RegisterStands (numbered A.Databases.kind.count) (after_entry p event marks.items)
+            self.new.register) }
+
+        // Whatever past the machine stood for, it stands for that with the entry added, where names are true with it and the
+        // store is honest. True verdicts are earned, only durable heights are acknowledged, and the databases hold what was
+        // applied.
+        ensures stands { IfOk result (λ marks. let w = ⟦<A as Worked>⟧.workings in
+            (stored : ℕ → Option (Named A.Block))
+            (base : A.Databases.States)
+            (p : Past A.Block A.Context A.Input)
+            → Stands w stored base p self.old.failed self.old.register
+            (moment w self.old.execution self.old.loop (A.Databases.members databases.old)
+            (A.Databases.next databases.old) [])
+            → IsStoredNow stored p (S.stored store.old)
+            → TrueNames (setting w stored) (after_entry p event marks.items)
+            → HasHonestStore A.Block.header stored (after_entry p event marks.items)
+            → Continues w stored base p event
+            (moment w self.new.execution self.new.loop (A.Databases.members databases.new)
+            (A.Databases.next databases.new) marks.items) self.new.register) }
+        ensures safe { let w = ⟦<A as Worked>⟧.workings in IsSafe w self.new.failed
+            (moment w self.new.execution self.new.loop (A.Databases.members databases.new)
+            (A.Databases.next databases.new) []) }
+        ensures works { OnOk result (self.new.failed ≡ false) }
+
+        // Why it was refused. Behind a refusal the register stands for what it stood for; behind BadEvent nothing has changed,
+        // and neither has it where a machine that has failed takes no restart; behind any other error the machine has failed.
+        ensures cause { IfErr result (λ e. let w = ⟦<A as Worked>⟧.workings in
+            IsCause w (S.stored store.old) self.old.provider
+            (record { run = A.Run.count; build = A.Build.count; hook = A.Hook.count }) self.old.failed
+            self.old.register event
+            (tally (A.count self.old.application) (A.Databases.counted databases.old))
+            (tally (A.count self.new.application) (A.Databases.counted databases.new))
+            (A.Databases.members databases.new)
+            (moment w self.old.execution self.old.loop (A.Databases.members databases.old)
+            (A.Databases.next databases.old) []) e) }
+        ensures register { OnErr result ((p : Past A.Block A.Context A.Input)
+            → RegisterStands (numbered A.Databases.kind.count) p self.old.register
+            → RegisterStands (numbered A.Databases.kind.count) p self.new.register) }
+        ensures still { OnErr result (let w = ⟦<A as Worked>⟧.workings in
+            StandsAsWell w self.old.failed self.old.register
+            (moment w self.old.execution self.old.loop (A.Databases.members databases.old)
+            (A.Databases.next databases.old) [])
+            self.new.failed self.new.register
+            (moment w self.new.execution self.new.loop (A.Databases.members databases.new)
+            (A.Databases.next databases.new) [])) }
+        ensures unchanged { IsErrOf result StepError.BadEvent
+            → (self.new ≡ self.old) × (databases.new ≡ databases.old) }
+        ensures idle { self.old.failed ≡ true
+            → is_restart event ≡ false
+            → (self.new ≡ self.old) × (databases.new ≡ databases.old) × IsErrOf result StepError.Failed }
+        ensures fails { IfErr result (λ e. (e ≡ StepError.BadEvent → ⊥) → self.new.failed ≡ true) }
+
+        // Behind any other error than BadEvent, at an event that isn't a restart, of a machine that hadn't failed, each database
+        // that is here has its part of the fold over what was applied, and over further blocks, if any: the event may have
+        // applied some before its error.
+        ensures behind { IfErr result (λ e. (e ≡ StepError.BadEvent → ⊥)
+            → self.old.failed ≡ false
+            → is_restart event ≡ false
+            → let w = ⟦<A as Worked>⟧.workings in
+            LeavesFurther w (S.stored store.old) self.old.provider
+            (record { run = A.Run.count; build = A.Build.count; hook = A.Hook.count }) event
+            self.old.register
+            (moment w self.old.execution self.old.loop (A.Databases.members databases.old)
+            (A.Databases.next databases.old) [])
+            (A.Databases.members databases.new)) }
+
+        // Counts of faults and numbers never fall, and the store, the provider and the configuration stay.
+        ensures later { (n : ℕ)
+            → A.Databases.counted databases.old n ≤ A.Databases.counted databases.new n }
+        ensures application { A.count self.old.application ≤ A.count self.new.application }
+        ensures faults { self.new.faults ≡ faults_after result self.old.faults }
+        ensures numbers { Rises self.old.execution.state self.new.execution.state }
+        ensures barrier { self.old.loop.next_barrier ≤ self.new.loop.next_barrier }
+        ensures same { (store.new ≡ store.old)
+            × (self.new.provider ≡ self.old.provider)
+            × (self.new.config ≡ self.old.config) }
+    {
+        admit::<A>(self.failed, &self.processing, &self.register, &event)?;
+        self.failed = true;
+        let mut marks = Vec::new(self.alloc);
+        let acted = act(
+            &self.db_config,
+            &mut self.handler,
+            &mut self.processing,
+            &self.register,
+            databases,
+            self.provider,
+            store,
+            &event,
+            &mut marks,
+        );
+        self.faults = count_fault(self.faults, &acted);
+        match acted {
+            Ok(()) => {}
+            Err(error) => return Err(error),
+        }
+        self.register
+            .record(A::Databases::count(), &event, marks.as_slice())?;
+        self.failed = false;
+        Ok(marks)
+    }
+}
