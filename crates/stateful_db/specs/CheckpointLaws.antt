@@ -26,6 +26,13 @@ module _ {X : Type 0} where
   slice_get-take (suc n) zero (x ∷ xs) h = refl
   slice_get-take (suc n) (suc i) (x ∷ xs) h = slice_get-take n i xs (omega arith)
 
+  -- what is in a front of a list is in the list
+  pub slice_get-front : (n i : ℕ) (xs : List X) (x : X) → slice_get (take n xs) i ≡ Some x → slice_get xs i ≡ Some x
+  slice_get-front zero i xs x h = cc
+  slice_get-front (suc n) i [] x h = h
+  slice_get-front (suc n) zero (y ∷ xs) x h = h
+  slice_get-front (suc n) (suc i) (y ∷ xs) x h = slice_get-front n i xs x h
+
   pub slice_get-left : (xs ys : List X) (i : ℕ) (x : X) → slice_get xs i ≡ Some x → slice_get (xs ++ ys) i ≡ Some x
   slice_get-left [] ys i x h = cc
   slice_get-left (y ∷ xs) ys zero x h = h
@@ -88,6 +95,23 @@ module _ {S : Type 0} where
       let low : e.pruned ≤ k = omega (arith, h.0) in
       (low, ap (λ i. slice_get (all e) (k - i)) pruned ∙ ap (λ xs. slice_get xs (k - d.pruned)) opened.kept ∙ slice_get-take (n + 1) (k - d.pruned) (all d) below ∙ h.1)
 
+  -- a crash leaves what was in order in order
+  pub IsSound-crash : (range_of : S → Target) (d e : Disk S) (keep : ℕ) → IsCrash keep d e → IsSound range_of d → IsSound range_of e
+  IsSound-crash range_of d e keep crash sound =
+      let n : ℕ = max (d.durable + 1 - d.pruned) (min (keep - d.pruned) (length (all d))) in
+      let lengths : length (all e) ≡ length (take n (all d)) = ap length crash.prefix in
+      let kept : e.pruned ≤ e.durable = omega (arith, sound.kept, crash.pruned, crash.durable) in
+      record {
+        kept = kept;
+        within = omega (arith, sound.kept, sound.within, crash.pruned, crash.durable, length-all e, length-all d, length-take n (all d));
+        ends = λ i j s t less at there. sound.ends i j s t less (back n i s at) (back n j t there);
+        starts = λ i j s t less at there. sound.starts i j s t less (back n i s at) (back n j t there);
+      }
+    where
+      back : (n i : ℕ) (s : S) → slice_get (all e) i ≡ Some s → slice_get (all d) i ≡ Some s
+      back n i s at = slice_get-front (max (d.durable + 1 - d.pruned) (min (keep - d.pruned) (length (all d)))) i (all d) s
+          (sym (ap (λ (xs : List S). slice_get xs i) crash.prefix) ∙ at)
+
   pub place-opened : (d e : Disk S) (n : ℕ) → IsOpened n d e → n < length (all d) → place e ≡ d.pruned + n
   place-opened d e n opened within =
       let kept : length (all e) ≡ length (take (n + 1) (all d)) = ap length opened.kept in
@@ -121,3 +145,13 @@ module _ {S T : Type 0} (target_of : S → T) (targeted : T → Target) where
       let earlier : n < k - d.pruned → (range_of u).end.0 < (range_of s).end.0 = λ less. sound.ends n (k - d.pruned) u s less at h.1 in
       let later : k - d.pruned < n → (range_of s).end.0 < (range_of u).end.0 = λ less. sound.ends (k - d.pruned) n s u less h.1 at in
       grind arith
+
+  -- where a checkpoint has the end of a target, no kept one whose range ends there or before is behind it
+  pub with_end-from : (t : T) (d : Disk S) (n k : ℕ) (s : S) → IsSound range_of d → with_end target_of targeted t d ≡ Some n → HasAt d k s → (range_of s).end.0 ≤ (targeted t).end.0 → (k - d.pruned ≤ n) × (n < length (all d))
+  with_end-from t d n k s sound found h near =
+      let p = position-Some (λ u. (range_of u).end.0 == (targeted t).end.0) (all d) n s found in
+      let u : S = get_or (all d) n s in
+      let at : slice_get (all d) n ≡ Some u = slice_get-get_or (all d) n s p.0 in
+      let ends : (range_of u).end.0 ≡ (targeted t).end.0 = grind (arith, nat_tests, p.1) in
+      let earlier : n < k - d.pruned → (range_of u).end.0 < (range_of s).end.0 = λ less. sound.ends n (k - d.pruned) u s less at h.1 in
+      (grind arith, p.0)

@@ -92,6 +92,10 @@ pub record Databases (Ids States Targets : Type 0) : Type 1 where
   -- each database is closed, with its durable checkpoints and as many others as these numbers keep; without a number it keeps all
   pub Crashed : Members → List ℕ → Members → Type 0
 
+-- the range of these states at the database of this number doesn't end behind that of the targets
+abbrev pub EndsWithin : {Ids States Targets : Type 0} (d : Databases Ids States Targets) → Targets → ℕ → States → Type 0
+EndsWithin d t i s = (d.target_at (d.target_of s) i).end.0 ≤ (d.target_at t i).end.0
+
 -- each database keeps the checkpoints that it kept, and what was durable is
 pub record Preserves {Ids States Targets : Type 0} (d : Databases Ids States Targets) (old new : d.Members) : Type 0 where
   pub kept : (i k : ℕ) (s : States) → i < d.count → d.HasAt old i k s → d.HasAt new i k s

@@ -2,16 +2,16 @@
 use Rattle.std.specs.Prelude.{◌≡◌, ℕ, ◌+◌, ◌<◌, ◌≤◌, ◌⊎◌, max, List, [], ◌∷◌, ◌++◌, length, slice_get, Option, Some, None}
 use Rattle.stateful_types.specs.Causes.{Rose}
 use Rattle.stateful_db.specs.Tokens.{without}
-use Rattle.stateful_db.specs.Databases.{Databases, Preserves}
+use Rattle.stateful_db.specs.Databases.{Databases, EndsWithin, Preserves}
 use Rattle.stateful_db.specs.declared.database.InitError.{InitError}
 use Rattle.stateful_db.specs.declared.database.InitError.TheVariants as error
 
 module _ {Ids States Targets : Type 0} (d : Databases Ids States Targets) where
-  -- a checkpoint that is kept behind a change where it isn't older than one that is opened at these targets; and it is
-  -- durable where it was
+  -- behind an opening at these targets a checkpoint is kept where its range doesn't end behind theirs, and it is durable
+  -- where it was
   pub record KeepsUpTo (t : Targets) (old new : d.Members) : Type 0 where
-    pub kept : (i at up : ℕ) (s u : States) → i < d.count → d.HasAt old i up u → d.Agrees (d.target_of u) t i → at ≤ up → d.HasAt old i at s → d.HasAt new i at s
-    pub durable : (i at up : ℕ) (u : States) → i < d.count → d.HasAt old i up u → d.Agrees (d.target_of u) t i → at ≤ up → at ≤ d.durable old i → at ≤ d.durable new i
+    pub kept : (i k : ℕ) (s : States) → i < d.count → d.HasAt old i k s → EndsWithin d t i s → d.HasAt new i k s
+    pub durable : (i k : ℕ) (s : States) → i < d.count → d.HasAt old i k s → EndsWithin d t i s → k ≤ d.durable old i → k ≤ d.durable new i
 
   -- a checkpoint is kept behind a prune to these targets where it isn't older than the oldest that the prune leaves
   pub record KeepsFrom (t : Targets) (old new : d.Members) : Type 0 where
@@ -97,6 +97,7 @@ module _ {Ids States Targets : Type 0} (d : Databases Ids States Targets) where
   pub record OpeningLaws : Type 0 where
     pub openable_crashed : (m k : d.Members) (keep : List ℕ) → d.Crashed m keep k → d.Openable k
     pub durable_crashed : (m k : d.Members) (keep : List ℕ) (i : ℕ) → i < d.count → d.Crashed m keep k → d.durable k i ≡ d.durable m i
+    pub sound_crashed : (m k : d.Members) (keep : List ℕ) → d.Sound m → d.Crashed m keep k → d.Sound k
     pub kept_crashed : (m k : d.Members) (keep : List ℕ) (i at : ℕ) (s : States) → i < d.count → d.Crashed m keep k → at ≤ d.durable m i → d.HasAt m i at s → d.HasAt k i at s
     pub refused : (m k : d.Members) (expected : Option Targets) (i : ℕ) (why : InitError) → i < d.count → d.Refuses m expected i why → d.Reopened m expected k → ⊥
     pub refused_first : (m k : d.Members) (expected : Option Targets) (i j : ℕ) (why given : InitError) (before now : ℕ) → i < d.count → d.Refuses m expected i why → d.NotOpened m expected j before now given k → j ≤ i

@@ -11,7 +11,7 @@ use Rattle.stateful_db.specs.Tokens.{without}
 use Rattle.stateful_db.specs.Disk.{Disk, Standing, all, place, HasAt, applied, flushed, cut, IsCrash, IsOpened, IsEither, IsSound}
 use Rattle.stateful_db.specs.Reopening.{with_end, Is_at, Reopens, OpensAt, HasNone, Differs, Refuses, KeepsDurable, pruned_to}
 use Rattle.stateful_db.specs.Member.{Member, here, closed, lost, away, member_point, MemberHasAt, MemberKeeps, member_first, member_place, member_durable, member_tokens, MemberIsSound, IsIdle, HasRoom, IsOpenable, IsNotAway, IsLost, MemberHas, member_applied, member_finalized, member_flushed, IsPrunable, member_pruned, IsLostApplying, IsLostFinalizing, IsLostFlushing, IsLostPruning, MemberReopened, MemberReclosed, MemberRefuses, IsNotOpened, MemberNotOpened, IsCrashed, MemberCrashed}
-use Rattle.stateful_db.specs.CheckpointLaws.{length-all, HasAt-applied, HasAt-newest, newest-HasAt, HasAt-within, HasAt-kept, HasAt-cut, HasAt-crash, HasAt-opened, place-opened, position-passes, range_of, with_end-is}
+use Rattle.stateful_db.specs.CheckpointLaws.{length-all, HasAt-applied, HasAt-newest, newest-HasAt, HasAt-within, HasAt-kept, HasAt-cut, HasAt-crash, HasAt-opened, IsSound-crash, place-opened, position-passes, range_of, with_end-is, with_end-from}
 use Rattle.stateful_db.specs.declared.database.InitError.{InitError}
 use Rattle.stateful_db.specs.declared.database.InitError.TheVariants as error
 
@@ -299,6 +299,24 @@ module _ {S : Type 0} where
   crashed (lost d) n keep is = crashed_disk keep d n is
   crashed away n keep is = absurd is
 
+-- a crash leaves checkpoints that are in order in order
+module _ {S T : Type 0} (target_of : S → T) (targeted : T → Target) where
+  sound_crashed_disk : (keep : Option ℕ) (d : Disk S) (m : Member S) → IsSound (range_of target_of targeted) d → IsCrashed keep d m → MemberIsSound target_of targeted m
+  sound_crashed_disk None d (closed e) sound is = rw is sound
+  sound_crashed_disk (Some keep) d (closed e) sound is = IsSound-crash (range_of target_of targeted) d e keep is sound
+  sound_crashed_disk None d (here s) sound is = absurd is
+  sound_crashed_disk None d (lost e) sound is = absurd is
+  sound_crashed_disk None d away sound is = absurd is
+  sound_crashed_disk (Some keep) d (here s) sound is = absurd is
+  sound_crashed_disk (Some keep) d (lost e) sound is = absurd is
+  sound_crashed_disk (Some keep) d away sound is = absurd is
+
+  pub sound_crashed : (m n : Member S) (keep : Option ℕ) → MemberIsSound target_of targeted m → MemberCrashed m keep n → MemberIsSound target_of targeted n
+  sound_crashed (here s) n keep sound is = sound_crashed_disk keep s.disk n sound is
+  sound_crashed (closed d) n keep sound is = sound_crashed_disk keep d n sound is
+  sound_crashed (lost d) n keep sound is = sound_crashed_disk keep d n sound is
+  sound_crashed away n keep sound is = absurd is
+
 drop_twice : {S : Type 0} (n m : ℕ) (xs : List S) → drop m (drop n xs) ≡ drop (n + m) xs
 drop_twice n m xs = drop-drop m n xs
 
@@ -504,8 +522,8 @@ module _ {S T : Type 0} (target_of : S → T) (targeted : T → Target) where
   cause (lost d) expected before now why n is = cause_disk expected d before now why n is
   cause away expected before now why n is = absurd is
 
-  -- what an opening keeps: the checkpoint of the target, and those before
-  pub opened_disk : (t : T) (d : Disk S) (u : Standing S) (up : ℕ) (v : S) → IsSound (range_of target_of targeted) d → Reopens target_of targeted (Some t) d u → HasAt d up v → target_of v ≡ t
+  -- at which checkpoint a database is opened
+  opened_disk : (t : T) (d : Disk S) (u : Standing S) (up : ℕ) (v : S) → IsSound (range_of target_of targeted) d → Reopens target_of targeted (Some t) d u → HasAt d up v → target_of v ≡ t
       → (place u.disk ≡ up) × (u.disk.durable ≡ up) × ((k : ℕ) (s : S) → k ≤ up → HasAt d k s → HasAt u.disk k s)
   opened_disk t d u up v sound (n, found, same, opens) h target =
       let at : n ≡ up - d.pruned = with_end-is target_of targeted t d n up v sound found h (ap (λ (x : T). (targeted x).end.0) target) in
@@ -526,29 +544,42 @@ module _ {S T : Type 0} (target_of : S → T) (targeted : T → Target) where
   opened_at (lost d) (lost e) t k s sound openable is h same = absurd is
   opened_at (lost d) away t k s sound openable is h same = absurd is
 
-  -- what is kept of a database up to the checkpoint of a target, and is durable as far as it was
+  -- what is kept of a database whose range doesn't end behind that of a target, and is durable as far as it was
   abbrev pub UpTo : T → Member S → Member S → Type 0
-  UpTo t m n = (up : ℕ) (v : S) → MemberHasAt m up v → target_of v ≡ t → (k : ℕ) → k ≤ up → ((s : S) → MemberHasAt m k s → MemberHasAt n k s) × (k ≤ member_durable m → k ≤ member_durable n)
+  UpTo t m n = (k : ℕ) (s : S) → MemberHasAt m k s → (range_of target_of targeted s).end.0 ≤ (targeted t).end.0 → MemberHasAt n k s × (k ≤ member_durable m → k ≤ member_durable n)
 
   pub up_to_same : (t : T) (m n : Member S) → n ≡ m → UpTo t m n
-  up_to_same t m n is = rw is (λ up v h same k near. (λ s kept. kept, λ durable. durable))
+  up_to_same t m n is = rw is (λ k s kept near. (kept, λ durable. durable))
+
+  -- what an opening keeps: the checkpoint of the target, and those before
+  up_to_opened : (t : T) (d : Disk S) (u : Standing S) → IsSound (range_of target_of targeted) d → Reopens target_of targeted (Some t) d u
+      → (k : ℕ) (s : S) → HasAt d k s → (range_of target_of targeted s).end.0 ≤ (targeted t).end.0 → HasAt u.disk k s × (k ≤ u.disk.durable)
+  up_to_opened t d u sound (n, found, same, opens) k s kept near =
+      let from = with_end-from target_of targeted t d n k s sound found kept near in
+      let is : place u.disk ≡ d.pruned + n = place-opened d u.disk n opens.disk from.1 in
+      (HasAt-opened d u.disk n k s opens.disk from.0 kept, omega (arith, opens.disk.durable, is, from.0, kept.0))
+
+  up_to_here : (t : T) (d : Disk S) (u : Standing S) → IsSound (range_of target_of targeted) d → Reopens target_of targeted (Some t) d u
+      → (k : ℕ) (s : S) → HasAt d k s → (range_of target_of targeted s).end.0 ≤ (targeted t).end.0
+      → HasAt u.disk k s × (k ≤ d.durable → k ≤ u.disk.durable)
+  up_to_here t d u sound opens k s kept near = let o = up_to_opened t d u sound opens k s kept near in (o.0, λ durable. o.1)
 
   pub up_to_reopened : (m n : Member S) (t : T) → MemberIsSound target_of targeted m → MemberReopened target_of targeted m (Some t) n → UpTo t m n
   up_to_reopened (here u) n t sound is = up_to_same t (here u) n is
   up_to_reopened away n t sound is = up_to_same t away n is
-  up_to_reopened (closed d) (here u) t sound is = λ up v h same k near. let o = opened_disk t d u up v sound is h same in (λ s kept. o.2 k s near kept, λ durable. omega (arith, o.1))
+  up_to_reopened (closed d) (here u) t sound is = up_to_here t d u sound is
   up_to_reopened (closed d) (closed e) t sound is = absurd is
   up_to_reopened (closed d) (lost e) t sound is = absurd is
   up_to_reopened (closed d) away t sound is = absurd is
-  up_to_reopened (lost d) (here u) t sound is = λ up v h same k near. let o = opened_disk t d u up v sound is h same in (λ s kept. o.2 k s near kept, λ durable. omega (arith, o.1))
+  up_to_reopened (lost d) (here u) t sound is = up_to_here t d u sound is
   up_to_reopened (lost d) (closed e) t sound is = absurd is
   up_to_reopened (lost d) (lost e) t sound is = absurd is
   up_to_reopened (lost d) away t sound is = absurd is
 
-  pub reclosed_disk : (t : T) (d e : Disk S) → IsSound (range_of target_of targeted) d → (u : Standing S) × Reopens target_of targeted (Some t) d u × (e ≡ u.disk) → (up : ℕ) (v : S) → HasAt d up v → target_of v ≡ t → (k : ℕ) → k ≤ up → ((s : S) → HasAt d k s → HasAt e k s) × (k ≤ d.durable → k ≤ e.durable)
-  reclosed_disk t d e sound (u, opens, is) up v h same k near =
-      let o = opened_disk t d u up v sound opens h same in
-      (λ s kept. rw is (o.2 k s near kept), λ durable. rw is (omega (arith, o.1)))
+  reclosed_disk : (t : T) (d e : Disk S) → IsSound (range_of target_of targeted) d
+      → (u : Standing S) × Reopens target_of targeted (Some t) d u × (e ≡ u.disk)
+      → (k : ℕ) (s : S) → HasAt d k s → (range_of target_of targeted s).end.0 ≤ (targeted t).end.0 → HasAt e k s × (k ≤ d.durable → k ≤ e.durable)
+  reclosed_disk t d e sound (u, opens, is) k s kept near = rw is (up_to_here t d u sound opens k s kept near)
 
   pub up_to_reclosed : (m n : Member S) (t : T) → MemberIsSound target_of targeted m → MemberReclosed target_of targeted m (Some t) n → UpTo t m n
   up_to_reclosed (here u) n t sound is = up_to_same t (here u) n is
@@ -562,7 +593,7 @@ module _ {S T : Type 0} (target_of : S → T) (targeted : T → Target) where
   up_to_reclosed (lost d) (lost e) t sound is = absurd is
   up_to_reclosed (lost d) away t sound is = absurd is
 
-  pub up_to_disk : (t : T) (d : Disk S) (before now : ℕ) (why : InitError) (n : Member S) → IsNotOpened target_of targeted (Some t) d before now why n → (n ≡ lost d) ⊎ (n ≡ closed d)
+  up_to_disk : (t : T) (d : Disk S) (before now : ℕ) (why : InitError) (n : Member S) → IsNotOpened target_of targeted (Some t) d before now why n → (n ≡ lost d) ⊎ (n ≡ closed d)
   up_to_disk t d before now error.Database n (inl is) = inl is.1
   up_to_disk t d before now error.Database n (inr is) = inr is.1
   up_to_disk t d before now (error.TargetMismatch given recovered) n is = inr is.1
@@ -571,8 +602,8 @@ module _ {S T : Type 0} (target_of : S → T) (targeted : T → Target) where
   pub up_to_not_opened : (m n : Member S) (t : T) (before now : ℕ) (why : InitError) → MemberNotOpened target_of targeted m (Some t) before now why n → UpTo t m n
   up_to_not_opened (here u) n t before now why is = absurd is
   up_to_not_opened away n t before now why is = absurd is
-  up_to_not_opened (closed d) n t before now why is = elim (up_to_disk t d before now why n is) [ inl e ↦ rw e (λ up v h same k near. (λ s kept. kept, λ durable. durable)) | inr e ↦ rw e (λ up v h same k near. (λ s kept. kept, λ durable. durable)) ]
-  up_to_not_opened (lost d) n t before now why is = elim (up_to_disk t d before now why n is) [ inl e ↦ rw e (λ up v h same k near. (λ s kept. kept, λ durable. durable)) | inr e ↦ rw e (λ up v h same k near. (λ s kept. kept, λ durable. durable)) ]
+  up_to_not_opened (closed d) n t before now why is = elim (up_to_disk t d before now why n is) [ inl e ↦ rw e (λ k s kept near. (kept, λ durable. durable)) | inr e ↦ rw e (λ k s kept near. (kept, λ durable. durable)) ]
+  up_to_not_opened (lost d) n t before now why is = elim (up_to_disk t d before now why n is) [ inl e ↦ rw e (λ k s kept near. (kept, λ durable. durable)) | inr e ↦ rw e (λ k s kept near. (kept, λ durable. durable)) ]
 
   -- where a database is behind an opening that was tried
   pub not_away_reopened : (m n : Member S) (expected : Option T) → IsNotAway m → MemberReopened target_of targeted m expected n → IsNotAway n

@@ -5,7 +5,7 @@ use Rattle.std.proofs.lemmas.List.{map-append}
 use Rattle.std.proofs.lemmas.Option.{slice_get-map}
 use Rattle.stateful_types.specs.Causes.{Rose}
 use Rattle.stateful_db.specs.Tokens.{without}
-use Rattle.stateful_db.specs.Databases.{Databases, Preserves}
+use Rattle.stateful_db.specs.Databases.{Databases, EndsWithin, Preserves}
 use Rattle.stateful_db.specs.Pair.{left, right, both, first_of, others_of, by_number, LostInOrder, pair}
 use Rattle.stateful_db.specs.Laws.{KeepsUpTo, KeepsFrom, IdLaws, TargetLaws, PlaceLaws, ApplyLaws, FinalizeLaws, FlushLaws, PruneLaws, OpeningLaws, Laws}
 use Rattle.stateful_db.specs.declared.database.InitError.{InitError}
@@ -404,16 +404,16 @@ module _ {I J S U T V : Type 0} (a : Databases I S T) (b : Databases J U V) (A :
   up_to : (t : T × V) (m k : (pair a b).Members) → KeepsUpTo a t.0 m.0 k.0 → KeepsUpTo b t.1 m.1 k.1 → KeepsUpTo (pair a b) t m k
   up_to t m k first others = record { kept = kept; durable = durable }
     where
-      kept : (i at up : ℕ) (s u : S × U) → i < suc b.count → (pair a b).HasAt m i up u → (pair a b).Agrees ((pair a b).target_of u) t i → at ≤ up → (pair a b).HasAt m i at s → (pair a b).HasAt k i at s
-      kept zero at up s u h there same near has = first.kept 0 at up s.0 u.0 has_first there same near has
-      kept (suc i) at up s u h there same near has = others.kept i at up s.1 u.1 (within i h) there same near has
+      kept : (i at : ℕ) (s : S × U) → i < suc b.count → (pair a b).HasAt m i at s → EndsWithin (pair a b) t i s → (pair a b).HasAt k i at s
+      kept zero at s h has near = first.kept 0 at s.0 has_first has near
+      kept (suc i) at s h has near = others.kept i at s.1 (within i h) has near
 
-      durable : (i at up : ℕ) (u : S × U) → i < suc b.count → (pair a b).HasAt m i up u → (pair a b).Agrees ((pair a b).target_of u) t i → at ≤ up → at ≤ (pair a b).durable m i → at ≤ (pair a b).durable k i
-      durable zero at up u h there same near was = first.durable 0 at up u.0 has_first there same near was
-      durable (suc i) at up u h there same near was = others.durable i at up u.1 (within i h) there same near was
+      durable : (i at : ℕ) (s : S × U) → i < suc b.count → (pair a b).HasAt m i at s → EndsWithin (pair a b) t i s → at ≤ (pair a b).durable m i → at ≤ (pair a b).durable k i
+      durable zero at s h has near was = first.durable 0 at s.0 has_first has near was
+      durable (suc i) at s h has near was = others.durable i at s.1 (within i h) has near was
 
   up_to_others : (t : V) (m k : b.Members) → k ≡ m → KeepsUpTo b t m k
-  up_to_others t m k is = rw is (record { kept = λ i at up s u h there same near has. has; durable = λ i at up u h there same near was. was })
+  up_to_others t m k is = rw is (record { kept = λ i at s h has near. has; durable = λ i at s h has near was. was })
 
   kept_not_opened : (m k : (pair a b).Members) (t : T × V) (j : ℕ) (why : InitError) (before now : ℕ) → (pair a b).Sound m → (pair a b).NotOpened m (Some t) j before now why k → KeepsUpTo (pair a b) t m k
   kept_not_opened m k t zero why before now sound is = up_to t m k (A.opening.kept_not_opened m.0 k.0 t.0 0 why before now sound.0 is.0) (up_to_others t.1 m.1 k.1 is.1)
@@ -431,6 +431,7 @@ module _ {I J S U T V : Type 0} (a : Databases I S T) (b : Databases J U V) (A :
   opening = record {
     openable_crashed = λ m k keep is. (A.opening.openable_crashed m.0 k.0 keep is.0, B.opening.openable_crashed m.1 k.1 (drop 1 keep) is.1);
     durable_crashed = durable_crashed;
+    sound_crashed = λ m k keep sound is. (A.opening.sound_crashed m.0 k.0 keep sound.0 is.0, B.opening.sound_crashed m.1 k.1 (drop 1 keep) sound.1 is.1);
     kept_crashed = kept_crashed;
     refused = refused;
     refused_first = refused_first;

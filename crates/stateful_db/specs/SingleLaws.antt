@@ -7,7 +7,7 @@ use Rattle.stateful_db.specs.Databases.{Preserves}
 use Rattle.stateful_db.specs.Member.{Member}
 use Rattle.stateful_db.specs.Single.{single}
 use Rattle.stateful_db.specs.Laws.{KeepsUpTo, KeepsFrom, IdLaws, TargetLaws, PlaceLaws, ApplyLaws, FinalizeLaws, FlushLaws, PruneLaws, OpeningLaws, Laws}
-use Rattle.stateful_db.specs.MemberLaws.{AllBelow-cut, has_newest, newest_has, whole_state, has_kept, has_point, not_away_openable, not_away_here, idle_from, room_from, idle_room, tokens_idle, keeps_applied, first_applied, place_applied, durable_applied, tokens_applied, point_applied, kept_applied, kept_lost_applying, durable_lost_applying, keeps_finalized, first_finalized, place_finalized, durable_finalized, tokens_finalized, point_finalized, has_finalized, kept_finalized, lost_finalizing, keeps_flushed, first_flushed, place_flushed, durable_flushed, tokens_flushed, point_flushed, flushed_preserves, lost_flushing, crashed, prunable_from, keeps_pruned, first_pruned, place_pruned, durable_pruned, tokens_pruned, point_pruned, has_pruned, kept_pruned, lost_pruning, not_refused, refused, refused_reclosed, cause, opened_at, UpTo, up_to_reopened, up_to_reclosed, up_to_not_opened, not_away_reopened, not_away_reclosed, openable_reclosed, openable_not_opened, AllBelow-le}
+use Rattle.stateful_db.specs.MemberLaws.{AllBelow-cut, has_newest, newest_has, whole_state, has_kept, has_point, not_away_openable, not_away_here, idle_from, room_from, idle_room, tokens_idle, keeps_applied, first_applied, place_applied, durable_applied, tokens_applied, point_applied, kept_applied, kept_lost_applying, durable_lost_applying, keeps_finalized, first_finalized, place_finalized, durable_finalized, tokens_finalized, point_finalized, has_finalized, kept_finalized, lost_finalizing, keeps_flushed, first_flushed, place_flushed, durable_flushed, tokens_flushed, point_flushed, flushed_preserves, lost_flushing, crashed, sound_crashed, prunable_from, keeps_pruned, first_pruned, place_pruned, durable_pruned, tokens_pruned, point_pruned, has_pruned, kept_pruned, lost_pruning, not_refused, refused, refused_reclosed, cause, opened_at, UpTo, up_to_reopened, up_to_reclosed, up_to_not_opened, not_away_reopened, not_away_reclosed, openable_reclosed, openable_not_opened, AllBelow-le}
 
 module _ {S T : Type 0} (target_of : S → T) (targeted : T → Target) (begun : S → S) (initial : S) where
   ids_laws : IdLaws (single target_of targeted begun initial)
@@ -112,14 +112,15 @@ module _ {S T : Type 0} (target_of : S → T) (targeted : T → Target) (begun :
 
   up_to : (t : T) (m n : Member S) → UpTo target_of targeted t m n → KeepsUpTo (single target_of targeted begun initial) t m n
   up_to t m n is = record {
-    kept = λ i at up s v within h same near. (is up v h same at near).0 s;
-    durable = λ i at up v within h same near. (is up v h same at near).1;
+    kept = λ i k s within h near. (is k s h near).0;
+    durable = λ i k s within h near. (is k s h near).1;
   }
 
   opening_laws : OpeningLaws (single target_of targeted begun initial)
   opening_laws = record {
     openable_crashed = λ m n keep is. (crashed m n (slice_get keep 0) is).0;
     durable_crashed = λ m n keep i within is. (crashed m n (slice_get keep 0) is).1;
+    sound_crashed = λ m n keep. sound_crashed target_of targeted m n (slice_get keep 0);
     kept_crashed = λ m n keep i at s within is. (crashed m n (slice_get keep 0) is).2 at s;
     refused = λ m n expected i why within. refused target_of targeted m n expected why;
     refused_first = λ m n expected i j why given before now within refuses is. omega (arith, is.0);

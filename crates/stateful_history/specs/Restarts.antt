@@ -17,25 +17,31 @@ abbrev pub reopened_height : Floor → ℕ
 reopened_height floor = unwrap_or (option_map (λ (h : Height). h.0) floor.processed) 0
 
 module _ {B C I : Type 0} where
-  -- this is the height of the last opening, or was acknowledged since
-  abbrev pub WasReached : ℕ → Past B C I → Type 0
-  WasReached q [] = ⊥
-  WasReached q (Made (Opened anchor) ∷ p) = anchor.height.0 ≡ q
-  WasReached q (Made (Converged anchor) ∷ p) = anchor.height.0 ≡ q
-  WasReached q (Made (Acknowledged t height) ∷ p) = (height.0 ≡ q) ⊎ WasReached q p
-  WasReached q (item ∷ p) = WasReached q p
-
-  -- Since the last opening the databases were never pruned past this height, in whole or in part, and no restart was at
-  -- a lower one.
+  -- Since the last opening, which isn't above this height, the databases were never pruned past it, in
+  -- whole or in part, and no restart was at a lower one.
   abbrev pub IsUntouched : ℕ → Past B C I → Type 0
-  IsUntouched q [] = Unit {0}
-  IsUntouched q (Made (Opened anchor) ∷ p) = Unit {0}
-  IsUntouched q (Made (Converged anchor) ∷ p) = Unit {0}
+  IsUntouched q [] = ⊥
+  IsUntouched q (Made (Opened anchor) ∷ p) = anchor.height.0 ≤ q
+  IsUntouched q (Made (Converged anchor) ∷ p) = anchor.height.0 ≤ q
   IsUntouched q (Made (Pruned marshal target) ∷ p) = (target.0 ≤ q) × IsUntouched q p
   IsUntouched q (Cut target ∷ p) = (target.0 ≤ q) × IsUntouched q p
   IsUntouched q (Came (Restart floor keep) ∷ p) = (q ≤ reopened_height floor) × IsUntouched q p
   IsUntouched q (Tried height ∷ p) = (q ≤ height.0) × IsUntouched q p
   IsUntouched q (item ∷ p) = IsUntouched q p
+
+  -- This height was opened, or it was acknowledged while it was untouched. Since then the databases were
+  -- never pruned past it, in whole or in part, and no restart was at a lower one. A sync begins anew.
+  abbrev pub WasReached : ℕ → Past B C I → Type 0
+  WasReached q [] = ⊥
+  WasReached q (Made (Opened anchor) ∷ p) = (anchor.height.0 ≡ q) ⊎ WasReached q p
+  WasReached q (Made (Converged anchor) ∷ p) = anchor.height.0 ≡ q
+  WasReached q (Made (Acknowledged t height) ∷ p) =
+      ((height.0 ≡ q) × IsUntouched q p) ⊎ WasReached q p
+  WasReached q (Made (Pruned marshal target) ∷ p) = (target.0 ≤ q) × WasReached q p
+  WasReached q (Cut target ∷ p) = (target.0 ≤ q) × WasReached q p
+  WasReached q (Came (Restart floor keep) ∷ p) = (q ≤ reopened_height floor) × WasReached q p
+  WasReached q (Tried height ∷ p) = (q ≤ height.0) × WasReached q p
+  WasReached q (item ∷ p) = WasReached q p
 
   -- nothing was opened before
   abbrev pub IsUnopened : Past B C I → Type 0
@@ -44,10 +50,11 @@ module _ {B C I : Type 0} where
   IsUnopened (Made (Converged anchor) ∷ p) = ⊥
   IsUnopened (item ∷ p) = IsUnopened p
 
-  -- The databases can be opened at this height: it is that of the last opening or was acknowledged since, and its
-  -- checkpoints are there; or nothing was opened before, and it is 0.
+  -- The databases can be opened at this height: it is that of the last opening, or was acknowledged since,
+  -- or was opened or acknowledged earlier, and its checkpoints are there; or nothing was opened before, and
+  -- it is 0. A height below the last opening's that is acknowledged anew counts where it was reached before.
   abbrev pub CanReopen : ℕ → Past B C I → Type 0
-  CanReopen q p = (WasReached q p × IsUntouched q p) ⊎ (IsUnopened p × (q ≡ 0))
+  CanReopen q p = WasReached q p ⊎ (IsUnopened p × (q ≡ 0))
 
 module _ {B S T : Type 0} (s : Setting B S T) where
   -- the states after the store's blocks from height 1 up to this height

@@ -49,7 +49,7 @@ module _ {B C I P R D H G U : Type 0} (w : Workings B C I P R D H G U) (laws : L
   kept-fold new same i = record {
     state = e.point.1;
     folded = Executes-folded w stored base q m e;
-    has = same i e.point.1 (laws.places.has_state m.members e.point i e.located);
+    has = same.states i e.point.1 (laws.places.has_state m.members e.point i e.located);
   }
 
   module _ (new : w.kind.Members) (i : ℕ) where

@@ -173,3 +173,9 @@ pub mod DulyRules
 pub mod DulyTurned
 pub mod DulyTaken
 pub mod DulyAlong
+pub mod Reaching
+pub mod MediaChanges
+pub mod MediaKept
+pub mod MediaRules
+pub mod MediaAlong
+pub mod MediaOpens

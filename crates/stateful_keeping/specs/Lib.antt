@@ -18,3 +18,4 @@ pub mod Rounds
 pub mod Reasons
 pub mod HandsBehind
 pub mod Duly
+pub mod Media

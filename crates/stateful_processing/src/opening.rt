@@ -1,8 +1,9 @@
 //! How the databases are opened behind a crash.
 
-ghost use Rattle.std.specs.Prelude.{◌≡◌, ◌≢◌, ◌≤◌, [], ℕ, OnOk, IfErr, None};
+ghost use Rattle.std.specs.Prelude.{◌≡◌, ◌≢◌, ◌≤◌, [], ℕ, OnOk, OnErr, IfErr, None};
 ghost use Rattle.stateful_exec.specs.Starting.{Rises};
 ghost use Rattle.stateful_history.specs.Restarts.{reopened_height};
+ghost use Rattle.stateful_processing.specs.Left.{LeavesOpening};
 ghost use Rattle.stateful_processing.specs.Moments.{executing, moment};
 ghost use Rattle.stateful_processing.specs.Opening.{Opens, FaultsOpening};
 
@@ -45,6 +46,9 @@ pub fn open<A: Application + Drop, S: BlockStore<A::Block>>(
     ensures fault { IfErr result (FaultsOpening ⟦<A as Worked>⟧.workings (S.stored store.now)
         floor.now keep.now (A.Databases.counted databases.old)
         (A.Databases.counted databases.new) (A.Databases.members databases.old)
+        (A.Databases.members databases.new)) }
+    ensures left { OnErr result (LeavesOpening ⟦<A as Worked>⟧.workings (S.stored store.now)
+        floor.now keep.now (A.Databases.members databases.old)
         (A.Databases.members databases.new)) }
     ensures none_away { A.Databases.kind.NoneAway (A.Databases.members databases.new) }
     ensures later { (n : ℕ)

@@ -3,7 +3,7 @@ use Rattle.stateful_exec.specs.Workings.{workings}
 use Rattle.stateful_processing.specs.Errors.{error_of_set}
 use Rattle.stateful_processing.specs.Moments.{executing}
 use Rattle.stateful_processing.proofs.Handing.{converted, err_holds}
-use Rattle.stateful_processing.proofs.Leaving.{left_applied}
+use Rattle.stateful_processing.proofs.Leaving.{left_applied, left_applying}
 use Rattle.stateful_processing.proofs.Finalizations.{fault_applying, applies_block}
 use Rattle.stateful_processing.proofs.finalizing.apply.Goals as goal
 
@@ -45,3 +45,14 @@ returns-in_err-push-clause-left g c =
     (inr (left_applied w g.met.A.Databases.DatabaseSet.laws c.args.front.block (executing c.args.handler.now) (executing c.advance.new.self)
     (g.A.Databases.DatabaseSet.members c.args.databases.now) (g.A.Databases.DatabaseSet.members c.apply.new.self)
     c.in_ok-batch.batch c.in_ok-batch.captured c.in_ok-batch.ensures.ok c.in_ok-apply.ensures.ok))
+
+pub returns-in_err-apply-clause-left : goal.returns-in_err-apply-clause-left
+returns-in_err-apply-clause-left g c =
+    let w = workings g.A.Block.Block.header g.A.Block.Block.context_of g.A.Context.Rounded.round_of g.A.Application.works g.A.Databases.DatabaseSet.kind g.A.Databases.DatabaseSet.shows in
+    let failed = c.in_err-apply.ensures in
+    err_holds c.from_residual-in_err-apply.result
+    (inr (left_applying w g.met.A.Databases.DatabaseSet.laws c.args.front.block (executing c.args.handler.now) (executing c.advance.new.self)
+    (g.A.Databases.DatabaseSet.members c.args.databases.now) (g.A.Databases.DatabaseSet.members c.apply.new.self)
+    c.in_ok-batch.batch c.in_ok-batch.captured c.in_ok-batch.ensures.ok c.in_err-apply.field-0.0 failed.err
+    (λ is. failed.unchanged (ap Err is)) (λ is. failed.exhausted (ap Err is))
+    (λ n k is few. (failed.fault n k (ap Err is) few).4) (λ is. failed.memory (ap Err is))))

@@ -3,6 +3,7 @@ use Rattle.stateful_processing.specs.Intake.{enters, cancels, fetched, turns, fl
 use Rattle.stateful_processing.specs.Moments.{executing}
 use Rattle.stateful_processing.proofs.Intakes.{on_ok, on_err, ok_none, err_to, within_awaited, token_awaited, idles}
 use Rattle.stateful_processing.proofs.Handing.{err_holds}
+use Rattle.stateful_processing.proofs.Leaving.{keeps_same}
 use Rattle.stateful_processing.proofs.intake.take_in.Goals as goal
 
 pub returns-in_err-answer-in-Fetched-clause-fault : goal.returns-in_err-answer-in-Fetched-clause-fault
@@ -32,7 +33,7 @@ returns-in_err-message-in_default g c =
     record {
       ok = ok_none c.from_residual-in_err-message-in_default.result _ c.from_residual-in_err-message-in_default.ensures.0;
       fault = err_to c.from_residual-in_err-message-in_default.result _ _ c.from_residual-in_err-message-in_default.ensures.1 (λ e is. memory is);
-      left = err_holds c.from_residual-in_err-message-in_default.result (λ i s has. has);
+      left = err_holds c.from_residual-in_err-message-in_default.result (keeps_same _ _ _ refl);
       none_away = λ h. h;
       later = λ n. omega arith;
       numbers = (omega arith, omega arith);
@@ -45,7 +46,7 @@ returns-in_err-push-in_default g c =
     record {
       ok = ok_none c.from_residual-in_err-push-in_default.result _ c.from_residual-in_err-push-in_default.ensures.0;
       fault = err_to c.from_residual-in_err-push-in_default.result _ _ c.from_residual-in_err-push-in_default.ensures.1 (λ e is. memory is);
-      left = err_holds c.from_residual-in_err-push-in_default.result (λ i s has. has);
+      left = err_holds c.from_residual-in_err-push-in_default.result (keeps_same _ _ _ refl);
       none_away = λ h. h;
       later = λ n. omega arith;
       numbers = (omega arith, omega arith);

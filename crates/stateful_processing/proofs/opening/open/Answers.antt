@@ -4,8 +4,9 @@ use Rattle.stateful_durability.specs.Durability.{Coverage}
 use Rattle.stateful_history.specs.declared.mark.Mark.TheVariants as mark
 use Rattle.stateful_exec.specs.Workings.{workings}
 use Rattle.stateful_processing.specs.Errors.{error_of_init}
+use Rattle.stateful_processing.specs.Left.{not_opened, opened}
 use Rattle.stateful_processing.specs.Opening.{FaultsOpening}
-use Rattle.stateful_processing.proofs.Handing.{converted}
+use Rattle.stateful_processing.proofs.Handing.{converted, err_holds}
 use Rattle.stateful_processing.proofs.OpeningCalls.{fault_opening}
 use Rattle.stateful_processing.proofs.opening.open.Goals as goal
 
@@ -51,3 +52,18 @@ returns-clause-ok g c = record {
 
 pub returns-clause-none_away : goal.returns-clause-none_away
 returns-clause-none_away g c = c.init.ensures.none_away (g.met.A.Databases.DatabaseSet.laws.places.away_openable _ c.crash.ensures.openable)
+
+pub returns-in_err-init-clause-left : goal.returns-in_err-init-clause-left
+returns-in_err-init-clause-left g c =
+    let before = g.A.Databases.DatabaseSet.counted c.args.databases.now in
+    let now = g.A.Databases.DatabaseSet.counted c.init.new.self in
+    let e = c.in_err-init.field-0.0 in
+    err_holds c.from_residual-in_err-init.result
+    (not_opened {crashed = g.A.Databases.DatabaseSet.members c.crash.result} {block = c.in-Some.block} {i = e.index} {before = before e.index}
+    {now = now e.index} {why = e.why} record { is_crashed = (search rules); is_stored = (search rules) } (search rules))
+
+pub returns-in_err-push-clause-left : goal.returns-in_err-push-clause-left
+returns-in_err-push-clause-left g c =
+    err_holds c.from_residual-in_err-push.result
+    (opened {crashed = g.A.Databases.DatabaseSet.members c.crash.result} {block = c.in-Some.block}
+    record { is_crashed = (search rules); is_stored = (search rules) } (search rules))
