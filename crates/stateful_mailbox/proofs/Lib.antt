@@ -1,0 +1,5 @@
+pub mod Books
+pub mod Sending
+pub mod Noting
+pub mod Asking
+pub mod Passing
