@@ -3,3 +3,4 @@ pub mod Sending
 pub mod Noting
 pub mod Asking
 pub mod Passing
+pub mod Taking

@@ -178,6 +178,7 @@ impl<B: Drop, C: Drop, I: Drop> Mailbox<B, C, I> {
             if self.tickets.is_queued(message.ticket) {
                 return Some(message);
             }
+            drop(message);
         }
         None
     }
