@@ -104,11 +104,11 @@ module _ {B C I P R D H G U : Type 0} (w : Workings B C I P R D H G U) (stored :
         at = record {
           ready = record { stands = v.behind.stands; names = names; located = rw v.behind.members_are a.at.ready.located; drawn = v.drawn a.at.ready.drawn };
           free = IsFree-mild w stored base p points point m.next (record m.state { pause = Free }) v.behind.more
-            (subst (λ (ms : List (Mark B)). All (λ x. IsMild x) ms)
-            (append_cancel_left m.marks l.more v.behind.more (sym l.marks_are ∙ v.behind.marks_are)) l.mild)
-            names now.next (record now.state { pause = Free }) (record { anchor = l.left.anchor; cache = l.left.cache; pause = refl })
-            (TablesStand-free w stored
-            (after p v.behind.more) points point now.next now.state moved.boundary moved.pause_is moved.moved v.behind.stands) a.at.free;
+              (subst (λ (ms : List (Mark B)). All (λ x. IsMild x) ms)
+              (append_cancel_left m.marks l.more v.behind.more (sym l.marks_are ∙ v.behind.marks_are)) l.mild)
+              names now.next (record now.state { pause = Free }) (record { anchor = l.left.anchor; cache = l.left.cache; pause = refl })
+              (TablesStand-free w stored
+              (after p v.behind.more) points point now.next now.state moved.boundary moved.pause_is moved.moved v.behind.stands) a.at.free;
           moved = moved;
         };
         stays = stay p m now r v.behind.more v.behind.marks_are a.at waited (All-head Besides r rs a.besides) names rule a.stays;

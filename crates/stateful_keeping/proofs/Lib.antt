@@ -168,6 +168,11 @@ pub mod IntakeCarried
 pub mod GoesTakes
 pub mod HandsUp
 pub mod HandsOpened
+pub mod Unruled
+pub mod DulyRules
+pub mod DulyTurned
+pub mod DulyTaken
+pub mod DulyAlong
 pub mod Reaching
 pub mod MediaChanges
 pub mod MediaKept

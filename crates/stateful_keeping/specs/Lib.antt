@@ -17,4 +17,5 @@ pub mod EventBehind
 pub mod Rounds
 pub mod Reasons
 pub mod HandsBehind
+pub mod Duly
 pub mod Media

@@ -86,9 +86,11 @@ module _ {B C I P R D H G U : Type 0} (w : Workings B C I P R D H G U) (stored h
       }) Stays
       (λ p m now r more is g hand h rule c st.
       StaysLinked-advances w stored base p points point m now g.ready.stands st more is (names_same p (after p more) g.ready.names c.same)
-      r.ticket (requested r.request) tip g.ground h.linked r.path h.parked.way
-      ((knows_free w stored base p points point m.next tip m.state.pause m.state.anchor m.state.cache h.parked.free g.ground r.path.parent.digest).1
-      h.parked.at_hand, h.parked.at_hand) rule)
+      r.ticket (requested r.request) tip g.ground h.linked r.path h.parked.way (
+        (knows_free w stored base p points point m.next tip m.state.pause m.state.anchor m.state.cache h.parked.free g.ground r.path.parent.digest).1
+            h.parked.at_hand,
+        h.parked.at_hand,
+      ) rule)
       (λ p m now r g hand h st rule. let k = advances-marks w p m now r.ticket (requested r.request) r.path rule in
       record { more = k.more; marks_are = k.marks_are; each = any_marks p k.more })
       rs p m last ready turns

@@ -22,3 +22,6 @@ pub mod WorkPlaces
 pub mod MediaSteps
 pub mod Tried
 pub mod MediaRefused
+pub mod WorkDuly
+pub mod EntryRules
+pub mod WantedRuns

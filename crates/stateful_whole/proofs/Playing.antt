@@ -2,16 +2,17 @@
 use Rattle.std.proofs.Common.{◌≡◌, ◌≢◌, ◌⊎◌, ◌++◌, ◌∷◌, [], inl, inr, ℕ, true, false, not, List, All, Option, sym, ap, ◌∙◌, subst, append_assoc, true≢false}
 use Rattle.std.specs.List.{Contains}
 use Rattle.std.proofs.lemmas.List.{append_cancel_left}
-use Rattle.std.proofs.lemmas.List.Elements.{All-append, All-push, Contains-append_right, Contains-push}
+use Rattle.std.proofs.lemmas.List.Elements.{All-append, All-push, All-weaker, All-contains_itself, Contains-append_left, Contains-append_right, Contains-push}
 use Rattle.stateful_types.specs.Names.{Named}
 use Rattle.stateful_db.specs.Laws.{Laws}
 use Rattle.stateful_history.specs.Canonical.{pruned_below}
 use Rattle.stateful_history.specs.Live.{names_live, may_come}
 use Rattle.stateful_history.specs.Met.{TrueNames}
 use Rattle.stateful_history.specs.Opening.{is_down, opens}
-use Rattle.stateful_history.specs.Past.{Past, Came, Made, EachMark, after, after_entry}
+use Rattle.stateful_history.specs.Past.{Past, Came, Made, EachMark, EachNext, after, after_entry}
 use Rattle.stateful_history.specs.Prunes.{PrunedIsDue}
 use Rattle.stateful_history.specs.Restarts.{OpenedIsStored}
+use Rattle.stateful_history.specs.Runs.{BuildIsAnswered}
 use Rattle.stateful_history.specs.Stops.{IsRestart, NothingLive, BrokeBefore, StopsClean, StartsClean}
 use Rattle.stateful_history.specs.declared.event.Event.{Event}
 use Rattle.stateful_history.specs.declared.event.Event.TheVariants.{Stop}
@@ -28,6 +29,7 @@ use Rattle.stateful_standing.specs.Setting.{setting}
 use Rattle.stateful_standing.specs.Storing.{IsStoredNow}
 use Rattle.stateful_keeping.specs.Down.{IsEnding}
 use Rattle.stateful_keeping.specs.EventBehind.{EventBehind, StoppedBehind}
+use Rattle.stateful_keeping.specs.Duly.{AreAmong, IsDulySaid, DulyBehind}
 use Rattle.stateful_keeping.specs.Execution.{NamesBehind}
 use Rattle.stateful_keeping.specs.Reasons.{IsTrusted, ReasonsStand, HasItsReason, ReasonsUpBehind}
 use Rattle.stateful_keeping.specs.Places.{IsInPlace, PastKept, PlacesKept, PlacesBehind}
@@ -35,6 +37,7 @@ use Rattle.stateful_keeping.specs.HandsBehind.{HandsBehind}
 use Rattle.stateful_keeping.specs.InHand.{VerifiedApart}
 use Rattle.stateful_keeping.specs.Ways.{StoresFinalized}
 use Rattle.stateful_keeping.proofs.Counting.{ends_stopped}
+use Rattle.stateful_keeping.proofs.DulyAlong.{duly-up}
 use Rattle.stateful_keeping.proofs.EventDown.{event-down}
 use Rattle.stateful_keeping.proofs.EventUp.{event-up}
 use Rattle.stateful_keeping.proofs.HandsUp.{hands_at, hands-up}
@@ -48,6 +51,7 @@ use Rattle.stateful_keeping.proofs.RuleItems.{is_down-after, pruned_below-after,
 use Rattle.stateful_keeping.proofs.TakenIn.{may_come-live}
 use Rattle.stateful_keeping.proofs.Trusted.{IsTrusted-before, IsTrusted-before_marks}
 use Rattle.stateful_keeping.proofs.VerifiedApart.{VerifiedApart-came}
+use Rattle.stateful_keeping.proofs.Unruled.{IsUnbuilt, unbuilt-answered, answered-append}
 use Rattle.stateful_processing.specs.Clearing.{IsCleared}
 use Rattle.stateful_processing.specs.Intake.{Counts, TakesIn}
 use Rattle.stateful_processing.specs.Intake as intake
@@ -63,6 +67,7 @@ use Rattle.stateful_whole.proofs.StaysUp.{Broke, along-stays, takes_in-stays}
 use Rattle.stateful_whole.proofs.Stepping.{may_come-up, is_down-came, base-same, StepBehind-of}
 use Rattle.stateful_whole.proofs.Unbroken.{IsUnbroken, UnbrokenBehind, taken_in_unbroken, along_unbroken}
 use Rattle.stateful_whole.proofs.WorkEnds.{IsWorkEnd, EndsAll-ends, IsWorkEnd-ending, opens-ending, opens-neither}
+use Rattle.stateful_whole.proofs.WorkDuly.{work-duly, work-unbuilt}
 use Rattle.stateful_whole.proofs.WorkNamed.{NamesWork, EndsAll-named}
 use Rattle.stateful_whole.proofs.WorkPlaces.{work-in_place, past-work, past-stopped}
 
@@ -130,6 +135,14 @@ module _ {B C I P R D H G U : Type 0} (w : Workings B C I P R D H G U) (laws : L
       (s.hands up).0 (s.hands up).1 on
       (names_live-more (numbered w.kind.count) w.kind.count (numbered_le w.kind.count) p event names_live_is) names stores a.takes a.settles.along
 
+  -- and all is said duly
+  said_duly : NamesBehind w stored base q m settled → DulyBehind w stored base event q m settled
+  said_duly names =
+      duly-up w laws stored base p stored_now stored_is counts provider runs_cost builds_cost event m a.taken settled up (s.up up).1 (s.up up).0
+      (s.places up) on
+      (names_live-more (numbered w.kind.count) w.kind.count (numbered_le w.kind.count) p event
+      (may_come-live (numbered w.kind.count) p event on may_come_is)) names stores a.takes a.settles.along
+
   more_are : (more : List (Mark B)) (last : Moment w) → last.marks ≡ m.marks ++ more → more ≡ last.marks
   more_are more last is = sym (is ∙ ap (λ (ms : List (Mark B)). ms ++ more) s.restart.unmarked)
 
@@ -155,6 +168,8 @@ module _ {B C I P R D H G U : Type 0} (w : Workings B C I P R D H G U) (laws : L
       let b : EventBehind w stored base q m settled = behind names_there in
       let l : PlacesBehind w stored base q m settled = placed names_there in
       let same : l.more ≡ b.more = more_are l.more settled l.marks_are ∙ sym (more_are b.more settled b.marks_are) in
+      let y : DulyBehind w stored base event q m settled = said_duly names_there in
+      let same_duly : y.more ≡ b.more = more_are y.more settled y.marks_are ∙ sym (more_are b.more settled b.marks_are) in
       let kept : PlacesKept w stored (after q b.more) settled =
       subst (λ (ms : List (Mark B)). PlacesKept w stored (after q ms) settled) same l.kept in
       let none_opens : opens b.more ≡ false = opens-none b.more b.of_rules in
@@ -173,6 +188,9 @@ module _ {B C I P R D H G U : Type 0} (w : Workings B C I P R D H G U) (laws : L
         reasons = λ trust. (reasons_of b.more b (reasons_behind b.more names_there b trust)).0;
         said = b.said;
         in_place = subst (λ (ms : List (Mark B)). EachMark (IsInPlace w stored base) q ms) same l.each;
+        duly = subst (λ (ms : List (Mark B)). EachMark (IsDulySaid w stored base event ms) q ms) same_duly
+            (y.each y.more (All-contains_itself y.more));
+        builds = subst (λ (ms : List (Mark B)). EachNext BuildIsAnswered q ms) same_duly y.answered;
         due = λ rule. PrunedIsDue-rules (setting w stored) rule q b.more b.of_rules;
         opened = OpenedIsStored-rules (setting w stored) event q b.more b.of_rules;
         committed = IsCommittedTo-rules w stored base b.more b.of_rules;
@@ -210,7 +228,7 @@ module _ {B C I P R D H G U : Type 0} (w : Workings B C I P R D H G U) (laws : L
       (ends : EndsAll (after q settled.marks) over) (leaves : LeavesNothing (after q settled.marks) over)
       (cleared : IsCleared w (record settled { marks = now.marks }) now) (names_there : NamesBehind w stored base q m settled)
       (b : EventBehind w stored base q m settled) (l : PlacesBehind w stored base q m settled)
-      (why : (event ≡ Stop) ⊎ BrokeBefore (after q settled.marks)) where
+      (y : DulyBehind w stored base event q m settled) (why : (event ≡ Stop) ⊎ BrokeBefore (after q settled.marks)) where
     abbrev last : List (Mark B)
     last = over ++ Stopped ∷ []
 
@@ -281,6 +299,15 @@ module _ {B C I P R D H G U : Type 0} (w : Workings B C I P R D H G U) (laws : L
     named : EachMark NamesWork (after q b.more) over
     named = subst (λ (ms : List (Mark B)). EachMark NamesWork (after q ms) over) (sym first_are) (EndsAll-named (after q settled.marks) over ends)
 
+    same_duly : y.more ≡ b.more
+    same_duly = more_are y.more settled y.marks_are ∙ sym (more_are b.more settled b.marks_are)
+
+    -- the marks of the event are among all of them
+    among : AreAmong down.more b.more
+    among = All-weaker (λ x. Contains b.more x) (λ x. Contains down.more x)
+        (λ x has. subst (λ (ms : List (Mark B)). Contains ms x) (sym down_are_both) (Contains-append_left b.more last x has)) b.more
+        (All-contains_itself b.more)
+
     -- behind all of them
     last_is : after q down.more ≡ Made Stopped ∷ after (after q b.more) over
     last_is = ap (λ (ms : List (Mark B)). after q ms) down_are_both ∙ after-append q b.more last ∙ after-push (after q b.more) over Stopped
@@ -307,6 +334,13 @@ module _ {B C I P R D H G U : Type 0} (w : Workings B C I P R D H G U) (laws : L
           (subst (λ (ms : List (Mark B)). EachMark (IsInPlace w stored base) q ms)
           (more_are l.more settled l.marks_are ∙ sym (more_are b.more settled b.marks_are)) l.each)
           (work-in_place w stored base (after q b.more) over kept_first.past.gone named) (tt, tt, tt, tt, tt);
+      duly = each_down (IsDulySaid w stored base event down.more)
+          (subst (λ (ms : List (Mark B)). AreAmong down.more ms → EachMark (IsDulySaid w stored base event down.more) q ms) same_duly
+          (y.each down.more) among)
+          (work-duly w stored base event down.more (inr (inr has_stopped)) (after q b.more) over named) (tt, tt, tt, tt, λ rule. tt, tt);
+      builds = subst (λ (ms : List (Mark B)). EachNext BuildIsAnswered q ms) (sym down_are_both)
+          (answered-append q b.more last (subst (λ (ms : List (Mark B)). EachNext BuildIsAnswered q ms) same_duly y.answered)
+          (unbuilt-answered (after q b.more) last (All-push IsUnbuilt over Stopped (work-unbuilt (after q b.more) over named) tt)));
       due = λ rule. each_down (PrunedIsDue (setting w stored) rule) (PrunedIsDue-rules (setting w stored) rule q b.more b.of_rules)
           (PrunedIsDue-ends (setting w stored) rule (after q b.more) over ends_work)
           (PrunedIsDue-stopped (setting w stored) rule (after (after q b.more) over));
@@ -348,4 +382,4 @@ module _ {B C I P R D H G U : Type 0} (w : Workings B C I P R D H G U) (laws : L
       let names_there : NamesBehind w stored base q m settled =
       NamesBehind-later w stored base q m settled settled.marks marks_are (over ++ Stopped ∷ [])
       (subst (λ (ms : List (Mark B)). TrueNames (setting w stored) (after q ms)) (append_assoc settled.marks over (Stopped ∷ [])) known) in
-      stops_at now over are work.2 work.3 t.cleared names_there (behind names_there) (placed names_there) (why_down t.down)
+      stops_at now over are work.2 work.3 t.cleared names_there (behind names_there) (placed names_there) (said_duly names_there) (why_down t.down)

@@ -26,6 +26,7 @@ use Rattle.stateful_register.specs.declared.register.Register.{Register}
 use Rattle.stateful_standing.specs.Setting.{setting}
 use Rattle.stateful_standing.specs.Storing.{IsStoredNow}
 use Rattle.stateful_keeping.specs.Down.{IsEnding, IsEmpty}
+use Rattle.stateful_keeping.specs.Duly.{IsDulySaid}
 use Rattle.stateful_keeping.specs.EventBehind.{RestartedBehind}
 use Rattle.stateful_keeping.specs.Reasons.{HasItsReason}
 use Rattle.stateful_keeping.specs.Places.{IsInPlace, PastKept, PlacesKept}
@@ -41,6 +42,7 @@ use Rattle.stateful_keeping.proofs.HandsOpened.{hands-opens, goes-opens}
 use Rattle.stateful_keeping.proofs.InHandOpened.{VerifiedApart-marks}
 use Rattle.stateful_keeping.proofs.Restarting.{opening-ends, pruned-ends}
 use Rattle.stateful_keeping.proofs.VerifiedApart.{VerifiedApart-came}
+use Rattle.stateful_keeping.proofs.Unruled.{IsUnbuilt, unbuilt-answered}
 use Rattle.stateful_processing.specs.Clearing.{IsCleared}
 use Rattle.stateful_processing.specs.Moments.{Moment}
 use Rattle.stateful_processing.specs.Opening.{Opens}
@@ -53,6 +55,7 @@ use Rattle.stateful_whole.proofs.ReasonsEnd.{HasItsReason-ends}
 use Rattle.stateful_whole.proofs.StartRules.{IsCommittedTo-ends, PrunedIsDue-ends, PrunedIsDue-opened, EndsStopped-restart, StartsClean-ends, StopsClean-ends, OpenedIsStored-ends}
 use Rattle.stateful_whole.proofs.Stepping.{base-opened, StepBehind-of}
 use Rattle.stateful_whole.proofs.WorkEnds.{IsWorkEnd, EndsAll-ends, IsWorkEnd-ending, is_down-ends, opens-opened}
+use Rattle.stateful_whole.proofs.WorkDuly.{work-duly, work-unbuilt}
 use Rattle.stateful_whole.proofs.WorkNamed.{NamesWork, EndsAll-named}
 use Rattle.stateful_whole.proofs.WorkPlaces.{work-in_place, past-work}
 
@@ -147,6 +150,10 @@ module _ {B C I P R D H G U : Type 0} (w : Workings B C I P R D H G U) (laws : L
       said = b.said;
       in_place = each_restart (IsInPlace w stored o.opening.at.1) (work-in_place w stored o.opening.at.1 q over kept_first.past.gone named)
           (tt, tt, tt, tt, tt);
+      duly = each_restart (IsDulySaid w stored o.opening.at.1 event b.more)
+          (work-duly w stored o.opening.at.1 event b.more (inr (inl tt)) q over named) (tt, tt, tt, tt, λ rule. tt, tt);
+      builds = unbuilt-answered q b.more (subst (λ (ms : List (Mark B)). All IsUnbuilt ms) (sym all_are)
+          (All-push IsUnbuilt over (Opened anchor) (work-unbuilt q over named) tt));
       due = λ rule. each_restart (PrunedIsDue (setting w stored) rule) (PrunedIsDue-ends (setting w stored) rule q over ends_work)
           (PrunedIsDue-opened (setting w stored) rule (after q over) anchor);
       opened = each_restart (OpenedIsStored (setting w stored) event) (OpenedIsStored-ends (setting w stored) event q over ends_work) at_stored;

@@ -6,9 +6,10 @@ use Rattle.stateful_history.specs.Holding.{Holds}
 use Rattle.stateful_history.specs.Joined.{TrueIsEarned}
 use Rattle.stateful_history.specs.Live.{may_come, names_live}
 use Rattle.stateful_history.specs.Opening.{is_down, opens, held_or, base_after}
-use Rattle.stateful_history.specs.Past.{Past, Came, EachMark, after, after_entry}
+use Rattle.stateful_history.specs.Past.{Past, Came, EachMark, EachNext, after, after_entry}
 use Rattle.stateful_history.specs.Prunes.{PruneRule, PrunedIsDue}
 use Rattle.stateful_history.specs.Restarts.{OpenedIsStored}
+use Rattle.stateful_history.specs.Runs.{BuildIsAnswered}
 use Rattle.stateful_history.specs.Stops.{IsRestart, NothingLive, StopsClean, StartsClean, EndsStopped}
 use Rattle.stateful_history.specs.Telling.{telling_of}
 use Rattle.stateful_history.specs.Waiting.{AllWait}
@@ -19,6 +20,7 @@ use Rattle.stateful_exec.specs.Workings.{Workings}
 use Rattle.stateful_standing.specs.Setting.{setting}
 use Rattle.stateful_standing.specs.Storing.{IsStoredNow}
 use Rattle.stateful_keeping.specs.Down.{IsEmpty, IsCounted}
+use Rattle.stateful_keeping.specs.Duly.{IsDulySaid}
 use Rattle.stateful_keeping.specs.Durability.{IsDurablySaid}
 use Rattle.stateful_keeping.specs.InHand.{VerifiedApart, AllInHand, GoesOnAt}
 use Rattle.stateful_keeping.specs.Reasons.{IsTrusted, ReasonsStand, HasItsReason}
@@ -74,6 +76,8 @@ module _ {B C I P R D H G U : Type 0} (w : Workings B C I P R D H G U) (stored :
       pub reasons : IsTrusted w stored (after_entry p event marks) → EachMark (HasItsReason w stored next event marks) (Came event ∷ p) marks
       pub said : EachMark (IsDurablySaid w) (Came event ∷ p) marks
       pub in_place : EachMark (IsInPlace w stored next) (Came event ∷ p) marks
+      pub duly : EachMark (IsDulySaid w stored next event marks) (Came event ∷ p) marks
+      pub builds : EachNext BuildIsAnswered (Came event ∷ p) marks
       pub due : (rule : Option (PruneRule w.Targets)) → EachMark (PrunedIsDue (setting w stored) rule) (Came event ∷ p) marks
       pub opened : EachMark (OpenedIsStored (setting w stored) event) (Came event ∷ p) marks
       pub committed : All (IsCommittedTo w stored next) marks
@@ -114,6 +118,8 @@ module _ {B C I P R D H G U : Type 0} (w : Workings B C I P R D H G U) (stored :
         reasons = k.reasons;
         said = k.said;
         places = k.in_place;
+        duly = k.duly;
+        builds = k.builds;
         due = k.due;
         opened = k.opened;
         committed = k.committed;

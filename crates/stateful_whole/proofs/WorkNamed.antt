@@ -107,10 +107,13 @@ module _ {B C I : Type 0} where
     proposals_named = live_each (λ t. Declined t) Asks (λ q n live. live)
         (λ q n k other live. (live.0, record { live = rw other live.1.live; proposes = live.1.proposes })) qj e.proposals
         (rising e.proposals e.all_proposals.ascending)
-        (among (λ t. Asks t qj) e.proposals (λ t has. let h = e.each_builds t has in (h.0, record {
-          live = ticket_still t ∙ h.1.live;
-          proposes = proposed-after qf (cancelled e.jobs) t ∙ proposed-after p (withdrawn e.fetches) t ∙ h.1.proposes;
-        })))
+        (among (λ t. Asks t qj) e.proposals (λ t has. let h = e.each_builds t has in (
+          h.0,
+          record {
+            live = ticket_still t ∙ h.1.live;
+            proposes = proposed-after qf (cancelled e.jobs) t ∙ proposed-after p (withdrawn e.fetches) t ∙ h.1.proposes;
+          },
+        )))
 
     some_of : (t : ℕ) (o : Option Ticket) (b : Bool) → (is_some o && b) ≡ true → o ≢ None
     some_of t None b some none = cc

@@ -5,9 +5,10 @@ use Rattle.stateful_history.specs.Canonical.{pruned_below}
 use Rattle.stateful_history.specs.Holding.{Holds}
 use Rattle.stateful_history.specs.Joined.{TrueIsEarned}
 use Rattle.stateful_history.specs.Opening.{base_after}
-use Rattle.stateful_history.specs.Past.{Past, Came, EachMark, after_entry}
+use Rattle.stateful_history.specs.Past.{Past, Came, EachMark, EachNext, after_entry}
 use Rattle.stateful_history.specs.Prunes.{PruneRule, PrunedIsDue}
 use Rattle.stateful_history.specs.Restarts.{OpenedIsStored}
+use Rattle.stateful_history.specs.Runs.{BuildIsAnswered}
 use Rattle.stateful_history.specs.Stops.{StopsClean, StartsClean, EndsStopped}
 use Rattle.stateful_history.specs.Telling.{telling_of}
 use Rattle.stateful_history.specs.Waiting.{AllWait}
@@ -19,6 +20,7 @@ use Rattle.stateful_exec.specs.Workings.{Workings}
 use Rattle.stateful_register.specs.declared.register.Register.{Register}
 use Rattle.stateful_standing.specs.Setting.{setting}
 use Rattle.stateful_keeping.specs.Down.{IsEmpty}
+use Rattle.stateful_keeping.specs.Duly.{IsDulySaid}
 use Rattle.stateful_keeping.specs.Durability.{IsDurablySaid}
 use Rattle.stateful_keeping.specs.Reasons.{IsTrusted, HasItsReason}
 use Rattle.stateful_keeping.specs.Places.{IsInPlace}
@@ -40,9 +42,10 @@ module _ {B C I P R D H G U : Type 0} (w : Workings B C I P R D H G U)
     -- where it was opened, to which the store's block commits, and else those before. True verdicts
     -- among the marks are earned over them; false ones and declined proposals have their reasons,
     -- where the world is trusted; those of barriers and acknowledgements keep their rules, and so do
-    -- those of openings and stops; each is in its place; and nothing was pruned. The databases hold
-    -- what was applied. Each live request and receipt waits for outstanding work, whatever the rule on
-    -- prunes. The machine stands for the past with the entry; where it is down nothing goes on.
+    -- those of openings and stops, of jobs, answers to builds, withdrawn fetches and finalizations;
+    -- each is in its place; and nothing was pruned. The databases hold what was applied. Each live
+    -- request and receipt waits for outstanding work, whatever the rule on prunes. The machine stands
+    -- for the past with the entry; where it is down nothing goes on.
     pub record StepBehind : Type 0 where
       pub base_behind : w.States
       pub base_is : base_behind ≡ base_after base now.marks (w.kind.point now.members)
@@ -51,6 +54,8 @@ module _ {B C I P R D H G U : Type 0} (w : Workings B C I P R D H G U)
           → EachMark (HasItsReason w stored base_behind event now.marks) (Came event ∷ p) now.marks
       pub said : EachMark (IsDurablySaid w) (Came event ∷ p) now.marks
       pub places : EachMark (IsInPlace w stored base_behind) (Came event ∷ p) now.marks
+      pub duly : EachMark (IsDulySaid w stored base_behind event now.marks) (Came event ∷ p) now.marks
+      pub builds : EachNext BuildIsAnswered (Came event ∷ p) now.marks
       pub due : (rule : Option (PruneRule w.Targets))
           → EachMark (PrunedIsDue (setting w stored) rule) (Came event ∷ p) now.marks
       pub opened : EachMark (OpenedIsStored (setting w stored) event) (Came event ∷ p) now.marks

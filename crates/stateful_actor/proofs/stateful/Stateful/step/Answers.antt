@@ -91,7 +91,7 @@ returns-in-Err-clause-behind g c =
     let takes = g.met.A.Application.takes_turns in
     rw (← c.self.view_is)
     (λ lawful working other.
-    let left = (rw c.new-marks.ensures.items at (in_err _ _ c.in-Err.is c.act-acted.ensures.left)) other in
+    let left = rw c.new-marks.ensures.items at (in_err _ _ c.in-Err.is (c.act-acted.ensures.left other)) in
     leaves-further w g.met.A.Databases.DatabaseSet.laws (g.S.BlockStore.stored c.args.store.now) _ _
     (λ f states b n is. takes.runs f states b n is) (λ asked states n is. takes.builds asked states n is)
     c.args.event other _ _ (c.in_ok-admit.ensures.up other) refl (λ p stands. c.in_ok-admit.ensures.yes p stands)

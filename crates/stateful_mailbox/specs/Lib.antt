@@ -1,0 +1,5 @@
+pub mod Replies
+pub mod Sending
+pub mod Messages
+pub mod Tickets
+pub mod Mail
