@@ -1,24 +1,29 @@
 //! A whole list of events.
 
-ghost use Rattle.std.specs.Prelude.{◌≡◌, ◌<◌, ◌≤◌, ◌++◌, ◌∷◌, [], ℕ, List, Option, false, true, None, IfOk, IfErr, OnOk, OnErr, length, map, take};
-ghost use Rattle.stateful_types.specs.Names.{Named};
-ghost use Rattle.stateful_history.specs.Past.{Past, after_all};
-ghost use Rattle.stateful_history.specs.declared.event.Event.{Event};
+ghost use Rattle.std.specs.Prelude.{◌≡◌, ◌<◌, ◌≤◌, ◌++◌, ◌∷◌, [], ℕ, List, Option, true, false, IfOk, IfErr, OnOk, OnErr, IsErrOf, length, map, take};
 ghost use Rattle.stateful_history.specs.Met.{TrueNames};
+ghost use Rattle.stateful_history.specs.Past.{Past, after_all};
+ghost use Rattle.stateful_history.specs.declared.event.Event.{Event as Happening};
+ghost use Rattle.stateful_history.specs.declared.mark.Mark.{Mark as Marked};
 ghost use Rattle.stateful_history.specs.Live.{may_come};
-ghost use Rattle.stateful_history.specs.Holding.{Holds};
 ghost use Rattle.stateful_register.specs.Register.{RegisterStands};
-ghost use Rattle.stateful_actor.specs.Workings.{workings, setting, numbered};
-ghost use Rattle.stateful_actor.specs.Moments.{Moment, moment};
-ghost use Rattle.stateful_actor.specs.Entering.{Plays};
-ghost use Rattle.stateful_actor.specs.Stepping.{IsSafe, IsNew};
-ghost use Rattle.stateful_actor.specs.Causes.{tally};
-ghost use Rattle.stateful_actor.specs.Driving.{AddsEntry, Steps, HasPlayed, HasStood, IsRefused};
+ghost use Rattle.stateful_standing.specs.Setting.{setting};
+ghost use Rattle.stateful_keeping.specs.Ways.{HasHonestStore};
+ghost use Rattle.stateful_processing.specs.Moments.{moment};
+ghost use Rattle.stateful_whole.specs.Entering.{Steps};
+ghost use Rattle.stateful_actor.specs.Driving.{IsRefused};
+ghost use Rattle.stateful_actor.specs.Faults.{tally, HasNotFallen, IsCause};
+ghost use Rattle.stateful_whole.specs.Left.{LeavesFurther};
+ghost use Rattle.stateful_whole.specs.Machine.{is_restart, IsSafe, IsNew, numbered};
+ghost use Rattle.stateful_whole.specs.Stands.{StandsAsWell};
+ghost use Rattle.stateful_whole.specs.StepBehind.{EachStands, StandsAndHolds};
+ghost use Rattle.stateful_whole.specs.Steps.{IsStep};
 
-use crate::error::StepError;
 use crate::stateful::Stateful;
-use stateful_db::Application;
+use stateful_db::{Application, DatabaseSet};
+use stateful_exec::Worked;
 use stateful_history::{Entry, Event};
+use stateful_processing::StepError;
 use stateful_types::{BlockStore, Items, Share};
 use std::alloc::Global;
 
@@ -51,69 +56,66 @@ fn enter<A: Application + Drop, S: BlockStore<A::Block>>(
     event: Event<A::Block, A::Context, A::Input>,
 ) -> Result<(), StepError>
     requires working { driven.old.stateful.failed ≡ false }
-    requires safe { IsSafe A.Databases.kind (A.Databases.members driven.old.databases)
-        A.Block.header driven.old.stateful.failed driven.old.stateful.core }
-    ensures ok { OnOk result (let w = workings A.Block.header A.works A.Databases.kind
-        A.Databases.shows in
-        AddsEntry w (S.stored store.old) event (moment w driven.old.stateful.core
+    requires safe { let w = ⟦<A as Worked>⟧.workings in IsSafe w driven.old.stateful.failed
+        (moment w driven.old.stateful.execution driven.old.stateful.loop
+        (A.Databases.members driven.old.databases) (A.Databases.next driven.old.databases) []) }
+    ensures adds { OnOk result (let w = ⟦<A as Worked>⟧.workings in
+        (marks : List (Marked A.Block))
+        × (driven.new.history.items
+        ≡ driven.old.history.items ++ record { event = event; marks = marks } ∷ [])
+        × IsStep w (S.stored store.old) driven.old.stateful.provider
+        (record { run = A.Run.count; build = A.Build.count; hook = A.Hook.count })
+        driven.old.stateful.register event
+        (moment w driven.old.stateful.execution driven.old.stateful.loop
         (A.Databases.members driven.old.databases) (A.Databases.next driven.old.databases) [])
-        driven.new.stateful.core (A.Databases.members driven.new.databases)
-        (A.Databases.next driven.new.databases) driven.old.history.items driven.new.history.items) }
-    ensures may { OnOk result (RegisterStands (numbered A.Databases.kind.count)
+        (moment w driven.new.stateful.execution driven.new.stateful.loop
+        (A.Databases.members driven.new.databases) (A.Databases.next driven.new.databases) marks)) }
+    ensures registers { OnOk result (RegisterStands (numbered A.Databases.kind.count)
         (after_all [] driven.old.history.items) driven.old.stateful.register
-        → may_come (numbered A.Databases.kind.count) (after_all [] driven.old.history.items) event
-        ≡ true) }
-    ensures err { OnErr result (driven.new.history.items ≡ driven.old.history.items) }
-    ensures played { OnOk result (HasPlayed
-        (workings A.Block.header A.works A.Databases.kind A.Databases.shows) (S.stored store.old)
-        driven.old.history.items driven.old.stateful.failed driven.old.stateful.core
-        driven.old.stateful.register (A.Databases.members driven.old.databases)
-        (A.Databases.next driven.old.databases)
-        → HasPlayed (workings A.Block.header A.works A.Databases.kind A.Databases.shows)
-        (S.stored store.old) driven.new.history.items driven.new.stateful.failed
-        driven.new.stateful.core driven.new.stateful.register
-        (A.Databases.members driven.new.databases) (A.Databases.next driven.new.databases)) }
-    ensures safe { IsSafe A.Databases.kind (A.Databases.members driven.new.databases) A.Block.header
-        driven.new.stateful.failed driven.new.stateful.core }
-    ensures store { store.new ≡ store.old }
-    ensures works { OnOk result (driven.new.stateful.failed ≡ false) }
-    ensures register { OnOk result (RegisterStands (numbered A.Databases.kind.count)
-        (after_all [] driven.old.history.items) driven.old.stateful.register
-        → RegisterStands (numbered A.Databases.kind.count) (after_all [] driven.new.history.items)
+        → (may_come (numbered A.Databases.kind.count) (after_all [] driven.old.history.items) event
+        ≡ true)
+        × RegisterStands (numbered A.Databases.kind.count) (after_all [] driven.new.history.items)
         driven.new.stateful.register) }
-    ensures refused { IfErr result (λ e. (first : Moment (workings A.Block.header A.works
-        A.Databases.kind A.Databases.shows))
-        → Steps (workings A.Block.header A.works A.Databases.kind A.Databases.shows)
-        (S.stored store.old) [] first driven.old.history.items (moment
-        (workings A.Block.header A.works A.Databases.kind A.Databases.shows)
-        driven.old.stateful.core (A.Databases.members driven.old.databases)
-        (A.Databases.next driven.old.databases) [])
-        → HasPlayed (workings A.Block.header A.works A.Databases.kind A.Databases.shows)
-        (S.stored store.old) driven.old.history.items driven.old.stateful.failed
-        driven.old.stateful.core driven.old.stateful.register
-        (A.Databases.members driven.old.databases) (A.Databases.next driven.old.databases)
-        → RegisterStands (numbered A.Databases.kind.count) (after_all [] driven.old.history.items)
+    ensures err { OnErr result (driven.new.history.items ≡ driven.old.history.items) }
+    ensures still { OnErr result (let w = ⟦<A as Worked>⟧.workings in
+        StandsAsWell w driven.old.stateful.failed driven.old.stateful.register
+        (moment w driven.old.stateful.execution driven.old.stateful.loop
+        (A.Databases.members driven.old.databases) (A.Databases.next driven.old.databases) [])
+        driven.new.stateful.failed driven.new.stateful.register
+        (moment w driven.new.stateful.execution driven.new.stateful.loop
+        (A.Databases.members driven.new.databases) (A.Databases.next driven.new.databases) [])) }
+    ensures calm { OnErr result (driven.new.stateful.failed ≡ false
+        → driven.new.databases ≡ driven.old.databases) }
+    ensures bad { IsErrOf result StepError.BadEvent → driven.new.stateful.failed ≡ false }
+    ensures safe { let w = ⟦<A as Worked>⟧.workings in IsSafe w driven.new.stateful.failed
+        (moment w driven.new.stateful.execution driven.new.stateful.loop
+        (A.Databases.members driven.new.databases) (A.Databases.next driven.new.databases) []) }
+    ensures works { OnOk result (driven.new.stateful.failed ≡ false) }
+    ensures cause { IfErr result (λ e. let w = ⟦<A as Worked>⟧.workings in
+        IsCause w (S.stored store.old) driven.old.stateful.provider
+        (record { run = A.Run.count; build = A.Build.count; hook = A.Hook.count }) false
+        driven.old.stateful.register event
+        (tally (A.count driven.old.stateful.application) (A.Databases.counted driven.old.databases))
+        (tally (A.count driven.new.stateful.application) (A.Databases.counted driven.new.databases))
+        (A.Databases.members driven.new.databases)
+        (moment w driven.old.stateful.execution driven.old.stateful.loop
+        (A.Databases.members driven.old.databases) (A.Databases.next driven.old.databases) []) e) }
+    ensures behind { IfErr result (λ e. (e ≡ StepError.BadEvent → ⊥)
+        → is_restart event ≡ false
+        → driven.old.stateful.loop.up ≡ true
+        → let w = ⟦<A as Worked>⟧.workings in
+        LeavesFurther w (S.stored store.old) driven.old.stateful.provider
+        (record { run = A.Run.count; build = A.Build.count; hook = A.Hook.count }) event
         driven.old.stateful.register
-        → IsRefused (workings A.Block.header A.works A.Databases.kind A.Databases.shows)
-        (S.stored store.old) A.Run.count A.Hook.count first driven.old.history.items event e
-        driven.new.stateful.core (A.Databases.members driven.new.databases) (tally
-        (A.count driven.old.stateful.config.application)
-        (A.Databases.counted driven.old.databases)) (tally
-        (A.count driven.new.stateful.config.application)
-        (A.Databases.counted driven.new.databases))) }
-    ensures still { OnErr result (HasPlayed
-        (workings A.Block.header A.works A.Databases.kind A.Databases.shows) (S.stored store.old)
-        driven.old.history.items driven.old.stateful.failed driven.old.stateful.core
-        driven.old.stateful.register (A.Databases.members driven.old.databases)
-        (A.Databases.next driven.old.databases)
-        → HasStood (workings A.Block.header A.works A.Databases.kind A.Databases.shows)
-        (S.stored store.old) driven.old.history.items driven.new.stateful.failed
-        driven.new.stateful.core driven.new.stateful.register
-        (A.Databases.members driven.new.databases) (A.Databases.next driven.new.databases)) }
-    ensures later { (n : ℕ)
-        → A.Databases.counted driven.old.databases n ≤ A.Databases.counted driven.new.databases n }
-    ensures application { A.count driven.old.stateful.config.application ≤ A.count
-        driven.new.stateful.config.application }
+        (moment w driven.old.stateful.execution driven.old.stateful.loop
+        (A.Databases.members driven.old.databases) (A.Databases.next driven.old.databases) [])
+        (A.Databases.members driven.new.databases)) }
+    ensures later { HasNotFallen
+        (tally (A.count driven.old.stateful.application) (A.Databases.counted driven.old.databases))
+        (tally (A.count driven.new.stateful.application)
+        (A.Databases.counted driven.new.databases)) }
+    ensures same { (store.new ≡ store.old)
+        × (driven.new.stateful.provider ≡ driven.old.stateful.provider) }
 {
     driven.history.reserve(1)?;
     let kept = event.share()?;
@@ -133,7 +135,9 @@ pub fn drive<A: Application + Drop, S: BlockStore<A::Block>>(
     store: &mut S,
     events: Vec<Event<A::Block, A::Context, A::Input>>,
 ) -> Result<Driven<A>, Halt<A>>
-    requires new { IsNew stateful.failed stateful.core stateful.register }
+    requires new { let w = ⟦<A as Worked>⟧.workings in IsNew w stateful.failed stateful.register
+        (moment w stateful.execution stateful.loop
+        (A.Databases.members databases) (A.Databases.next databases) []) }
     requires none_away { A.Databases.kind.NoneAway (A.Databases.members databases) }
 
     // The history has the events that were taken in, in their order.
@@ -145,60 +149,68 @@ pub fn drive<A: Application + Drop, S: BlockStore<A::Block>>(
         × (halt.halted.at < length events.items)) }
 
     // Each entry is one step of the machine, from its start on.
-    ensures steps { IfOk result (λ driven. let w = workings A.Block.header A.works A.Databases.kind
-        A.Databases.shows in
-        Steps w (S.stored store.old) []
-        (moment w stateful.core (A.Databases.members databases) (A.Databases.next databases) [])
-        driven.history.items (moment w driven.stateful.core (A.Databases.members driven.databases)
-        (A.Databases.next driven.databases) [])) }
+    ensures steps { IfOk result (λ driven. let w = ⟦<A as Worked>⟧.workings in
+        Steps w (S.stored store.old) stateful.provider
+        (record { run = A.Run.count; build = A.Build.count; hook = A.Hook.count }) []
+        (moment w stateful.execution stateful.loop
+        (A.Databases.members databases) (A.Databases.next databases) [])
+        driven.history.items
+        (moment w driven.stateful.execution driven.stateful.loop
+        (A.Databases.members driven.databases) (A.Databases.next driven.databases) [])) }
 
-    // Where names are true each entry keeps the rules, and at the end the databases hold the fold over what was applied.
-    ensures plays { IfOk result (λ driven. let w = workings A.Block.header A.works A.Databases.kind
-        A.Databases.shows in
-        TrueNames (setting w (S.stored store.old)) (after_all [] driven.history.items)
-        → Plays w (S.stored store.old) A.Databases.kind.initial [] driven.history.items (λ base. Holds
-        (setting w (S.stored store.old)) w.kind base (after_all [] driven.history.items)
-        (A.Databases.members driven.databases))) }
-    ensures played { IfErr result (λ halt. let w = workings A.Block.header A.works A.Databases.kind
-        A.Databases.shows in
-        TrueNames (setting w (S.stored store.old)) (after_all [] halt.driven.history.items)
-        → Plays w (S.stored store.old) A.Databases.kind.initial [] halt.driven.history.items
-        (λ base. Unit {0})) }
-    ensures store { store.new ≡ store.old }
+    // Where names are true and the store is honest each entry keeps the rules, and at the end the machine stands for the
+    // history, and the databases hold what was applied. Behind a refusal it still stands for the events before, in what a
+    // restart needs; and behind BadEvent it hasn't failed.
+    ensures stands { IfOk result (λ driven. let w = ⟦<A as Worked>⟧.workings in
+        (base : A.Databases.States)
+        → TrueNames (setting w (S.stored store.old)) (after_all [] driven.history.items)
+        → HasHonestStore A.Block.header (S.stored store.old) (after_all [] driven.history.items)
+        → EachStands w (S.stored store.old)
+        (λ last. StandsAndHolds w (S.stored store.old) last (after_all [] driven.history.items)
+        false driven.stateful.register
+        (moment w driven.stateful.execution driven.stateful.loop
+        (A.Databases.members driven.databases) (A.Databases.next driven.databases) []))
+        base [] driven.history.items) }
+    ensures still_stands { IfErr result (λ halt. let w = ⟦<A as Worked>⟧.workings in
+        (base : A.Databases.States)
+        → TrueNames (setting w (S.stored store.old)) (after_all [] halt.driven.history.items)
+        → HasHonestStore A.Block.header (S.stored store.old) (after_all [] halt.driven.history.items)
+        → EachStands w (S.stored store.old)
+        (λ last. StandsAndHolds w (S.stored store.old) last
+        (after_all [] halt.driven.history.items)
+        halt.driven.stateful.failed halt.driven.stateful.register
+        (moment w halt.driven.stateful.execution halt.driven.stateful.loop
+        (A.Databases.members halt.driven.databases) (A.Databases.next halt.driven.databases) []))
+        base [] halt.driven.history.items) }
 
-    // The machine works at the end and stands for the history; it may be called again with these databases. Behind a
-    // refusal it still stands for the events before.
+    // The machine works at the end, and its register stands for the history; it may be called again with these databases.
     ensures works { IfOk result (λ driven. driven.stateful.failed ≡ false) }
     ensures registered { IfOk result (λ driven. RegisterStands (numbered A.Databases.kind.count)
         (after_all [] driven.history.items) driven.stateful.register) }
-    ensures stands { IfOk result (λ driven. HasStood
-        (workings A.Block.header A.works A.Databases.kind A.Databases.shows) (S.stored store.old)
-        driven.history.items driven.stateful.failed driven.stateful.core driven.stateful.register
-        (A.Databases.members driven.databases) (A.Databases.next driven.databases)) }
-    ensures safe { IfOk result (λ driven. IsSafe A.Databases.kind
-        (A.Databases.members driven.databases) A.Block.header driven.stateful.failed
-        driven.stateful.core) }
-    ensures still_stands { IfErr result (λ halt. HasStood
-        (workings A.Block.header A.works A.Databases.kind A.Databases.shows) (S.stored store.old)
-        halt.driven.history.items halt.driven.stateful.failed halt.driven.stateful.core
-        halt.driven.stateful.register (A.Databases.members halt.driven.databases)
-        (A.Databases.next halt.driven.databases)) }
-    ensures still_safe { IfErr result (λ halt. IsSafe A.Databases.kind
-        (A.Databases.members halt.driven.databases) A.Block.header halt.driven.stateful.failed
-        halt.driven.stateful.core) }
+    ensures safe { IfOk result (λ driven. let w = ⟦<A as Worked>⟧.workings in
+        IsSafe w driven.stateful.failed
+        (moment w driven.stateful.execution driven.stateful.loop
+        (A.Databases.members driven.databases) (A.Databases.next driven.databases) [])) }
+    ensures still_works { IfErr result (λ halt. halt.halted.error ≡ StepError.BadEvent
+        → halt.driven.stateful.failed ≡ false) }
+    ensures still_safe { IfErr result (λ halt. let w = ⟦<A as Worked>⟧.workings in
+        IsSafe w halt.driven.stateful.failed
+        (moment w halt.driven.stateful.execution halt.driven.stateful.loop
+        (A.Databases.members halt.driven.databases) (A.Databases.next halt.driven.databases) [])) }
+    ensures store { store.new ≡ store.old }
 
-    // The event that was refused, and why, and what the databases hold behind it.
-    ensures refused { IfErr result (λ halt. (event : Event A.Block A.Context A.Input)
-        × (rest : List (Event A.Block A.Context A.Input))
+    // The event that was refused, why, and what it left of the databases.
+    ensures refused { IfErr result (λ halt. let w = ⟦<A as Worked>⟧.workings in
+        (event : Happening A.Block A.Context A.Input)
+        × (rest : List (Happening A.Block A.Context A.Input))
         × (events.items ≡ map (λ entry. entry.event) halt.driven.history.items ++ event ∷ rest)
-        × IsRefused (workings A.Block.header A.works A.Databases.kind A.Databases.shows)
-        (S.stored store.old) A.Run.count A.Hook.count (moment
-        (workings A.Block.header A.works A.Databases.kind A.Databases.shows) stateful.core
+        × IsRefused w (S.stored store.old) stateful.provider
+        (record { run = A.Run.count; build = A.Build.count; hook = A.Hook.count })
+        (moment w stateful.execution stateful.loop
         (A.Databases.members databases) (A.Databases.next databases) [])
-        halt.driven.history.items event halt.halted.error halt.driven.stateful.core
-        (A.Databases.members halt.driven.databases)
-        (tally (A.count stateful.config.application) (A.Databases.counted databases)) (tally
-        (A.count halt.driven.stateful.config.application)
+        halt.driven.history.items event halt.halted.error (A.Databases.members halt.driven.databases)
+        (tally (A.count stateful.application) (A.Databases.counted databases))
+        (tally (A.count halt.driven.stateful.application)
         (A.Databases.counted halt.driven.databases))) }
 {
     let mut driven = Driven {

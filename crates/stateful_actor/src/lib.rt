@@ -1,40 +1,21 @@
 //! The machine between consensus and a set of databases: it takes events and makes marks.
 //!
-//! One event is one call of `Stateful::step`. A verification is answered at once or starts a run of its block; a
-//! finalization applies its block, and its receipt is acknowledged once a barrier over its height is durable.
+//! One event is one call of `Stateful::step`. The event is taken in, and then one thing after another goes on until nothing
+//! can without another event. A machine that isn't up any more behind that ends all that is live; a restart does so first,
+//! and then opens the databases. The register of live work says which events may come; it is brought up to date from the
+//! event and its marks at the end of each event that was taken in, and by nothing else.
 #![tactic(auto)]
 
-mod barrier;
+mod acting;
 mod driving;
-mod error;
-mod finalize;
-mod one_barrier;
-mod restart;
-mod serve;
+mod playing;
+mod restarting;
+mod settling;
 mod stateful;
 mod step;
-mod tables;
-mod task;
-mod turn;
-mod verify;
+mod stopping;
 
-pub use crate::tables::{Active, Core, Front, Live};
 pub use driving::{Driven, Halt, Halted, drive};
-pub use error::StepError;
-pub use stateful::{Config, Stateful};
+pub use stateful::{Config, NewError, Stateful};
 pub use stateful_history::{Decision, Entry, Event, How, JobKind, Mark};
-
-#[cfg(test)]
-mod tests {
-    use super::error::{Fault, StepError};
-
-    // Whole plays of the machine are tested where there are databases, in the crate of the plays.
-    #[test]
-    fn a_fault_keeps_its_name(rt: HostRuntime) {
-        assert_eq!(rt; StepError::from(Fault::Exhausted), StepError::Exhausted);
-        assert_eq!(rt;
-            StepError::from(Fault::Database { index: 2 }),
-            StepError::Database { index: 2 }
-        );
-    }
-}
+pub use stateful_processing::StepError;

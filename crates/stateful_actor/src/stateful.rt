@@ -1,34 +1,24 @@
 //! The machine.
 
-ghost use Rattle.std.specs.Prelude.{◌≡◌, IfOk};
-ghost use Rattle.stateful_actor.specs.Stepping.{IsNew};
+ghost use Rattle.std.specs.Prelude.{◌≡◌, [], IfOk};
+ghost use Rattle.stateful_processing.specs.Moments.{moment};
+ghost use Rattle.stateful_whole.specs.Machine.{IsNew};
 
-use crate::one_barrier::OneBarrier;
-use crate::tables::Core;
-use stateful_cache::Cache;
-use stateful_db::{Application, Batch, DatabaseSet};
+use stateful_db::{Application, DatabaseSet};
+use stateful_exec::{Handler, Processor, Worked};
+use stateful_processing::{Processing, ProcessingOf};
 use stateful_register::Register;
-use stateful_types::Height;
+use stateful_types::{Anchor, Digest, Epoch, Height, OutOfMemory, Round, View};
 use std::alloc::Global;
+use std::marker::Model;
 use thiserror::Error;
 
-/// The tables of the machine of an application.
-pub type CoreOf<A> = Core<
-    <A as Application>::Block,
-    <A as Application>::Run,
-    <A as Application>::Hook,
-    Batch<A>,
->;
-
-/// What a machine is made of: the application, how its databases are opened, what its builds are given, how many
-/// finalizations may be unacknowledged, and how many messages a mailbox takes at once (both at least 1).
+/// What a machine is made of: the application, how its databases are opened, and what its builds are given.
 #[derive(Drop)]
 pub struct Config<A: Application + Drop> {
     pub application: A,
     pub db_config: <A::Databases as DatabaseSet>::Config,
     pub provider: A::Provider,
-    pub max_pending_acks: usize,
-    pub mailbox_size: usize,
 }
 
 /// Why a machine was not made.
@@ -38,45 +28,89 @@ pub enum NewError {
     OutOfMemory,
 }
 
+impl From<OutOfMemory> for NewError {
+    fn from(_refused: OutOfMemory) -> NewError {
+        NewError::OutOfMemory
+    }
+}
+
 /// The machine: one event is one call of `step`.
 #[derive(Drop)]
 pub struct Stateful<A: Application + Drop> {
-    pub(crate) config: Config<A>,
-    pub(crate) core: CoreOf<A>,
+    pub(crate) alloc: Global,
+    pub(crate) handler: Handler<A>,
+    pub(crate) processing: ProcessingOf<A>,
     pub(crate) register: Register,
+    pub(crate) provider: A::Provider,
+    pub(crate) db_config: <A::Databases as DatabaseSet>::Config,
     pub(crate) failed: bool,
+    pub(crate) faults: u64,
 }
+
+impl<A: Application + Drop> Model for Stateful<A> {
+    ghost use Rattle.std.specs.Coded.{codes};
+    ghost use Rattle.std_collections.specs.Layout.BTreeMap.{btree_map_code};
+    ghost use Rattle.stateful_actor.specs.Machine.{Machine};
+    ghost use Rattle.stateful_exec.specs.State.{Owner};
+    ghost use Rattle.stateful_processing.specs.Moments.{Executing, executing};
+    ghost use Rattle.stateful_processing.specs.declared.tables.Processing.{Processing};
+
+    ghost Value = { Machine A (Executing A.Block A.Context A.Input A.Run A.Build A.Hook A.Databases.Merkleized) (Processing A.Block A.Context A.Input A.Captured) A.Provider A.Databases.Config };
+
+    ghost coded = { Prim.hlevel (codes, btree_map_code) };
+
+    ghost view = { λ s. record { application = s.handler.application; execution = executing s.handler; loop = s.processing; register = s.register; provider = s.provider; config = s.db_config; failed = s.failed; faults = s.faults } };
+}
+
+/// The anchor of a machine that has opened nothing yet. Nothing is read off it while the machine is down.
+const NOWHERE: Anchor = Anchor {
+    height: Height(0),
+    round: Round {
+        epoch: Epoch(0),
+        view: View(0),
+    },
+    digest: Digest([0; 32]),
+};
 
 impl<A: Application + Drop> Stateful<A> {
     /// A machine that is down, of this configuration.
     pub fn new(alloc: Global, config: Config<A>) -> Result<Stateful<A>, NewError>
-        ensures new { IfOk result (λ stateful. IsNew stateful.failed stateful.core
-            stateful.register) }
-        ensures config { IfOk result (λ stateful. stateful.config ≡ config) }
+        ensures new { IfOk result (λ s. (m : A.Databases.kind.Members) (n : A.Databases.Ids)
+            → IsNew ⟦<A as Worked>⟧.workings s.failed s.register
+            (moment ⟦<A as Worked>⟧.workings s.execution s.loop m n [])) }
+        ensures application { IfOk result (λ s. s.application ≡ config.application) }
+        ensures config { IfOk result (λ s. (s.provider ≡ config.provider)
+            × (s.config ≡ config.db_config)) }
     {
+        let Config {
+            application,
+            db_config,
+            provider,
+        } = config;
+        let processor = Processor::new(alloc, application, NOWHERE)?;
         Ok(Stateful {
-            config,
-            core: Core {
-                alloc,
-                anchor: None,
-                cache: Cache::new(alloc),
-                runs: Vec::new(alloc),
-                front: None,
-                durability: OneBarrier::new(alloc, Height(0)),
-                barrier: None,
-                next_job: 0,
-                next_fetch: 0,
-                next_barrier: 0,
-            },
+            alloc,
+            handler: Handler::new(processor)?,
+            processing: Processing::new(alloc, 0),
             register: Register::new(alloc),
+            provider,
+            db_config,
             failed: false,
+            faults: 0,
         })
+    }
+
+    /// In how many events the application, a run, a build or a hook has failed. It stays at the last number.
+    pub fn faults(&self) -> u64
+        ensures { result ≡ self.now.faults }
+    {
+        self.faults
     }
 
     /// The application as it is.
     pub fn application(&self) -> &A
-        ensures { result.now ≡ self.now.config.application }
+        ensures { result.now ≡ self.now.application }
     {
-        &self.config.application
+        self.handler.application()
     }
 }

@@ -19,6 +19,13 @@ module _ {B C I S T : Type 0} (s : Setting B S T) (base : S) (p : Past B C I) wh
     itself : IsUnknown s p b.digest → Missing b b
     above : {x y : Named B} → Missing b x → Met s p y → y.digest ≡ parent_of s x → IsUnknown s p y.digest → Missing b y
 
+  -- an ancestor of it, from its parent on, is missing
+  pub record IsMissingAbove (b ancestor : Named B) : Type 0 where
+    pub parent : Named B
+    pub met : Met s p parent
+    pub is_parent : parent.digest ≡ parent_of s b
+    pub missing : Missing parent ancestor
+
   -- no higher than the tip
   abbrev pub IsCovered : Named B → Type 0
   IsCovered b = MatchOption (tip_of s.header p) ⊥ (λ tip. height_of s b ≤ tip.height.0)
@@ -50,8 +57,7 @@ module _ {B C I S T : Type 0} (s : Setting B S T) (base : S) (p : Past B C I) wh
   -- a missing ancestor of it isn't one above its parent
   pub record SkipsHeight (b : Named B) : Type 0 where
     pub ancestor : Named B
-    pub missing : Missing b ancestor
-    pub proper : ancestor.digest ≢ b.digest
+    pub missing : IsMissingAbove b ancestor
     pub parent : Named B
     pub met : Met s p parent
     pub is_parent : parent.digest ≡ parent_of s ancestor
@@ -60,8 +66,7 @@ module _ {B C I S T : Type 0} (s : Setting B S T) (base : S) (p : Past B C I) wh
   -- a missing ancestor of it is no higher than the tip
   pub record LeavesTip (b : Named B) : Type 0 where
     pub ancestor : Named B
-    pub missing : Missing b ancestor
-    pub proper : ancestor.digest ≢ b.digest
+    pub missing : IsMissingAbove b ancestor
     pub covered : IsCovered ancestor
 
   -- why the block is judged false

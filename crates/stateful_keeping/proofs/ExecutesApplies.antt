@@ -13,6 +13,7 @@ use Rattle.stateful_history.specs.Past.{Past, Made}
 use Rattle.stateful_history.specs.States.{fold}
 use Rattle.stateful_history.specs.declared.mark.JobKind.TheVariants.{Finalized, Hook}
 use Rattle.stateful_history.specs.declared.mark.Mark.TheVariants.{Applied}
+use Rattle.stateful_cache.specs.Cache.{IsAtHand}
 use Rattle.stateful_exec.specs.Boundary.{step_by, IsRetained}
 use Rattle.stateful_exec.specs.Finalizing.{front_at}
 use Rattle.stateful_exec.specs.Pausing.{AwaitsRuns}
@@ -33,7 +34,7 @@ use Rattle.stateful_standing.specs.Ground.{IsGround}
 use Rattle.stateful_standing.specs.Setting.{setting}
 use Rattle.stateful_standing.specs.Standing.{TablesStand}
 use Rattle.stateful_standing.proofs.AnchorCut.{root-Met}
-use Rattle.stateful_standing.proofs.AnchorMoves.{IsApplied, IsApplied-moves, FrontStands-moves, HasMovedSo-moves}
+use Rattle.stateful_standing.proofs.AnchorMoves.{IsApplied, IsAppliedOver, IsAppliedOver-moves, FrontStands-moves, HasMovedSo-moves}
 use Rattle.stateful_standing.proofs.MovedStands.{TablesStand-free}
 use Rattle.stateful_standing.proofs.Retained.{none_awaited}
 use Rattle.stateful_processing.specs.Moments.{Moment}
@@ -42,7 +43,7 @@ use Rattle.stateful_processing.specs.declared.tables.Finalizing.{Finalizing}
 use Rattle.stateful_keeping.specs.Execution.{FetchesNone, IsPausedFor, IsPausedOver, IsPlaced, Executes, ExecutesBehind}
 
 module _ {B C I P R D H G U : Type 0} (w : Workings B C I P R D H G U) (stored : ℕ → Option (Named B)) (b : Named B) where
-  fold_more : (t : Option w.States) (u : w.States) (bs : List (Named B)) → fold (setting w stored) t bs ≡ Some u → (v : w.States)
+  pub fold_more : (t : Option w.States) (u : w.States) (bs : List (Named B)) → fold (setting w stored) t bs ≡ Some u → (v : w.States)
       → w.works.meaning.step u b.block ≡ Some v → fold (setting w stored) t (bs ++ b ∷ []) ≡ Some v
   fold_more t u [] is v step = rw (is, step) refl
   fold_more (Some t) u (c ∷ bs) is v step = fold_more (w.works.meaning.step t c.block) u bs is v step
@@ -113,6 +114,11 @@ module _ {B C I P R D H G U : Type 0} (w : Workings B C I P R D H G U) (laws : L
     pub anchor_is : now.execution.state.anchor ≡ anchor_by w.header f.block
     pub begun : IsBegun w stored p point m.next m.execution.state.anchor f.block
 
+  -- It stands behind that mark, and what was at hand keeps its point.
+  pub record IsExecutedOver (e : Executes w stored base p m) (n : Moment w) : Type 0 where
+    pub executes : Executes w stored base (Made (Applied f.block) ∷ p) n
+    pub same : (d : Digest) → IsAtHand m.execution.state.anchor m.execution.state.cache d → executes.points d ≡ e.points d
+
   -- so it does
   pub ExecutesBehind-applied : IsAppliedBehind → ExecutesBehind w stored base p m now
   ExecutesBehind-applied a = record
@@ -129,10 +135,13 @@ module _ {B C I P R D H G U : Type 0} (w : Workings B C I P R D H G U) (laws : L
     abbrev q : Past B C I
     q = Made (Applied f.block) ∷ p
 
-    is_applied : IsApplied w stored p e.point m.next f.block r.state r.batch
-    is_applied = IsApplied-moves w stored p e.points e.point m.next v r.state e.tables for_block.boundary for_block.pause_is for_block.ground.names
+    over : IsAppliedOver w stored p e.point m.next f.block r.state e.points v.anchor v.cache r.batch
+    over = IsAppliedOver-moves w stored p e.points e.point m.next v r.state e.tables for_block.boundary for_block.pause_is for_block.ground.names
         for_block.finalizes retained
         f.block begun m.members m.execution.front r.front e.fronts r.batch r.captured r.moves
+
+    abbrev is_applied : IsApplied w stored p e.point m.next f.block r.state r.batch
+    is_applied = over.applied
 
     abbrev top : Point w
     top = is_applied.points f.block.digest
@@ -194,7 +203,7 @@ module _ {B C I P R D H G U : Type 0} (w : Workings B C I P R D H G U) (laws : L
     placed = subst (λ (o : Option (Front B R U H)). IsPlaced w stored base q is_applied.points top m.next r.state o) (sym r.moves.after_is)
         (record { moved = moved; ground = ground; settled = settled })
 
-    executes : Executes w stored base q (record m {
+    executes : IsExecutedOver e (record m {
       execution = record m.execution { state = r.state; front = r.front };
       loop = record m.loop {
         durability = record m.loop.durability { applied = w.header.height f.block.block };
@@ -204,20 +213,26 @@ module _ {B C I P R D H G U : Type 0} (w : Workings B C I P R D H G U) (laws : L
       marks = m.marks ++ Applied f.block ∷ [];
     })
     executes = record {
-      points = is_applied.points;
-      point = top;
-      located = members_at;
-      drawn = laws.ids.issued_first m.next top (e.point ∷ is_applied.rest) is_applied.drawn;
-      tables = is_applied.tables;
-      builds = builds;
-      fronts = fronts;
-      placed = placed;
-      alone = λ some. let none = no_build in absurd (cc);
+      executes = record {
+        points = is_applied.points;
+        point = top;
+        located = members_at;
+        drawn = laws.ids.issued_first m.next top (e.point ∷ is_applied.rest) is_applied.drawn;
+        tables = is_applied.tables;
+        builds = builds;
+        fronts = fronts;
+        placed = placed;
+        alone = λ some. let none = no_build in absurd (cc);
+      };
+      same = over.same;
     }
+
+    executes_over : IsExecutedOver e now
+    executes_over = subst (λ (n : Moment w). IsExecutedOver e n) (sym r.becomes) executes
 
     behind : IsAppliedBehind
     behind = record {
-      executes = subst (λ (n : Moment w). Executes w stored base q n) (sym r.becomes) executes;
+      executes = executes_over.executes;
       point = e.point;
       located = e.located;
       folded = for_block.ground.folded.folded;
@@ -236,3 +251,9 @@ module _ {B C I P R D H G U : Type 0} (w : Workings B C I P R D H G U) (laws : L
   Executes-applies e front has =
       let h : IsOverBegun w stored base p m f.block e = over_begun w stored base p m f.block e has in
       behind e h.paused h.retained h.begun h.no_run h.no_hook front.1
+
+  -- Behind it what was at hand keeps its point.
+  pub Executes-applies_over : (e : Executes w stored base p m) → IsFinalizing w m f → HasStates w m f.block → IsExecutedOver e now
+  Executes-applies_over e front has =
+      let h : IsOverBegun w stored base p m f.block e = over_begun w stored base p m f.block e has in
+      executes_over e h.paused h.retained h.begun h.no_run h.no_hook front.1

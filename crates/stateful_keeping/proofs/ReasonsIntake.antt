@@ -1,5 +1,5 @@
 -- False verdicts and declines have their reasons: those behind an event that is taken in.
-use Rattle.std.proofs.Common.{◌≡◌, ◌++◌, ◌∷◌, [], ℕ, true, List, Option, Some, None, IfSome, IsSome, Result, Ok, Err, inr, All, refl, sym, ap, ◌∙◌, subst}
+use Rattle.std.proofs.Common.{◌≡◌, ◌++◌, ◌∷◌, [], ℕ, true, List, Option, Some, None, IfSome, IsSome, Result, Ok, Err, All, refl, sym, ap, ◌∙◌, subst}
 use Rattle.std.proofs.lemmas.List.Elements.{All-nil}
 use Rattle.stateful_types.specs.Names.{Named}
 use Rattle.stateful_types.specs.declared.outcome.Handoff.{Handoff}
@@ -9,18 +9,16 @@ use Rattle.stateful_types.specs.declared.outcome.Moved.TheVariants.{Pending, Don
 use Rattle.stateful_db.specs.Laws.{Laws}
 use Rattle.stateful_db.specs.declared.application.AppFault.{AppFault}
 use Rattle.stateful_db.specs.declared.application.ProposedBlock.{ProposedBlock}
-use Rattle.stateful_history.specs.Finalizations.{finalized_since}
 use Rattle.stateful_history.specs.Honest.{IsAnswered}
 use Rattle.stateful_history.specs.Met.{TrueNames}
 use Rattle.stateful_history.specs.Past.{Past, Came}
-use Rattle.stateful_history.specs.Requests.{IsLiveReceipt}
 use Rattle.stateful_history.specs.declared.event.Event.{Event}
 use Rattle.stateful_history.specs.declared.event.Event.TheVariants.{Fetched, Turn}
 use Rattle.stateful_history.specs.declared.mark.Mark.{Mark}
 use Rattle.stateful_exec.specs.Built.{TurnsBuild, HasTurn, other, goes_on, ends, EndsBuild, GivesUp, building, asking}
 use Rattle.stateful_exec.specs.Fetching.{Cancels, idle, withdraws, leaves, unqueued, Fetches, IsFetched, found, waits, declines, dead}
 use Rattle.stateful_exec.specs.Fetching as cancel
-use Rattle.stateful_exec.specs.Finalizing.{front_at, TurnsHook, hook_turned, unhooked, SettlesHook, Completes, candidate, finalized, StepsFinal, turned, not_live, SettlesFinal}
+use Rattle.stateful_exec.specs.Finalizing.{TurnsHook, hook_turned, unhooked, SettlesHook, Completes, candidate, finalized, StepsFinal, turned, not_live, SettlesFinal}
 use Rattle.stateful_exec.specs.Moments as exec
 use Rattle.stateful_exec.specs.Workings.{Workings}
 use Rattle.stateful_exec.specs.declared.building.Building.{Building}
@@ -31,7 +29,6 @@ use Rattle.stateful_exec.specs.declared.state.Tables.{Tables}
 use Rattle.stateful_exec.specs.declared.tables.Requested.{Requested}
 use Rattle.stateful_standing.specs.Building.{IsBuilding}
 use Rattle.stateful_standing.specs.Gathering.{gathered, AreLinked, IsGathered}
-use Rattle.stateful_standing.specs.Requesting.{first_of}
 use Rattle.stateful_standing.specs.Setting.{setting}
 use Rattle.stateful_standing.specs.Storing.{IsStoredNow}
 use Rattle.stateful_standing.proofs.Gathered.{AreLinked-fetched}
@@ -41,20 +38,14 @@ use Rattle.stateful_standing.proofs.ReasonGround.{IsGround}
 use Rattle.stateful_standing.proofs.Removing.{All-at}
 use Rattle.stateful_processing.specs.Intake.{Counts, TakesIn, enters, cancels, fetched, turns, flushes, stops, progresses, restarts, TurnsJob, build, hook, run}
 use Rattle.stateful_processing.specs.Moments.{Moment, inner}
-use Rattle.stateful_processing.specs.Sound.{FrontAgrees}
-use Rattle.stateful_processing.specs.declared.tables.Finalizing.{Finalizing}
 use Rattle.stateful_keeping.specs.Execution.{Executes, IsPlaced, IsFree}
 use Rattle.stateful_keeping.specs.Reasons.{RefusesNone, IsTrusted, ReasonsStand, ReasonsBehind}
-use Rattle.stateful_keeping.specs.Rounds.{RoundsRise}
 use Rattle.stateful_keeping.specs.Stands.{IsUpAt}
 use Rattle.stateful_keeping.proofs.Places.{fetches-free}
 use Rattle.stateful_keeping.proofs.ReasonsPlain.{one_plain, two_plain, reasons_plain, reasons_none, reasons_by}
 use Rattle.stateful_keeping.proofs.ReasonsTurned.{turned-reasons}
-
--- the block of a finalization that goes on
-abbrev block_in : {B R U H : Type 0} → Named B → Option (Front B R U H) → Named B
-block_in b None = b
-block_in b (Some f) = f.block
+use Rattle.stateful_keeping.proofs.RoundsLater.{front-finalized}
+use Rattle.stateful_keeping.proofs.Trusted.{IsTrusted-before}
 
 cancel_plain : {B C I R U : Type 0} (old new : Tables B C I R U) (t : ℕ) (ms : List (Mark B)) → Cancels old new t ms → All (λ x. RefusesNone x) ms
 cancel_plain old new t ms (idle r there rest is none) = subst (λ l. All (λ x. RefusesNone x) l) (sym none) (All-nil (λ x. RefusesNone x))
@@ -152,22 +143,6 @@ module _ {B C I P R D H G U : Type 0} (w : Workings B C I P R D H G U) (laws : L
   abbrev tables_now : Tables B C I R U
   tables_now = m.execution.state
 
-  -- the block of the finalization that goes on came as finalized
-  came : (b : Named B) (stage : Stage R U H) → m.execution.front ≡ front_at b stage → (t : ℕ) × (finalized_since t p ≡ Some b)
-  came b stage is = go m.loop.front (h.sound.up up).front h.tickets.front
-    where
-      go : (o : Option (Finalizing B G)) → FrontAgrees w m.loop.durability o m.execution.front
-          → IfSome o (λ f. IsLiveReceipt f.ticket p × (finalized_since f.ticket p ≡ Some f.block)) → (t : ℕ) × (finalized_since t p ≡ Some b)
-      go None agrees tickets = let no : front_at b stage ≡ None = sym is ∙ agrees in cc
-      go (Some f) agrees tickets =
-          let same : front_at b stage ≡ front_at f.block agrees.0 = sym is ∙ agrees.1 in
-          let one : f.block ≡ b = sym (ap (λ (o : Option (Front B R U H)). block_in b o) same) in
-          (f.ticket, subst (λ (x : Named B). finalized_since f.ticket p ≡ Some x) one tickets.1)
-
-  -- rounds that rise behind a turn rise before it
-  rise_before : (j : ℕ) → RoundsRise (setting w stored) (Came (Turn j) ∷ p) → RoundsRise (setting w stored) p
-  rise_before j rise t parent b is met on = rise t parent b is (inr met) on
-
   -- a fetch is answered
   module _ (f : ℕ) (answer : Option (Named B)) (trust : IsTrusted w stored (Came (Fetched f answer) ∷ p))
       (names : TrueNames (setting w stored) (Came (Fetched f answer) ∷ p)) (then : exec.Moment w) (is : now.marks ≡ then.marks) where
@@ -192,7 +167,7 @@ module _ {B C I P R D H G U : Type 0} (w : Workings B C I P R D H G U) (laws : L
         (fetched-reason w stored base p e.points e.point tables_now.anchor (inner w m) e.tables
         (subst (λ (x : Pause). IsGround w stored base p e.points e.point m.next tables_now.anchor x tables_now.anchor tables_now.cache)
         (sym free.pause_is) free.ground)
-        free.pause_is f answer marks names stored_now stored_is linked (λ u r fetching. trust.straight (first_of r.request).digest) then rule)
+        free.pause_is f answer marks names stored_now stored_is linked then rule)
 
     reasons-fetched : IsFetched w stored_now (inner w m) f answer then
         → ReasonsBehind w stored base (Fetched f answer) marks (Came (Fetched f answer) ∷ p) m now
@@ -208,7 +183,8 @@ module _ {B C I P R D H G U : Type 0} (w : Workings B C I P R D H G U) (laws : L
         → now.marks ≡ then.marks → ReasonsBehind w stored base (Turn j) marks (Came (Turn j) ∷ p) m now
     reasons-run then after (candidate steps same) is =
         reasons_by w stored base (Turn j) marks (Came (Turn j) ∷ p) m now (inner w m) then refl is
-        (turned-reasons w laws stored base (Turn j) marks p m h.executes h.ways (rise_before j trust.rise) j counts.run then steps came)
+        (turned-reasons w laws stored base (Turn j) marks p m h.executes h.ways (IsTrusted-before w stored (Came (Turn j)) p trust).rise j counts.run then steps
+        (front-finalized w stored base p m h up))
     reasons-run then after (finalized off steps same) is =
         final_told w laws stored base (Turn j) marks (Came (Turn j) ∷ p) m now counts.run j then.marks after steps is
 

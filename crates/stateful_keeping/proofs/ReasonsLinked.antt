@@ -13,7 +13,7 @@ use Rattle.stateful_standing.specs.Setting.{setting}
 use Rattle.stateful_processing.specs.Intake.{Counts, message_by, TakesIn, enters, cancels, fetched, turns, flushes, stops, progresses, restarts, build, hook, run}
 use Rattle.stateful_processing.specs.Message.{asks_of, asks_for}
 use Rattle.stateful_processing.specs.Moments.{Moment}
-use Rattle.stateful_processing.specs.Rules.{Builds, starts, declines, DoesMessage, schedules, answers, acknowledges, holds, begins, Takes, of_action, of_message, Rule}
+use Rattle.stateful_processing.specs.Rules.{starts, declines, DoesMessage, schedules, answers, acknowledges, holds, begins, Takes, of_action, of_message, Rule}
 use Rattle.stateful_processing.specs.Rules as rule
 use Rattle.stateful_processing.specs.declared.message.Action.{Action}
 use Rattle.stateful_processing.specs.declared.message.Action.TheVariants as action
@@ -38,6 +38,13 @@ module _ {B C I P R D H G U : Type 0} (w : Workings B C I P R D H G U) (stored :
   pub record LoopIsLinked (m : Moment w) : Type 0 where
     pub queue : All OfMessage m.loop.queue
     pub actions : All OfAction m.loop.actions
+
+  -- what is taken out of the loop is linked
+  pub takes-linked : (x : Message B C I) (m mid : Moment w) → Takes w x m mid → LoopIsLinked m → OfMessage x
+  takes-linked x m mid (of_action {rest = rest} is become) h =
+      All-head OfAction (action.Message x) rest (subst (λ (l : List (Action B C I)). All OfAction l) is h.actions)
+  takes-linked x m mid (of_message {rest = rest} none_first is become) h =
+      All-head OfMessage x rest (subst (λ (l : List (Message B C I)). All OfMessage l) is h.queue)
 
   as_was : (m now : Moment w) → now.loop.queue ≡ m.loop.queue → now.loop.actions ≡ m.loop.actions → LoopIsLinked m → LoopIsLinked now
   as_was m now queue actions h = record { queue = rw queue h.queue; actions = rw actions h.actions }

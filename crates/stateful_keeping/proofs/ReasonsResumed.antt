@@ -1,11 +1,9 @@
 -- False verdicts and declines have their reasons: those of the requests that are served once a finalization has ended.
-use Rattle.std.proofs.Common.{◌≡◌, ℕ, get_or, List, [], ◌∷◌, All, Option, Some, refl, sym, ◌∙◌, subst}
+use Rattle.std.proofs.Common.{◌≡◌, ◌++◌, ℕ, get_or, List, [], ◌∷◌, All, Option, Some, refl, sym, ◌∙◌, subst}
 use Rattle.std.proofs.lemmas.List.{append_cancel_left}
 use Rattle.stateful_types.specs.Names.{Named}
 use Rattle.stateful_types.specs.declared.anchor.Anchor.{Anchor}
 use Rattle.stateful_types.specs.declared.digest.Digest.{Digest}
-use Rattle.stateful_history.specs.Ancestors.{Up, IsCircular}
-use Rattle.stateful_history.specs.Ancestors as ancestors
 use Rattle.stateful_history.specs.Honest.{IsHonest, IsAnswered}
 use Rattle.stateful_history.specs.Past.{Past, after}
 use Rattle.stateful_history.specs.declared.event.Event.{Event}
@@ -20,7 +18,6 @@ use Rattle.stateful_exec.specs.declared.pause.Pause.TheVariants.{Free}
 use Rattle.stateful_exec.specs.declared.tables.Released.{Released}
 use Rattle.stateful_standing.specs.Setting.{setting}
 use Rattle.stateful_standing.specs.Gathering.{GatheringsStand}
-use Rattle.stateful_standing.specs.Requesting.{first_of}
 use Rattle.stateful_standing.specs.Standing.{TablesStand}
 use Rattle.stateful_standing.specs.Ways.{WaysStand}
 use Rattle.stateful_standing.specs.Storing.{IsStoredNow}
@@ -36,26 +33,7 @@ use Rattle.stateful_standing.proofs.ReasonMarks.{HasItsReason}
 use Rattle.stateful_standing.proofs.ReasonResumed.{HasParked, HasParked-same, MayAcquire, AreParked}
 use Rattle.stateful_standing.proofs.ReasonResumes.{parked, resumes-reason}
 use Rattle.stateful_standing.proofs.ResumeStands.{Serves-along}
-use Rattle.stateful_standing.proofs.SamePast.{IsSamePast}
 use Rattle.stateful_keeping.proofs.WaitsAbstain.{waits-Abstains}
-
-module _ {B C I P R D H G U : Type 0} (w : Workings B C I P R D H G U) (stored : ℕ → Option (Named B)) where
-  up_same : (p q : Past B C I) → IsSamePast (setting w stored) p q → {b x : Named B} → Up (setting w stored) q b x → Up (setting w stored) p b x
-  up_same p q same ancestors.itself = ancestors.itself
-  up_same p q same (ancestors.above {y = y} u met is) = ancestors.above (up_same p q same u) ((same.met y).0 met) is
-
-  -- where the past stays the same, no block becomes its own ancestor
-  straight-same : (p q : Past B C I) → IsSamePast (setting w stored) p q → ((d : Digest) → IsCircular (setting w stored) p d → ⊥)
-      → (d : Digest) → IsCircular (setting w stored) q d → ⊥
-  straight-same p q same straight d c = straight d (record {
-    block = c.block;
-    met = (same.met c.block).0 c.met;
-    is = c.is;
-    parent = c.parent;
-    parent_met = (same.met c.parent).0 c.parent_met;
-    is_parent = c.is_parent;
-    back = record { ancestor = c.back.ancestor; up = up_same p q same c.back.up; is = c.back.is };
-  })
 
 module _ {B C I P R D H G U : Type 0} (w : Workings B C I P R D H G U) (stored held : ℕ → Option (Named B)) (base : w.States) (tip : Anchor)
     (points : Digest → Point w) (point : Point w) (event : Event B C I) (marks : List (Mark B))
@@ -67,7 +45,6 @@ module _ {B C I P R D H G U : Type 0} (w : Workings B C I P R D H G U) (stored h
   record Stays (p : Past B C I) (m : Moment w) : Type 0 where
     free : m.state.pause ≡ Free
     stored_is : IsStoredNow stored p held
-    straight : (d : Digest) → IsCircular (setting w stored) p d → ⊥
 
   abbrev AreGoing : List (Released B C I) → Past B C I → Moment w → Type 0
   AreGoing = AreGrounded w stored base points point tip Rule ticket_of request_of (HasParked w stored held base tip) Stays
@@ -82,7 +59,6 @@ module _ {B C I P R D H G U : Type 0} (w : Workings B C I P R D H G U) (stored h
       (λ p m now r more is g hand h rule c stays. record {
         free = (LeavesBehind-advances w m now r.ticket (requested r.request) r.path rule).left.pause ∙ stays.free;
         stored_is = λ n. rw c.same.pruned (stays.stored_is n);
-        straight = straight-same w stored p (after p more) c.same stays.straight;
       })
       (λ p m now r g hand h stays rule.
       advances-free w stored base event marks p m h.free r.ticket (requested r.request) r.path now h.at_hand rule)
@@ -92,7 +68,6 @@ module _ {B C I P R D H G U : Type 0} (w : Workings B C I P R D H G U) (stored h
       (g : IsGround w stored base p points point m.next tip Free m.state.anchor m.state.cache)
       (ways : WaysStand w stored p tip (record m.state { pause = Free })) (located : w.kind.point m.members ≡ Some point)
       (drawn : w.kind.issued m.next (point ∷ [])) (stored_is : IsStoredNow stored p held)
-      (straight : (d : Digest) → IsCircular (setting w stored) p d → ⊥)
       (stand : GatheringsStand (setting w stored) p m.state.requests) (honest : IsHonest (setting w stored) p) (answered : IsAnswered p)
       (now : Moment w) (r : Resumes w held m now) where
     start : AreGoing (parked_in m.state.requests) p (unparked w m)
@@ -101,7 +76,7 @@ module _ {B C I P R D H G U : Type 0} (w : Workings B C I P R D H G U) (stored h
         (unparked w m) = parked w stored held base tip points point event marks other_states p m s g ways located drawn in
         record {
           grounded = on.grounded;
-          stays = record { free = refl; stored_is = stored_is; straight = straight };
+          stays = record { free = refl; stored_is = stored_is };
           hands = on.hands;
           apart = on.apart;
           also = on.also;
@@ -121,15 +96,20 @@ module _ {B C I P R D H G U : Type 0} (w : Workings B C I P R D H G U) (stored h
         record {
           free = gone.ready.stays.free;
           linked = linked-resumed w stored held base tip points point other_states p m s g ways located drawn stand honest answered now r k d l;
-          straight = gone.ready.stays.straight (first_of e.1.request).digest;
           stored_is = gone.ready.stays.stored_is;
           may_wait = λ needs. waits-Abstains w stored q r.mid.state.anchor r.mid.state.cache held folded.anchor_is folded.tip_is
               gone.ready.stays.stored_is e.0 e.1.request [] needs;
         }
 
+    -- behind the parked requests those that acquire anew what they need may do so
+    pub resumed-may : (more : List (Mark B)) → r.mid.marks ≡ m.marks ++ more
+        → All (λ e. MayAcquire w stored held base tip (after p more) r.mid.state.pause r.mid.state.anchor r.mid.state.cache e)
+        (unacquired_in r.mid.state.requests)
+    resumed-may more is = subst (λ (ms : List (Mark B)). All (λ e. MayAcquire w stored held base tip
+        (after p ms) r.mid.state.pause r.mid.state.anchor r.mid.state.cache e) (unacquired_in r.mid.state.requests))
+        (append_cancel_left m.marks gone.more more (sym gone.marks_are ∙ is)) may
+
     -- each mark behind the end of a pause keeps the rule
     pub resumed-reasons : KeepsBehind w Rule p m now
-    resumed-reasons = resumes-reason w stored held base tip points point event marks other_states p m s g ways located drawn now r (λ first.
-        subst (λ (ms : List (Mark B)). All (λ e. MayAcquire w stored held base tip
-        (after p ms) r.mid.state.pause r.mid.state.anchor r.mid.state.cache e) (unacquired_in r.mid.state.requests))
-        (append_cancel_left m.marks gone.more first.more (sym gone.marks_are ∙ first.marks_are)) may)
+    resumed-reasons = resumes-reason w stored held base tip points point event marks other_states p m s g ways located drawn now r
+        (λ first. resumed-may first.more first.marks_are)

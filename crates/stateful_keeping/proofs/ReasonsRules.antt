@@ -22,7 +22,6 @@ use Rattle.stateful_exec.specs.declared.request.Proposal.{Proposal}
 use Rattle.stateful_exec.specs.declared.request.Request.{Request}
 use Rattle.stateful_exec.specs.declared.state.Tables.{Tables}
 use Rattle.stateful_standing.specs.Gathering.{gathered, AreLinked}
-use Rattle.stateful_standing.specs.Requesting.{first_of}
 use Rattle.stateful_standing.specs.Setting.{setting}
 use Rattle.stateful_standing.specs.Storing.{IsStoredNow}
 use Rattle.stateful_standing.proofs.MovedStands.{TablesStand-free}
@@ -31,7 +30,7 @@ use Rattle.stateful_standing.proofs.ReasonAcquired.{acquires-reason}
 use Rattle.stateful_standing.proofs.ReasonGround.{IsGround}
 use Rattle.stateful_history.specs.Met.{Met}
 use Rattle.stateful_processing.specs.Moments.{Moment, Executing, inner, with_loop}
-use Rattle.stateful_processing.specs.Rules.{acknowledged, Schedules, Builds, starts, declines, DoesMessage, schedules, answers, acknowledges, holds, begins, EndsFinalization, Takes, of_action, of_message, Rule}
+use Rattle.stateful_processing.specs.Rules.{acknowledged, Schedules, Builds, starts, declines, DoesMessage, schedules, answers, acknowledges, holds, begins, EndsFinalization, Rule}
 use Rattle.stateful_processing.specs.Rules as rule
 use Rattle.stateful_processing.specs.declared.message.Action.{Action}
 use Rattle.stateful_processing.specs.declared.message.Action.TheVariants as action
@@ -46,6 +45,7 @@ use Rattle.stateful_keeping.specs.Ways.{WaysKept}
 use Rattle.stateful_keeping.proofs.AnchorStands.{Executes-takes, idle-front}
 use Rattle.stateful_keeping.proofs.ExecutesKept.{Executes-same}
 use Rattle.stateful_keeping.proofs.MarksOfRules.{takes-marks}
+use Rattle.stateful_keeping.proofs.ReasonsLinked.{takes-linked}
 use Rattle.stateful_keeping.proofs.ReasonsPlain.{one_plain, reasons_plain, reasons_none, reasons_by, reasons_since}
 use Rattle.stateful_keeping.proofs.ReasonsResumed.{resumed-reasons}
 use Rattle.stateful_keeping.proofs.TicketsTaken.{action_taken, message_taken, takes-taken, takes-execution}
@@ -94,7 +94,7 @@ module _ {B C I P R D H G U : Type 0} (w : Workings B C I P R D H G U) (laws : L
           (sym free.pause_is) free.ground)
           free.pause_is stored_now stored_is (ticket_by request) (requested request) r.then
           (record { absent = stands.2.elsewhere.absent; not_queued = stands.2.elsewhere.not_queued; own = refl; asked = stands.0; brought = stands.1 })
-          (All-nil (Met (setting w stored) p)) linked (trust.straight (first_of request).digest) r.acquires)
+          (All-nil (Met (setting w stored) p)) linked r.acquires)
 
       -- the parent of a proposal that can't be built is out of reach
       declined : (t : ℕ) (o : Option (Proposal B C I)) → at m.execution.state.queued t ≡ o → IsSome o → ReasonsStand w stored p base m
@@ -140,16 +140,7 @@ module _ {B C I P R D H G U : Type 0} (w : Workings B C I P R D H G U) (laws : L
         moved.ground
         (WaysStand-free w stored p m.execution.state.anchor m.execution.state moved.moved
         (WaysStand-tip w stored p m.execution.state m.execution.state.anchor moved.ground.folded.tip_is kept))
-        h.located h.drawn stored_is trust.straight stand.gatherings trust.honest trust.answered r.then r.resumes)
-
-  -- what is taken out of the loop is linked
-  takes-linked : (x : Message B C I) (m mid : Moment w) → Takes w x m mid → ReasonsStand w stored p base m → MessageIsLinked (setting w stored) x
-  takes-linked x m mid (of_action {rest = rest} is become) stand =
-      All-head (λ (a : Action B C I). ActionIsLinked (setting w stored) a) (action.Message x) rest
-      (subst (λ (l : List (Action B C I)). All (λ a. ActionIsLinked (setting w stored) a) l) is stand.actions)
-  takes-linked x m mid (of_message {rest = rest} none_first is become) stand =
-      All-head (λ (a : Message B C I). MessageIsLinked (setting w stored) a) x rest
-      (subst (λ (l : List (Message B C I)). All (λ a. MessageIsLinked (setting w stored) a) l) is stand.queue)
+        h.located h.drawn stored_is stand.gatherings trust.honest trust.answered r.then r.resumes)
 
   module _ (provider : P) (m now : Moment w) (h : IsUpAt w stored base p m) (stand : ReasonsStand w stored p base m) where
     told : (more : List (Mark B)) → now.marks ≡ m.marks ++ more → All (λ x. RefusesNone x) more → Behind m now
@@ -195,4 +186,4 @@ module _ {B C I P R D H G U : Type 0} (w : Workings B C I P R D H G U) (laws : L
         reasons_since w stored base event marks p m now mid (takes-marks w x m mid take)
         (reasons-does mid now (Executes-takes w stored base p x m mid take h.executes)
         (ap (λ (n : Executing B C I R D H U). n.front) (takes-execution w stored p x m mid take) ∙ idle-front w m (h.sound.up calm.0.0.0) calm.0.2)
-        x (takes-taken w stored p x m mid take h.tickets).stands (takes-linked x m mid take stand) does)
+        x (takes-taken w stored p x m mid take h.tickets).stands (takes-linked w stored x m mid take (record { queue = stand.queue; actions = stand.actions })) does)

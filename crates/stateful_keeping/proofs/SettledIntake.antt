@@ -31,7 +31,7 @@ use Rattle.stateful_keeping.proofs.SettledRules.{IsSettledAt, settled_same}
 use Rattle.stateful_keeping.proofs.StepsLeave.{pause-steps}
 
 -- where nothing pauses behind the end of a run, nothing did
-crossed_free : {B : Type 0} (header : Header B) (b : Named B) (old new : Pause) → Crosses header b old new → new ≡ Free → old ≡ Free
+pub crossed_free : {B : Type 0} (header : Header B) (b : Named B) (old new : Pause) → Crosses header b old new → new ≡ Free → old ≡ Free
 crossed_free header b Free new crosses is = refl
 crossed_free header b Pruning new crosses is = let no : Pruning ≡ Free = sym crosses ∙ is in absurd (cc)
 crossed_free header b (Finalizing old) Free crosses is = absurd crosses
@@ -39,7 +39,8 @@ crossed_free header b (Finalizing old) Pruning crosses is = absurd crosses
 crossed_free header b (Finalizing old) (Finalizing new) crosses is = absurd (cc)
 
 module _ {B C I P R D H G U : Type 0} (w : Workings B C I P R D H G U) where
-  pause_fetched : (stored_now : ℕ → Option (Named B)) (m now : exec.Moment w) (f : ℕ) (answer : Option (Named B))
+  -- the pause stays behind the answer of a fetch
+  pub pause_fetched : (stored_now : ℕ → Option (Named B)) (m now : exec.Moment w) (f : ℕ) (answer : Option (Named B))
       → IsFetched w stored_now m f answer now
       → now.state.pause ≡ m.state.pause
   pause_fetched stored_now m now f answer (found t r b fetches is acquires) =

@@ -17,3 +17,4 @@ pub mod EventBehind
 pub mod Rounds
 pub mod Reasons
 pub mod Duly
+pub mod HandsBehind

@@ -1,11 +1,9 @@
 -- Why verdicts are false and why proposals are declined, and what is trusted and kept beside for that.
 use Rattle.std.specs.Prelude.{◌≡◌, ℕ, false, Option, List, [], ◌++◌, All}
 use Rattle.stateful_types.specs.Names.{Named}
-use Rattle.stateful_types.specs.declared.digest.Digest.{Digest}
-use Rattle.stateful_history.specs.Ancestors.{IsCircular}
 use Rattle.stateful_history.specs.Declines.{DeclinedHasReason}
 use Rattle.stateful_history.specs.Honest.{IsHonest, IsAnswered}
-use Rattle.stateful_history.specs.Past.{Past, EachMark}
+use Rattle.stateful_history.specs.Past.{Past, EachMark, after}
 use Rattle.stateful_history.specs.Reasons.{FalseHasReason}
 use Rattle.stateful_history.specs.Setting.{Setting}
 use Rattle.stateful_history.specs.Telling.{telling_of}
@@ -41,11 +39,9 @@ module _ {B S T : Type 0} (s : Setting B S T) where
   ActionIsLinked (action.Build t) = Unit {0}
 
 module _ {B C I P R D H G U : Type 0} (w : Workings B C I P R D H G U) (stored : ℕ → Option (Named B)) (p : Past B C I) where
-  -- What is trusted of the world: rounds rise; no block is its own ancestor by its names; ancestries are linked; and fetches were
-  -- answered with the asked blocks.
+  -- What is trusted of the world: rounds rise; ancestries are linked; and fetches were answered with the asked blocks.
   pub record IsTrusted : Type 0 where
     pub rise : RoundsRise (setting w stored) p
-    pub straight : (d : Digest) → IsCircular (setting w stored) p d → ⊥
     pub honest : IsHonest (setting w stored) p
     pub answered : IsAnswered p
 
@@ -70,3 +66,10 @@ module _ {B C I P R D H G U : Type 0} (w : Workings B C I P R D H G U) (stored :
     pub more : List (Mark B)
     pub marks_are : now.marks ≡ m.marks ++ more
     pub each : EachMark HasItsReason p more
+
+  -- Besides, what is kept for reasons is kept behind these marks.
+  pub record ReasonsUpBehind (p : Past B C I) (m now : Moment w) : Type 0 where
+    pub more : List (Mark B)
+    pub marks_are : now.marks ≡ m.marks ++ more
+    pub each : EachMark HasItsReason p more
+    pub stand : ReasonsStand w stored (after p more) base now

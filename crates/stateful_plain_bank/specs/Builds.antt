@@ -71,3 +71,7 @@ IsBuilt Pending = ⊥
 IsBuilt (Done Wait) = ⊥
 IsBuilt (Done (Vote built)) = Unit {0}
 IsBuilt (Done (Stage built)) = Unit {0}
+
+-- how often a build has failed
+abbrev pub build_faults : BankBuild → ℕ
+build_faults build = build.faults

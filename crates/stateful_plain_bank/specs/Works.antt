@@ -1,6 +1,7 @@
 -- How the bank works over one database that is kept whole.
-use Rattle.std.proofs.Common.{◌≡◌, ◌<◌, ℕ, max, Some, some_injective, subst, arith}
-use Rattle.std.proofs.lemmas.Grind.{common_steps}
+use Rattle.std.proofs.Common.{◌≡◌, ◌<◌, ℕ, max, Some, subst}
+use Rattle.std.proofs.Math.Nat.{le-max_left}
+use Rattle.std.proofs.lemmas.Option.{same_Some}
 use Rattle.stateful_types.specs.declared.round.Round.{Round}
 use Rattle.stateful_types.specs.declared.target.Target.{Target}
 use Rattle.stateful_db.specs.Works.{Works, TakesTurns}
@@ -34,7 +35,7 @@ bank_works = record {
 }
 
 at_least_one : (x n : ℕ) → Some (max 1 x) ≡ Some n → 0 < n
-at_least_one x n is = grind (arith, common_steps)
+at_least_one x n is = subst (λ (m : ℕ). 0 < m) (same_Some (max 1 x) n is) (le-max_left 1 x)
 
 -- runs and builds take a turn at least
 pub bank_takes_turns : TakesTurns bank_works

@@ -1,18 +1,22 @@
 -- What the machine's play of the events says of the script.
-use Rattle.std.proofs.Common.{◌≡◌, ℕ, List, [], Option, None, IfSome, Vec, Global, map, refl, subst}
+use Rattle.std.proofs.Common.{◌≡◌, ℕ, Bool, List, [], Option, None, IfSome, Vec, Global, map, refl, subst}
 use Rattle.std.proofs.Math.Path.{fun_ext}
 use Rattle.stateful_types.specs.Names.{Named}
 use Rattle.stateful_types.specs.declared.round.Round.{Round}
-use Rattle.stateful_db.specs.Member.{Member, closed}
+use Rattle.stateful_db.specs.Member.{closed}
+use Rattle.stateful_bank.specs.BankBlock.{block_header}
 use Rattle.stateful_bank.specs.declared.ask.Ask.{Ask}
 use Rattle.stateful_bank.specs.declared.block.BankBlock.{BankBlock}
-use Rattle.stateful_plain.specs.Whole.{Whole, initial}
-use Rattle.stateful_plain.specs.declared.batch.PlainMerkleized.{PlainMerkleized}
-use Rattle.stateful_plain_bank.specs.declared.hook.BankHook.{BankHook}
-use Rattle.stateful_plain_bank.specs.declared.run.BankRun.{BankRun}
+use Rattle.stateful_plain.specs.Whole.{initial}
+use Rattle.stateful_history.specs.Met.{TrueNames}
+use Rattle.stateful_history.specs.Past.{after_all}
 use Rattle.stateful_history.specs.declared.entry.Entry.{Entry}
-use Rattle.stateful_actor.specs.Moments.{moment}
-use Rattle.stateful_actor.specs.declared.tables.Core.{Core}
+use Rattle.stateful_register.specs.declared.register.Register.{Register}
+use Rattle.stateful_standing.specs.Setting.{setting}
+use Rattle.stateful_processing.specs.Moments.{Moment}
+use Rattle.stateful_keeping.specs.Ways.{HasHonestStore}
+use Rattle.stateful_whole.specs.Machine.{IsNew}
+use Rattle.stateful_whole.specs.StepBehind.{EachStands}
 use Rattle.stateful_actor.specs.declared.driving.Halted.{Halted}
 use Rattle.stateful_script.specs.Laws.{IsPlan}
 use Rattle.stateful_script.specs.declared.script.Script.{Script}
@@ -26,46 +30,52 @@ use Rattle.stateful_play.specs.declared.play.Played.{Played}
 use Rattle.stateful_play.specs.Plan.{ArePlanned, labels_of}
 use Rattle.stateful_play.specs.Events.{BankEvent, events_of}
 use Rattle.stateful_play.specs.Store.{store_of}
-use Rattle.stateful_play.specs.Shown.{member_of}
+use Rattle.stateful_play.specs.Play.{bank, IsPlayOf, IsFirst, EndsWell, AreTaken, AreSteps, IsHaltedBy}
 use Rattle.stateful_play.proofs.Builds.{builds_are_named}
+use Rattle.stateful_play.proofs.Heights.{heights_stored}
 use Rattle.stateful_play.proofs.Honest.{honest_play}
-use Rattle.stateful_play.specs.Play.{bank, IsPlayOf, IsFirst, KeepRules, AreTaken, AreSteps, IsHaltedBy}
 
 -- a play in the plain world
 abbrev pub in_plain : Vec (Entry BankBlock Round Ask) Global → Machine → Databases → Option Halted → Played
 in_plain entries machine databases «end» = record { world = world.Plain; history = history.Plain entries; machine = machine; databases = databases; «end» = «end» }
 
 -- a play begins with a new machine and an empty database
-pub begins_new : (core : Core BankBlock BankRun BankHook PlainMerkleized) (members : Member Whole) (ids : ℕ)
-    → core.anchor ≡ None → core.next_job ≡ 0 → core.next_fetch ≡ 0 → core.next_barrier ≡ 0
-    → members ≡ closed (record { older = []; newest = initial; pruned = 0; durable = 0 }) → ids ≡ 1
-    → IsFirst (moment bank core members ids [])
-begins_new core members ids down jobs fetches barriers empty batches = record {
-  down = down;
-  jobs = jobs;
-  fetches = fetches;
-  barriers = barriers;
+pub begins_new : (failed : Bool) (register : Register) (first : Moment bank) → IsNew bank failed register first
+    → first.members ≡ closed (record { older = []; newest = initial; pruned = 0; durable = 0 }) → first.next ≡ 1
+    → IsFirst first
+begins_new failed register first new empty batches = record {
+  register = register;
+  new = subst (λ f. IsNew bank f register first) new.working new;
   members = empty;
   batches = batches;
 }
+
+-- the rules that entries keep where names are true and the store is honest
+abbrev pub KeepWhereHonest : (ℕ → Option (Named BankBlock)) → List (Entry BankBlock Round Ask) → Machine → Databases → Option Halted → Type 0
+KeepWhereHonest stored entries machine databases «end» =
+    TrueNames (setting bank stored) (after_all [] entries)
+    → HasHonestStore block_header stored (after_all [] entries)
+    → EachStands bank stored (EndsWell stored entries machine databases «end») initial [] entries
 
 pub carried : (script : Script) (made : List Planned) (labels : List Label) (entries : Vec (Entry BankBlock Round Ask) Global) (machine : Machine) (databases : Databases) («end» : Option Halted) (stored : ℕ → Option (Named BankBlock)) (events : List BankEvent)
     → IsPlan script → ArePlanned script.blocks made → labels ≡ labels_of script.names made
     → ((h : ℕ) → stored h ≡ store_of made script.events h) → events ≡ events_of made script.events
     → AreTaken «end» events (map (λ entry. entry.event) entries.items)
-    → AreSteps stored entries.items
-    → KeepRules stored «end» entries.items (member_of databases)
+    → AreSteps stored «end» entries.items machine databases
+    → KeepWhereHonest stored entries.items machine databases «end»
     → IfSome «end» (IsHaltedBy stored events entries.items machine databases)
     → IsPlayOf script labels (in_plain entries machine databases «end»)
-carried script made labels entries machine databases «end» stored events plan planned labelled same are taken steps rules halted = record {
-  blocks = made;
-  planned = planned;
-  builds = builds_are_named script.blocks made script.events planned plan.builds;
-  labelled = labelled;
-  world = refl;
-  events = rw are at taken;
-  honest = honest_play (store_of made script.events) script.blocks made script.events «end» entries.items planned (rw are at taken);
-  steps = subst (λ s. AreSteps s entries.items) (fun_ext same) steps;
-  rules = subst (λ s. KeepRules s «end» entries.items (member_of databases)) (fun_ext same) rules;
-  refused = subst (λ s. IfSome «end» (IsHaltedBy s (events_of made script.events) entries.items machine databases)) (fun_ext same) (rw are at halted);
-}
+carried script made labels entries machine databases «end» stored events plan planned labelled same are taken steps rules halted =
+    let honest = subst (λ s. KeepWhereHonest s entries.items machine databases «end») (fun_ext same) rules in
+    record {
+      blocks = made;
+      planned = planned;
+      builds = builds_are_named script.blocks made script.events planned plan.builds;
+      labelled = labelled;
+      world = refl;
+      events = rw are at taken;
+      honest = honest_play (store_of made script.events) script.blocks made script.events «end» entries.items planned (rw are at taken);
+      steps = subst (λ s. AreSteps s «end» entries.items machine databases) (fun_ext same) steps;
+      rules = λ names finalized. honest names (record { heights = heights_stored made script.events; finalized = finalized });
+      refused = subst (λ s. IfSome «end» (IsHaltedBy s (events_of made script.events) entries.items machine databases)) (fun_ext same) (rw are at halted);
+    }

@@ -13,8 +13,8 @@ use Rattle.stateful_history.specs.declared.event.Event.TheVariants.{Verify, Prep
 use Rattle.stateful_script.specs.declared.script.PlannedBlock.{PlannedBlock}
 use Rattle.stateful_script.specs.declared.script.PlannedEvent.{PlannedEvent}
 use Rattle.stateful_script.specs.declared.script.PlannedEvent.TheVariants as line
+use Rattle.stateful_standing.specs.Setting.{setting}
 use Rattle.stateful_actor.specs.declared.driving.Halted.{Halted}
-use Rattle.stateful_actor.specs.Workings.{setting}
 use Rattle.stateful_play.specs.declared.plan.Planned.{Planned}
 use Rattle.stateful_play.specs.Plan.{ArePlanned, first, next, genesis, child, block_on}
 use Rattle.stateful_play.specs.Events.{BankEvent, restart, planned_at, ancestry_of, ticket_after, event_of, events_from, events_of}

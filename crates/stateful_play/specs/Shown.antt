@@ -1,5 +1,5 @@
 -- What a transcript shows of a play.
-use Rattle.std.specs.Prelude.{ℕ, ◌-◌, List, [], ◌∷◌, Option, Some, None, codes}
+use Rattle.std.specs.Prelude.{ℕ, ◌-◌, Bool, List, [], ◌∷◌, Option, Some, None, codes}
 use Rattle.stateful_types.specs.declared.round.Round.{Round}
 use Rattle.stateful_db.specs.Member.{Member, here, closed, lost, away}
 use Rattle.stateful_db.specs.declared.database.DbCall.{DbCall}
@@ -8,13 +8,10 @@ use Rattle.stateful_bank.specs.declared.ask.Ask.{Ask}
 use Rattle.stateful_bank.specs.declared.block.BankBlock.{BankBlock}
 use Rattle.stateful_plain.specs.Whole.{Whole}
 use Rattle.stateful_plain.specs.Stored.{standing_of, disk_of}
-use Rattle.stateful_plain.specs.declared.batch.PlainMerkleized.{PlainMerkleized}
-use Rattle.stateful_plain_bank.specs.declared.hook.BankHook.{BankHook}
-use Rattle.stateful_plain_bank.specs.declared.run.BankRun.{BankRun}
 use Rattle.stateful_history.specs.declared.entry.Entry.{Entry}
-use Rattle.stateful_actor.specs.declared.tables.Core.{Core}
-use Rattle.stateful_actor.specs.declared.error.StepError.{StepError}
-use Rattle.stateful_actor.specs.declared.error.StepError.TheVariants.{Database, TargetMismatch, SkippedHeight, NotExtending, ConflictAtAnchor, Application, MissingBlock, BadEvent, Failed, Exhausted, DatabaseFault, NotYet, OutOfMemory}
+use Rattle.stateful_register.specs.declared.register.Register.{Register}
+use Rattle.stateful_processing.specs.declared.error.StepError.{StepError}
+use Rattle.stateful_processing.specs.declared.error.StepError.TheVariants as error
 use Rattle.stateful_actor.specs.declared.driving.Halted.{Halted}
 use Rattle.stateful_text.specs.declared.shown.Label.{Label}
 use Rattle.stateful_text.specs.declared.shown.Shown.{Shown}
@@ -59,9 +56,22 @@ listed_in (databases.Plain d) = elim d [
   | held.Away ↦ []
 ]
 
--- the tables of the machine of a play
-abbrev pub core_of : Machine → Core BankBlock BankRun BankHook PlainMerkleized
-core_of (machine.Plain stateful) = stateful.core
+-- the batch id that the database draws next
+abbrev pub next_of : Databases → ℕ
+next_of (databases.Plain d) = elim d [
+  | held.Here db ↦ db.medium.next
+  | held.Closed medium ↦ medium.next
+  | held.Lost medium ↦ medium.next
+  | held.Away ↦ 0
+]
+
+-- the register of live work of the machine of a play
+abbrev pub register_of : Machine → Register
+register_of (machine.Plain stateful) = stateful.register
+
+-- whether that machine has answered an error since its last start
+abbrev pub has_failed : Machine → Bool
+has_failed (machine.Plain stateful) = stateful.failed
 
 -- the range and the balances of the newest state, or where the database is
 abbrev pub shown_of : Member Whole → Shown
@@ -72,19 +82,23 @@ shown_of away = Away
 
 -- the name of an error
 abbrev pub error_name : StepError → List ℕ
-error_name (Database index) = codes "Database"
-error_name (TargetMismatch index expected recovered) = codes "TargetMismatch"
-error_name (SkippedHeight expected given) = codes "SkippedHeight"
-error_name (NotExtending expected given) = codes "NotExtending"
-error_name (ConflictAtAnchor expected given) = codes "ConflictAtAnchor"
-error_name Application = codes "Application"
-error_name (MissingBlock height) = codes "MissingBlock"
-error_name BadEvent = codes "BadEvent"
-error_name Failed = codes "Failed"
-error_name Exhausted = codes "Exhausted"
-error_name (DatabaseFault index call) = codes "DatabaseFault"
-error_name NotYet = codes "NotYet"
-error_name OutOfMemory = codes "OutOfMemory"
+error_name (error.Database index) = codes "Database"
+error_name (error.TargetMismatch index expected recovered) = codes "TargetMismatch"
+error_name (error.SkippedHeight expected given) = codes "SkippedHeight"
+error_name (error.NotExtending expected given) = codes "NotExtending"
+error_name (error.ConflictAtAnchor expected given) = codes "ConflictAtAnchor"
+error_name (error.FinalizedRejected digest) = codes "FinalizedRejected"
+error_name (error.FinalizedMismatch index expected given) = codes "FinalizedMismatch"
+error_name (error.ProposalMismatch fault) = codes "ProposalMismatch"
+error_name (error.ProposalStale anchor round) = codes "ProposalStale"
+error_name (error.PendingChanged before after) = codes "PendingChanged"
+error_name error.Application = codes "Application"
+error_name (error.MissingBlock height) = codes "MissingBlock"
+error_name error.BadEvent = codes "BadEvent"
+error_name error.Failed = codes "Failed"
+error_name error.Exhausted = codes "Exhausted"
+error_name (error.DatabaseFault index call) = codes "DatabaseFault"
+error_name error.OutOfMemory = codes "OutOfMemory"
 
 -- with the last event, or at the refused one
 abbrev pub ending_by : Option Halted → Ending

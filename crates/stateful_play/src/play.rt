@@ -4,16 +4,17 @@ ghost use Rattle.std.specs.Prelude.{◌≡◌, ◌↔◌, ℕ, [], IfOk, IsTrue,
 ghost use Rattle.stateful_db.specs.Member.{closed as closed_member};
 ghost use Rattle.stateful_plain.specs.Whole.{initial};
 ghost use Rattle.stateful_script.specs.Laws.{IsPlan};
-ghost use Rattle.stateful_actor.specs.Stepping.{IsNew};
+ghost use Rattle.stateful_processing.specs.Moments.{moment};
+ghost use Rattle.stateful_whole.specs.Machine.{IsNew};
 ghost use Rattle.stateful_play.specs.Plan.{labels_of};
-ghost use Rattle.stateful_play.specs.Play.{IsPlayOf};
+ghost use Rattle.stateful_play.specs.Play.{bank, IsPlayOf};
 ghost use Rattle.stateful_play.specs.Shown.{listed_in};
 
-use crate::event::{WINDOW, events};
+use crate::event::events;
 use crate::plan::{Planned, plan};
 use crate::store::store_of;
-use stateful_actor::{Config, Driven, Halted, Stateful, StepError, drive};
 use stateful_bank::{Ask, BankBlock};
+use stateful_actor::{Config, Driven, Halted, NewError, Stateful, StepError, drive};
 use stateful_db::{DatabaseSet, Held};
 use stateful_history::Entry;
 use stateful_plain::{Plain, PlainMedium};
@@ -22,9 +23,6 @@ use stateful_script::{Name, Script, World};
 use stateful_text::Label;
 use stateful_types::{Items, OutOfMemory, Round};
 use std::alloc::Global;
-
-/// How many messages a mailbox takes at once. A play has no mailbox.
-const MAILBOX: usize = 1;
 
 /// The entries of a play, by its world.
 #[derive(Drop)]
@@ -86,16 +84,19 @@ fn labels(alloc: Global, names: &[Name], planned: &[Planned]) -> Result<Vec<Labe
 
 /// A machine that is down.
 fn new_machine(alloc: Global) -> Result<Stateful<Bank>, OutOfMemory>
-    ensures { IfOk result (λ stateful. IsNew stateful.failed stateful.core stateful.register) }
+    ensures { IfOk result (λ stateful. (m : ⟦<Held<Plain> as DatabaseSet>⟧.kind.Members) (n : ℕ)
+        → IsNew bank stateful.failed stateful.register
+        (moment bank stateful.execution stateful.loop m n [])) }
 {
     let config = Config {
         application: Bank::new(alloc),
         db_config: (),
         provider: (),
-        max_pending_acks: WINDOW,
-        mailbox_size: MAILBOX,
     };
-    Stateful::new(alloc, config).map_err(|_| OutOfMemory)
+    match Stateful::new(alloc, config) {
+        Ok(stateful) => Ok(stateful),
+        Err(NewError::OutOfMemory) => Err(OutOfMemory),
+    }
 }
 
 /// A database that is closed, on an empty medium that hasn't failed. No call on it is to fail: a script lists none.

@@ -160,17 +160,17 @@ fn plays_to_the_end(rt: HostRuntime) -> Result<(), Fail> {
             text: "#1;started 0 candidate a;#2;ended 0 kept;verdict 0 true;#3;started 1 candidate s;#4;ended 1 kept;verdict 1 true;#5;began 2 a;applied 1 a;barrier 0 1;#6;verdict 3 false;#7;verdict 4 true;#8;verdict 5 true;database 0 1..2 1=100;done;",
             status: Status::Done,
         },
-        // Below the anchor the finalized block of a height is true, and another one false. The second block waits for
-        // the first one's barrier.
+        // Below the anchor the finalized block of a height is true, and another one false. The second block's barrier is
+        // begun while the first one's is open.
         Row {
             script: "verify a;turn 0;verify b;turn 1;finalize a;finalize b;verify s;verify a;flushed 0 0;flushed 1 0;",
-            text: "#1;started 0 candidate a;#2;ended 0 kept;verdict 0 true;#3;started 1 candidate b;#4;ended 1 kept;verdict 1 true;#5;began 2 a;applied 1 a;barrier 0 1;#6;began 3 b;applied 2 b;#7;verdict 4 false;#8;verdict 5 true;#9;durable 0 1;acknowledged 2 1;barrier 1 2;#10;durable 1 2;acknowledged 3 2;database 0 2..3 1=100 2=50;done;",
+            text: "#1;started 0 candidate a;#2;ended 0 kept;verdict 0 true;#3;started 1 candidate b;#4;ended 1 kept;verdict 1 true;#5;began 2 a;applied 1 a;barrier 0 1;#6;began 3 b;applied 2 b;barrier 1 2;#7;verdict 4 false;#8;verdict 5 true;#9;durable 0 1;acknowledged 2 1;#10;durable 1 2;acknowledged 3 2;database 0 2..3 1=100 2=50;done;",
             status: Status::Done,
         },
         // A receipt of a height below the anchor is held with those of its height, whichever block it is for.
         Row {
             script: "verify a;turn 0;verify b;turn 1;finalize a;finalize b;finalize a;finalize s;flushed 0 0;flushed 1 0;",
-            text: "#1;started 0 candidate a;#2;ended 0 kept;verdict 0 true;#3;started 1 candidate b;#4;ended 1 kept;verdict 1 true;#5;began 2 a;applied 1 a;barrier 0 1;#6;began 3 b;applied 2 b;#7;#8;#9;durable 0 1;acknowledged 2 1;acknowledged 4 1;acknowledged 5 1;barrier 1 2;#10;durable 1 2;acknowledged 3 2;database 0 2..3 1=100 2=50;done;",
+            text: "#1;started 0 candidate a;#2;ended 0 kept;verdict 0 true;#3;started 1 candidate b;#4;ended 1 kept;verdict 1 true;#5;began 2 a;applied 1 a;barrier 0 1;#6;began 3 b;applied 2 b;barrier 1 2;#7;#8;#9;durable 0 1;acknowledged 2 1;acknowledged 4 1;acknowledged 5 1;#10;durable 1 2;acknowledged 3 2;database 0 2..3 1=100 2=50;done;",
             status: Status::Done,
         },
         // A block that isn't acceptable, which is run again, one that leads to no state, and one that comes too late.
@@ -324,51 +324,156 @@ fn halts_at_work_that_is_not_live(rt: HostRuntime) -> Result<(), Fail> {
 }
 
 #[test]
-fn halts_at_forms_that_are_not_done(rt: HostRuntime) -> Result<(), Fail> {
+fn plays_what_goes_on(rt: HostRuntime) -> Result<(), Fail> {
     let rows = [
-        // The parent isn't known.
+        // The parent isn't known, and is asked for.
         Row {
             script: "verify b;",
-            text: "database 0 0..1;halted 1 NotYet;",
-            status: Status::Halted { at: 1 },
+            text: "#1;asked 0 0 genesis;database 0 0..1;done;",
+            status: Status::Done,
+        },
+        // The parent is fetched, and is run first.
+        Row {
+            script: "verify b;fetched 0 genesis;turn 0;turn 1;",
+            text: "#1;asked 0 0 genesis;#2;started 0 candidate a;#3;ended 0 kept;started 1 candidate b;#4;ended 1 kept;verdict 0 true;database 0 0..1;done;",
+            status: Status::Done,
         },
         // A sibling of the final block is gone, and what stood on it.
         Row {
             script: "verify s;turn 0;verify n;turn 1;verify a;turn 2;finalize a;verify n;",
-            text: "#1;started 0 candidate s;#2;ended 0 kept;verdict 0 true;#3;started 1 candidate n;#4;ended 1 kept;verdict 1 true;#5;started 2 candidate a;#6;ended 2 kept;verdict 2 true;#7;began 3 a;applied 1 a;barrier 0 1;database 0 1..2 1=100;halted 8 NotYet;",
-            status: Status::Halted { at: 8 },
+            text: "#1;started 0 candidate s;#2;ended 0 kept;verdict 0 true;#3;started 1 candidate n;#4;ended 1 kept;verdict 1 true;#5;started 2 candidate a;#6;ended 2 kept;verdict 2 true;#7;began 3 a;applied 1 a;barrier 0 1;#8;verdict 4 false;database 0 1..2 1=100;done;",
+            status: Status::Done,
         },
-        // The block's states aren't at hand, since it wasn't run, or wasn't acceptable.
+        // The block's states aren't at hand, since it wasn't run, or wasn't acceptable: it is run.
         Row {
             script: "finalize a;",
-            text: "database 0 0..1;halted 1 NotYet;",
-            status: Status::Halted { at: 1 },
+            text: "#1;began 0 a;started 0 finalized a;database 0 0..1;done;",
+            status: Status::Done,
         },
         Row {
-            script: "verify z;turn 0;finalize z;",
-            text: "#1;started 0 candidate z;#2;ended 0 rejected;verdict 0 false;database 0 0..1;halted 3 NotYet;",
-            status: Status::Halted { at: 3 },
+            script: "verify z;turn 0;finalize z;turn 1;",
+            text: "#1;started 0 candidate z;#2;ended 0 rejected;verdict 0 false;#3;began 1 z;started 1 finalized z;#4;ended 1 kept;applied 1 z;barrier 0 1;database 0 1..2;done;",
+            status: Status::Done,
         },
-        // A build, and a restart of a machine that works.
-        Row {
-            script: "propose p on genesis view 1 mint 1 5;",
-            text: "database 0 0..1;halted 1 NotYet;",
-            status: Status::Halted { at: 1 },
-        },
-        Row {
-            script: "restart none 0;",
-            text: "database 0 0..1;halted 1 NotYet;",
-            status: Status::Halted { at: 1 },
-        },
-        // A run goes on.
+        // A run goes on: a second request waits with the first one, and a finalization waits for the run.
         Row {
             script: "verify a;verify a;",
-            text: "#1;started 0 candidate a;database 0 0..1;halted 2 NotYet;",
-            status: Status::Halted { at: 2 },
+            text: "#1;started 0 candidate a;#2;database 0 0..1;done;",
+            status: Status::Done,
         },
         Row {
             script: "verify a;finalize genesis;",
-            text: "#1;started 0 candidate a;database 0 0..1;halted 2 NotYet;",
+            text: "#1;started 0 candidate a;#2;acknowledged 1 0;database 0 0..1;done;",
+            status: Status::Done,
+        },
+        // Builds.
+        Row {
+            script: "propose p on genesis view 1 mint 1 5;turn 0;",
+            text: "#1;started 0 build genesis;#2;built 0 0 p;answered 0 block p;database 0 0..1;done;",
+            status: Status::Done,
+        },
+        Row {
+            script: "prepare p on genesis view 1 stage mint 1 5;turn 0;finalize p;flushed 0 0;",
+            text: "#1;started 0 build genesis;#2;built 0 0 p;answered 0 stage p;#3;began 1 p;applied 1 p;barrier 0 1;#4;durable 0 1;acknowledged 1 1;database 0 1..2 1=5;done;",
+            status: Status::Done,
+        },
+        Row {
+            script: "prepare p on genesis view 1 wait mint 1 5;turn 0;",
+            text: "#1;started 0 build genesis;#2;ended 0 nothing;declined 0;database 0 0..1;done;",
+            status: Status::Done,
+        },
+        // A subscription, and a request that is given up.
+        Row {
+            script: "subscribe;",
+            text: "#1;databases 0;database 0 0..1;done;",
+            status: Status::Done,
+        },
+        Row {
+            script: "verify b;cancel 0;",
+            text: "#1;asked 0 0 genesis;#2;withdrawn 0;database 0 0..1;done;",
+            status: Status::Done,
+        },
+    ];
+    plays_rows(rt.alloc(), &rt, &rows)
+}
+
+#[test]
+fn plays_stops_and_restarts(rt: HostRuntime) -> Result<(), Fail> {
+    let rows = [
+        Row {
+            script: "restart none 0;",
+            text: "#1;opened 0 genesis;database 0 0..1;done;",
+            status: Status::Done,
+        },
+        Row {
+            script: "verify b;restart none 1;",
+            text: "#1;asked 0 0 genesis;#2;withdrawn 0;dropped 0;opened 0 genesis;database 0 0..1;done;",
+            status: Status::Done,
+        },
+        // What was durable is there behind a restart, and numbers go on.
+        Row {
+            script: "finalize a;turn 0;flushed 0 0;restart 1 2;finalize b;turn 1;flushed 1 0;stop;",
+            text: "#1;began 0 a;started 0 finalized a;#2;ended 0 kept;applied 1 a;barrier 0 1;#3;durable 0 1;acknowledged 0 1;#4;opened 1 a;#5;began 1 b;started 1 finalized b;#6;ended 1 kept;applied 2 b;barrier 1 2;#7;durable 1 2;acknowledged 1 2;#8;stopped;database 0 2..3 1=100 2=50;done;",
+            status: Status::Done,
+        },
+        // A crash has left the first checkpoint alone, and the block is finalized again.
+        Row {
+            script: "finalize a;turn 0;restart none 1;finalize a;turn 1;flushed 1 0;",
+            text: "#1;began 0 a;started 0 finalized a;#2;ended 0 kept;applied 1 a;barrier 0 1;#3;dropped 0;opened 0 genesis;#4;began 1 a;started 1 finalized a;#5;ended 1 kept;applied 1 a;barrier 1 1;#6;durable 1 1;acknowledged 1 1;database 0 1..2 1=100;done;",
+            status: Status::Done,
+        },
+        Row {
+            script: "verify b;stop;",
+            text: "#1;asked 0 0 genesis;#2;withdrawn 0;dropped 0;stopped;database 0 0..1;done;",
+            status: Status::Done,
+        },
+        // A barrier that is stopped stops the machine.
+        Row {
+            script: "verify a;finalize a;turn 0;flushed 0 0 stopped;",
+            text: "#1;started 0 candidate a;#2;began 1 a;#3;ended 0 kept;verdict 0 true;applied 1 a;barrier 0 1;#4;broken 0 1;dropped 1;stopped;database 0 1..2 1=100;done;",
+            status: Status::Done,
+        },
+        Row {
+            script: "stop;verify a;",
+            text: "#1;stopped;database 0 0..1;halted 2 BadEvent;",
+            status: Status::Halted { at: 2 },
+        },
+    ];
+    plays_rows(rt.alloc(), &rt, &rows)
+}
+
+#[test]
+fn names_errors(rt: HostRuntime) -> Result<(), Fail> {
+    let rows = [
+        Row {
+            script: "restart 7 1;",
+            text: "database 0 closed;halted 1 MissingBlock;",
+            status: Status::Halted { at: 1 },
+        },
+        Row {
+            script: "finalize a;turn 0;restart 1 1;",
+            text: "#1;began 0 a;started 0 finalized a;#2;ended 0 kept;applied 1 a;barrier 0 1;database 0 closed;halted 3 Database;",
+            status: Status::Halted { at: 3 },
+        },
+        // The store has a at height 1, and the database s.
+        Row {
+            script: "finalize a;turn 0;restart none 1;finalize s;turn 1;flushed 1 0;restart 1 2;",
+            text: "#1;began 0 a;started 0 finalized a;#2;ended 0 kept;applied 1 a;barrier 0 1;#3;dropped 0;opened 0 genesis;#4;began 1 s;started 1 finalized s;#5;ended 1 kept;applied 1 s;barrier 1 1;#6;durable 1 1;acknowledged 1 1;database 0 closed;halted 7 TargetMismatch;",
+            status: Status::Halted { at: 7 },
+        },
+        Row {
+            script: "finalize m;turn 0;",
+            text: "#1;began 0 m;started 0 finalized m;database 0 0..1;halted 2 FinalizedRejected;",
+            status: Status::Halted { at: 2 },
+        },
+        Row {
+            script: "block r on genesis view 1 wrong mint 1 100;finalize r;turn 0;",
+            text: "#1;began 0 r;started 0 finalized r;database 0 0..1;halted 2 FinalizedMismatch;",
+            status: Status::Halted { at: 2 },
+        },
+        Row {
+            script: "propose p on genesis view 0 mint 1 5;turn 0;",
+            text: "#1;started 0 build genesis;database 0 0..1;halted 2 ProposalStale;",
             status: Status::Halted { at: 2 },
         },
     ];

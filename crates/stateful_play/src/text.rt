@@ -23,13 +23,17 @@ fn name_of(error: StepError) -> &'static str
         StepError::SkippedHeight { .. } => "SkippedHeight",
         StepError::NotExtending { .. } => "NotExtending",
         StepError::ConflictAtAnchor { .. } => "ConflictAtAnchor",
+        StepError::FinalizedRejected { .. } => "FinalizedRejected",
+        StepError::FinalizedMismatch { .. } => "FinalizedMismatch",
+        StepError::ProposalMismatch(_) => "ProposalMismatch",
+        StepError::ProposalStale { .. } => "ProposalStale",
+        StepError::PendingChanged { .. } => "PendingChanged",
         StepError::Application => "Application",
         StepError::MissingBlock { .. } => "MissingBlock",
         StepError::BadEvent => "BadEvent",
         StepError::Failed => "Failed",
         StepError::Exhausted => "Exhausted",
         StepError::DatabaseFault { .. } => "DatabaseFault",
-        StepError::NotYet => "NotYet",
         StepError::OutOfMemory => "OutOfMemory",
     }
 }

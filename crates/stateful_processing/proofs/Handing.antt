@@ -1,5 +1,5 @@
 -- What an error is answered as.
-use Rattle.std.proofs.Common.{◌≡◌, Result, Ok, Err, IfErr, IsErrAnd, refl, sym, subst}
+use Rattle.std.proofs.Common.{◌≡◌, Result, Ok, Err, OnErr, IfErr, IsErrAnd, refl, sym, subst}
 use Rattle.stateful_exec.specs.declared.error.ExecError.{ExecError}
 use Rattle.stateful_exec.specs.declared.error.ExecError.TheVariants as exec
 use Rattle.stateful_processing.specs.Causes.{Via}
@@ -11,6 +11,11 @@ use Rattle.stateful_processing.specs.declared.error.StepError.TheVariants.{OutOf
 pub converted : {T E : Type 0} (P : E → Type 0) (r : Result T E) (e : E) → IsErrAnd r (λ y. y ≡ e) → P e → IfErr r P
 converted P (Ok x) e made p = tt
 converted P (Err y) e made p = subst P (sym made) p
+
+-- what holds anyway, on an error
+pub err_holds : {T E P : Type 0} (r : Result T E) → P → OnErr r P
+err_holds (Ok x) p = tt
+err_holds (Err e) p = p
 
 module _ {T : Type 0} (Faults : ExecError → Type 0) (result : Result T StepError) where
   pub refused : (fault : ExecError) → IsErrAnd result (λ f. f ≡ error_of_exec fault) → Faults fault → IfErr result (Via Faults)

@@ -20,6 +20,7 @@ pub mod FallingTables
 pub mod FallingParts
 pub mod Falling
 pub mod Handing
+pub mod Leaving
 pub mod Takes
 pub mod Firsts
 pub mod Rooms

@@ -9,3 +9,4 @@ pub mod Clearing
 pub mod Opening
 pub mod Intake
 pub mod Causes
+pub mod Left

@@ -1,6 +1,6 @@
 //! How barriers begin, are flushed and complete.
 
-ghost use Rattle.std.specs.Prelude.{◌≡◌, ◌≢◌, ◌<◌, ◌≤◌, ◌∷◌, ◌++◌, [], ℕ, Some, None, OnOk, IfErr, IsSome, Contains, length, option_and_then, slice_get, map};
+ghost use Rattle.std.specs.Prelude.{◌≡◌, ◌≢◌, ◌<◌, ◌≤◌, ◌∷◌, ◌++◌, [], ℕ, Some, None, OnOk, OnErr, IfErr, IsSome, Contains, length, option_and_then, slice_get, map};
 ghost use Rattle.std.specs.Option.{ForSome};
 ghost use Rattle.stateful_db.specs.Barrier.{open_at};
 ghost use Rattle.stateful_durability.specs.Durability.{receipts_above, covered_receipts};
@@ -8,6 +8,7 @@ ghost use Rattle.stateful_processing.specs.Barriers.{awaiting};
 ghost use Rattle.stateful_processing.specs.declared.barriers.Active.{Active as Opened};
 ghost use Rattle.stateful_processing.specs.Causes.{FaultsBarrier, FaultsFlush};
 ghost use Rattle.stateful_processing.specs.Intake.{Flushes};
+ghost use Rattle.stateful_processing.specs.Left.{KeepsStates};
 ghost use Rattle.stateful_processing.specs.Moments.{Executing, moment};
 ghost use Rattle.stateful_processing.specs.Rules.{Needed, BeginsBarrier, CompletesBarrier, acknowledged};
 
@@ -39,6 +40,8 @@ pub(crate) fn begin_barrier<A: Application>(
     ensures fault { IfErr result (FaultsBarrier A.Databases.kind
         (A.Databases.counted databases.old) (A.Databases.counted databases.new)
         (A.Databases.members databases.new) processing.old.next_barrier) }
+    ensures left { OnErr result (KeepsStates ⟦<A as Worked>⟧.workings
+        (A.Databases.members databases.old) (A.Databases.members databases.new)) }
     ensures none_away { A.Databases.kind.NoneAway (A.Databases.members databases.old)
         → A.Databases.kind.NoneAway (A.Databases.members databases.new) }
     ensures later { (n : ℕ)
@@ -91,6 +94,8 @@ pub(crate) fn flushed<A: Application>(
         (A.Databases.counted databases.old) (A.Databases.counted databases.new)
         (A.Databases.members databases.new) processing.old.barriers number index) }
     ensures barrier { processing.new.next_barrier ≡ processing.old.next_barrier }
+    ensures left { OnErr result (KeepsStates ⟦<A as Worked>⟧.workings
+        (A.Databases.members databases.old) (A.Databases.members databases.new)) }
     ensures none_away { A.Databases.kind.NoneAway (A.Databases.members databases.old)
         → A.Databases.kind.NoneAway (A.Databases.members databases.new) }
     ensures later { (n : ℕ)

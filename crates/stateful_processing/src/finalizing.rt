@@ -9,6 +9,7 @@ ghost use Rattle.stateful_exec.specs.Pausing.{AwaitsRuns, FaultsResume};
 ghost use Rattle.stateful_exec.specs.Starting.{Rises};
 ghost use Rattle.stateful_exec.specs.declared.front.Stage.TheVariants as stage;
 ghost use Rattle.stateful_processing.specs.Causes.{Via, FaultsApply, FaultsRule};
+ghost use Rattle.stateful_processing.specs.Left.{KeepsStates, LeavesApply, LeavesRule};
 ghost use Rattle.stateful_exec.specs.Moments as exec;
 ghost use Rattle.stateful_processing.specs.Moments.{executing, moment};
 ghost use Rattle.stateful_processing.specs.declared.tables.Processing.{Processing as Kept};
@@ -79,6 +80,7 @@ fn run<A: Application + Drop>(
         Via (FaultsStart w (Rose (A.count handler.old.application)
         (A.count handler.new.application)) handler.old.state.next_job
         (A.Databases.members databases.old) (A.Databases.next databases.old))) }
+    ensures members { A.Databases.members databases.new ≡ A.Databases.members databases.old }
     ensures none_away { A.Databases.kind.NoneAway (A.Databases.members databases.old)
         → A.Databases.kind.NoneAway (A.Databases.members databases.new) }
     ensures later { (n : ℕ)
@@ -112,6 +114,10 @@ fn apply<A: Application + Drop>(
         ⊎ FaultsApply A.Databases.kind (A.Databases.counted databases.old)
         (A.Databases.counted databases.new) (A.Databases.members databases.new)
         (A.Databases.members databases.old) e)) }
+    ensures left { OnErr result (let w = ⟦<A as Worked>⟧.workings in
+        KeepsStates w (A.Databases.members databases.old) (A.Databases.members databases.new)
+        ⊎ LeavesApply w front.block (executing handler.old)
+        (A.Databases.members databases.old) (A.Databases.members databases.new)) }
     ensures none_away { A.Databases.kind.NoneAway (A.Databases.members databases.old)
         → A.Databases.kind.NoneAway (A.Databases.members databases.new) }
     ensures later { (n : ℕ)
@@ -204,6 +210,7 @@ fn end_finalization<A: Application + Drop, S: BlockStore<A::Block>>(
         (A.count handler.new.application)) (S.stored store.now)
         (exec.moment w handler.old.state (A.Databases.members databases.old)
         (A.Databases.next databases.old) marks.old.items)) e)) }
+    ensures members { A.Databases.members databases.new ≡ A.Databases.members databases.old }
     ensures none_away { A.Databases.kind.NoneAway (A.Databases.members databases.old)
         → A.Databases.kind.NoneAway (A.Databases.members databases.new) }
     ensures later { (n : ℕ)
@@ -263,6 +270,11 @@ fn run_or_apply<A: Application + Drop>(
         (A.Databases.counted databases.new) (A.Databases.members databases.new)
         (moment w (executing handler.old) (record processing.old { front = Some front })
         (A.Databases.members databases.old) (A.Databases.next databases.old) marks.old.items) e) }
+    ensures left { OnErr result (let w = ⟦<A as Worked>⟧.workings in
+        LeavesRule w
+        (moment w (executing handler.old) (record processing.old { front = Some front })
+        (A.Databases.members databases.old) (A.Databases.next databases.old) marks.old.items)
+        (A.Databases.members databases.new)) }
     ensures none_away { A.Databases.kind.NoneAway (A.Databases.members databases.old)
         → A.Databases.kind.NoneAway (A.Databases.members databases.new) }
     ensures later { (n : ℕ)
@@ -314,6 +326,8 @@ fn go_on_advanced<A: Application + Drop, S: BlockStore<A::Block>>(
         (A.Databases.counted databases.new) (A.Databases.members databases.new)
         (moment w (executing handler.old) (record processing.old { front = Some front })
         (A.Databases.members databases.old) (A.Databases.next databases.old) marks.old.items)) }
+    ensures left { OnErr result (KeepsStates ⟦<A as Worked>⟧.workings
+        (A.Databases.members databases.old) (A.Databases.members databases.new)) }
     ensures none_away { A.Databases.kind.NoneAway (A.Databases.members databases.old)
         → A.Databases.kind.NoneAway (A.Databases.members databases.new) }
     ensures later { (n : ℕ)
@@ -376,6 +390,11 @@ pub(crate) fn go_on_finalizing<A: Application + Drop, S: BlockStore<A::Block>>(
         (A.Databases.counted databases.new) (A.Databases.members databases.new)
         (moment w (executing handler.old) (record processing.old { front = Some front })
         (A.Databases.members databases.old) (A.Databases.next databases.old) marks.old.items)) }
+    ensures left { OnErr result (let w = ⟦<A as Worked>⟧.workings in
+        LeavesRule w
+        (moment w (executing handler.old) (record processing.old { front = Some front })
+        (A.Databases.members databases.old) (A.Databases.next databases.old) marks.old.items)
+        (A.Databases.members databases.new)) }
     ensures none_away { A.Databases.kind.NoneAway (A.Databases.members databases.old)
         → A.Databases.kind.NoneAway (A.Databases.members databases.new) }
     ensures later { (n : ℕ)

@@ -1,10 +1,11 @@
 //! What goes on without another event.
 
-ghost use Rattle.std.specs.Prelude.{◌≡◌, ◌≢◌, ◌<◌, ◌≤◌, ◌∷◌, ◌++◌, ◌⊎◌, [], ℕ, Bool, true, false, Option, Some, None, List, OnOk, IfOk, IfErr};
+ghost use Rattle.std.specs.Prelude.{◌≡◌, ◌≢◌, ◌<◌, ◌≤◌, ◌∷◌, ◌++◌, ◌⊎◌, [], ℕ, Bool, true, false, Option, Some, None, List, OnOk, OnErr, IfOk, IfErr};
 ghost use Rattle.stateful_types.specs.Causes.{Rose};
 ghost use Rattle.stateful_history.specs.declared.mark.Mark.TheVariants as mark;
 ghost use Rattle.stateful_exec.specs.Starting.{Rises};
 ghost use Rattle.stateful_processing.specs.Causes.{FaultsRule};
+ghost use Rattle.stateful_processing.specs.Left.{KeepsStates, LeavesRule};
 ghost use Rattle.stateful_processing.specs.Moments.{executing, moment};
 ghost use Rattle.stateful_processing.specs.Rules.{IsIdle, Collects, Goes};
 ghost use Rattle.stateful_processing.specs.Sound.{IsUp, Sound};
@@ -69,6 +70,8 @@ fn go_on_idle<A: Application + Drop, S: BlockStore<A::Block>>(
         (A.Databases.counted databases.new) (A.Databases.members databases.new)
         (moment w (executing handler.old) processing.old
         (A.Databases.members databases.old) (A.Databases.next databases.old) marks.old.items)) }
+    ensures left { OnErr result (KeepsStates ⟦<A as Worked>⟧.workings
+        (A.Databases.members databases.old) (A.Databases.members databases.new)) }
     ensures none_away { A.Databases.kind.NoneAway (A.Databases.members databases.old)
         → A.Databases.kind.NoneAway (A.Databases.members databases.new) }
     ensures later { (n : ℕ)
@@ -149,6 +152,11 @@ pub fn go_on<A: Application + Drop, S: BlockStore<A::Block>>(
         (A.Databases.counted databases.new) (A.Databases.members databases.new)
         (moment w (executing handler.old) processing.old
         (A.Databases.members databases.old) (A.Databases.next databases.old) marks.old.items)) }
+    ensures left { OnErr result (let w = ⟦<A as Worked>⟧.workings in
+        LeavesRule w
+        (moment w (executing handler.old) processing.old
+        (A.Databases.members databases.old) (A.Databases.next databases.old) marks.old.items)
+        (A.Databases.members databases.new)) }
     ensures none_away { A.Databases.kind.NoneAway (A.Databases.members databases.old)
         → A.Databases.kind.NoneAway (A.Databases.members databases.new) }
     ensures later { (n : ℕ)

@@ -1,6 +1,6 @@
 //! How an event is taken in.
 
-ghost use Rattle.std.specs.Prelude.{◌≡◌, ◌≢◌, ◌<◌, ◌≤◌, ◌∷◌, ◌++◌, ◌⊎◌, [], ℕ, Bool, true, false, not, filter, Option, Some, None, List, OnOk, IfOk, IfErr, IsTrue, ◌↔◌, Contains, option_and_then, IsSome};
+ghost use Rattle.std.specs.Prelude.{◌≡◌, ◌≢◌, ◌<◌, ◌≤◌, ◌∷◌, ◌++◌, ◌⊎◌, [], ℕ, Bool, true, false, not, filter, Option, Some, None, List, OnOk, OnErr, IfOk, IfErr, IsTrue, ◌↔◌, Contains, option_and_then, IsSome};
 ghost use Rattle.std.specs.Option.{ForSome};
 ghost use Rattle.stateful_types.specs.Causes.{Rose};
 ghost use Rattle.stateful_types.specs.Names.{Named};
@@ -10,6 +10,7 @@ ghost use Rattle.stateful_exec.specs.Built.{IsLiveBuild};
 ghost use Rattle.stateful_exec.specs.Finalizing.{IsHookLive};
 ghost use Rattle.stateful_processing.specs.Barriers.{awaiting};
 ghost use Rattle.stateful_processing.specs.Intake.{Counts, message_by, Cancels, TurnsJob, TakesIn, FaultsIntake};
+ghost use Rattle.stateful_processing.specs.Left.{KeepsStates};
 ghost use Rattle.stateful_processing.specs.Moments.{executing, moment};
 ghost use Rattle.stateful_processing.specs.Sound.{IsUp};
 ghost use Rattle.stateful_processing.specs.declared.tables.Processing.{Processing as Kept};
@@ -159,6 +160,7 @@ fn turn<A: Application + Drop>(
         (moment w (executing handler.old) l
         (A.Databases.members databases.old) (A.Databases.next databases.old) marks.old.items) e
         (came.Turn job)) }
+    ensures members { A.Databases.members databases.new ≡ A.Databases.members databases.old }
     ensures none_away { A.Databases.kind.NoneAway (A.Databases.members databases.old)
         → A.Databases.kind.NoneAway (A.Databases.members databases.new) }
     ensures later { (n : ℕ)
@@ -203,6 +205,8 @@ pub fn take_in<A: Application + Drop, S: BlockStore<A::Block>>(
         (A.Databases.counted databases.new) (A.Databases.members databases.new)
         (moment w (executing handler.old) processing.old
         (A.Databases.members databases.old) (A.Databases.next databases.old) marks.old.items) e event.now) }
+    ensures left { OnErr result (KeepsStates ⟦<A as Worked>⟧.workings
+        (A.Databases.members databases.old) (A.Databases.members databases.new)) }
     ensures none_away { A.Databases.kind.NoneAway (A.Databases.members databases.old)
         → A.Databases.kind.NoneAway (A.Databases.members databases.new) }
     ensures later { (n : ℕ)

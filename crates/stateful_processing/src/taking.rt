@@ -45,6 +45,7 @@ pub(crate) fn schedule<A: Application + Drop, S: BlockStore<A::Block>>(
         (A.count handler.new.application)) (S.stored store.now)
         (exec.moment w handler.old.state (A.Databases.members databases.old)
         (A.Databases.next databases.old) marks.old.items) (requested request))) }
+    ensures members { A.Databases.members databases.new ≡ A.Databases.members databases.old }
     ensures none_away { A.Databases.kind.NoneAway (A.Databases.members databases.old)
         → A.Databases.kind.NoneAway (A.Databases.members databases.new) }
     ensures later { (n : ℕ)
@@ -76,6 +77,7 @@ fn build<A: Application + Drop>(
         Via (FaultsPropose w (Rose (A.count handler.old.application)
         (A.count handler.new.application)) ticket
         (A.Databases.members databases.old) (A.Databases.next databases.old) handler.old.state)) }
+    ensures members { A.Databases.members databases.new ≡ A.Databases.members databases.old }
     ensures none_away { A.Databases.kind.NoneAway (A.Databases.members databases.old)
         → A.Databases.kind.NoneAway (A.Databases.members databases.new) }
     ensures later { (n : ℕ)
@@ -156,6 +158,7 @@ fn take_message<A: Application + Drop, S: BlockStore<A::Block>>(
         (A.Databases.counted databases.new) (A.Databases.members databases.new)
         (moment w (executing handler.old) processing.old
         (A.Databases.members databases.old) (A.Databases.next databases.old) marks.old.items) message e)) }
+    ensures members { A.Databases.members databases.new ≡ A.Databases.members databases.old }
     ensures none_away { A.Databases.kind.NoneAway (A.Databases.members databases.old)
         → A.Databases.kind.NoneAway (A.Databases.members databases.new) }
     ensures later { (n : ℕ)
@@ -207,6 +210,7 @@ pub(crate) fn take_first<A: Application + Drop, S: BlockStore<A::Block>>(
         (A.Databases.counted databases.new) (A.Databases.members databases.new)
         (moment w (executing handler.old) processing.old
         (A.Databases.members databases.old) (A.Databases.next databases.old) marks.old.items)) }
+    ensures members { A.Databases.members databases.new ≡ A.Databases.members databases.old }
     ensures none_away { A.Databases.kind.NoneAway (A.Databases.members databases.old)
         → A.Databases.kind.NoneAway (A.Databases.members databases.new) }
     ensures later { (n : ℕ)
@@ -259,6 +263,7 @@ pub(crate) fn drain_first<A: Application + Drop, S: BlockStore<A::Block>>(
         (A.Databases.counted databases.new) (A.Databases.members databases.new)
         (moment w (executing handler.old) processing.old
         (A.Databases.members databases.old) (A.Databases.next databases.old) marks.old.items)) }
+    ensures members { A.Databases.members databases.new ≡ A.Databases.members databases.old }
     ensures none_away { A.Databases.kind.NoneAway (A.Databases.members databases.old)
         → A.Databases.kind.NoneAway (A.Databases.members databases.new) }
     ensures later { (n : ℕ)

@@ -2,6 +2,7 @@
 use Rattle.std.proofs.Common.{◌≡◌, ◌≢◌, inl, inr, ℕ, List, [], ◌∷◌, All, Option, Some, get_or, refl, sym, ap, ◌∙◌, subst}
 use Rattle.stateful_types.specs.Names.{Named}
 use Rattle.stateful_types.specs.Anchor.{anchor_by}
+use Rattle.stateful_types.specs.declared.anchor.Anchor.{Anchor}
 use Rattle.stateful_types.specs.declared.digest.Digest.{Digest}
 use Rattle.stateful_history.specs.Setting.{parent_of}
 use Rattle.stateful_history.specs.Past.{Past, Made}
@@ -48,6 +49,11 @@ module _ {B C I P R D H G U : Type 0} (w : Workings B C I P R D H G U) (stored :
     pub drawn : w.kind.issued next (points b.digest ∷ point ∷ rest)
     pub tables : TablesStand w stored (Made (Applied b) ∷ p) points (points b.digest) next new
 
+  -- Besides, what was at hand keeps its point.
+  pub record IsAppliedOver (before : Digest → Point w) (anchor : Anchor) (cache : List (Cached U)) (batch : U) : Type 0 where
+    pub applied : IsApplied batch
+    pub same : (d : Digest) → IsAtHand anchor cache d → applied.points d ≡ before d
+
 module _ {B C I P R D H G U : Type 0} (w : Workings B C I P R D H G U) (stored : ℕ → Option (Named B)) (p : Past B C I) (points : Digest → Point w) (point : Point w) (next : w.Ids) (old : Tables B C I R U) (s : TablesStand w stored p points point next old)
     (boundary : Boundary) (paused : old.pause ≡ Finalizing boundary) (names : TrueNames (setting w stored) p) (f : Finalizes w stored p old.anchor old.cache boundary)
     (b : Named B) (begun_is : begun p ≡ Some b) (child : parent_of (setting w stored) b ≡ old.anchor.digest) (kept_entries : List (Cached U)) (cut : IsCutTo (anchor_by w.header b) old.cache kept_entries)
@@ -62,7 +68,8 @@ module _ {B C I P R D H G U : Type 0} (w : Workings B C I P R D H G U) (stored :
   not_anchor = root_other w stored p points next old.anchor old.cache boundary (subst (λ pause. CacheStands w stored p points next old.anchor pause old.cache) paused s.cache) names f b begun_is kept_entries cut
 
   -- the block's entry shows its states on those of the databases
-  pub IsApplied-cached : (batch : U) → IsRootOf (anchor_by w.header b) old.cache batch → IsApplied w stored p point next b moved batch
+  pub IsApplied-cached : (batch : U) → IsRootOf (anchor_by w.header b) old.cache batch
+      → IsAppliedOver w stored p point next b moved points old.anchor old.cache batch
   IsApplied-cached batch root =
       let e = Any-found (IsCached w stored p points next old.anchor) (λ c. (c.digest ≡ b.digest) × (c.batch ≡ batch)) old.cache s.cache.each root in
       let h : IsCached w stored p points next old.anchor e.0 = e.1 in
@@ -70,12 +77,15 @@ module _ {B C I P R D H G U : Type 0} (w : Workings B C I P R D H G U) (stored :
       on_first w points (Leads w stored p) old.anchor.digest h.chain h.other b (λ t u x l is. names x b l.met met_b (is ∙ e.2.0)) child in
       let root_chain : points e.0.digest ∷ h.below ≡ points b.digest ∷ point ∷ on.rest = on.is ∙ ap (λ (d : Digest). points d ∷ points old.anchor.digest ∷ on.rest) e.2.0 ∙ ap (λ (x : Point w). points b.digest ∷ x ∷ on.rest) s.at_anchor in
       record {
-        points = points;
-        rest = on.rest;
-        shows = subst (λ (l : List (Point w)). w.shows batch l) root_chain (subst (λ (x : U). w.shows x (points e.0.digest ∷ h.below)) e.2.1 h.shows);
-        matches = subst (λ (x : Point w). Matches (setting w stored) x.1 b (points b.digest).1) s.at_anchor (subst (λ (d : Digest). Matches (setting w stored) (points old.anchor.digest).1 b (points d).1) e.2.0 on.leads.matches);
-        drawn = subst (λ (l : List (Point w)). w.kind.issued next l) root_chain h.drawn;
-        tables = TablesStand-applied w stored p points point next old s boundary paused names f b begun_is kept_entries cut retained;
+        applied = record {
+          points = points;
+          rest = on.rest;
+          shows = subst (λ (l : List (Point w)). w.shows batch l) root_chain (subst (λ (x : U). w.shows x (points e.0.digest ∷ h.below)) e.2.1 h.shows);
+          matches = subst (λ (x : Point w). Matches (setting w stored) x.1 b (points b.digest).1) s.at_anchor (subst (λ (d : Digest). Matches (setting w stored) (points old.anchor.digest).1 b (points d).1) e.2.0 on.leads.matches);
+          drawn = subst (λ (l : List (Point w)). w.kind.issued next l) root_chain h.drawn;
+          tables = TablesStand-applied w stored p points point next old s boundary paused names f b begun_is kept_entries cut retained;
+        };
+        same = λ d at_hand. refl;
       }
 
   module _ (batch : U) (uncached : All (λ e. e.digest ≢ b.digest) old.cache) (r : IsRunTo w stored p point next b batch) where
@@ -117,14 +127,17 @@ module _ {B C I P R D H G U : Type 0} (w : Workings B C I P R D H G U) (stored :
     }
 
     -- the block's run has led to a batch, and no entry is the block's
-    pub IsApplied-ran : IsApplied w stored p point next b moved batch
+    pub IsApplied-ran : IsAppliedOver w stored p point next b moved points old.anchor old.cache batch
     IsApplied-ran = record {
-      points = now;
-      rest = [];
-      shows = subst (λ (x : Point w). w.shows batch (x ∷ point ∷ [])) (sym own) r.shows;
-      matches = subst (λ (x : Point w). Matches (setting w stored) point.1 b x.1) (sym own) r.matches;
-      drawn = subst (λ (x : Point w). w.kind.issued next (x ∷ point ∷ [])) (sym own) r.drawn;
-      tables = TablesStand-applied w stored p now point next old stands boundary paused names f b begun_is kept_entries cut retained;
+      applied = record {
+        points = now;
+        rest = [];
+        shows = subst (λ (x : Point w). w.shows batch (x ∷ point ∷ [])) (sym own) r.shows;
+        matches = subst (λ (x : Point w). Matches (setting w stored) point.1 b x.1) (sym own) r.matches;
+        drawn = subst (λ (x : Point w). w.kind.issued next (x ∷ point ∷ [])) (sym own) r.drawn;
+        tables = TablesStand-applied w stored p now point next old stands boundary paused names f b begun_is kept_entries cut retained;
+      };
+      same = goes.same;
     }
 
 module _ {B C I P R D H G U : Type 0} (w : Workings B C I P R D H G U) (stored : ℕ → Option (Named B)) (p : Past B C I) (points : Digest → Point w) (point : Point w) (next : w.Ids) (old new : Tables B C I R U) (s : TablesStand w stored p points point next old)
@@ -140,13 +153,15 @@ module _ {B C I P R D H G U : Type 0} (w : Workings B C I P R D H G U) (stored :
       let same : c ≡ b = search in
       subst (λ (x : Named B). IsRunTo w stored p point next x batch) same h.at_stage.1
 
-  applied_with : IsRoot w b old.cache before batch → IsApplied w stored p point next b (record old { anchor = anchor_by w.header b; cache = new.cache }) batch
+  applied_with : IsRoot w b old.cache before batch
+      → IsAppliedOver w stored p point next b (record old { anchor = anchor_by w.header b; cache = new.cache }) points old.anchor old.cache batch
   applied_with (cached root) = IsApplied-cached w stored p points point next old s boundary paused names f b from.begun_is from.parent_is new.cache moves.cut retained batch root
   applied_with (ran {c = c} uncached is) = IsApplied-ran w stored p points point next old s boundary paused names f b from.begun_is from.parent_is new.cache moves.cut retained batch uncached (front_ran c is)
 
   -- the tables stand behind the anchor's move, where its batch is applied
-  pub IsApplied-moves : IsApplied w stored p point next b new batch
-  IsApplied-moves = subst (λ (v : Tables B C I R U). IsApplied w stored p point next b v batch) (sym moves.state) (applied_with moves.root)
+  pub IsAppliedOver-moves : IsAppliedOver w stored p point next b new points old.anchor old.cache batch
+  IsAppliedOver-moves = subst (λ (v : Tables B C I R U). IsAppliedOver w stored p point next b v points old.anchor old.cache batch) (sym moves.state)
+      (applied_with moves.root)
 
   -- the finalization stands at the anchor then, where no run and no hook of it was live
   pub FrontStands-moves : (at : Point w) → ((j : ℕ) (d : Digest) → IsLiveJob j Finalized d p → ⊥) → ((j : ℕ) (d : Digest) → IsLiveJob j Hook d p → ⊥) → FrontStands w stored (Made (Applied b) ∷ p) at next new.anchor after

@@ -64,7 +64,7 @@ module _ {B C I P R D H G U : Type 0} (w : Workings B C I P R D H G U) (stored :
           marks_are = v.behind.marks_are;
           stays = record {
             runs = concluded w stored base p m now t v.behind.more (same v (LeavesBehind-concludes w m now t r verdict.Invalid rule)) s.numbers costs beside.runs r verdict.Invalid rule;
-            queue = concludes_invalid w stored base p points point tip m now s g t v.behind.more v.behind.marks_are
+            queue = concludes_invalid w stored base p m now s.queue t v.behind.more v.behind.marks_are
                 (EachMark-behind w (λ (x : Past B C I) (mark : Mark B). IsServedBy t mark) p m now v.behind.more v.behind.marks_are (concludes-marks w p m now t r verdict.Invalid rule)) (names_behind v) beside.queue r rule;
           };
         }

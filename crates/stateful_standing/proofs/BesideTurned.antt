@@ -55,10 +55,10 @@ module _ {B C I P R D H G U : Type 0} (w : Workings B C I P R D H G U) (stored :
     (more : List (Mark B)) (marks_are : now.marks ≡ m.marks ++ more) (are : AreServedBy r.ticket p more) (names : TrueNames (setting w stored) (after p more)) (reaches : QueueReaches w stored base p m.state.queued) where
   -- the parents of queued proposals are known or lost behind a request that follows the end of a run
   pub QueueReaches-follows : (b : Named B) (how : How) → HasWaited w stored base tip b how p m.state.pause m.state.anchor m.state.cache r → Follows w b how r m now → QueueReaches w stored base (after p more) now.state.queued
-  QueueReaches-follows b how h (given_up out concludes) = concludes_invalid w stored base p points point tip m now s g r.ticket more marks_are are names reaches (requested r.request) concludes
-  QueueReaches-follows b how h (held out becomes) = rw becomes (same_queue w stored base p points point tip m now s g r.ticket more marks_are are names reaches)
-  QueueReaches-follows b how h (failed not_held out concludes) = concludes_invalid w stored base p points point tip m now s g r.ticket more marks_are are names reaches (requested r.request) concludes
-  QueueReaches-follows b how h (parked pruning any becomes) = rw becomes (same_queue w stored base p points point tip m now s g r.ticket more marks_are are names reaches)
+  QueueReaches-follows b how h (given_up out concludes) = concludes_invalid w stored base p m now s.queue r.ticket more marks_are are names reaches (requested r.request) concludes
+  QueueReaches-follows b how h (held out becomes) = rw becomes (same_queue w stored base p m now s.queue r.ticket more marks_are are names reaches)
+  QueueReaches-follows b how h (failed not_held out concludes) = concludes_invalid w stored base p m now s.queue r.ticket more marks_are are names reaches (requested r.request) concludes
+  QueueReaches-follows b how h (parked pruning any becomes) = rw becomes (same_queue w stored base p m now s.queue r.ticket more marks_are are names reaches)
   QueueReaches-follows b how h (goes_on kept not_held other any advances) =
       QueueReaches-advances w stored base p points point tip m now s g r.ticket more marks_are are names reaches (requested r.request) r.path h.way
       (subst (λ (x : Named B). Known (setting w stored) p x.digest × IsAtHand m.state.anchor m.state.cache x.digest) (sym h.leads) (

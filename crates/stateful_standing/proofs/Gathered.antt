@@ -10,13 +10,15 @@ use Rattle.stateful_history.specs.Numbers.{NumberIsNew}
 use Rattle.stateful_history.specs.Past.{Past, Came, Made, EachMark, after}
 use Rattle.stateful_history.specs.Setting.{Setting, parent_of}
 use Rattle.stateful_history.specs.declared.event.Event.TheVariants.{Fetched}
+use Rattle.stateful_history.specs.declared.mark.How.{How}
 use Rattle.stateful_history.specs.declared.mark.JobKind.TheVariants.{Candidate}
 use Rattle.stateful_history.specs.declared.mark.Mark.{Mark}
 use Rattle.stateful_history.specs.declared.mark.Mark.TheVariants.{Asked, Started, Verdict, Declined}
 use Rattle.stateful_table.specs.Table.{put}
+use Rattle.stateful_exec.specs.Ending.{Follows, given_up, held, failed, parked, goes_on}
 use Rattle.stateful_exec.specs.Moments.{Moment}
 use Rattle.stateful_exec.specs.Path.{Path}
-use Rattle.stateful_exec.specs.Rules.{told, ended, requested, Needs, Advances, arrives, leaves, joins, starts, misses, Acquires, valid, invalid, asks, waits, runs}
+use Rattle.stateful_exec.specs.Rules.{told, ended, requested, Needs, Concludes, Advances, arrives, leaves, joins, starts, misses, Acquires, valid, invalid, asks, waits, runs}
 use Rattle.stateful_exec.specs.Workings.{Workings, Point}
 use Rattle.stateful_exec.specs.declared.request.Request.{Request}
 use Rattle.stateful_exec.specs.declared.request.Request.TheVariants.{Verify, Recover}
@@ -24,7 +26,8 @@ use Rattle.stateful_exec.specs.declared.request.Verdict as said
 use Rattle.stateful_exec.specs.declared.request.Verdict.TheVariants as verdict
 use Rattle.stateful_exec.specs.declared.state.Tables.{Tables}
 use Rattle.stateful_exec.specs.declared.tables.Phase.{Phase}
-use Rattle.stateful_exec.specs.declared.tables.Phase.TheVariants.{Fetching, Waiting, Executing}
+use Rattle.stateful_exec.specs.declared.tables.Phase.TheVariants.{Fetching, Waiting, Executing, Parked}
+use Rattle.stateful_exec.specs.declared.tables.Released.{Released}
 use Rattle.stateful_exec.specs.declared.tables.Requested.{Requested}
 use Rattle.stateful_exec.specs.declared.walk.Acquired.TheVariants as acquired
 use Rattle.stateful_standing.specs.Setting.{setting}
@@ -129,6 +132,10 @@ module _ {B C I P R D H G U : Type 0} (w : Workings B C I P R D H G U) (stored :
   advances-new r path (starts reaches on unknown unrun known launches) = record { more = _; marks_are = launches.marks; each = (started-next p m.state.next_job m.state.next_fetch s.numbers, tt) }
   advances-new r path (misses reaches on unknown unrun out concludes) = rw concludes (record { more = _; marks_are = refl; each = told-new r.request verdict.Invalid })
 
+  -- so does one that ends
+  pub concludes-new : (r : Requested B C I) (v : said.Verdict) → Concludes w m t r v now → KeepsBehind w NumberIsNew p m now
+  concludes-new r v concludes = rw concludes (record { more = _; marks_are = refl; each = told-new r.request v })
+
   -- and so does one that acquires what it needs
   pub acquires-new : (stored_now : ℕ → Option (Named B)) (r : Requested B C I) → Acquires w stored_now m t r now → KeepsBehind w NumberIsNew p m now
   acquires-new stored_now r (valid needs concludes) = rw concludes (record { more = _; marks_are = refl; each = told-new r.request verdict.Valid })
@@ -175,7 +182,16 @@ module _ {B C I P R D H G U : Type 0} (w : Workings B C I P R D H G U) (stored :
       ended_gathered v (Recover u context ancestry input kind) verdict.Valid all = all
       ended_gathered v (Recover u context ancestry input kind) verdict.Invalid all = all
 
-      -- so it is behind one that goes along its path
+      -- so it is behind one that ends
+      pub GatheringsStand-concludes : (v : said.Verdict) → Concludes w m t r v now → GatheringsStand (setting w stored) q now.state.requests
+      GatheringsStand-concludes v concludes = rw concludes (ended_gathered m.state r.request v others)
+
+      -- behind one that is put back into its table, and doesn't fetch
+      pub GatheringsStand-moved : (phase : Phase B) → ((f : ℕ) → phase ≡ Fetching f → ⊥) → now.state.requests ≡ put m.state.requests t (record r { phase = phase })
+          → GatheringsStand (setting w stored) q now.state.requests
+      GatheringsStand-moved phase still is = rw is (put_gathered r.acquired phase linked_on (λ f fetching. absurd (still f fetching)))
+
+      -- behind one that goes along its path
       pub GatheringsStand-advances : (path : Path B) → Advances w m t (requested r.request) path now → GatheringsStand (setting w stored) q now.state.requests
       GatheringsStand-advances path (arrives all concludes) = rw concludes (ended_gathered m.state r.request verdict.Valid others)
       GatheringsStand-advances path (leaves reaches out concludes) = rw concludes (ended_gathered m.state r.request verdict.Invalid others)
@@ -199,3 +215,30 @@ module _ {B C I P R D H G U : Type 0} (w : Workings B C I P R D H G U) (stored :
           asks_for (Some b) f d same is = subst (λ (n : ℕ). asked_digest n (Made (Asked m.state.next_fetch (Some t) d) ∷ p) ≡ Some (parent_of (setting w stored) b)) same (rw (eq-eqb m.state.next_fetch m.state.next_fetch refl, is) refl)
       GatheringsStand-acquires stored_now last (waits needs becomes) = rw becomes (put_gathered r.acquired Waiting linked_on (λ f e. cc))
       GatheringsStand-acquires stored_now last (runs {path = path} needs advances) = GatheringsStand-advances path advances
+
+module _ {B C I P R D H G U : Type 0} (w : Workings B C I P R D H G U) (stored : ℕ → Option (Named B)) (p : Past B C I) (points : Digest → Point w) (point : Point w)
+    (m now : Moment w) (s : TablesStand w stored p points point m.next m.state) (b : Named B) (how : How) (x : Released B C I) where
+  -- a request that follows the end of the run that it waited for begins what it begins under a new number
+  pub follows-new : Follows w b how x m now → KeepsBehind w NumberIsNew p m now
+  follows-new (given_up out concludes) = concludes-new w stored p points point m now s x.ticket (requested x.request) verdict.Invalid concludes
+  follows-new (held is becomes) = rw becomes (record { more = []; marks_are = refl; each = tt })
+  follows-new (failed not_held out concludes) = concludes-new w stored p points point m now s x.ticket (requested x.request) verdict.Invalid concludes
+  follows-new (parked pruning any becomes) = rw becomes (record { more = []; marks_are = refl; each = tt })
+  follows-new (goes_on kept not_held other any advances) = advances-new w stored p points point m now s x.ticket (requested x.request) x.path advances
+
+  -- and what was gathered is linked behind it, where what came with it is
+  pub GatheringsStand-follows : (more : List (Mark B)) → now.marks ≡ m.marks ++ more → AreServedBy x.ticket p more → EachMark NumberIsNew p more
+      → GatheringsStand (setting w stored) p m.state.requests → AreLinked (setting w stored) (gathered x.request [])
+      → Follows w b how x m now → GatheringsStand (setting w stored) (after p more) now.state.requests
+  GatheringsStand-follows more is are new h linked (given_up out concludes) =
+      GatheringsStand-concludes w stored p points point m now s x.ticket more is are new h (requested x.request) (λ honest answered. linked) verdict.Invalid concludes
+  GatheringsStand-follows more is are new h linked (held out becomes) =
+      GatheringsStand-moved w stored p points point m now s x.ticket more is are new h (requested x.request) (λ honest answered. linked)
+      (Parked x.path) (λ f e. cc) (ap (λ (n : Moment w). n.state.requests) becomes)
+  GatheringsStand-follows more is are new h linked (failed not_held out concludes) =
+      GatheringsStand-concludes w stored p points point m now s x.ticket more is are new h (requested x.request) (λ honest answered. linked) verdict.Invalid concludes
+  GatheringsStand-follows more is are new h linked (parked pruning any becomes) =
+      GatheringsStand-moved w stored p points point m now s x.ticket more is are new h (requested x.request) (λ honest answered. linked)
+      (Parked x.path) (λ f e. cc) (ap (λ (n : Moment w). n.state.requests) becomes)
+  GatheringsStand-follows more is are new h linked (goes_on kept not_held other any advances) =
+      GatheringsStand-advances w stored p points point m now s x.ticket more is are new h (requested x.request) (λ honest answered. linked) x.path advances

@@ -149,3 +149,9 @@ pub mod BesideCancelled
 pub mod BesidePaused
 pub mod BesideMoved
 pub mod GroundOpened
+pub mod LinkedOn
+pub mod LinkedServed
+pub mod LinkedTurned
+pub mod LinkedResumed
+pub mod LinkedFetched
+pub mod LinkedBegan

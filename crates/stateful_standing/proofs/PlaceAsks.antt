@@ -104,6 +104,16 @@ module _ {B C I P R D H G U : Type 0} (w : Workings B C I P R D H G U) (stored :
         is = on.4;
       }
 
+  -- what is asked for is the parent of the last block that was gathered
+  pub asked-last : (t : ℕ) (r : Requested B C I) → IsInHand w stored p t r.request m.state → All (Met (setting w stored) p) r.acquired → (d : Digest)
+      → IsPrepared w.header m.state.anchor m.state.cache held r.request r.acquired (acquired.Ask d)
+      → MatchOption (last_of (gathered r.request r.acquired)) ⊥ (λ b. d ≡ parent_of (setting w stored) b)
+  asked-last t r hand met d needs =
+      let h : AsksBehind (first_of r.request) (gathered r.request r.acquired) d = asks_behind r.request r.acquired d
+      (gathered-met w stored p r.request r.acquired hand.brought met) needs in
+      subst (λ (o : Option (Named B)). MatchOption o ⊥ (λ b. d ≡ parent_of (setting w stored) b))
+      (sym (ap last_of h.parts ∙ last_of-push h.front h.last)) h.is
+
   module _ (s : TablesStand w stored p points point m.next m.state) (apart : TicketsApart p) (again : (d : Digest) → MayRunAgain (setting w stored) p d)
       (t : ℕ) (r : Requested B C I) (hand : IsInHand w stored p t r.request m.state) (met : All (Met (setting w stored) p) r.acquired)
       (asked : AsksParents (setting w stored) p t (but_last (gathered r.request r.acquired))) where
@@ -140,9 +150,3 @@ module _ {B C I P R D H G U : Type 0} (w : Workings B C I P R D H G U) (stored :
           | inl own ↦ (let c = Contains-push h.front h.last in (c.0, h.last, c.1, c.2, own.1 ∙ h.is))
           | inr before ↦ Any-in_front (λ x. e ≡ parent_of (setting w stored) x) h.front h.last (subst (λ (l : List (Named B)). Any (λ x. e ≡ parent_of (setting w stored) x) l) (ap but_last h.parts ∙ but_last-push h.front h.last) (asked e before))
         ])
-
-    -- what is asked for is the parent of the last block
-    pub asked-last : (d : Digest) → IsPrepared w.header m.state.anchor m.state.cache held r.request r.acquired (acquired.Ask d) → MatchOption (last_of (gathered r.request r.acquired)) ⊥ (λ b. d ≡ parent_of (setting w stored) b)
-    asked-last d needs =
-        let h : AsksBehind (first_of r.request) (gathered r.request r.acquired) d = asks_behind r.request r.acquired d (gathered-met w stored p r.request r.acquired hand.brought met) needs in
-        subst (λ (o : Option (Named B)). MatchOption o ⊥ (λ b. d ≡ parent_of (setting w stored) b)) (sym (ap last_of h.parts ∙ last_of-push h.front h.last)) h.is

@@ -11,7 +11,7 @@ use Rattle.stateful_history.specs.declared.mark.Mark.{Mark}
 use Rattle.stateful_cache.specs.Cache.{IsAtHand}
 use Rattle.stateful_exec.specs.Moments.{Moment}
 use Rattle.stateful_exec.specs.Path.{Path}
-use Rattle.stateful_exec.specs.Rules.{told, ended, requested, Concludes, Advances, arrives, leaves, joins, starts, misses, Acquires, valid, invalid, asks, waits, runs}
+use Rattle.stateful_exec.specs.Rules.{IsPassed, told, ended, requested, Concludes, Advances, arrives, leaves, joins, starts, misses, Acquires, valid, invalid, asks, waits, runs}
 use Rattle.stateful_exec.specs.Workings.{Workings, Point}
 use Rattle.stateful_exec.specs.declared.pause.Pause.TheVariants.{Free}
 use Rattle.stateful_exec.specs.declared.request.Proposal.{Proposal}
@@ -23,7 +23,7 @@ use Rattle.stateful_exec.specs.declared.walk.Acquired.TheVariants as acquired
 use Rattle.stateful_exec.specs.Rules.{Needs}
 use Rattle.stateful_standing.specs.Setting.{setting}
 use Rattle.stateful_standing.specs.Reaching.{IsLost, QueueReaches}
-use Rattle.stateful_standing.specs.Requesting.{first_of, IsWayOf}
+use Rattle.stateful_standing.specs.Requesting.{first_of, IsWayOf, QueueStands}
 use Rattle.stateful_standing.specs.Standing.{TablesStand, IsInHand}
 use Rattle.stateful_standing.proofs.Acquired.{IsWayOf-ready}
 use Rattle.stateful_standing.proofs.AdvanceStands.{All-front}
@@ -35,15 +35,15 @@ use Rattle.stateful_standing.proofs.ReasonGround.{IsGround}
 use Rattle.stateful_standing.proofs.ReasonKnown.{knows_free}
 use Rattle.stateful_standing.proofs.ServedMarks.{AreServedBy}
 
-module _ {B C I P R D H G U : Type 0} (w : Workings B C I P R D H G U) (stored : ℕ → Option (Named B)) (base : w.States) (p : Past B C I) (points : Digest → Point w) (point : Point w) (tip : Anchor) (m now : Moment w)
-    (s : TablesStand w stored p points point m.next m.state) (g : IsGround w stored base p points point m.next tip m.state.pause m.state.anchor m.state.cache) (t : ℕ)
-    (more : List (Mark B)) (marks_are : now.marks ≡ m.marks ++ more) (are : AreServedBy t p more) (names : TrueNames (setting w stored) (after p more)) (reaches : QueueReaches w stored base p m.state.queued) where
+module _ {B C I P R D H G U : Type 0} (w : Workings B C I P R D H G U) (stored : ℕ → Option (Named B)) (base : w.States) (p : Past B C I) (m now : Moment w)
+    (queue : QueueStands w stored p m.state.queued m.state.recovered) (t : ℕ) (more : List (Mark B)) (marks_are : now.marks ≡ m.marks ++ more)
+    (are : AreServedBy t p more) (names : TrueNames (setting w stored) (after p more)) (reaches : QueueReaches w stored base p m.state.queued) where
   abbrev Reaches_on : List (ℕ × Proposal B C I) → Type 0
   Reaches_on queued = QueueReaches w stored base (after p more) queued
 
   -- what was queued
   pub same_queue : Reaches_on m.state.queued
-  same_queue = QueueReaches-served w stored base p t more are names m.state.queued (queue-met w stored p m.state.queued m.state.recovered s.queue) reaches
+  same_queue = QueueReaches-served w stored base p t more are names m.state.queued (queue-met w stored p m.state.queued m.state.recovered queue) reaches
 
   invalid_queue : (request : Request B C I) → (ended m.state t request verdict.Invalid).queued ≡ m.state.queued
   invalid_queue (Verify u ancestry) = refl
@@ -59,32 +59,40 @@ module _ {B C I P R D H G U : Type 0} (w : Workings B C I P R D H G U) (stored :
       All-put (λ (e : ℕ × Proposal B C I). Known (setting w stored) (after p more) e.1.ancestry.first.digest ⊎ IsLost w stored base (after p more) e.1.ancestry.first) m.state.queued t (record { context = context; ancestry = ancestry; input = input; kind = kind }) same_queue
       (inl (subst (λ (ms : List (Mark B)). Known (setting w stored) (after p ms) ancestry.first.digest) is known))
 
-  valid_from : (request : Request B C I) (r : Requested B C I) → r.request ≡ request → Known (setting w stored) p (first_of request).digest → Concludes w m t r verdict.Valid now → Reaches_on now.state.queued
+  pub valid_from : (request : Request B C I) (r : Requested B C I) → r.request ≡ request → Known (setting w stored) p (first_of request).digest → Concludes w m t r verdict.Valid now → Reaches_on now.state.queued
   valid_from request r same known is =
       let one : told t request verdict.Valid ≡ more = append_cancel_left m.marks (told t request verdict.Valid) more (sym (ap (λ (x : Request B C I). m.marks ++ told t x verdict.Valid) same) ∙ sym (ap (λ (n : Moment w). n.marks) is) ∙ marks_are) in
       rw (is, same) (concludes_valid request known one)
 
-  -- behind one that goes along its path on a known parent
+  -- behind one that goes along its path, where its first block is known once all are passed
+  pub QueueReaches-arrives : (r : Requested B C I) (path : Path B) → (All (IsPassed w.header m.state) path.blocks → Known (setting w stored) p (first_of r.request).digest)
+      → Advances w m t r path now → QueueReaches w stored base (after p more) now.state.queued
+  QueueReaches-arrives r path known (arrives all concludes) = valid_from r.request r refl (known all) concludes
+  QueueReaches-arrives r path known (leaves reaches out concludes) = concludes_invalid r concludes
+  QueueReaches-arrives r path known (joins j reaches on unknown has becomes) = rw becomes same_queue
+  QueueReaches-arrives r path known (starts reaches on unknown unrun there launches) = rw (launches.state, launches.starts.state) same_queue
+  QueueReaches-arrives r path known (misses reaches on unknown unrun out concludes) = concludes_invalid r concludes
+
+module _ {B C I P R D H G U : Type 0} (w : Workings B C I P R D H G U) (stored : ℕ → Option (Named B)) (base : w.States) (p : Past B C I) (points : Digest → Point w) (point : Point w) (tip : Anchor) (m now : Moment w)
+    (s : TablesStand w stored p points point m.next m.state) (g : IsGround w stored base p points point m.next tip m.state.pause m.state.anchor m.state.cache) (t : ℕ)
+    (more : List (Mark B)) (marks_are : now.marks ≡ m.marks ++ more) (are : AreServedBy t p more) (names : TrueNames (setting w stored) (after p more)) (reaches : QueueReaches w stored base p m.state.queued) where
+  -- so it is behind one that goes along its path on a known parent
   pub QueueReaches-advances : (r : Requested B C I) (path : Path B) → IsWayOf w stored p r.request path → (Known (setting w stored) p path.parent.digest × IsAtHand m.state.anchor m.state.cache path.parent.digest) → Advances w m t r path now → QueueReaches w stored base (after p more) now.state.queued
-  QueueReaches-advances r path way parent (arrives all concludes) =
-      valid_from r.request r refl
-      (subst (λ (x : Named B). Known (setting w stored) p x.digest) way.begins
-      (parent_here w stored base p points point m.next tip m.state g r.request path way parent path.blocks all (All-front (Met (setting w stored) p) path.blocks (path.parent ∷ []) way.met)).0) concludes
-  QueueReaches-advances r path way parent (leaves reaches out concludes) = concludes_invalid r concludes
-  QueueReaches-advances r path way parent (joins j reaches on unknown has becomes) = rw becomes same_queue
-  QueueReaches-advances r path way parent (starts reaches on unknown unrun known launches) = rw (launches.state, launches.starts.state) same_queue
-  QueueReaches-advances r path way parent (misses reaches on unknown unrun out concludes) = concludes_invalid r concludes
+  QueueReaches-advances r path way parent rule =
+      QueueReaches-arrives w stored base p m now s.queue t more marks_are are names reaches r path (λ all.
+      subst (λ (x : Named B). Known (setting w stored) p x.digest) way.begins
+      (parent_here w stored base p points point m.next tip m.state g r.request path way parent path.blocks all (All-front (Met (setting w stored) p) path.blocks (path.parent ∷ []) way.met)).0) rule
 
   -- and behind one that acquires what it needs, where nothing pauses
   pub QueueReaches-acquires : m.state.pause ≡ Free → (stored_now : ℕ → Option (Named B)) (r : Requested B C I) → IsInHand w stored p t r.request m.state → All (Met (setting w stored) p) r.acquired → Acquires w stored_now m t r now → QueueReaches w stored base (after p more) now.state.queued
   QueueReaches-acquires free stored_now r hand met (valid needs concludes) = by_request r.request refl needs
     where
-      by_request : (request : Request B C I) → r.request ≡ request → Needs w stored_now m (record r { request = request }) acquired.Valid → Reaches_on now.state.queued
-      by_request (Verify u ancestry) same needs = rw (concludes, same) same_queue
+      by_request : (request : Request B C I) → r.request ≡ request → Needs w stored_now m (record r { request = request }) acquired.Valid → QueueReaches w stored base (after p more) now.state.queued
+      by_request (Verify u ancestry) same needs = rw (concludes, same) (same_queue w stored base p m now s.queue t more marks_are are names reaches)
       by_request (Recover u context ancestry input kind) same needs = absurd needs
-  QueueReaches-acquires free stored_now r hand met (invalid needs concludes) = concludes_invalid r concludes
-  QueueReaches-acquires free stored_now r hand met (asks d needs left becomes) = rw becomes same_queue
-  QueueReaches-acquires free stored_now r hand met (waits needs becomes) = rw becomes same_queue
+  QueueReaches-acquires free stored_now r hand met (invalid needs concludes) = concludes_invalid w stored base p m now s.queue t more marks_are are names reaches r concludes
+  QueueReaches-acquires free stored_now r hand met (asks d needs left becomes) = rw becomes (same_queue w stored base p m now s.queue t more marks_are are names reaches)
+  QueueReaches-acquires free stored_now r hand met (waits needs becomes) = rw becomes (same_queue w stored base p m now s.queue t more marks_are are names reaches)
   QueueReaches-acquires free stored_now r hand met (runs {path = path} needs advances) =
       let here = ready-at_hand w.header m.state.anchor m.state.cache stored_now r.request r.acquired path needs in
       QueueReaches-advances (requested r.request) path (IsWayOf-ready w stored p m.state.anchor m.state.cache stored_now r.request r.acquired path hand.brought met needs)

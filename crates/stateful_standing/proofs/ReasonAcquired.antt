@@ -5,7 +5,6 @@ use Rattle.stateful_types.specs.Names.{Named}
 use Rattle.stateful_types.specs.Anchor.{anchor_by}
 use Rattle.stateful_types.specs.declared.anchor.Anchor.{Anchor}
 use Rattle.stateful_types.specs.declared.digest.Digest.{Digest}
-use Rattle.stateful_history.specs.Ancestors.{IsCircular}
 use Rattle.stateful_history.specs.Known.{Known}
 use Rattle.stateful_history.specs.Met.{Met}
 use Rattle.stateful_history.specs.Past.{Past}
@@ -29,7 +28,7 @@ use Rattle.stateful_exec.specs.declared.tables.Requested.{Requested}
 use Rattle.stateful_exec.specs.declared.walk.Acquired.TheVariants as acquired
 use Rattle.stateful_standing.specs.Setting.{setting}
 use Rattle.stateful_standing.specs.Gathering.{gathered, AreLinked}
-use Rattle.stateful_standing.specs.Requesting.{first_of, brought_by}
+use Rattle.stateful_standing.specs.Requesting.{brought_by}
 use Rattle.stateful_standing.specs.Standing.{IsInHand}
 use Rattle.stateful_standing.proofs.ReadyWalks.{ready-at_hand}
 use Rattle.stateful_standing.specs.Storing.{IsStoredNow}
@@ -83,7 +82,7 @@ module _ {B C I P R D H G U : Type 0} (w : Workings B C I P R D H G U) (stored :
 
       module _ (held : ℕ → Option (Named B)) (stored_is : IsStoredNow stored p held) where
         -- a block that is to be verified, and is invalid
-        module _ (b : Named B) (chain : List (Named B)) (met : All (Met (setting w stored) p) (b ∷ chain)) (linked : AreLinked (setting w stored) (b ∷ chain)) (straight : IsCircular (setting w stored) p b.digest → ⊥) where
+        module _ (b : Named B) (chain : List (Named B)) (met : All (Met (setting w stored) p) (b ∷ chain)) (linked : AreLinked (setting w stored) (b ∷ chain)) where
           own_met : Met (setting w stored) p b
           own_met = All-head (Met (setting w stored) p) b chain met
 
@@ -94,8 +93,8 @@ module _ {B C I P R D H G U : Type 0} (w : Workings B C I P R D H G U) (stored :
               let met_on : All (Met (setting w stored) p) (parent ∷ more) = subst (λ (l : List (Named B)). All (Met (setting w stored) p) l) chain_is (All-tail (Met (setting w stored) p) b chain met) in
               let linked_on : AreLinked (setting w stored) (parent ∷ more) = subst (λ (l : List (Named B)). AreLinked (setting w stored) l) chain_is (AreLinked-rest (setting w stored) b chain linked) in
               let h = HasWalked-invalid w stored base p point m.state.anchor m.state.cache g.names Folded Knows_free Named_so parent more met_on linked_on (b ∷ []) (subst (λ (l : List (Named B)). walk.Walks w.header m.state.anchor m.state.cache (b ∷ []) l acquired.Invalid) chain_is walks) in
-              HasReason-walked w stored base p point m.state.anchor m.state.cache g.names Folded Knows_free Named_so b parent own_met (All-head (Met (setting w stored) p) parent more met_on) child
-              (unknown_above w stored base p point m.state.anchor m.state.cache g.names Folded Knows_free Named_so b own_met unjudged.0 unjudged.1) unjudged.1 straight
+              HasReason-walked w stored base p point m.state.anchor m.state.cache g.names Folded Knows_free Named_so b parent (All-head (Met (setting w stored) p) parent more met_on) child
+              (unknown_above w stored base p point m.state.anchor m.state.cache g.names Folded Knows_free Named_so b own_met unjudged.0 unjudged.1)
               (unfinal_above w stored p m.state.anchor point base Folded b unjudged.1) h
 
           verified-reason : IsVerified w.header m.state.anchor m.state.cache held b chain acquired.Invalid → HasReason (setting w stored) base p b
@@ -103,20 +102,19 @@ module _ {B C I P R D H G U : Type 0} (w : Workings B C I P R D H G U) (stored :
           verified-reason (walk.runs unjudged needed) = needed-reason unjudged needed
 
         -- a request that is invalid as it acquires what it needs may end badly
-        prepared-reason : (t : ℕ) (request : Request B C I) (more : List (Named B)) → All (Met (setting w stored) p) (gathered request more) → AreLinked (setting w stored) (gathered request more) → (IsCircular (setting w stored) p (first_of request).digest → ⊥)
+        prepared-reason : (t : ℕ) (request : Request B C I) (more : List (Named B)) → All (Met (setting w stored) p) (gathered request more) → AreLinked (setting w stored) (gathered request more)
             → IsPrepared w.header m.state.anchor m.state.cache held request more acquired.Invalid → MayEnd w stored base event marks p t request
-        prepared-reason t (Verify u ancestry) more met linked straight prepared = verified-reason ancestry.first (take 1 ancestry.rest ++ more) met linked straight prepared
-        prepared-reason t (Recover u context ancestry input kind) more met linked straight prepared =
+        prepared-reason t (Verify u ancestry) more met linked prepared = verified-reason ancestry.first (take 1 ancestry.rest ++ more) met linked prepared
+        prepared-reason t (Recover u context ancestry input kind) more met linked prepared =
             inr (inr (inr (inl (IsOutOfReach-walked w stored base p point m.state.anchor m.state.cache g.names Folded Knows_free Named_so ancestry.first
             (HasWalked-invalid w stored base p point m.state.anchor m.state.cache g.names Folded Knows_free Named_so ancestry.first more met linked [] prepared)))))
 
-        -- Each mark of a request that acquires what it needs keeps the rule, where what was gathered for it is linked, and its
-        -- block isn't an ancestor of itself.
+        -- Each mark of a request that acquires what it needs keeps the rule, where what was gathered for it is linked.
         pub acquires-reason : (t : ℕ) (r : Requested B C I) (now : Moment w) → IsInHand w stored p t r.request m.state → All (Met (setting w stored) p) r.acquired → AreLinked (setting w stored) (gathered r.request r.acquired)
-            → (IsCircular (setting w stored) p (first_of r.request).digest → ⊥) → Acquires w held m t r now → KeepsBehind w (HasItsReason w stored base event marks) p m now
-        acquires-reason t r now hand met linked straight (valid needs concludes) = concludes-valid w stored base event marks p t m r now concludes
-        acquires-reason t r now hand met linked straight (invalid needs concludes) =
-            concludes-ended w stored base event marks p t m r now hand.asked (prepared-reason t r.request r.acquired (gathered-met w stored p r.request r.acquired hand.brought met) linked straight needs) concludes
-        acquires-reason t r now hand met linked straight (asks digest needs left becomes) = rw becomes (record { more = _; marks_are = refl; each = ((tt, tt), tt) })
-        acquires-reason t r now hand met linked straight (waits needs becomes) = rw becomes (record { more = []; marks_are = refl; each = tt })
-        acquires-reason t r now hand met linked straight (runs {path = path} needs advances) = advances-free m free t (requested r.request) path now (ready-at_hand w.header m.state.anchor m.state.cache held r.request r.acquired path needs) advances
+            → Acquires w held m t r now → KeepsBehind w (HasItsReason w stored base event marks) p m now
+        acquires-reason t r now hand met linked (valid needs concludes) = concludes-valid w stored base event marks p t m r now concludes
+        acquires-reason t r now hand met linked (invalid needs concludes) =
+            concludes-ended w stored base event marks p t m r now hand.asked (prepared-reason t r.request r.acquired (gathered-met w stored p r.request r.acquired hand.brought met) linked needs) concludes
+        acquires-reason t r now hand met linked (asks digest needs left becomes) = rw becomes (record { more = _; marks_are = refl; each = ((tt, tt), tt) })
+        acquires-reason t r now hand met linked (waits needs becomes) = rw becomes (record { more = []; marks_are = refl; each = tt })
+        acquires-reason t r now hand met linked (runs {path = path} needs advances) = advances-free m free t (requested r.request) path now (ready-at_hand w.header m.state.anchor m.state.cache held r.request r.acquired path needs) advances

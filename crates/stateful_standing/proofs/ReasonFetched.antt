@@ -4,7 +4,6 @@ use Rattle.std.proofs.lemmas.List.Elements.{All-push}
 use Rattle.stateful_types.specs.Names.{Named}
 use Rattle.stateful_types.specs.declared.anchor.Anchor.{Anchor}
 use Rattle.stateful_types.specs.declared.digest.Digest.{Digest}
-use Rattle.stateful_history.specs.Ancestors.{IsCircular}
 use Rattle.stateful_history.specs.Met.{Met, TrueNames}
 use Rattle.stateful_history.specs.Past.{Past, Came}
 use Rattle.stateful_history.specs.declared.event.Event.TheVariants.{Fetched}
@@ -18,7 +17,6 @@ use Rattle.stateful_exec.specs.declared.request.Request.TheVariants.{Verify, Rec
 use Rattle.stateful_exec.specs.declared.tables.Requested.{Requested}
 use Rattle.stateful_standing.specs.Setting.{setting}
 use Rattle.stateful_standing.specs.Gathering.{gathered, AreLinked}
-use Rattle.stateful_standing.specs.Requesting.{first_of}
 use Rattle.stateful_standing.specs.Standing.{TablesStand}
 use Rattle.stateful_standing.proofs.Cancelled.{own_fetch}
 use Rattle.stateful_standing.specs.Storing.{IsStoredNow}
@@ -49,23 +47,21 @@ module _ {B C I P R D H G U : Type 0} (w : Workings B C I P R D H G U) (stored :
     declined-ended t r fetches is (Recover u context ancestry input kind) not =
         inr (inr (inl (f, ap (λ (o : Option (Named B)). Fetched f o) is, own_fetch w stored p points point m.next m.state t s r fetches.there f fetches.fetching)))
 
-    -- Each mark behind the answer of a fetch keeps the rule, where what was gathered with the answered block is linked, and the
-    -- block of its request isn't an ancestor of itself.
+    -- Each mark behind the answer of a fetch keeps the rule, where what was gathered with the answered block is linked.
     pub fetched-reason : (held : ℕ → Option (Named B)) → IsStoredNow stored p held
         → ((t : ℕ) (r : Requested B C I) (b : Named B) → Fetches m.state f t r → answer ≡ Some b → AreLinked (setting w stored) (gathered r.request (r.acquired ++ b ∷ [])))
-        → ((t : ℕ) (r : Requested B C I) → Fetches m.state f t r → IsCircular (setting w stored) given (first_of r.request).digest → ⊥)
         → (now : Moment w) → IsFetched w held m f answer now → KeepsBehind w Rule given m now
-    fetched-reason held stored_is linked straight now (found t r b fetches is acquires) =
+    fetched-reason held stored_is linked now (found t r b fetches is acquires) =
         let k : KeepsBehind w Rule given (serving w m t) now =
         acquires-reason w stored base (Fetched f answer) marks given points point m.next tip (serving w m t) (IsGround-fetched t r fetches) free held stored_is t (with_block r b) now
         (IsInHand-fetched w stored p points point m.next m.state s f answer t r fetches)
         (All-push (Met (setting w stored) given) r.acquired b (acquired-fetched w stored p points point m.next m.state s f answer t r fetches) (inl is))
-        (linked t r b fetches is) (straight t r fetches) acquires in
+        (linked t r b fetches is) acquires in
         record { more = k.more; marks_are = k.marks_are; each = k.each }
-    fetched-reason held stored_is linked straight now (waits t r fetches is verification becomes) = rw becomes (record { more = []; marks_are = refl; each = tt })
-    fetched-reason held stored_is linked straight now (declines t r fetches is proposal concludes) =
+    fetched-reason held stored_is linked now (waits t r fetches is verification becomes) = rw becomes (record { more = []; marks_are = refl; each = tt })
+    fetched-reason held stored_is linked now (declines t r fetches is proposal concludes) =
         let k : KeepsBehind w Rule given (serving w m t) now =
         concludes-ended w stored base (Fetched f answer) marks given t (serving w m t) r now (IsInHand-fetched w stored p points point m.next m.state s f answer t r fetches).asked
         (declined-ended t r fetches is r.request proposal) concludes in
         record { more = k.more; marks_are = k.marks_are; each = k.each }
-    fetched-reason held stored_is linked straight now (dead none is) = KeepsBehind-same w Rule given m now (ap (λ (n : Moment w). n.marks) is)
+    fetched-reason held stored_is linked now (dead none is) = KeepsBehind-same w Rule given m now (ap (λ (n : Moment w). n.marks) is)

@@ -8,7 +8,7 @@ use Rattle.stateful_history.specs.Anchors.{tip_of}
 use Rattle.stateful_history.specs.Known.{Known, is_tip, kept, stays, IsUnknown, IsPastTip}
 use Rattle.stateful_history.specs.Met.{Met, TrueNames}
 use Rattle.stateful_history.specs.Past.{Past}
-use Rattle.stateful_history.specs.Reasons.{Missing, itself, above}
+use Rattle.stateful_history.specs.Reasons.{Missing, itself, above, IsMissingAbove}
 use Rattle.stateful_history.specs.Setting.{Setting, parent_of}
 use Rattle.stateful_exec.specs.Rules.{first_or}
 use Rattle.stateful_standing.specs.Requesting.{LeadsDown}
@@ -31,6 +31,14 @@ module _ {B C I S T : Type 0} (s : Setting B S T) where
     pub Missing-first : {b x : Named B} → Missing s base p b x → IsUnknown s p b.digest
     Missing-first (itself u) = u
     Missing-first (above m met is u) = Missing-first m
+
+    -- what is missing of a block is it, or is missing from its parent on
+    pub Missing-split : {b x : Named B} → Missing s base p b x → (b ≡ x) ⊎ IsMissingAbove s base p b x
+    Missing-split (itself u) = inl refl
+    Missing-split (above {y = y} m met is u) = elim (Missing-split m) [
+      | inl own ↦ inr (record { parent = y; met = met; is_parent = subst (λ (z : Named B). y.digest ≡ parent_of s z) (sym own) is; missing = itself u })
+      | inr on ↦ inr (record { parent = on.parent; met = on.met; is_parent = on.is_parent; missing = above on.missing met is u })
+    ]
 
     -- what is missing of a block's parent is missing of the block
     pub Missing-child : {b x : Named B} → Missing s base p b x → (z : Named B) → IsUnknown s p z.digest → Met s p b → b.digest ≡ parent_of s z → Missing s base p z x

@@ -4,8 +4,6 @@ use Rattle.std.proofs.lemmas.List.Elements.{All-weaker, All-nil}
 use Rattle.stateful_types.specs.Names.{Named}
 use Rattle.stateful_types.specs.declared.anchor.Anchor.{Anchor}
 use Rattle.stateful_types.specs.declared.digest.Digest.{Digest}
-use Rattle.stateful_history.specs.Ancestors.{Up, IsCircular}
-use Rattle.stateful_history.specs.Ancestors as ancestors
 use Rattle.stateful_history.specs.Fetches.{Abstains}
 use Rattle.stateful_history.specs.Met.{Met}
 use Rattle.stateful_history.specs.Past.{Past, after}
@@ -37,7 +35,6 @@ use Rattle.stateful_standing.proofs.KeptMarks.{KeepsReady}
 use Rattle.stateful_standing.proofs.ReasonAcquired.{advances-free, acquires-reason}
 use Rattle.stateful_standing.proofs.ReasonMarks.{HasItsReason}
 use Rattle.stateful_standing.proofs.ResumeStands.{Serves-along}
-use Rattle.stateful_standing.proofs.SamePast.{IsSamePast}
 use Rattle.stateful_standing.proofs.WaysAcquired.{WaysStand-acquires}
 use Rattle.stateful_standing.proofs.WaysKept.{IsUnsettled-same, WaysStand-advances}
 
@@ -51,29 +48,13 @@ module _ {B C I P R D H G U : Type 0} (w : Workings B C I P R D H G U) (stored h
     pub off : KeepOff anchor r.path.blocks
     pub unsettled : IsUnsettled w stored p tip r.request
 
-  -- Nothing pauses, what came with the request is linked, its block isn't an ancestor of itself, the store has what it was handed
-  -- but for what was pruned, and where the request has to wait it waits for nothing that was begun.
+  -- Nothing pauses, what came with the request is linked, the store has what it was handed but for what was pruned, and where
+  -- the request has to wait it waits for nothing that was begun.
   pub record MayAcquire (p : Past B C I) (pause : Pause) (anchor : Anchor) (cache : List (Cached U)) (e : ℕ × Requested B C I) : Type 0 where
     pub free : pause ≡ Free
     pub linked : AreLinked (setting w stored) (gathered e.1.request [])
-    pub straight : IsCircular (setting w stored) p (first_of e.1.request).digest → ⊥
     pub stored_is : IsStoredNow stored p held
     pub may_wait : IsPrepared w.header anchor cache held e.1.request [] acquired.Waits → Abstains (setting w stored) e.0 p (first_of e.1.request)
-
-  up_same : (p q : Past B C I) → IsSamePast (setting w stored) p q → {b x : Named B} → Up (setting w stored) q b x → Up (setting w stored) p b x
-  up_same p q same ancestors.itself = ancestors.itself
-  up_same p q same (ancestors.above {y = y} u met is) = ancestors.above (up_same p q same u) ((same.met y).0 met) is
-
-  IsCircular-same : (p q : Past B C I) → IsSamePast (setting w stored) p q → (d : Digest) → IsCircular (setting w stored) q d → IsCircular (setting w stored) p d
-  IsCircular-same p q same d c = record {
-    block = c.block;
-    met = (same.met c.block).0 c.met;
-    is = c.is;
-    parent = c.parent;
-    parent_met = (same.met c.parent).0 c.parent_met;
-    is_parent = c.is_parent;
-    back = record { ancestor = c.back.ancestor; up = up_same p q same c.back.up; is = c.back.is };
-  }
 
   pub HasParked-same : (p q : Past B C I) (pause : Pause) (anchor : Anchor) (cache : List (Cached U)) (r : Released B C I) → IsCarried w stored p q → HasParked p pause anchor cache r → HasParked q pause anchor cache r
   HasParked-same p q pause anchor cache r c h = record {
@@ -92,7 +73,6 @@ module _ {B C I P R D H G U : Type 0} (w : Workings B C I P R D H G U) (stored h
   MayAcquire-same p q pause anchor cache e c h = record {
     free = h.free;
     linked = h.linked;
-    straight = λ circular. h.straight (IsCircular-same p q c.same (first_of e.1.request).digest circular);
     stored_is = λ n. rw c.same.pruned (h.stored_is n);
     may_wait = λ needs. c.abstains e.0 (first_of e.1.request) (h.may_wait needs);
   }
@@ -131,5 +111,5 @@ module _ {B C I P R D H G U : Type 0} (w : Workings B C I P R D H G U) (stored h
         (λ m now e rule. LeavesBehind-acquires w held m now e.0 (requested e.1.request) rule)
         MayAcquire-same Waits
         (λ p m now e more is g hand h rule c stays. WaysStand-acquires w stored base held tip p (after p more) c.same points point m now g.ground h.free stays e.0 (requested e.1.request) hand (All-nil (Met (setting w stored) p)) rule)
-        (λ p m now e g hand h stays rule. acquires-reason w stored base event marks p points point m.next tip m g.ground h.free held h.stored_is e.0 (requested e.1.request) now hand (All-nil (Met (setting w stored) p)) h.linked h.straight rule)
+        (λ p m now e g hand h stays rule. acquires-reason w stored base event marks p points point m.next tip m g.ground h.free held h.stored_is e.0 (requested e.1.request) now hand (All-nil (Met (setting w stored) p)) h.linked rule)
         es p m last ready turns

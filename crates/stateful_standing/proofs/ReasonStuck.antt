@@ -6,7 +6,7 @@ use Rattle.stateful_types.specs.declared.digest.Digest.{Digest}
 use Rattle.stateful_history.specs.Known.{Known, IsUnknown, IsPastTip}
 use Rattle.stateful_history.specs.Met.{Met}
 use Rattle.stateful_history.specs.Past.{Past}
-use Rattle.stateful_history.specs.Reasons.{Missing, above, IsCovered, IsBad, FailsOnKnown, HasReason}
+use Rattle.stateful_history.specs.Reasons.{Missing, above, IsCovered, IsBad, FailsOnKnown, LeavesTip, HasReason}
 use Rattle.stateful_history.specs.Declines.{IsOutOfReach}
 use Rattle.stateful_history.specs.Canonical.{IsCanonical}
 use Rattle.stateful_history.specs.Setting.{parent_of}
@@ -19,7 +19,7 @@ use Rattle.stateful_exec.specs.declared.pause.Pause.{Pause}
 use Rattle.stateful_standing.specs.Setting.{setting}
 use Rattle.stateful_standing.specs.Chains.{here, further, Chain}
 use Rattle.stateful_standing.specs.Reaching.{IsLost}
-use Rattle.stateful_standing.proofs.ReasonMissing.{Missing-last, Missing-first}
+use Rattle.stateful_standing.proofs.ReasonMissing.{Missing-last, Missing-first, Missing-split}
 use Rattle.stateful_standing.proofs.ReasonGround.{IsGround, block_of, chain_of, parent_at, HasState-on, top_is}
 use Rattle.stateful_standing.proofs.ReasonKnown.{known_or_not, anchor_low, anchor_not_late, cached_late}
 
@@ -38,6 +38,12 @@ module _ {B C I P R D H G U : Type 0} (w : Workings B C I P R D H G U) (stored :
   stuck_unknown b (inl fails) = Missing-first (setting w stored) base p fails.missing
   stuck_unknown b (inr leaves) = Missing-first (setting w stored) base p leaves.missing
 
+  leaves_tip : (b : Named B) → b.digest ≢ anchor.digest → LeavesAnchor b → LeavesTip (setting w stored) base p b
+  leaves_tip b other leaves = elim (Missing-split (setting w stored) base p leaves.missing) [
+    | inl own ↦ absurd (other (ap (λ (c : Named B). c.digest) own ∙ leaves.is))
+    | inr on ↦ record { ancestor = leaves.ancestor; missing = on; covered = leaves.covered }
+  ]
+
   -- so it may be judged false, where it isn't final and isn't the anchor
   pub HasReason-stuck : (b : Named B) → b.digest ≢ anchor.digest → (IsCanonical (setting w stored) p b → ⊥) → IsStuck b → HasReason (setting w stored) base p b
   HasReason-stuck b other not_final stuck = record {
@@ -45,7 +51,7 @@ module _ {B C I P R D H G U : Type 0} (w : Workings B C I P R D H G U) (stored :
     not_final = not_final;
     because = inr (elim stuck [
       | inl fails ↦ inl fails
-      | inr leaves ↦ inr (inr (record { ancestor = leaves.ancestor; missing = leaves.missing; proper = λ e. other (sym e ∙ leaves.is); covered = leaves.covered }))
+      | inr leaves ↦ inr (inr (leaves_tip b other leaves))
     ]);
   }
 

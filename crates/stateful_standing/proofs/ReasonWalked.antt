@@ -1,19 +1,17 @@
 -- False verdicts and declines have their reasons: what a judgement without a run says, and what a walk finds.
-use Rattle.std.proofs.Common.{◌≡◌, ◌≢◌, ◌<◌, ◌≤◌, ◌⊎◌, ◌↔◌, ◌++◌, inl, inr, ℕ, List, [], ◌∷◌, All, Option, Some, MatchOption, refl, sym, ap, ◌∙◌, subst, arith}
+use Rattle.std.proofs.Common.{◌≡◌, ◌≢◌, ◌<◌, ◌≤◌, ◌⊎◌, ◌↔◌, ◌++◌, inl, inr, ℕ, List, [], ◌∷◌, All, Option, Some, MatchOption, sym, ap, ◌∙◌, subst, arith}
 use Rattle.std.proofs.lemmas.List.{append_assoc}
 use Rattle.std.proofs.lemmas.List.Elements.{All-head, All-tail, All-push, All-weaker}
 use Rattle.stateful_types.specs.Names.{Named}
 use Rattle.stateful_types.specs.Anchor.{anchor_by}
 use Rattle.stateful_types.specs.declared.anchor.Anchor.{Anchor}
 use Rattle.stateful_types.specs.declared.digest.Digest.{Digest}
-use Rattle.stateful_history.specs.Ancestors.{Up, IsOnPath, IsCircular}
-use Rattle.stateful_history.specs.Ancestors as ancestors
 use Rattle.stateful_history.specs.Canonical.{canonical, IsCanonical}
 use Rattle.stateful_history.specs.Declines.{IsSkipping, IsOutOfReach}
 use Rattle.stateful_history.specs.Known.{Known, IsUnknown}
 use Rattle.stateful_history.specs.Met.{Met, TrueNames}
 use Rattle.stateful_history.specs.Past.{Past}
-use Rattle.stateful_history.specs.Reasons.{Missing, itself, above, IsReplaced, HasReason}
+use Rattle.stateful_history.specs.Reasons.{Missing, IsMissingAbove, HasReason}
 use Rattle.stateful_history.specs.Reasons as reasons
 use Rattle.stateful_history.specs.Setting.{Setting, parent_of}
 use Rattle.stateful_history.specs.Telling.{telling_of}
@@ -32,7 +30,7 @@ use Rattle.stateful_standing.proofs.AdvanceStands.{All-front, All-back}
 use Rattle.stateful_standing.specs.Storing.{IsStoredNow}
 use Rattle.stateful_standing.proofs.EarnedJudged.{canonical-at, canonical-below, canonical-above}
 use Rattle.stateful_standing.proofs.EarnedPath.{IsFolded}
-use Rattle.stateful_standing.proofs.ReasonMissing.{Missing-along, Missing-child, Missing-first}
+use Rattle.stateful_standing.proofs.ReasonMissing.{Missing-along, Missing-first}
 
 module _ {B S T : Type 0} (s : Setting B S T) where
   -- blocks that are linked are so behind the first
@@ -130,39 +128,20 @@ module _ {B C I P R D H G U : Type 0} (w : Workings B C I P R D H G U) (stored :
     because = inr (h.last, h.walked.missing, elim h.because [ inl low ↦ inr (covered_low h.last low) | inr skips ↦ inl skips ]);
   }
 
-  up_to : {c x : Named B} → Missing (setting w stored) base p c x → Up (setting w stored) p c x
-  up_to (itself u) = ancestors.itself
-  up_to (above m there is u) = ancestors.above (up_to m) there is
-
-  -- A block above the anchor whose parent is the first block of such a walk may be judged false, as long as it isn't an ancestor
-  -- of itself.
-  pub HasReason-walked : (b first : Named B) → Met (setting w stored) p b → Met (setting w stored) p first → first.digest ≡ parent_of (setting w stored) b → IsUnknown (setting w stored) p b.digest → anchor.height.0 < w.header.height b.block
-      → (IsCircular (setting w stored) p b.digest → ⊥) → (IsCanonical (setting w stored) p b → ⊥) → HasWalked first → HasReason (setting w stored) base p b
-  HasReason-walked b first met met_first is unknown high straight not_final h = record {
+  -- A block whose parent is the first block of such a walk may be judged false.
+  pub HasReason-walked : (b first : Named B) → Met (setting w stored) p first → first.digest ≡ parent_of (setting w stored) b → IsUnknown (setting w stored) p b.digest
+      → (IsCanonical (setting w stored) p b → ⊥) → HasWalked first → HasReason (setting w stored) base p b
+  HasReason-walked b first met is unknown not_final h = record {
     unknown = unknown;
     not_final = not_final;
     because = inr (inr (elim h.because [
-      | inl low ↦ inr (record { ancestor = h.last; missing = missing; proper = proper_low low; covered = covered_low h.last low })
-      | inr skips ↦ inl (record { ancestor = h.last; missing = missing; proper = proper; parent = skips.parent; met = skips.met; is_parent = skips.is_parent; skips = skips.skips })
+      | inl low ↦ inr (record { ancestor = h.last; missing = missing; covered = covered_low h.last low })
+      | inr skips ↦ inl (record { ancestor = h.last; missing = missing; parent = skips.parent; met = skips.met; is_parent = skips.is_parent; skips = skips.skips })
     ]));
   }
     where
-      missing : Missing (setting w stored) base p b h.last
-      missing = Missing-child (setting w stored) base p h.walked.missing b unknown met_first is
-
-      proper_low : w.header.height h.last.block ≤ anchor.height.0 → h.last.digest ≢ b.digest
-      proper_low low same = let one : h.last ≡ b = names h.last b h.walked.met met same in let e : w.header.height h.last.block ≡ w.header.height b.block = ap (λ (c : Named B). w.header.height c.block) one in omega arith
-
-      proper : h.last.digest ≢ b.digest
-      proper same = straight (record {
-        block = b;
-        met = met;
-        is = refl;
-        parent = first;
-        parent_met = met_first;
-        is_parent = is;
-        back = record { ancestor = h.last; up = up_to h.walked.missing; is = same };
-      })
+      missing : IsMissingAbove (setting w stored) base p b h.last
+      missing = record { parent = first; met = met; is_parent = is; missing = h.walked.missing }
 
   -- a block above the anchor that isn't cached isn't known
   pub unknown_above : (b : Named B) → Met (setting w stored) p b → (IsIn cache b.digest → ⊥) → anchor.height.0 < w.header.height b.block → IsUnknown (setting w stored) p b.digest

@@ -67,17 +67,19 @@ module _ {B C I P R D H G U : Type 0} (w : Workings B C I P R D H G U) (laws : L
       names honest base
 
   -- with the register that stands for it
-  pub history-registered : (now : Register) → RegisterStands (numbered w.kind.count) (after_all [] history) now
-      → EachStands w stored (λ base. StandsAndHolds w stored base (after_all [] history) now last) base [] history
-  history-registered now registered = EachStands-last w stored _ (λ base. StandsAndHolds w stored base (after_all [] history) now last)
+  pub history-registered : (now_failed : Bool) (now : Register) → RegisterStands (numbered w.kind.count) (after_all [] history) now
+      → EachStands w stored (λ base. StandsAndHolds w stored base (after_all [] history) now_failed now last) base [] history
+  history-registered now_failed now registered = EachStands-last w stored _
+      (λ base. StandsAndHolds w stored base (after_all [] history) now_failed now last)
       (λ base at. record {
         stands = record { registered = registered; restart = at.0.restart; past = at.0.past; at = λ working. at.0 };
-        holds = at.1;
+        holds = λ working. at.1;
       }) base [] history each_stands
 
   -- and what a machine that stands so leaves
-  pub history-leaves : (now : Register) → RegisterStands (numbered w.kind.count) (after_all [] history) now
+  pub history-leaves : (now_failed : Bool) (now : Register) → RegisterStands (numbered w.kind.count) (after_all [] history) now
       → (Left : w.States → Type 0)
-      → ((base : w.States) → StandsAndHolds w stored base (after_all [] history) now last → Left base)
+      → ((base : w.States) → StandsAndHolds w stored base (after_all [] history) now_failed now last → Left base)
       → EachStands w stored Left base [] history
-  history-leaves now registered Left leaves = EachStands-last w stored _ Left leaves base [] history (history-registered now registered)
+  history-leaves now_failed now registered Left leaves =
+      EachStands-last w stored _ Left leaves base [] history (history-registered now_failed now registered)

@@ -5,6 +5,7 @@ pub mod Unbroken
 pub mod StartRules
 pub mod OpensQuiet
 pub mod LiveFlushes
+pub mod ReasonsEnd
 pub mod Stepping
 pub mod Playing
 pub mod Restarted
@@ -12,7 +13,10 @@ pub mod StepStands
 pub mod StoresBefore
 pub mod StepsStand
 pub mod HistoryStands
+pub mod HistoryReasons
 pub mod StillStands
+pub mod LeftFurther
+pub mod RefusedBehind
 pub mod WorkNamed
 pub mod WorkPlaces
 pub mod WorkDuly

@@ -6,7 +6,7 @@ use Rattle.std.proofs.lemmas.List.Elements.{All-append, All-push, All-weaker, Al
 use Rattle.stateful_types.specs.Names.{Named}
 use Rattle.stateful_db.specs.Laws.{Laws}
 use Rattle.stateful_history.specs.Canonical.{pruned_below}
-use Rattle.stateful_history.specs.Live.{may_come}
+use Rattle.stateful_history.specs.Live.{names_live, may_come}
 use Rattle.stateful_history.specs.Met.{TrueNames}
 use Rattle.stateful_history.specs.Opening.{is_down, opens}
 use Rattle.stateful_history.specs.Past.{Past, Came, Made, EachMark, EachNext, after, after_entry}
@@ -31,19 +31,27 @@ use Rattle.stateful_keeping.specs.Down.{IsEnding}
 use Rattle.stateful_keeping.specs.EventBehind.{EventBehind, StoppedBehind}
 use Rattle.stateful_keeping.specs.Duly.{AreAmong, IsDulySaid, DulyBehind}
 use Rattle.stateful_keeping.specs.Execution.{NamesBehind}
+use Rattle.stateful_keeping.specs.Reasons.{IsTrusted, ReasonsStand, HasItsReason, ReasonsUpBehind}
 use Rattle.stateful_keeping.specs.Places.{IsInPlace, PastKept, PlacesKept, PlacesBehind}
+use Rattle.stateful_keeping.specs.HandsBehind.{HandsBehind}
+use Rattle.stateful_keeping.specs.InHand.{VerifiedApart}
 use Rattle.stateful_keeping.specs.Ways.{StoresFinalized}
 use Rattle.stateful_keeping.proofs.Counting.{ends_stopped}
 use Rattle.stateful_keeping.proofs.DulyAlong.{duly-up}
 use Rattle.stateful_keeping.proofs.EventDown.{event-down}
 use Rattle.stateful_keeping.proofs.EventUp.{event-up}
+use Rattle.stateful_keeping.proofs.HandsUp.{hands_at, hands-up}
+use Rattle.stateful_keeping.proofs.InHandOpened.{VerifiedApart-marks}
 use Rattle.stateful_keeping.proofs.NamesBehind.{NamesBehind-marks, NamesBehind-later}
+use Rattle.stateful_keeping.proofs.ReasonsUp.{reasons-up}
 use Rattle.stateful_keeping.proofs.PlacesAlong.{places-up}
 use Rattle.stateful_keeping.proofs.PlacesPast.{past-kept}
 use Rattle.stateful_keeping.proofs.Restarting.{pruned-ends}
 use Rattle.stateful_keeping.proofs.RuleItems.{is_down-after, pruned_below-after, opens-none}
 use Rattle.stateful_keeping.proofs.TakenIn.{may_come-live}
+use Rattle.stateful_keeping.proofs.Trusted.{IsTrusted-before, IsTrusted-before_marks}
 use Rattle.stateful_keeping.proofs.Unruled.{IsUnbuilt, unbuilt-answered, answered-append}
+use Rattle.stateful_keeping.proofs.VerifiedApart.{VerifiedApart-came}
 use Rattle.stateful_processing.specs.Clearing.{IsCleared}
 use Rattle.stateful_processing.specs.Intake.{Counts, TakesIn}
 use Rattle.stateful_processing.specs.Intake as intake
@@ -53,6 +61,7 @@ use Rattle.stateful_whole.specs.Steps.{Stops, Advances}
 use Rattle.stateful_whole.specs.Stands.{StandsAt}
 use Rattle.stateful_whole.specs.StepBehind.{IsCommittedTo, StepBehind}
 use Rattle.stateful_whole.proofs.LiveFlushes.{numbered_le, names_live-more}
+use Rattle.stateful_whole.proofs.ReasonsEnd.{HasItsReason-ends}
 use Rattle.stateful_whole.proofs.StartRules.{IsCommittedTo-rules, IsCommittedTo-ends, PrunedIsDue-rules, PrunedIsDue-ends, PrunedIsDue-stopped, EndsStopped-unbroken, BrokeBefore-after, StartsClean-rules, StartsClean-ends, StopsClean-rules, StopsClean-ends, OpenedIsStored-rules, OpenedIsStored-ends, OpenedIsStored-stopped}
 use Rattle.stateful_whole.proofs.StaysUp.{Broke, along-stays, takes_in-stays}
 use Rattle.stateful_whole.proofs.Stepping.{may_come-up, is_down-came, base-same, StepBehind-of}
@@ -86,6 +95,23 @@ module _ {B C I P R D H G U : Type 0} (w : Workings B C I P R D H G U) (laws : L
       (names_live-more (numbered w.kind.count) w.kind.count (numbered_le w.kind.count) p event
       (may_come-live (numbered w.kind.count) p event on may_come_is)) names stores a.takes a.settles.along
 
+  -- where the world is trusted with all marks of the entry, those that were made behind the event have their reasons
+  reasons_behind : (marks : List (Mark B)) → NamesBehind w stored base q m settled → (b : EventBehind w stored base q m settled)
+      → IsTrusted w stored (after q b.more) → ReasonsUpBehind w stored base event marks q m settled
+  reasons_behind marks names b trust =
+      reasons-up w laws stored base p stored_now stored_is counts provider runs_cost builds_cost event marks m a.taken settled up (s.up up).1
+      (s.up up).0 (s.reasons up (IsTrusted-before w stored (Came event) p (IsTrusted-before_marks w stored b.more q trust))) on
+      (names_live-more (numbered w.kind.count) w.kind.count (numbered_le w.kind.count) p event
+      (may_come-live (numbered w.kind.count) p event on may_come_is)) names
+      (λ more is. subst (λ (ms : List (Mark B)). IsTrusted w stored (after q ms)) (append_cancel_left m.marks b.more more (sym b.marks_are ∙ is)) trust)
+      stores a.takes a.settles.along
+
+  -- of the same marks
+  reasons_of : (marks : List (Mark B)) (b : EventBehind w stored base q m settled) (r : ReasonsUpBehind w stored base event marks q m settled)
+      → EachMark (HasItsReason w stored base event marks) q b.more × ReasonsStand w stored (after q b.more) base settled
+  reasons_of marks b r = subst (λ (ms : List (Mark B)). EachMark (HasItsReason w stored base event marks) q ms × ReasonsStand w stored (after q ms) base settled)
+      (append_cancel_left m.marks r.more b.more (sym r.marks_are ∙ b.marks_are)) (r.each, r.stand)
+
   -- each mark is in its place
   placed : NamesBehind w stored base q m settled → PlacesBehind w stored base q m settled
   placed names =
@@ -101,6 +127,21 @@ module _ {B C I P R D H G U : Type 0} (w : Workings B C I P R D H G U) (laws : L
       (s.places up) on
       (names_live-more (numbered w.kind.count) w.kind.count (numbered_le w.kind.count) p event
       (may_come-live (numbered w.kind.count) p event on may_come_is)) names stores a.takes a.settles.along
+
+  -- the event names what is live
+  names_live_is : names_live (numbered w.kind.count) p event ≡ true
+  names_live_is = may_come-live (numbered w.kind.count) p event on may_come_is
+
+  -- tickets are apart behind it, and behind marks
+  apart : (more : List (Mark B)) → VerifiedApart (after q more)
+  apart more = VerifiedApart-marks q more (VerifiedApart-came (numbered w.kind.count) p event names_live_is s.restart.apart)
+
+  -- all that is live is in hand behind it
+  hands : NamesBehind w stored base q m settled → HandsBehind w stored base q m settled
+  hands names =
+      hands-up w laws stored base p stored_now stored_is counts provider runs_cost builds_cost event m a.taken settled up (s.up up).1 (s.up up).0
+      (s.hands up).0 (s.hands up).1 on
+      (names_live-more (numbered w.kind.count) w.kind.count (numbered_le w.kind.count) p event names_live_is) names stores a.takes a.settles.along
 
   more_are : (more : List (Mark B)) (last : Moment w) → last.marks ≡ m.marks ++ more → more ≡ last.marks
   more_are more last is = sym (is ∙ ap (λ (ms : List (Mark B)). ms ++ more) s.restart.unmarked)
@@ -123,10 +164,11 @@ module _ {B C I P R D H G U : Type 0} (w : Workings B C I P R D H G U) (laws : L
   -- the machine is up
   pub goes-on : settled.loop.up ≡ true → TrueNames (setting w stored) (after_entry p event settled.marks) → StepBehind w stored base p event settled
   goes-on still names =
-      let b : EventBehind w stored base q m settled = behind (NamesBehind-marks w stored base q m settled settled.marks marks_are names) in
-      let l : PlacesBehind w stored base q m settled = placed (NamesBehind-marks w stored base q m settled settled.marks marks_are names) in
+      let names_there : NamesBehind w stored base q m settled = NamesBehind-marks w stored base q m settled settled.marks marks_are names in
+      let b : EventBehind w stored base q m settled = behind names_there in
+      let l : PlacesBehind w stored base q m settled = placed names_there in
       let same : l.more ≡ b.more = more_are l.more settled l.marks_are ∙ sym (more_are b.more settled b.marks_are) in
-      let y : DulyBehind w stored base event q m settled = said_duly (NamesBehind-marks w stored base q m settled settled.marks marks_are names) in
+      let y : DulyBehind w stored base event q m settled = said_duly names_there in
       let same_duly : y.more ≡ b.more = more_are y.more settled y.marks_are ∙ sym (more_are b.more settled b.marks_are) in
       let kept : PlacesKept w stored (after q b.more) settled =
       subst (λ (ms : List (Mark B)). PlacesKept w stored (after q ms) settled) same l.kept in
@@ -143,6 +185,7 @@ module _ {B C I P R D H G U : Type 0} (w : Workings B C I P R D H G U) (laws : L
       StepBehind-of w stored base p event settled base b.more (more_are b.more settled b.marks_are) (record {
         base_is = base-same base b.more (w.kind.point settled.members) none_opens;
         earned = b.earned;
+        reasons = λ trust. (reasons_of b.more b (reasons_behind b.more names_there b trust)).0;
         said = b.said;
         in_place = subst (λ (ms : List (Mark B)). EachMark (IsInPlace w stored base) q ms) same l.each;
         duly = subst (λ (ms : List (Mark B)). EachMark (IsDulySaid w stored base event ms) q ms) same_duly
@@ -159,6 +202,9 @@ module _ {B C I P R D H G U : Type 0} (w : Workings B C I P R D H G U) (laws : L
         up_is = still ∙ ap (λ d. not d) (sym down_is);
         counted = b.counted;
         up = λ up. (b.up up, a.settles.quiet);
+        reasons_stand = λ up trust. (reasons_of b.more b (reasons_behind b.more names_there b trust)).1;
+        apart = apart b.more;
+        hands = λ up. hands_at w stored base q m settled b.more b.marks_are (hands names_there);
         down = λ down. absurd (true≢false (sym still ∙ down));
         past = past-kept w stored (after q b.more) settled kept;
         places = λ up. kept;
@@ -180,8 +226,9 @@ module _ {B C I P R D H G U : Type 0} (w : Workings B C I P R D H G U) (laws : L
 
   module _ (now : Moment w) (over : List (Mark B)) (are : now.marks ≡ settled.marks ++ over ++ Stopped ∷ [])
       (ends : EndsAll (after q settled.marks) over) (leaves : LeavesNothing (after q settled.marks) over)
-      (cleared : IsCleared w (record settled { marks = now.marks }) now) (b : EventBehind w stored base q m settled)
-      (l : PlacesBehind w stored base q m settled) (y : DulyBehind w stored base event q m settled) (why : (event ≡ Stop) ⊎ BrokeBefore (after q settled.marks)) where
+      (cleared : IsCleared w (record settled { marks = now.marks }) now) (names_there : NamesBehind w stored base q m settled)
+      (b : EventBehind w stored base q m settled) (l : PlacesBehind w stored base q m settled)
+      (y : DulyBehind w stored base event q m settled) (why : (event ≡ Stop) ⊎ BrokeBefore (after q settled.marks)) where
     abbrev last : List (Mark B)
     last = over ++ Stopped ∷ []
 
@@ -268,10 +315,20 @@ module _ {B C I P R D H G U : Type 0} (w : Workings B C I P R D H G U) (laws : L
     none_live : NothingLive (Made Stopped ∷ after (after q b.more) over)
     none_live = subst (λ (ms : List (Mark B)). NothingLive (Made Stopped ∷ after (after q ms) over)) (sym first_are) leaves.stopped
 
+    -- what is trusted with all these marks is trusted with the first ones
+    trusted_first : IsTrusted w stored (after q down.more) → IsTrusted w stored (after q b.more)
+    trusted_first trust = IsTrusted-before_marks w stored last (after q b.more)
+        (subst (λ (r : Past B C I). IsTrusted w stored r) (after-append q b.more last)
+        (subst (λ (ms : List (Mark B)). IsTrusted w stored (after q ms)) down_are_both trust))
+
     stops_at : StepBehind w stored base p event now
     stops_at = StepBehind-of w stored base p event now base down.more (more_are down.more now down.marks_are) (record {
       base_is = base-same base down.more (w.kind.point now.members) none_opens;
       earned = down.earned;
+      reasons = λ trust. each_down (HasItsReason w stored base event down.more)
+          (reasons_of down.more b (reasons_behind down.more names_there b (trusted_first trust))).0
+          (HasItsReason-ends w stored base event down.more (inr (inr has_stopped)) (after q b.more) over
+          (subst (λ (ms : List (Mark B)). EndsAll (after q ms) over) (sym first_are) ends)) (tt, tt);
       said = down.said;
       in_place = each_down (IsInPlace w stored base)
           (subst (λ (ms : List (Mark B)). EachMark (IsInPlace w stored base) q ms)
@@ -302,6 +359,9 @@ module _ {B C I P R D H G U : Type 0} (w : Workings B C I P R D H G U) (laws : L
       up_is = down.down.empty.up ∙ ap (λ d. not d) (sym is_over);
       counted = down.down.counted;
       up = λ up. absurd (true≢false (sym up ∙ down.down.empty.up));
+      reasons_stand = λ up trust. absurd (true≢false (sym up ∙ down.down.empty.up));
+      apart = apart down.more;
+      hands = λ up. absurd (true≢false (sym up ∙ down.down.empty.up));
       down = λ is. down.down.nothing;
       past = subst (λ (r : Past B C I). PastKept w stored r) (sym last_is)
           (past-stopped w stored (after (after q b.more) over) (past-work w stored (after q b.more) over named kept_first));
@@ -319,7 +379,7 @@ module _ {B C I P R D H G U : Type 0} (w : Workings B C I P R D H G U) (laws : L
       let are : now.marks ≡ settled.marks ++ over ++ Stopped ∷ [] = t.marks_are ∙ ap (λ (ms : List (Mark B)). ms ++ Stopped ∷ []) work.1 in
       let known : TrueNames (setting w stored) (after q (settled.marks ++ over ++ Stopped ∷ [])) =
       subst (λ (ms : List (Mark B)). TrueNames (setting w stored) (after q ms)) are names in
-      let known_first : NamesBehind w stored base q m settled =
+      let names_there : NamesBehind w stored base q m settled =
       NamesBehind-later w stored base q m settled settled.marks marks_are (over ++ Stopped ∷ [])
       (subst (λ (ms : List (Mark B)). TrueNames (setting w stored) (after q ms)) (append_assoc settled.marks over (Stopped ∷ [])) known) in
-      stops_at now over are work.2 work.3 t.cleared (behind known_first) (placed known_first) (said_duly known_first) (why_down t.down)
+      stops_at now over are work.2 work.3 t.cleared names_there (behind names_there) (placed names_there) (said_duly names_there) (why_down t.down)

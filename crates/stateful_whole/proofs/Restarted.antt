@@ -7,6 +7,7 @@ use Rattle.stateful_types.specs.declared.anchor.Anchor.{Anchor}
 use Rattle.stateful_types.specs.declared.floor.Floor.{Floor}
 use Rattle.stateful_db.specs.Laws.{Laws}
 use Rattle.stateful_history.specs.Canonical.{pruned_below}
+use Rattle.stateful_history.specs.Live.{live_ticket}
 use Rattle.stateful_history.specs.Met.{TrueNames}
 use Rattle.stateful_history.specs.Opening.{is_down, opens}
 use Rattle.stateful_history.specs.Past.{Past, Came, Made, EachMark, after, after_entry}
@@ -24,19 +25,24 @@ use Rattle.stateful_register.specs.Register.{RegisterStands}
 use Rattle.stateful_register.specs.declared.register.Register.{Register}
 use Rattle.stateful_standing.specs.Setting.{setting}
 use Rattle.stateful_standing.specs.Storing.{IsStoredNow}
-use Rattle.stateful_keeping.specs.Down.{IsEnding}
+use Rattle.stateful_keeping.specs.Down.{IsEnding, IsEmpty}
 use Rattle.stateful_keeping.specs.Duly.{IsDulySaid}
 use Rattle.stateful_keeping.specs.EventBehind.{RestartedBehind}
+use Rattle.stateful_keeping.specs.Reasons.{HasItsReason}
 use Rattle.stateful_keeping.specs.Places.{IsInPlace, PastKept, PlacesKept}
 use Rattle.stateful_keeping.specs.Ways.{StoresHeights}
 use Rattle.stateful_keeping.proofs.EventRestarts.{event-restarts}
 use Rattle.stateful_keeping.proofs.GoesDown.{IsEmpty-cleared}
 use Rattle.stateful_keeping.proofs.Counting.{IsCounted-up}
+use Rattle.stateful_keeping.proofs.ReasonsStand.{reasons_stand-opens}
 use Rattle.stateful_keeping.proofs.PlacesCame.{past-kept-came}
 use Rattle.stateful_keeping.proofs.PlacesOpened.{kept-opens}
 use Rattle.stateful_keeping.proofs.PlacesPast.{past-kept}
+use Rattle.stateful_keeping.proofs.HandsOpened.{hands-opens, goes-opens}
+use Rattle.stateful_keeping.proofs.InHandOpened.{VerifiedApart-marks}
 use Rattle.stateful_keeping.proofs.Restarting.{opening-ends, pruned-ends}
 use Rattle.stateful_keeping.proofs.Unruled.{IsUnbuilt, unbuilt-answered}
+use Rattle.stateful_keeping.proofs.VerifiedApart.{VerifiedApart-came}
 use Rattle.stateful_processing.specs.Clearing.{IsCleared}
 use Rattle.stateful_processing.specs.Moments.{Moment}
 use Rattle.stateful_processing.specs.Opening.{Opens}
@@ -45,6 +51,7 @@ use Rattle.stateful_whole.specs.Steps.{Restarts}
 use Rattle.stateful_whole.specs.Stands.{CanRestartAt}
 use Rattle.stateful_whole.specs.StepBehind.{IsCommittedTo, StepBehind}
 use Rattle.stateful_whole.proofs.OpensQuiet.{opens-quiet}
+use Rattle.stateful_whole.proofs.ReasonsEnd.{HasItsReason-ends}
 use Rattle.stateful_whole.proofs.StartRules.{IsCommittedTo-ends, PrunedIsDue-ends, PrunedIsDue-opened, EndsStopped-restart, StartsClean-ends, StopsClean-ends, OpenedIsStored-ends}
 use Rattle.stateful_whole.proofs.Stepping.{base-opened, StepBehind-of}
 use Rattle.stateful_whole.proofs.WorkEnds.{IsWorkEnd, EndsAll-ends, IsWorkEnd-ending, is_down-ends, opens-opened}
@@ -90,6 +97,12 @@ module _ {B C I P R D H G U : Type 0} (w : Workings B C I P R D H G U) (laws : L
     past_is : after q b.more ≡ Made (Opened anchor) ∷ after q over
     past_is = ap (λ (ms : List (Mark B)). after q ms) all_are ∙ after-push q over (Opened anchor)
 
+    empty : IsEmpty w mid
+    empty = IsEmpty-cleared w _ mid cleared
+
+    none_live : (t : ℕ) → live_ticket t (after q b.more) ≡ None
+    none_live t = ap (λ (r : Past B C I). live_ticket t r) past_is ∙ nothing.tickets t
+
     down_is : is_down (after q b.more) ≡ false
     down_is = ap (λ (r : Past B C I). is_down r) past_is ∙ is_down-ends q over ends_work
 
@@ -132,6 +145,8 @@ module _ {B C I P R D H G U : Type 0} (w : Workings B C I P R D H G U) (laws : L
       base_is = base-opened base b.more (w.kind.point now.members) o.opening.at
           (ap (λ (ms : List (Mark B)). opens ms) all_are ∙ opens-opened over anchor) o.opening.here;
       earned = b.earned;
+      reasons = λ trust. each_restart (HasItsReason w stored o.opening.at.1 event b.more)
+          (HasItsReason-ends w stored o.opening.at.1 event b.more (inr (inl tt)) q over ends) (tt, tt);
       said = b.said;
       in_place = each_restart (IsInPlace w stored o.opening.at.1) (work-in_place w stored o.opening.at.1 q over kept_first.past.gone named)
           (tt, tt, tt, tt, tt);
@@ -152,7 +167,14 @@ module _ {B C I P R D H G U : Type 0} (w : Workings B C I P R D H G U) (laws : L
       pruned = none_prunes;
       up_is = b.up ∙ ap (λ d. not d) (sym down_is);
       counted = IsCounted-up w stored o.opening.at.1 (after q b.more) now b.stands;
-      up = λ up. (b.stands, opens-quiet w stored_now floor keep mid now (IsEmpty-cleared w _ mid cleared) o);
+      up = λ up. (b.stands, opens-quiet w stored_now floor keep mid now empty o);
+      reasons_stand = λ up trust. reasons_stand-opens w laws stored o.opening.at.1 (after q b.more) stored_now floor keep mid now cleared.queue
+          cleared.actions o;
+      apart = VerifiedApart-marks q b.more (VerifiedApart-came (numbered w.kind.count) p event refl s.apart);
+      hands = λ up. (
+        hands-opens w stored_now floor keep mid now o (after q b.more) empty none_live,
+        goes-opens w stored_now floor keep mid now o (after q b.more) stored o.opening.at.1,
+      );
       down = λ down. absurd (true≢false (sym b.up ∙ down));
       past = past-kept w stored (after q b.more) now placed;
       places = λ up. placed;

@@ -11,6 +11,8 @@ use Rattle.stateful_history.specs.Prunes.{PruneRule, PrunedIsDue}
 use Rattle.stateful_history.specs.Restarts.{OpenedIsStored}
 use Rattle.stateful_history.specs.Runs.{BuildIsAnswered}
 use Rattle.stateful_history.specs.Stops.{IsRestart, NothingLive, StopsClean, StartsClean, EndsStopped}
+use Rattle.stateful_history.specs.Telling.{telling_of}
+use Rattle.stateful_history.specs.Waiting.{AllWait}
 use Rattle.stateful_history.specs.declared.event.Event.{Event}
 use Rattle.stateful_history.specs.declared.event.Event.TheVariants.{Restart}
 use Rattle.stateful_history.specs.declared.mark.Mark.{Mark}
@@ -20,13 +22,16 @@ use Rattle.stateful_standing.specs.Storing.{IsStoredNow}
 use Rattle.stateful_keeping.specs.Down.{IsEmpty, IsCounted}
 use Rattle.stateful_keeping.specs.Duly.{IsDulySaid}
 use Rattle.stateful_keeping.specs.Durability.{IsDurablySaid}
+use Rattle.stateful_keeping.specs.InHand.{VerifiedApart, AllInHand, GoesOnAt}
+use Rattle.stateful_keeping.specs.Reasons.{IsTrusted, ReasonsStand, HasItsReason}
 use Rattle.stateful_keeping.specs.Places.{IsInPlace, PastKept, PlacesKept}
 use Rattle.stateful_keeping.specs.Stands.{IsUpAt}
 use Rattle.stateful_keeping.proofs.PlacesScheduled.{kept-same}
+use Rattle.stateful_keeping.proofs.QuietWaits.{quiet-waits}
 use Rattle.stateful_processing.specs.Moments.{Moment}
 use Rattle.stateful_processing.specs.Rules.{Quiet}
 use Rattle.stateful_whole.specs.StepBehind.{IsCommittedTo, StepBehind}
-use Rattle.stateful_whole.proofs.Unmarked.{Quiet-marks, IsCounted-marks, IsUpAt-marks}
+use Rattle.stateful_whole.proofs.Unmarked.{Quiet-marks, IsCounted-marks, AllInHand-marks, GoesOnAt-marks, IsUpAt-marks}
 
 first_of : (a b : Bool) → (a && b) ≡ true → a ≡ true
 first_of true b e = refl
@@ -68,6 +73,7 @@ module _ {B C I P R D H G U : Type 0} (w : Workings B C I P R D H G U) (stored :
     pub record PartsStand : Type 0 where
       pub base_is : next ≡ base_after base marks (w.kind.point now.members)
       pub earned : EachMark (TrueIsEarned (setting w stored) next) (Came event ∷ p) marks
+      pub reasons : IsTrusted w stored (after_entry p event marks) → EachMark (HasItsReason w stored next event marks) (Came event ∷ p) marks
       pub said : EachMark (IsDurablySaid w) (Came event ∷ p) marks
       pub in_place : EachMark (IsInPlace w stored next) (Came event ∷ p) marks
       pub duly : EachMark (IsDulySaid w stored next event marks) (Came event ∷ p) marks
@@ -83,10 +89,23 @@ module _ {B C I P R D H G U : Type 0} (w : Workings B C I P R D H G U) (stored :
       pub up_is : now.loop.up ≡ not (is_down (after_entry p event marks))
       pub counted : IsCounted w (after_entry p event marks) now
       pub up : now.loop.up ≡ true → IsUpAt w stored next (after_entry p event marks) now × Quiet w now
+      pub reasons_stand : now.loop.up ≡ true → IsTrusted w stored (after_entry p event marks)
+          → ReasonsStand w stored (after_entry p event marks) next now
+      pub apart : VerifiedApart (after_entry p event marks)
+      pub hands : now.loop.up ≡ true → AllInHand w (after_entry p event marks) now × GoesOnAt w stored next (after_entry p event marks) now
       pub down : now.loop.up ≡ false → NothingLive (after_entry p event marks)
       pub past : PastKept w stored (after_entry p event marks)
       pub places : now.loop.up ≡ true → PlacesKept w stored (after_entry p event marks) now
       pub empty : now.loop.up ≡ false → IsEmpty w now
+
+    -- each live request and receipt waits for outstanding work
+    all_wait : PartsStand → (rule : Option (PruneRule w.Targets))
+        → AllWait (setting w stored) (telling_of w.works) w.kind.count rule next (after_entry p event marks)
+    all_wait k rule = by now.loop.up refl
+      where
+        by : (b : Bool) → now.loop.up ≡ b → AllWait (setting w stored) (telling_of w.works) w.kind.count rule next (after_entry p event marks)
+        by true up = quiet-waits w stored next (after_entry p event marks) now rule up (k.up up).1 (k.up up).0 k.apart (k.hands up).1 (k.hands up).0
+        by false down = λ t live. absurd (live ((k.down down).tickets t))
 
   -- It stands behind the step, where these are its marks.
   pub StepBehind-of : (next : w.States) (marks : List (Mark B)) → marks ≡ now.marks → PartsStand next marks → StepBehind w stored base p event now
@@ -96,6 +115,7 @@ module _ {B C I P R D H G U : Type 0} (w : Workings B C I P R D H G U) (stored :
         base_behind = next;
         base_is = k.base_is;
         earned = k.earned;
+        reasons = k.reasons;
         said = k.said;
         places = k.in_place;
         duly = k.duly;
@@ -108,10 +128,17 @@ module _ {B C I P R D H G U : Type 0} (w : Workings B C I P R D H G U) (stored :
         ends_stopped = k.ends_stopped;
         holds = k.holds;
         pruned = k.pruned;
+        waits = all_wait next now.marks k;
         stands = record {
-          restart = record { unmarked = refl; counted = IsCounted-marks w now [] (after q now.marks) k.counted };
+          restart = record { unmarked = refl; counted = IsCounted-marks w now [] (after q now.marks) k.counted; apart = k.apart };
           up_is = k.up_is;
           up = λ up. (IsUpAt-marks w now [] stored next (after q now.marks) (k.up up).0, Quiet-marks w now [] (k.up up).1);
+          reasons = λ up trust. let r = k.reasons_stand up trust in
+              record { queue = r.queue; actions = r.actions; gatherings = r.gatherings; reaches = r.reaches };
+          hands = λ up. (
+            AllInHand-marks w now [] (after q now.marks) (k.hands up).0,
+            GoesOnAt-marks w now [] stored next (after q now.marks) (k.hands up).1,
+          );
           down = k.down;
           past = k.past;
           places = λ up. kept-same w stored next (after q now.marks) now (record now { marks = [] }) refl refl (k.places up);

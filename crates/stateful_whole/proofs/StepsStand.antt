@@ -17,6 +17,7 @@ use Rattle.stateful_standing.specs.Setting.{setting}
 use Rattle.stateful_standing.specs.Storing.{IsStoredNow}
 use Rattle.stateful_keeping.specs.Ways.{StoresHeights, StoresFinalized}
 use Rattle.stateful_keeping.proofs.PlacesPast.{past-kept-first}
+use Rattle.stateful_keeping.proofs.InHandOpened.{VerifiedApart-none}
 use Rattle.stateful_processing.specs.Intake.{Counts}
 use Rattle.stateful_processing.specs.Moments.{Moment}
 use Rattle.stateful_whole.specs.Entering.{Steps}
@@ -39,9 +40,12 @@ module _ {B C I P R D H G U : Type 0} (w : Workings B C I P R D H G U) (stored :
         barriers = λ k some. absurd (some refl);
         none_away = away;
       };
+      apart = VerifiedApart-none;
     };
     up_is = new.down;
     up = λ up. absurd (true≢false (sym up ∙ new.down));
+    reasons = λ up trust. absurd (true≢false (sym up ∙ new.down));
+    hands = λ up. absurd (true≢false (sym up ∙ new.down));
     down = λ down. record { tickets = λ t. refl; fetches = λ f. refl; jobs = λ j. refl; barriers = λ k. refl };
     past = past-kept-first w stored [] refl;
     places = λ up. absurd (true≢false (sym up ∙ new.down));

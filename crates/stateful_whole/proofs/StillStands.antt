@@ -32,7 +32,7 @@ module _ {B C I P R D H G U : Type 0} (w : Workings B C I P R D H G U) (p : Past
       → Stands w stored base p failed register m → Stands w stored base p now_failed now_register now
   still-stands stored base failed now_failed register now_register unmarked fails registered s = record {
     registered = registered;
-    restart = record { unmarked = unmarked; counted = counted-later s.restart.counted };
+    restart = record { unmarked = unmarked; counted = counted-later s.restart.counted; apart = s.restart.apart };
     past = s.past;
     at = λ works. absurd (true≢false (sym fails ∙ works));
   }

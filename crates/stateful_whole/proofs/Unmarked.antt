@@ -6,6 +6,7 @@ use Rattle.stateful_history.specs.declared.mark.Mark.{Mark}
 use Rattle.stateful_exec.specs.Workings.{Workings}
 use Rattle.stateful_keeping.specs.Down.{IsCounted}
 use Rattle.stateful_keeping.specs.Execution.{Executes}
+use Rattle.stateful_keeping.specs.InHand.{IsFound, requested, recovered, built, waiting, AllInHand, GoesOnAt}
 use Rattle.stateful_keeping.specs.Stands.{LoopStands, IsUpAt}
 use Rattle.stateful_keeping.specs.Tickets.{TicketsStand}
 use Rattle.stateful_processing.specs.Moments.{Moment}
@@ -47,6 +48,22 @@ module _ {B C I P R D H G U : Type 0} (w : Workings B C I P R D H G U) (m : Mome
   -- the numbers so far are as far below the next ones
   pub IsCounted-marks : (p : Past B C I) → IsCounted w p m → IsCounted w p (record m { marks = marks })
   IsCounted-marks p c = record { numbers = c.numbers; barriers = c.barriers; none_away = c.none_away }
+
+  found_marks : (t : ℕ) → IsFound w m t → IsFound w (record m { marks = marks }) t
+  found_marks t (requested some) = requested some
+  found_marks t (recovered some) = recovered some
+  found_marks t (built own) = built own
+  found_marks t (waiting some) = waiting some
+
+  -- as much is in hand
+  pub AllInHand-marks : (p : Past B C I) → AllInHand w p m → AllInHand w p (record m { marks = marks })
+  AllInHand-marks p h =
+      record { hand = λ t live. found_marks t (h.hand t live); put_off = h.put_off; above = h.above; finalizing = h.finalizing }
+
+  -- and it goes on
+  pub GoesOnAt-marks : (stored : ℕ → Option (Named B)) (base : w.States) (p : Past B C I) → GoesOnAt w stored base p m
+      → GoesOnAt w stored base p (record m { marks = marks })
+  GoesOnAt-marks stored base p g = record { runs = g.runs; settled = g.settled; abstain = g.abstain }
 
   module _ (stored : ℕ → Option (Named B)) (base : w.States) (p : Past B C I) where
     executes_marks : Executes w stored base p m → Executes w stored base p (record m { marks = marks })

@@ -3,3 +3,4 @@ pub mod Steps
 pub mod Entering
 pub mod Stands
 pub mod StepBehind
+pub mod Left

@@ -8,7 +8,9 @@ use Rattle.stateful_exec.specs.Workings.{Workings}
 use Rattle.stateful_register.specs.Register.{RegisterStands}
 use Rattle.stateful_register.specs.declared.register.Register.{Register}
 use Rattle.stateful_keeping.specs.Down.{IsCounted}
+use Rattle.stateful_keeping.specs.Reasons.{IsTrusted, ReasonsStand}
 use Rattle.stateful_keeping.specs.Places.{PastKept, PlacesKept}
+use Rattle.stateful_keeping.specs.InHand.{VerifiedApart, AllInHand, GoesOnAt}
 use Rattle.stateful_keeping.specs.Stands.{IsUpAt}
 use Rattle.stateful_processing.specs.Moments.{Moment}
 use Rattle.stateful_processing.specs.Rules.{Quiet}
@@ -16,19 +18,23 @@ use Rattle.stateful_whole.specs.Machine.{numbered}
 
 module _ {B C I P R D H G U : Type 0} (w : Workings B C I P R D H G U) (p : Past B C I) where
   -- What a restart needs, and what stands of a machine that has failed too: no mark waits to be answered, the numbers so far
-  -- are below the next ones, and no database is away.
+  -- are below the next ones, no database is away, and the ticket of a verification is that of no other event.
   pub record CanRestartAt (m : Moment w) : Type 0 where
     pub unmarked : m.marks ≡ []
     pub counted : IsCounted w p m
+    pub apart : VerifiedApart p
 
 module _ {B C I P R D H G U : Type 0} (w : Workings B C I P R D H G U)
     (stored : ℕ → Option (Named B)) (base : w.States) (p : Past B C I) where
-  -- The machine is up where the past says so: then it stands for it, and nothing can go on without another event. Where it is
-  -- down nothing is live. What is kept for marks to be in their places is kept.
+  -- The machine is up where the past says so: then it stands for it, nothing can go on without another event, and all that is
+  -- live is in hand, and goes on; and where the world is trusted, what is kept for reasons of false verdicts and declines is
+  -- kept. Where it is down nothing is live. What is kept for marks to be in their places is kept.
   pub record StandsAt (m : Moment w) : Type 0 where
     pub restart : CanRestartAt w p m
     pub up_is : m.loop.up ≡ not (is_down p)
     pub up : m.loop.up ≡ true → IsUpAt w stored base p m × Quiet w m
+    pub reasons : m.loop.up ≡ true → IsTrusted w stored p → ReasonsStand w stored p base m
+    pub hands : m.loop.up ≡ true → AllInHand w p m × GoesOnAt w stored base p m
     pub down : m.loop.up ≡ false → NothingLive p
     pub past : PastKept w stored p
     pub places : m.loop.up ≡ true → PlacesKept w stored p m

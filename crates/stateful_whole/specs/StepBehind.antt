@@ -1,5 +1,5 @@
 -- What stands behind a step, and behind steps one after another.
-use Rattle.std.specs.Prelude.{◌≡◌, ℕ, false, Option, Some, List, [], ◌∷◌, All}
+use Rattle.std.specs.Prelude.{◌≡◌, ℕ, Bool, false, Option, Some, List, [], ◌∷◌, All}
 use Rattle.stateful_types.specs.Names.{Named}
 use Rattle.stateful_history.specs.Canonical.{pruned_below}
 use Rattle.stateful_history.specs.Holding.{Holds}
@@ -10,6 +10,8 @@ use Rattle.stateful_history.specs.Prunes.{PruneRule, PrunedIsDue}
 use Rattle.stateful_history.specs.Restarts.{OpenedIsStored}
 use Rattle.stateful_history.specs.Runs.{BuildIsAnswered}
 use Rattle.stateful_history.specs.Stops.{StopsClean, StartsClean, EndsStopped}
+use Rattle.stateful_history.specs.Telling.{telling_of}
+use Rattle.stateful_history.specs.Waiting.{AllWait}
 use Rattle.stateful_history.specs.declared.entry.Entry.{Entry}
 use Rattle.stateful_history.specs.declared.event.Event.{Event}
 use Rattle.stateful_history.specs.declared.mark.Mark.{Mark}
@@ -20,6 +22,7 @@ use Rattle.stateful_standing.specs.Setting.{setting}
 use Rattle.stateful_keeping.specs.Down.{IsEmpty}
 use Rattle.stateful_keeping.specs.Duly.{IsDulySaid}
 use Rattle.stateful_keeping.specs.Durability.{IsDurablySaid}
+use Rattle.stateful_keeping.specs.Reasons.{IsTrusted, HasItsReason}
 use Rattle.stateful_keeping.specs.Places.{IsInPlace}
 use Rattle.stateful_processing.specs.Moments.{Moment}
 use Rattle.stateful_whole.specs.Stands.{StandsAt, Stands}
@@ -36,15 +39,19 @@ module _ {B C I P R D H G U : Type 0} (w : Workings B C I P R D H G U)
 
   module _ (base : w.States) (p : Past B C I) (event : Event B C I) (now : Moment w) where
     -- Behind an event and its marks the history is based on these states: what the databases hold,
-    -- where it was opened, to which the store's block commits, and else those before. True verdicts among the marks are earned over them;
-    -- those of barriers and acknowledgements keep their rules, and so do those of openings and stops,
-    -- of jobs, answers to builds, withdrawn fetches and finalizations; each is in its place; and
-    -- nothing was pruned. The databases hold what was applied. The machine stands for the past
-    -- with the entry; where it is down nothing goes on.
+    -- where it was opened, to which the store's block commits, and else those before. True verdicts
+    -- among the marks are earned over them; false ones and declined proposals have their reasons,
+    -- where the world is trusted; those of barriers and acknowledgements keep their rules, and so do
+    -- those of openings and stops, of jobs, answers to builds, withdrawn fetches and finalizations;
+    -- each is in its place; and nothing was pruned. The databases hold what was applied. Each live
+    -- request and receipt waits for outstanding work, whatever the rule on prunes. The machine stands
+    -- for the past with the entry; where it is down nothing goes on.
     pub record StepBehind : Type 0 where
       pub base_behind : w.States
       pub base_is : base_behind ≡ base_after base now.marks (w.kind.point now.members)
       pub earned : EachMark (TrueIsEarned (setting w stored) base_behind) (Came event ∷ p) now.marks
+      pub reasons : IsTrusted w stored (after_entry p event now.marks)
+          → EachMark (HasItsReason w stored base_behind event now.marks) (Came event ∷ p) now.marks
       pub said : EachMark (IsDurablySaid w) (Came event ∷ p) now.marks
       pub places : EachMark (IsInPlace w stored base_behind) (Came event ∷ p) now.marks
       pub duly : EachMark (IsDulySaid w stored base_behind event now.marks) (Came event ∷ p) now.marks
@@ -59,6 +66,9 @@ module _ {B C I P R D H G U : Type 0} (w : Workings B C I P R D H G U)
       pub holds : Holds (setting w stored) w.kind base_behind (after_entry p event now.marks)
           now.members
       pub pruned : pruned_below (after_entry p event now.marks) ≡ pruned_below p
+      pub waits : (rule : Option (PruneRule w.Targets))
+          → AllWait (setting w stored) (telling_of w.works) w.kind.count rule base_behind
+          (after_entry p event now.marks)
       pub stands : StandsAt w stored base_behind (after_entry p event now.marks)
           (record now { marks = [] })
       pub empty : now.loop.up ≡ false → IsEmpty w now
@@ -79,7 +89,8 @@ module _ {B C I P R D H G U : Type 0} (w : Workings B C I P R D H G U)
       × (b : StepBehind base p entry.event new)
       × EachStands Last b.base_behind (after_entry p entry.event entry.marks) entries
 
-  -- The machine stands for the past, with this register, and its databases hold what was applied.
-  pub record StandsAndHolds (base : w.States) (p : Past B C I) (register : Register) (m : Moment w) : Type 0 where
-    pub stands : Stands w stored base p false register m
-    pub holds : Holds (setting w stored) w.kind base p m.members
+  -- The machine stands for the past, with this register; and as long as it hasn't failed its databases hold what was applied.
+  pub record StandsAndHolds (base : w.States) (p : Past B C I) (failed : Bool) (register : Register)
+      (m : Moment w) : Type 0 where
+    pub stands : Stands w stored base p failed register m
+    pub holds : failed ≡ false → Holds (setting w stored) w.kind base p m.members

@@ -1,14 +1,15 @@
-use Rattle.std.proofs.Common.{sym, ◌∙◌, refl, subst, ap, ℕ, Option, []}
+use Rattle.std.proofs.Common.{[], Bool, false, refl, sym, ◌∙◌, subst}
 use Rattle.stateful_history.specs.Past.{after_all}
-use Rattle.stateful_register.specs.Register.{RegisterStands}
-use Rattle.stateful_actor.specs.Causes.{tally}
-use Rattle.stateful_actor.specs.Driving.{Steps, HasPlayed, HasStood, IsRefused}
 use Rattle.stateful_cache.proofs.Cutting.{one_over, none_over}
-use Rattle.stateful_actor.specs.Workings.{workings, numbered}
-use Rattle.stateful_actor.specs.Moments.{Moment, moment}
-use Rattle.stateful_actor.specs.Doing.{IsStep}
-use Rattle.stateful_actor.proofs.Halting.{HasNotFallen-itself, HasNotFallen-further, IsRefused-since, event_at}
-use Rattle.stateful_actor.proofs.Played.{Register-new, HasPlayed-new, Plays-any, Plays-holds, HasStood-from, Steps-longer, events-push}
+use Rattle.stateful_exec.specs.Workings.{workings}
+use Rattle.stateful_register.proofs.Entries.{RegisterStands-none}
+use Rattle.stateful_processing.specs.Moments.{moment}
+use Rattle.stateful_whole.specs.Stands.{Stands}
+use Rattle.stateful_whole.proofs.HistoryStands.{history-registered, history-leaves}
+use Rattle.stateful_whole.proofs.RefusedBehind.{leaves-behind}
+use Rattle.stateful_actor.specs.Faults.{tally}
+use Rattle.stateful_actor.proofs.Adding.{event_at, events-push, Steps-push}
+use Rattle.stateful_actor.proofs.Counts.{HasNotFallen-itself, HasNotFallen-further}
 use Rattle.stateful_actor.proofs.driving.drive.Goals as goal
 
 pub loop-event-init : goal.loop-event-init
@@ -16,65 +17,101 @@ loop-event-init g c = record {
   all = c.into_iter-event-iterator.ensures.into_iter_gives.0;
   events = rw c.new.ensures.items refl;
   steps = rw c.new.ensures.items refl;
-  played = rw c.new.ensures.items (HasPlayed-new _ _ c.args.stateful.failed c.args.stateful.core c.args.stateful.register _ _ c.requires.new);
-  safe = record { sound = λ up anchor is. let down = c.requires.new.down in absurd cc; none_away = λ none. c.requires.none_away };
+  registered = rw c.new.ensures.items (RegisterStands-none _ c.args.stateful.register c.requires.new.blank);
+  safe = record {
+    none_away = c.requires.none_away;
+    sound = λ works. record { none_away = c.requires.none_away; up = λ up. let down = c.requires.new.down in absurd cc };
+  };
   store = refl;
+  provider = refl;
   working = c.requires.new.working;
-  registered = rw c.new.ensures.items (Register-new (workings g.A.Block.Block.header g.A.Application.works g.A.Databases.DatabaseSet.kind g.A.Databases.DatabaseSet.shows) (g.S.BlockStore.stored c.args.store.now) c.args.stateful.register c.requires.new.blank);
   later = HasNotFallen-itself _;
 }
 
 pub loop-event-preserved : goal.loop-event-preserved
 loop-event-preserved g c =
     let D = g.A.Databases.DatabaseSet in
-    let w = workings g.A.Block.Block.header g.A.Application.works D.kind D.shows in
+    let w = workings g.A.Block.Block.header g.A.Block.Block.context_of g.A.Context.Rounded.round_of g.A.Application.works D.kind D.shows in
     let i = c.loop-event.invariant in
     let was = c.loop-event.driven in
     let now = c.enter.new.driven in
+    let adds = c.in-Ok.ensures.adds in
+    let stepped = rw (i.store, i.provider) at adds.2 in
+    let registers = c.in-Ok.ensures.registers i.registered in
     record {
       all = one_over c.loop-event.yielded _ _ _ _ i.all c.in-Some.ensures.steps.0;
-      events = events-push c.loop-event.driven.history.items _ c.in-Some.event c.in-Ok.ensures.ok.0 _ c.in-Ok.ensures.ok.1 i.events;
-      steps = Steps-longer w (g.S.BlockStore.stored c.args.store.now) _ (moment w was.stateful.core (D.members was.databases) (D.next was.databases) []) was.history.items now.history.items c.in-Some.event now.stateful.core (D.members now.databases) (D.next now.databases) i.steps (c.in-Ok.ensures.may i.registered)
-          (c.in-Ok.ensures.ok.0, c.in-Ok.ensures.ok.1, subst (λ store. IsStep w (g.S.BlockStore.stored store) c.in-Some.event (moment w was.stateful.core (D.members was.databases) (D.next was.databases) []) (moment w now.stateful.core (D.members now.databases) (D.next now.databases) c.in-Ok.ensures.ok.0)) i.store c.in-Ok.ensures.ok.2);
-      played = subst (λ stored. HasPlayed w stored was.history.items was.stateful.failed was.stateful.core was.stateful.register (D.members was.databases) (D.next was.databases) → HasPlayed w stored now.history.items now.stateful.failed now.stateful.core now.stateful.register (D.members now.databases) (D.next now.databases)) (ap g.S.BlockStore.stored i.store) c.in-Ok.ensures.played i.played;
+      events = events-push was.history.items _ c.in-Some.event adds.0 _ adds.1 i.events;
+      steps = rw adds.1
+          (Steps-push w (g.S.BlockStore.stored c.args.store.now) c.args.stateful.provider _ [] _
+          (moment w was.stateful.execution was.stateful.loop (D.members was.databases)
+          (D.next was.databases) []) was.history.items c.in-Some.event was.stateful.register
+          (moment w now.stateful.execution now.stateful.loop (D.members now.databases)
+          (D.next now.databases) adds.0) i.steps registers.0 i.registered stepped);
+      registered = registers.1;
       safe = c.in-Ok.ensures.safe;
-      store = c.in-Ok.ensures.store ∙ i.store;
+      store = c.in-Ok.ensures.same.0 ∙ i.store;
+      provider = c.in-Ok.ensures.same.1 ∙ i.provider;
       working = c.in-Ok.ensures.works;
-      registered = c.in-Ok.ensures.register i.registered;
-      later = HasNotFallen-further _ _ _ i.later (record { application = c.in-Ok.ensures.application; databases = c.in-Ok.ensures.later });
+      later = HasNotFallen-further _ _ _ i.later c.in-Ok.ensures.later;
     }
 
 pub returns-in-Err-clause-refused : goal.returns-in-Err-clause-refused
 returns-in-Err-clause-refused g c =
     let D = g.A.Databases.DatabaseSet in
-    let w = workings g.A.Block.Block.header g.A.Application.works D.kind D.shows in
+    let w = workings g.A.Block.Block.header g.A.Block.Block.context_of g.A.Context.Rounded.round_of g.A.Application.works D.kind D.shows in
     let i = c.loop-event.invariant in
-    let was = c.loop-event.driven in
-    let now = c.enter.new.driven in (
+    let was = c.loop-event.driven in (
       c.in-Some.event,
       c.next.new.self.rest.items,
       rw c.in-Err.ensures.err (event_at c.loop-event.yielded _ _ _ _ _ i.all c.in-Some.ensures.steps.0 i.events),
-      rw c.in-Err.ensures.err (IsRefused-since w g.met.A.Databases.DatabaseSet.laws (g.S.BlockStore.stored c.args.store.now) g.A.Run.Faulty.count g.A.Hook.Faulty.count _ c.loop-event.driven.history.items c.in-Some.event _ _ _ _ _ _ i.later
-          (subst (λ stored. (first : Moment w) → Steps w stored [] first was.history.items (moment w was.stateful.core (D.members was.databases) (D.next was.databases) []) → HasPlayed w stored was.history.items was.stateful.failed was.stateful.core was.stateful.register (D.members was.databases) (D.next was.databases) → RegisterStands (numbered D.kind.count) (after_all [] was.history.items) was.stateful.register → IsRefused w stored g.A.Run.Faulty.count g.A.Hook.Faulty.count first was.history.items c.in-Some.event c.in-Err.error now.stateful.core (D.members now.databases) (tally (g.A.Faulty.count was.stateful.config.application) (D.counted was.databases)) (tally (g.A.Faulty.count now.stateful.config.application) (D.counted now.databases))) (ap g.S.BlockStore.stored i.store) c.in-Err.ensures.refused _ i.steps i.played i.registered)),
+      rw c.in-Err.ensures.err (record {
+        register = was.stateful.register;
+        old = moment w was.stateful.execution was.stateful.loop (D.members was.databases) (D.next was.databases) [];
+        steps = i.steps;
+        registered = i.registered;
+        before = tally (g.A.Faulty.count was.stateful.application) (D.counted was.databases);
+        later = i.later;
+        cause = rw (i.store, i.provider) at c.in-Err.ensures.cause;
+        behind = λ lawful other up.
+            let takes = g.met.A.Application.takes_turns in
+            leaves-behind w g.met.A.Databases.DatabaseSet.laws (g.S.BlockStore.stored c.args.store.now) _ c.args.stateful.provider
+            (λ f states b n is. takes.runs f states b n is) (λ asked states n is. takes.builds asked states n is)
+            _ _ _ _ was.history.items c.requires.new refl c.requires.none_away i.steps was.stateful.register i.registered c.in-Some.event
+            (D.members c.enter.new.driven.databases)
+            ((rw (i.store, i.provider) at c.in-Err.ensures.behind) lawful other up);
+      }),
     )
 
-pub returns-in-Err-clause-played : goal.returns-in-Err-clause-played
-returns-in-Err-clause-played g c = λ names. rw c.in-Err.ensures.err (Plays-any _ _ c.loop-event.driven.history.items _ _ _ _ _ c.loop-event.invariant.played (rw (sym c.in-Err.ensures.err) names))
-
 pub returns-clause-all : goal.returns-clause-all
-returns-clause-all g c = c.loop-event.invariant.events ∙ none_over c.loop-event.yielded _ _ _ c.loop-event.invariant.all c.loop-event.event-iterator.rest.ok.0 c.in-None.ensures.steps.0
-
-pub returns-clause-plays : goal.returns-clause-plays
-returns-clause-plays g c = λ names. Plays-holds _ _ _ _ _ _ _ _ c.loop-event.invariant.played names
+returns-clause-all g c = c.loop-event.invariant.events
+    ∙ none_over c.loop-event.yielded _ _ _ c.loop-event.invariant.all c.loop-event.event-iterator.rest.ok.0 c.in-None.ensures.steps.0
 
 pub returns-clause-stands : goal.returns-clause-stands
-returns-clause-stands g c = HasStood-from _ _ _ _ _ _ _ _ _ _ _ _ _ c.loop-event.invariant.played (λ base stood. stood)
+returns-clause-stands g c =
+    let D = g.A.Databases.DatabaseSet in
+    let w = workings g.A.Block.Block.header g.A.Block.Block.context_of g.A.Context.Rounded.round_of g.A.Application.works D.kind D.shows in
+    let takes = g.met.A.Application.takes_turns in
+    let i = c.loop-event.invariant in
+    λ base names honest. history-registered w g.met.A.Databases.DatabaseSet.laws (g.S.BlockStore.stored c.args.store.now) _ c.args.stateful.provider
+    (λ f states b n is. takes.runs f states b n is) (λ asked states n is. takes.builds asked states n is)
+    _ _ _ _ c.loop-event.driven.history.items c.requires.new refl c.requires.none_away i.steps names honest base
+    false c.loop-event.driven.stateful.register i.registered
 
 pub returns-in-Err-clause-still_stands : goal.returns-in-Err-clause-still_stands
 returns-in-Err-clause-still_stands g c =
     let D = g.A.Databases.DatabaseSet in
-    let w = workings g.A.Block.Block.header g.A.Application.works D.kind D.shows in
+    let w = workings g.A.Block.Block.header g.A.Block.Block.context_of g.A.Context.Rounded.round_of g.A.Application.works D.kind D.shows in
+    let takes = g.met.A.Application.takes_turns in
     let i = c.loop-event.invariant in
     let was = c.loop-event.driven in
-    let now = c.enter.new.driven in
-    rw c.in-Err.ensures.err (subst (λ stored. HasPlayed w stored was.history.items was.stateful.failed was.stateful.core was.stateful.register (D.members was.databases) (D.next was.databases) → HasStood w stored was.history.items now.stateful.failed now.stateful.core now.stateful.register (D.members now.databases) (D.next now.databases)) (ap g.S.BlockStore.stored i.store) c.in-Err.ensures.still i.played)
+    rw c.in-Err.ensures.err
+    (λ base names honest. history-leaves w g.met.A.Databases.DatabaseSet.laws (g.S.BlockStore.stored c.args.store.now) _ c.args.stateful.provider
+    (λ f states b n is. takes.runs f states b n is) (λ asked states n is. takes.builds asked states n is)
+    _ _ _ _ was.history.items c.requires.new refl c.requires.none_away i.steps names honest base
+    false was.stateful.register i.registered _
+    (λ last s. record {
+      stands = c.in-Err.ensures.still (g.S.BlockStore.stored c.args.store.now) last (after_all [] was.history.items)
+          (subst (λ (failed : Bool). Stands w (g.S.BlockStore.stored c.args.store.now) last (after_all [] was.history.items) failed was.stateful.register
+          (moment w was.stateful.execution was.stateful.loop (D.members was.databases) (D.next was.databases) [])) (sym i.working) s.stands);
+      holds = λ works. rw (c.in-Err.ensures.calm works) (s.holds refl);
+    }))

@@ -1,6 +1,8 @@
-use Rattle.std.proofs.Common.{Some, None, sym, ◌∙◌}
+use Rattle.std.proofs.Common.{Some, None, refl, sym, ◌∙◌}
 use Rattle.std.proofs.lemmas.Bool.{false≢true}
+use Rattle.std.proofs.lemmas.Option.{none-some}
 use Rattle.std.proofs.Math.Path.{fun_ext}
+use Rattle.stateful_plain.specs.Whole.{initial}
 use Rattle.stateful_play.specs.declared.play.Databases.TheVariants as databases
 use Rattle.stateful_play.specs.declared.play.Machine.TheVariants as machine
 use Rattle.stateful_play.proofs.Carried.{carried, begins_new}
@@ -12,9 +14,15 @@ returns-in-Ok c =
     let labelled = rw (c.as_slice-2.ensures, c.as_slice-3.ensures.value) at c.in_ok-labels.ensures in
     let stored = rw (c.as_slice-4.ensures.value, c.as_slice-5.ensures) at c.in_ok-store.ensures in
     let events = rw (c.as_slice-6.ensures.value, c.as_slice-7.ensures) at c.in_ok-events.ensures in
-    let new = c.in_ok-stateful.ensures in
-    let begins = begins_new _ _ _ new.down new.jobs new.fetches new.barriers c.empty_database.ensures.empty c.empty_database.ensures.batches in
-    rw c.in_plain.ensures (carried c.args.script.now c.in_ok-planned.planned.items c.in_ok-labels.labels.items c.in-Ok.driven.history (machine.Plain c.in-Ok.driven.stateful) (databases.Plain c.in-Ok.driven.databases) None _ c.in_ok-events.events.items c.requires planned labelled stored events c.in-Ok.ensures.all (record { first = _; last = _; begins = begins; steps = c.in-Ok.ensures.steps }) c.in-Ok.ensures.plays tt)
+    let driven = c.in-Ok.driven in
+    let begins = begins_new _ _ _ (c.in_ok-stateful.ensures _ _) c.empty_database.ensures.empty c.empty_database.ensures.batches in
+    rw c.in_plain.ensures (carried c.args.script.now c.in_ok-planned.planned.items c.in_ok-labels.labels.items driven.history (machine.Plain driven.stateful) (databases.Plain driven.databases) None _ c.in_ok-events.events.items c.requires planned labelled stored events c.in-Ok.ensures.all (record {
+      first = _;
+      begins = begins;
+      last = _;
+      steps = c.in-Ok.ensures.steps;
+      handed = λ e. refl;
+    }) (c.in-Ok.ensures.stands initial) tt)
 
 pub returns : goal.returns
 returns c =
@@ -23,13 +31,20 @@ returns c =
     let stored = rw (c.as_slice-4.ensures.value, c.as_slice-5.ensures) at c.in_ok-store.ensures in
     let events = rw (c.as_slice-6.ensures.value, c.as_slice-7.ensures) at c.in_ok-events.ensures in
     let halt = c.in-Err.halt in
-    let new = c.in_ok-stateful.ensures in
-    let begins = begins_new _ _ _ new.down new.jobs new.fetches new.barriers c.empty_database.ensures.empty c.empty_database.ensures.batches in
-    rw c.in_plain-in-Err.ensures (carried c.args.script.now c.in_ok-planned.planned.items c.in_ok-labels.labels.items halt.driven.history (machine.Plain halt.driven.stateful) (databases.Plain halt.driven.databases) (Some halt.halted) _ c.in_ok-events.events.items c.requires planned labelled stored events (c.in-Err.ensures.part, c.in-Err.ensures.at.1, λ e. false≢true (sym c.if-wants_memory.false ∙ c.wants_memory.ensures.1 e)) (record { first = _; last = _; begins = begins; steps = c.in-Err.ensures.refused.3.steps }) c.in-Err.ensures.played (record {
-      event = c.in-Err.ensures.refused.0;
-      rest = c.in-Err.ensures.refused.1;
-      behind = c.in-Err.ensures.refused.2;
+    let why = c.in-Err.ensures.refused in
+    let begins = begins_new _ _ _ (c.in_ok-stateful.ensures _ _) c.empty_database.ensures.empty c.empty_database.ensures.batches in
+    rw c.in_plain-in-Err.ensures (carried c.args.script.now c.in_ok-planned.planned.items c.in_ok-labels.labels.items halt.driven.history (machine.Plain halt.driven.stateful) (databases.Plain halt.driven.databases) (Some halt.halted) _ c.in_ok-events.events.items c.requires planned labelled stored events (c.in-Err.ensures.part, c.in-Err.ensures.at.1, λ e. false≢true (sym c.if-wants_memory.false ∙ c.wants_memory.ensures.1 e)) (record {
       first = _;
       begins = begins;
-      refused = rw (fun_ext c.empty_database.ensures.counts) at c.in-Err.ensures.refused.3;
+      last = _;
+      steps = why.3.steps;
+      handed = λ e. absurd (none-some _ (sym e));
+    }) (c.in-Err.ensures.still_stands initial) (record {
+      event = why.0;
+      rest = why.1;
+      behind = why.2;
+      first = _;
+      begins = begins;
+      refused = rw (fun_ext c.empty_database.ensures.counts) at why.3;
+      works = c.in-Err.ensures.still_works;
     }))

@@ -2,7 +2,8 @@ use Rattle.std.proofs.Common.{rules, Err, ap, inr}
 use Rattle.stateful_exec.specs.Workings.{workings}
 use Rattle.stateful_processing.specs.Errors.{error_of_set}
 use Rattle.stateful_processing.specs.Moments.{executing}
-use Rattle.stateful_processing.proofs.Handing.{converted}
+use Rattle.stateful_processing.proofs.Handing.{converted, err_holds}
+use Rattle.stateful_processing.proofs.Leaving.{left_applied}
 use Rattle.stateful_processing.proofs.Finalizations.{fault_applying, applies_block}
 use Rattle.stateful_processing.proofs.finalizing.apply.Goals as goal
 
@@ -28,3 +29,19 @@ returns-clause-ok g c =
     (g.A.Databases.DatabaseSet.next c.args.databases.now) (g.A.Databases.DatabaseSet.next c.apply.new.self) c.args.marks.now.items c.push.new.self.items
     c.in_ok-batch.batch c.in_ok-batch.captured c.in_ok-batch.ensures.ok c.in_ok-batch.ensures.build o.ok o.here o.tokens o.next
     c.height.ensures c.applied.ensures.applied c.applied.ensures.no_receipt_yet (search rules)
+
+pub returns-in_err-share-clause-left : goal.returns-in_err-share-clause-left
+returns-in_err-share-clause-left g c =
+    let w = workings g.A.Block.Block.header g.A.Block.Block.context_of g.A.Context.Rounded.round_of g.A.Application.works g.A.Databases.DatabaseSet.kind g.A.Databases.DatabaseSet.shows in
+    err_holds c.from_residual-in_err-share.result
+    (inr (left_applied w g.met.A.Databases.DatabaseSet.laws c.args.front.block (executing c.args.handler.now) (executing c.advance.new.self)
+    (g.A.Databases.DatabaseSet.members c.args.databases.now) (g.A.Databases.DatabaseSet.members c.apply.new.self)
+    c.in_ok-batch.batch c.in_ok-batch.captured c.in_ok-batch.ensures.ok c.in_ok-apply.ensures.ok))
+
+pub returns-in_err-push-clause-left : goal.returns-in_err-push-clause-left
+returns-in_err-push-clause-left g c =
+    let w = workings g.A.Block.Block.header g.A.Block.Block.context_of g.A.Context.Rounded.round_of g.A.Application.works g.A.Databases.DatabaseSet.kind g.A.Databases.DatabaseSet.shows in
+    err_holds c.from_residual-in_err-push.result
+    (inr (left_applied w g.met.A.Databases.DatabaseSet.laws c.args.front.block (executing c.args.handler.now) (executing c.advance.new.self)
+    (g.A.Databases.DatabaseSet.members c.args.databases.now) (g.A.Databases.DatabaseSet.members c.apply.new.self)
+    c.in_ok-batch.batch c.in_ok-batch.captured c.in_ok-batch.ensures.ok c.in_ok-apply.ensures.ok))

@@ -1,7 +1,8 @@
 use Rattle.std.proofs.Common.{◌∙◌, sym, refl, inr, Some}
 use Rattle.stateful_exec.specs.Workings.{workings}
 use Rattle.stateful_processing.specs.Rules.{applies}
-use Rattle.stateful_processing.proofs.Handing.{converted}
+use Rattle.stateful_processing.proofs.Handing.{converted, err_holds}
+use Rattle.stateful_processing.proofs.Leaving.{left_by_rule}
 use Rattle.stateful_processing.proofs.Finalizations.{applies_with, fault_applied, counts_once, quiet_waiting}
 use Rattle.stateful_processing.proofs.Fronts.{at_ran, begun_isnt_ran, begun_isnt_advanced, some_awaited}
 use Rattle.stateful_processing.proofs.Rooms.{has_room}
@@ -44,3 +45,10 @@ returns-in_ok-apply-in-Ran-clause-ok g c = λ provider.
     let w = workings g.A.Block.Block.header g.A.Block.Block.context_of g.A.Context.Rounded.round_of g.A.Application.works g.A.Databases.DatabaseSet.kind g.A.Databases.DatabaseSet.shows in
     let ran = at_ran w c.args.processing.now.durability c.args.front c.args.handler.now.front c.requires.up.front (sym c.progress_of.ensures ∙ c.in-Ran.is) in
     applies c.requires.finalizing ran.2 (inr (ran.0, ran.1)) (applies_with w c.args.front _ _ (Some c.args.front) c.in_ok-apply-in-Ran.ensures.ok)
+
+pub returns-in_err-apply-in-Ran-clause-left : goal.returns-in_err-apply-in-Ran-clause-left
+returns-in_err-apply-in-Ran-clause-left g c =
+    let w = workings g.A.Block.Block.header g.A.Block.Block.context_of g.A.Context.Rounded.round_of g.A.Application.works g.A.Databases.DatabaseSet.kind g.A.Databases.DatabaseSet.shows in
+    let ran = at_ran w c.args.processing.now.durability c.args.front c.args.handler.now.front c.requires.up.front (sym c.progress_of.ensures ∙ c.in-Ran.is) in
+    err_holds c.from_residual-in_err-apply-in-Ran.result
+    (left_by_rule w c.args.front _ _ c.requires.finalizing (inr (ran.0, ran.1)) c.in_err-apply-in-Ran.ensures.left)

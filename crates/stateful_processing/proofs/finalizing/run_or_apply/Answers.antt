@@ -4,6 +4,7 @@ use Rattle.stateful_exec.specs.Workings.{workings}
 use Rattle.stateful_processing.specs.Causes.{running}
 use Rattle.stateful_processing.specs.Rules.{applies, runs}
 use Rattle.stateful_processing.proofs.Handing.{converted}
+use Rattle.stateful_processing.proofs.Leaving.{left_by_rule}
 use Rattle.stateful_processing.proofs.Finalizations.{is_cached, not_cached, applies_with, fault_applied}
 use Rattle.stateful_processing.proofs.finalizing.run_or_apply.Goals as goal
 
@@ -36,3 +37,11 @@ returns-in_ok-run-clause-ok g c = λ stored provider.
     let uncached = not_cached c.args.handler.now.state.cache c.digest.result c.args.front.block.digest c.cached.result
     c.digest.ensures c.cached.ensures c.if-cached.false in
     runs c.requires.finalizing c.requires.begun c.requires.idle uncached (c.in_ok-run.ensures.ok (record c.args.processing.now { front = Some c.args.front }))
+
+pub returns-then-cached-clause-left : goal.returns-then-cached-clause-left
+returns-then-cached-clause-left g c =
+    let w = workings g.A.Block.Block.header g.A.Block.Block.context_of g.A.Context.Rounded.round_of g.A.Application.works g.A.Databases.DatabaseSet.kind g.A.Databases.DatabaseSet.shows in
+    let cached = is_cached c.args.handler.now.state.cache c.digest.result c.args.front.block.digest c.cached.result
+    c.digest.ensures c.cached.ensures c.if-cached.true in
+    MatchResult-weaker c.apply.result c.apply.ensures.left (λ x p. p)
+    (λ e left. left_by_rule w c.args.front _ _ c.requires.finalizing (inl (c.requires.begun, c.requires.idle, cached)) left)

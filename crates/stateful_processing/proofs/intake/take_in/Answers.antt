@@ -2,6 +2,7 @@ use Rattle.std.proofs.Common.{Contains, sym, ◌∙◌, refl, subst, arith}
 use Rattle.stateful_processing.specs.Intake.{enters, cancels, fetched, turns, flushes, stops, memory, fetching, flushing}
 use Rattle.stateful_processing.specs.Moments.{executing}
 use Rattle.stateful_processing.proofs.Intakes.{on_ok, on_err, ok_none, err_to, within_awaited, token_awaited, idles}
+use Rattle.stateful_processing.proofs.Handing.{err_holds}
 use Rattle.stateful_processing.proofs.intake.take_in.Goals as goal
 
 pub returns-in_err-answer-in-Fetched-clause-fault : goal.returns-in_err-answer-in-Fetched-clause-fault
@@ -31,6 +32,7 @@ returns-in_err-message-in_default g c =
     record {
       ok = ok_none c.from_residual-in_err-message-in_default.result _ c.from_residual-in_err-message-in_default.ensures.0;
       fault = err_to c.from_residual-in_err-message-in_default.result _ _ c.from_residual-in_err-message-in_default.ensures.1 (λ e is. memory is);
+      left = err_holds c.from_residual-in_err-message-in_default.result (λ i s has. has);
       none_away = λ h. h;
       later = λ n. omega arith;
       numbers = (omega arith, omega arith);
@@ -43,6 +45,7 @@ returns-in_err-push-in_default g c =
     record {
       ok = ok_none c.from_residual-in_err-push-in_default.result _ c.from_residual-in_err-push-in_default.ensures.0;
       fault = err_to c.from_residual-in_err-push-in_default.result _ _ c.from_residual-in_err-push-in_default.ensures.1 (λ e is. memory is);
+      left = err_holds c.from_residual-in_err-push-in_default.result (λ i s has. has);
       none_away = λ h. h;
       later = λ n. omega arith;
       numbers = (omega arith, omega arith);
@@ -84,6 +87,7 @@ returns-in_ok-push-in_default g c =
     record {
       ok = enters (sym c.in_ok-message-in_default.ensures ∙ c.in-Some.is) (rw c.in_ok-push-in_default.ensures.ok refl);
       fault = tt;
+      left = tt;
       none_away = λ h. h;
       later = λ n. omega arith;
       numbers = (omega arith, omega arith);
@@ -97,6 +101,7 @@ returns-in_default-2 g c =
       ok = idles _ _ _ _ c.args.event.now (sym c.in_ok-message-in_default.ensures ∙ c.in_default-2.is)
           c.in_default.not-Cancel c.in_default.not-Fetched c.in_default.not-Turn c.in_default.not-Flushed c.in_default.not-Stop;
       fault = tt;
+      left = tt;
       none_away = λ h. h;
       later = λ n. omega arith;
       numbers = (omega arith, omega arith);

@@ -1,115 +1,113 @@
-use Rattle.std.proofs.Common.{rules, refl, ◌≡◌, true, sym, ◌∙◌, false, inl, inr, None, ◌≢◌, [], Err, ap}
-use Rattle.stateful_actor.specs.Stepping.{changes_nothing}
-use Rattle.stateful_actor.specs.Refusing.{failed_up}
-use Rattle.stateful_actor.proofs.CodeCauses.{is_true, IsCause-anchor}
-use Rattle.stateful_actor.specs.Workings.{workings}
-use Rattle.stateful_actor.specs.Moments.{moment}
-use Rattle.stateful_actor.proofs.Apart.{refused-not_done, refused-cause}
-use Rattle.stateful_actor.proofs.Refused.{HoldsBehind-same}
-use Rattle.stateful_actor.proofs.Stepping.{restart-refused, Sound-working, Stands-faulted, NoneAway-faulted}
-use Rattle.stateful_actor.proofs.stateful.Stateful.step.Goals.{else-self-via-then-self+else-not-is_restart, else-self-via-else-self, then-not-changes_nothing, else-not-changes_nothing}
+use Rattle.std.proofs.Common.{[], refl, true, sym, ◌∙◌, ⊎_elim, true≢false}
+use Rattle.stateful_exec.specs.Workings.{workings}
+use Rattle.stateful_processing.proofs.Handing.{converted}
+use Rattle.stateful_processing.proofs.SoundingKept.{Sound-kept}
+use Rattle.stateful_processing.specs.Moments.{executing, moment}
+use Rattle.stateful_whole.specs.Stands.{StandsAsWell}
+use Rattle.stateful_whole.proofs.LeftFurther.{step-leaves, leaves-further}
+use Rattle.stateful_whole.proofs.StepStands.{step-stands}
+use Rattle.stateful_whole.proofs.StillStands.{still-stands}
+use Rattle.stateful_actor.proofs.Arms.{refused_at_once}
+use Rattle.stateful_actor.proofs.ResultsOfCalls.{on_err, if_err, in_ok, in_err}
 use Rattle.stateful_actor.proofs.stateful.Stateful.step.Goals as goal
 
-pub take-requires-clause-sound : goal.take-requires-clause-sound
-take-requires-clause-sound g c =
-    let working : c.is_working.result ≡ true = search rules in
-    Sound-working _ _ _ c.args.self.now.failed c.args.self.now.core (c.is_working.ensures.0 working) c.requires.sound
+pub returns-in_err-admit-clause-cause : goal.returns-in_err-admit-clause-cause
+returns-in_err-admit-clause-cause g c =
+    let D = g.A.Databases.DatabaseSet in
+    let w = workings g.A.Block.Block.header g.A.Block.Block.context_of g.A.Context.Rounded.round_of g.A.Application.works D.kind D.shows in
+    rw (← c.self.view_is)
+    (converted _ c.before.from_residual.result c.in_err-admit.field-0.0 c.before.from_residual.ensures.1
+    (refused_at_once w _ _ _ c.self.inside.failed c.self.inside.register c.args.event _ _ _ _ c.in_err-admit.field-0.0 c.in_err-admit.ensures.one c.in_err-admit.ensures.failed c.in_err-admit.ensures.unlawful))
 
-pub returns-in-Ok-clause-takes : goal.returns-in-Ok-clause-takes
-returns-in-Ok-clause-takes g c = λ stored base p names stands.
-    let working : c.is_working.result ≡ true = search rules in
-    let allowed : c.allows.result ≡ true = search rules in
-    let stood = stands (c.is_working.ensures.0 working) in
-    c.in-Ok.ensures.takes stored base p names (sym (c.allows.ensures _ p stood.0) ∙ allowed) (λ up. stood)
-
-pub returns-clause-refused : goal.returns-clause-refused
-returns-clause-refused g c = λ stored base p stands. elim c.if-not-changes_nothing.branch [
-  | then-not-changes_nothing w ↦ rw w.self-is (Stands-faulted _ stored base p _ c.args.self.now.core c.take.new.self.core _ _ _ _ _ _ _ w.still_up-self.ensures c.in-Err.ensures.err c.args.self.now.failed stands)
-  | else-not-changes_nothing w ↦
-      let nothing : changes_nothing c.in-Err.error ≡ true = search rules in
-      let same = c.in-Err.ensures.unchanged nothing in
-      rw (w.self-is, same.0, same.1) stands
-]
+pub returns-clause-does : goal.returns-clause-does
+returns-clause-does g c = rw (← c.self.view_is) (rw c.new-marks.ensures.items at (in_ok _ _ c.in-Ok.is c.act-acted.ensures.ok))
 
 pub returns-clause-safe : goal.returns-clause-safe
-returns-clause-safe g c = elim c.if-not-changes_nothing.branch [
-  | then-not-changes_nothing w ↦ rw w.self-is (record {
-    sound = λ e. cc;
-    none_away = λ none. NoneAway-faulted _ _ _ w.still_up-self.ensures c.in-Err.ensures.err none;
-  })
-  | else-not-changes_nothing w ↦
-      let nothing : changes_nothing c.in-Err.error ≡ true = search rules in
-      let same = c.in-Err.ensures.unchanged nothing in
-      rw (w.self-is, same.0, same.1) c.requires
-]
+returns-clause-safe g c =
+    let D = g.A.Databases.DatabaseSet in
+    let w = workings g.A.Block.Block.header g.A.Block.Block.context_of g.A.Context.Rounded.round_of g.A.Application.works D.kind D.shows in
+    record {
+      none_away = c.act-acted.ensures.none_away;
+      sound = λ works. Sound-kept w _ _
+          (record { anchor = refl; reached = refl; members = refl; up = refl; front = refl; durability = refl; barriers = refl }) (in_ok _ _ c.in-Ok.is c.act-acted.ensures.sound);
+    }
 
-pub returns-then-not-is_working-clause-refuses : goal.returns-then-not-is_working-clause-refuses
-returns-then-not-is_working-clause-refuses g c = λ refusal.
-    let stops : c.is_working.result ≡ false = search rules in
-    let up : c.args.self.now.core.anchor ≢ None = λ none. let works = c.is_working.ensures.1 (inr none) in cc in
-    restart-refused g.A.Block.Block.header c.args.self.now.core (g.S.BlockStore.stored c.args.store.now) c.args.self.now.core.anchor c.args.event up (elim c.else-self.branch [
-      | else-self-via-then-self+else-not-is_restart w ↦ let restarts : w.is_restart.result ≡ true = search rules in sym w.is_restart.ensures ∙ restarts
-      | else-self-via-else-self w ↦
-          let working : c.args.self.now.failed ≡ false = search rules in
-          let works = c.is_working.ensures.1 (inl working) in
-          absurd cc
-    ])
+pub returns-clause-stands : goal.returns-clause-stands
+returns-clause-stands g c =
+    let D = g.A.Databases.DatabaseSet in
+    let w = workings g.A.Block.Block.header g.A.Block.Block.context_of g.A.Context.Rounded.round_of g.A.Application.works D.kind D.shows in
+    let takes = g.met.A.Application.takes_turns in
+    rw (← c.self.view_is) (λ stored base p s stored_is names honest.
+    step-stands w g.met.A.Databases.DatabaseSet.laws stored (g.S.BlockStore.stored c.args.store.now) _ _
+    (λ f states b n is. takes.runs f states b n is) (λ asked states n is. takes.builds asked states n is)
+    base p stored_is c.args.event _ _ _ _ _ c.in_ok-admit.ensures.works s
+    (c.in_ok-admit.ensures.yes p s.registered) (rw c.new-marks.ensures.items at (in_ok _ _ c.in-Ok.is c.act-acted.ensures.ok))
+    ((rw (c.count.ensures, c.as_slice.ensures.value) at c.in_ok-record.ensures.ok) p s.registered) names honest)
 
-pub returns-then-not-is_working-clause-cause : goal.returns-then-not-is_working-clause-cause
-returns-then-not-is_working-clause-cause g c =
-    let stops : c.is_working.result ≡ false = search rules in
-    let failed : c.args.self.now.failed ≡ true = is_true c.args.self.now.failed (λ working. let works = c.is_working.ensures.1 (inl working) in cc) in
-    let up : c.args.self.now.core.anchor ≢ None = λ none. let works = c.is_working.ensures.1 (inr none) in cc in
-    failed_up refl failed up (elim c.else-self.branch [
-      | else-self-via-then-self+else-not-is_restart w ↦ let restarts : w.is_restart.result ≡ true = search rules in sym w.is_restart.ensures ∙ restarts
-      | else-self-via-else-self w ↦ let working : c.args.self.now.failed ≡ false = search rules in absurd cc
-    ])
+pub returns-in_err-admit-clause-still : goal.returns-in_err-admit-clause-still
+returns-in_err-admit-clause-still g c =
+    let D = g.A.Databases.DatabaseSet in
+    let w = workings g.A.Block.Block.header g.A.Block.Block.context_of g.A.Context.Rounded.round_of g.A.Application.works D.kind D.shows in
+    let was = c.self.inside in
+    let old = moment w (executing was.handler) was.processing (D.members c.args.databases.now) (D.next c.args.databases.now) [] in
+    let same : StandsAsWell w was.failed was.register old was.failed was.register old = λ stored base p s. s in
+    rw (← c.self.view_is) (on_err _ same)
 
-pub returns-then-not-allows-clause-behind : goal.returns-then-not-allows-clause-behind
-returns-then-not-allows-clause-behind g c = λ stored base p names working stands up.
-    HoldsBehind-same _ g.met.A.Databases.DatabaseSet.laws stored _ base p c.args.self.now.core _ _ (stands (inl working)).1 c.args.event up
+pub returns-in-Err-clause-still : goal.returns-in-Err-clause-still
+returns-in-Err-clause-still g c =
+    let D = g.A.Databases.DatabaseSet in
+    let w = workings g.A.Block.Block.header g.A.Block.Block.context_of g.A.Context.Rounded.round_of g.A.Application.works D.kind D.shows in
+    let was = c.self.inside in
+    let old = moment w (executing was.handler) was.processing (D.members c.args.databases.now) (D.next c.args.databases.now) [] in
+    let now = moment w (executing c.act-acted.new.handler) c.act-acted.new.processing (D.members c.act-acted.new.databases) (D.next c.act-acted.new.databases) [] in
+    let still : StandsAsWell w was.failed was.register old true was.register now = λ stored base p s.
+    still-stands w p old now c.act-acted.ensures.numbers c.act-acted.ensures.barrier c.act-acted.ensures.none_away stored base was.failed true
+    was.register was.register refl refl s.registered s in
+    rw (← c.self.view_is) still
 
-pub returns-in-Ok-clause-idle : goal.returns-in-Ok-clause-idle
-returns-in-Ok-clause-idle g c = λ failed other. elim c.else-self.branch [
-  | else-self-via-then-self+else-not-is_restart w ↦ let restarts : w.is_restart.result ≡ true = search rules in let same = w.is_restart.ensures in absurd cc
-  | else-self-via-else-self w ↦ let working : c.args.self.now.failed ≡ false = search rules in absurd cc
-]
+pub returns-in_err-record-clause-still : goal.returns-in_err-record-clause-still
+returns-in_err-record-clause-still g c =
+    let D = g.A.Databases.DatabaseSet in
+    let w = workings g.A.Block.Block.header g.A.Block.Block.context_of g.A.Context.Rounded.round_of g.A.Application.works D.kind D.shows in
+    let was = c.self.inside in
+    let old = moment w (executing was.handler) was.processing (D.members c.args.databases.now) (D.next c.args.databases.now) [] in
+    let now = moment w (executing c.act-acted.new.handler) c.act-acted.new.processing (D.members c.act-acted.new.databases) (D.next c.act-acted.new.databases) [] in
+    let still : StandsAsWell w was.failed was.register old true c.record.new.self now = λ stored base p s.
+    still-stands w p old now c.act-acted.ensures.numbers c.act-acted.ensures.barrier c.act-acted.ensures.none_away stored base was.failed true
+    was.register c.record.new.self refl refl ((rw c.count.ensures at c.in_err-record.ensures.err) p s.registered) s in
+    rw (← c.self.view_is) (on_err _ still)
 
-pub returns-clause-idle : goal.returns-clause-idle
-returns-clause-idle g c = λ failed other. elim c.else-self.branch [
-  | else-self-via-then-self+else-not-is_restart w ↦ let restarts : w.is_restart.result ≡ true = search rules in let same = w.is_restart.ensures in absurd cc
-  | else-self-via-else-self w ↦ let working : c.args.self.now.failed ≡ false = search rules in absurd cc
-]
+pub returns-in_err-admit-clause-behind : goal.returns-in_err-admit-clause-behind
+returns-in_err-admit-clause-behind g c =
+    rw (← c.self.view_is)
+    (converted _ c.from_residual.result c.in_err-admit.field-0.0 c.from_residual.ensures.1
+    (λ lawful working other.
+    absurd (⊎_elim (λ is. true≢false (sym (c.in_err-admit.ensures.failed is).0 ∙ working)) (λ is. lawful is) c.in_err-admit.ensures.one)))
 
-pub returns-clause-cause : goal.returns-clause-cause
-returns-clause-cause g c = elim c.if-not-changes_nothing.branch [
-  | then-not-changes_nothing w ↦ rw w.self-is (IsCause-anchor _ _ _ _ _ c.take.new.self.core _ _ _ _ _ _ _ _ c.in-Err.ensures.cause)
-  | else-not-changes_nothing w ↦ rw w.self-is c.in-Err.ensures.cause
-]
+pub returns-in-Err-clause-behind : goal.returns-in-Err-clause-behind
+returns-in-Err-clause-behind g c =
+    let D = g.A.Databases.DatabaseSet in
+    let w = workings g.A.Block.Block.header g.A.Block.Block.context_of g.A.Context.Rounded.round_of g.A.Application.works D.kind D.shows in
+    let takes = g.met.A.Application.takes_turns in
+    rw (← c.self.view_is)
+    (λ lawful working other.
+    let left = (rw c.new-marks.ensures.items at (in_err _ _ c.in-Err.is c.act-acted.ensures.left)) other in
+    leaves-further w g.met.A.Databases.DatabaseSet.laws (g.S.BlockStore.stored c.args.store.now) _ _
+    (λ f states b n is. takes.runs f states b n is) (λ asked states n is. takes.builds asked states n is)
+    c.args.event other _ _ (c.in_ok-admit.ensures.up other) refl (λ p stands. c.in_ok-admit.ensures.yes p stands)
+    (D.members c.act-acted.new.databases) left.0 left.1)
 
-pub returns-clause-able : goal.returns-clause-able
-returns-clause-able g c = λ is stored base p stands.
-    let working : c.is_working.result ≡ true = search rules in
-    let allowed : c.allows.result ≡ true = search rules in
-    let stood = stands (c.is_working.ensures.0 working) in
-    absurd (c.in-Err.ensures.able is stored base p (sym (c.allows.ensures _ p stood.0) ∙ allowed) (λ up. stood))
-
-pub returns-clause-behind : goal.returns-clause-behind
-returns-clause-behind g c = λ stored base p names working stands up.
-    let stood = stands (inl working) in
-    c.in-Err.ensures.behind stored base p names (λ same. stood) up
-
-pub returns-in-Ok-clause-refused_so : goal.returns-in-Ok-clause-refused_so
-returns-in-Ok-clause-refused_so g c = λ p e stands may works is refuses.
-    let w = workings g.A.Block.Block.header g.A.Application.works g.A.Databases.DatabaseSet.kind g.A.Databases.DatabaseSet.shows in
-    let old = moment w c.args.self.now.core (g.A.Databases.DatabaseSet.members c.args.databases.now) (g.A.Databases.DatabaseSet.next c.args.databases.now) [] in
-    absurd (refused-not_done w (g.S.BlockStore.stored c.args.store.now) c.args.event e is old refuses _ c.in-Ok.ensures.does)
-
-pub returns-clause-refused_so : goal.returns-clause-refused_so
-returns-clause-refused_so g c = λ p e stands may works is refuses.
-    let w = workings g.A.Block.Block.header g.A.Application.works g.A.Databases.DatabaseSet.kind g.A.Databases.DatabaseSet.shows in
-    let old = moment w c.args.self.now.core (g.A.Databases.DatabaseSet.members c.args.databases.now) (g.A.Databases.DatabaseSet.next c.args.databases.now) [] in
-    elim (refused-cause w (g.S.BlockStore.stored c.args.store.now) c.args.event e is old refuses _ _ c.args.self.now.failed c.args.self.now.register _ _ _ _ p stands may works c.in-Err.error c.in-Err.ensures.cause) [
-      | inl same ↦ inl (ap Err same)
-      | inr out ↦ inr (ap Err out)
-    ]
+pub returns-in_err-record-clause-behind : goal.returns-in_err-record-clause-behind
+returns-in_err-record-clause-behind g c =
+    let D = g.A.Databases.DatabaseSet in
+    let w = workings g.A.Block.Block.header g.A.Block.Block.context_of g.A.Context.Rounded.round_of g.A.Application.works D.kind D.shows in
+    let takes = g.met.A.Application.takes_turns in
+    rw (← c.self.view_is)
+    (if_err c.from_residual-in_err-record.result _
+    (λ e lawful working other.
+    let left = step-leaves w (g.S.BlockStore.stored c.args.store.now) _ _ c.args.event _ _ _ other
+    (rw c.new-marks.ensures.items at (in_ok _ _ c.in-Ok.is c.act-acted.ensures.ok)) in
+    leaves-further w g.met.A.Databases.DatabaseSet.laws (g.S.BlockStore.stored c.args.store.now) _ _
+    (λ f states b n is. takes.runs f states b n is) (λ asked states n is. takes.builds asked states n is)
+    c.args.event other _ _ (c.in_ok-admit.ensures.up other) refl (λ p stands. c.in_ok-admit.ensures.yes p stands)
+    (D.members c.act-acted.new.databases) left.0 left.1))

@@ -1,0 +1,53 @@
+use Rattle.std.proofs.Common.{[], arith}
+use Rattle.stateful_exec.specs.Workings.{workings}
+use Rattle.stateful_processing.specs.Moments.{executing, moment}
+use Rattle.stateful_processing.proofs.SoundingOpenings.{opens_sound}
+use Rattle.stateful_actor.proofs.restarting.restart.Goals as goal
+
+pub returns-in_err-open-clause-numbers : goal.returns-in_err-open-clause-numbers
+returns-in_err-open-clause-numbers g c =
+    let D = g.A.Databases.DatabaseSet in
+    let cleared = c.clear.ensures.cleared (D.members c.args.databases.now) (D.next c.args.databases.now) [] in
+    let a = cleared.numbers in
+    let b = c.in_err-open.ensures.numbers in (omega arith, omega arith)
+
+pub returns-in_err-open-clause-barrier : goal.returns-in_err-open-clause-barrier
+returns-in_err-open-clause-barrier g c =
+    let D = g.A.Databases.DatabaseSet in
+    let cleared = c.clear.ensures.cleared (D.members c.args.databases.now) (D.next c.args.databases.now) [] in
+    let a = cleared.numbers in
+    let b = c.in_err-open.ensures.barrier in omega arith
+
+pub returns-clause-ok : goal.returns-clause-ok
+returns-clause-ok g c =
+    let D = g.A.Databases.DatabaseSet in
+    let w = workings g.A.Block.Block.header g.A.Block.Block.context_of g.A.Context.Rounded.round_of g.A.Application.works D.kind D.shows in
+    record {
+      cleared = moment w (executing c.clear.new.handler) c.clear.new.processing (D.members c.args.databases.now)
+          (D.next c.args.databases.now) c.end_work.new.marks.items;
+      work = c.in_ok-end_work.ensures;
+      clears = c.clear.ensures.cleared (D.members c.args.databases.now) (D.next c.args.databases.now) c.end_work.new.marks.items;
+      opens = c.in_ok-open.ensures.ok;
+    }
+
+pub returns-clause-sound : goal.returns-clause-sound
+returns-clause-sound g c =
+    let D = g.A.Databases.DatabaseSet in
+    let w = workings g.A.Block.Block.header g.A.Block.Block.context_of g.A.Context.Rounded.round_of g.A.Application.works D.kind D.shows in
+    let cleared = c.clear.ensures.cleared (D.members c.args.databases.now) (D.next c.args.databases.now) [] in
+    opens_sound w g.met.A.Databases.DatabaseSet.laws
+    (g.S.BlockStore.stored c.args.store.now) c.args.floor.now c.args.keep.now _ _ c.in_ok-open.ensures.ok cleared.barriers cleared.front.0
+
+pub returns-clause-numbers : goal.returns-clause-numbers
+returns-clause-numbers g c =
+    let D = g.A.Databases.DatabaseSet in
+    let cleared = c.clear.ensures.cleared (D.members c.args.databases.now) (D.next c.args.databases.now) [] in
+    let a = cleared.numbers in
+    let b = c.in_ok-open.ensures.numbers in (omega arith, omega arith)
+
+pub returns-clause-barrier : goal.returns-clause-barrier
+returns-clause-barrier g c =
+    let D = g.A.Databases.DatabaseSet in
+    let cleared = c.clear.ensures.cleared (D.members c.args.databases.now) (D.next c.args.databases.now) [] in
+    let a = cleared.numbers in
+    let b = c.in_ok-open.ensures.barrier in omega arith

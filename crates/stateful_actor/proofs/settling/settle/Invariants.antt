@@ -1,0 +1,30 @@
+use Rattle.std.proofs.Common.{◌≤◌}
+use Rattle.stateful_exec.specs.Starting.{Rises}
+use Rattle.stateful_exec.specs.Workings.{workings}
+use Rattle.stateful_processing.specs.Moments.{executing, moment}
+use Rattle.stateful_processing.specs.Rules.{Along}
+use Rattle.stateful_processing.specs.Sound.{Sound}
+use Rattle.stateful_processing.proofs.Falling.{weight}
+use Rattle.stateful_actor.specs.Faults.{tally, HasNotFallen}
+use Rattle.stateful_actor.proofs.settling.settle.Given as goal
+
+abbrev pub invariant-rules : goal.invariant-rules
+invariant-rules g l =
+    let D = g.A.Databases.DatabaseSet in
+    let w = workings g.A.Block.Block.header g.A.Block.Block.context_of g.A.Context.Rounded.round_of g.A.Application.works D.kind D.shows in
+    record {
+      along : Along w (g.S.BlockStore.stored l.store) l.provider
+          (moment w (executing l.fn.handler) l.fn.processing (D.members l.fn.databases) (D.next l.fn.databases) l.fn.marks.items)
+          (moment w (executing l.handler) l.processing (D.members l.databases) (D.next l.databases) l.marks.items);
+      sound : Sound w (moment w (executing l.handler) l.processing (D.members l.databases) (D.next l.databases) l.marks.items);
+      numbers : Rises l.fn.handler.state l.handler.state;
+      later : HasNotFallen (tally (g.A.Faulty.count l.fn.handler.application) (D.counted l.fn.databases))
+          (tally (g.A.Faulty.count l.handler.application) (D.counted l.databases));
+      barrier : l.fn.processing.next_barrier ≤ l.processing.next_barrier;
+    }
+
+abbrev pub decreases-rules : goal.decreases-rules
+decreases-rules g l =
+    let D = g.A.Databases.DatabaseSet in
+    let w = workings g.A.Block.Block.header g.A.Block.Block.context_of g.A.Context.Rounded.round_of g.A.Application.works D.kind D.shows in
+    weight w (moment w (executing l.handler) l.processing (D.members l.databases) (D.next l.databases) l.marks.items)

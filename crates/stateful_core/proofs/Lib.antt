@@ -1,6 +1,0 @@
-pub mod Deciding
-pub mod Adding
-pub mod Counts
-pub mod Arms
-pub mod OtherErrors
-pub mod Refused
