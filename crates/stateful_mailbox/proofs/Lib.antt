@@ -9,3 +9,7 @@ pub mod Seeing
 pub mod Moving
 pub mod Stepping
 pub mod Fates
+pub mod Following
+pub mod Replying
+pub mod Staying
+pub mod Laws

@@ -86,9 +86,14 @@ module _ {B C I : Type 0} where
         stands = rest.stands ∙ ap (λ s. fold (noted_as t) s notes) (noted_seen t m note sound);
       }
 
+  -- marks leave the numbers of tickets
+  pub answered_number : (notes : List (Note B)) (m : Mail B C I) → (fold noted m notes).next_ticket ≡ m.next_ticket
+  answered_number [] m = refl
+  answered_number (note ∷ notes) m = answered_number notes (noted m note) ∙ noted_number m note
+
   -- ---- what a call leaves
 
-  hands_tickets : (m next : Mail B C I) (found : Option (Message B C I)) → HandsOut m found next → (next.tickets ≡ m.tickets) × (next.next_ticket ≡ m.next_ticket)
+  pub hands_tickets : (m next : Mail B C I) (found : Option (Message B C I)) → HandsOut m found next → (next.tickets ≡ m.tickets) × (next.next_ticket ≡ m.next_ticket)
   hands_tickets m next found (mailbox.nothing all empty) = (refl, refl)
   hands_tickets m next found (mailbox.message passed front all waits) = (refl, refl)
 
