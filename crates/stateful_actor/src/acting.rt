@@ -8,6 +8,7 @@ ghost use Rattle.stateful_actor.specs.Faults.{tally, FaultsStep};
 ghost use Rattle.stateful_history.specs.declared.mark.Mark.{Mark as Marked};
 ghost use Rattle.stateful_whole.specs.Left.{LeavesPlay};
 ghost use Rattle.stateful_whole.specs.Machine.{is_restart};
+ghost use Rattle.stateful_whole.specs.Media.{LeavesRestart};
 ghost use Rattle.stateful_whole.specs.Steps.{IsStep};
 
 use crate::playing::play;
@@ -64,6 +65,8 @@ pub(crate) fn act<A: Application + Drop, S: BlockStore<A::Block>>(
         (moment w (executing handler.old) processing.old
         (A.Databases.members databases.old) (A.Databases.next databases.old) marks.old.items)
         (A.Databases.members databases.new) made) }
+    ensures opening { OnErr result (LeavesRestart ⟦<A as Worked>⟧.workings (S.stored store.now)
+        event.now (A.Databases.members databases.old) (A.Databases.members databases.new)) }
     ensures none_away { A.Databases.kind.NoneAway (A.Databases.members databases.new) }
     ensures later { (n : ℕ)
         → A.Databases.counted databases.old n ≤ A.Databases.counted databases.new n }

@@ -1,7 +1,8 @@
 //! A restart.
 
-ghost use Rattle.std.specs.Prelude.{◌≡◌, ◌≤◌, [], ℕ, OnOk, IfErr};
+ghost use Rattle.std.specs.Prelude.{◌≡◌, ◌≤◌, ◌⊎◌, [], ℕ, OnOk, OnErr, IfErr};
 ghost use Rattle.stateful_exec.specs.Starting.{Rises};
+ghost use Rattle.stateful_processing.specs.Left.{LeavesOpening};
 ghost use Rattle.stateful_processing.specs.Moments.{executing, moment};
 ghost use Rattle.stateful_processing.specs.Opening.{FaultsOpening};
 ghost use Rattle.stateful_processing.specs.Sound.{Sound};
@@ -43,6 +44,10 @@ pub(crate) fn restart<A: Application + Drop, S: BlockStore<A::Block>>(
         (A.Databases.counted databases.new) (A.Databases.members databases.old)
         (A.Databases.members databases.new)) }
     ensures other { IfErr result (λ e. e ≡ StepError.BadEvent → ⊥) }
+    ensures left { OnErr result (
+        (A.Databases.members databases.new ≡ A.Databases.members databases.old)
+        ⊎ LeavesOpening ⟦<A as Worked>⟧.workings (S.stored store.now) floor.now keep.now
+        (A.Databases.members databases.old) (A.Databases.members databases.new)) }
     ensures none_away { A.Databases.kind.NoneAway (A.Databases.members databases.new) }
     ensures later { (n : ℕ)
         → A.Databases.counted databases.old n ≤ A.Databases.counted databases.new n }

@@ -1,21 +1,25 @@
 //! One event.
 
-ghost use Rattle.std.specs.Prelude.{◌≡◌, ◌≤◌, ◌⊎◌, [], ℕ, Option, true, false, not, IfOk, IfErr, OnOk, OnErr, IsErrOf};
+ghost use Rattle.std.specs.Prelude.{◌≡◌, ◌≤◌, ◌<◌, ◌^◌, ◌⊎◌, [], ℕ, List, Option, Some, true, false, not, MatchResult, IfOk, IfErr, OnOk, OnErr, IsErrOf};
+ghost use Rattle.stateful_types.specs.Causes.{Rose};
 ghost use Rattle.stateful_types.specs.Names.{Named};
 ghost use Rattle.stateful_history.specs.Live.{may_come};
 ghost use Rattle.stateful_history.specs.Met.{TrueNames};
 ghost use Rattle.stateful_history.specs.Opening.{is_down};
 ghost use Rattle.stateful_history.specs.Past.{Past, after_entry};
+ghost use Rattle.stateful_history.specs.Restarts.{reopened_height, CanReopen, Finds};
 ghost use Rattle.stateful_exec.specs.Starting.{Rises};
 ghost use Rattle.stateful_register.specs.Register.{RegisterStands};
 ghost use Rattle.stateful_standing.specs.Setting.{setting};
 ghost use Rattle.stateful_standing.specs.Storing.{IsStoredNow};
+ghost use Rattle.stateful_keeping.specs.Media.{TargetsRise};
 ghost use Rattle.stateful_keeping.specs.Ways.{HasHonestStore};
 ghost use Rattle.stateful_processing.specs.Moments.{moment};
 ghost use Rattle.stateful_actor.specs.Faults.{tally, IsCause};
 ghost use Rattle.stateful_actor.specs.Machine.{faults_after};
 ghost use Rattle.stateful_whole.specs.Left.{LeavesFurther};
 ghost use Rattle.stateful_whole.specs.Machine.{IsSafe, numbered, is_restart};
+ghost use Rattle.stateful_whole.specs.Media.{MediaStand, StandsOnMedia, TargetsName, OpensOn, LeavesMedia};
 ghost use Rattle.stateful_whole.specs.Stands.{Stands, StandsAsWell};
 ghost use Rattle.stateful_whole.specs.StepBehind.{Continues};
 ghost use Rattle.stateful_whole.specs.Steps.{IsStep};
@@ -27,7 +31,7 @@ use stateful_exec::Worked;
 use stateful_history::{Event, Mark};
 use stateful_processing::{ProcessingOf, StepError};
 use stateful_register::Register;
-use stateful_types::BlockStore;
+use stateful_types::{BlockStore, Floor};
 
 /// Whether an event is a restart.
 fn is_restart<B, C, I>(event: &Event<B, C, I>) -> bool
@@ -46,6 +50,7 @@ fn may_come<A: Application>(
     event: &Event<A::Block, A::Context, A::Input>,
 ) -> bool
     ensures up { result ≡ true → is_restart event.now ≡ false → processing.now.up ≡ true }
+    ensures restart { is_restart event.now ≡ true → result ≡ true }
     ensures yes { (p : Past A.Block A.Context A.Input)
         → RegisterStands (numbered A.Databases.kind.count) p register.now
         → result ≡ true
@@ -85,6 +90,7 @@ fn admit<A: Application>(
     ensures idle { failed ≡ true
         → is_restart event.now ≡ false
         → IsErrOf result StepError.Failed }
+    ensures other { OnErr result (is_restart event.now ≡ false) }
 {
     if failed && !is_restart(event) {
         return Err(StepError::Failed);
@@ -196,6 +202,58 @@ impl<A: Application + Drop> Stateful<A> {
             (moment w self.old.execution self.old.loop (A.Databases.members databases.old)
             (A.Databases.next databases.old) [])
             (A.Databases.members databases.new)) }
+
+        // What the media keep of the heights at which the databases can be opened again. Where the machine and the media stood
+        // for a past, names are true with the entry, the store is honest and its targets rise, they keep it for the past with
+        // the entry. Behind a refusal machine and media stand for the past as it was, with a restart that was tried.
+        ensures media { IfOk result (λ marks. let w = ⟦<A as Worked>⟧.workings in
+            (stored : ℕ → Option (Named A.Block))
+            (base : A.Databases.States)
+            (p : Past A.Block A.Context A.Input)
+            → StandsOnMedia w stored base p self.old.failed self.old.register
+            (moment w self.old.execution self.old.loop (A.Databases.members databases.old)
+            (A.Databases.next databases.old) [])
+            → IsStoredNow stored p (S.stored store.old)
+            → TrueNames (setting w stored) (after_entry p event marks.items)
+            → HasHonestStore A.Block.header stored (after_entry p event marks.items)
+            → TargetsRise w stored
+            → MediaStand w stored (after_entry p event marks.items) false
+            (moment w self.new.execution self.new.loop (A.Databases.members databases.new)
+            (A.Databases.next databases.new) [])) }
+        ensures tried { OnErr result (let w = ⟦<A as Worked>⟧.workings in
+            LeavesMedia w (S.stored store.old) event self.old.failed self.old.register
+            (moment w self.old.execution self.old.loop (A.Databases.members databases.old)
+            (A.Databases.next databases.old) [])
+            self.new.failed self.new.register
+            (moment w self.new.execution self.new.loop (A.Databases.members databases.new)
+            (A.Databases.next databases.new) [])) }
+
+        // A restart at a height at which the databases can be opened again opens them on the fold from genesis up to it, and isn't
+        // refused but for want of memory: where the fold is there and has the targets of the block at that height, which the
+        // store has, equal targets name equal states, and no database's count of faults rises.
+        ensures reopens { let w = ⟦<A as Worked>⟧.workings in
+            (stored : ℕ → Option (Named A.Block))
+            (p : Past A.Block A.Context A.Input)
+            (floor : Floor)
+            (keep : List ℕ)
+            (genesis state : A.Databases.States)
+            (block : Named A.Block)
+            → event ≡ Event.Restart floor keep
+            → CanReopen (reopened_height floor) p
+            → MediaStand w stored p self.old.failed
+            (moment w self.old.execution self.old.loop (A.Databases.members databases.old)
+            (A.Databases.next databases.old) [])
+            → Finds (setting w stored) genesis (reopened_height floor) block state
+            → S.stored store.old (reopened_height floor) ≡ Some block
+            → TargetsName w
+            → A.Databases.kind.count < 2 ^ 64
+            → ((i : ℕ)
+            → i < A.Databases.kind.count
+            → Rose (A.Databases.counted databases.old i) (A.Databases.counted databases.new i)
+            → ⊥)
+            → MatchResult result
+            (λ marks. OpensOn w marks.items (A.Databases.members databases.new) state)
+            (λ e. e ≡ StepError.OutOfMemory) }
 
         // Counts of faults and numbers never fall, and the store, the provider and the configuration stay.
         ensures later { (n : ℕ)

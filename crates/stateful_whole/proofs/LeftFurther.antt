@@ -1,5 +1,5 @@
 -- What the databases hold behind an event that was refused, whatever past the machine stood for.
-use Rattle.std.proofs.Common.{◌≡◌, ◌⊎◌, ◌++◌, ◌∷◌, [], inl, inr, ℕ, true, false, List, Option, refl, sym, ap, ◌∙◌, subst}
+use Rattle.std.proofs.Common.{◌≡◌, ◌⊎◌, ◌++◌, ◌∷◌, [], inl, inr, ℕ, true, false, List, Option, refl, sym, ap, ◌∙◌}
 use Rattle.stateful_types.specs.Names.{Named}
 use Rattle.stateful_db.specs.Laws.{Laws}
 use Rattle.stateful_history.specs.Live.{may_come}
@@ -22,7 +22,8 @@ use Rattle.stateful_keeping.proofs.HeldFurther.{further-kept, further-left}
 use Rattle.stateful_keeping.proofs.NamesBehind.{NamesBehind-marks}
 use Rattle.stateful_keeping.proofs.TakenIn.{may_come-live}
 use Rattle.stateful_processing.specs.Intake.{Counts}
-use Rattle.stateful_processing.specs.Left.{KeepsStates, keeps}
+use Rattle.stateful_processing.proofs.Leaving.{keeps_same}
+use Rattle.stateful_processing.specs.Left.{keeps}
 use Rattle.stateful_processing.specs.Moments.{Moment}
 use Rattle.stateful_whole.specs.Left.{LeavesPlay, taking, going, LeavesFurther}
 use Rattle.stateful_whole.specs.Machine.{numbered, is_restart}
@@ -45,7 +46,7 @@ module _ {B C I P R D H G U : Type 0} (w : Workings B C I P R D H G U) (stored_n
     going played.advances.takes refl (record {
       reached = played.settled;
       along = played.advances.settles.along;
-      left = keeps (subst (λ (x : w.kind.Members). KeepsStates w played.settled.members x) (same played.ends) (λ i s has. has));
+      left = keeps (keeps_same w played.settled.members now.members (sym (same played.ends)));
     }),
   )
     where
@@ -95,7 +96,8 @@ pub unmoved-further : {B C I P R D H G U : Type 0} (w : Workings B C I P R D H G
     → m.loop.up ≡ true → LeavesFurther w stored_now provider counts event register m m.members
 unmoved-further w laws stored_now provider counts event other register m up = record {
   made = m.marks;
-  left = taking (λ i s has. has) refl;
+  left = taking (keeps_same w m.members m.members refl) refl;
   holds = λ stored base p s stored_is names honest.
-      further-kept w laws stored base p event (isnt_restart event other) m m.members (((s.at refl).up up).0).executes (λ i t has. has);
+      further-kept w laws stored base p event (isnt_restart event other) m m.members (((s.at refl).up up).0).executes
+      (keeps_same w m.members m.members refl);
 }

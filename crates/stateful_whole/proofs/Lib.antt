@@ -19,6 +19,9 @@ pub mod LeftFurther
 pub mod RefusedBehind
 pub mod WorkNamed
 pub mod WorkPlaces
+pub mod MediaSteps
+pub mod Tried
+pub mod MediaRefused
 pub mod WorkDuly
 pub mod EntryRules
 pub mod WantedRuns

@@ -4,3 +4,4 @@ pub mod Entering
 pub mod Stands
 pub mod StepBehind
 pub mod Left
+pub mod Media
