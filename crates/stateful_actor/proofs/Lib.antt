@@ -4,3 +4,4 @@ pub mod Counts
 pub mod Arms
 pub mod OtherErrors
 pub mod ResultsOfCalls
+pub mod Reopening

@@ -1,5 +1,5 @@
 -- No event that is taken on is refused as one that may not come.
-use Rattle.std.proofs.Common.{◌≡◌, inl, inr, ℕ, Option, sym, ◌∙◌, subst}
+use Rattle.std.proofs.Common.{◌≡◌, inl, inr, ℕ, Bool, true, false, Option, refl, sym, ◌∙◌, subst, true≢false}
 use Rattle.stateful_types.specs.Names.{Named}
 use Rattle.stateful_history.specs.declared.event.Event.{Event}
 use Rattle.stateful_exec.specs.Workings.{Workings}
@@ -74,3 +74,8 @@ module _ {B C I P R D H G U : Type 0} (w : Workings B C I P R D H G U) (stored :
   play_other provider counts start last new m event e (memory is) bad = cc
   play_other provider counts start last new m event e (taking faults) bad = intake_other _ _ _ new counts m e event faults bad
   play_other provider counts start last new m event e (going takes later faults) bad = rule_other _ _ _ new faults.reached e faults.fault bad
+
+-- where any other error makes this true and it isn't, it was that one
+pub only_bad : (e : StepError) (X : Type 0) (failed : Bool) → ((e ≡ BadEvent → ⊥) → failed ≡ true) → (e ≡ BadEvent → X) → failed ≡ false → X
+only_bad BadEvent X failed fails bad working = bad refl
+only_bad e X failed fails bad working = absurd (true≢false (sym (fails (λ is. cc)) ∙ working))

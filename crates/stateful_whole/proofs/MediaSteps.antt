@@ -43,6 +43,7 @@ use Rattle.stateful_whole.specs.Stands.{StandsAt}
 use Rattle.stateful_whole.specs.Steps.{IsStep, Plays, Stops, Restarts}
 use Rattle.stateful_whole.proofs.LiveFlushes.{numbered_le, names_live-more}
 use Rattle.stateful_whole.proofs.Stepping.{may_come-up}
+use Rattle.stateful_whole.proofs.StoresBefore.{StoresFinalized-before_marks}
 use Rattle.stateful_whole.proofs.WorkEnds.{EndsAll-ends, IsWorkEnd-ending}
 
 module _ {B C I P R D H G U : Type 0} (w : Workings B C I P R D H G U) (laws : Laws w.kind) (stored stored_now : ℕ → Option (Named B))
@@ -165,12 +166,13 @@ module _ {B C I P R D H G U : Type 0} (w : Workings B C I P R D H G U) (laws : L
       → (is_restart event ≡ false → failed ≡ false) → RegisterStands (numbered w.kind.count) p register
       → m.marks ≡ [] → w.kind.Sound m.members → (is_restart event ≡ false → StandsAt w stored base p m)
       → may_come (numbered w.kind.count) p event ≡ true → IsStep w stored_now provider counts register event m now
-      → TrueNames (setting w stored) (after_entry p event now.marks) → StoresFinalized w.header stored (Came event ∷ p)
+      → TrueNames (setting w stored) (after_entry p event now.marks) → StoresFinalized w.header stored (after_entry p event now.marks)
       → MediaStand w stored p failed m → MediaStand w stored (after_entry p event now.marks) false (record now { marks = [] })
   step-media counts provider runs_cost builds_cost heights rise (Restart floor keep) failed register m now works registered unmarked sound s
       may_come_is step names stores k =
       restarts-media heights rise floor keep register m now registered unmarked sound step k.reopenable
   step-media counts provider runs_cost builds_cost heights rise event failed register m now works registered unmarked sound s may_come_is step names
       stores k =
-      plays-media counts provider runs_cost builds_cost event (λ no. no) register m now registered (s refl) may_come_is step stores
+      plays-media counts provider runs_cost builds_cost event (λ no. no) register m now registered (s refl) may_come_is step
+      (StoresFinalized-before_marks w.header stored (Came event ∷ p) now.marks stores)
       (subst (λ (f : Bool). MediaStand w stored p f m) (works refl) k) names

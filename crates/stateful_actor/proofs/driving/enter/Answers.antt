@@ -1,11 +1,12 @@
-use Rattle.std.proofs.Common.{rules, ◌≡◌, [], ◌∙◌, refl}
+use Rattle.std.proofs.Common.{rules, ◌≡◌, [], Err, ◌∙◌, refl, ap}
 use Rattle.stateful_history.specs.Past.{after_all}
 use Rattle.stateful_exec.specs.Workings.{workings}
-use Rattle.stateful_processing.proofs.Handing.{converted}
+use Rattle.stateful_processing.proofs.Handing.{converted, err_holds}
 use Rattle.stateful_processing.specs.Moments.{moment}
 use Rattle.stateful_whole.specs.Stands.{StandsAsWell}
 use Rattle.stateful_whole.proofs.LeftFurther.{unmoved-further}
 use Rattle.stateful_actor.proofs.Adding.{registered-longer}
+use Rattle.stateful_actor.proofs.OtherErrors.{only_bad}
 use Rattle.stateful_actor.proofs.ResultsOfCalls.{on_err, if_err}
 use Rattle.stateful_actor.proofs.driving.enter.Goals as goal
 
@@ -56,3 +57,8 @@ pub returns-in_err-marks-clause-behind : goal.returns-in_err-marks-clause-behind
 returns-in_err-marks-clause-behind g c =
     converted _ c.from_residual-in_err-marks.result c.in_err-marks.field-0.0 c.from_residual-in_err-marks.ensures.1
     (λ lawful other up. c.in_err-marks.ensures.behind lawful c.requires.working other)
+
+pub returns-in_err-marks-clause-calm : goal.returns-in_err-marks-clause-calm
+returns-in_err-marks-clause-calm g c =
+    err_holds c.from_residual-in_err-marks.result
+    (λ working. (only_bad c.in_err-marks.field-0.0 _ _ c.in_err-marks.ensures.fails (λ is. c.in_err-marks.ensures.unchanged (ap Err is)) working).1)

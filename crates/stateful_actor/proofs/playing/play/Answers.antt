@@ -3,6 +3,7 @@ use Rattle.stateful_exec.specs.Workings.{workings}
 use Rattle.stateful_processing.specs.Left.{keeps}
 use Rattle.stateful_processing.specs.Moments.{executing, moment}
 use Rattle.stateful_processing.proofs.Handing.{converted, err_holds}
+use Rattle.stateful_processing.proofs.Leaving.{keeps_same}
 use Rattle.stateful_processing.proofs.SoundingOpenings.{cleared_sound}
 use Rattle.stateful_whole.specs.Left.{going}
 use Rattle.stateful_actor.proofs.OtherErrors.{play_other}
@@ -75,6 +76,6 @@ returns-in_err-stop-clause-left g c =
         reached = moment w (executing c.advance.new.handler) c.advance.new.processing (D.members c.advance.new.databases)
             (D.next c.advance.new.databases) c.advance.new.marks.items;
         along = a.settles.along;
-        left = keeps (λ i s has. has);
+        left = keeps (keeps_same w _ _ refl);
       }),
     )

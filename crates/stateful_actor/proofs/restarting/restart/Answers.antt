@@ -1,6 +1,7 @@
-use Rattle.std.proofs.Common.{[], arith}
+use Rattle.std.proofs.Common.{[], inr, arith}
 use Rattle.stateful_exec.specs.Workings.{workings}
 use Rattle.stateful_processing.specs.Moments.{executing, moment}
+use Rattle.stateful_processing.proofs.Handing.{err_holds}
 use Rattle.stateful_processing.proofs.SoundingOpenings.{opens_sound}
 use Rattle.stateful_actor.proofs.restarting.restart.Goals as goal
 
@@ -51,3 +52,6 @@ returns-clause-barrier g c =
     let cleared = c.clear.ensures.cleared (D.members c.args.databases.now) (D.next c.args.databases.now) [] in
     let a = cleared.numbers in
     let b = c.in_ok-open.ensures.barrier in omega arith
+
+pub returns-in_err-open-clause-left : goal.returns-in_err-open-clause-left
+returns-in_err-open-clause-left g c = err_holds c.from_residual-in_err-open.result (inr c.in_err-open.ensures.left)

@@ -1,14 +1,19 @@
-use Rattle.std.proofs.Common.{[], refl, true, sym, ◌∙◌, ⊎_elim, true≢false}
+use Rattle.std.proofs.Common.{[], refl, true, sym, ap, ◌∙◌, ⊎_elim, true≢false}
 use Rattle.stateful_exec.specs.Workings.{workings}
 use Rattle.stateful_processing.proofs.Handing.{converted}
 use Rattle.stateful_processing.proofs.SoundingKept.{Sound-kept}
 use Rattle.stateful_processing.specs.Moments.{executing, moment}
+use Rattle.stateful_processing.specs.declared.error.StepError.TheVariants.{OutOfMemory}
 use Rattle.stateful_whole.specs.Stands.{StandsAsWell}
+use Rattle.stateful_whole.specs.Machine.{is_restart}
 use Rattle.stateful_whole.proofs.LeftFurther.{step-leaves, leaves-further}
+use Rattle.stateful_whole.proofs.MediaRefused.{step-restart, leaves-unchanged, leaves-media}
+use Rattle.stateful_whole.proofs.MediaSteps.{step-media}
 use Rattle.stateful_whole.proofs.StepStands.{step-stands}
 use Rattle.stateful_whole.proofs.StillStands.{still-stands}
 use Rattle.stateful_actor.proofs.Arms.{refused_at_once}
-use Rattle.stateful_actor.proofs.ResultsOfCalls.{on_err, if_err, in_ok, in_err}
+use Rattle.stateful_actor.proofs.Reopening.{reopens-refused, reopens-done}
+use Rattle.stateful_actor.proofs.ResultsOfCalls.{on_err, if_err, in_ok, in_err, of_err, match_err}
 use Rattle.stateful_actor.proofs.stateful.Stateful.step.Goals as goal
 
 pub returns-in_err-admit-clause-cause : goal.returns-in_err-admit-clause-cause
@@ -111,3 +116,91 @@ returns-in_err-record-clause-behind g c =
     (λ f states b n is. takes.runs f states b n is) (λ asked states n is. takes.builds asked states n is)
     c.args.event other _ _ (c.in_ok-admit.ensures.up other) refl (λ p stands. c.in_ok-admit.ensures.yes p stands)
     (D.members c.act-acted.new.databases) left.0 left.1))
+
+pub returns-clause-media : goal.returns-clause-media
+returns-clause-media g c =
+    let D = g.A.Databases.DatabaseSet in
+    let w = workings g.A.Block.Block.header g.A.Block.Block.context_of g.A.Context.Rounded.round_of g.A.Application.works D.kind D.shows in
+    let takes = g.met.A.Application.takes_turns in
+    rw (← c.self.view_is) (λ stored base p s stored_is names honest rise.
+    step-media w g.met.A.Databases.DatabaseSet.laws stored (g.S.BlockStore.stored c.args.store.now) base p stored_is _ _
+    (λ f states b n is. takes.runs f states b n is) (λ asked states n is. takes.builds asked states n is) honest.heights rise
+    c.args.event c.self.inside.failed c.self.inside.register _ _ c.in_ok-admit.ensures.works s.stands.registered refl
+    (g.met.A.Databases.DatabaseSet.sound c.args.databases.now) (λ other. s.stands.at (c.in_ok-admit.ensures.works other))
+    (c.in_ok-admit.ensures.yes p s.stands.registered) (rw c.new-marks.ensures.items at (in_ok _ _ c.in-Ok.is c.act-acted.ensures.ok))
+    names honest.finalized s.media)
+
+pub returns-in_err-admit-clause-tried : goal.returns-in_err-admit-clause-tried
+returns-in_err-admit-clause-tried g c =
+    let D = g.A.Databases.DatabaseSet in
+    let w = workings g.A.Block.Block.header g.A.Block.Block.context_of g.A.Context.Rounded.round_of g.A.Application.works D.kind D.shows in
+    let was = c.self.inside in
+    let old = moment w (executing was.handler) was.processing (D.members c.args.databases.now) (D.next c.args.databases.now) [] in
+    rw (← c.self.view_is) (on_err _
+    (leaves-unchanged w g.met.A.Databases.DatabaseSet.laws (g.S.BlockStore.stored c.args.store.now) c.args.event c.in_err-admit.ensures.other
+    was.failed was.register old))
+
+pub returns-in-Err-clause-tried : goal.returns-in-Err-clause-tried
+returns-in-Err-clause-tried g c =
+    let D = g.A.Databases.DatabaseSet in
+    let w = workings g.A.Block.Block.header g.A.Block.Block.context_of g.A.Context.Rounded.round_of g.A.Application.works D.kind D.shows in
+    let takes = g.met.A.Application.takes_turns in
+    let was = c.self.inside in
+    let old = moment w (executing was.handler) was.processing (D.members c.args.databases.now) (D.next c.args.databases.now) [] in
+    let now = moment w (executing c.act-acted.new.handler) c.act-acted.new.processing (D.members c.act-acted.new.databases) (D.next c.act-acted.new.databases) [] in
+    let still : StandsAsWell w was.failed was.register old true was.register now = λ stored base p s.
+    still-stands w p old now c.act-acted.ensures.numbers c.act-acted.ensures.barrier c.act-acted.ensures.none_away stored base was.failed true
+    was.register was.register refl refl s.registered s in
+    rw (← c.self.view_is)
+    (leaves-media w g.met.A.Databases.DatabaseSet.laws (g.S.BlockStore.stored c.args.store.now) _ _
+    (λ f states b n is. takes.runs f states b n is) (λ asked states n is. takes.builds asked states n is) was.failed was.register old refl
+    (g.met.A.Databases.DatabaseSet.sound c.args.databases.now) true was.register now refl still c.args.event
+    c.in_ok-admit.ensures.works c.in_ok-admit.ensures.up (λ p stands. c.in_ok-admit.ensures.yes p stands)
+    (λ other. rw c.new-marks.ensures.items at (in_err _ _ c.in-Err.is (c.act-acted.ensures.left other)))
+    (in_err _ _ c.in-Err.is c.act-acted.ensures.opening))
+
+pub returns-in_err-record-clause-tried : goal.returns-in_err-record-clause-tried
+returns-in_err-record-clause-tried g c =
+    let D = g.A.Databases.DatabaseSet in
+    let w = workings g.A.Block.Block.header g.A.Block.Block.context_of g.A.Context.Rounded.round_of g.A.Application.works D.kind D.shows in
+    let takes = g.met.A.Application.takes_turns in
+    let was = c.self.inside in
+    let old = moment w (executing was.handler) was.processing (D.members c.args.databases.now) (D.next c.args.databases.now) [] in
+    let now = moment w (executing c.act-acted.new.handler) c.act-acted.new.processing (D.members c.act-acted.new.databases) (D.next c.act-acted.new.databases) [] in
+    let still : StandsAsWell w was.failed was.register old true c.record.new.self now = λ stored base p s.
+    still-stands w p old now c.act-acted.ensures.numbers c.act-acted.ensures.barrier c.act-acted.ensures.none_away stored base was.failed true
+    was.register c.record.new.self refl refl ((rw c.count.ensures at c.in_err-record.ensures.err) p s.registered) s in
+    let step = rw c.new-marks.ensures.items at (in_ok _ _ c.in-Ok.is c.act-acted.ensures.ok) in
+    rw (← c.self.view_is) (on_err _
+    (leaves-media w g.met.A.Databases.DatabaseSet.laws (g.S.BlockStore.stored c.args.store.now) _ _
+    (λ f states b n is. takes.runs f states b n is) (λ asked states n is. takes.builds asked states n is) was.failed was.register old refl
+    (g.met.A.Databases.DatabaseSet.sound c.args.databases.now) true c.record.new.self now refl still c.args.event
+    c.in_ok-admit.ensures.works c.in_ok-admit.ensures.up (λ p stands. c.in_ok-admit.ensures.yes p stands)
+    (λ other. step-leaves w (g.S.BlockStore.stored c.args.store.now) _ _ c.args.event _ _ _ other step)
+    (step-restart w g.met.A.Databases.DatabaseSet.laws (g.S.BlockStore.stored c.args.store.now) _ _ _ c.args.event _ _ step)))
+
+pub returns-in_err-admit-clause-reopens : goal.returns-in_err-admit-clause-reopens
+returns-in_err-admit-clause-reopens g c = λ stored p floor keep genesis state block is can k finds there names few rises.
+    absurd (true≢false (sym (ap is_restart is) ∙ c.in_err-admit.ensures.other))
+
+pub returns-in-Err-clause-reopens : goal.returns-in-Err-clause-reopens
+returns-in-Err-clause-reopens g c =
+    let D = g.A.Databases.DatabaseSet in
+    let w = workings g.A.Block.Block.header g.A.Block.Block.context_of g.A.Context.Rounded.round_of g.A.Application.works D.kind D.shows in
+    let fault = rw c.new-marks.ensures.items at (of_err _ _ _ c.in-Err.is c.act-acted.ensures.fault) in
+    rw (← c.self.view_is) (λ stored p floor keep genesis state block is can k finds there names few rises.
+    reopens-refused w g.met.A.Databases.DatabaseSet.laws stored (g.S.BlockStore.stored c.args.store.now) _ _ p floor keep genesis state block
+    c.args.event is can _ _ k finds there (g.met.A.Databases.DatabaseSet.sound c.args.databases.now) few _ _ _ _ fault rises)
+
+pub returns-in_err-record-clause-reopens : goal.returns-in_err-record-clause-reopens
+returns-in_err-record-clause-reopens g c = λ stored p floor keep genesis state block is can k finds there names few rises.
+    match_err c.from_residual-in_err-record.result _ _ OutOfMemory c.from_residual-in_err-record.ensures.1 refl
+
+pub returns-clause-reopens : goal.returns-clause-reopens
+returns-clause-reopens g c =
+    let D = g.A.Databases.DatabaseSet in
+    let w = workings g.A.Block.Block.header g.A.Block.Block.context_of g.A.Context.Rounded.round_of g.A.Application.works D.kind D.shows in
+    let step = rw c.new-marks.ensures.items at (in_ok _ _ c.in-Ok.is c.act-acted.ensures.ok) in
+    rw (← c.self.view_is) (λ stored p floor keep genesis state block is can k finds there names few rises.
+    reopens-done w g.met.A.Databases.DatabaseSet.laws stored (g.S.BlockStore.stored c.args.store.now) _ _ p floor keep genesis state block
+    c.args.event is can _ _ k finds there names _ _ step)
