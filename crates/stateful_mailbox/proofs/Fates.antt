@@ -99,8 +99,7 @@ module _ {B : Type 0} (t : ℕ) (kind : Kind) where
           → ((later : Standing B) → EndsAs (fold (noted_as t) (Some (ticket_of kind later)) (filter_map note_of marks)) (or_else (end_of later) (end_told marks)))
           → EndsAs (fold (noted_as t) (Some (ticket_of kind standing)) (filter_map note_of (mark ∷ marks))) (or_else (end_of standing) (end_told (mark ∷ marks)))
       go n is one rest =
-          let more = rest one.0 in
-          (
+          let more = rest one.0 in (
             more.0,
             folded n is ∙ ap (λ s. fold (noted_as t) s (filter_map note_of marks)) one.1 ∙ more.1,
             more.2 ∙ ap (λ o. or_else o (end_told marks)) one.2 ∙ or_assoc (end_of standing) (end_by_note t kind n) (end_told marks) ∙ sym (ap (or_else (end_of standing)) (first_is n is)),

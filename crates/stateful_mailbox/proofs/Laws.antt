@@ -269,7 +269,7 @@ module _ {B C I : Type 0} where
           let P = λ (s : Option (Ticket B)). s ≡ Some ticket in
           let start : Keeps t P m = record { sound = had.sound; drawn = had.drawn; holds = at } in
           let behind_it = one_kept t P (Passing ticket.kind is_settled) m after (calls.taken (Some first))
-              (λ s fit at. subst (λ (e : Event B C I). Passing ticket.kind is_settled (event_as t e s)) (sym is) (told ticket.kind (u == t) s here ticket at refl)) step start in
+          (λ s fit at. subst (λ (e : Event B C I). Passing ticket.kind is_settled (event_as t e s)) (sym is) (told ticket.kind (u == t) s here ticket at refl)) step start in
           let still = still_settled t ticket.kind between after q.0 q.1 behind_it in
           absurd (settled_never ticket.kind (is_cancel second) (seen q.0.tickets t) (again still.sound) still.holds)
       go (Some ticket) at stands (hands u of_first plain gives) =
@@ -277,9 +277,9 @@ module _ {B C I : Type 0} where
           let P = λ (s : Option (Ticket B)). s ≡ Some ticket in
           let start : Keeps t P m = record { sound = had.sound; drawn = had.drawn; holds = at } in
           let behind_it = one_kept t P (Passing ticket.kind isnt_queued) m after (calls.taken (Some first))
-              (λ s fit at. subst (Passing ticket.kind isnt_queued) (sym (gives s)) (handed ticket.kind (u == t) s here ticket at refl)) step start in
+          (λ s fit at. subst (Passing ticket.kind isnt_queued) (sym (gives s)) (handed ticket.kind (u == t) s here ticket at refl)) step start in
           let still = all_kept t (Passing {B = B} ticket.kind isnt_queued) (λ call. Unit {0}) (λ call s fine fit passes. call_passes t ticket.kind isnt_queued not_queued_kept call s (λ lets. absurd (cc)) fit passes)
-              between after q.0 (all_of (λ call. Unit {0}) (λ call. tt) between) q.1 behind_it in
+          between after q.0 (all_of (λ call. Unit {0}) (λ call. tt) between) q.1 behind_it in
           (λ is. absurd (let e = sym plain ∙ ap is_cancel is in cc), cancels_it ticket.kind still)
       go (Some ticket) at stands (other none gives) = absurd (none-some t (sym none ∙ of))
 

@@ -121,6 +121,6 @@ module _ {B C I : Type 0} (t : ℕ) (kind : Kind) where
   calls_end [] m last o silent runs keeps = subst (λ (w : Mail B C I). Keeps t (λ s. EndsAs t kind s (or_else o None)) w) (sym runs) (record { sound = keeps.sound; drawn = keeps.drawn; holds = unmarked t kind _ o keeps.holds })
   calls_end (call ∷ list) m last o silent runs keeps =
       let behind = one_kept t (λ s. EndsAs t kind s o) (λ s. EndsAs t kind s (or_else o (end_told t kind (marks_of call)))) m runs.0 call
-          (λ s fit ends. call_ends call s o fit (All-head (λ call. HandsReply t call → ⊥) call list silent) ends) runs.1 keeps in
+      (λ s fit ends. call_ends call s o fit (All-head (λ call. HandsReply t call → ⊥) call list silent) ends) runs.1 keeps in
       let rest = calls_end list runs.0 last (or_else o (end_told t kind (marks_of call))) (All-tail (λ call. HandsReply t call → ⊥) call list silent) runs.2 behind in
       subst (λ w. Keeps t (λ s. EndsAs t kind s w) last) (or_assoc o (end_told t kind (marks_of call)) (ended_in t kind list) ∙ sym (ap (or_else o) (ended_more t kind call list))) rest

@@ -94,12 +94,12 @@ module _ {B C I : Type 0} where
   -- ---- what a call leaves
 
   pub hands_tickets : (m next : Mail B C I) (found : Option (Message B C I)) → HandsOut m found next → (next.tickets ≡ m.tickets) × (next.next_ticket ≡ m.next_ticket)
-  hands_tickets m next found (mailbox.nothing all empty) = (refl, refl)
-  hands_tickets m next found (mailbox.message passed front all waits) = (refl, refl)
+  hands_tickets m next found (mailbox.nothing all empty shape) = (refl, refl)
+  hands_tickets m next found (mailbox.message passed front all waits shape) = (refl, refl)
 
   pub hands_queued : (m next : Mail B C I) (found : Option (Message B C I)) (message : Message B C I) → HandsOut m found next → found ≡ Some message → is_queued m.tickets message.ticket ≡ true
-  hands_queued m next found message (mailbox.nothing all empty) is = absurd (let e = sym is in cc)
-  hands_queued m next found message (mailbox.message {first = first} passed front all waits) is = ap (λ (w : Message B C I). is_queued m.tickets w.ticket) (sym (same_Some first message is)) ∙ waits
+  hands_queued m next found message (mailbox.nothing all empty shape) is = absurd (let e = sym is in cc)
+  hands_queued m next found message (mailbox.message {first = first} passed front all waits shape) is = ap (λ (w : Message B C I). is_queued m.tickets w.ticket) (sym (same_Some first message is)) ∙ waits
 
   -- what a call leaves of a ticket, and that tickets are drawn one by one
   pub record Stepped (t : ℕ) (m after : Mail B C I) (call : Call B C I) : Type 0 where
