@@ -1,19 +1,16 @@
 -- That a new mailbox keeps the laws, whatever calls come.
-use Rattle.std.proofs.Common.{◌≡◌, ◌≢◌, ℕ, ◌+◌, ◌≤◌, ◌<◌, ◌==◌, Bool, true, false, cond, Option, Some, None, Result, Ok, Err, List, [], ◌∷◌, ◌++◌, length, All, refl, sym, ap, subst, ◌∙◌, arith, length-append}
+use Rattle.std.proofs.Common.{◌≡◌, ◌≢◌, ℕ, ◌+◌, ◌≤◌, ◌<◌, ◌==◌, Bool, true, false, cond, Option, Some, None, List, [], ◌∷◌, ◌++◌, length, All, refl, sym, ap, subst, ◌∙◌, arith, length-append}
 use Rattle.std.specs.Prelude.{nat_lt}
 use Rattle.std.specs.List.{filter_map, flat_map}
-use Rattle.std.proofs.lemmas.Bool.{eq-eqb, eqb-true}
+use Rattle.std.proofs.lemmas.Bool.{eq-eqb}
 use Rattle.std.proofs.lemmas.Bool.Decides.{nat_tests}
 use Rattle.std.proofs.lemmas.List.Elements.{All-nil, All-cons, All-head, All-tail}
 use Rattle.std.proofs.lemmas.Option.{none-some, same_Some}
-use Rattle.stateful_types.specs.Mailbox.{queues}
-use Rattle.stateful_types.specs.declared.outcome.Moved.{Moved}
-use Rattle.stateful_types.specs.declared.outcome.Moved.TheVariants.{Pending}
 use Rattle.stateful_history.specs.declared.event.Event.{Event}
 use Rattle.stateful_history.specs.declared.event.Event.TheVariants as events
 use Rattle.stateful_mailbox.specs.Replies.{is_request, note_of}
 use Rattle.stateful_mailbox.specs.Messages.{kind_of}
-use Rattle.stateful_mailbox.specs.Tickets.{Book, empty_book, ticket_of, end_of, stands_due, stands_queued, handing, cancelling, cancelling_from, telling, first_due}
+use Rattle.stateful_mailbox.specs.Tickets.{empty_book, ticket_of, stands_due, stands_queued, handing, cancelling, cancelling_from, telling, first_due}
 use Rattle.stateful_mailbox.specs.Mail.{Mail, empty_mail, Takes, polled_as}
 use Rattle.stateful_mailbox.specs.Mail as mailbox
 use Rattle.stateful_mailbox.specs.Laws.{Call, Steps, asks, cancels, takes, hears, polls, Runs, asks_of, marks_of, ticket_in, ended_in, TakesOut, HandsReply, KeepsLaws}
@@ -26,7 +23,7 @@ use Rattle.stateful_mailbox.specs.declared.tickets.Standing.TheVariants.{Queued,
 use Rattle.stateful_mailbox.proofs.Books.{or_same}
 use Rattle.stateful_mailbox.proofs.Seeing.{seen, end_seen, changed, seen_fresh}
 use Rattle.stateful_mailbox.proofs.Moving.{AreSound, StandsAs, due_least}
-use Rattle.stateful_mailbox.proofs.Stepping.{event_as, moved_as, stepped, hands_tickets, answered_number}
+use Rattle.stateful_mailbox.proofs.Stepping.{event_as, stepped, hands_tickets, answered_number}
 use Rattle.stateful_mailbox.proofs.Fates.{or_else, end_told, EndsAs}
 use Rattle.stateful_mailbox.proofs.Following.{is_cancel, Means, cancel, hands, other, meaning, Fits, taken_fits, fits, Keeps, one_kept, all_kept, ended_more}
 use Rattle.stateful_mailbox.proofs.Replying.{calls_end}

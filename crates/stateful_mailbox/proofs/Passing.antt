@@ -1,11 +1,10 @@
 -- Passing messages that aren't to be handed out any more.
-use Rattle.std.proofs.Common.{◌≡◌, ℕ, ◌+◌, ◌<◌, ◌↔◌, Bool, true, false, Option, Some, None, List, [], ◌∷◌, ◌++◌, length, All, refl, sym, ap, subst, ◌∙◌, arith, append-nil, append_assoc}
-use Rattle.std.specs.Option.{IsNone}
+use Rattle.std.proofs.Common.{◌≡◌, ◌<◌, true, false, Some, None, List, [], ◌∷◌, ◌++◌, length, All, refl, sym, ap, subst, ◌∙◌, arith, append-nil, append_assoc}
 use Rattle.std.proofs.lemmas.List.Elements.{All-nil, All-push}
 use Rattle.stateful_types.specs.Mailbox.{Queues, messages}
 use Rattle.stateful_types.specs.Mailbox as queues
 use Rattle.stateful_mailbox.specs.Tickets.{Book, is_queued}
-use Rattle.stateful_mailbox.specs.Mail.{Mail, mail, IsPassed, SameShape, HandsOut, nothing, message}
+use Rattle.stateful_mailbox.specs.Mail.{Mail, IsPassed, SameShape, HandsOut, nothing, message}
 use Rattle.stateful_mailbox.specs.declared.message.Message.{Message}
 
 module _ {B C I : Type 0} where

@@ -1,13 +1,12 @@
 -- What each call makes of a ticket.
-use Rattle.std.proofs.Common.{◌≡◌, ℕ, ◌+◌, ◌≤◌, ◌<◌, ◌==◌, Bool, true, false, cond, Option, Some, None, Result, List, [], ◌∷◌, ◌++◌, fold, refl, sym, ap, subst, ◌∙◌, arith}
+use Rattle.std.proofs.Common.{◌≡◌, ℕ, ◌≤◌, ◌==◌, true, cond, Option, Some, None, List, [], ◌∷◌, fold, refl, sym, ap, ◌∙◌, arith}
 use Rattle.std.specs.List.{filter_map}
 use Rattle.std.proofs.lemmas.Option.{same_Some}
 use Rattle.stateful_history.specs.declared.event.Event.{Event}
 use Rattle.stateful_history.specs.declared.event.Event.TheVariants as events
-use Rattle.stateful_history.specs.declared.mark.Mark.{Mark}
 use Rattle.stateful_mailbox.specs.Replies.{note_of}
-use Rattle.stateful_mailbox.specs.Messages.{kind_of, event_of, event_under}
-use Rattle.stateful_mailbox.specs.Tickets.{Book, ticket_of, stands_due, stands_queued, handing, cancelling, telling, ending, opened, is_queued, handed_out, first_due, told_of, told_due, AreBelow}
+use Rattle.stateful_mailbox.specs.Messages.{kind_of, event_under}
+use Rattle.stateful_mailbox.specs.Tickets.{Book, ticket_of, handing, cancelling, telling, ending, is_queued, told_of}
 use Rattle.stateful_mailbox.specs.Mail.{Mail, mail, Asks, HandsOut, Takes, noted, answered}
 use Rattle.stateful_mailbox.specs.Mail as mailbox
 use Rattle.stateful_mailbox.specs.Laws.{Call, Steps, asks, cancels, takes, hears, polls, ticket_in}
@@ -20,7 +19,7 @@ use Rattle.stateful_mailbox.specs.declared.note.Note.TheVariants.{Ends, Stops}
 use Rattle.stateful_mailbox.specs.declared.tickets.Ticket.{Ticket}
 use Rattle.stateful_mailbox.specs.declared.tickets.Standing.TheVariants.{Queued}
 use Rattle.stateful_mailbox.proofs.Seeing.{seen, seen_as, changed, polled_out, seen_moved, seen_cancelled, seen_ended, seen_taken, seen_stopped, seen_opened}
-use Rattle.stateful_mailbox.proofs.Moving.{AreSound, StandsAs, opened_sound, handed_sound, cancelled_sound, told_sound, ended_sound, taken_sound, queued_seen, due_seen}
+use Rattle.stateful_mailbox.proofs.Moving.{AreSound, opened_sound, handed_sound, cancelled_sound, told_sound, ended_sound, taken_sound, queued_seen, due_seen}
 
 -- ---- what becomes of a ticket
 

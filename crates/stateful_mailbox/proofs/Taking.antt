@@ -1,5 +1,5 @@
 -- What is taken out of a mailbox.
-use Rattle.std.proofs.Common.{◌≡◌, ℕ, Option, Some, None, List, sym, ap, subst, ◌∙◌, refl}
+use Rattle.std.proofs.Common.{◌≡◌, ℕ, Option, Some, None, ap, subst, ◌∙◌, refl}
 use Rattle.stateful_history.specs.declared.event.Event.TheVariants.{Cancel}
 use Rattle.stateful_mailbox.specs.Messages.{event_of}
 use Rattle.stateful_mailbox.specs.Tickets.{Book, handed_out, first_due, told_of, told_due}

@@ -1,5 +1,5 @@
 -- What contracts see of a mailbox.
-use Rattle.std.specs.Prelude.{◌≡◌, ℕ, ◌+◌, ◌≤◌, Bool, true, false, if◌then◌else◌, Option, Some, None, Result, Ok, Err, List, [], ◌∷◌, ◌++◌, filter, fold, All}
+use Rattle.std.specs.Prelude.{◌≡◌, ℕ, ◌+◌, Bool, true, false, if◌then◌else◌, Option, Some, None, Result, Ok, Err, List, [], ◌∷◌, ◌++◌, filter, fold, All}
 use Rattle.std.specs.List.{filter_map}
 use Rattle.stateful_types.specs.Mailbox.{Queues, queues, messages, IsFilled}
 use Rattle.stateful_types.specs.declared.mailbox.Feedback.{Feedback}
