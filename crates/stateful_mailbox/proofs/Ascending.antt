@@ -1,5 +1,5 @@
 -- Values by ascending numbers, and the first that a test finds.
-use Rattle.std.proofs.Common.{◌≡◌, ℕ, ◌+◌, ◌≤◌, ◌<◌, ◌==◌, Bool, true, false, not, cond, Option, Some, None, List, [], ◌∷◌, refl, sym, ap, subst, ◌∙◌, arith}
+use Rattle.std.proofs.Common.{◌≡◌, ℕ, ◌+◌, ◌≤◌, ◌<◌, ◌==◌, Bool, true, false, not, cond, Some, List, [], ◌∷◌, refl, sym, ap, subst, ◌∙◌, arith}
 use Rattle.std.specs.Ordering.{nat_cmp, match_ordering, MatchOrdering}
 use Rattle.std.specs.declared.cmp.Ordering.{Ordering}
 use Rattle.std.specs.declared.cmp.Ordering.TheVariants.{Less, Equal, Greater}
@@ -56,8 +56,7 @@ module _ {V : Type 0} where
       go : (b : Bool) → p d ≡ b → cond b (Some d) (find p es) ≡ Some e → (find p es ≡ Some e → (at es e.0 ≡ Some e.1) × (p e ≡ true) × (d.0 + 1 ≤ e.0))
           → (at (d ∷ es) e.0 ≡ Some e.1) × (p e ≡ true) × (n ≤ e.0)
       go true passes found further =
-          let same = same_Some d e found in
-          (
+          let same = same_Some d e found in (
             ap (λ b. cond b (Some d.1) (at es e.0)) (is_at_number e.0 d.0 ∙ ap (λ x. d.0 == x) (sym (ap (λ x. x.0) same)) ∙ eq-eqb d.0 d.0 refl) ∙ ap (λ (x : ℕ × V). Some x.1) same,
             sym (ap p same) ∙ passes,
             subst (λ (x : ℕ × V). n ≤ x.0) same up.0,
@@ -65,8 +64,7 @@ module _ {V : Type 0} where
       go false fails found further =
           let rest = further found in
           let above = rest.2 in
-          let l = up.0 in
-          (
+          let l = up.0 in (
             ap (λ b. cond b (Some d.1) (at es e.0)) (is_at_number e.0 d.0 ∙ apart d.0 e.0 above) ∙ rest.0,
             rest.1,
             omega arith,

@@ -1,26 +1,12 @@
 -- What becomes of one ticket, over calls.
-use Rattle.std.proofs.Common.{◌≡◌, ◌≢◌, ℕ, ◌+◌, ◌≤◌, ◌<◌, ◌==◌, Bool, true, false, cond, Option, Some, None, Result, Ok, Err, List, [], ◌∷◌, ◌++◌, fold, All, refl, sym, ap, subst, ◌∙◌, arith}
+use Rattle.std.proofs.Common.{◌≡◌, ℕ, ◌==◌, Bool, true, false, cond, Option, Some, None, Result, List, [], ◌∷◌, ◌++◌, fold, refl, sym, ap, ◌∙◌}
 use Rattle.std.specs.Prelude.{slice_get, is_some}
-use Rattle.std.specs.List.{filter_map, flat_map}
-use Rattle.std.proofs.lemmas.Bool.{eqb-true, eqb-false, eq-eqb}
-use Rattle.std.proofs.lemmas.Bool.Decides.{nat_tests}
-use Rattle.std.proofs.lemmas.List.Elements.{All-head, All-tail, filter_map-append}
-use Rattle.std.proofs.lemmas.Option.{same_Some, none-some}
-use Rattle.stateful_types.specs.declared.outcome.Moved.{Moved}
-use Rattle.stateful_types.specs.declared.outcome.Moved.TheVariants.{Pending, Done}
-use Rattle.stateful_history.specs.declared.event.Event.{Event}
-use Rattle.stateful_history.specs.declared.event.Event.TheVariants as events
+use Rattle.std.specs.List.{filter_map}
+use Rattle.std.proofs.lemmas.Option.{none-some}
 use Rattle.stateful_history.specs.declared.mark.Mark.{Mark}
-use Rattle.stateful_mailbox.specs.Replies.{is_request, note_of, outcome, gone}
-use Rattle.stateful_mailbox.specs.Messages.{event_under}
-use Rattle.stateful_mailbox.specs.Tickets.{Book, ticket_of, end_of, stands_due, stands_queued, handing, cancelling, cancelling_from, telling, ended_by, ending, is_queued}
-use Rattle.stateful_mailbox.specs.Mail.{Mail, HandsOut, Takes, polled_as}
-use Rattle.stateful_mailbox.specs.Mail as mailbox
-use Rattle.stateful_mailbox.specs.Laws.{Call, Steps, asks, cancels, takes, hears, polls, ticket_in, end_by_note, end_by, marks_of, ended_in, HandsReply, TakesOut, Runs}
-use Rattle.stateful_mailbox.specs.Laws as calls
-use Rattle.stateful_mailbox.specs.declared.message.Ask.{Ask}
-use Rattle.stateful_mailbox.specs.declared.message.Ask.TheVariants.{Prepare, Propose, Verify, Report, Subscribe}
-use Rattle.stateful_mailbox.specs.declared.message.Message.{Message}
+use Rattle.stateful_mailbox.specs.Replies.{note_of, outcome, gone}
+use Rattle.stateful_mailbox.specs.Tickets.{ticket_of, end_of, ended_by}
+use Rattle.stateful_mailbox.specs.Laws.{end_by_note, end_by}
 use Rattle.stateful_mailbox.specs.declared.note.Note.{Note}
 use Rattle.stateful_mailbox.specs.declared.note.Note.TheVariants.{Ends, Stops}
 use Rattle.stateful_mailbox.specs.declared.reply.Kind.{Kind}
@@ -30,9 +16,8 @@ use Rattle.stateful_mailbox.specs.declared.tickets.Ticket.{Ticket}
 use Rattle.stateful_mailbox.specs.declared.tickets.Standing.{Standing}
 use Rattle.stateful_mailbox.specs.declared.tickets.Standing.TheVariants.{Queued, Handed, Due, Cancelled, Ended}
 use Rattle.stateful_mailbox.proofs.Books.{or_same}
-use Rattle.stateful_mailbox.proofs.Seeing.{stopped_standing, seen, seen_as, end_seen, changed, polled_out, outcome_seen}
-use Rattle.stateful_mailbox.proofs.Moving.{AreSound, StandsAs, queued_seen, due_seen}
-use Rattle.stateful_mailbox.proofs.Stepping.{noted_as, event_as, moved_as, stepped, hands_queued}
+use Rattle.stateful_mailbox.proofs.Seeing.{stopped_standing}
+use Rattle.stateful_mailbox.proofs.Stepping.{noted_as}
 
 -- the first of two, if there is one
 abbrev pub or_else : {X : Type 0} → Option X → Option X → Option X
@@ -99,8 +84,7 @@ module _ {B : Type 0} (t : ℕ) (kind : Kind) where
           → ((later : Standing B) → EndsAs (fold (noted_as t) (Some (ticket_of kind later)) (filter_map note_of marks)) (or_else (end_of later) (end_told marks)))
           → EndsAs (fold (noted_as t) (Some (ticket_of kind standing)) (filter_map note_of (mark ∷ marks))) (or_else (end_of standing) (end_told (mark ∷ marks)))
       go n is one rest =
-          let more = rest one.0 in
-          (
+          let more = rest one.0 in (
             more.0,
             folded n is ∙ ap (λ s. fold (noted_as t) s (filter_map note_of marks)) one.1 ∙ more.1,
             more.2 ∙ ap (λ o. or_else o (end_told marks)) one.2 ∙ or_assoc (end_of standing) (end_by_note t kind n) (end_told marks) ∙ sym (ap (or_else (end_of standing)) (first_is n is)),

@@ -1,35 +1,26 @@
 -- What is kept of a ticket over calls.
-use Rattle.std.proofs.Common.{◌≡◌, ◌≢◌, ℕ, ◌+◌, ◌≤◌, ◌<◌, ◌==◌, Bool, true, false, cond, Option, Some, None, Result, Ok, Err, List, [], ◌∷◌, ◌++◌, fold, All, refl, sym, ap, subst, ◌∙◌, arith}
-use Rattle.std.specs.Prelude.{slice_get, is_some}
+use Rattle.std.proofs.Common.{◌≡◌, ℕ, ◌<◌, ◌==◌, Bool, true, false, cond, Option, Some, None, List, [], ◌∷◌, All, refl, sym, ap, subst, ◌∙◌, arith}
+use Rattle.std.specs.Prelude.{slice_get}
 use Rattle.std.specs.List.{filter_map, flat_map}
-use Rattle.std.proofs.lemmas.Bool.{eqb-true, eqb-false, eq-eqb}
 use Rattle.std.proofs.lemmas.Bool.Decides.{nat_tests}
 use Rattle.std.proofs.lemmas.List.Elements.{All-head, All-tail, filter_map-append}
-use Rattle.std.proofs.lemmas.Option.{same_Some, none-some}
-use Rattle.stateful_types.specs.declared.outcome.Moved.{Moved}
-use Rattle.stateful_types.specs.declared.outcome.Moved.TheVariants.{Pending, Done}
+use Rattle.std.proofs.lemmas.Option.{same_Some}
 use Rattle.stateful_history.specs.declared.event.Event.{Event}
 use Rattle.stateful_history.specs.declared.event.Event.TheVariants as events
-use Rattle.stateful_mailbox.specs.Replies.{is_request, note_of}
 use Rattle.stateful_mailbox.specs.Messages.{event_under}
-use Rattle.stateful_mailbox.specs.Tickets.{ticket_of, end_of, stands_due, stands_queued, handing, cancelling, cancelling_from, telling}
+use Rattle.stateful_mailbox.specs.Tickets.{stands_due, stands_queued, handing}
 use Rattle.stateful_mailbox.specs.Mail.{Mail, HandsOut, Takes, polled_as}
 use Rattle.stateful_mailbox.specs.Mail as mailbox
 use Rattle.stateful_mailbox.specs.Laws.{Call, Steps, asks, cancels, takes, hears, polls, ticket_in, end_by, marks_of, ended_in, HandsReply, TakesOut, Runs}
 use Rattle.stateful_mailbox.specs.Laws as calls
 use Rattle.stateful_mailbox.specs.declared.message.Ask.{Ask}
 use Rattle.stateful_mailbox.specs.declared.message.Ask.TheVariants.{Prepare, Propose, Verify, Report, Subscribe}
-use Rattle.stateful_mailbox.specs.declared.message.Message.{Message}
 use Rattle.stateful_mailbox.specs.declared.reply.Kind.{Kind}
-use Rattle.stateful_mailbox.specs.declared.reply.Reply.{Reply}
-use Rattle.stateful_mailbox.specs.declared.reply.Stopped.{Stopped}
 use Rattle.stateful_mailbox.specs.declared.tickets.Ticket.{Ticket}
-use Rattle.stateful_mailbox.specs.declared.tickets.Standing.{Standing}
-use Rattle.stateful_mailbox.specs.declared.tickets.Standing.TheVariants.{Queued, Handed, Due, Cancelled, Ended}
-use Rattle.stateful_mailbox.proofs.Seeing.{seen, end_seen, changed, polled_out, outcome_seen}
+use Rattle.stateful_mailbox.proofs.Seeing.{seen, end_seen, changed, outcome_seen}
 use Rattle.stateful_mailbox.proofs.Moving.{AreSound, StandsAs, queued_seen, due_seen}
-use Rattle.stateful_mailbox.proofs.Stepping.{noted_as, handed_as, event_as, moved_as, stepped, hands_queued}
-use Rattle.stateful_mailbox.proofs.Fates.{or_else, or_none, or_assoc, first_append, end_told, EndsAs, marks_end, quiet_marks}
+use Rattle.stateful_mailbox.proofs.Stepping.{event_as, moved_as, stepped, hands_queued}
+use Rattle.stateful_mailbox.proofs.Fates.{or_else, first_append, end_told}
 
 module _ {B C I : Type 0} where
   -- ---- events

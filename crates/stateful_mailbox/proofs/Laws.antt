@@ -1,19 +1,16 @@
 -- That a new mailbox keeps the laws, whatever calls come.
-use Rattle.std.proofs.Common.{◌≡◌, ◌≢◌, ℕ, ◌+◌, ◌≤◌, ◌<◌, ◌==◌, Bool, true, false, cond, Option, Some, None, Result, Ok, Err, List, [], ◌∷◌, ◌++◌, length, All, refl, sym, ap, subst, ◌∙◌, arith, length-append}
+use Rattle.std.proofs.Common.{◌≡◌, ◌≢◌, ℕ, ◌+◌, ◌≤◌, ◌<◌, ◌==◌, Bool, true, false, cond, Option, Some, None, List, [], ◌∷◌, ◌++◌, length, All, refl, sym, ap, subst, ◌∙◌, arith, length-append}
 use Rattle.std.specs.Prelude.{nat_lt}
 use Rattle.std.specs.List.{filter_map, flat_map}
-use Rattle.std.proofs.lemmas.Bool.{eq-eqb, eqb-true}
+use Rattle.std.proofs.lemmas.Bool.{eq-eqb}
 use Rattle.std.proofs.lemmas.Bool.Decides.{nat_tests}
 use Rattle.std.proofs.lemmas.List.Elements.{All-nil, All-cons, All-head, All-tail}
 use Rattle.std.proofs.lemmas.Option.{none-some, same_Some}
-use Rattle.stateful_types.specs.Mailbox.{queues}
-use Rattle.stateful_types.specs.declared.outcome.Moved.{Moved}
-use Rattle.stateful_types.specs.declared.outcome.Moved.TheVariants.{Pending}
 use Rattle.stateful_history.specs.declared.event.Event.{Event}
 use Rattle.stateful_history.specs.declared.event.Event.TheVariants as events
 use Rattle.stateful_mailbox.specs.Replies.{is_request, note_of}
 use Rattle.stateful_mailbox.specs.Messages.{kind_of}
-use Rattle.stateful_mailbox.specs.Tickets.{Book, empty_book, ticket_of, end_of, stands_due, stands_queued, handing, cancelling, cancelling_from, telling, first_due}
+use Rattle.stateful_mailbox.specs.Tickets.{empty_book, ticket_of, stands_due, stands_queued, handing, cancelling, cancelling_from, telling, first_due}
 use Rattle.stateful_mailbox.specs.Mail.{Mail, empty_mail, Takes, polled_as}
 use Rattle.stateful_mailbox.specs.Mail as mailbox
 use Rattle.stateful_mailbox.specs.Laws.{Call, Steps, asks, cancels, takes, hears, polls, Runs, asks_of, marks_of, ticket_in, ended_in, TakesOut, HandsReply, KeepsLaws}
@@ -26,7 +23,7 @@ use Rattle.stateful_mailbox.specs.declared.tickets.Standing.TheVariants.{Queued,
 use Rattle.stateful_mailbox.proofs.Books.{or_same}
 use Rattle.stateful_mailbox.proofs.Seeing.{seen, end_seen, changed, seen_fresh}
 use Rattle.stateful_mailbox.proofs.Moving.{AreSound, StandsAs, due_least}
-use Rattle.stateful_mailbox.proofs.Stepping.{event_as, moved_as, stepped, hands_tickets, answered_number}
+use Rattle.stateful_mailbox.proofs.Stepping.{event_as, stepped, hands_tickets, answered_number}
 use Rattle.stateful_mailbox.proofs.Fates.{or_else, end_told, EndsAs}
 use Rattle.stateful_mailbox.proofs.Following.{is_cancel, Means, cancel, hands, other, meaning, Fits, taken_fits, fits, Keeps, one_kept, all_kept, ended_more}
 use Rattle.stateful_mailbox.proofs.Replying.{calls_end}
@@ -269,7 +266,7 @@ module _ {B C I : Type 0} where
           let P = λ (s : Option (Ticket B)). s ≡ Some ticket in
           let start : Keeps t P m = record { sound = had.sound; drawn = had.drawn; holds = at } in
           let behind_it = one_kept t P (Passing ticket.kind is_settled) m after (calls.taken (Some first))
-              (λ s fit at. subst (λ (e : Event B C I). Passing ticket.kind is_settled (event_as t e s)) (sym is) (told ticket.kind (u == t) s here ticket at refl)) step start in
+          (λ s fit at. subst (λ (e : Event B C I). Passing ticket.kind is_settled (event_as t e s)) (sym is) (told ticket.kind (u == t) s here ticket at refl)) step start in
           let still = still_settled t ticket.kind between after q.0 q.1 behind_it in
           absurd (settled_never ticket.kind (is_cancel second) (seen q.0.tickets t) (again still.sound) still.holds)
       go (Some ticket) at stands (hands u of_first plain gives) =
@@ -277,9 +274,9 @@ module _ {B C I : Type 0} where
           let P = λ (s : Option (Ticket B)). s ≡ Some ticket in
           let start : Keeps t P m = record { sound = had.sound; drawn = had.drawn; holds = at } in
           let behind_it = one_kept t P (Passing ticket.kind isnt_queued) m after (calls.taken (Some first))
-              (λ s fit at. subst (Passing ticket.kind isnt_queued) (sym (gives s)) (handed ticket.kind (u == t) s here ticket at refl)) step start in
+          (λ s fit at. subst (Passing ticket.kind isnt_queued) (sym (gives s)) (handed ticket.kind (u == t) s here ticket at refl)) step start in
           let still = all_kept t (Passing {B = B} ticket.kind isnt_queued) (λ call. Unit {0}) (λ call s fine fit passes. call_passes t ticket.kind isnt_queued not_queued_kept call s (λ lets. absurd (cc)) fit passes)
-              between after q.0 (all_of (λ call. Unit {0}) (λ call. tt) between) q.1 behind_it in
+          between after q.0 (all_of (λ call. Unit {0}) (λ call. tt) between) q.1 behind_it in
           (λ is. absurd (let e = sym plain ∙ ap is_cancel is in cc), cancels_it ticket.kind still)
       go (Some ticket) at stands (other none gives) = absurd (none-some t (sym none ∙ of))
 

@@ -1,33 +1,20 @@
 -- What a call makes of a ticket.
-use Rattle.std.proofs.Common.{◌≡◌, ℕ, ◌+◌, ◌≤◌, ◌<◌, ◌==◌, ◌&&◌, Bool, true, false, cond, Option, Some, None, Result, List, [], ◌∷◌, ◌++◌, fold, refl, sym, ap, subst, ◌∙◌, arith}
-use Rattle.std.specs.Prelude.{nat_lt, nat_le, is_some}
+use Rattle.std.proofs.Common.{◌≡◌, ℕ, ◌+◌, ◌≤◌, ◌&&◌, Bool, true, false, cond, Option, Some, None, refl, sym, ap, subst, ◌∙◌, arith}
+use Rattle.std.specs.Prelude.{nat_le, is_some}
 use Rattle.std.specs.Option.{option_map}
-use Rattle.std.specs.List.{find, filter_map}
+use Rattle.std.specs.List.{find}
 use Rattle.std.proofs.lemmas.Bool.{and_parts}
 use Rattle.std.proofs.lemmas.Bool.Decides.{nat_tests}
 use Rattle.std.proofs.lemmas.Option.{none-some, same_Some}
-use Rattle.stateful_table.specs.Table.{at, put, without}
-use Rattle.stateful_history.specs.declared.event.Event.{Event}
-use Rattle.stateful_history.specs.declared.event.Event.TheVariants as events
-use Rattle.stateful_history.specs.declared.mark.Mark.{Mark}
-use Rattle.stateful_mailbox.specs.Replies.{note_of}
-use Rattle.stateful_mailbox.specs.Messages.{kind_of, event_of, event_under}
-use Rattle.stateful_mailbox.specs.Tickets.{Book, ticket_of, stands_due, stands_queued, handing, cancelling, telling, ending, is_queued_from, moved, was_stopped, opened, is_queued, handed_out, cancelled, is_due, first_due, told, told_of, told_due, ended, outcome_of, taken_out, AreBelow}
-use Rattle.stateful_mailbox.specs.Mail.{Mail, mail, Asks, HandsOut, Takes, noted, answered}
-use Rattle.stateful_mailbox.specs.Mail as mailbox
-use Rattle.stateful_mailbox.specs.Laws.{Call, Steps, ticket_in}
-use Rattle.stateful_mailbox.specs.Laws as calls
-use Rattle.stateful_mailbox.specs.declared.message.Ask.{Ask}
-use Rattle.stateful_mailbox.specs.declared.message.Ask.TheVariants as kinds
-use Rattle.stateful_mailbox.specs.declared.note.Note.{Note}
-use Rattle.stateful_mailbox.specs.declared.note.Note.TheVariants.{Ends, Stops}
+use Rattle.stateful_table.specs.Table.{at, without}
+use Rattle.stateful_mailbox.specs.Tickets.{Book, ticket_of, stands_due, stands_queued, handing, cancelling, telling, ending, is_queued_from, moved, was_stopped, opened, is_queued, handed_out, cancelled, is_due, first_due, told_of, told_due, ended, outcome_of, taken_out, AreBelow}
 use Rattle.stateful_mailbox.specs.declared.reply.Kind.{Kind}
 use Rattle.stateful_mailbox.specs.declared.tickets.Ticket.{Ticket}
 use Rattle.stateful_mailbox.specs.declared.tickets.Standing.{Standing}
-use Rattle.stateful_mailbox.specs.declared.tickets.Standing.TheVariants.{Queued, Due}
+use Rattle.stateful_mailbox.specs.declared.tickets.Standing.TheVariants.{Queued}
 use Rattle.stateful_mailbox.proofs.Books.{opened_below, handed_below, cancelled_below, told_below, ended_below, taken_below}
 use Rattle.stateful_mailbox.proofs.Ascending.{Ascends, ascends-put, ascends-without, found_at, found_least}
-use Rattle.stateful_mailbox.proofs.Seeing.{stopped_standing, seen, seen_as, changed, polled_out, not_stopped, seen_moved, seen_cancelled, seen_ended, seen_taken, seen_stopped, seen_opened}
+use Rattle.stateful_mailbox.proofs.Seeing.{stopped_standing, seen, seen_as}
 
 -- ---- tickets in order
 

@@ -1,13 +1,12 @@
 -- How a ticket ends, over calls.
-use Rattle.std.proofs.Common.{◌≡◌, ◌≢◌, ℕ, ◌==◌, Bool, true, false, cond, Option, Some, None, Result, Ok, Err, List, [], ◌∷◌, ◌++◌, fold, All, refl, sym, ap, subst, ◌∙◌}
+use Rattle.std.proofs.Common.{◌≡◌, ◌≢◌, ℕ, ◌==◌, Bool, true, false, cond, Option, Some, None, Result, Ok, Err, List, [], ◌∷◌, fold, All, refl, sym, ap, subst, ◌∙◌}
 use Rattle.std.specs.Prelude.{is_some}
 use Rattle.std.specs.List.{filter_map}
 use Rattle.std.proofs.lemmas.Bool.{eqb-true}
 use Rattle.std.proofs.lemmas.List.Elements.{All-head, All-tail}
 use Rattle.stateful_types.specs.declared.outcome.Moved.{Moved}
-use Rattle.stateful_types.specs.declared.outcome.Moved.TheVariants.{Pending, Done}
+use Rattle.stateful_types.specs.declared.outcome.Moved.TheVariants.{Pending}
 use Rattle.stateful_history.specs.declared.event.Event.{Event}
-use Rattle.stateful_history.specs.declared.event.Event.TheVariants as events
 use Rattle.stateful_mailbox.specs.Replies.{is_request, note_of}
 use Rattle.stateful_mailbox.specs.Messages.{kind_of}
 use Rattle.stateful_mailbox.specs.Tickets.{ticket_of, end_of, stands_due, stands_queued, handing, cancelling, cancelling_from, telling}
@@ -25,7 +24,7 @@ use Rattle.stateful_mailbox.proofs.Seeing.{end_seen, changed, polled_out}
 use Rattle.stateful_mailbox.proofs.Moving.{StandsAs}
 use Rattle.stateful_mailbox.proofs.Stepping.{noted_as, event_as, moved_as}
 use Rattle.stateful_mailbox.proofs.Fates.{or_else, or_none, or_assoc, end_told, EndsAs, marks_end}
-use Rattle.stateful_mailbox.proofs.Following.{is_cancel, Means, cancel, hands, other, meaning, Fits, Keeps, one_kept, ended_more}
+use Rattle.stateful_mailbox.proofs.Following.{Means, cancel, hands, other, meaning, Fits, Keeps, one_kept, ended_more}
 
 -- what is told of a ticket that has ended isn't that it is pending
 pub told_ended : {B : Type 0} (o : Result (Reply B) Stopped) → polled_as (Some o) ≡ Ok Pending → ⊥
@@ -121,6 +120,6 @@ module _ {B C I : Type 0} (t : ℕ) (kind : Kind) where
   calls_end [] m last o silent runs keeps = subst (λ (w : Mail B C I). Keeps t (λ s. EndsAs t kind s (or_else o None)) w) (sym runs) (record { sound = keeps.sound; drawn = keeps.drawn; holds = unmarked t kind _ o keeps.holds })
   calls_end (call ∷ list) m last o silent runs keeps =
       let behind = one_kept t (λ s. EndsAs t kind s o) (λ s. EndsAs t kind s (or_else o (end_told t kind (marks_of call)))) m runs.0 call
-          (λ s fit ends. call_ends call s o fit (All-head (λ call. HandsReply t call → ⊥) call list silent) ends) runs.1 keeps in
+      (λ s fit ends. call_ends call s o fit (All-head (λ call. HandsReply t call → ⊥) call list silent) ends) runs.1 keeps in
       let rest = calls_end list runs.0 last (or_else o (end_told t kind (marks_of call))) (All-tail (λ call. HandsReply t call → ⊥) call list silent) runs.2 behind in
       subst (λ w. Keeps t (λ s. EndsAs t kind s w) last) (or_assoc o (end_told t kind (marks_of call)) (ended_in t kind list) ∙ sym (ap (or_else o) (ended_more t kind call list))) rest

@@ -1,12 +1,12 @@
 -- How a ticket is seen to stand, and what each call makes of it.
-use Rattle.std.proofs.Common.{◌≡◌, ℕ, ◌+◌, ◌≤◌, ◌<◌, ◌==◌, Bool, true, false, not, cond, Option, Some, None, Result, List, [], ◌∷◌, fold, refl, sym, ap, subst, ◌∙◌, arith}
+use Rattle.std.proofs.Common.{◌≡◌, ℕ, ◌≤◌, ◌==◌, Bool, true, false, cond, Option, Some, None, Result, refl, sym, ap, ◌∙◌, arith}
 use Rattle.std.specs.Prelude.{nat_lt, is_some}
-use Rattle.std.proofs.lemmas.Bool.{eqb-true, eqb-false}
+use Rattle.std.proofs.lemmas.Bool.{eqb-true}
 use Rattle.std.proofs.lemmas.Bool.Decides.{nat_tests}
-use Rattle.stateful_table.specs.Table.{at, put, without}
+use Rattle.stateful_table.specs.Table.{at, without}
 use Rattle.stateful_table.proofs.Tables.{at-put, at-without}
 use Rattle.stateful_mailbox.specs.Replies.{is_request, outcome, gone}
-use Rattle.stateful_mailbox.specs.Tickets.{Book, book, ticket_of, end_of, handing, cancelling, cancelling_from, telling, ended_by, ending, end_by_stop, outcome_from, moved, was_stopped, opened, handed_out, cancelled, told, ended, outcome_of, taken_out, AreBelow}
+use Rattle.stateful_mailbox.specs.Tickets.{Book, ticket_of, end_of, cancelling, cancelling_from, ended_by, ending, end_by_stop, outcome_from, moved, was_stopped, opened, cancelled, ended, outcome_of, taken_out, AreBelow}
 use Rattle.stateful_mailbox.specs.declared.note.Answer.{Answer}
 use Rattle.stateful_mailbox.specs.declared.reply.Kind.{Kind}
 use Rattle.stateful_mailbox.specs.declared.reply.Reply.{Reply}

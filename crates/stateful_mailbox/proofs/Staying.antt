@@ -1,5 +1,5 @@
 -- What a ticket can't become any more, over calls.
-use Rattle.std.proofs.Common.{◌≡◌, ◌≢◌, ℕ, ◌==◌, Bool, true, false, cond, Option, Some, None, Result, Ok, Err, List, [], ◌∷◌, ◌++◌, fold, All, refl, sym, ap, subst, ◌∙◌}
+use Rattle.std.proofs.Common.{◌≡◌, ℕ, ◌==◌, Bool, true, false, cond, Option, Some, None, Result, List, [], ◌∷◌, fold, refl, sym, ap, subst, ◌∙◌}
 use Rattle.std.specs.Prelude.{is_some}
 use Rattle.std.specs.List.{filter_map}
 use Rattle.std.proofs.lemmas.Bool.{eqb-true}
@@ -18,11 +18,11 @@ use Rattle.stateful_mailbox.specs.declared.tickets.Ticket.{Ticket}
 use Rattle.stateful_mailbox.specs.declared.tickets.Standing.{Standing}
 use Rattle.stateful_mailbox.specs.declared.tickets.Standing.TheVariants.{Queued, Handed, Due, Cancelled, Ended}
 use Rattle.stateful_mailbox.proofs.Books.{or_same}
-use Rattle.stateful_mailbox.proofs.Seeing.{stopped_standing, seen_as, end_seen, changed, polled_out}
+use Rattle.stateful_mailbox.proofs.Seeing.{stopped_standing, end_seen, changed, polled_out}
 use Rattle.stateful_mailbox.proofs.Moving.{StandsAs}
 use Rattle.stateful_mailbox.proofs.Stepping.{noted_as, event_as, moved_as}
 use Rattle.stateful_mailbox.proofs.Fates.{end_told, quiet_marks}
-use Rattle.stateful_mailbox.proofs.Following.{is_cancel, Means, cancel, hands, other, meaning, Fits}
+use Rattle.stateful_mailbox.proofs.Following.{Means, cancel, hands, other, meaning, Fits}
 
 module _ {B : Type 0} where
   -- queued, or ended before it was handed out

@@ -1,13 +1,12 @@
 -- What each call makes of a ticket.
-use Rattle.std.proofs.Common.{◌≡◌, ℕ, ◌+◌, ◌≤◌, ◌<◌, ◌==◌, Bool, true, false, cond, Option, Some, None, Result, List, [], ◌∷◌, ◌++◌, fold, refl, sym, ap, subst, ◌∙◌, arith}
+use Rattle.std.proofs.Common.{◌≡◌, ℕ, ◌≤◌, ◌==◌, true, cond, Option, Some, None, List, [], ◌∷◌, fold, refl, sym, ap, ◌∙◌, arith}
 use Rattle.std.specs.List.{filter_map}
 use Rattle.std.proofs.lemmas.Option.{same_Some}
 use Rattle.stateful_history.specs.declared.event.Event.{Event}
 use Rattle.stateful_history.specs.declared.event.Event.TheVariants as events
-use Rattle.stateful_history.specs.declared.mark.Mark.{Mark}
 use Rattle.stateful_mailbox.specs.Replies.{note_of}
-use Rattle.stateful_mailbox.specs.Messages.{kind_of, event_of, event_under}
-use Rattle.stateful_mailbox.specs.Tickets.{Book, ticket_of, stands_due, stands_queued, handing, cancelling, telling, ending, opened, is_queued, handed_out, first_due, told_of, told_due, AreBelow}
+use Rattle.stateful_mailbox.specs.Messages.{kind_of, event_under}
+use Rattle.stateful_mailbox.specs.Tickets.{Book, ticket_of, handing, cancelling, telling, ending, is_queued, told_of}
 use Rattle.stateful_mailbox.specs.Mail.{Mail, mail, Asks, HandsOut, Takes, noted, answered}
 use Rattle.stateful_mailbox.specs.Mail as mailbox
 use Rattle.stateful_mailbox.specs.Laws.{Call, Steps, asks, cancels, takes, hears, polls, ticket_in}
@@ -20,7 +19,7 @@ use Rattle.stateful_mailbox.specs.declared.note.Note.TheVariants.{Ends, Stops}
 use Rattle.stateful_mailbox.specs.declared.tickets.Ticket.{Ticket}
 use Rattle.stateful_mailbox.specs.declared.tickets.Standing.TheVariants.{Queued}
 use Rattle.stateful_mailbox.proofs.Seeing.{seen, seen_as, changed, polled_out, seen_moved, seen_cancelled, seen_ended, seen_taken, seen_stopped, seen_opened}
-use Rattle.stateful_mailbox.proofs.Moving.{AreSound, StandsAs, opened_sound, handed_sound, cancelled_sound, told_sound, ended_sound, taken_sound, queued_seen, due_seen}
+use Rattle.stateful_mailbox.proofs.Moving.{AreSound, opened_sound, handed_sound, cancelled_sound, told_sound, ended_sound, taken_sound, queued_seen, due_seen}
 
 -- ---- what becomes of a ticket
 
@@ -94,12 +93,12 @@ module _ {B C I : Type 0} where
   -- ---- what a call leaves
 
   pub hands_tickets : (m next : Mail B C I) (found : Option (Message B C I)) → HandsOut m found next → (next.tickets ≡ m.tickets) × (next.next_ticket ≡ m.next_ticket)
-  hands_tickets m next found (mailbox.nothing all empty) = (refl, refl)
-  hands_tickets m next found (mailbox.message passed front all waits) = (refl, refl)
+  hands_tickets m next found (mailbox.nothing all empty shape) = (refl, refl)
+  hands_tickets m next found (mailbox.message passed front all waits shape) = (refl, refl)
 
   pub hands_queued : (m next : Mail B C I) (found : Option (Message B C I)) (message : Message B C I) → HandsOut m found next → found ≡ Some message → is_queued m.tickets message.ticket ≡ true
-  hands_queued m next found message (mailbox.nothing all empty) is = absurd (let e = sym is in cc)
-  hands_queued m next found message (mailbox.message {first = first} passed front all waits) is = ap (λ (w : Message B C I). is_queued m.tickets w.ticket) (sym (same_Some first message is)) ∙ waits
+  hands_queued m next found message (mailbox.nothing all empty shape) is = absurd (let e = sym is in cc)
+  hands_queued m next found message (mailbox.message {first = first} passed front all waits shape) is = ap (λ (w : Message B C I). is_queued m.tickets w.ticket) (sym (same_Some first message is)) ∙ waits
 
   -- what a call leaves of a ticket, and that tickets are drawn one by one
   pub record Stepped (t : ℕ) (m after : Mail B C I) (call : Call B C I) : Type 0 where

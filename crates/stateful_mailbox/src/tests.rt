@@ -76,23 +76,31 @@ enum Taken {
 }
 
 fn take(mailbox: &mut Letters) -> Option<Taken> {
-    Some(match mailbox.take()? {
+    let event = mailbox.take()?;
+    let taken = taken_as(&event);
+    Some(taken)
+}
+
+fn taken_as(event: &Event<Letter, u8, u8>) -> Taken {
+    match event {
         Event::Prepare {
             ticket,
             ancestry,
             ..
-        } => Taken::Prepare(ticket, ancestry.first.inner().letter),
+        } => Taken::Prepare(*ticket, ancestry.first.inner().letter),
         Event::Propose {
             ticket,
             ancestry,
             ..
-        } => Taken::Propose(ticket, ancestry.first.inner().letter),
-        Event::Verify { ticket, ancestry } => Taken::Verify(ticket, ancestry.first.inner().letter),
-        Event::Finalized { ticket, block } => Taken::Finalized(ticket, block.inner().letter),
-        Event::Subscribe { ticket } => Taken::Subscribe(ticket),
-        Event::Cancel { ticket } => Taken::Cancel(ticket),
+        } => Taken::Propose(*ticket, ancestry.first.inner().letter),
+        Event::Verify { ticket, ancestry } => {
+            Taken::Verify(*ticket, ancestry.first.inner().letter)
+        }
+        Event::Finalized { ticket, block } => Taken::Finalized(*ticket, block.inner().letter),
+        Event::Subscribe { ticket } => Taken::Subscribe(*ticket),
+        Event::Cancel { ticket } => Taken::Cancel(*ticket),
         _ => Taken::Other,
-    })
+    }
 }
 
 /// What became of a ticket, with the letter of the block that it was answered with.

@@ -1,4 +1,4 @@
-use Rattle.std.proofs.Common.{sym, ap, subst, ◌∙◌}
+use Rattle.std.proofs.Common.{sym, subst}
 use Rattle.stateful_mailbox.specs.Tickets.{Book, empty_book}
 use Rattle.stateful_mailbox.specs.Mail.{mail}
 use Rattle.stateful_mailbox.specs.Laws.{KeepsLaws}
