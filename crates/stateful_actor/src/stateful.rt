@@ -1,8 +1,10 @@
 //! The machine.
 
-ghost use Rattle.std.specs.Prelude.{◌≡◌, [], IfOk};
+ghost use Rattle.std.specs.Prelude.{◌≡◌, [], ℕ, Option, IfOk};
+ghost use Rattle.stateful_types.specs.Names.{Named};
 ghost use Rattle.stateful_processing.specs.Moments.{moment};
 ghost use Rattle.stateful_whole.specs.Machine.{IsNew};
+ghost use Rattle.stateful_whole.specs.Media.{IsAsAtStart, MediaStand};
 
 use stateful_db::{Application, DatabaseSet};
 use stateful_exec::{Handler, Processor, Worked};
@@ -73,11 +75,17 @@ const NOWHERE: Anchor = Anchor {
 };
 
 impl<A: Application + Drop> Stateful<A> {
-    /// A machine that is down, of this configuration.
+    /// A machine that is down, of this configuration. Media that are as at the start stand for the empty past beside it.
     pub fn new(alloc: Global, config: Config<A>) -> Result<Stateful<A>, NewError>
         ensures new { IfOk result (λ s. (m : A.Databases.kind.Members) (n : A.Databases.Ids)
             → IsNew ⟦<A as Worked>⟧.workings s.failed s.register
             (moment ⟦<A as Worked>⟧.workings s.execution s.loop m n [])) }
+        ensures media { IfOk result (λ s. let w = ⟦<A as Worked>⟧.workings in
+            (stored : ℕ → Option (Named A.Block))
+            (m : A.Databases.kind.Members)
+            (n : A.Databases.Ids)
+            → IsAsAtStart w stored m
+            → MediaStand w stored [] s.failed (moment w s.execution s.loop m n [])) }
         ensures application { IfOk result (λ s. s.application ≡ config.application) }
         ensures config { IfOk result (λ s. (s.provider ≡ config.provider)
             × (s.config ≡ config.db_config)) }

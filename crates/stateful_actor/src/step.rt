@@ -221,7 +221,9 @@ impl<A: Application + Drop> Stateful<A> {
             (moment w self.new.execution self.new.loop (A.Databases.members databases.new)
             (A.Databases.next databases.new) [])) }
         ensures tried { OnErr result (let w = ⟦<A as Worked>⟧.workings in
-            LeavesMedia w (S.stored store.old) event self.old.failed self.old.register
+            LeavesMedia w (S.stored store.old) self.old.provider
+            (record { run = A.Run.count; build = A.Build.count; hook = A.Hook.count }) event
+            self.old.failed self.old.register
             (moment w self.old.execution self.old.loop (A.Databases.members databases.old)
             (A.Databases.next databases.old) [])
             self.new.failed self.new.register

@@ -55,10 +55,14 @@ module _ {B C I P R D H G U : Type 0} (w : Workings B C I P R D H G U) (laws : L
   step-restart counts provider register event m now step = tt
 
   -- where nothing was changed, an event that isn't a restart leaves all as it was
-  pub leaves-unchanged : (event : Event B C I) → is_restart event ≡ false → (failed : Bool) (register : Register) (m : Moment w)
-      → LeavesMedia w stored_now event failed register m failed register m
-  leaves-unchanged (Restart floor keep) other failed register m = absurd (true≢false other)
-  leaves-unchanged event other failed register m = record { made = []; stands = λ stored base p s stored_is names honest rise few. s }
+  pub leaves-unchanged : (counts : Counts R D H) (provider : P) (event : Event B C I) → is_restart event ≡ false → (failed : Bool)
+      (register : Register) (m : Moment w) → LeavesMedia w stored_now provider counts event failed register m failed register m
+  leaves-unchanged counts provider (Restart floor keep) other failed register m = absurd (true≢false other)
+  leaves-unchanged counts provider event other failed register m = record {
+    made = [];
+    left = inl refl;
+    stands = λ stored base p s stored_is names honest rise few. s;
+  }
 
   module _ (counts : Counts R D H) (provider : P) (runs_cost : RunsTakeTurns w) (builds_cost : BuildsTakeTurns w) (failed : Bool)
       (register : Register) (m : Moment w) (unmarked : m.marks ≡ []) (sound : w.kind.Sound m.members) (now_failed : Bool)
@@ -88,9 +92,10 @@ module _ {B C I P R D H G U : Type 0} (w : Workings B C I P R D H G U) (laws : L
               before q i b (inr none) is within = k q i b (inr none) is within
           of (inr fails_to) = tried-media w laws stored stored_now p stored_is rise floor keep m.members sound k now.members few fails_to
 
-      leaves_restart : LeavesMedia w stored_now (Restart floor keep) failed register m now_failed now_register now
+      leaves_restart : LeavesMedia w stored_now provider counts (Restart floor keep) failed register m now_failed now_register now
       leaves_restart = record {
         made = [];
+        left = inl refl;
         stands = λ stored base p s stored_is names honest rise few.
             stands_failed stored base p (Restart floor keep) s (tried_keeps stored p stored_is rise few s.media.reopenable);
       }
@@ -116,9 +121,10 @@ module _ {B C I P R D H G U : Type 0} (w : Workings B C I P R D H G U) (laws : L
               (NamesBehind-marks w stored base (Came event ∷ p) m taken made (sym is ∙ ap (λ (ms : List (Mark B)). ms ++ made) (sym unmarked)) names)
               now.members few l.left
 
-      leaves_play : LeavesMedia w stored_now event failed register m now_failed now_register now
+      leaves_play : LeavesMedia w stored_now provider counts event failed register m now_failed now_register now
       leaves_play = record {
         made = made;
+        left = inr left;
         stands = λ stored base p s stored_is names honest rise few.
             stands_failed stored base p event s (subst (λ (r : Past B C I). KeepsReopenable w stored r now.members) (sym (same p))
             (play_keeps stored base p s stored_is names honest few));
@@ -129,7 +135,7 @@ module _ {B C I P R D H G U : Type 0} (w : Workings B C I P R D H G U) (laws : L
         → ((p : Past B C I) → RegisterStands (numbered w.kind.count) p register → may_come (numbered w.kind.count) p event ≡ true)
         → (is_restart event ≡ false → (made : List (Mark B)) × LeavesPlay w stored_now provider counts event m now.members made)
         → LeavesRestart w stored_now event m.members now.members
-        → LeavesMedia w stored_now event failed register m now_failed now_register now
+        → LeavesMedia w stored_now provider counts event failed register m now_failed now_register now
     leaves-media (Restart floor keep) works up may left restart = leaves_restart floor keep restart
     leaves-media event works up may left restart =
         let l = left refl in leaves_play event (λ no. no) (λ p. refl) (works refl) (up refl) may l.0 l.1

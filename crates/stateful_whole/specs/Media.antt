@@ -1,5 +1,5 @@
 -- What the media stand for between two events, and behind an event that was refused.
-use Rattle.std.specs.Prelude.{◌≡◌, ◌⊎◌, ◌<◌, ◌^◌, ◌∷◌, ℕ, Bool, true, false, Option, Some, List}
+use Rattle.std.specs.Prelude.{◌≡◌, ◌⊎◌, ◌<◌, ◌^◌, ◌∷◌, [], ℕ, Bool, true, false, Option, Some, List}
 use Rattle.stateful_types.specs.Names.{Named}
 use Rattle.stateful_history.specs.Met.{TrueNames}
 use Rattle.stateful_history.specs.Opening.{opening, base_after}
@@ -12,10 +12,12 @@ use Rattle.stateful_exec.specs.Workings.{Workings, Point}
 use Rattle.stateful_register.specs.declared.register.Register.{Register}
 use Rattle.stateful_standing.specs.Setting.{setting}
 use Rattle.stateful_standing.specs.Storing.{IsStoredNow}
-use Rattle.stateful_keeping.specs.Media.{TargetsRise, KeepsReopenable, KeepsHeights}
+use Rattle.stateful_keeping.specs.Media.{KeepsDurably, TargetsRise, KeepsReopenable, KeepsHeights}
 use Rattle.stateful_keeping.specs.Ways.{HasHonestStore}
+use Rattle.stateful_processing.specs.Intake.{Counts}
 use Rattle.stateful_processing.specs.Left.{LeavesOpening}
 use Rattle.stateful_processing.specs.Moments.{Moment}
+use Rattle.stateful_whole.specs.Left.{LeavesPlay}
 use Rattle.stateful_whole.specs.Stands.{Stands}
 
 module _ {B C I : Type 0} where
@@ -32,6 +34,14 @@ module _ {B C I P R D H G U : Type 0} (w : Workings B C I P R D H G U) where
       pub reopenable : KeepsReopenable w stored p m.members
       pub heights : failed ≡ false → m.loop.up ≡ true
           → KeepsHeights w stored (opening p) m.execution.state.anchor m.members
+
+    -- The media are as at the start: each database keeps durably a checkpoint of its part of the initial
+    -- states, to which the store's first block commits, if it has one.
+    pub record IsAsAtStart (m : w.kind.Members) : Type 0 where
+      pub initial : (i : ℕ) → i < w.kind.count
+          → KeepsDurably w.kind m (w.kind.target_of w.kind.initial) i
+      pub genesis : (b : Named B) → stored 0 ≡ Some b
+          → w.works.meaning.targets b.block ≡ w.kind.target_of w.kind.initial
 
     -- the machine stands for this past, and the media do
     pub record StandsOnMedia (base : w.States) (p : Past B C I) (failed : Bool) (register : Register)
@@ -56,13 +66,15 @@ module _ {B C I P R D H G U : Type 0} (w : Workings B C I P R D H G U) where
       (new ≡ old) ⊎ LeavesOpening w stored_now floor keep old new
   LeavesRestart stored_now event old new = Unit {0}
 
-  -- What an event that was refused left, with the marks that it made, if it made any. Whatever past the
-  -- machine and the media stood for, they stand for it behind the refusal: where names are true with the
-  -- event and these marks, the store is honest and its targets rise, and databases are fewer than 2^64.
-  pub record LeavesMedia (stored_now : ℕ → Option (Named B)) (event : Event B C I) (failed : Bool)
-      (register : Register) (m : Moment w) (now_failed : Bool) (now_register : Register) (now : Moment w)
-      : Type 0 where
+  -- What an event that was refused left, with the marks that its intake made, if it made any. Whatever
+  -- past the machine and the media stood for, they stand for it behind the refusal, where names are true
+  -- with the event and these marks, the store is honest and its targets rise, and databases are fewer than
+  -- 2^64.
+  pub record LeavesMedia (stored_now : ℕ → Option (Named B)) (provider : P) (counts : Counts R D H)
+      (event : Event B C I) (failed : Bool) (register : Register) (m : Moment w) (now_failed : Bool)
+      (now_register : Register) (now : Moment w) : Type 0 where
     pub made : List (Mark B)
+    pub left : (made ≡ []) ⊎ LeavesPlay w stored_now provider counts event m now.members made
     pub stands : (stored : ℕ → Option (Named B))
         (base : w.States)
         (p : Past B C I)

@@ -138,7 +138,7 @@ returns-in_err-admit-clause-tried g c =
     let was = c.self.inside in
     let old = moment w (executing was.handler) was.processing (D.members c.args.databases.now) (D.next c.args.databases.now) [] in
     rw (← c.self.view_is) (on_err _
-    (leaves-unchanged w g.met.A.Databases.DatabaseSet.laws (g.S.BlockStore.stored c.args.store.now) c.args.event c.in_err-admit.ensures.other
+    (leaves-unchanged w g.met.A.Databases.DatabaseSet.laws (g.S.BlockStore.stored c.args.store.now) _ _ c.args.event c.in_err-admit.ensures.other
     was.failed was.register old))
 
 pub returns-in-Err-clause-tried : goal.returns-in-Err-clause-tried
