@@ -63,7 +63,7 @@ module _ {B C I P R D H G U : Type 0} (w : Workings B C I P R D H G U) (stored :
   FaultsStep counts start «end» new m event e = FaultsPlay counts start «end» new m event e
 
   -- An event is refused where memory ran out; where the machine has failed and the event isn't a restart; where the event may
-  -- not come; and where what it does isn't done.
+  -- not come; and where it may come, and what it does isn't done.
   pub data IsCause (counts : Counts R D H) (failed : Bool) (register : Register) (event : Event B C I)
       (start «end» : Tally) (new : w.kind.Members) (m : Moment w) (e : StepError) : Type 0 where
     memory : e ≡ OutOfMemory → IsCause counts failed register event start «end» new m e
@@ -73,5 +73,7 @@ module _ {B C I P R D H G U : Type 0} (w : Workings B C I P R D H G U) (stored :
         → ((p : Past B C I) → RegisterStands (numbered w.kind.count) p register → m.loop.up ≡ not (is_down p)
         → may_come (numbered w.kind.count) p event ≡ false)
         → IsCause counts failed register event start «end» new m e
-    fault : FaultsStep counts start «end» new m event e
+    fault : ((p : Past B C I) → RegisterStands (numbered w.kind.count) p register
+        → may_come (numbered w.kind.count) p event ≡ true)
+        → FaultsStep counts start «end» new m event e
         → IsCause counts failed register event start «end» new m e

@@ -1,5 +1,5 @@
 -- What a request leaves of a mailbox.
-use Rattle.std.proofs.Common.{ℕ, ◌+◌, refl}
+use Rattle.std.proofs.Common.{◌+◌, refl}
 use Rattle.stateful_types.specs.Mailbox.{Queues}
 use Rattle.stateful_types.specs.declared.mailbox.Feedback.{Feedback}
 use Rattle.stateful_mailbox.specs.Sending.{Sends}

@@ -1,12 +1,11 @@
 -- What changes leave of the tickets of a mailbox.
-use Rattle.std.proofs.Common.{◌≡◌, ℕ, ◌+◌, ◌≤◌, ◌==◌, Bool, true, false, cond, Option, Some, None, List, refl, sym, ap, ◌∙◌, arith}
+use Rattle.std.proofs.Common.{◌≡◌, ℕ, ◌+◌, ◌==◌, Bool, true, false, cond, Option, Some, None, refl, ap, ◌∙◌, arith}
 use Rattle.std.specs.Prelude.{is_some}
 use Rattle.std.proofs.lemmas.Bool.{eqb-true}
 use Rattle.std.proofs.lemmas.Bool.Decides.{nat_tests}
-use Rattle.stateful_table.specs.Table.{at, put, without}
+use Rattle.stateful_table.specs.Table.{at, without}
 use Rattle.stateful_table.proofs.Tables.{at-put, at-without, restored}
-use Rattle.stateful_mailbox.specs.Replies.{is_request, outcome}
-use Rattle.stateful_mailbox.specs.Tickets.{Book, book, ticket_of, end_of, handing, cancelling, cancelling_from, telling, ended_by, ending, moved, was_stopped, opened, handed_out, cancelled, first_due, told, told_of, told_due, ended, outcome_of, taken_out, AreBelow}
+use Rattle.stateful_mailbox.specs.Tickets.{Book, book, ticket_of, handing, cancelling, telling, ending, moved, was_stopped, opened, handed_out, cancelled, first_due, told_of, told_due, ended, outcome_of, taken_out, AreBelow}
 use Rattle.stateful_mailbox.specs.declared.note.Answer.{Answer}
 use Rattle.stateful_mailbox.specs.declared.reply.Kind.{Kind}
 use Rattle.stateful_mailbox.specs.declared.tickets.Ticket.{Ticket}

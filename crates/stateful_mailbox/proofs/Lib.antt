@@ -4,3 +4,12 @@ pub mod Noting
 pub mod Asking
 pub mod Passing
 pub mod Taking
+pub mod Ascending
+pub mod Seeing
+pub mod Moving
+pub mod Stepping
+pub mod Fates
+pub mod Following
+pub mod Replying
+pub mod Staying
+pub mod Laws

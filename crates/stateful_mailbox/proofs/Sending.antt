@@ -1,5 +1,5 @@
 -- Messages that a bounded mailbox took.
-use Rattle.std.proofs.Common.{◌≡◌, ◌↔◌, false, Result, Ok, Err, List, [], ◌∷◌, ◌++◌, refl}
+use Rattle.std.proofs.Common.{◌≡◌, ◌↔◌, false, Result, Ok, Err, [], ◌∷◌, ◌++◌, refl}
 use Rattle.std.specs.Bool.{IsTrue}
 use Rattle.std.specs.Result.{IfOk}
 use Rattle.stateful_types.specs.Mailbox.{Queues, HasRoom, IsBusy}

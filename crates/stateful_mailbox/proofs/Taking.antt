@@ -1,5 +1,5 @@
 -- What is taken out of a mailbox.
-use Rattle.std.proofs.Common.{◌≡◌, ℕ, Option, Some, None, List, sym, ap, subst, ◌∙◌, refl}
+use Rattle.std.proofs.Common.{◌≡◌, ℕ, Option, Some, None, ap, subst, ◌∙◌, refl}
 use Rattle.stateful_history.specs.declared.event.Event.TheVariants.{Cancel}
 use Rattle.stateful_mailbox.specs.Messages.{event_of}
 use Rattle.stateful_mailbox.specs.Tickets.{Book, handed_out, first_due, told_of, told_due}
@@ -19,8 +19,8 @@ module _ {B C I : Type 0} (m : Mail B C I) (k : Book B) where
       mailbox.nothing none (subst (λ (b : Book B). HandsOut (record m { tickets = b }) None next) (none_told none told) hands)
 
   hands_tickets : {found : Option (Message B C I)} {next : Mail B C I} → HandsOut m found next → next.tickets ≡ m.tickets
-  hands_tickets (mailbox.nothing all empty) = refl
-  hands_tickets (mailbox.message passed front all waits) = refl
+  hands_tickets (mailbox.nothing all empty shape) = refl
+  hands_tickets (mailbox.message passed front all waits shape) = refl
 
   pub event_taken : (next : Mail B C I) (after : Book B) (first : Message B C I) → first_due m.tickets ≡ None → k ≡ told_due m.tickets
       → HandsOut (record m { tickets = k }) (Some first) next → after ≡ handed_out next.tickets first.ticket

@@ -3,3 +3,4 @@ pub mod Sending
 pub mod Messages
 pub mod Tickets
 pub mod Mail
+pub mod Laws

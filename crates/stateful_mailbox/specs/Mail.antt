@@ -1,7 +1,7 @@
 -- What contracts see of a mailbox.
-use Rattle.std.specs.Prelude.{◌≡◌, ℕ, ◌+◌, ◌≤◌, Bool, true, false, if◌then◌else◌, Option, Some, None, Result, Ok, Err, List, [], ◌∷◌, ◌++◌, filter, fold, All}
+use Rattle.std.specs.Prelude.{◌≡◌, ℕ, ◌+◌, Bool, true, false, if◌then◌else◌, Option, Some, None, Result, Ok, Err, List, [], ◌∷◌, ◌++◌, filter, fold, All}
 use Rattle.std.specs.List.{filter_map}
-use Rattle.stateful_types.specs.Mailbox.{Queues, queues, messages}
+use Rattle.stateful_types.specs.Mailbox.{Queues, queues, messages, IsFilled}
 use Rattle.stateful_types.specs.declared.mailbox.Feedback.{Feedback}
 use Rattle.stateful_types.specs.declared.outcome.Moved.{Moved}
 use Rattle.stateful_types.specs.declared.outcome.Moved.TheVariants.{Pending, Done}
@@ -62,16 +62,23 @@ module _ {B C I : Type 0} where
   abbrev pub IsPassed : Book B → Message B C I → Type 0
   IsPassed tickets message = is_queued tickets message.ticket ≡ false
 
+  -- as many messages may be ready as before, and it is closed where it was
+  pub record SameShape (before after : Queues (Message B C I)) : Type 0 where
+    pub capacity : after.capacity ≡ before.capacity
+    pub closed : after.closed ≡ before.closed
+
   -- the first message that is still to be handed out is taken out, and those before it are dropped
   pub data HandsOut (m : Mail B C I) : Option (Message B C I) → Mail B C I → Type 0 where
     nothing : {queue : Queues (Message B C I)}
         → All (IsPassed m.tickets) (messages m.queue)
         → messages queue ≡ []
+        → SameShape m.queue queue
         → HandsOut m None (record m { queue = queue })
     message : {queue : Queues (Message B C I)} {first : Message B C I} (passed : List (Message B C I))
         → messages m.queue ≡ passed ++ first ∷ messages queue
         → All (IsPassed m.tickets) passed
         → is_queued m.tickets first.ticket ≡ true
+        → SameShape m.queue queue
         → HandsOut m (Some first) (record m { queue = queue })
 
   -- The machine is told of the least ticket that was cancelled behind its event and of which it wasn't told yet. Where
@@ -106,7 +113,8 @@ module _ {B C I : Type 0} where
   abbrev pub taken_mail : Mail B C I → ℕ → Mail B C I
   taken_mail m t = record m { tickets = taken_out m.tickets t }
 
-  -- the mailbox is never closed, and no ticket is there that wasn't drawn
+  -- The mailbox is never closed, messages wait only where no more may be ready, and no ticket is there that wasn't drawn.
   pub record IsSound (m : Mail B C I) : Type 0 where
     pub still_open : m.queue.closed ≡ false
+    pub filled : IsFilled m.queue
     pub tickets : AreBelow m.next_ticket m.tickets

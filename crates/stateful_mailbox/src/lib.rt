@@ -14,3 +14,5 @@ mod tickets;
 pub use mailbox::Mailbox;
 pub use reply::{Reply, Stopped};
 
+#[cfg(test)]
+mod tests;

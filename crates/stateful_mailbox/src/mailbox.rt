@@ -2,6 +2,7 @@
 
 ghost use Rattle.std.specs.Prelude.{◌≡◌, ◌-◌, ◌^◌, ◌≤◌, ◌↔◌, [], false, IfOk, OnOk, OnErr, IsErrOf};
 ghost use Rattle.stateful_mailbox.specs.declared.message.Ask.TheVariants as asks;
+ghost use Rattle.stateful_mailbox.specs.Laws.{KeepsLaws};
 ghost use Rattle.stateful_mailbox.specs.Mail.{empty_mail, Asks, cancelled_mail, Takes, HandsOut, noted, answered, polled, taken_mail};
 
 use crate::message::{Ask, Message, NoMessage, NotOf};
@@ -41,7 +42,10 @@ impl<B: Drop, C: Drop, I: Drop> Mailbox<B, C, I> {
     /// An empty mailbox, in which so many messages are ready at most. Further ones wait behind them.
     pub fn new(alloc: Global, capacity: usize) -> Result<Mailbox<B, C, I>, OutOfMemory>
         requires { 1 ≤ capacity }
-        ensures { IfOk result (λ mailbox. mailbox ≡ empty_mail capacity) }
+        ensures empty { IfOk result (λ mailbox. mailbox ≡ empty_mail capacity) }
+
+        // Whatever calls follow.
+        ensures laws { IfOk result KeepsLaws }
     {
         Ok(Mailbox {
             alloc,

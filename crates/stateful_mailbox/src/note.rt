@@ -31,10 +31,7 @@ pub(crate) enum Note<B> {
 pub(crate) type Outcome<B> = Result<Reply<B>, Stopped>;
 
 /// What some marks tell of tickets, in their order.
-pub(crate) fn notes<B: Drop>(
-    alloc: Global,
-    marks: &[Mark<B>],
-) -> Result<Vec<Note<B>>, OutOfMemory>
+pub(crate) fn notes<B: Drop>(alloc: Global, marks: &[Mark<B>]) -> Result<Vec<Note<B>>, OutOfMemory>
     ensures { IfOk result (λ notes. notes.items ≡ filter_map note_of marks.now) }
 {
     let mut notes = Vec::new(alloc);

@@ -1,5 +1,5 @@
--- What stands behind a step are the rules that each entry keeps, where its false verdicts and its declines have their reasons.
-use Rattle.std.proofs.Common.{ℕ, [], ◌∷◌, Option, List}
+-- What stands behind a step are the promises that each entry keeps, where the world is trusted and no prune comes due.
+use Rattle.std.proofs.Common.{ℕ, [], ◌∷◌, Option, None, List, sym, subst}
 use Rattle.stateful_types.specs.Names.{Named}
 use Rattle.stateful_history.specs.Answers.{EndsLive, AnsweredIsBuilt, NamesNoCancelled}
 use Rattle.stateful_history.specs.Barriers.{GoodIsInOrder, BarrierIsOver}
@@ -9,13 +9,14 @@ use Rattle.stateful_history.specs.Fetches.{AskedIsNeeded, WithdrawnHasCause}
 use Rattle.stateful_history.specs.Finalizations.{FinalizesInOrder, AcknowledgedIsApplied}
 use Rattle.stateful_history.specs.Honest.{IsHonest, IsAnswered}
 use Rattle.stateful_history.specs.Numbers.{NumberIsNew}
-use Rattle.stateful_history.specs.Past.{Past, Came, Made, EachMark}
-use Rattle.stateful_history.specs.Promises.{KeepsRules}
-use Rattle.stateful_history.specs.Prunes.{PruneRule}
+use Rattle.stateful_history.specs.Past.{Past, Came, Made, EachMark, after_entry, after_all}
+use Rattle.stateful_history.specs.Promises.{KeepsRules, KeepsEnds, KeepsPromises}
+use Rattle.stateful_history.specs.Prunes.{PruneRule, HasPending}
 use Rattle.stateful_history.specs.Reasons.{FalseHasReason}
 use Rattle.stateful_history.specs.Runs.{StartsWell, EndsAsItsKind, CancelledHasCause}
 use Rattle.stateful_history.specs.Syncs.{SyncsInPlace}
 use Rattle.stateful_history.specs.Telling.{telling_of}
+use Rattle.stateful_history.specs.declared.entry.Entry.{Entry}
 use Rattle.stateful_history.specs.declared.event.Event.{Event}
 use Rattle.stateful_history.specs.declared.mark.Mark.{Mark}
 use Rattle.stateful_exec.specs.Workings.{Workings}
@@ -23,8 +24,11 @@ use Rattle.stateful_standing.specs.Setting.{setting}
 use Rattle.stateful_keeping.specs.Duly.{IsDulySaid}
 use Rattle.stateful_keeping.specs.Durability.{IsDurablySaid}
 use Rattle.stateful_keeping.specs.Places.{IsInPlace}
+use Rattle.stateful_keeping.specs.Reasons.{IsTrusted, HasItsReason}
+use Rattle.stateful_keeping.proofs.Trusted.{IsTrusted-before_all}
 use Rattle.stateful_processing.specs.Moments.{Moment}
-use Rattle.stateful_whole.specs.StepBehind.{StepBehind}
+use Rattle.stateful_whole.specs.StepBehind.{StepBehind, EachStands}
+use Rattle.stateful_whole.proofs.WantedRuns.{runs-wanted}
 
 -- a rule that another one gives
 EachMark-weaker : {B C I : Type 0} (P Q : Past B C I → Mark B → Type 0) → ((q : Past B C I) (mark : Mark B) → P q mark → Q q mark)
@@ -84,3 +88,47 @@ module _ {B C I P R D H G U : Type 0} (w : Workings B C I P R D H G U) (stored :
     clean_stop = b.clean_stop;
     stopped = b.ends_stopped;
   }
+
+  -- where the world is trusted with it
+  pub keeps-rules-trusted : IsTrusted w stored (after_entry p event now.marks)
+      → KeepsRules (setting w stored) (telling_of w.works) w.kind.count rule b.base_behind (Came event ∷ p) event now.marks
+  keeps-rules-trusted trust = keeps-rules (λ honest answered. reasoned (FalseHasReason (setting w stored) b.base_behind) (λ x mark h. h.0))
+      (λ honest answered. reasoned (DeclinedHasReason (setting w stored) (telling_of w.works) b.base_behind event now.marks) (λ x mark h. h.1))
+    where
+      reasoned : (Rule : Past B C I → Mark B → Type 0)
+          → ((x : Past B C I) (mark : Mark B) → HasItsReason w stored b.base_behind event now.marks x mark → Rule x mark) → Rules Rule
+      reasoned Rule gives = EachMark-weaker (HasItsReason w stored b.base_behind event now.marks) Rule gives q now.marks (b.reasons trust)
+
+  -- At its end all that is unanswered waits, and what runs is wanted, where no prune is pending.
+  pub keeps-ends : (HasPending (setting w stored) rule (after_entry p event now.marks) → ⊥)
+      → KeepsEnds (setting w stored) (telling_of w.works) w.kind.count rule b.base_behind (after_entry p event now.marks)
+  keeps-ends never = record {
+    waits = b.waits rule;
+    runs_are_wanted = runs-wanted w stored b.base_behind (after_entry p event now.marks) (record now { marks = [] }) b.stands;
+    prunes_wait = λ pending. absurd (never pending);
+  }
+
+  -- So it keeps all promises.
+  pub keeps-promises : IsTrusted w stored (after_entry p event now.marks) → (HasPending (setting w stored) rule (after_entry p event now.marks) → ⊥)
+      → KeepsPromises (setting w stored) (telling_of w.works) w.kind.count rule b.base_behind p event now.marks
+  keeps-promises trust never = record { rules = keeps-rules-trusted trust; ends = keeps-ends never }
+
+module _ {B C I P R D H G U : Type 0} (w : Workings B C I P R D H G U) (stored : ℕ → Option (Named B)) (Last : w.States → Type 0) where
+  -- each of these entries keeps them, over the states that the history is based on there, and without a rule on prunes
+  abbrev pub EachKeepsPromises : (base : w.States) (p : Past B C I) (entries : List (Entry B C I)) → EachStands w stored Last base p entries → Type 0
+  EachKeepsPromises base p [] stands = Unit {0}
+  EachKeepsPromises base p (entry ∷ entries) (new, marks_are, b, rest) =
+      KeepsPromises (setting w stored) (telling_of w.works) w.kind.count None b.base_behind p entry.event entry.marks
+      × EachKeepsPromises b.base_behind (after_entry p entry.event entry.marks) entries rest
+
+  -- So does each entry of a history with which the world is trusted.
+  pub history-promises : (base : w.States) (p : Past B C I) (entries : List (Entry B C I)) (stands : EachStands w stored Last base p entries)
+      → IsTrusted w stored (after_all p entries) → EachKeepsPromises base p entries stands
+  history-promises base p [] stands trust = tt
+  history-promises base p (entry ∷ entries) (new, marks_are, b, rest) trust = (
+    subst (λ (ms : List (Mark B)). KeepsPromises (setting w stored) (telling_of w.works) w.kind.count None b.base_behind p entry.event ms) marks_are
+        (keeps-promises w stored base p entry.event new b None
+        (subst (λ (ms : List (Mark B)). IsTrusted w stored (after_entry p entry.event ms)) (sym marks_are)
+        (IsTrusted-before_all w stored entries (after_entry p entry.event entry.marks) trust)) (λ never. never)),
+    history-promises b.base_behind (after_entry p entry.event entry.marks) entries rest trust,
+  )

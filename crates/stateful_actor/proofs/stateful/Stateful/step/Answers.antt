@@ -11,6 +11,7 @@ use Rattle.stateful_whole.proofs.MediaRefused.{step-restart, leaves-unchanged, l
 use Rattle.stateful_whole.proofs.MediaSteps.{step-media}
 use Rattle.stateful_whole.proofs.StepStands.{step-stands}
 use Rattle.stateful_whole.proofs.StillStands.{still-stands}
+use Rattle.stateful_actor.specs.Faults.{fault}
 use Rattle.stateful_actor.proofs.Arms.{refused_at_once}
 use Rattle.stateful_actor.proofs.Reopening.{reopens-refused, reopens-done}
 use Rattle.stateful_actor.proofs.ResultsOfCalls.{on_err, if_err, in_ok, in_err, of_err, match_err}
@@ -204,3 +205,8 @@ returns-clause-reopens g c =
     rw (← c.self.view_is) (λ stored p floor keep genesis state block is can k finds there names few rises.
     reopens-done w g.met.A.Databases.DatabaseSet.laws stored (g.S.BlockStore.stored c.args.store.now) _ _ p floor keep genesis state block
     c.args.event is can _ _ k finds there names _ _ step)
+
+pub returns-in-Err-clause-cause : goal.returns-in-Err-clause-cause
+returns-in-Err-clause-cause g c =
+    rw (← c.self.view_is)
+    (fault (λ p stands. c.in_ok-admit.ensures.yes p stands) (rw c.new-marks.ensures.items at (of_err _ _ _ c.in-Err.is c.act-acted.ensures.fault)))

@@ -12,6 +12,7 @@ invariant_of-self-in-Ok g c =
     let sent = rw c.in-Ok.is at (sends s.queue c.enqueue.new.self (message_of s.next_ticket c.args.ask) c.enqueue.result c.self.invariant.still_open e.closed e.room e.busy e.ready e.waits) in
     record {
       still_open = sent_open _ _ _ _ sent ∙ c.self.invariant.still_open;
+      filled = e.filled;
       tickets = rw c.in_ok-open.ensures.ok (opened_below s.next_ticket s.tickets _ c.self.invariant.tickets);
     }
 
@@ -20,6 +21,7 @@ invariant_of-self-in-Err g c =
     let s = c.self.inside in
     record {
       still_open = ap (λ q. q.closed) c.in-Err.ensures.err ∙ c.self.invariant.still_open;
+      filled = c.enqueue.ensures.filled;
       tickets = rw (c.remove.ensures, c.in_ok-open.ensures.ok, withdrawn s.next_ticket s.tickets c.kind.result c.self.invariant.tickets) c.self.invariant.tickets;
     }
 

@@ -16,7 +16,8 @@ passing-preserved g c =
     record {
       passes = one_passed c.args.self.now.tickets c.args.self.now.queue c.passing.self-inside.queue c.try_recv.new.self c.in-Some.message kept.passes c.in-Some.ensures.front
           (ap (λ k. is_queued k c.in-Some.message.ticket) (sym kept.tickets) ∙ sym c.is_queued.ensures ∙ c.if-is_queued.false);
-      closed = c.in-Some.ensures.front.closed ∙ kept.closed;
+      still_open = c.in-Some.ensures.front.closed ∙ kept.still_open;
+      filled = c.in-Some.ensures.filled;
       number = kept.number;
       tickets = kept.tickets;
     }

@@ -1,5 +1,5 @@
-use Rattle.std.proofs.Common.{◌≡◌, length}
-use Rattle.stateful_types.specs.Mailbox.{messages}
+use Rattle.std.proofs.Common.{◌≡◌, false, length}
+use Rattle.stateful_types.specs.Mailbox.{messages, IsFilled}
 use Rattle.stateful_mailbox.proofs.Passing.{Passes}
 use Rattle.stateful_mailbox.proofs.mailbox.Mailbox.next_queued.Given as goal
 
@@ -7,7 +7,8 @@ use Rattle.stateful_mailbox.proofs.mailbox.Mailbox.next_queued.Given as goal
 abbrev pub invariant-passing : goal.invariant-passing
 invariant-passing g l = record {
   passes : Passes l.fn.self.tickets l.fn.self.queue l.self-inside.queue;
-  closed : l.self-inside.queue.closed ≡ l.fn.self.queue.closed;
+  still_open : l.self-inside.queue.closed ≡ false;
+  filled : IsFilled l.self-inside.queue;
   number : l.self-inside.next_ticket ≡ l.fn.self.next_ticket;
   tickets : l.self-inside.tickets ≡ l.fn.self.tickets;
 }

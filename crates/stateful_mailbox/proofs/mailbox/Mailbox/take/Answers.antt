@@ -7,6 +7,7 @@ use Rattle.stateful_mailbox.proofs.mailbox.Mailbox.take.Goals as goal
 pub invariant_of-self : goal.invariant_of-self
 invariant_of-self g c = record {
   still_open = c.self.invariant.still_open;
+  filled = c.self.invariant.filled;
   tickets = rw c.take_due.ensures.told (told_below _ _ c.self.invariant.tickets);
 }
 
@@ -24,6 +25,7 @@ returns-in_err-message g c =
 pub invariant_of-self-3 : goal.invariant_of-self-3
 invariant_of-self-3 g c = record {
   still_open = c.self-2.invariant.still_open;
+  filled = c.self-2.invariant.filled;
   tickets = rw c.hand_out.ensures (handed_below _ _ c.in_ok-message.message.ticket c.self-2.invariant.tickets);
 }
 
