@@ -1,5 +1,5 @@
 -- Messages to the machine.
-use Rattle.std.specs.Prelude.{ℕ, ◌==◌, Bool, false, not, List, [], ◌∷◌, ◌++◌}
+use Rattle.std.specs.Prelude.{ℕ, ◌==◌, Bool, false, not}
 use Rattle.stateful_history.specs.declared.event.Event.{Event}
 use Rattle.stateful_history.specs.declared.event.Event.TheVariants as events
 use Rattle.stateful_mailbox.specs.declared.reply.Kind.{Kind}
@@ -9,10 +9,6 @@ use Rattle.stateful_mailbox.specs.declared.message.Ask.TheVariants.{Prepare, Pro
 use Rattle.stateful_mailbox.specs.declared.message.Message.{Message}
 
 module _ {B C I : Type 0} where
-  -- what waits once one more message has come
-  abbrev pub in_order : List (Message B C I) → Message B C I → List (Message B C I)
-  in_order waiting message = waiting ++ message ∷ []
-
   -- by which call it is asked for
   abbrev pub kind_of : Ask B C I → Kind
   kind_of (Prepare context ancestry input) = kinds.Prepare

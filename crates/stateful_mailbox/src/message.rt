@@ -87,7 +87,7 @@ impl<B: Drop, C: Drop, I: Drop> Message<B, C, I> {
 }
 
 impl<B: Drop, C: Drop, I: Drop> Policy for Message<B, C, I> {
-    ghost use Rattle.stateful_mailbox.specs.Messages.{in_order};
+    ghost use Rattle.stateful_mailbox.specs.Sending.{in_order};
 
     type Overflow = VecDeque<Message<B, C, I>>;
 
