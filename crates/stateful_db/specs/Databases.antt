@@ -93,7 +93,8 @@ pub record Databases (Ids States Targets : Type 0) : Type 1 where
   pub Crashed : Members → List ℕ → Members → Type 0
 
 -- the range of these states at the database of this number doesn't end behind that of the targets
-abbrev pub EndsWithin : {Ids States Targets : Type 0} (d : Databases Ids States Targets) → Targets → ℕ → States → Type 0
+abbrev pub EndsWithin : {Ids States Targets : Type 0} (d : Databases Ids States Targets)
+    → Targets → ℕ → States → Type 0
 EndsWithin d t i s = (d.target_at (d.target_of s) i).end.0 ≤ (d.target_at t i).end.0
 
 -- each database keeps the checkpoints that it kept, and what was durable is

@@ -17,8 +17,8 @@ abbrev pub reopened_height : Floor → ℕ
 reopened_height floor = unwrap_or (option_map (λ (h : Height). h.0) floor.processed) 0
 
 module _ {B C I : Type 0} where
-  -- Since the last opening, which isn't above this height, the databases were never pruned past it, in
-  -- whole or in part, and no restart was at a lower one.
+  -- Since the last opening, which isn't above this height, the databases were never pruned past it,
+  -- in whole or in part, and no restart was at a lower one.
   abbrev pub IsUntouched : ℕ → Past B C I → Type 0
   IsUntouched q [] = ⊥
   IsUntouched q (Made (Opened anchor) ∷ p) = anchor.height.0 ≤ q
@@ -29,8 +29,9 @@ module _ {B C I : Type 0} where
   IsUntouched q (Tried height ∷ p) = (q ≤ height.0) × IsUntouched q p
   IsUntouched q (item ∷ p) = IsUntouched q p
 
-  -- This height was opened, or it was acknowledged while it was untouched. Since then the databases were
-  -- never pruned past it, in whole or in part, and no restart was at a lower one. A sync begins anew.
+  -- This height was opened, or it was acknowledged while it was untouched. Since then the databases
+  -- were never pruned past it, in whole or in part, and no restart was at a lower one. A sync
+  -- begins anew.
   abbrev pub WasReached : ℕ → Past B C I → Type 0
   WasReached q [] = ⊥
   WasReached q (Made (Opened anchor) ∷ p) = (anchor.height.0 ≡ q) ⊎ WasReached q p
@@ -50,9 +51,10 @@ module _ {B C I : Type 0} where
   IsUnopened (Made (Converged anchor) ∷ p) = ⊥
   IsUnopened (item ∷ p) = IsUnopened p
 
-  -- The databases can be opened at this height: it is that of the last opening, or was acknowledged since,
-  -- or was opened or acknowledged earlier, and its checkpoints are there; or nothing was opened before, and
-  -- it is 0. A height below the last opening's that is acknowledged anew counts where it was reached before.
+  -- The databases can be opened at this height: it is that of the last opening, or was acknowledged
+  -- since, or was opened or acknowledged earlier, and its checkpoints are there; or nothing was
+  -- opened before, and it is 0. A height below the last opening's that is acknowledged anew counts
+  -- where it was reached before.
   abbrev pub CanReopen : ℕ → Past B C I → Type 0
   CanReopen q p = WasReached q p ⊎ (IsUnopened p × (q ≡ 0))
 
@@ -62,7 +64,8 @@ module _ {B S T : Type 0} (s : Setting B S T) where
     start : FoldsTo genesis 0 genesis
     next : {n : ℕ} {b : Named B} {t u : S} → FoldsTo genesis n t → s.stored (n + 1) ≡ Some b → step_of s t b ≡ Some u → FoldsTo genesis (n + 1) u
 
-  -- what a restart at this height finds: the fold from genesis up to it, and the store's block there, which commits to it
+  -- what a restart at this height finds: the fold from genesis up to it, and the store's block
+  -- there, which commits to it
   pub record Finds (genesis : S) (q : ℕ) (block : Named B) (state : S) : Type 0 where
     pub stored : s.stored q ≡ Some block
     pub folded : FoldsTo genesis q state

@@ -14,14 +14,15 @@ use Rattle.stateful_processing.specs.Rules.{IsFinalizing, HasStates}
 use Rattle.stateful_processing.specs.declared.tables.Finalizing.{Finalizing}
 
 module _ {B C I P R D H G U : Type 0} (w : Workings B C I P R D H G U) where
-  -- Each database that is here has its part of whatever states it had; and, of fewer than 2^64, each
-  -- keeps the checkpoints that it kept, and what was durable is.
+  -- Each database that is here has its part of whatever states it had; and, of fewer than 2^64,
+  -- each keeps the checkpoints that it kept, and what was durable is.
   pub record KeepsStates (old new : w.kind.Members) : Type 0 where
     pub states : (i : ℕ) (s : w.States) → w.kind.HasState old i s → w.kind.HasState new i s
     pub preserves : w.kind.count < 2 ^ 64 → Preserves w.kind old new
 
   -- The batch of a finalized block was being applied: each database that is here has its part of
-  -- the states before, or of those that the batch shows; and each keeps the checkpoints that it kept.
+  -- the states before, or of those that the batch shows; and each keeps the checkpoints that it
+  -- kept.
   pub record LeavesApply (b : Named B) (e : Executing B C I R D H U) (old new : w.kind.Members)
       : Type 0 where
     pub batch : U
@@ -54,14 +55,16 @@ module _ {B C I P R D H G U : Type 0} (w : Workings B C I P R D H G U)
     pub is_crashed : w.kind.Crashed old keep crashed
     pub is_stored : stored (reopened_height floor) ≡ Some block
 
-  -- What an opening that failed leaves: each database is closed as the crash left it; or one of them
-  -- doesn't open at what the store's block commits to; or all are open there, and memory ran out.
+  -- What an opening that failed leaves: each database is closed as the crash left it; or one of
+  -- them doesn't open at what the store's block commits to; or all are open there, and memory ran
+  -- out.
   pub data LeavesOpening (new : w.kind.Members) : Type 0 where
     closed : w.kind.Crashed old keep new → LeavesOpening new
     not_opened : {crashed : w.kind.Members} {block : Named B} {i before now : ℕ} {why : InitError}
         → IsTried crashed block
         → (w.kind.count < 2 ^ 64
-        → w.kind.NotOpened crashed (Some (w.works.meaning.targets block.block)) i before now why new)
+        → w.kind.NotOpened crashed (Some (w.works.meaning.targets block.block)) i before now why
+        new)
         → LeavesOpening new
     opened : {crashed : w.kind.Members} {block : Named B}
         → IsTried crashed block

@@ -28,15 +28,16 @@ module _ {B C I : Type 0} where
 
 module _ {B C I P R D H G U : Type 0} (w : Workings B C I P R D H G U) where
   module _ (stored : ℕ → Option (Named B)) where
-    -- The media keep each height at which the databases can be opened again behind this past. While the
-    -- machine is up, and hasn't failed, they keep those too that were applied and aren't durable yet.
+    -- The media keep each height at which the databases can be opened again behind this past. While
+    -- the machine is up, and hasn't failed, they keep those too that were applied and aren't
+    -- durable yet.
     pub record MediaStand (p : Past B C I) (failed : Bool) (m : Moment w) : Type 0 where
       pub reopenable : KeepsReopenable w stored p m.members
       pub heights : failed ≡ false → m.loop.up ≡ true
           → KeepsHeights w stored (opening p) m.execution.state.anchor m.members
 
-    -- The media are as at the start: each database keeps durably a checkpoint of its part of the initial
-    -- states, to which the store's first block commits, if it has one.
+    -- The media are as at the start: each database keeps durably a checkpoint of its part of the
+    -- initial states, to which the store's first block commits, if it has one.
     pub record IsAsAtStart (m : w.kind.Members) : Type 0 where
       pub initial : (i : ℕ) → i < w.kind.count
           → KeepsDurably w.kind m (w.kind.target_of w.kind.initial) i
@@ -44,8 +45,8 @@ module _ {B C I P R D H G U : Type 0} (w : Workings B C I P R D H G U) where
           → w.works.meaning.targets b.block ≡ w.kind.target_of w.kind.initial
 
     -- the machine stands for this past, and the media do
-    pub record StandsOnMedia (base : w.States) (p : Past B C I) (failed : Bool) (register : Register)
-        (m : Moment w) : Type 0 where
+    pub record StandsOnMedia (base : w.States) (p : Past B C I) (failed : Bool)
+        (register : Register) (m : Moment w) : Type 0 where
       pub stands : Stands w stored base p failed register m
       pub media : MediaStand p failed m
 
@@ -61,15 +62,16 @@ module _ {B C I P R D H G U : Type 0} (w : Workings B C I P R D H G U) where
     pub based : (base : w.States) → base_after base marks (w.kind.point m) ≡ state
 
   -- a restart that was refused changed nothing, or its opening failed
-  abbrev pub LeavesRestart : (ℕ → Option (Named B)) → Event B C I → (old new : w.kind.Members) → Type 0
+  abbrev pub LeavesRestart : (ℕ → Option (Named B)) → Event B C I → (old new : w.kind.Members)
+      → Type 0
   LeavesRestart stored_now (Restart floor keep) old new =
       (new ≡ old) ⊎ LeavesOpening w stored_now floor keep old new
   LeavesRestart stored_now event old new = Unit {0}
 
-  -- What an event that was refused left, with the marks that its intake made, if it made any. Whatever
-  -- past the machine and the media stood for, they stand for it behind the refusal, where names are true
-  -- with the event and these marks, the store is honest and its targets rise, and databases are fewer than
-  -- 2^64.
+  -- What an event that was refused left, with the marks that its intake made, if it made any.
+  -- Whatever past the machine and the media stood for, they stand for it behind the refusal, where
+  -- names are true with the event and these marks, the store is honest and its targets rise, and
+  -- databases are fewer than 2^64.
   pub record LeavesMedia (stored_now : ℕ → Option (Named B)) (provider : P) (counts : Counts R D H)
       (event : Event B C I) (failed : Bool) (register : Register) (m : Moment w) (now_failed : Bool)
       (now_register : Register) (now : Moment w) : Type 0 where
