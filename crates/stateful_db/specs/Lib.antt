@@ -17,3 +17,4 @@ pub mod MemberLaws
 pub mod SingleLaws
 pub mod PairLaws
 pub mod Barrier
+pub mod Batch

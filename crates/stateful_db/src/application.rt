@@ -2,6 +2,7 @@
 
 use crate::set::DatabaseSet;
 use stateful_types::{Ancestry, Block, Faulty, Finality, Handoff, Moved, Rounded, Scheme, Share};
+use thiserror::Error;
 
 /// A sealed batch over an application's databases.
 pub type Batch<A> = <<A as Application>::Databases as DatabaseSet>::Merkleized;
@@ -13,10 +14,12 @@ pub type OpenBatch<A> = <<A as Application>::Databases as DatabaseSet>::Unmerkle
 pub type Targets<A> = <<A as Application>::Databases as DatabaseSet>::SyncTargets;
 
 /// Why an application refused a call.
-#[derive(Clone, Copy, Debug, PartialEq, Eq)]
+#[derive(Clone, Copy, Debug, PartialEq, Eq, Error)]
 pub enum AppFault {
     /// It failed, and has counted it.
+    #[error("Failed")]
     Failed,
+    #[error("OutOfMemory")]
     OutOfMemory,
 }
 

@@ -3,7 +3,7 @@
 ghost use Rattle.std.specs.Prelude.{◌≡◌, ℕ, List, ◌∷◌, [], IfOk, IsErrOf, true, false, ◌↔◌, ◌<◌};
 ghost use Rattle.stateful_db.specs.Chain.{has_id, IsPoint};
 
-use stateful_types::{Digest, OutOfMemory};
+use stateful_types::{Digest, Location, OutOfMemory};
 use std::alloc::{AllocError, AllocFailed};
 use thiserror::Error;
 
@@ -13,6 +13,18 @@ pub enum BatchError {
     /// The database is at no state of the batch's chain.
     #[error("StaleRead")]
     StaleRead,
+    /// A read is of a location at or behind the end.
+    #[error("LocationOutOfBounds")]
+    LocationOutOfBounds { location: Location },
+    /// A read of several locations has one that isn't greater than the one before.
+    #[error("LocationOutOfOrder")]
+    LocationOutOfOrder { location: Location },
+    /// A read is of a location below the inactivity floor.
+    #[error("BelowInactivityFloor")]
+    BelowInactivityFloor { location: Location },
+    /// A staged batch was given another number of slots than it has staged keys.
+    #[error("SlotCount")]
+    SlotCount { expected: usize, given: usize },
     /// The sealed size would be the last number or more.
     #[error("Exhausted")]
     Exhausted,
@@ -79,8 +91,9 @@ impl<'a, DB> BatchContext<'a, DB> {
 
 /// A batch that may still change.
 pub trait Unmerkleized: Sized {
-    ghost use Rattle.std.specs.Prelude.{◌≡◌, ℕ, List, ◌∷◌, IfOk, IsErrOf, false, true, ◌↔◌, ◌<◌, ◌≤◌, ◌-◌, ◌^◌};
+    ghost use Rattle.std.specs.Prelude.{◌≡◌, ℕ, List, ◌∷◌, IfOk, IfErr, IsErrOf, false, true, ◌↔◌, ◌<◌, ◌≤◌, ◌-◌, ◌^◌};
     ghost use Rattle.stateful_db.specs.Chain.{has_id, IsPoint};
+    ghost use Rattle.stateful_db.specs.Batch.{RefusesSeal};
 
     /// The database that it is over.
     type Db;
@@ -118,7 +131,8 @@ pub trait Unmerkleized: Sized {
             → 2 ^ 64 - 1 ≤ end_of p.1 }
         ensures within { IfOk result (λ m. (p : ℕ × Self.State) (c : List (ℕ × Self.State))
             → shows self (p ∷ c)
-            → end_of p.1 < 2 ^ 64 - 1) };
+            → end_of p.1 < 2 ^ 64 - 1) }
+        ensures why { IfErr result RefusesSeal };
 }
 
 /// A sealed batch.

@@ -4,6 +4,7 @@ ghost use Rattle.std.specs.Prelude.{◌≡◌};
 
 use crate::batch::{BatchContext, Merkleized, Unmerkleized};
 use stateful_types::{CompactTarget, Faulty, Location, OutOfMemory, Target};
+use thiserror::Error;
 
 /// A kind of call on a database, as failing lists name it.
 #[derive(Clone, Copy, Debug, PartialEq, Eq)]
@@ -31,12 +32,15 @@ pub struct Broken<M> {
 }
 
 /// Why a database did not open.
-#[derive(Clone, Copy, Debug, PartialEq, Eq)]
+#[derive(Clone, Copy, Debug, PartialEq, Eq, Error)]
 pub enum InitError {
     /// It failed, or no kept checkpoint has the expected end.
+    #[error("Database")]
     Database,
     /// The checkpoint of the expected end has another target.
+    #[error("TargetMismatch")]
     TargetMismatch { expected: Target, recovered: Target },
+    #[error("OutOfMemory")]
     OutOfMemory,
 }
 
@@ -47,7 +51,8 @@ pub struct FlushToken {
 }
 
 /// No number is left.
-#[derive(Clone, Copy, Debug, PartialEq, Eq)]
+#[derive(Clone, Copy, Debug, PartialEq, Eq, Error)]
+#[error("Exhausted")]
 pub struct Exhausted;
 
 /// What can be told as a root with a range.

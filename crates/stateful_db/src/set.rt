@@ -24,14 +24,16 @@ pub enum SetError {
 }
 
 /// Why the database of this number did not open.
-#[derive(Clone, Copy, Debug, PartialEq, Eq)]
+#[derive(Clone, Copy, Debug, PartialEq, Eq, Error)]
+#[error("{why}")]
 pub struct SetInit {
     pub index: usize,
     pub why: InitError,
 }
 
 /// A database isn't here.
-#[derive(Clone, Copy, Debug, PartialEq, Eq)]
+#[derive(Clone, Copy, Debug, PartialEq, Eq, Error)]
+#[error("Lost")]
 pub struct SetLost;
 
 /// Databases that a block changes together, numbered from 0, left to right.
@@ -45,6 +47,7 @@ pub trait DatabaseSet: Sized {
     ghost use Rattle.stateful_db.specs.Laws.{Laws};
     ghost use Rattle.stateful_db.specs.Tokens.{each_below};
     ghost use Rattle.stateful_db.specs.Barrier.{unanswered, open_at};
+    ghost use Rattle.stateful_db.specs.Batch.{RefusesSeal};
     ghost use Rattle.stateful_db.specs.declared.database.DbCall.{DbCall};
 
     /// The states of the databases, left to right.
@@ -191,7 +194,8 @@ pub trait DatabaseSet: Sized {
             (c : List (Self.Ids × Self.States))
             → opened batches (p ∷ c)
             → kind.Full p.1
-            → ⊥) };
+            → ⊥) }
+        ensures why { IfErr result RefusesSeal };
 
     /// Whether all members match.
     fn matches_sync_targets(batches: &Self::Merkleized, targets: &Self::SyncTargets) -> bool

@@ -6,11 +6,10 @@ use Rattle.stateful_db.specs.Databases.{Databases}
 use Rattle.stateful_history.specs.Setting.{Setting}
 use Rattle.stateful_history.specs.Past.{Past, Came, Made}
 use Rattle.stateful_history.specs.Opening.{opening}
-use Rattle.stateful_history.specs.Anchors.{applied, anchor_of}
+use Rattle.stateful_history.specs.Anchors.{applied}
 use Rattle.stateful_history.specs.States.{fold, prefixes}
 use Rattle.stateful_history.specs.Durable.{durable}
-use Rattle.stateful_history.specs.declared.event.Event.{Event}
-use Rattle.stateful_history.specs.declared.event.Event.TheVariants.{Finalized, Restart}
+use Rattle.stateful_history.specs.declared.event.Event.TheVariants.{Restart}
 use Rattle.stateful_history.specs.declared.mark.Mark.TheVariants.{Opened, Converged, Pruned}
 
 module _ {B C I Ids S T : Type 0} (s : Setting B S T) (d : Databases Ids S T) where
@@ -53,19 +52,3 @@ module _ {B Ids S T : Type 0} (s : Setting B S T) (d : Databases Ids S T) where
     pub state : S
     pub folded : fold s (Some base) blocks ≡ Some state
     pub has : d.HasState m i state
-
-module _ {B C I S T : Type 0} (s : Setting B S T) where
-  -- the event finalizes this block, which is the next child of the anchor
-  pub record FinalizesNext (p : Past B C I) (event : Event B C I) (b : Named B) : Type 0 where
-    pub ticket : ℕ
-    pub anchor : Anchor
-    pub event_is : event ≡ Finalized ticket b
-    pub anchor_is : anchor_of s.header p ≡ Some anchor
-    pub height : s.header.height b.block ≡ anchor.height.0 + 1
-    pub parent : s.header.parent b.block ≡ anchor.digest
-
-module _ {B C I Ids S T : Type 0} (s : Setting B S T) (d : Databases Ids S T) where
-  -- What the databases hold behind an event that was refused: each that is here has its part of the fold over what was
-  -- applied, or over that and the block that the event finalizes.
-  abbrev pub HoldsBehind : S → Past B C I → Event B C I → d.Members → Type 0
-  HoldsBehind base p event m = (i : ℕ) → HasFold s d base (applied p) m i ⊎ ((b : Named B) × FinalizesNext s p event b × HasFold s d base (applied p ++ b ∷ []) m i)

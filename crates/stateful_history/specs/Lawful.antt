@@ -58,7 +58,7 @@ module _ {B C I S T : Type 0} (s : Setting B S T) (a : Telling B C I S) (round_b
     pub after : S
     pub matches : Matches s before b after
 
-  -- the block is the opening's, or an ancestor of it
+  -- the block is the opening's, or an ancestor of it, which isn't higher, and at its height is the opening's
   pub record IsBehindStart (b : Named B) : Type 0 where
     pub start : Anchor
     pub is_start : opening p ≡ Some start
@@ -66,6 +66,8 @@ module _ {B C I S T : Type 0} (s : Setting B S T) (a : Telling B C I S) (round_b
     pub met : Met s p block
     pub is : block.digest ≡ start.digest
     pub on_path : IsOnPath s p block b.digest
+    pub low : s.header.height b.block ≤ start.height.0
+    pub same : s.header.height b.block ≡ start.height.0 → b.digest ≡ start.digest
 
   -- a block may be finalized: it is the next one, or was finalized before, or lies behind the start
   abbrev pub MayFinalize : Named B → Type 0
@@ -105,3 +107,11 @@ module _ {B C I S T : Type 0} (s : Setting B S T) (a : Telling B C I S) (round_b
     pub may_come : may_come count p event ≡ true
     pub linked : IsHonest s (Came event ∷ [])
     pub true_of : BringsTruth event
+
+module _ {B C I S T : Type 0} (s : Setting B S T) (a : Telling B C I S) (round_by : C → Round) (base : S) (count : ℕ) where
+  -- each event since the last restart was lawful when it came
+  abbrev pub LawfulSince : Past B C I → Type 0
+  LawfulSince [] = Unit {0}
+  LawfulSince (Came (Restart floor keep) ∷ p) = Unit {0}
+  LawfulSince (Came event ∷ p) = IsLawful s a round_by base p count event × LawfulSince p
+  LawfulSince (item ∷ p) = LawfulSince p

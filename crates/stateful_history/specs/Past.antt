@@ -57,8 +57,3 @@ module _ {B C I : Type 0} where
   event_of [] = None
   event_of (Came event ∷ p) = Some event
   event_of (item ∷ p) = event_of p
-
-  -- the mark before this place, where one stands in the same entry
-  abbrev pub last_mark : Past B C I → Option (Mark B)
-  last_mark (Made mark ∷ p) = Some mark
-  last_mark p = None

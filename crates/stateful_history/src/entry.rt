@@ -5,7 +5,7 @@ use crate::mark::Mark;
 use stateful_types::Items;
 
 /// An event, and the marks that were made of it, in their order.
-#[derive(Drop)]
+#[derive(Debug, Drop)]
 pub struct Entry<B, C, I> {
     pub event: Event<B, C, I>,
     pub marks: Items<Mark<B>>,

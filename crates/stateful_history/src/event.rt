@@ -7,7 +7,7 @@ use stateful_types::{Ancestry, Digested, Floor, Items, OutOfMemory, Share};
 
 /// One event, over blocks `B`, contexts `C` and inputs `I`. A ticket names a request or a receipt, and is greater than
 /// every earlier one.
-#[derive(Drop)]
+#[derive(Debug, Drop)]
 pub enum Event<B, C, I> {
     /// A request to judge the first block of an ancestry.
     Verify {

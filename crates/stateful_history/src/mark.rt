@@ -43,7 +43,7 @@ pub enum Decision {
 }
 
 /// One thing that the machine did, over blocks `B`.
-#[derive(Drop)]
+#[derive(Debug, Drop)]
 pub enum Mark<B> {
     /// The databases were opened at this block.
     Opened {

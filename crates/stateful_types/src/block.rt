@@ -45,7 +45,7 @@ pub trait Block {
 }
 
 /// A shared block with its digest, the SHA-256 of its bytes. To a contract it is the block and the digest.
-#[derive(Drop)]
+#[derive(Debug, Drop)]
 pub struct Digested<B> {
     digest: Digest,
     block: Arc<B>,
@@ -124,7 +124,7 @@ impl<B> Share for Digested<B> {
 }
 
 /// A block and its ancestors, as far as they are at hand: its parent first.
-#[derive(Drop)]
+#[derive(Debug, Drop)]
 pub struct Ancestry<B> {
     pub first: Digested<B>,
     pub rest: Items<Digested<B>>,
