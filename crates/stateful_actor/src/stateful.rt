@@ -26,7 +26,7 @@ pub struct Config<A: Application + Drop> {
 /// Why a machine was not made.
 #[derive(Clone, Copy, Debug, PartialEq, Eq, Error)]
 pub enum NewError {
-    #[error("out of memory")]
+    #[error("OutOfMemory")]
     OutOfMemory,
 }
 

@@ -53,6 +53,12 @@ fn seal(
             Err(AppFault::Failed)
         }
         Err(BatchError::OutOfMemory) => Err(AppFault::OutOfMemory),
+        Err(
+            BatchError::LocationOutOfBounds { .. }
+            | BatchError::LocationOutOfOrder { .. }
+            | BatchError::BelowInactivityFloor { .. }
+            | BatchError::SlotCount { .. },
+        ) => unreachable!(),
     }
 }
 

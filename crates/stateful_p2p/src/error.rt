@@ -12,15 +12,15 @@ use thiserror::Error;
 pub enum ActorError {
     /// A verdict or a departure names a ticket that isn't live, a verdict names one without a candidate to judge, the
     /// number of a delivery or of a production isn't above every earlier one, or no message waits.
-    #[error("the event names work that is not live")]
+    #[error("BadEvent")]
     BadEvent,
     /// The actor answered `Exhausted` or `OutOfMemory` before.
-    #[error("the resolver has failed")]
+    #[error("Failed")]
     Failed,
     /// The number of a delivery or of a production is the last one that there is, so that none could be above it.
-    #[error("no number is left")]
+    #[error("Exhausted")]
     Exhausted,
-    #[error("out of memory")]
+    #[error("OutOfMemory")]
     OutOfMemory,
 }
 

@@ -2,6 +2,7 @@
 
 ghost use Rattle.std.specs.Prelude.{◌≡◌, ◌≢◌, ℕ, ◌-◌, ◌^◌, ◌<◌, ◌≤◌, ◌==◌, List, ◌∷◌, IfOk, IfErr, IsErrOf, ◌↔◌, false, position};
 ghost use Rattle.std.specs.List.{list_any};
+ghost use Rattle.stateful_db.specs.Batch.{RefusesSeal};
 ghost use Rattle.stateful_db.specs.Chain.{has_id, IsPoint};
 ghost use Rattle.stateful_db.specs.Disk.{point};
 ghost use Rattle.stateful_plain.specs.Whole.{Whole, value_at, put};
@@ -127,6 +128,7 @@ impl Unmerkleized for PlainUnmerkleized {
         ensures whole { IfOk result (λ m. (c : List (ℕ × Whole))
             → DraftShows self c
             → SealShows m c) }
+        ensures why { IfErr result RefusesSeal }
         ensures memory { IfErr result (λ e. e ≢ BatchError.OutOfMemory) }
     {
         if !stands_on(self.id, self.below.as_slice(), db.id) {

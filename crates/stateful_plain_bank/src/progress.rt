@@ -116,5 +116,11 @@ pub(crate) fn seal(
             Err(AppFault::Failed)
         }
         Err(BatchError::OutOfMemory) => Err(AppFault::OutOfMemory),
+        Err(
+            BatchError::LocationOutOfBounds { .. }
+            | BatchError::LocationOutOfOrder { .. }
+            | BatchError::BelowInactivityFloor { .. }
+            | BatchError::SlotCount { .. },
+        ) => unreachable!(),
     }
 }

@@ -15,28 +15,28 @@ use thiserror::Error;
 #[derive(Clone, Copy, Debug, PartialEq, Eq, Error)]
 pub enum PlanError {
     /// A byte that no case has stands in the stored bytes, or a byte is left over behind a whole state.
-    #[error("the stored plan has a wrong byte {0}")]
+    #[error("InvalidEnum")]
     InvalidEnum(u8),
     /// The stored bytes end inside a state.
-    #[error("the stored plan ends too early")]
+    #[error("EndOfBuffer")]
     EndOfBuffer,
     /// The store failed, and has counted it.
-    #[error("the store of the plan failed")]
+    #[error("PlanStore")]
     PlanStore,
     /// A completion below the recorded height.
-    #[error("a completion is below the recorded height")]
+    #[error("CompletedBackward")]
     CompletedBackward {
         recorded: Height,
         given: Height,
     },
     /// A completion at the recorded height, of another block.
-    #[error("another block was recorded at the height of a completion")]
+    #[error("CompletedConflict")]
     CompletedConflict {
         height: Height,
         recorded: Digest,
         given: Digest,
     },
-    #[error("out of memory")]
+    #[error("OutOfMemory")]
     OutOfMemory,
 }
 
@@ -92,40 +92,40 @@ pub enum Missing {
 #[derive(Clone, Copy, Debug, PartialEq, Eq, Error)]
 pub enum SyncError {
     /// The database of this number failed to open, or keeps no checkpoint with the end that the block commits to.
-    #[error("database {index} did not open")]
+    #[error("Database")]
     Database {
         index: usize,
     },
     /// The checkpoint of the database of this number is another than the block commits to.
-    #[error("database {index} opened at another target")]
+    #[error("TargetMismatch")]
     TargetMismatch {
         index: usize,
         expected: Target,
         recovered: Target,
     },
     /// The block that is to be chosen isn't there.
-    #[error("a needed block is missing")]
+    #[error("MissingBlock")]
     MissingBlock(Missing),
     /// The block that is to be opened isn't the one with which the completion at its height was recorded.
-    #[error("another block was recorded at the height of the opening")]
+    #[error("CompletedConflict")]
     CompletedConflict {
         height: Height,
         recorded: Digest,
         given: Digest,
     },
     /// A finalized block is above the next height.
-    #[error("a finalized block is above the next height")]
+    #[error("SkippedHeight")]
     SkippedHeight {
         expected: Height,
         given: Height,
     },
     /// Two different blocks were finalized at one height, which may be the anchor's.
-    #[error("another block was finalized at the same height")]
+    #[error("ConflictAtAnchor")]
     ConflictAtAnchor {
         expected: Digest,
         given: Digest,
     },
-    #[error("out of memory")]
+    #[error("OutOfMemory")]
     OutOfMemory,
 }
 

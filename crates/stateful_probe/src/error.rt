@@ -13,15 +13,15 @@ use thiserror::Error;
 pub enum ProbeError {
     /// The ticket of a subscription isn't above every earlier one, a cancel names one that doesn't wait, or the probe was
     /// stopped.
-    #[error("the event names work that is not live")]
+    #[error("BadEvent")]
     BadEvent,
     /// The probe answered `Exhausted` or `OutOfMemory` before.
-    #[error("the probe has failed")]
+    #[error("Failed")]
     Failed,
     /// The ticket of a subscription is the last number that there is, so that none could be above it.
-    #[error("no number is left")]
+    #[error("Exhausted")]
     Exhausted,
-    #[error("out of memory")]
+    #[error("OutOfMemory")]
     OutOfMemory,
 }
 

@@ -108,9 +108,9 @@ pub struct Script {
 #[derive(Clone, Copy, Debug, PartialEq, Eq, Error)]
 pub enum ScriptError {
     /// No rule reads the line of this number, from 1, and it is the first such line.
-    #[error("no rule reads line {0}")]
+    #[error("Line")]
     Line(u64),
-    #[error("out of memory")]
+    #[error("OutOfMemory")]
     OutOfMemory,
 }
 

@@ -1,14 +1,18 @@
 //! What answers the requests of a syncing database.
 
 use stateful_types::{Faulty, Operation, Request, Response, Share};
+use thiserror::Error;
 
 /// Why a request wasn't answered.
-#[derive(Clone, Copy, Debug, PartialEq, Eq)]
+#[derive(Clone, Copy, Debug, PartialEq, Eq, Error)]
 pub enum ServeFault {
     /// The source failed, and has counted it.
+    #[error("Failed")]
     Failed,
     /// It doesn't hold what is asked for.
+    #[error("NotServed")]
     NotServed,
+    #[error("OutOfMemory")]
     OutOfMemory,
 }
 
