@@ -5,7 +5,8 @@ ghost use Rattle.std.specs.Prelude.{◌≡◌, IsTrue};
 use super::EMPTY;
 use crate::{Plain, PlainMedium};
 use stateful_db::{
-    Barrier, DatabaseSet, DbCall, FlushToken, Held, InitError, SetError, SetInit, Tokens,
+    Barrier, BatchError, DatabaseSet, DbCall, FlushToken, Held, InitError, SetError, SetInit,
+    Tokens,
 };
 use stateful_types::{Digest, Faulty, Location, Target};
 use std::alloc::{AllocError, Global};
@@ -412,6 +413,29 @@ fn mismatches<S: Fixture>(rt: &impl Abort, alloc: Global, database: usize) -> Re
     Ok(())
 }
 
+/// A fork outlives its parent. Behind a database that was lost no batch is made or sealed, and it alone has counted.
+fn forks<S: Fixture>(rt: &impl Abort, alloc: Global, database: usize) -> Result<(), Fail> {
+    let mut set: S = opened(alloc, &[fails_at(database, DbCall::Apply, 1)])?;
+    let batches = set.new_batches()?;
+    let parent = set.seal(batches)?;
+    let child = set.fork_batches(&parent)?;
+    let late = set.fork_batches(&parent)?;
+    set.apply(parent)?;
+    let child = set.seal(child)?;
+    assert!(rt; !S::matches_sync_targets(&child, &set.committed_targets()?));
+    let other = set.fork_batches(&child)?;
+    assert_eq!(rt; set.apply(child), Err(fault(database, DbCall::Apply)));
+    assert_eq!(rt; set.seal(late).err(), Some(BatchError::StaleRead));
+    assert_eq!(rt; set.seal(other).err(), Some(BatchError::StaleRead));
+    assert_eq!(rt; set.new_batches().err(), Some(SetError::Lost));
+    assert!(rt; set.is_home());
+    for number in 0..S::count() {
+        let counted = if number == database { 1 } else { 0 };
+        assert_eq!(rt; set.faults(number), counted);
+    }
+    Ok(())
+}
+
 /// Tokens are out at those before the database that failed at a finalize. A flush is of one database alone.
 fn flushes<S: Fixture>(rt: &impl Abort, alloc: Global, database: usize) -> Result<(), Fail> {
     let mut set: S = grown(rt, alloc, &[fails_at(database, DbCall::Finalize, 0)])?;
@@ -500,6 +524,7 @@ fn every_call<S: Fixture>(rt: &impl Abort, alloc: Global) -> Result<(), Fail> {
         expects::<S>(rt, alloc, database)?;
         applies::<S>(rt, alloc, database)?;
         mismatches::<S>(rt, alloc, database)?;
+        forks::<S>(rt, alloc, database)?;
         flushes::<S>(rt, alloc, database)?;
         prunes::<S>(rt, alloc, database)?;
     }
