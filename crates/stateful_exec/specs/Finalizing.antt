@@ -78,11 +78,10 @@ abbrev pub HasStates : {B R U H : Type 0} → Named B → List (Cached U) → Op
 HasStates b cache front = IsIn cache b.digest ⊎ ((c : Named _) × (batch : _) × (front ≡ front_at c (Ran batch)))
 
 module _ {B C I P R D H G U : Type 0} (w : Workings B C I P R D H G U) where
-  -- the run is of the finalized block, in a context of its round, and hasn't had a turn
+  -- the run is of the finalized block, in the block's context, which is of its round, and hasn't had a turn
   pub record IsFinalRun (run : R) (b : Named B) (own : w.Ids) (at : Point w) : Type 0 where
-    pub context : C
-    pub round : w.round_of context ≡ w.header.round b.block
-    pub runs : w.works.runs run (run_of Finalized context (record { first = b; rest = [] }) own at []) 0
+    pub round : w.round_of (w.context_of b.block) ≡ w.header.round b.block
+    pub runs : w.works.runs run (run_of Finalized (w.context_of b.block) (record { first = b; rest = [] }) own at []) 0
 
   -- A run of the finalized block is live, over the states of the databases, under the next number of a job. That number and the
   -- batches' ids weren't the last ones.

@@ -59,9 +59,9 @@ module _ {B C I P R D H G U : Type 0} (w : Workings B C I P R D H G U) (stored :
   -- what the last turn says of the run
   pub turned-at : (o : Option U) → Turns w m live.run turned (Done o)
       → Ends (Done o) (outcome w.works.meaning Candidate (points run.parent.digest).1 live.block.block) (λ batch u. w.shows batch ((run.own, u) ∷ points run.parent.digest ∷ run.below))
-      (w.works.runs turned (run_of Candidate run.context (record { first = live.block; rest = run.parent ∷ [] }) run.own (points run.parent.digest) run.below) (turns j p + 1))
+      (w.works.runs turned (run_of Candidate (w.context_of live.block.block) (record { first = live.block; rest = run.parent ∷ [] }) run.own (points run.parent.digest) run.below) (turns j p + 1))
   turned-at o t =
-      t.ends (run_of Candidate run.context (record { first = live.block; rest = run.parent ∷ [] }) run.own (points run.parent.digest) run.below) (turns j p) point run.runs here
+      t.ends (run_of Candidate (w.context_of live.block.block) (record { first = live.block; rest = run.parent ∷ [] }) run.own (points run.parent.digest) run.below) (turns j p) point run.runs here
       (subst (λ (x : Point w). IsPoint x (points run.parent.digest ∷ run.below)) s.at_anchor (Stacked-point w run.chain))
 
   pub cached_step : Any (λ e. step_in e ≡ step_by w.header live.block) old.cache → IsIn old.cache live.block.digest

@@ -89,7 +89,7 @@ module _ {B C I P R D H G U : Type 0} (w : Workings B C I P R D H G U) (stored :
     -- what the turn says of its cost
     turned-costs : Costs {T = Option U} Cost Pending (turns j p)
     turned-costs =
-        turn.turns.costs (run_of finality.Candidate own.context (record { first = live.block; rest = own.parent ∷ [] }) own.own (points own.parent.digest) own.below) (turns j p) point own.runs located
+        turn.turns.costs (run_of finality.Candidate (w.context_of live.block.block) (record { first = live.block; rest = own.parent ∷ [] }) own.own (points own.parent.digest) own.below) (turns j p) point own.runs located
         (subst (λ (x : Point w). IsPoint x (points own.parent.digest ∷ own.below)) s.at_anchor (Stacked-point w own.chain))
 
     left : (o : Option ℕ) → Cost ≡ o → (n : ℕ) → o ≡ Some n → turns j p + 1 < n

@@ -102,9 +102,9 @@ module _ {B C I P R D H G U : Type 0} (w : Workings B C I P R D H G U) (stored :
     now = record live { run = turned }
 
     -- what the turn says of the run
-    goes_on : w.works.runs turned (run_of Candidate run.context (record { first = live.block; rest = run.parent ∷ [] }) run.own (points run.parent.digest) run.below) (turns j p + 1)
+    goes_on : w.works.runs turned (run_of Candidate (w.context_of live.block.block) (record { first = live.block; rest = run.parent ∷ [] }) run.own (points run.parent.digest) run.below) (turns j p + 1)
     goes_on =
-        had.ends (run_of Candidate run.context (record { first = live.block; rest = run.parent ∷ [] }) run.own (points run.parent.digest) run.below) (turns j p) point run.runs located
+        had.ends (run_of Candidate (w.context_of live.block.block) (record { first = live.block; rest = run.parent ∷ [] }) run.own (points run.parent.digest) run.below) (turns j p) point run.runs located
         (subst (λ (x : Point w). IsPoint x (points run.parent.digest ∷ run.below)) s.at_anchor (Stacked-point w run.chain))
 
     own : IsRunning w stored past points next old.anchor old.cache j now
@@ -120,7 +120,6 @@ module _ {B C I P R D H G U : Type 0} (w : Workings B C I P R D H G U) (stored :
       chain = Chain-calm w stored p (Came (Turn j)) (turn-IsCalm (setting w stored) p j) points old.anchor.digest run.parent.digest _ run.chain;
       own = run.own;
       drawn = run.drawn;
-      context = run.context;
       round = run.round;
       runs = rw (eq-eqb j j refl) goes_on;
     }
