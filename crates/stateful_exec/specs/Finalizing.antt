@@ -84,11 +84,12 @@ module _ {B C I P R D H G U : Type 0} (w : Workings B C I P R D H G U) where
     pub runs : w.works.runs run (run_of Finalized (w.context_of b.block) (record { first = b; rest = [] }) own at []) 0
 
   -- A run of the finalized block is live, over the states of the databases, under the next number of a job. That number and the
-  -- batches' ids weren't the last ones.
+  -- batches' ids weren't the last ones, and every database was here.
   pub record RunsFinal (b : Named B) (m : w.kind.Members) (next now : w.Ids) (old new : Tables B C I R U) (front : Option (Front B R U H)) : Type 0 where
     pub run : R
     pub job_left : IsLeft old.next_job
     pub ids_left : w.kind.Spent next → ⊥
+    pub here : w.kind.point m ≡ None → ⊥
     pub state : new ≡ record old { next_job = old.next_job + 1 }
     pub front_is : front ≡ front_at b (Running old.next_job run)
     pub over : (p : Point w) → w.kind.point m ≡ Some p → w.kind.issued next (p ∷ [])

@@ -1,5 +1,5 @@
 -- The start of a candidate run.
-use Rattle.std.specs.Prelude.{◌≡◌, ◌≢◌, ◌+◌, ◌-◌, ◌^◌, ◌<◌, ◌≤◌, ◌++◌, ◌∷◌, [], ℕ, Some, List, Contains}
+use Rattle.std.specs.Prelude.{◌≡◌, ◌≢◌, ◌+◌, ◌-◌, ◌^◌, ◌<◌, ◌≤◌, ◌++◌, ◌∷◌, [], ℕ, Some, None, List, Contains}
 use Rattle.stateful_types.specs.Names.{Named}
 use Rattle.stateful_types.specs.declared.digest.Digest.{Digest}
 use Rattle.stateful_types.specs.declared.outcome.Finality.{Finality}
@@ -31,11 +31,12 @@ module _ {B C I P R D H G U : Type 0} (w : Workings B C I P R D H G U) where
     pub runs : w.works.runs run (run_of finality (w.context_of b.block) (record { first = b; rest = parent ∷ [] }) own at below) 0
 
   -- A run of the block is live, over the states of its parent, under the next number of a job. That number and the batches'
-  -- ids weren't the last ones.
+  -- ids weren't the last ones, and every database was here.
   pub record StartsRun (b parent : Named B) (m : w.kind.Members) (next now : w.Ids) (old new : Tables B C I R U) : Type 0 where
     pub run : R
     pub job_left : IsLeft old.next_job
     pub ids_left : w.kind.Spent next → ⊥
+    pub here : w.kind.point m ≡ None → ⊥
     pub state : new ≡ record old {
       runs = put old.runs old.next_job (record { block = b; run = run });
       next_job = old.next_job + 1;
