@@ -183,6 +183,11 @@ module _ {B C I P R D H G U : Type 0} (w : Workings B C I P R D H G U) where
       × (after ≡ front_at b (Hooking old.next_job hook))
       × (live ≡ true)
 
+  -- why no hook is live: memory ran out; or one was left, and no number was left for its job
+  abbrev pub FaultsHooksOn : Hooked H → ℕ → ExecError → Type 0
+  FaultsHooksOn hooked.Done next_job e = e ≡ OutOfMemory
+  FaultsHooksOn (hooked.Pending hook) next_job e = (e ≡ OutOfMemory) ⊎ ((e ≡ Exhausted) × (IsLeft next_job → ⊥))
+
   -- the application has observed the states behind the finalized block
   pub record Observes (b : Named B) (captured : G) (m : w.kind.Members) (old new : Tables B C I R U) (before now : List (Mark B)) (after : Option (Front B R U H)) (live : Bool) : Type 0 where
     pub hook : Hooked H
@@ -190,10 +195,11 @@ module _ {B C I P R D H G U : Type 0} (w : Workings B C I P R D H G U) where
     pub hooks_on : HooksOn b hook old new before now after live
 
   -- memory ran out; or the application failed; or it left a hook, and no number was left for its job
-  pub data FaultsObserve (rose : Type 0) (next_job : ℕ) (e : ExecError) : Type 0 where
-    memory : e ≡ OutOfMemory → FaultsObserve rose next_job e
-    failed : e ≡ Application → rose → FaultsObserve rose next_job e
-    no_job : e ≡ Exhausted → (IsLeft next_job → ⊥) → FaultsObserve rose next_job e
+  pub data FaultsObserve (rose : Type 0) (b : Named B) (captured : G) (m : w.kind.Members) (next_job : ℕ) (e : ExecError) : Type 0 where
+    memory : e ≡ OutOfMemory → FaultsObserve rose b captured m next_job e
+    failed : e ≡ Application → rose → FaultsObserve rose b captured m next_job e
+    no_job : {hook : H} → e ≡ Exhausted → IsLeftBehind b captured m (hooked.Pending hook) → (IsLeft next_job → ⊥)
+        → FaultsObserve rose b captured m next_job e
 
   -- a hook has had a turn, which answers so; it failed only where its count rose
   pub record HasHooked (count : H → ℕ) (m : w.kind.Members) (hook turned : H) (answer : Result (Moved Unit) AppFault) : Type 0 where
