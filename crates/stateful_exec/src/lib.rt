@@ -41,3 +41,6 @@ pub use state::Tables;
 pub use tables::{LiveRun, Phase, Released, Requested};
 pub use walk::Acquired;
 pub use worked::Worked;
+
+pub use stateful_db::ProposalKind;
+pub use stateful_history::{Entry, Mark};
