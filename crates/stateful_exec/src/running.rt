@@ -127,7 +127,7 @@ fn start<A: Application>(
 }
 
 /// A run of the next block of a path is started for a request.
-fn launch<A: Application>(
+pub(crate) fn launch<A: Application>(
     application: &mut A,
     tables: &mut TablesOf<A>,
     databases: &mut A::Databases,
