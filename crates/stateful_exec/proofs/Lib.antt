@@ -21,3 +21,4 @@ pub mod Fronts
 pub mod Rebuilding
 pub mod Pauses
 pub mod Resumed
+pub mod Joining

@@ -49,11 +49,11 @@ module _ {B C I P R D H G U : Type 0} (w : Workings B C I P R D H G U) (t : ℕ)
   live_build q live = record { job = q.job; ticket = t; kind = q.proposal.kind; context = q.proposal.context; parent = q.parent; build = live }
 
   module _ (q : Queued B C I) where
-    pub started : (now : w.Ids) (live : D) (found : Option (Queued B C I)) → found ≡ Some q → Unqueues old t new found → (w.kind.Spent next → ⊥)
+    pub started : (now : w.Ids) (live : D) (found : Option (Queued B C I)) → found ≡ Some q → Unqueues old t new found → (w.kind.Spent next → ⊥) → (w.kind.point m ≡ None → ⊥)
         → IsOver w new.anchor.digest new.cache m next now (λ p c. IsNewBuild w live q.proposal provider next p c) q.parent.digest
         → ((c : List (Point w)) → w.kind.issued next c → w.kind.issued now c)
         → Proposes w t provider m next now old new before (Some (live_build q live)) (Started q.job)
-    started now live found found_is unqueues spent over keeps = go (subst (λ (o : Option (Queued B C I)). Unqueues old t new o) found_is unqueues)
+    started now live found found_is unqueues spent here over keeps = go (subst (λ (o : Option (Queued B C I)). Unqueues old t new o) found_is unqueues)
       where
         go : Unqueues old t new (Some q) → Proposes w t provider m next now old new before (Some (live_build q live)) (Started q.job)
         go (ready is parent job left state) = starts job (record {
@@ -61,14 +61,15 @@ module _ {B C I P R D H G U : Type 0} (w : Workings B C I P R D H G U) (t : ℕ)
           ready = is;
           job_left = left;
           ids_left = spent;
+          here = here;
           live = live;
           build_is =
               ap (λ (j : ℕ). Some (record { job = j; ticket = t; kind = q.proposal.kind; context = q.proposal.context; parent = q.parent; build = live })) job
               ∙ ap (λ (b : Named B). Some (record { job = old.next_job; ticket = t; kind = q.proposal.kind; context = q.proposal.context; parent = b; build = live })) parent;
           state = state;
           over =
-              let here = subst (λ (v : Tables B C I R U). IsOver w v.anchor.digest v.cache m next now (λ p c. IsNewBuild w live q.proposal provider next p c) q.parent.digest) state over in
-              subst (λ (b : Named B). IsOver w old.anchor.digest old.cache m next now (λ p c. IsNewBuild w live q.proposal provider next p c) b.digest) parent here;
+              let built = subst (λ (v : Tables B C I R U). IsOver w v.anchor.digest v.cache m next now (λ p c. IsNewBuild w live q.proposal provider next p c) q.parent.digest) state over in
+              subst (λ (b : Named B). IsOver w old.anchor.digest old.cache m next now (λ p c. IsNewBuild w live q.proposal provider next p c) b.digest) parent built;
           keeps = keeps;
         })
 

@@ -41,12 +41,13 @@ module _ {B C I P R D H G U : Type 0} (w : Workings B C I P R D H G U) where
   IsNewBuild build p provider own at below = w.works.building build (build_of (asked_by p) provider own at below) 0
 
   -- A build of a queued proposal is live, over the states of its parent, under the next number of a job. That number and the
-  -- batches' ids weren't the last ones.
+  -- batches' ids weren't the last ones, and every database was here.
   pub record StartsBuild (t : ℕ) (provider : P) (m : w.kind.Members) (next now : w.Ids) (old new : Tables B C I R U) (build : Option (Building B C D)) : Type 0 where
     pub proposal : Proposal B C I
     pub ready : IsReady old t proposal
     pub job_left : IsLeft old.next_job
     pub ids_left : w.kind.Spent next → ⊥
+    pub here : w.kind.point m ≡ None → ⊥
     pub live : D
     pub build_is : build ≡ Some (record {
       job = old.next_job;

@@ -78,18 +78,18 @@ abbrev pub HasStates : {B R U H : Type 0} → Named B → List (Cached U) → Op
 HasStates b cache front = IsIn cache b.digest ⊎ ((c : Named _) × (batch : _) × (front ≡ front_at c (Ran batch)))
 
 module _ {B C I P R D H G U : Type 0} (w : Workings B C I P R D H G U) where
-  -- the run is of the finalized block, in a context of its round, and hasn't had a turn
+  -- the run is of the finalized block, in the block's context, which is of its round, and hasn't had a turn
   pub record IsFinalRun (run : R) (b : Named B) (own : w.Ids) (at : Point w) : Type 0 where
-    pub context : C
-    pub round : w.round_of context ≡ w.header.round b.block
-    pub runs : w.works.runs run (run_of Finalized context (record { first = b; rest = [] }) own at []) 0
+    pub round : w.round_of (w.context_of b.block) ≡ w.header.round b.block
+    pub runs : w.works.runs run (run_of Finalized (w.context_of b.block) (record { first = b; rest = [] }) own at []) 0
 
   -- A run of the finalized block is live, over the states of the databases, under the next number of a job. That number and the
-  -- batches' ids weren't the last ones.
+  -- batches' ids weren't the last ones, and every database was here.
   pub record RunsFinal (b : Named B) (m : w.kind.Members) (next now : w.Ids) (old new : Tables B C I R U) (front : Option (Front B R U H)) : Type 0 where
     pub run : R
     pub job_left : IsLeft old.next_job
     pub ids_left : w.kind.Spent next → ⊥
+    pub here : w.kind.point m ≡ None → ⊥
     pub state : new ≡ record old { next_job = old.next_job + 1 }
     pub front_is : front ≡ front_at b (Running old.next_job run)
     pub over : (p : Point w) → w.kind.point m ≡ Some p → w.kind.issued next (p ∷ [])
@@ -183,6 +183,11 @@ module _ {B C I P R D H G U : Type 0} (w : Workings B C I P R D H G U) where
       × (after ≡ front_at b (Hooking old.next_job hook))
       × (live ≡ true)
 
+  -- why no hook is live: memory ran out; or one was left, and no number was left for its job
+  abbrev pub FaultsHooksOn : Hooked H → ℕ → ExecError → Type 0
+  FaultsHooksOn hooked.Done next_job e = e ≡ OutOfMemory
+  FaultsHooksOn (hooked.Pending hook) next_job e = (e ≡ OutOfMemory) ⊎ ((e ≡ Exhausted) × (IsLeft next_job → ⊥))
+
   -- the application has observed the states behind the finalized block
   pub record Observes (b : Named B) (captured : G) (m : w.kind.Members) (old new : Tables B C I R U) (before now : List (Mark B)) (after : Option (Front B R U H)) (live : Bool) : Type 0 where
     pub hook : Hooked H
@@ -190,10 +195,11 @@ module _ {B C I P R D H G U : Type 0} (w : Workings B C I P R D H G U) where
     pub hooks_on : HooksOn b hook old new before now after live
 
   -- memory ran out; or the application failed; or it left a hook, and no number was left for its job
-  pub data FaultsObserve (rose : Type 0) (next_job : ℕ) (e : ExecError) : Type 0 where
-    memory : e ≡ OutOfMemory → FaultsObserve rose next_job e
-    failed : e ≡ Application → rose → FaultsObserve rose next_job e
-    no_job : e ≡ Exhausted → (IsLeft next_job → ⊥) → FaultsObserve rose next_job e
+  pub data FaultsObserve (rose : Type 0) (b : Named B) (captured : G) (m : w.kind.Members) (next_job : ℕ) (e : ExecError) : Type 0 where
+    memory : e ≡ OutOfMemory → FaultsObserve rose b captured m next_job e
+    failed : e ≡ Application → rose → FaultsObserve rose b captured m next_job e
+    no_job : {hook : H} → e ≡ Exhausted → IsLeftBehind b captured m (hooked.Pending hook) → (IsLeft next_job → ⊥)
+        → FaultsObserve rose b captured m next_job e
 
   -- a hook has had a turn, which answers so; it failed only where its count rose
   pub record HasHooked (count : H → ℕ) (m : w.kind.Members) (hook turned : H) (answer : Result (Moved Unit) AppFault) : Type 0 where

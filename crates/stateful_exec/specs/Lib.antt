@@ -16,3 +16,4 @@ pub mod Building
 pub mod Built
 pub mod Pausing
 pub mod Finalizing
+pub mod Verifying

@@ -1,5 +1,5 @@
 -- The start of a candidate run.
-use Rattle.std.specs.Prelude.{◌≡◌, ◌≢◌, ◌+◌, ◌-◌, ◌^◌, ◌<◌, ◌≤◌, ◌++◌, ◌∷◌, [], ℕ, Some, List, Contains}
+use Rattle.std.specs.Prelude.{◌≡◌, ◌≢◌, ◌+◌, ◌-◌, ◌^◌, ◌<◌, ◌≤◌, ◌++◌, ◌∷◌, [], ℕ, Some, None, List, Contains}
 use Rattle.stateful_types.specs.Names.{Named}
 use Rattle.stateful_types.specs.declared.digest.Digest.{Digest}
 use Rattle.stateful_types.specs.declared.outcome.Finality.{Finality}
@@ -25,18 +25,18 @@ module _ {B C I P R D H G U : Type 0} (w : Workings B C I P R D H G U) where
     databases : parent ≡ anchor → ((p : Point w) → w.kind.point m ≡ Some p → w.kind.issued old (p ∷ []) → Has p [] × w.kind.issued new ((old, w.kind.begun p.1) ∷ p ∷ [])) → IsOver anchor cache m old new Has parent
     batch : (e : Cached U) → parent ≢ anchor → Contains cache e → e.digest ≡ parent → ((p q : Point w) (above older : List (Point w)) → w.kind.point m ≡ Some p → w.shows e.batch (q ∷ above ++ p ∷ older) → w.kind.issued old (q ∷ above ++ p ∷ older) → Has q (above ++ p ∷ []) × w.kind.issued new ((old, w.kind.begun q.1) ∷ q ∷ above ++ p ∷ [])) → IsOver anchor cache m old new Has parent
 
-  -- the run is of the block, behind its parent, in a context of its round, and hasn't had a turn
+  -- the run is of the block, behind its parent, in the block's context, which is of its round, and hasn't had a turn
   pub record IsFresh (run : R) (finality : Finality) (b parent : Named B) (own : w.Ids) (at : Point w) (below : List (Point w)) : Type 0 where
-    pub context : C
-    pub round : w.round_of context ≡ w.header.round b.block
-    pub runs : w.works.runs run (run_of finality context (record { first = b; rest = parent ∷ [] }) own at below) 0
+    pub round : w.round_of (w.context_of b.block) ≡ w.header.round b.block
+    pub runs : w.works.runs run (run_of finality (w.context_of b.block) (record { first = b; rest = parent ∷ [] }) own at below) 0
 
   -- A run of the block is live, over the states of its parent, under the next number of a job. That number and the batches'
-  -- ids weren't the last ones.
+  -- ids weren't the last ones, and every database was here.
   pub record StartsRun (b parent : Named B) (m : w.kind.Members) (next now : w.Ids) (old new : Tables B C I R U) : Type 0 where
     pub run : R
     pub job_left : IsLeft old.next_job
     pub ids_left : w.kind.Spent next → ⊥
+    pub here : w.kind.point m ≡ None → ⊥
     pub state : new ≡ record old {
       runs = put old.runs old.next_job (record { block = b; run = run });
       next_job = old.next_job + 1;

@@ -6,7 +6,7 @@ ghost use Rattle.stateful_types.specs.Causes.{Rose};
 ghost use Rattle.stateful_types.specs.Names.{Named};
 ghost use Rattle.stateful_cache.specs.Cache.{IsIn};
 ghost use Rattle.stateful_cache.specs.Cut.{IsCutTo, IsRootOf};
-ghost use Rattle.stateful_exec.specs.Finalizing.{front_at, HasStates, IsRoot, Moves, FaultsMove, Observes, HooksOn, FaultsObserve, IsHookLive, SettlesHook, FaultsSettleHook, TurnsHook, FaultsHook};
+ghost use Rattle.stateful_exec.specs.Finalizing.{front_at, HasStates, IsRoot, Moves, FaultsMove, Observes, HooksOn, FaultsHooksOn, FaultsObserve, IsHookLive, SettlesHook, FaultsSettleHook, TurnsHook, FaultsHook};
 ghost use Rattle.stateful_exec.specs.Starting.{IsLeft, Rises};
 ghost use Rattle.stateful_exec.specs.declared.front.Stage.TheVariants as stage;
 
@@ -133,8 +133,8 @@ fn hook_on<A: Application>(
 ) -> Result<bool, ExecError>
     ensures ok { IfOk result (HooksOn ⟦<A as Worked>⟧.workings block.now hooked tables.old
         tables.new marks.old.items marks.new.items front.new) }
-    ensures fault { IfErr result (λ e. (e ≡ ExecError.OutOfMemory)
-        ⊎ ((e ≡ ExecError.Exhausted) × (IsLeft tables.old.next_job → ⊥))) }
+    ensures fault { IfErr result (FaultsHooksOn ⟦<A as Worked>⟧.workings hooked
+        tables.old.next_job) }
     ensures numbers { Rises tables.old tables.new }
 {
     let (stage, live) = match hooked {
@@ -171,7 +171,8 @@ pub(crate) fn observe<A: Application>(
         (A.Databases.members databases.now) tables.old tables.new marks.old.items marks.new.items
         front.new) }
     ensures fault { IfErr result (FaultsObserve ⟦<A as Worked>⟧.workings
-        (Rose (A.count application.old) (A.count application.new)) tables.old.next_job) }
+        (Rose (A.count application.old) (A.count application.new)) block.now captured
+        (A.Databases.members databases.now) tables.old.next_job) }
     ensures numbers { Rises tables.old tables.new }
     ensures notes { OnOk result (A.notes application.new
         ≡ A.works.noted (A.notes application.old) block.now.block) }

@@ -24,6 +24,7 @@ mod serving;
 mod state;
 mod tables;
 mod tickets;
+mod verifying;
 mod walk;
 mod worked;
 
@@ -38,6 +39,9 @@ pub use pause::Pause;
 pub use processor::{Execution, Processing, Processor};
 pub use request::{Proposal, Request, Verdict};
 pub use state::Tables;
+pub use stateful_db::ProposalKind;
+pub use stateful_history::{Entry, Mark};
 pub use tables::{LiveRun, Phase, Released, Requested};
+pub use verifying::{Joined, Verifier};
 pub use walk::Acquired;
 pub use worked::Worked;

@@ -302,8 +302,8 @@ impl<A: Application + Drop, M> Execution<A, M> {
             marks.new.items self.new.front) }
         ensures build { self.new.build ≡ self.old.build }
         ensures fault { IfErr result (FaultsObserve ⟦<A as Worked>⟧.workings
-            (Rose (A.count self.old.application) (A.count self.new.application))
-            self.old.state.next_job) }
+            (Rose (A.count self.old.application) (A.count self.new.application)) block.now captured
+            (A.Databases.members databases.now) self.old.state.next_job) }
         ensures numbers { Rises self.old.state self.new.state }
         ensures notes { OnOk result (A.notes self.new.application
             ≡ A.works.noted (A.notes self.old.application) block.now.block) }

@@ -1,6 +1,6 @@
 //! Builds are started.
 
-ghost use Rattle.std.specs.Prelude.{◌≡◌, ◌≢◌, ◌⊎◌, ◌≤◌, ◌+◌, ◌∷◌, ℕ, List, OnOk, OnErr, IfOk, IfErr, IfSome, IsErrOf};
+ghost use Rattle.std.specs.Prelude.{◌≡◌, ◌≢◌, ◌⊎◌, ◌≤◌, ◌+◌, ◌∷◌, ℕ, List, None, OnOk, OnErr, IfOk, IfErr, IfSome, IsErrOf};
 ghost use Rattle.stateful_types.specs.Causes.{Rose};
 ghost use Rattle.stateful_db.specs.Works.{build_of};
 ghost use Rattle.stateful_exec.specs.Building.{asked_by, unqueued, IsReady, Unqueues, IsNewBuild, Proposes, FaultsPropose};
@@ -126,6 +126,8 @@ fn begin_build<A: Application>(
         proposal provider (A.Databases.next databases.old) q c) parent.now.digest) }
     ensures members { A.Databases.members databases.new ≡ A.Databases.members databases.old }
     ensures within { OnOk result (A.Databases.kind.Spent (A.Databases.next databases.old) → ⊥) }
+    ensures here { OnOk result (A.Databases.kind.point (A.Databases.members databases.old) ≡ None
+        → ⊥) }
     ensures keeps { (c : List (A.Databases.Ids × A.Databases.States))
         → A.Databases.kind.issued (A.Databases.next databases.old) c
         → A.Databases.kind.issued (A.Databases.next databases.new) c }

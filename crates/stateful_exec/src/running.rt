@@ -1,6 +1,6 @@
 //! Requests on their way: what they need, and the runs that are started for them.
 
-ghost use Rattle.std.specs.Prelude.{◌≡◌, ◌≢◌, ◌≤◌, ◌++◌, ◌∷◌, [], ℕ, List, Some, OnOk, IfOk, IfErr, IsErrOf};
+ghost use Rattle.std.specs.Prelude.{◌≡◌, ◌≢◌, ◌≤◌, ◌++◌, ◌∷◌, [], ℕ, List, Some, None, OnOk, IfOk, IfErr, IsErrOf};
 ghost use Rattle.stateful_history.specs.declared.mark.Mark.TheVariants.{Started};
 ghost use Rattle.stateful_history.specs.declared.mark.JobKind.TheVariants as job;
 ghost use Rattle.stateful_types.specs.Causes.{Rose};
@@ -68,6 +68,8 @@ pub(crate) fn begin<A: Application>(
         ((A.Databases.next databases.old, A.Databases.kind.begun q.1) ∷ q ∷ c)) parent.now.digest) }
     ensures members { A.Databases.members databases.new ≡ A.Databases.members databases.old }
     ensures within { OnOk result (A.Databases.kind.Spent (A.Databases.next databases.old) → ⊥) }
+    ensures here { OnOk result (A.Databases.kind.point (A.Databases.members databases.old) ≡ None
+        → ⊥) }
     ensures keeps { (c : List (A.Databases.Ids × A.Databases.States))
         → A.Databases.kind.issued (A.Databases.next databases.old) c
         → A.Databases.kind.issued (A.Databases.next databases.new) c }
@@ -101,6 +103,8 @@ fn start<A: Application>(
         block.now parent (A.Databases.next databases.old) q c) parent.digest) }
     ensures members { A.Databases.members databases.new ≡ A.Databases.members databases.old }
     ensures within { OnOk result (A.Databases.kind.Spent (A.Databases.next databases.old) → ⊥) }
+    ensures here { OnOk result (A.Databases.kind.point (A.Databases.members databases.old) ≡ None
+        → ⊥) }
     ensures keeps { (c : List (A.Databases.Ids × A.Databases.States))
         → A.Databases.kind.issued (A.Databases.next databases.old) c
         → A.Databases.kind.issued (A.Databases.next databases.new) c }
@@ -123,7 +127,7 @@ fn start<A: Application>(
 }
 
 /// A run of the next block of a path is started for a request.
-fn launch<A: Application>(
+pub(crate) fn launch<A: Application>(
     application: &mut A,
     tables: &mut TablesOf<A>,
     databases: &mut A::Databases,

@@ -139,7 +139,7 @@ impl<B: Block + Drop, C: Copy, I: Drop, R: Drop, U: Drop> Tables<B, C, I, R, U> 
     }
 
     /// Passes the next block of a path, and tells what it is.
-    fn join(&self, path: &mut ReplayPath<B>) -> Result<Met<B>, OutOfMemory>
+    pub(crate) fn join(&self, path: &mut ReplayPath<B>) -> Result<Met<B>, OutOfMemory>
         requires { path.old.blocks ≢ [] }
         ensures passed { path.old.blocks ≡ path.new.blocks ++ path.new.parent ∷ [] }
         ensures joins { IfOk result (JoinsAs B.header self.now path.new.parent path.old.parent) }

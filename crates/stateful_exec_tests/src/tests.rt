@@ -271,6 +271,60 @@ fn requests_share_runs(rt: HostRuntime) -> Result<(), Fail> {
 }
 
 #[test]
+fn paths_are_taken_by_hand(rt: HostRuntime) -> Result<(), Fail> {
+    let rows: [Row<'_>; 39] = [
+        // Three verifications of a block wait, whose parent isn't known.
+        (Call::Verify(C, Some(B)), &[Told::Asked(0, 0, A)]),
+        (Call::Start(0), &[Told::Needs(A)]),
+        (Call::Fetched(0, None), &[]),
+        (Call::Verify(C, Some(B)), &[Told::Asked(1, 1, A)]),
+        (Call::Fetched(1, None), &[]),
+        (Call::Verify(C, Some(B)), &[Told::Asked(2, 2, A)]),
+        (Call::Fetched(2, None), &[]),
+        (Call::Next(0), &[Told::NoneNext]),
+        (Call::Process(0), &[Told::NoneNext]),
+        // Another one makes it known.
+        (Call::Verify(B, Some(A)), &[Told::Asked(3, 3, GENESIS)]),
+        (Call::Fetched(3, Some(GENESIS)), &[runs(0, A)]),
+        (Call::Turn(0), &[]),
+        (Call::Turn(0), &[]),
+        (Call::Turn(0), &[kept(0), runs(1, B)]),
+        (Call::Turn(1), &[kept(1), valid(3)]),
+        // The first one starts a run, and the second one joins it.
+        (Call::Start(0), &[Told::Yes]),
+        (Call::Start(1), &[Told::Yes]),
+        (Call::Start(2), &[Told::Yes]),
+        (Call::Next(0), &[Told::IsNext(C)]),
+        (Call::Process(0), &[runs(2, C), Told::Joins(2)]),
+        (Call::Process(1), &[Told::Joins(2)]),
+        (Call::Start(1), &[Told::No]),
+        (Call::Turn(2), &[kept(2), valid(0), valid(1)]),
+        // The third one finds its block known, and ends with the next resume.
+        (Call::Process(2), &[Told::Known]),
+        (Call::Next(2), &[Told::NoneNext]),
+        (Call::Start(2), &[Told::NeedsNone]),
+        (Call::Resume, &[valid(2)]),
+        (Call::Start(2), &[Told::NeedsNone]),
+        // A parent that isn't known any more makes a block false, without a run.
+        (Call::Verify(AFTER_FAR, Some(FAR)), &[Told::Asked(4, 4, A)]),
+        (Call::Fetched(4, None), &[]),
+        (Call::Verify(FAR, Some(A)), &[runs(3, FAR)]),
+        (Call::Turn(3), &[kept(3), valid(5)]),
+        (Call::Start(4), &[Told::Yes]),
+        (Call::Begin(RIVAL), &[]),
+        (
+            Call::RunFinalized(RIVAL),
+            &[Told::Started(4, JobKind::Finalized, RIVAL)],
+        ),
+        (Call::Turn(4), &[]),
+        (Call::Turn(4), &[kept(4)]),
+        (Call::Advance(RIVAL), &[]),
+        (Call::Process(4), &[invalid(4), Told::Missed]),
+    ];
+    play(&rt, rt.alloc(), &rows)
+}
+
+#[test]
 fn requests_are_given_up(rt: HostRuntime) -> Result<(), Fail> {
     let rows: [Row<'_>; 35] = [
         // A request leaves its run, which goes on for the other one. The last one ends it.

@@ -124,7 +124,7 @@ module _ {B C I P R D H G U : Type 0} (w : Workings B C I P R D H G U) (stored :
       -- what the turn says of its cost
       turned-costs : Costs {T = Option U} Cost Pending (turns j p)
       turned-costs = turn.costs
-          (run_of finality.Candidate own.context (record { first = live.block; rest = own.parent ∷ [] }) own.own
+          (run_of finality.Candidate (w.context_of live.block.block) (record { first = live.block; rest = own.parent ∷ [] }) own.own
           (x.points own.parent.digest) own.below)
           (turns j p) x.point own.runs x.located
           (subst (λ (y : Point w). IsPoint y (x.points own.parent.digest ∷ own.below)) x.tables.at_anchor (Stacked-point w own.chain))

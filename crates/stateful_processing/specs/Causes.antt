@@ -83,7 +83,7 @@ module _ {B C I P R D H G U : Type 0} (w : Workings B C I P R D H G U) (stored :
     covering : {f : Finalizing B G} {captured : G} → IsFinalizing w m f → m.execution.front ≡ front_at f.block Advanced → f.captured ≡ Some captured
         → Needed m.loop.durability → FaultsBarrier w.kind before now new m.loop.next_barrier e → FaultsRule m e
     observing : {f : Finalizing B G} {captured : G} → IsFinalizing w m f → m.execution.front ≡ front_at f.block Advanced → f.captured ≡ Some captured
-        → Via (FaultsObserve w rose m.execution.state.next_job) e → FaultsRule m e
+        → Via (FaultsObserve w rose f.block captured m.members m.execution.state.next_job) e → FaultsRule m e
     ending : {f : Finalizing B G} → IsFinalizing w m f → m.execution.front ≡ front_at f.block Advanced → f.captured ≡ None
         → Via (FaultsResume w rose stored (inner w m)) e → FaultsRule m e
     beginning : IsIdle w m → Needed m.loop.durability → FaultsBarrier w.kind before now new m.loop.next_barrier e → FaultsRule m e

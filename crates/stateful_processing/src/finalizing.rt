@@ -166,8 +166,8 @@ fn observe<A: Application + Drop>(
         (moment w (executing handler.new) processing.new (A.Databases.members databases.now)
         (A.Databases.next databases.now) marks.new.items)) }
     ensures fault { IfErr result (Via (FaultsObserve ⟦<A as Worked>⟧.workings
-        (Rose (A.count handler.old.application)
-        (A.count handler.new.application)) handler.old.state.next_job)) }
+        (Rose (A.count handler.old.application) (A.count handler.new.application)) block captured
+        (A.Databases.members databases.now) handler.old.state.next_job)) }
     ensures numbers { Rises handler.old.state handler.new.state }
     ensures application { A.count handler.old.application ≤ A.count handler.new.application }
     ensures barrier { processing.old.next_barrier ≤ processing.new.next_barrier }

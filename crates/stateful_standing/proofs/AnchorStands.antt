@@ -51,7 +51,6 @@ module _ {B C I P R D H G U : Type 0} (w : Workings B C I P R D H G U) (stored :
         chain = restacks w stored p points next old.anchor old.cache boundary cache names f b begun_is kept_entries cut h.parent.digest at_hand _ h.chain;
         own = h.own;
         drawn = h.drawn;
-        context = h.context;
         round = h.round;
         runs = h.runs;
       }

@@ -108,7 +108,6 @@ module _ {B C I P R D H G U : Type 0} (w : Workings B C I P R D H G U) where
             chain = Chain-calm anchor.digest _ _ h.chain;
             own = h.own;
             drawn = h.drawn;
-            context = h.context;
             round = h.round;
             runs = rw same.turns h.runs;
           }

@@ -1,5 +1,5 @@
 -- What a path passes is known, whatever execution is paused for.
-use Rattle.std.proofs.Common.{◌≡◌, ◌≢◌, inl, inr, ℕ, List, All, Contains, Option, sym, ap, ◌∙◌, subst, arith}
+use Rattle.std.proofs.Common.{◌≡◌, ◌≢◌, inl, inr, ℕ, List, Contains, Option, sym, ap, ◌∙◌, subst, arith}
 use Rattle.std.proofs.lemmas.List.Elements.{All-weaker, All-contains}
 use Rattle.stateful_types.specs.Names.{Named}
 use Rattle.stateful_types.specs.Round.{IsLater}

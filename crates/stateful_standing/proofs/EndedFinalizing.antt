@@ -1,5 +1,5 @@
 -- The tables stand behind the end of a run while a finalization goes on.
-use Rattle.std.proofs.Common.{◌≡◌, ◌⊎◌, ◌↔◌, ◌<◌, length, inl, inr, ℕ, List, ◌∷◌, All, Contains, Option, Some, None, MatchOption, get_or, sym, ap, ◌∙◌, subst}
+use Rattle.std.proofs.Common.{◌≡◌, ◌↔◌, ◌<◌, length, inl, inr, ℕ, List, ◌∷◌, All, Contains, Option, Some, None, MatchOption, get_or, sym, ap, ◌∙◌, subst}
 use Rattle.std.proofs.lemmas.List.Elements.{Contains-get_or}
 use Rattle.stateful_types.specs.Names.{Named}
 use Rattle.stateful_types.specs.Round.{IsLater}
@@ -8,7 +8,7 @@ use Rattle.stateful_types.specs.declared.digest.Digest.{Digest}
 use Rattle.stateful_types.specs.declared.round.Round.{Round}
 use Rattle.stateful_history.specs.Anchors.{tip_of}
 use Rattle.stateful_history.specs.Past.{Past, Came, Made}
-use Rattle.stateful_history.specs.Met.{Met, TrueNames}
+use Rattle.stateful_history.specs.Met.{TrueNames}
 use Rattle.stateful_history.specs.declared.event.Event.TheVariants.{Turn}
 use Rattle.stateful_history.specs.declared.mark.How.{How}
 use Rattle.stateful_history.specs.declared.mark.Mark.TheVariants.{Ended}

@@ -68,9 +68,8 @@ module _ {B C I P R D H G U : Type 0} (w : Workings B C I P R D H G U) (stored :
             chain = subst (λ (x : Point w). Chain w stored q now anchor.digest h.parent.digest (x ∷ h.below)) same (moves.chain h.parent.digest _ h.at_hand h.chain);
             own = h.own;
             drawn = λ s. subst (λ (x : Point w). w.kind.issued next ((h.own, s) ∷ x ∷ h.below)) same (h.drawn s);
-            context = h.context;
             round = h.round;
-            runs = rw turned (subst (λ (x : Point w). w.works.runs run.run (run_of finality.Candidate h.context (record { first = run.block; rest = h.parent ∷ [] }) h.own x h.below) (turns k p)) same h.runs);
+            runs = rw turned (subst (λ (x : Point w). w.works.runs run.run (run_of finality.Candidate (w.context_of run.block.block) (record { first = run.block; rest = h.parent ∷ [] }) h.own x h.below) (turns k p)) same h.runs);
           }
 
 module _ {B C I P R D H G U : Type 0} (w : Workings B C I P R D H G U) (stored : ℕ → Option (Named B)) (p : Past B C I) (points now : Digest → Point w) (next : w.Ids) (anchor : Anchor) (cache more : List (Cached U)) (j : ℕ) (how : How)

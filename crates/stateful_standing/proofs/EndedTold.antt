@@ -1,11 +1,10 @@
 -- The tables stand behind the end of a run as it is told, where no finalization goes on.
-use Rattle.std.proofs.Common.{◌≡◌, ◌+◌, ◌↔◌, inr, ℕ, List, [], ◌∷◌, Any, Option, Some, refl, ap, subst}
+use Rattle.std.proofs.Common.{◌≡◌, ◌+◌, ◌↔◌, inr, ℕ, List, [], ◌∷◌, Any, Option, Some, refl, ap}
 use Rattle.stateful_types.specs.Names.{Named}
 use Rattle.stateful_types.specs.declared.anchor.Anchor.{Anchor}
 use Rattle.stateful_types.specs.declared.digest.Digest.{Digest}
 use Rattle.stateful_types.specs.declared.outcome.Finality.TheVariants.{Candidate}
 use Rattle.stateful_types.specs.declared.outcome.Moved.TheVariants.{Done}
-use Rattle.stateful_db.specs.Chain.{IsPoint}
 use Rattle.stateful_db.specs.Meaning.{outcome, Ends}
 use Rattle.stateful_db.specs.Works.{run_of}
 use Rattle.stateful_history.specs.Anchors.{tip_of}
@@ -30,7 +29,7 @@ use Rattle.stateful_standing.specs.Caching.{IsKnownBy}
 use Rattle.stateful_standing.specs.Running.{IsRunning}
 use Rattle.stateful_standing.specs.Standing.{TablesStand}
 use Rattle.stateful_standing.proofs.EndedKnown.{outcome-some, ends-some}
-use Rattle.stateful_standing.proofs.EndedPoints.{Stacked-point}
+use Rattle.stateful_standing.proofs.NeverStale.{run-IsPoint}
 use Rattle.stateful_standing.proofs.EndedStands.{ended, IsLeftBy, running, IsLeftBy-gone, IsLeftBy-known}
 use Rattle.stateful_standing.proofs.EndedKept.{IsRoundOf, IsLeftBy-added, knows-added}
 
@@ -59,10 +58,10 @@ module _ {B C I P R D H G U : Type 0} (w : Workings B C I P R D H G U) (stored :
   -- what the last turn says of the run
   pub turned-at : (o : Option U) → Turns w m live.run turned (Done o)
       → Ends (Done o) (outcome w.works.meaning Candidate (points run.parent.digest).1 live.block.block) (λ batch u. w.shows batch ((run.own, u) ∷ points run.parent.digest ∷ run.below))
-      (w.works.runs turned (run_of Candidate run.context (record { first = live.block; rest = run.parent ∷ [] }) run.own (points run.parent.digest) run.below) (turns j p + 1))
+      (w.works.runs turned (run_of Candidate (w.context_of live.block.block) (record { first = live.block; rest = run.parent ∷ [] }) run.own (points run.parent.digest) run.below) (turns j p + 1))
   turned-at o t =
-      t.ends (run_of Candidate run.context (record { first = live.block; rest = run.parent ∷ [] }) run.own (points run.parent.digest) run.below) (turns j p) point run.runs here
-      (subst (λ (x : Point w). IsPoint x (points run.parent.digest ∷ run.below)) s.at_anchor (Stacked-point w run.chain))
+      t.ends (run_of Candidate (w.context_of live.block.block) (record { first = live.block; rest = run.parent ∷ [] }) run.own (points run.parent.digest) run.below) (turns j p) point run.runs here
+      (run-IsPoint w stored p points point next old s j live run)
 
   pub cached_step : Any (λ e. step_in e ≡ step_by w.header live.block) old.cache → IsIn old.cache live.block.digest
   cached_step a = (a.0, a.1, a.2, a.3, ap (λ x. x.digest) a.4)

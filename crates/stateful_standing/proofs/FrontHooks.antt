@@ -44,7 +44,6 @@ module _ {B C I P R D H G U : Type 0} (w : Workings B C I P R D H G U) (stored :
         f.at_stage,
         record {
           job = record { live = rw (eq-eqb old.next_job old.next_job refl) refl; is = rw (eq-eqb old.next_job old.next_job refl) refl };
-          context = w.context_of b.block;
           round = left.round;
           before = before;
           hooks = rw (s.numbers.unturned old.next_job (omega arith)) (left.hooks before point read located);
@@ -77,10 +76,9 @@ module _ {B C I P R D H G U : Type 0} (w : Workings B C I P R D H G U) (stored :
         f.at_stage.0,
         record {
           job = record { live = hooking.job.live; is = hooking.job.is };
-          context = hooking.context;
           round = hooking.round;
           before = hooking.before;
-          hooks = rw (eq-eqb j j refl) (had.goes_on (hook_of hooking.context b.block hooking.before point.1) (turns j p) point hooking.hooks located refl);
+          hooks = rw (eq-eqb j j refl) (had.goes_on (hook_of (w.context_of b.block) b.block hooking.before point.1) (turns j p) point hooking.hooks located refl);
           unfinished = λ n is. rw (eq-eqb j j refl) (costs n is);
         },
       );
@@ -89,7 +87,7 @@ module _ {B C I P R D H G U : Type 0} (w : Workings B C I P R D H G U) (stored :
     }
       where
         costs : (n : ℕ) → w.works.hook_cost b.block point.1 ≡ Some n → turns j p + 1 < n
-        costs n is = rw is at (had.costs (hook_of hooking.context b.block hooking.before point.1) (turns j p) point hooking.hooks located refl)
+        costs n is = rw is at (had.costs (hook_of (w.context_of b.block) b.block hooking.before point.1) (turns j p) point hooking.hooks located refl)
 
     -- the tables stand behind the end of the hook
     pub TablesStand-hooked : TablesStand w stored (Made (Ended j Hooked) ∷ Came (Turn j) ∷ p) points point next old

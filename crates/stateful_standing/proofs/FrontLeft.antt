@@ -60,7 +60,6 @@ module _ {B C I P R D H G U : Type 0} (w : Workings B C I P R D H G U) (stored :
       job = record { live = leaves.live ∙ h.1.job.live; is = leaves.started ∙ h.1.job.is };
       own = h.1.own;
       drawn = λ s. keeps _ (h.1.drawn s);
-      context = h.1.context;
       round = h.1.round;
       runs = rw leaves.turns h.1.runs;
       unfinished = rw leaves.turns h.1.unfinished;
@@ -72,7 +71,6 @@ module _ {B C I P R D H G U : Type 0} (w : Workings B C I P R D H G U) (stored :
     h.0,
     record {
       job = record { live = leaves.live ∙ h.1.job.live; is = leaves.started ∙ h.1.job.is };
-      context = h.1.context;
       round = h.1.round;
       before = h.1.before;
       hooks = rw leaves.turns h.1.hooks;
@@ -93,10 +91,10 @@ module _ {B C I P R D H G U : Type 0} (w : Workings B C I P R D H G U) (stored :
   -- ids that are drawn leave how far a finalization has come
   pub stage-drawn : (b : Named B) (stage : Stage R U H) → IsAtStage w stored p point next anchor b stage → IsAtStage w stored p point ids anchor b stage
   stage-drawn b Begun h = record { begun_is = h.begun_is; parent_is = h.parent_is }
-  stage-drawn b (Running j run) h = (record { begun_is = h.0.begun_is; parent_is = h.0.parent_is }, record { job = h.1.job; own = h.1.own; drawn = λ s. keeps _ (h.1.drawn s); context = h.1.context; round = h.1.round; runs = h.1.runs; unfinished = h.1.unfinished })
+  stage-drawn b (Running j run) h = (record { begun_is = h.0.begun_is; parent_is = h.0.parent_is }, record { job = h.1.job; own = h.1.own; drawn = λ s. keeps _ (h.1.drawn s); round = h.1.round; runs = h.1.runs; unfinished = h.1.unfinished })
   stage-drawn b (Ran batch) h = (record { begun_is = h.0.begun_is; parent_is = h.0.parent_is }, record { own = h.1.own; states = h.1.states; drawn = keeps _ h.1.drawn; matches = h.1.matches; shows = h.1.shows })
   stage-drawn b Advanced h = h
-  stage-drawn b (Hooking j hook) h = (h.0, record { job = h.1.job; context = h.1.context; round = h.1.round; before = h.1.before; hooks = h.1.hooks; unfinished = h.1.unfinished })
+  stage-drawn b (Hooking j hook) h = (h.0, record { job = h.1.job; round = h.1.round; before = h.1.before; hooks = h.1.hooks; unfinished = h.1.unfinished })
 
   -- its run or hook is a live job
   pub stage-live : (b : Named B) (stage : Stage R U H) → IsAtStage w stored p point next anchor b stage → (k : ℕ) → RunsAs k stage ⊎ HooksAs k stage → (d : Digest) × (IsLiveJob k Finalized d p ⊎ IsLiveJob k Hook d p)

@@ -118,8 +118,8 @@ module _ {B C I P R D H G U : Type 0} (w : Workings B C I P R D H G U) (stored :
       waiting = λ a. rw is.0 a;
     }
 
-    -- Behind what the application observes of the finalized block, and the hook that it may leave, where what it has read was in
-    -- the context that it is left with.
+    -- Behind what the application observes of the finalized block, and the hook that it may leave, where it has read these states
+    -- before.
     pub StandsWithFront-observes : (b : Named B) (captured : G) (front : Option (Front B R U H)) (live : Bool) → (o : Observes w b captured m.members m.state now.state m.marks now.marks front live) → (before : w.States) → w.works.captures captured (w.context_of b.block) b.block before
         → now.members ≡ m.members → now.next ≡ m.next → FrontStands w stored p point m.next m.state.anchor (front_at b Advanced) → StandsWithFront p m now front
     StandsWithFront-observes b captured front live o before read members next f = observed b captured o.hook front live o.left_is before read o.hooks_on members next f

@@ -64,7 +64,6 @@ module _ {B C I P R D H G U : Type 0} (w : Workings B C I P R D H G U) (stored :
               job = record { live = rw (eq-eqb old.next_job old.next_job refl) refl; is = rw (eq-eqb old.next_job old.next_job refl) refl };
               own = next;
               drawn = λ x. other_states now next (w.kind.begun point.1) x (point ∷ []) got.1;
-              context = got.0.context;
               round = got.0.round;
               runs = rw (s.numbers.unturned old.next_job (omega arith)) got.0.runs;
               unfinished = λ n cost. rw (s.numbers.unturned old.next_job (omega arith)) (costs finality.Finalized point.1 b.block n cost);
@@ -95,9 +94,8 @@ module _ {B C I P R D H G U : Type 0} (w : Workings B C I P R D H G U) (stored :
           job = record { live = final.job.live; is = final.job.is };
           own = final.own;
           drawn = final.drawn;
-          context = final.context;
           round = final.round;
-          runs = rw (eq-eqb j j refl) (had.ends (run_of finality.Finalized final.context (record { first = b; rest = [] }) final.own point []) (turns j p) point final.runs located (inl refl));
+          runs = rw (eq-eqb j j refl) (had.ends (run_of finality.Finalized (w.context_of b.block) (record { first = b; rest = [] }) final.own point []) (turns j p) point final.runs located (inl refl));
           unfinished = λ n is. rw (eq-eqb j j refl) (costs had n is);
         },
       );
@@ -107,7 +105,7 @@ module _ {B C I P R D H G U : Type 0} (w : Workings B C I P R D H G U) (stored :
       where
         -- the turn wasn't the last one
         costs : Turns w m run turned Pending → (n : ℕ) → w.works.run_cost finality.Finalized point.1 b.block ≡ Some n → turns j p + 1 < n
-        costs had n is = rw is at (had.costs (run_of finality.Finalized final.context (record { first = b; rest = [] }) final.own point []) (turns j p) point final.runs located (inl refl))
+        costs had n is = rw is at (had.costs (run_of finality.Finalized (w.context_of b.block) (record { first = b; rest = [] }) final.own point []) (turns j p) point final.runs located (inl refl))
 
     -- the same blocks are known behind the end of the run, since its block is the tip
     knows_same : KnowsSame w stored (Came (Turn j) ∷ p) (Made (Ended j Kept))
@@ -134,7 +132,7 @@ module _ {B C I P R D H G U : Type 0} (w : Workings B C I P R D H G U) (stored :
     pub FrontStands-ran : (ended : Option U) (batch : U) → Turns w m run turned (Done ended) → IsFinalBatch w b ended batch → FrontStands w stored (Made (Ended j Kept) ∷ Came (Turn j) ∷ p) point next old.anchor (front_at b (Ran batch))
     FrontStands-ran None batch had is = absurd is
     FrontStands-ran (Some u) batch had is =
-        let e = ends-some u _ _ _ (had.ends (run_of finality.Finalized final.context (record { first = b; rest = [] }) final.own point []) (turns j p) point final.runs located (inl refl)) in
+        let e = ends-some u _ _ _ (had.ends (run_of finality.Finalized (w.context_of b.block) (record { first = b; rest = [] }) final.own point []) (turns j p) point final.runs located (inl refl)) in
         record {
           at_stage = (
             record { begun_is = f.at_stage.0.begun_is; parent_is = f.at_stage.0.parent_is },

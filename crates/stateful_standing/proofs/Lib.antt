@@ -155,3 +155,5 @@ pub mod LinkedTurned
 pub mod LinkedResumed
 pub mod LinkedFetched
 pub mod LinkedBegan
+pub mod NeverStale
+pub mod NotTaken

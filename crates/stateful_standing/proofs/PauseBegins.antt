@@ -95,7 +95,6 @@ module _ {B C I P R D H G U : Type 0} (w : Workings B C I P R D H G U) (stored :
         chain = Chain-began _ _ h.chain;
         own = h.own;
         drawn = h.drawn;
-        context = h.context;
         round = h.round;
         runs = h.runs;
       }) runs old.each;

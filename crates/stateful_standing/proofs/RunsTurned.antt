@@ -7,7 +7,6 @@ use Rattle.stateful_types.specs.declared.anchor.Anchor.{Anchor}
 use Rattle.stateful_types.specs.declared.digest.Digest.{Digest}
 use Rattle.stateful_types.specs.declared.outcome.Finality.TheVariants as finality
 use Rattle.stateful_types.specs.declared.outcome.Moved.TheVariants.{Pending}
-use Rattle.stateful_db.specs.Chain.{IsPoint}
 use Rattle.stateful_db.specs.Works.{run_of, Costs}
 use Rattle.stateful_history.specs.Jobs.{JobOf, job_of, started_for, turns}
 use Rattle.stateful_history.specs.Met.{Met, TrueNames}
@@ -26,8 +25,8 @@ use Rattle.stateful_standing.specs.Setting.{setting}
 use Rattle.stateful_standing.specs.Outstanding.{GoesOnTurning, RunsGoOn}
 use Rattle.stateful_standing.specs.Running.{IsRunning}
 use Rattle.stateful_standing.specs.Standing.{TablesStand}
-use Rattle.stateful_standing.proofs.EndedPoints.{Stacked-point}
 use Rattle.stateful_standing.proofs.EndedStands.{running}
+use Rattle.stateful_standing.proofs.NeverStale.{run-IsPoint}
 use Rattle.stateful_standing.proofs.Putting.{All-put}
 use Rattle.stateful_standing.proofs.ReasonGround.{IsGround, HasState-on}
 use Rattle.stateful_standing.proofs.SamePast.{IsSamePast, HasState-same}
@@ -89,8 +88,8 @@ module _ {B C I P R D H G U : Type 0} (w : Workings B C I P R D H G U) (stored :
     -- what the turn says of its cost
     turned-costs : Costs {T = Option U} Cost Pending (turns j p)
     turned-costs =
-        turn.turns.costs (run_of finality.Candidate own.context (record { first = live.block; rest = own.parent ∷ [] }) own.own (points own.parent.digest) own.below) (turns j p) point own.runs located
-        (subst (λ (x : Point w). IsPoint x (points own.parent.digest ∷ own.below)) s.at_anchor (Stacked-point w own.chain))
+        turn.turns.costs (run_of finality.Candidate (w.context_of live.block.block) (record { first = live.block; rest = own.parent ∷ [] }) own.own (points own.parent.digest) own.below) (turns j p) point own.runs located
+        (run-IsPoint w stored p points point next old s j live own)
 
     left : (o : Option ℕ) → Cost ≡ o → (n : ℕ) → o ≡ Some n → turns j p + 1 < n
     left None is n some = cc

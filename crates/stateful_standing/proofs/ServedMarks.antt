@@ -2,7 +2,6 @@
 use Rattle.std.proofs.Common.{◌≡◌, ◌≢◌, ◌==◌, if◌then◌else◌, inl, inr, ℕ, Bool, true, false, List, [], ◌∷◌, Option, None, Some, refl, ◌∙◌}
 use Rattle.stateful_types.specs.Names.{Named}
 use Rattle.stateful_types.specs.declared.digest.Digest.{Digest}
-use Rattle.stateful_history.specs.Answers.{was_cancelled}
 use Rattle.stateful_history.specs.Asked.{verified}
 use Rattle.stateful_history.specs.Fetches.{WasAsked}
 use Rattle.stateful_history.specs.Known.{Known}

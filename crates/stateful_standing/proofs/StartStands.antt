@@ -94,7 +94,6 @@ module _ {B C I P R D H G U : Type 0} (w : Workings B C I P R D H G U) (stored :
     chain = h.chain;
     own = h.own;
     drawn = λ x. keeps _ (h.drawn x);
-    context = h.context;
     round = h.round;
     runs = h.runs;
   }
@@ -129,7 +128,6 @@ module _ {B C I P R D H G U : Type 0} (w : Workings B C I P R D H G U) (stored :
     chain = Chain-calm w stored p (Made (Started old.next_job Candidate b.digest)) calm points old.anchor.digest parent.digest _ o.chain;
     own = next;
     drawn = λ x. other_states now next (w.kind.begun (points parent.digest).1) x _ o.issued;
-    context = o.has.context;
     round = o.has.round;
     runs = rw (s.numbers.unturned old.next_job (omega arith)) o.has.runs;
   }

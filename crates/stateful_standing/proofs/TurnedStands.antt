@@ -1,11 +1,10 @@
 -- The tables stand behind a turn: of a job that is no candidate's, and of a run that goes on.
-use Rattle.std.proofs.Common.{◌≡◌, ◌≢◌, ◌+◌, ◌<◌, ◌==◌, not, ℕ, Bool, true, false, List, [], ◌∷◌, Option, Some, None, MatchOption, get_or, inr, refl, sym, subst, arith}
+use Rattle.std.proofs.Common.{◌≡◌, ◌≢◌, ◌+◌, ◌<◌, ◌==◌, not, ℕ, Bool, true, false, List, [], ◌∷◌, Option, Some, None, MatchOption, get_or, inr, refl, sym, arith}
 use Rattle.std.proofs.lemmas.Bool.{eq-eqb}
 use Rattle.stateful_types.specs.Names.{Named}
 use Rattle.stateful_types.specs.declared.digest.Digest.{Digest}
 use Rattle.stateful_types.specs.declared.outcome.Finality.TheVariants.{Candidate}
 use Rattle.stateful_types.specs.declared.outcome.Moved.TheVariants.{Pending}
-use Rattle.stateful_db.specs.Chain.{IsPoint}
 use Rattle.stateful_db.specs.Works.{run_of}
 use Rattle.stateful_history.specs.Past.{Past, Came, Made}
 use Rattle.stateful_history.specs.Jobs.{started_for, turns}
@@ -31,8 +30,8 @@ use Rattle.stateful_standing.proofs.Cancelled.{and_right}
 use Rattle.stateful_standing.proofs.Putting.{sorted_put}
 use Rattle.stateful_standing.proofs.Replacing.{All-replace, AllPairs-replace, at_replace, some_put, some_before}
 use Rattle.stateful_standing.proofs.EndedKnown.{turn-IsCalm}
-use Rattle.stateful_standing.proofs.EndedPoints.{Stacked-point}
 use Rattle.stateful_standing.proofs.EndedStands.{running}
+use Rattle.stateful_standing.proofs.NeverStale.{run-IsPoint}
 use Rattle.stateful_standing.proofs.Spared.{Spares, knows-calm, TablesStand-spared}
 
 -- a live job was started
@@ -102,10 +101,10 @@ module _ {B C I P R D H G U : Type 0} (w : Workings B C I P R D H G U) (stored :
     now = record live { run = turned }
 
     -- what the turn says of the run
-    goes_on : w.works.runs turned (run_of Candidate run.context (record { first = live.block; rest = run.parent ∷ [] }) run.own (points run.parent.digest) run.below) (turns j p + 1)
+    goes_on : w.works.runs turned (run_of Candidate (w.context_of live.block.block) (record { first = live.block; rest = run.parent ∷ [] }) run.own (points run.parent.digest) run.below) (turns j p + 1)
     goes_on =
-        had.ends (run_of Candidate run.context (record { first = live.block; rest = run.parent ∷ [] }) run.own (points run.parent.digest) run.below) (turns j p) point run.runs located
-        (subst (λ (x : Point w). IsPoint x (points run.parent.digest ∷ run.below)) s.at_anchor (Stacked-point w run.chain))
+        had.ends (run_of Candidate (w.context_of live.block.block) (record { first = live.block; rest = run.parent ∷ [] }) run.own (points run.parent.digest) run.below) (turns j p) point run.runs located
+        (run-IsPoint w stored p points point next old s j live run)
 
     own : IsRunning w stored past points next old.anchor old.cache j now
     own = record {
@@ -120,7 +119,6 @@ module _ {B C I P R D H G U : Type 0} (w : Workings B C I P R D H G U) (stored :
       chain = Chain-calm w stored p (Came (Turn j)) (turn-IsCalm (setting w stored) p j) points old.anchor.digest run.parent.digest _ run.chain;
       own = run.own;
       drawn = run.drawn;
-      context = run.context;
       round = run.round;
       runs = rw (eq-eqb j j refl) goes_on;
     }

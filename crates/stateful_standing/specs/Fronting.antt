@@ -34,15 +34,14 @@ HooksAs j (Hooking k hook) = k ≡ j
 HooksAs j stage = ⊥
 
 module _ {B C I P R D H G U : Type 0} (w : Workings B C I P R D H G U) (stored : ℕ → Option (Named B)) (p : Past B C I) (point : Point w) (next : w.Ids) where
-  -- the run is of a live job for the block, over the states of the databases, and has had the job's turns, fewer than it takes,
-  -- where that is told
+  -- the run is of a live job for the block, in the block's context, over the states of the databases, and has had the job's turns,
+  -- fewer than it takes, where that is told
   pub record IsRunFinal (b : Named B) (j : ℕ) (run : R) : Type 0 where
     pub job : IsLiveJob j Finalized b.digest p
     pub own : w.Ids
     pub drawn : (s : w.States) → w.kind.issued next ((own, s) ∷ point ∷ [])
-    pub context : C
-    pub round : w.round_of context ≡ w.header.round b.block
-    pub runs : w.works.runs run (run_of finality.Finalized context (record { first = b; rest = [] }) own point []) (turns j p)
+    pub round : w.round_of (w.context_of b.block) ≡ w.header.round b.block
+    pub runs : w.works.runs run (run_of finality.Finalized (w.context_of b.block) (record { first = b; rest = [] }) own point []) (turns j p)
     pub unfinished : (n : ℕ) → w.works.run_cost finality.Finalized point.1 b.block ≡ Some n → turns j p < n
 
   -- the batch shows states to which the block leads from those of the databases, and they match
@@ -53,14 +52,13 @@ module _ {B C I P R D H G U : Type 0} (w : Workings B C I P R D H G U) (stored :
     pub matches : Matches (setting w stored) point.1 b states
     pub shows : w.shows batch ((own, states) ∷ point ∷ [])
 
-  -- the hook is of a live job, behind the block whose states the databases hold, and has had the job's turns, fewer than it
-  -- takes, where that is told
+  -- the hook is of a live job, in the context of the block, whose states the databases hold, and has had the job's turns, fewer
+  -- than it takes, where that is told
   pub record IsHooking (b : Named B) (j : ℕ) (hook : H) : Type 0 where
     pub job : IsLiveJob j Hook b.digest p
-    pub context : C
-    pub round : w.round_of context ≡ w.header.round b.block
+    pub round : w.round_of (w.context_of b.block) ≡ w.header.round b.block
     pub before : w.States
-    pub hooks : w.works.hooks (Pending hook) (hook_of context b.block before point.1) (turns j p)
+    pub hooks : w.works.hooks (Pending hook) (hook_of (w.context_of b.block) b.block before point.1) (turns j p)
     pub unfinished : (n : ℕ) → w.works.hook_cost b.block point.1 ≡ Some n → turns j p < n
 
   module _ (anchor : Anchor) where

@@ -7,7 +7,8 @@ use Rattle.stateful_types.specs.Names.{Named}
 use Rattle.stateful_types.specs.declared.anchor.Anchor.{Anchor}
 use Rattle.stateful_types.specs.declared.digest.Digest.{Digest}
 use Rattle.stateful_types.specs.declared.outcome.Finality.TheVariants as finality
-use Rattle.stateful_db.specs.Works.{run_of}
+use Rattle.stateful_db.specs.Chain.{IsPoint}
+use Rattle.stateful_db.specs.Works.{RunOf, run_of}
 use Rattle.stateful_history.specs.Setting.{parent_of}
 use Rattle.stateful_history.specs.Past.{Past}
 use Rattle.stateful_history.specs.Met.{Met}
@@ -21,9 +22,16 @@ use Rattle.stateful_exec.specs.declared.tables.LiveRun.{LiveRun}
 use Rattle.stateful_standing.specs.Setting.{setting}
 use Rattle.stateful_standing.specs.Chains.{Chain}
 
+-- No read of the run's next turn is stale: the run of this job is of these and has had the job's turns, and the point, which is where
+-- the databases are, is one of its chain.
+pub record ReadsNothingStale {B C I P R D H G U : Type 0} (w : Workings B C I P R D H G U) (p : Past B C I) (point : Point w) (j : ℕ) (run : R) : Type 0 where
+  pub of : RunOf B C w.Ids w.States
+  pub runs : w.works.runs run of (turns j p)
+  pub in_chain : IsPoint point (of.at ∷ of.below)
+
 module _ {B C I P R D H G U : Type 0} (w : Workings B C I P R D H G U) (stored : ℕ → Option (Named B)) (p : Past B C I) (points : Digest → Point w) (next : w.Ids) (anchor : Anchor) (cache : List (Cached U)) where
-  -- the run of this job is of a block, another one than the anchor, behind its parent, which is at hand, on the parent's chain;
-  -- and it has had the job's turns
+  -- the run of this job is of a block, another one than the anchor, in the block's context, behind its parent, which is at hand, on
+  -- the parent's chain; and it has had the job's turns
   pub record IsRunning (j : ℕ) (run : LiveRun B R) : Type 0 where
     pub job : IsLiveJob j Candidate run.block.digest p
     pub met : Met (setting w stored) p run.block
@@ -36,9 +44,8 @@ module _ {B C I P R D H G U : Type 0} (w : Workings B C I P R D H G U) (stored :
     pub chain : Chain w stored p points anchor.digest parent.digest (points parent.digest ∷ below)
     pub own : w.Ids
     pub drawn : (s : w.States) → w.kind.issued next ((own, s) ∷ points parent.digest ∷ below)
-    pub context : C
-    pub round : w.round_of context ≡ w.header.round run.block.block
-    pub runs : w.works.runs run.run (run_of finality.Candidate context (record { first = run.block; rest = parent ∷ [] }) own (points parent.digest) below) (turns j p)
+    pub round : w.round_of (w.context_of run.block.block) ≡ w.header.round run.block.block
+    pub runs : w.works.runs run.run (run_of finality.Candidate (w.context_of run.block.block) (record { first = run.block; rest = parent ∷ [] }) own (points parent.digest) below) (turns j p)
 
   -- each live run stands so, by ascending numbers; no block has two, and each live job of a candidate is one of them
   pub record RunsStand (runs : List (ℕ × LiveRun B R)) : Type 0 where

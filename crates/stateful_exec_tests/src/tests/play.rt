@@ -7,7 +7,9 @@ ghost use Rattle.stateful_exec.specs.Request.{ticket_by};
 use super::blocks::{COUNT, blocks, round};
 use crate::{End, Fake, FakeBlock, Order};
 use stateful_db::{DatabaseSet, Held, ProposalKind};
-use stateful_exec::{BuildStart, ExecError, Handler, Processor, ProposalFault, Request};
+use stateful_exec::{
+    Acquired, BuildStart, ExecError, Joined, Processor, ProposalFault, Request, Verifier,
+};
 use stateful_history::{Decision, How, JobKind, Mark};
 use stateful_plain::{Plain, PlainMedium};
 use stateful_types::{
@@ -28,6 +30,12 @@ pub(super) enum Call {
     /// A fetch is answered with a block, or with none.
     Fetched(u64, Option<usize>),
     Cancel(u64),
+    /// A ticket's request is to go along its path, where it needs one.
+    Start(u64),
+    /// What the next block of its path is.
+    Next(u64),
+    /// The next block of its path is processed.
+    Process(u64),
     /// A run has a turn.
     Turn(u64),
     /// A run has had a turn, which was its last, and ended without a batch.
@@ -85,6 +93,13 @@ pub(super) enum Told {
     Ready(u64),
     NoneReady,
     Awaits(usize),
+    Needs(usize),
+    NeedsNone,
+    IsNext(usize),
+    NoneNext,
+    Known,
+    Joins(u64),
+    Missed,
     Yes,
     No,
     AreNext(u64, u64),
@@ -183,7 +198,7 @@ struct Player {
     blocks: Vec<Digested<FakeBlock>>,
     databases: Held<Plain>,
     store: MemoryStore<FakeBlock>,
-    handler: Handler<Fake>,
+    handler: Verifier<Fake>,
     tickets: u64,
 }
 
@@ -199,7 +214,7 @@ fn begin(alloc: Global) -> Result<Player, Fail> {
         blocks,
         databases,
         store: MemoryStore::new(alloc),
-        handler: Handler::<Fake>::new(processor)?,
+        handler: Verifier::<Fake>::new(processor)?,
         tickets: 0,
     })
 }
@@ -319,6 +334,38 @@ impl Player {
         }
     }
 
+    /// A ticket's request is to go along its path, where it needs one.
+    fn start(&mut self, ticket: u64) -> Result<Told, ExecError> {
+        match self.handler.prepare(ticket, &self.store)? {
+            Some(Acquired::Ready(path)) => Ok(yes_or_no(self.handler.start(ticket, path)?)),
+            Some(Acquired::Ask(digest)) => {
+                Ok(Told::Needs(place_of(self.blocks.as_slice(), digest)))
+            }
+            _ => Ok(Told::NeedsNone),
+        }
+    }
+
+    fn next(&self, ticket: u64) -> Told {
+        match self.handler.next(ticket) {
+            Some(step) => Told::IsNext(place_of(self.blocks.as_slice(), step.digest)),
+            None => Told::NoneNext,
+        }
+    }
+
+    fn process(
+        &mut self,
+        ticket: u64,
+        marks: &mut Vec<Mark<FakeBlock>>,
+    ) -> Result<Told, ExecError> {
+        let joined = self.handler.process(ticket, &mut self.databases, marks)?;
+        Ok(match joined {
+            Some(Joined::Known) => Told::Known,
+            Some(Joined::Run(job)) => Told::Joins(job),
+            Some(Joined::Missed) => Told::Missed,
+            None => Told::NoneNext,
+        })
+    }
+
     fn build(&mut self, ticket: u64) -> Result<Told, ExecError> {
         match self.handler.propose(ticket, &mut self.databases, ())? {
             BuildStart::Started(job) => Ok(Told::Job(job)),
@@ -388,6 +435,8 @@ impl Player {
                 self.store.insert(block)?;
             }
             Call::Pause(place) => return Ok(Some(self.pause(place, marks)?)),
+            Call::Start(ticket) => return Ok(Some(self.start(ticket)?)),
+            Call::Process(ticket) => return Ok(Some(self.process(ticket, marks)?)),
             _ => return self.work(call, marks),
         }
         Ok(None)
@@ -433,6 +482,7 @@ impl Player {
                 Some(ticket) => Told::Ready(ticket),
                 None => Told::NoneReady,
             },
+            Call::Next(ticket) => self.next(ticket),
             Call::Awaited => Told::Awaits(self.handler.awaited()),
             Call::IsCached(place) => {
                 let digest = self.block(place)?.digest();

@@ -26,4 +26,4 @@ returns-clause-ok g c =
     let w = workings g.A.Block.Block.header g.A.Block.Block.context_of g.A.Context.Rounded.round_of g.A.Application.works g.A.Databases.DatabaseSet.kind g.A.Databases.DatabaseSet.shows in
     started w c.args.ticket c.args.provider (g.A.Databases.DatabaseSet.members c.args.databases.now) (g.A.Databases.DatabaseSet.next c.args.databases.now) c.args.tables.now c.unqueue.new.self c.args.build.now c.in-Some.queued _ c.in_ok-live.live
     c.in_ok-queued.field-0 c.in-Some.is c.in_ok-queued.ensures.ok
-    c.in_ok-live.ensures.within c.in_ok-live.ensures.ok c.in_ok-live.ensures.keeps
+    c.in_ok-live.ensures.within c.in_ok-live.ensures.here c.in_ok-live.ensures.ok c.in_ok-live.ensures.keeps
