@@ -90,7 +90,7 @@ impl<K: Field, V: Field> AnyUnmerkleized<K, V> {
     }
 
     /// Whether the database where the batch of this id was applied last is at a state of its chain.
-    fn stands_on(&self, at: u64) -> bool
+    pub(crate) fn stands_on(&self, at: u64) -> bool
         ensures { (c : List (ℕ × State K V))
             → DraftShows K.cmp K.fields.spelling V.fields.spelling self.now c
             → has_id c at ≡ result }
