@@ -1,16 +1,48 @@
 -- writes of staged keys
-use Rattle.std.proofs.Common.{◌≡◌, ℕ, ◌+◌, suc, List, [], ◌∷◌, ◌++◌, drop, Option, Some, refl, sym, ap, ◌∙◌, arith, slice_get}
+use Rattle.std.proofs.Common.{◌≡◌, ℕ, ◌+◌, suc, List, [], ◌∷◌, ◌++◌, drop, Option, Some, Bool, refl, sym, ap, ◌∙◌, subst, arith, slice_get}
 use Rattle.std.specs.declared.cmp.Ordering.{Ordering}
 use Rattle.stateful_any.specs.declared.slot.Slot.{Slot}
 use Rattle.stateful_any.specs.declared.slot.Slot.TheVariants.{Put, Delete, Keep}
-use Rattle.stateful_any.specs.Shown.{Draft}
-use Rattle.stateful_any.specs.Staged.{slot_writes, with_write, with_writes}
+use Rattle.stateful_db.specs.Chain.{has_id}
+use Rattle.stateful_overlay.specs.Stack.{Stack}
+use Rattle.stateful_overlay.specs.Chains.{Stands}
+use Rattle.stateful_any.specs.Any.{State, sealed}
+use Rattle.stateful_any.specs.Through.{Change}
+use Rattle.stateful_any.specs.Shown.{Draft, After, DraftShows}
+use Rattle.stateful_any.specs.Staged.{Staging, slot_writes, with_write, with_writes, filled}
 use Rattle.stateful_any.proofs.Indexing.{drop-some}
 
 module _ {K V : Type 0} (cmp : K → K → Ordering) where
   pub with_writes-append : (u : Draft K V) (xs ys : List (K × Option V)) → with_writes cmp u (xs ++ ys) ≡ with_writes cmp (with_writes cmp u xs) ys
   with_writes-append u [] ys = refl
   with_writes-append u (x ∷ xs) ys = with_writes-append (with_write cmp u x) xs ys
+
+  -- writes leave the rest of a batch
+  pub record Keeps (u v : Draft K V) : Type 0 where
+    pub id : v.id ≡ u.id
+    pub below : v.below ≡ u.below
+    pub parent : v.parent ≡ u.parent
+
+  pub with_writes-keeps : (u : Draft K V) (ws : List (K × Option V)) → Keeps u (with_writes cmp u ws)
+  with_writes-keeps u [] = record { id = refl; below = refl; parent = refl }
+  with_writes-keeps u (w ∷ ws) = let rest = with_writes-keeps (with_write cmp u w) ws in record { id = rest.id; below = rest.below; parent = rest.parent }
+
+  -- the ids of a batch's chain don't depend on what it writes
+  pub stands_before : (spell_key : K → List ℕ) (spell_value : V → List ℕ) (u v : Draft K V) (c : List (ℕ × State K V)) (n : ℕ) (inside : Bool) → Keeps u v
+      → ((d : List (ℕ × State K V)) → DraftShows cmp spell_key spell_value u d → has_id d n ≡ inside) → DraftShows cmp spell_key spell_value v c → has_id c n ≡ inside
+  stands_before spell_key spell_value u v [] n inside keeps all h = absurd h
+  stands_before spell_key spell_value u v (p ∷ []) n inside keeps all h = absurd h
+  stands_before spell_key spell_value u v (p ∷ q ∷ c) n inside keeps all h =
+      let Over : Stack (Change K V) → Type 0 = λ b. Stands (After cmp spell_key spell_value) b.base b.layers (q ∷ c) in
+      all ((p.0, sealed cmp spell_key spell_value u.changes q.1) ∷ q ∷ c)
+      (h.0 ∙ keeps.id, (h.1.0, (subst Over keeps.below h.1.1.0, (sym keeps.parent ∙ h.1.1.1.0, refl))))
+
+  pub filled_stands : (spell_key : K → List ℕ) (spell_value : V → List ℕ) (s : Staging K V) (u : Draft K V) (slots : List (Slot V)) (unstaged : List (K × Option V)) (c : List (ℕ × State K V)) (n at : ℕ) (inside : Bool) → u ≡ s.batch → at ≡ n
+      → ((d : List (ℕ × State K V)) → DraftShows cmp spell_key spell_value u d → has_id d at ≡ inside) → DraftShows cmp spell_key spell_value (filled cmp s slots unstaged) c → has_id c n ≡ inside
+  filled_stands spell_key spell_value s u slots unstaged c n at inside same is all h =
+      let Kept : Draft K V → Type 0 = λ x. Keeps x (filled cmp s slots unstaged) in
+      ap (λ m. has_id c m) (sym is)
+      ∙ stands_before spell_key spell_value u (filled cmp s slots unstaged) c at inside (subst Kept (sym same) (with_writes-keeps s.batch (slot_writes s.keys slots ++ unstaged))) all h
 
   first_slot : (key : K) (keys : List K) (slot : Slot V) (slots : List (Slot V)) → slot_writes (key ∷ keys) (slot ∷ slots) ≡ slot_writes (key ∷ []) (slot ∷ []) ++ slot_writes keys slots
   first_slot key keys (Put value) slots = refl

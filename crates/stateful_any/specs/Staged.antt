@@ -1,5 +1,5 @@
 -- Batches whose keys are read before they are written.
-use Rattle.std.specs.Prelude.{List, [], ◌∷◌, Option, Some, None}
+use Rattle.std.specs.Prelude.{List, [], ◌∷◌, ◌++◌, Option, Some, None}
 use Rattle.std.specs.declared.cmp.Ordering.{Ordering}
 use Rattle.std.specs.BTreeMap.{insert_entry}
 use Rattle.stateful_any.specs.declared.slot.Slot.{Slot}
@@ -29,3 +29,7 @@ module _ {K V : Type 0} where
     abbrev pub with_writes : Draft K V → List (K × Option V) → Draft K V
     with_writes u [] = u
     with_writes u (write ∷ writes) = with_writes (with_write u write) writes
+
+    -- with the writes of staged keys, by the slot of each, and then with the other ones
+    abbrev pub filled : Staging K V → List (Slot V) → List (K × Option V) → Draft K V
+    filled s slots unstaged = with_writes s.batch (slot_writes s.keys slots ++ unstaged)

@@ -2,6 +2,7 @@
 
 ghost use Rattle.std.specs.Prelude.{◌≡◌, ◌≢◌, ◌==◌, Bool, ◌||◌, ◌∷◌, [], ◌-◌, ◌^◌, ◌<◌, ◌≤◌, ◌↔◌, ℕ, List, Option, Some, None, IfOk, IfErr, IsErrOf, false, length, map};
 ghost use Rattle.std.specs.BTreeMap.{insert_entry};
+ghost use Rattle.stateful_db.specs.Batch.{RefusesSeal};
 ghost use Rattle.stateful_db.specs.Chain.{has_id, IsPoint};
 ghost use Rattle.stateful_db.specs.Disk.{point};
 ghost use Rattle.stateful_any.specs.Any.{State, size_of, value_at, ops_for};
@@ -89,7 +90,7 @@ impl<K: Field, V: Field> AnyUnmerkleized<K, V> {
     }
 
     /// Whether the database where the batch of this id was applied last is at a state of its chain.
-    fn stands_on(&self, at: u64) -> bool
+    pub(crate) fn stands_on(&self, at: u64) -> bool
         ensures { (c : List (ℕ × State K V))
             → DraftShows K.cmp K.fields.spelling V.fields.spelling self.now c
             → has_id c at ≡ result }
@@ -168,6 +169,7 @@ impl<K: Field, V: Field> AnyUnmerkleized<K, V> {
         ensures within { IfOk result (λ m. (p : ℕ × State K V) (c : List (ℕ × State K V))
             → DraftShows K.cmp K.fields.spelling V.fields.spelling self (p ∷ c)
             → size_of p.1 < 2 ^ 64 - 1) }
+        ensures why { IfErr result RefusesSeal }
     {
         let AnyUnmerkleized {
             id,

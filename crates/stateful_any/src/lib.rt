@@ -27,3 +27,4 @@ pub use pass::AnyPass;
 pub use slot::Slot;
 pub use staged::AnyStaged;
 pub use state::AnyState;
+pub use stateful_log::Bounds;

@@ -1,18 +1,19 @@
 //! Batches whose keys are read before they are written.
 
-ghost use Rattle.std.specs.Prelude.{◌≡◌, ◌+◌, ◌++◌, ◌∷◌, [], ◌≤◌, ◌↔◌, ℕ, List, Option, Some, IfOk, IsErrOf, IsTrue, OnOk, false, length, map};
+ghost use Rattle.std.specs.Prelude.{◌≡◌, ◌≢◌, ◌+◌, ◌-◌, ◌^◌, ◌++◌, ◌∷◌, [], ◌≤◌, ◌<◌, ◌↔◌, ◌⊎◌, ℕ, List, Option, Some, IfOk, IfErr, IsErrOf, IsTrue, OnOk, false, length, map};
+ghost use Rattle.stateful_db.specs.Batch.{RefusesSeal};
 ghost use Rattle.stateful_db.specs.Chain.{has_id, IsPoint};
 ghost use Rattle.stateful_db.specs.Disk.{point};
-ghost use Rattle.stateful_any.specs.Any.{State, value_at};
-ghost use Rattle.stateful_any.specs.Shown.{DraftShows};
-ghost use Rattle.stateful_any.specs.Staged.{slot_writes, with_writes};
+ghost use Rattle.stateful_any.specs.Any.{State, size_of, value_at};
+ghost use Rattle.stateful_any.specs.Shown.{DraftShows, SealShows};
+ghost use Rattle.stateful_any.specs.Staged.{slot_writes, with_writes, filled};
 ghost use Rattle.stateful_any.specs.Stored.{standing_of};
 
-use crate::batch::AnyUnmerkleized;
+use crate::batch::{AnyMerkleized, AnyUnmerkleized};
 use crate::database::AnyDb;
 use crate::op::duplicate;
 use crate::slot::Slot;
-use stateful_db::BatchError;
+use stateful_db::{BatchError, Unmerkleized};
 use stateful_log::Field;
 use stateful_types::OutOfMemory;
 use std::marker::Model;
@@ -125,15 +126,62 @@ impl<K: Field, V: Field> AnyStaged<K, V> {
         Ok((range, values, staged))
     }
 
-    /// The batch with the writes of these slots, a slot for each staged key, and then with the other ones.
-    pub fn into_batch(
+    /// The seal of the batch with the writes of these slots, a slot for each staged key, and then with the other ones.
+    /// `SlotCount` exactly where the numbers of slots and of staged keys differ; else `StaleRead` exactly where the
+    /// database is at no state of the batch's chain; else as `AnyUnmerkleized::merkleize`.
+    pub fn merkleize(
+        self,
+        db: &AnyDb<K, V>,
+        slots: Vec<Slot<V>>,
+        unstaged: Vec<(K, Option<V>)>,
+    ) -> Result<AnyMerkleized<K, V>, BatchError>
+        ensures ok { let u = filled K.cmp self slots.items unstaged.items in
+            IfOk result (λ m. (c : List (ℕ × State K V))
+            → DraftShows K.cmp K.fields.spelling V.fields.spelling u c
+            → IsPoint (point (standing_of db.now)) c
+            → SealShows K.cmp K.fields.spelling V.fields.spelling m c) }
+        ensures count { IfOk result (λ _. length slots.items ≡ length self.keys) }
+        ensures counted { length slots.items ≢ length self.keys
+            → IsErrOf result (BatchError.SlotCount (length self.keys) (length slots.items)) }
+        ensures stale { let u = filled K.cmp self slots.items unstaged.items in
+            (c : List (ℕ × State K V))
+            → DraftShows K.cmp K.fields.spelling V.fields.spelling u c
+            → length slots.items ≡ length self.keys
+            → (IsErrOf result BatchError.StaleRead ↔ (has_id c (standing_of db.now).id ≡ false)) }
+        ensures exhausted { let u = filled K.cmp self slots.items unstaged.items in
+            (p : ℕ × State K V) (c : List (ℕ × State K V))
+            → DraftShows K.cmp K.fields.spelling V.fields.spelling u (p ∷ c)
+            → IsErrOf result BatchError.Exhausted
+            → 2 ^ 64 - 1 ≤ size_of p.1 }
+        ensures within { let u = filled K.cmp self slots.items unstaged.items in
+            IfOk result (λ m. (p : ℕ × State K V) (c : List (ℕ × State K V))
+            → DraftShows K.cmp K.fields.spelling V.fields.spelling u (p ∷ c)
+            → size_of p.1 < 2 ^ 64 - 1) }
+        ensures why { IfErr result (λ why. (length slots.items ≢ length self.keys) ⊎ RefusesSeal why) }
+    {
+        let expected = self.len();
+        let given = slots.len();
+        if given != expected {
+            return Err(BatchError::SlotCount { expected, given });
+        }
+        let stands = self.batch.stands_on(db.log.id());
+        if !stands {
+            return Err(BatchError::StaleRead);
+        }
+        match self.into_batch(slots, unstaged) {
+            Ok(batch) => batch.merkleize(db),
+            Err(_) => Err(BatchError::OutOfMemory),
+        }
+    }
+
+    /// The batch with the writes of these slots, and then with the other ones.
+    fn into_batch(
         self,
         slots: Vec<Slot<V>>,
         unstaged: Vec<(K, Option<V>)>,
     ) -> Result<AnyUnmerkleized<K, V>, OutOfMemory>
         requires { length slots.items ≡ length self.keys }
-        ensures { IfOk result (λ u. u ≡ with_writes K.cmp self.batch
-            (slot_writes self.keys slots.items ++ unstaged.items)) }
+        ensures { IfOk result (λ u. u ≡ filled K.cmp self slots.items unstaged.items) }
     {
         let AnyStaged { batch, keys } = self;
         let batch = put_slots(batch, keys.as_slice(), slots.as_slice())?;

@@ -1,10 +1,11 @@
 -- chains of keyless batches
-use Rattle.std.proofs.Common.{◌≡◌, ℕ, ◌+◌, ◌-◌, ◌^◌, ◌<◌, ◌==◌, ◌||◌, Bool, List, [], ◌∷◌, ◌++◌, length, map, max, min, None, refl, sym, ap, ◌∙◌, subst, arith}
-use Rattle.stateful_db.specs.Chain.{has_id}
+use Rattle.std.proofs.Common.{◌≡◌, ◌≢◌, inl, inr, true, false, Option, ℕ, ◌+◌, ◌-◌, ◌^◌, ◌<◌, ◌≤◌, ◌==◌, ◌||◌, Bool, List, [], ◌∷◌, ◌++◌, length, map, max, min, None, refl, sym, ap, ◌∙◌, subst, arith, length-append}
+use Rattle.stateful_db.specs.Chain.{has_id, IsPoint}
+use Rattle.stateful_types.specs.declared.number.Location.{Location}
 use Rattle.stateful_types.specs.declared.digest.Digest.{Digest}
 use Rattle.stateful_types.specs.declared.target.Target.{Target}
-use Rattle.stateful_overlay.specs.Stack.{Stack, has_layer, cut_at}
-use Rattle.stateful_overlay.specs.Chains.{Stands, has_id-layers, stands-cut}
+use Rattle.stateful_overlay.specs.Stack.{Stack, has_layer, above, cut_at}
+use Rattle.stateful_overlay.specs.Chains.{Stands, Leads, has_id-layers, leads-above, stands-cut}
 use Rattle.stateful_medium.specs.Mapped.{length-mapped}
 use Rattle.stateful_log.specs.Chained.{linked, chained}
 use Rattle.stateful_log.specs.ChainedLaws.{chained-append}
@@ -17,6 +18,8 @@ use Rattle.stateful_keyless.specs.declared.keyless.batch.KeylessMerkleized.{Keyl
 use Rattle.stateful_keyless.specs.Ops.{Changes, unchanged, raised, append_bytes, commit_bytes}
 use Rattle.stateful_keyless.specs.Keyless.{State, size_of, ops_of, op_bytes, sealed, begun}
 use Rattle.stateful_keyless.specs.KeylessShown.{After, Holds, DraftShows, SealShows}
+use Rattle.stateful_keyless.specs.Reads.{log_of, log_behind, log_over, read_as, value_at}
+use Rattle.stateful_keyless.proofs.Reading.{kept_from}
 
 module _ {V : Type 0} (spell : V → List ℕ) where
   chained-values : (d : Digest) (values : List V) → chained (op_bytes spell) d (map Append values) ≡ chained (append_bytes spell) d values
@@ -63,7 +66,14 @@ module _ {V : Type 0} (spell : V → List ℕ) where
       ∙ sym (chained-ops q.1.target.root ch f) in
       let range : l.1.target ≡ record { root = chained (op_bytes spell) q.1.target.root (ops_of ch f); start = record { 0 = f }; end = record { 0 = size_of q.1 + length ch.values + 1 } } =
       target ∙ (λ i. record { root = digest i; start = record { 0 = at i }; end = record { 0 = commit i + 1 } }) in
-      (named ∙ sym h.0, (h.1.0, ((from ∙ holds.size, is ∙ sym (ap (λ xs. extended q.1 xs l.1.target) list ∙ ap (λ t. extended q.1 (ops_of ch f) t) range)), h.1.1.0)))
+      let count_all : length l.1.ops.items ≡ length u.ops.items + 1 = ap length ops ∙ length-append u.ops.items (Commit u.metadata floor ∷ []) in
+      let last : l.1.target.end.0 ≡ end + 1 = ap (λ t. t.end.0) target in
+      let first : l.1.target.start.0 ≡ floor = ap (λ t. t.start.0) target in
+      let extends = is ∙ sym (ap (λ xs. extended q.1 xs l.1.target) list ∙ ap (λ t. extended q.1 (ops_of ch f) t) range) in
+      let ends_at : l.1.target.end.0 ≡ size_of q.1 + length l.1.ops.items = omega (arith, last, count_all, commit, count) in
+      let low : q.1.target.start.0 ≤ l.1.target.start.0 = omega (arith, first, floors, holds.floor) in
+      let high : l.1.target.start.0 ≤ max q.1.target.start.0 l.1.target.end.0 = omega (arith, first, last, floors, holds.floor) in
+      (named ∙ sym h.0, (h.1.0, ((from ∙ holds.size, (extends, (ends_at, (low, high)))), h.1.1.0)))
 
   -- a batch without changes over a state
   pub begins : (u : KeylessUnmerkleized V) (id : ℕ) (p : ℕ × State V) (c : List (ℕ × State V))
@@ -76,7 +86,7 @@ module _ {V : Type 0} (spell : V → List ℕ) where
   -- the root and the range of a sealed batch are those of its first point
   pub seal_target : (m : KeylessMerkleized V) (p : ℕ × State V) (c : List (ℕ × State V)) → SealShows m (p ∷ c) → m.layer.1.target ≡ p.1.target
   seal_target m p [] h = absurd h
-  seal_target m p (q ∷ c) h = ap (λ s. s.target) (sym h.1.1.0.1)
+  seal_target m p (q ∷ c) h = ap (λ s. s.target) (sym h.1.1.0.1.0)
 
   -- a batch whose layers are cut at a point of its chain
   pub draft_cut : (u t : KeylessUnmerkleized V) (x q p : ℕ × State V) (above older : List (ℕ × State V))
@@ -93,3 +103,50 @@ module _ {V : Type 0} (spell : V → List ℕ) where
         asked = holds.asked;
       } in
       subst P (sym same) (h.0, (h.1.0, (stands-cut After u.below (q ∷ above) older p h.1.1.0, (ch, (kept, is)))))
+
+module _ {V : Type 0} where
+  -- no point of the chain below has a greater id
+  below_id : (base : ℕ) (ls : List (ℕ × KeylessChanges V)) (q : ℕ × State V) (c : List (ℕ × State V)) (x : ℕ × State V) → Stands After base ls (q ∷ c) → IsPoint x (q ∷ c) → x.0 ≤ q.0
+  below_id base [] q [] x h (inl e) = let k : x.0 ≡ q.0 = ap (λ z. z.0) e in omega arith
+  below_id base [] q [] x h (inr i) = absurd i
+  below_id base [] q (r ∷ c) x h i = absurd h
+  below_id base (l ∷ ls) q [] x h i = absurd h
+  below_id base (l ∷ ls) q (r ∷ c) x h (inl e) = let k : x.0 ≡ q.0 = ap (λ z. z.0) e in omega arith
+  below_id base (l ∷ ls) q (r ∷ c) x h (inr i) = let k : x.0 ≤ r.0 = below_id base ls r c x h.1.1.1 i in omega (arith, h.1.0)
+
+  -- what a batch reads before its seal, over a database at a point of its parent's chain
+  pub draft_read : (spell : V → List ℕ) (u : KeylessUnmerkleized V) (p q : ℕ × State V) (c : List (ℕ × State V)) (ch : Changes V) (n : ℕ) (s : State V) (at : Location) (value : Option V)
+      → DraftShows spell u (p ∷ q ∷ c) → Holds spell u ch q.1 → IsPoint (n, s) (p ∷ q ∷ c) → u.id ≢ n → q.1.target.start.0 ≤ at.0
+      → ((t : State V) → Leads After (above n u.below.layers) s t → u.size ≡ size_of t → t.target.start.0 ≤ at.0 → value ≡ value_at (log_behind t u.ops.items) at)
+      → value ≡ value_at (log_over ch q.1) at
+  draft_read spell u p q c ch n s at value h holds (inl e) other low reads = absurd (other (sym h.0 ∙ ap (λ z. z.0) (sym e)))
+  draft_read spell u p q c ch n s at value h holds (inr i) other low reads =
+      reads q.1 (leads-above After u.below.base u.below.layers q c n s h.1.1.0 i) holds.size low
+      ∙ ap (λ xs. value_at (log_behind q.1 xs) at) holds.ops
+
+  -- the ids of a sealed batch's chain are its own and those of the layers below it
+  pub seal_has : (m : KeylessMerkleized V) (c : List (ℕ × State V)) (n : ℕ) → SealShows m c → has_id c n ≡ ((m.layer.0 == n) || has_layer m.below n)
+  seal_has m c n h = has_id-layers After m.below.base (m.layer ∷ m.below.layers) c n h ∙ assoc (m.layer.0 == n) _ _
+    where
+      assoc : (x y z : Bool) → ((x || y) || z) ≡ (x || (y || z))
+      assoc true y z = refl
+      assoc false y z = refl
+
+  -- a database with the id of a sealed batch is at its state
+  pub seal_own : (m : KeylessMerkleized V) (p : ℕ × State V) (c : List (ℕ × State V)) (n : ℕ) (s : State V) → SealShows m (p ∷ c) → IsPoint (n, s) (p ∷ c) → m.layer.0 ≡ n → s ≡ p.1
+  seal_own m p c n s h (inl e) same = ap (λ z. z.1) e
+  seal_own m p [] n s h (inr i) same = absurd h
+  seal_own m p (q ∷ c) n s h (inr i) same = let le = below_id m.below.base m.below.layers q c (n, s) h.1.1.1 i in absurd (omega (arith, h.0, h.1.0))
+
+  -- what a sealed batch reads, over a database at a point of its parent's chain
+  pub seal_read : (m : KeylessMerkleized V) (p : ℕ × State V) (c : List (ℕ × State V)) (n : ℕ) (s : State V) (at : Location) (value : Option V)
+      → SealShows m (p ∷ c) → IsPoint (n, s) (p ∷ c) → m.layer.0 ≢ n → p.1.target.start.0 ≤ at.0
+      → ((t : State V) → Leads After (above n m.below.layers) s t → m.layer.1.from ≡ size_of t → t.target.start.0 ≤ at.0 → value ≡ value_at (log_behind t m.layer.1.ops.items) at)
+      → value ≡ value_at (log_of p.1) at
+  seal_read m p [] n s at value h i other low reads = absurd h
+  seal_read m p (q ∷ c) n s at value h (inl e) other low reads = absurd (other (h.0 ∙ ap (λ z. z.0) (sym e)))
+  seal_read m p (q ∷ c) n s at value h (inr i) other low reads =
+      let step = h.1.1.0 in
+      let start : p.1.target.start.0 ≡ m.layer.1.target.start.0 = ap (λ (x : State V). x.target.start.0) step.1.0 in
+      reads q.1 (leads-above After m.below.base m.below.layers q c n s h.1.1.1 i) step.0 (omega (arith, start, low, step.1.1.1.0))
+      ∙ ap read_as (sym (kept_from m.layer.1 q.1 p.1 at.0 step low))

@@ -1,3 +1,5 @@
 pub mod CompactChains
 pub mod KeylessChains
 pub mod Following
+pub mod Reading
+pub mod Locations

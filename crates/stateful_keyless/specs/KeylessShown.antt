@@ -1,5 +1,5 @@
 -- The chains on which keyless batches stand.
-use Rattle.std.specs.Prelude.{◌≡◌, ℕ, ◌<◌, List, [], ◌∷◌, map}
+use Rattle.std.specs.Prelude.{◌≡◌, ℕ, ◌+◌, ◌<◌, ◌≤◌, List, [], ◌∷◌, length, map, max}
 use Rattle.stateful_overlay.specs.Chains.{Stands}
 use Rattle.stateful_log.specs.Chained.{chained}
 use Rattle.stateful_log.specs.Logs.{extended}
@@ -10,9 +10,10 @@ use Rattle.stateful_keyless.specs.declared.keyless.batch.KeylessMerkleized.{Keyl
 use Rattle.stateful_keyless.specs.Ops.{Changes, append_bytes}
 use Rattle.stateful_keyless.specs.Keyless.{State, size_of, sealed}
 
--- the operations of a sealed batch begin where its parent's end, and lead from its state to the batch's
+-- The operations of a sealed batch begin where its parent's end, and lead from its state to the batch's. The range ends
+-- behind them; it doesn't begin before the parent's, and not past its end where the parent's doesn't.
 abbrev pub After : {V : Type 0} → KeylessChanges V → State V → State V → Type 0
-After ch s t = (ch.from ≡ size_of s) × (t ≡ extended s ch.ops.items ch.target)
+After ch s t = (ch.from ≡ size_of s) × ((t ≡ extended s ch.ops.items ch.target) × ((ch.target.end.0 ≡ size_of s + length ch.ops.items) × ((s.target.start.0 ≤ ch.target.start.0) × (ch.target.start.0 ≤ max s.target.start.0 ch.target.end.0))))
 
 module _ {V : Type 0} (spell : V → List ℕ) where
   -- a batch that may still change has these changes on its parent's state

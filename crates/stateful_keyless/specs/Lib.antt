@@ -4,6 +4,8 @@ pub mod CompactShown
 pub mod CompactStored
 pub mod CompactSound
 pub mod Keyless
+pub mod Reads
+pub mod Through
 pub mod KeylessShown
 pub mod KeylessStored
 pub mod KeylessSound

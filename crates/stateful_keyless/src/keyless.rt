@@ -5,7 +5,11 @@ mod batch;
 mod database;
 mod medium;
 mod pass;
+mod range;
+mod reads;
+mod sealed;
 mod state;
+mod unsealed;
 
 pub use batch::{KeylessMerkleized, KeylessUnmerkleized};
 pub use database::KeylessDb;

@@ -15,3 +15,4 @@ pub use keyless::{
 };
 pub use law::compact_follows_keyless;
 pub use op::KeylessOp;
+pub use stateful_log::Bounds;

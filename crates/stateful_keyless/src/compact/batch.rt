@@ -1,6 +1,7 @@
 //! Batches over a compact database.
 
-ghost use Rattle.std.specs.Prelude.{◌≡◌, ◌==◌, ◌||◌, ◌++◌, ◌∷◌, [], ◌-◌, ◌^◌, ◌<◌, ◌≤◌, ◌↔◌, ℕ, List, Some, IfOk, IsErrOf, false};
+ghost use Rattle.std.specs.Prelude.{◌≡◌, ◌==◌, ◌||◌, ◌++◌, ◌∷◌, [], ◌-◌, ◌^◌, ◌<◌, ◌≤◌, ◌↔◌, ℕ, List, Some, IfOk, IfErr, IsErrOf, false};
+ghost use Rattle.stateful_db.specs.Batch.{RefusesSeal};
 ghost use Rattle.stateful_db.specs.Chain.{has_id};
 ghost use Rattle.stateful_overlay.specs.Stack.{has_layer};
 ghost use Rattle.stateful_keyless.specs.Ops.{Changes};
@@ -11,7 +12,7 @@ use super::database::CompactDb;
 use super::state::{Commit, CompactState, committed, share, size};
 use crate::op::{link_append, link_commit};
 use stateful_db::{BatchError, Merkleized, Unmerkleized};
-use stateful_log::Field;
+use stateful_log::{Bounds, Field};
 use stateful_overlay::{Layer, Layers};
 use stateful_types::{Digest, Location, OutOfMemory};
 
@@ -107,6 +108,7 @@ impl<V: Field> KeylessUnjournaledUnmerkleized<V> {
         ensures within { IfOk result (λ m. (p : ℕ × State V) (c : List (ℕ × State V))
             → DraftShows V.fields.spelling self (p ∷ c)
             → size_of p.1 < 2 ^ 64 - 1) }
+        ensures why { IfErr result RefusesSeal }
     {
         let KeylessUnjournaledUnmerkleized {
             id,
@@ -144,6 +146,21 @@ impl<V: Drop> KeylessUnjournaledMerkleized<V> {
     {
         let KeylessUnjournaledMerkleized { layer, state, .. } = self;
         (layer.id(), state)
+    }
+
+    /// The inactivity floor of its state, and the end behind the last operation.
+    pub fn bounds(&self) -> Bounds
+        ensures floor { (p : ℕ × State V) (c : List (ℕ × State V))
+            → SealShows self.now (p ∷ c)
+            → result.inactivity_floor.0 ≡ p.1.kept.floor }
+        ensures size { (p : ℕ × State V) (c : List (ℕ × State V))
+            → SealShows self.now (p ∷ c)
+            → result.size ≡ p.1.target.end }
+    {
+        Bounds {
+            inactivity_floor: Location(self.state.kept.floor),
+            size: self.state.target.end,
+        }
     }
 }
 

@@ -1,6 +1,7 @@
 //! Batches over a keyless database.
 
-ghost use Rattle.std.specs.Prelude.{◌≡◌, ◌==◌, ◌||◌, ◌++◌, ◌∷◌, [], ◌-◌, ◌^◌, ◌<◌, ◌≤◌, ◌↔◌, ℕ, List, Some, IfOk, IsErrOf, false};
+ghost use Rattle.std.specs.Prelude.{◌≡◌, ◌==◌, ◌||◌, ◌++◌, ◌∷◌, [], ◌-◌, ◌^◌, ◌<◌, ◌≤◌, ◌↔◌, ℕ, List, Some, IfOk, IfErr, IsErrOf, false};
+ghost use Rattle.stateful_db.specs.Batch.{RefusesSeal};
 ghost use Rattle.stateful_db.specs.Chain.{has_id};
 ghost use Rattle.stateful_overlay.specs.Stack.{has_layer};
 ghost use Rattle.stateful_keyless.specs.Ops.{Changes};
@@ -95,7 +96,7 @@ impl<V: Field> KeylessUnmerkleized<V> {
     }
 
     /// Whether the database where the batch of this id was applied last is at a state of its chain.
-    fn stands_on(&self, at: u64) -> bool
+    pub(crate) fn stands_on(&self, at: u64) -> bool
         ensures { (c : List (ℕ × State V))
             → DraftShows V.fields.spelling self.now c
             → has_id c at ≡ result }
@@ -117,6 +118,7 @@ impl<V: Field> KeylessUnmerkleized<V> {
         ensures within { IfOk result (λ m. (p : ℕ × State V) (c : List (ℕ × State V))
             → DraftShows V.fields.spelling self (p ∷ c)
             → size_of p.1 < 2 ^ 64 - 1) }
+        ensures why { IfErr result RefusesSeal }
     {
         let KeylessUnmerkleized {
             id,

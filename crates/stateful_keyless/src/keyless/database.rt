@@ -6,10 +6,13 @@ use super::applied::apply_to;
 use super::batch::{KeylessMerkleized, KeylessUnmerkleized};
 use super::medium::KeylessMedium;
 use super::pass::KeylessPass;
+use super::range::check;
+use super::reads::read;
 use super::state::KeylessState;
 use crate::op::KeylessOp;
 use stateful_db::{
-    BatchContext, Broken, DbCall, Exhausted, FlushToken, InitError, ManagedDb, Merkleized, Why,
+    BatchContext, BatchError, Broken, DbCall, Exhausted, FlushToken, InitError, ManagedDb,
+    Merkleized, Why,
 };
 use stateful_log::{Field, LogMedium, OpenLog};
 use stateful_overlay::Layers;
@@ -22,14 +25,69 @@ pub struct KeylessDb<V> {
 }
 
 impl<V: Drop> KeylessDb<V> {
-    ghost use Rattle.std.specs.Prelude.{◌≡◌};
+    ghost use Rattle.std.specs.Prelude.{◌≡◌, IsTrue};
+    ghost use Rattle.std.specs.Option.{option_copied};
     ghost use Rattle.stateful_keyless.specs.KeylessStored.{standing_of};
+    ghost use Rattle.stateful_keyless.specs.Reads.{metadata_of};
+    ghost use Rattle.stateful_keyless.specs.Through.{IsWhole};
 
     /// The digest behind all operations.
     pub fn root(&self) -> Digest
         ensures { result ≡ (standing_of self.now).disk.newest.target.root }
     {
         self.log.target().root
+    }
+
+    /// The metadata of the last commit.
+    pub fn get_metadata(&self) -> Option<&V>
+        ensures { option_copied result ≡ metadata_of (standing_of self.now).disk.newest }
+    {
+        let last = self.log.target().end.0.saturating_sub(1);
+        match self.log.get(last) {
+            Some(KeylessOp::Commit { metadata, .. }) => metadata.as_ref(),
+            Some(KeylessOp::Append(_)) => None,
+            None => None,
+        }
+    }
+
+    /// Whether the range of its newest checkpoint isn't turned round, as none is.
+    pub(crate) fn is_whole(&self) -> bool
+        ensures { IsTrue result → IsWhole (standing_of self.now).disk.newest }
+    {
+        let range = self.log.target();
+        range.start.0 <= range.end.0
+    }
+}
+
+impl<V: Field> KeylessDb<V> {
+    ghost use Rattle.std.specs.Prelude.{◌≡◌, ◌≤◌, ◌∷◌, [], ◌⊎◌, IfOk, IfErr, IsErrOf, Some};
+    ghost use Rattle.stateful_keyless.specs.KeylessStored.{standing_of};
+    ghost use Rattle.stateful_keyless.specs.Reads.{log_of, unread, value_at};
+
+    /// The value at a location, or the metadata of a commit there. `LocationOutOfBounds` exactly at or past the end, and
+    /// `BelowInactivityFloor` exactly below the floor.
+    pub fn get(&self, location: Location) -> Result<Option<V>, BatchError>
+        ensures value { IfOk result (λ value.
+            value ≡ value_at (log_of (standing_of self.now).disk.newest) location) }
+        ensures refused { (why : BatchError)
+            → unread (log_of (standing_of self.now).disk.newest) (location ∷ []) ≡ Some why
+            → IsErrOf result why }
+        ensures cause { IfErr result (λ why.
+            (unread (log_of (standing_of self.now).disk.newest) (location ∷ []) ≡ Some why)
+            ⊎ (why ≡ BatchError.OutOfMemory)) }
+    {
+        let range = self.log.target();
+        check(range.start.0, range.end.0, 0, &[location])?;
+        Ok(self.value(location)?)
+    }
+
+    /// The value at a location that isn't below the floor.
+    pub(crate) fn value(&self, location: Location) -> Result<Option<V>, OutOfMemory>
+        ensures { IfOk result (λ value. let s = (standing_of self.now).disk.newest in
+            s.target.start.0 ≤ location.0
+            → value ≡ value_at (log_of s) location) }
+    {
+        read(self.log.get(location.0))
     }
 }
 
