@@ -4,9 +4,11 @@
 //! other, each of a fixed width; so no two blocks have the same bytes.
 
 ghost use Rattle.std.specs.Prelude.{◌≡◌, ◌++◌, OnOk};
-ghost use Rattle.stateful_counter.specs.CounterBlock.{target_bytes};
+ghost use Rattle.stateful_counter.specs.CounterBlock.{target_bytes, genesis_block};
 
-use stateful_types::{Block, Digest, Height, OutOfMemory, Round, Target, write_u64};
+use stateful_db::ManagedDb;
+use stateful_plain::Plain;
+use stateful_types::{Block, Digest, Epoch, Height, OutOfMemory, Round, Target, View, write_u64};
 
 /// A block: a number to add at a height over a parent, and what that leads to.
 #[derive(Clone, Copy, Debug, PartialEq, Eq)]
@@ -16,6 +18,24 @@ pub struct CounterBlock {
     pub round: Round,
     pub added: u64,
     pub target: Target,
+}
+
+impl CounterBlock {
+    /// The block at height 0: it adds nothing, and commits to the empty state.
+    pub fn genesis() -> CounterBlock
+        ensures { result ≡ genesis_block }
+    {
+        CounterBlock {
+            parent: Digest([0; 32]),
+            height: Height(0),
+            round: Round {
+                epoch: Epoch(0),
+                view: View(0),
+            },
+            added: 0,
+            target: Plain::initial_sync_target(),
+        }
+    }
 }
 
 /// Appends a root with its range.

@@ -15,11 +15,11 @@ ghost use Rattle.stateful_counter.specs.Works.{IsRun, IsBuild};
 
 use crate::block::CounterBlock;
 use crate::run::{CounterBuild, CounterRun, add};
-use stateful_db::{AppFault, Application, Held, Hooked, Input, ManagedDb, ProposedBlock};
+use stateful_db::{AppFault, Application, Held, Hooked, Input, ProposedBlock};
 use stateful_plain::{Plain, PlainMerkleized, PlainUnmerkleized};
 use stateful_types::{
-    Ancestry, Digest, Digested, Epoch, Faulty, Finality, Handoff, Height, Moved, OutOfMemory,
-    Round, Share, Target, View, VoteScheme,
+    Ancestry, Digested, Faulty, Finality, Handoff, Moved, OutOfMemory, Round, Share, Target,
+    VoteScheme,
 };
 use std::alloc::Global;
 
@@ -142,16 +142,7 @@ impl Application for Counter {
         ensures ok { IsOk result }
         ensures block { IfOk result (λ b. b ≡ genesis_block) }
     {
-        Ok(CounterBlock {
-            parent: Digest([0; 32]),
-            height: Height(0),
-            round: Round {
-                epoch: Epoch(0),
-                view: View(0),
-            },
-            added: 0,
-            target: Plain::initial_sync_target(),
-        })
+        Ok(CounterBlock::genesis())
     }
 
     fn prepare(
