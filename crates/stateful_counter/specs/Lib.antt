@@ -1,0 +1,2 @@
+pub mod CounterBlock
+pub mod Works
