@@ -5,3 +5,4 @@ pub mod Arms
 pub mod OtherErrors
 pub mod ResultsOfCalls
 pub mod Reopening
+pub mod Lawfully

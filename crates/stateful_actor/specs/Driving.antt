@@ -1,12 +1,15 @@
 -- Events that were refused behind a history.
-use Rattle.std.specs.Prelude.{◌≡◌, ℕ, true, false, Option, List, []}
+use Rattle.std.specs.Prelude.{◌≡◌, ◌<◌, ◌^◌, ◌∷◌, ℕ, true, false, Option, List, []}
 use Rattle.stateful_types.specs.Names.{Named}
-use Rattle.stateful_history.specs.Past.{after_all}
+use Rattle.stateful_history.specs.Met.{TrueNames}
+use Rattle.stateful_history.specs.Past.{Came, after_all}
 use Rattle.stateful_history.specs.declared.entry.Entry.{Entry}
 use Rattle.stateful_history.specs.declared.event.Event.{Event}
 use Rattle.stateful_exec.specs.Workings.{Workings}
 use Rattle.stateful_register.specs.Register.{RegisterStands}
 use Rattle.stateful_register.specs.declared.register.Register.{Register}
+use Rattle.stateful_standing.specs.Setting.{setting}
+use Rattle.stateful_keeping.specs.Ways.{HasHonestStore}
 use Rattle.stateful_processing.specs.Intake.{Counts}
 use Rattle.stateful_processing.specs.Moments.{Moment}
 use Rattle.stateful_processing.specs.declared.error.StepError.{StepError}
@@ -15,13 +18,27 @@ use Rattle.stateful_actor.specs.Faults.{Tally, HasNotFallen, IsCause}
 use Rattle.stateful_whole.specs.Left.{LeavesBehind}
 use Rattle.stateful_whole.specs.Machine.{numbered, is_restart}
 use Rattle.stateful_whole.specs.Entering.{Steps}
+use Rattle.stateful_whole.specs.StepBehind.{EachStands}
+use Rattle.stateful_lawful.specs.Completeness.{ComesLawfully}
+use Rattle.stateful_lawful.specs.Outside.{IsOutside}
 
 module _ {B C I P R D H G U : Type 0} (w : Workings B C I P R D H G U) (stored : ℕ → Option (Named B))
     (provider : P) (counts : Counts R D H) where
+  -- Where the event is lawful, and each since the last restart was, it was refused for a reason outside of the machine: over
+  -- the states on which the history is based at last, of fewer than 2^64 databases.
+  abbrev pub RefusesLawful : List (Entry B C I) → Event B C I → StepError → Moment w → Type 0
+  RefusesLawful history event e old = (base : w.States)
+      → w.kind.count < 2 ^ 64
+      → TrueNames (setting w stored) (after_all [] history)
+      → HasHonestStore w.header stored (Came event ∷ after_all [] history)
+      → EachStands w stored
+      (λ last. ComesLawfully w stored last (after_all [] history) stored counts old event → IsOutside e)
+      base [] history
+
   -- The event that was refused behind a history, and why: the machine before it, to which the
   -- entries led from the first moment on, and the cause that it had. Counts have not fallen since the
   -- start. And what it left of the databases, unless it may not come, is a restart, or the machine was
-  -- down.
+  -- down. A lawful event that is no restart has its reason outside.
   pub record IsRefused (first : Moment w) (history : List (Entry B C I)) (event : Event B C I) (e : StepError)
       (m : w.kind.Members) (start «end» : Tally) : Type 0 where
     pub register : Register
@@ -33,3 +50,4 @@ module _ {B C I P R D H G U : Type 0} (w : Workings B C I P R D H G U) (stored :
     pub cause : IsCause w stored provider counts false register event before «end» m old e
     pub behind : (e ≡ BadEvent → ⊥) → is_restart event ≡ false → old.loop.up ≡ true
         → LeavesBehind w stored provider counts event history old m
+    pub complete : is_restart event ≡ false → RefusesLawful history event e old

@@ -3,6 +3,7 @@
 ghost use Rattle.std.specs.Prelude.{◌≡◌, [], ℕ, Option, IfOk};
 ghost use Rattle.stateful_types.specs.Names.{Named};
 ghost use Rattle.stateful_processing.specs.Moments.{moment};
+ghost use Rattle.stateful_lawful.specs.Ahead.{IsAheadLawfully};
 ghost use Rattle.stateful_whole.specs.Machine.{IsNew};
 ghost use Rattle.stateful_whole.specs.Media.{IsAsAtStart, MediaStand};
 
@@ -86,6 +87,12 @@ impl<A: Application + Drop> Stateful<A> {
             (n : A.Databases.Ids)
             → IsAsAtStart w stored m
             → MediaStand w stored [] s.failed (moment w s.execution s.loop m n [])) }
+        ensures ahead { IfOk result (λ s. let w = ⟦<A as Worked>⟧.workings in
+            (stored : ℕ → Option (Named A.Block))
+            (base : A.Databases.States)
+            (m : A.Databases.kind.Members)
+            (n : A.Databases.Ids)
+            → IsAheadLawfully w stored base [] (moment w s.execution s.loop m n [])) }
         ensures application { IfOk result (λ s. s.application ≡ config.application) }
         ensures config { IfOk result (λ s. (s.provider ≡ config.provider)
             × (s.config ≡ config.db_config)) }

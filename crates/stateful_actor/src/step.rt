@@ -1,13 +1,14 @@
 //! One event.
 
-ghost use Rattle.std.specs.Prelude.{◌≡◌, ◌≤◌, ◌<◌, ◌^◌, ◌⊎◌, [], ℕ, List, Option, Some, true, false, not, MatchResult, IfOk, IfErr, OnOk, OnErr, IsErrOf};
+ghost use Rattle.std.specs.Prelude.{◌≡◌, ◌≤◌, ◌<◌, ◌^◌, ◌⊎◌, ◌∷◌, [], ℕ, List, Option, Some, true, false, not, MatchResult, IfOk, IfErr, OnOk, OnErr, IsErrOf};
 ghost use Rattle.stateful_types.specs.Causes.{Rose};
 ghost use Rattle.stateful_types.specs.Names.{Named};
 ghost use Rattle.stateful_history.specs.Live.{may_come};
 ghost use Rattle.stateful_history.specs.Met.{TrueNames};
-ghost use Rattle.stateful_history.specs.Opening.{is_down};
-ghost use Rattle.stateful_history.specs.Past.{Past, after_entry};
+ghost use Rattle.stateful_history.specs.Opening.{is_down, base_after};
+ghost use Rattle.stateful_history.specs.Past.{Past, Came, after_entry};
 ghost use Rattle.stateful_history.specs.Restarts.{reopened_height, CanReopen, Finds};
+ghost use Rattle.stateful_history.specs.Runs.{RunsAreWanted};
 ghost use Rattle.stateful_exec.specs.Starting.{Rises};
 ghost use Rattle.stateful_register.specs.Register.{RegisterStands};
 ghost use Rattle.stateful_standing.specs.Setting.{setting};
@@ -15,8 +16,12 @@ ghost use Rattle.stateful_standing.specs.Storing.{IsStoredNow};
 ghost use Rattle.stateful_keeping.specs.Media.{TargetsRise};
 ghost use Rattle.stateful_keeping.specs.Ways.{HasHonestStore};
 ghost use Rattle.stateful_processing.specs.Moments.{moment};
+ghost use Rattle.stateful_lawful.specs.Ahead.{IsAheadLawfully};
+ghost use Rattle.stateful_lawful.specs.Completeness.{ComesLawfully};
+ghost use Rattle.stateful_lawful.specs.Outside.{IsOutside};
 ghost use Rattle.stateful_actor.specs.Faults.{tally, IsCause};
 ghost use Rattle.stateful_actor.specs.Machine.{faults_after};
+ghost use Rattle.stateful_whole.specs.Jobs.{EachJobGoesOn};
 ghost use Rattle.stateful_whole.specs.Left.{LeavesFurther};
 ghost use Rattle.stateful_whole.specs.Machine.{IsSafe, numbered, is_restart};
 ghost use Rattle.stateful_whole.specs.Media.{MediaStand, StandsOnMedia, TargetsName, OpensOn, LeavesMedia};
@@ -256,6 +261,68 @@ impl<A: Application + Drop> Stateful<A> {
             → MatchResult result
             (λ marks. OpensOn w marks.items (A.Databases.members databases.new) state)
             (λ e. e ≡ StepError.OutOfMemory) }
+
+        // Behind the event each live candidate run and each live build is wanted by a live request, and each live job was turned
+        // less often than it takes turns, where that is told.
+        ensures jobs { IfOk result (λ marks. let w = ⟦<A as Worked>⟧.workings in
+            (stored : ℕ → Option (Named A.Block))
+            (base : A.Databases.States)
+            (p : Past A.Block A.Context A.Input)
+            → Stands w stored base p self.old.failed self.old.register
+            (moment w self.old.execution self.old.loop (A.Databases.members databases.old)
+            (A.Databases.next databases.old) [])
+            → IsStoredNow stored p (S.stored store.old)
+            → TrueNames (setting w stored) (after_entry p event marks.items)
+            → HasHonestStore A.Block.header stored (after_entry p event marks.items)
+            → RunsAreWanted (setting w stored) (after_entry p event marks.items)
+            × EachJobGoesOn w stored
+            (base_after base marks.items (A.Databases.kind.point (A.Databases.members databases.new)))
+            (after_entry p event marks.items)) }
+
+        // The finalized blocks that wait lead up to the highest one, as long as each event since the last restart was lawful: that
+        // stays so behind each event.
+        ensures ahead { IfOk result (λ marks. let w = ⟦<A as Worked>⟧.workings in
+            (stored : ℕ → Option (Named A.Block))
+            (base : A.Databases.States)
+            (p : Past A.Block A.Context A.Input)
+            → Stands w stored base p self.old.failed self.old.register
+            (moment w self.old.execution self.old.loop (A.Databases.members databases.old)
+            (A.Databases.next databases.old) [])
+            → IsStoredNow stored p (S.stored store.old)
+            → TrueNames (setting w stored) (after_entry p event marks.items)
+            → HasHonestStore A.Block.header stored (after_entry p event marks.items)
+            → IsAheadLawfully w stored base p
+            (moment w self.old.execution self.old.loop (A.Databases.members databases.old)
+            (A.Databases.next databases.old) [])
+            → IsAheadLawfully w stored
+            (base_after base marks.items (A.Databases.kind.point (A.Databases.members databases.new)))
+            (after_entry p event marks.items)
+            (moment w self.new.execution self.new.loop (A.Databases.members databases.new)
+            (A.Databases.next databases.new) [])) }
+
+        // A lawful event other than a restart, behind lawful ones since the last restart, is refused only where memory or numbers
+        // ran out, or the application, a job of it or a database failed: by a machine that hadn't failed, of fewer than 2^64
+        // databases.
+        ensures complete { IfErr result (λ e. let w = ⟦<A as Worked>⟧.workings in
+            (stored : ℕ → Option (Named A.Block))
+            (base : A.Databases.States)
+            (p : Past A.Block A.Context A.Input)
+            → Stands w stored base p self.old.failed self.old.register
+            (moment w self.old.execution self.old.loop (A.Databases.members databases.old)
+            (A.Databases.next databases.old) [])
+            → IsStoredNow stored p (S.stored store.old)
+            → HasHonestStore A.Block.header stored (Came event ∷ p)
+            → IsAheadLawfully w stored base p
+            (moment w self.old.execution self.old.loop (A.Databases.members databases.old)
+            (A.Databases.next databases.old) [])
+            → ComesLawfully w stored base p (S.stored store.old)
+            (record { run = A.Run.count; build = A.Build.count; hook = A.Hook.count })
+            (moment w self.old.execution self.old.loop (A.Databases.members databases.old)
+            (A.Databases.next databases.old) []) event
+            → self.old.failed ≡ false
+            → is_restart event ≡ false
+            → A.Databases.kind.count < 2 ^ 64
+            → IsOutside e) }
 
         // Counts of faults and numbers never fall, and the store, the provider and the configuration stay.
         ensures later { (n : ℕ)

@@ -45,7 +45,7 @@ module _ {B C I : Type 0} where
   verified_below t (item ∷ p) some = verified_below t p some
 
   -- so is that of a request to build
-  proposed_below : (t : ℕ) (p : Past B C I) → proposed t p ≢ None → t < bound_of p
+  pub proposed_below : (t : ℕ) (p : Past B C I) → proposed t p ≢ None → t < bound_of p
   proposed_below t [] some = absurd (some refl)
   proposed_below t (Came (Verify u ancestry) ∷ p) some = later_below t u (bound_of p) None (proposed t p) (proposed_below t p) some
   proposed_below t (Came (Prepare u context ancestry input) ∷ p) some =

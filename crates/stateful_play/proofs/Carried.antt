@@ -30,6 +30,7 @@ use Rattle.stateful_play.specs.declared.play.Played.{Played}
 use Rattle.stateful_play.specs.Plan.{ArePlanned, labels_of}
 use Rattle.stateful_play.specs.Events.{BankEvent, events_of}
 use Rattle.stateful_play.specs.Store.{store_of}
+use Rattle.stateful_play.specs.Shown.{listed_in, member_of}
 use Rattle.stateful_play.specs.Play.{bank, IsPlayOf, IsFirst, EndsWell, AreTaken, AreSteps, IsHaltedBy}
 use Rattle.stateful_play.proofs.Builds.{builds_are_named}
 use Rattle.stateful_play.proofs.Heights.{heights_stored}
@@ -41,11 +42,15 @@ in_plain entries machine databases «end» = record { world = world.Plain; histo
 
 -- a play begins with a new machine and an empty database
 pub begins_new : (failed : Bool) (register : Register) (first : Moment bank) → IsNew bank failed register first
+    → (database : Databases) → listed_in database ≡ [] → first.members ≡ member_of database
     → first.members ≡ closed (record { older = []; newest = initial; pruned = 0; durable = 0 }) → first.next ≡ 1
     → IsFirst first
-begins_new failed register first new empty batches = record {
+begins_new failed register first new database unlisted shown empty batches = record {
   register = register;
   new = subst (λ f. IsNew bank f register first) new.working new;
+  database = database;
+  unlisted = unlisted;
+  shown = shown;
   members = empty;
   batches = batches;
 }

@@ -46,7 +46,7 @@ use Rattle.stateful_play.specs.Plan.{ArePlanned, labels_of}
 use Rattle.stateful_play.specs.Events.{BankEvent, events_of}
 use Rattle.stateful_play.specs.Builds.{NamesItsBuild}
 use Rattle.stateful_play.specs.Store.{store_of}
-use Rattle.stateful_play.specs.Shown.{entries_of, member_of, next_of, failed_of, register_of, has_failed}
+use Rattle.stateful_play.specs.Shown.{entries_of, listed_in, member_of, next_of, failed_of, register_of, has_failed}
 
 -- the bank over one database that is kept whole, as the definitions of the machine take it
 abbrev pub bank : Workings BankBlock Round Ask (Unit {0}) BankRun BankBuild BankHook (Unit {0}) PlainMerkleized
@@ -85,10 +85,14 @@ module _ (stored : ℕ → Option (Named BankBlock)) (entries : List (Entry Bank
       → StoresFinalized block_header stored (after_all [] entries)
       → EachStands bank stored (EndsWell «end») initial [] entries
 
--- where a play begins: the machine has taken nothing in, and the database is closed on an empty medium
+-- where a play begins: the machine has taken nothing in, and the database is closed on an empty medium, of which no call is
+-- listed as one that fails
 pub record IsFirst (first : Moment bank) : Type 0 where
   pub register : Register
   pub new : IsNew bank false register first
+  pub database : Databases
+  pub unlisted : listed_in database ≡ []
+  pub shown : first.members ≡ member_of database
   pub members : first.members ≡ closed (record { older = []; newest = initial; pruned = 0; durable = 0 })
   pub batches : first.next ≡ 1
 

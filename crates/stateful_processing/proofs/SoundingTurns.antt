@@ -48,7 +48,7 @@ module _ {B C I P R D H G U : Type 0} (w : Workings B C I P R D H G U) where
   follows_stays b how r m now (ending.parked pruning known e) = becomes w m _ m.next _ now e refl
   follows_stays b how r m now (ending.goes_on kept free unpruned known a) = Advances-stays w m r.ticket (requested r.request) r.path now a
 
-  follow_stays : (b : Named B) (how : How) (rs : List (Released B C I)) (m now : exec.Moment w) → InTurn (Follows w b how) rs m now → Stays w m now
+  pub follow_stays : (b : Named B) (how : How) (rs : List (Released B C I)) (m now : exec.Moment w) → InTurn (Follows w b how) rs m now → Stays w m now
   follow_stays b how rs m now none = Stays-same w m
   follow_stays b how rs m now (next {x = x} {n = n} f rest) = Stays-then w (follows_stays b how x m n f) (follow_stays b how _ n now rest)
 

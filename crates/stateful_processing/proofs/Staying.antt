@@ -56,11 +56,11 @@ module _ {B C I P R D H G U : Type 0} (w : Workings B C I P R D H G U) where
     Acquires-stays m t r now (waits needs e) = becomes m _ m.next _ now e refl
     Acquires-stays m t r now (runs {path = path} needs a) = Advances-stays m t (requested r.request) path now a
 
-    along-stays : (xs : List _) (m now : exec.Moment w) → InTurn (GoesAlong w) xs m now → Stays m now
+    pub along-stays : (xs : List _) (m now : exec.Moment w) → InTurn (GoesAlong w) xs m now → Stays m now
     along-stays xs m now none = Stays-same m
     along-stays xs m now (next {x = x} {n = n} a rest) = Stays-then (Advances-stays m x.ticket (requested x.request) x.path n a) (along-stays _ n now rest)
 
-    anew-stays : (xs : List _) (m now : exec.Moment w) → InTurn (AcquiresAnew w stored) xs m now → Stays m now
+    pub anew-stays : (xs : List _) (m now : exec.Moment w) → InTurn (AcquiresAnew w stored) xs m now → Stays m now
     anew-stays xs m now none = Stays-same m
     anew-stays xs m now (next {x = x} {n = n} a rest) = Stays-then (Acquires-stays m x.0 (requested x.1.request) n a) (anew-stays _ n now rest)
 

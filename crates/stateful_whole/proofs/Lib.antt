@@ -25,3 +25,4 @@ pub mod MediaRefused
 pub mod WorkDuly
 pub mod EntryRules
 pub mod WantedRuns
+pub mod JobsGoOn

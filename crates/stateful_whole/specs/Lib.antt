@@ -5,3 +5,4 @@ pub mod Stands
 pub mod StepBehind
 pub mod Left
 pub mod Media
+pub mod Jobs

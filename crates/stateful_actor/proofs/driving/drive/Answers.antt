@@ -9,6 +9,7 @@ use Rattle.stateful_whole.proofs.HistoryStands.{history-registered, history-leav
 use Rattle.stateful_whole.proofs.RefusedBehind.{leaves-behind}
 use Rattle.stateful_actor.specs.Faults.{tally}
 use Rattle.stateful_actor.proofs.Adding.{event_at, events-push, Steps-push}
+use Rattle.stateful_actor.proofs.Lawfully.{refused-outside}
 use Rattle.stateful_actor.proofs.Counts.{HasNotFallen-itself, HasNotFallen-further}
 use Rattle.stateful_actor.proofs.driving.drive.Goals as goal
 
@@ -79,6 +80,12 @@ returns-in-Err-clause-refused g c =
             _ _ _ _ was.history.items c.requires.new refl c.requires.none_away i.steps was.stateful.register i.registered c.in-Some.event
             (D.members c.enter.new.driven.databases)
             ((rw (i.store, i.provider) at c.in-Err.ensures.behind) lawful other up);
+        complete = λ other base few names honest.
+            let takes = g.met.A.Application.takes_turns in
+            refused-outside w g.met.A.Databases.DatabaseSet.laws (g.S.BlockStore.stored c.args.store.now) _ c.args.stateful.provider
+            (λ f states b n is. takes.runs f states b n is) (λ asked states n is. takes.builds asked states n is)
+            _ _ _ _ was.history.items c.requires.new refl c.requires.none_away i.steps was.stateful.register i.registered c.in-Some.event other
+            _ _ _ _ (rw (i.store, i.provider) at c.in-Err.ensures.cause) few base names honest;
       }),
     )
 

@@ -15,7 +15,8 @@ returns-in-Ok c =
     let stored = rw (c.as_slice-4.ensures.value, c.as_slice-5.ensures) at c.in_ok-store.ensures in
     let events = rw (c.as_slice-6.ensures.value, c.as_slice-7.ensures) at c.in_ok-events.ensures in
     let driven = c.in-Ok.driven in
-    let begins = begins_new _ _ _ (c.in_ok-stateful.ensures _ _) c.empty_database.ensures.empty c.empty_database.ensures.batches in
+    let begins = begins_new _ _ _ (c.in_ok-stateful.ensures _ _) (databases.Plain c.empty_database.result) c.empty_database.ensures.listed refl
+    c.empty_database.ensures.empty c.empty_database.ensures.batches in
     rw c.in_plain.ensures (carried c.args.script.now c.in_ok-planned.planned.items c.in_ok-labels.labels.items driven.history (machine.Plain driven.stateful) (databases.Plain driven.databases) None _ c.in_ok-events.events.items c.requires planned labelled stored events c.in-Ok.ensures.all (record {
       first = _;
       begins = begins;
@@ -32,7 +33,8 @@ returns c =
     let events = rw (c.as_slice-6.ensures.value, c.as_slice-7.ensures) at c.in_ok-events.ensures in
     let halt = c.in-Err.halt in
     let why = c.in-Err.ensures.refused in
-    let begins = begins_new _ _ _ (c.in_ok-stateful.ensures _ _) c.empty_database.ensures.empty c.empty_database.ensures.batches in
+    let begins = begins_new _ _ _ (c.in_ok-stateful.ensures _ _) (databases.Plain c.empty_database.result) c.empty_database.ensures.listed refl
+    c.empty_database.ensures.empty c.empty_database.ensures.batches in
     rw c.in_plain-in-Err.ensures (carried c.args.script.now c.in_ok-planned.planned.items c.in_ok-labels.labels.items halt.driven.history (machine.Plain halt.driven.stateful) (databases.Plain halt.driven.databases) (Some halt.halted) _ c.in_ok-events.events.items c.requires planned labelled stored events (c.in-Err.ensures.part, c.in-Err.ensures.at.1, λ e. false≢true (sym c.if-wants_memory.false ∙ c.wants_memory.ensures.1 e)) (record {
       first = _;
       begins = begins;

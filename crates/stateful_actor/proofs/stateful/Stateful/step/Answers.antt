@@ -13,6 +13,7 @@ use Rattle.stateful_whole.proofs.StepStands.{step-stands}
 use Rattle.stateful_whole.proofs.StillStands.{still-stands}
 use Rattle.stateful_actor.specs.Faults.{fault}
 use Rattle.stateful_actor.proofs.Arms.{refused_at_once}
+use Rattle.stateful_actor.proofs.Lawfully.{step-ahead, step-jobs, admit-lawful, cause-outside}
 use Rattle.stateful_actor.proofs.Reopening.{reopens-refused, reopens-done}
 use Rattle.stateful_actor.proofs.ResultsOfCalls.{on_err, if_err, in_ok, in_err, of_err, match_err}
 use Rattle.stateful_actor.proofs.stateful.Stateful.step.Goals as goal
@@ -210,3 +211,56 @@ pub returns-in-Err-clause-cause : goal.returns-in-Err-clause-cause
 returns-in-Err-clause-cause g c =
     rw (← c.self.view_is)
     (fault (λ p stands. c.in_ok-admit.ensures.yes p stands) (rw c.new-marks.ensures.items at (of_err _ _ _ c.in-Err.is c.act-acted.ensures.fault)))
+
+pub returns-clause-ahead : goal.returns-clause-ahead
+returns-clause-ahead g c =
+    let D = g.A.Databases.DatabaseSet in
+    let w = workings g.A.Block.Block.header g.A.Block.Block.context_of g.A.Context.Rounded.round_of g.A.Application.works D.kind D.shows in
+    let takes = g.met.A.Application.takes_turns in
+    rw (← c.self.view_is) (λ stored base p s stored_is names honest ahead.
+    step-ahead w g.met.A.Databases.DatabaseSet.laws stored (g.S.BlockStore.stored c.args.store.now) _ _
+    (λ f states b n is. takes.runs f states b n is) (λ asked states n is. takes.builds asked states n is)
+    base p stored_is c.args.event _ _ _ _ c.in_ok-admit.ensures.works s
+    (c.in_ok-admit.ensures.yes p s.registered) (rw c.new-marks.ensures.items at (in_ok _ _ c.in-Ok.is c.act-acted.ensures.ok))
+    names honest ahead)
+
+pub returns-clause-jobs : goal.returns-clause-jobs
+returns-clause-jobs g c =
+    let D = g.A.Databases.DatabaseSet in
+    let w = workings g.A.Block.Block.header g.A.Block.Block.context_of g.A.Context.Rounded.round_of g.A.Application.works D.kind D.shows in
+    let takes = g.met.A.Application.takes_turns in
+    rw (← c.self.view_is) (λ stored base p s stored_is names honest.
+    step-jobs w g.met.A.Databases.DatabaseSet.laws stored (g.S.BlockStore.stored c.args.store.now) _ _
+    (λ f states b n is. takes.runs f states b n is) (λ asked states n is. takes.builds asked states n is)
+    base p stored_is c.args.event _ _ _ _ c.in_ok-admit.ensures.works s
+    (c.in_ok-admit.ensures.yes p s.registered) (rw c.new-marks.ensures.items at (in_ok _ _ c.in-Ok.is c.act-acted.ensures.ok))
+    names honest)
+
+pub returns-in_err-admit-clause-complete : goal.returns-in_err-admit-clause-complete
+returns-in_err-admit-clause-complete g c =
+    let D = g.A.Databases.DatabaseSet in
+    let w = workings g.A.Block.Block.header g.A.Block.Block.context_of g.A.Context.Rounded.round_of g.A.Application.works D.kind D.shows in
+    rw (← c.self.view_is)
+    (converted _ c.from_residual.result c.in_err-admit.field-0.0 c.from_residual.ensures.1
+    (λ stored base p s stored_is honest ahead lawful working other few.
+    admit-lawful w stored base p _ _ _ _ working s lawful.lawful.may_come c.in_err-admit.field-0.0
+    c.in_err-admit.ensures.one c.in_err-admit.ensures.failed c.in_err-admit.ensures.unlawful))
+
+pub returns-in-Err-clause-complete : goal.returns-in-Err-clause-complete
+returns-in-Err-clause-complete g c =
+    let D = g.A.Databases.DatabaseSet in
+    let w = workings g.A.Block.Block.header g.A.Block.Block.context_of g.A.Context.Rounded.round_of g.A.Application.works D.kind D.shows in
+    let takes = g.met.A.Application.takes_turns in
+    let faulted = rw c.new-marks.ensures.items at (of_err _ _ _ c.in-Err.is c.act-acted.ensures.fault) in
+    rw (← c.self.view_is)
+    (λ stored base p s stored_is honest ahead lawful working other few.
+    cause-outside w g.met.A.Databases.DatabaseSet.laws stored (g.S.BlockStore.stored c.args.store.now) _ _
+    (λ f states b n is. takes.runs f states b n is) (λ asked states n is. takes.builds asked states n is)
+    few base p stored_is c.args.event other honest _ (s.at working) ahead lawful _ s.registered _ _ _ _
+    (fault (λ q stands. c.in_ok-admit.ensures.yes q stands) faulted))
+
+pub returns-in_err-record-clause-complete : goal.returns-in_err-record-clause-complete
+returns-in_err-record-clause-complete g c =
+    rw (← c.self.view_is)
+    (converted _ c.from_residual-in_err-record.result OutOfMemory c.from_residual-in_err-record.ensures.1
+    (λ stored base p s stored_is honest ahead lawful working other few. tt))

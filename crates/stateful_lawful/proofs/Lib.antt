@@ -1,0 +1,16 @@
+pub mod Finals
+pub mod LeadsUp
+pub mod Heads
+pub mod RulesLead
+pub mod IntakeLeads
+pub mod Rounds
+pub mod TopState
+pub mod AheadKept
+pub mod AheadTaken
+pub mod Serving
+pub mod RunsRefused
+pub mod BuildsRefused
+pub mod RulesRefused
+pub mod Completeness
+pub mod AheadSteps
+pub mod AheadHistory
