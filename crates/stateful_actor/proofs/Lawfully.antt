@@ -3,7 +3,7 @@ use Rattle.std.proofs.Common.{◌≡◌, ◌⊎◌, inl, inr, ◌<◌, ◌^◌, 
 use Rattle.stateful_types.specs.Causes.{Rose}
 use Rattle.stateful_types.specs.Names.{Named}
 use Rattle.stateful_db.specs.Laws.{Laws}
-use Rattle.stateful_history.specs.Live.{may_come}
+use Rattle.stateful_history.specs.Live.{may_come, names_live}
 use Rattle.stateful_history.specs.Met.{TrueNames}
 use Rattle.stateful_history.specs.Opening.{is_down, base_after}
 use Rattle.stateful_history.specs.Past.{Past, Came, after_entry, after_all}
@@ -77,6 +77,7 @@ module _ {B C I P R D H G U : Type 0} (w : Workings B C I P R D H G U) (laws : L
   names : TrueNames (setting w stored) p
   names x y mx my same = lawful.named x y (inr mx) (inr my) same
 
+  live : names_live w.kind.count p event ≡ true
   live = names_live-more (numbered w.kind.count) w.kind.count (numbered_le w.kind.count) p event
       (may_come-live (numbered w.kind.count) p event on lawful.lawful.may_come)
 

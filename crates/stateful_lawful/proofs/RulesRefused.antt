@@ -129,7 +129,8 @@ module _ {B C I P R D H G U : Type 0} (w : Workings B C I P R D H G U) (stored :
     rule-outside e (advancing {f = f} fin states via) = outside-via _ (λ fault k. move-outside f.block states fault k) e via
     rule-outside e (applying fin states f) = apply-outside fin.0.0 e f
     rule-outside e (covering fin front captured needed f) = barrier-outside m.loop.next_barrier e f
-    rule-outside e (observing fin front captured via) = outside-via _ (λ fault k. observe-outside w rose m.execution.state.next_job fault k) e via
+    rule-outside e (observing {f = f} {captured = read} fin front captured via) =
+        outside-via _ (λ fault k. observe-outside w rose f.block read m.members m.execution.state.next_job fault k) e via
     rule-outside e (ending fin front none via) = outside-via _ (λ fault k. resume-outside w rose stored_now (inner w m) (here fin.0.0) fault k) e via
     rule-outside e (beginning idle needed f) = barrier-outside m.loop.next_barrier e f
     rule-outside e (building {t = t} calm actions via) =

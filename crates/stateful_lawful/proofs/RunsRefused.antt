@@ -120,7 +120,7 @@ module _ {B C I P R D H G U : Type 0} (w : Workings B C I P R D H G U) (stored :
     -- what the last turn of its run says
     abbrev EndsAs : (b : Named B) (run turned : R) → IsRunFinal w stored p point next b j run → Option U → Option w.States → Type 0
     EndsAs b run turned own o leads = Ends (Done o) leads (λ batch u. w.shows batch ((own.own, u) ∷ point ∷ []))
-        (w.works.runs turned (run_of finality.Finalized own.context (record { first = b; rest = [] }) own.own point []) (turns j p + 1))
+        (w.works.runs turned (run_of finality.Finalized (w.context_of b.block) (record { first = b; rest = [] }) own.own point []) (turns j p + 1))
 
     final_ended : (b : Named B) (run turned : R) (own : IsRunFinal w stored p point next b j run) (after : w.States) → Matches (setting w stored) point.1 b after
         → (o : Option U) → EndsAs b run turned own o (Some after) → (e : ExecError) → FaultsFinal w b o e → IsOutsideOf e
@@ -140,7 +140,7 @@ module _ {B C I P R D H G U : Type 0} (w : Workings B C I P R D H G U) (stored :
         let own = at_stage.1 in
         let ends : EndsAs b run turned own ended (Some after) =
         subst (λ (leads : Option w.States). EndsAs b run turned own ended leads) matches.step
-        (t.ends (run_of finality.Finalized own.context (record { first = b; rest = [] }) own.own point []) (turns j p) point own.runs located (inl refl)) in
+        (t.ends (run_of finality.Finalized (w.context_of b.block) (record { first = b; rest = [] }) own.own point []) (turns j p) point own.runs located (inl refl)) in
         final_ended b run turned own after matches ended ends e h
 
     pub final-outside : ((b : Named B) (run : R) → front ≡ front_at b (Running j run) → MatchesAt b) → (e : ExecError)

@@ -89,10 +89,11 @@ module _ {B C I P R D H G U : Type 0} (w : Workings B C I P R D H G U) where
   propose-outside rose t m next old here e (building.starting ready start) = start-outside rose old.next_job m next here e start
 
   -- a hook
-  pub observe-outside : (rose : Type 0) (next_job : ℕ) (e : ExecError) → FaultsObserve w rose next_job e → IsOutsideOf e
-  observe-outside rose next_job e (final.memory is) = outside-is e exec_error.OutOfMemory is tt
-  observe-outside rose next_job e (final.failed is risen) = outside-is e exec_error.Application is tt
-  observe-outside rose next_job e (final.no_job is last) = outside-is e exec_error.Exhausted is tt
+  pub observe-outside : (rose : Type 0) (b : Named B) (captured : G) (m : w.kind.Members) (next_job : ℕ) (e : ExecError)
+      → FaultsObserve w rose b captured m next_job e → IsOutsideOf e
+  observe-outside rose b captured m next_job e (final.memory is) = outside-is e exec_error.OutOfMemory is tt
+  observe-outside rose b captured m next_job e (final.failed is risen) = outside-is e exec_error.Application is tt
+  observe-outside rose b captured m next_job e (final.no_job is left last) = outside-is e exec_error.Exhausted is tt
 
   -- an answer of a fetch
   pub fetched-outside : (rose : Type 0) (stored : ℕ → Option (Named B)) (m : exec.Moment w) (f : ℕ) (answer : Option (Named B)) → AreHere m.members
