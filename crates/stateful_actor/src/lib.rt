@@ -17,5 +17,13 @@ mod stopping;
 
 pub use driving::{Driven, Halt, Halted, drive};
 pub use stateful::{Config, NewError, Stateful};
+pub use stateful_db::{
+    AppFault, Application, DatabaseSet, Held, Hooked, Input, ManagedDb, Merkleized, ProposedBlock,
+    Unmerkleized,
+};
 pub use stateful_history::{Decision, Entry, Event, How, JobKind, Mark};
 pub use stateful_processing::StepError;
+pub use stateful_types::{
+    Ancestry, Block, BlockStore, Digest, Digested, Faulty, Finality, Height, MemoryStore, Moved,
+    OutOfMemory, Round, Rounded, Target,
+};
