@@ -1,12 +1,11 @@
 -- chains of compact batches
-use Rattle.std.proofs.Common.{◌≡◌, ℕ, ◌+◌, ◌-◌, ◌^◌, ◌<◌, ◌==◌, ◌||◌, Bool, true, false, List, [], ◌∷◌, ◌++◌, length, min, None, refl, sym, ap, ◌∙◌, subst, arith}
+use Rattle.std.proofs.Common.{◌≡◌, ℕ, ◌^◌, ◌<◌, ◌==◌, ◌||◌, List, [], ◌∷◌, ◌++◌, None, refl, sym, ap, ◌∙◌, subst, arith}
 use Rattle.stateful_db.specs.Chain.{has_id}
 use Rattle.stateful_overlay.specs.Stack.{Stack, has_layer, cut_at}
 use Rattle.stateful_overlay.specs.Chains.{Stands, has_id-layers, stands-cut}
-use Rattle.stateful_log.specs.ChainedLaws.{chained-append}
 use Rattle.stateful_keyless.specs.declared.compact.batch.KeylessUnjournaledUnmerkleized.{KeylessUnjournaledUnmerkleized}
 use Rattle.stateful_keyless.specs.declared.compact.batch.KeylessUnjournaledMerkleized.{KeylessUnjournaledMerkleized}
-use Rattle.stateful_keyless.specs.Ops.{Changes, unchanged, append_bytes}
+use Rattle.stateful_keyless.specs.Ops.{unchanged}
 use Rattle.stateful_keyless.specs.Compacted.{State, size_of, begun}
 use Rattle.stateful_keyless.specs.CompactShown.{Unread, Holds, DraftShows, SealShows}
 

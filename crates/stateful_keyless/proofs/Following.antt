@@ -1,5 +1,5 @@
 -- a compact database follows the keyless one
-use Rattle.std.proofs.Common.{◌≡◌, ℕ, ◌+◌, List, length, max, min, refl, sym, ap, ◌∙◌, arith}
+use Rattle.std.proofs.Common.{◌≡◌, ℕ, ◌+◌, List, length, refl, sym, ap, ◌∙◌, arith}
 use Rattle.stateful_types.specs.declared.digest.Digest.{Digest}
 use Rattle.stateful_log.specs.Chained.{linked, chained}
 use Rattle.stateful_keyless.specs.Ops.{Changes, raised, append_bytes, commit_bytes}

@@ -3,20 +3,18 @@ use Rattle.std.proofs.Common.{◌≡◌, ◌≢◌, inl, inr, true, false, Optio
 use Rattle.stateful_db.specs.Chain.{has_id, IsPoint}
 use Rattle.stateful_types.specs.declared.number.Location.{Location}
 use Rattle.stateful_types.specs.declared.digest.Digest.{Digest}
-use Rattle.stateful_types.specs.declared.target.Target.{Target}
-use Rattle.stateful_overlay.specs.Stack.{Stack, has_layer, above, cut_at}
+use Rattle.stateful_overlay.specs.Stack.{has_layer, above, cut_at}
 use Rattle.stateful_overlay.specs.Chains.{Stands, Leads, has_id-layers, leads-above, stands-cut}
 use Rattle.stateful_medium.specs.Mapped.{length-mapped}
 use Rattle.stateful_log.specs.Chained.{linked, chained}
 use Rattle.stateful_log.specs.ChainedLaws.{chained-append}
 use Rattle.stateful_log.specs.Logs.{extended}
-use Rattle.stateful_keyless.specs.declared.op.KeylessOp.{KeylessOp}
 use Rattle.stateful_keyless.specs.declared.op.KeylessOp.TheVariants.{Commit, Append}
 use Rattle.stateful_keyless.specs.declared.keyless.batch.KeylessChanges.{KeylessChanges}
 use Rattle.stateful_keyless.specs.declared.keyless.batch.KeylessUnmerkleized.{KeylessUnmerkleized}
 use Rattle.stateful_keyless.specs.declared.keyless.batch.KeylessMerkleized.{KeylessMerkleized}
 use Rattle.stateful_keyless.specs.Ops.{Changes, unchanged, raised, append_bytes, commit_bytes}
-use Rattle.stateful_keyless.specs.Keyless.{State, size_of, ops_of, op_bytes, sealed, begun}
+use Rattle.stateful_keyless.specs.Keyless.{State, size_of, ops_of, op_bytes, begun}
 use Rattle.stateful_keyless.specs.KeylessShown.{After, Holds, DraftShows, SealShows}
 use Rattle.stateful_keyless.specs.Reads.{log_of, log_behind, log_over, read_as, value_at}
 use Rattle.stateful_keyless.proofs.Reading.{kept_from}

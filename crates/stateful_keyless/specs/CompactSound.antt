@@ -1,5 +1,5 @@
 -- The checkpoints of compact media are in order.
-use Rattle.std.proofs.Common.{ℕ, arith}
+use Rattle.std.proofs.Common.{arith}
 use Rattle.stateful_db.specs.Disk.{Disk, IsSound}
 use Rattle.stateful_db.specs.Targeted.{compact_target}
 use Rattle.stateful_medium.specs.Ranged.{range_of}

@@ -1,5 +1,5 @@
 -- What a compact database keeps of a checkpoint, and what a batch makes of it.
-use Rattle.std.specs.Prelude.{ℕ, ◌+◌, ◌-◌, List, [], Option, Some, None, length}
+use Rattle.std.specs.Prelude.{ℕ, ◌+◌, ◌-◌, List, Option, None, length}
 use Rattle.stateful_types.specs.declared.digest.Digest.{Digest}
 use Rattle.stateful_types.specs.declared.target.CompactTarget.{CompactTarget}
 use Rattle.stateful_medium.specs.declared.checkpoints.Checkpoint.{Checkpoint}

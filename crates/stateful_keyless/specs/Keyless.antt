@@ -1,5 +1,5 @@
 -- The states of a keyless log, and what a batch makes of them.
-use Rattle.std.specs.Prelude.{ℕ, ◌+◌, List, [], ◌∷◌, ◌++◌, Option, Some, None, length, map}
+use Rattle.std.specs.Prelude.{ℕ, ◌+◌, List, [], ◌∷◌, ◌++◌, None, length, map}
 use Rattle.stateful_types.specs.declared.target.Target.{Target}
 use Rattle.stateful_medium.specs.declared.checkpoints.Checkpoint.{Checkpoint}
 use Rattle.stateful_log.specs.Chained.{chained, unlinked}

@@ -1,5 +1,5 @@
 -- The checkpoints of keyless media are in order.
-use Rattle.std.specs.Prelude.{ℕ, ◌<◌}
+use Rattle.std.specs.Prelude.{◌<◌}
 use Rattle.stateful_db.specs.Disk.{IsSound}
 use Rattle.stateful_log.specs.LogSound as logs
 use Rattle.stateful_keyless.specs.declared.keyless.medium.KeylessMedium.{KeylessMedium}

@@ -1,5 +1,5 @@
 -- Operations of a keyless log in bytes, and the changes of a batch.
-use Rattle.std.specs.Prelude.{ℕ, ◌+◌, List, [], ◌∷◌, ◌++◌, Option, Some, None, max, min, length}
+use Rattle.std.specs.Prelude.{ℕ, List, [], ◌∷◌, ◌++◌, Option, Some, None, max, min}
 use Rattle.std.specs.Int.{w64, to_be_bytes}
 
 -- a commit: its metadata, where there is some, and the floor

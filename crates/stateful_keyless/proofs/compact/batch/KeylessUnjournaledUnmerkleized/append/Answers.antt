@@ -1,4 +1,4 @@
-use Rattle.std.proofs.Common.{◌≡◌, ◌∷◌, [], ap, sym, ◌∙◌, arith, length-append}
+use Rattle.std.proofs.Common.{◌∷◌, [], ap, sym, ◌∙◌, arith, length-append}
 use Rattle.stateful_log.specs.ChainedLaws.{chained-append}
 use Rattle.stateful_log.specs.Chained.{linked}
 use Rattle.stateful_keyless.specs.Ops.{append_bytes}

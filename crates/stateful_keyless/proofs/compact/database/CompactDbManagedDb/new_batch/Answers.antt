@@ -1,6 +1,5 @@
-use Rattle.std.proofs.Common.{◌≡◌, ◌<◌, [], ◌∷◌, None, refl, ap, subst, ◌∙◌, arith}
+use Rattle.std.proofs.Common.{◌<◌, [], ◌∷◌, None, refl, ap, subst, ◌∙◌, arith}
 use Rattle.stateful_db.specs.Disk.{point}
-use Rattle.stateful_overlay.specs.Stack.{Stack}
 use Rattle.stateful_keyless.specs.declared.compact.batch.KeylessUnjournaledUnmerkleized.{KeylessUnjournaledUnmerkleized}
 use Rattle.stateful_keyless.specs.declared.compact.database.CompactDb.{CompactDb}
 use Rattle.stateful_keyless.specs.Compacted.{size_of, begun}

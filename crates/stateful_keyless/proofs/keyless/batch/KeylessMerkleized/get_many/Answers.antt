@@ -1,6 +1,5 @@
-use Rattle.std.proofs.Common.{◌≡◌, ◌++◌, ◌∷◌, [], map, ap, ◌∙◌}
+use Rattle.std.proofs.Common.{◌∙◌}
 use Rattle.std.proofs.lemmas.Option.{slice_get-get_or}
-use Rattle.std.proofs.lemmas.List.{take_all}
 use Rattle.stateful_keyless.specs.Reads.{log_of, value_at}
 use Rattle.stateful_keyless.proofs.Locations.{each_low, next_value}
 use Rattle.stateful_keyless.proofs.keyless.batch.KeylessMerkleized.get_many.Goals as goal

@@ -1,4 +1,4 @@
-use Rattle.std.proofs.Common.{◌≡◌, ℕ, ◌∷◌, ap, refl, sym, subst, ◌∙◌, rules}
+use Rattle.std.proofs.Common.{◌∷◌, ap, refl, sym, subst, ◌∙◌, rules}
 use Rattle.stateful_overlay.specs.Stack.{Stack}
 use Rattle.stateful_overlay.specs.Chains.{Stands}
 use Rattle.stateful_keyless.specs.declared.keyless.batch.KeylessChanges.{KeylessChanges}

@@ -1,4 +1,4 @@
-use Rattle.std.proofs.Common.{◌≡◌, ◌++◌, ◌∷◌, [], map, ap, sym, ◌∙◌}
+use Rattle.std.proofs.Common.{◌++◌, ◌∷◌, [], ap, sym, ◌∙◌}
 use Rattle.stateful_log.specs.ChainedLaws.{chained-append}
 use Rattle.stateful_log.specs.Chained.{linked}
 use Rattle.stateful_medium.specs.Mapped.{map-append_one}

@@ -1,4 +1,4 @@
-use Rattle.std.proofs.Common.{◌≡◌, ap, refl, sym, ◌∙◌, arith}
+use Rattle.std.proofs.Common.{ap, ◌∙◌, arith}
 use Rattle.stateful_keyless.proofs.KeylessChains.{seals}
 use Rattle.stateful_keyless.proofs.keyless.batch.KeylessUnmerkleized.seal.Goals as goal
 

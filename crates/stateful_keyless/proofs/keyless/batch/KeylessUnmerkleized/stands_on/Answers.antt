@@ -1,4 +1,4 @@
-use Rattle.std.proofs.Common.{◌≡◌, ◌==◌, false, arith, sym, ◌∙◌}
+use Rattle.std.proofs.Common.{◌≡◌, ◌==◌, false, arith, sym}
 use Rattle.std.proofs.lemmas.Bool.Decides.{nat_tests}
 use Rattle.stateful_keyless.proofs.KeylessChains.{draft_has}
 use Rattle.stateful_keyless.proofs.keyless.batch.KeylessUnmerkleized.stands_on.Goals as goal

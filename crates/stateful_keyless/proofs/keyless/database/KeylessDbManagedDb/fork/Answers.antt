@@ -1,6 +1,6 @@
 use Rattle.std.proofs.Common.{◌≡◌, ℕ, ◌<◌, ◌∷◌, ◌++◌, ap, sym, subst, ◌∙◌}
 use Rattle.stateful_db.specs.Disk.{point}
-use Rattle.stateful_overlay.specs.Stack.{Stack, cut_at}
+use Rattle.stateful_overlay.specs.Stack.{cut_at}
 use Rattle.stateful_keyless.specs.declared.keyless.database.KeylessDb.{KeylessDb}
 use Rattle.stateful_keyless.specs.Keyless.{begun}
 use Rattle.stateful_keyless.specs.KeylessShown.{DraftShows}

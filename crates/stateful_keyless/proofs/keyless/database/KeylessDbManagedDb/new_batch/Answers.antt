@@ -1,4 +1,4 @@
-use Rattle.std.proofs.Common.{◌≡◌, ◌<◌, [], ◌∷◌, None, refl, ap, sym, subst, ◌∙◌, rules}
+use Rattle.std.proofs.Common.{◌<◌, [], ◌∷◌, None, refl, ap, sym, subst, ◌∙◌, rules}
 use Rattle.stateful_db.specs.Disk.{point}
 use Rattle.stateful_overlay.specs.Stack.{Stack}
 use Rattle.stateful_overlay.specs.Chains.{Stands}
