@@ -22,8 +22,16 @@ pub use stateful_db::{
     Unmerkleized,
 };
 pub use stateful_history::{Decision, Entry, Event, How, JobKind, Mark};
+pub use stateful_mailbox::{Reply, Stopped};
 pub use stateful_processing::StepError;
 pub use stateful_types::{
     Ancestry, Block, BlockStore, Digest, Digested, Faulty, Finality, Height, MemoryStore, Moved,
     OutOfMemory, Round, Rounded, Target,
 };
+
+/// The mailbox of a machine: what a consensus engine asks, and what became of it.
+pub type Mailbox<A> = stateful_mailbox::Mailbox<
+    <A as Application>::Block,
+    <A as Application>::Context,
+    <A as Application>::Input,
+>;
