@@ -4,7 +4,7 @@ ghost use Rattle.std.specs.Prelude.{◌≡◌, [], ℕ, Option, IfOk};
 ghost use Rattle.stateful_types.specs.Names.{Named};
 ghost use Rattle.stateful_processing.specs.Moments.{moment};
 ghost use Rattle.stateful_lawful.specs.Ahead.{IsAheadLawfully};
-ghost use Rattle.stateful_whole.specs.Machine.{IsNew};
+ghost use Rattle.stateful_whole.specs.Machine.{IsNew, IsSafe};
 ghost use Rattle.stateful_whole.specs.Media.{IsAsAtStart, MediaStand};
 
 use stateful_db::{Application, DatabaseSet};
@@ -76,10 +76,15 @@ const NOWHERE: Anchor = Anchor {
 };
 
 impl<A: Application + Drop> Stateful<A> {
-    /// A machine that is down, of this configuration. Media that are as at the start stand for the empty past beside it.
+    /// A machine that is down, of this configuration. `step` may be called beside any databases of which none is away. Media
+    /// that are as at the start stand for the empty past beside it.
     pub fn new(alloc: Global, config: Config<A>) -> Result<Stateful<A>, NewError>
         ensures new { IfOk result (λ s. (m : A.Databases.kind.Members) (n : A.Databases.Ids)
             → IsNew ⟦<A as Worked>⟧.workings s.failed s.register
+            (moment ⟦<A as Worked>⟧.workings s.execution s.loop m n [])) }
+        ensures safe { IfOk result (λ s. (m : A.Databases.kind.Members) (n : A.Databases.Ids)
+            → A.Databases.kind.NoneAway m
+            → IsSafe ⟦<A as Worked>⟧.workings s.failed
             (moment ⟦<A as Worked>⟧.workings s.execution s.loop m n [])) }
         ensures media { IfOk result (λ s. let w = ⟦<A as Worked>⟧.workings in
             (stored : ℕ → Option (Named A.Block))
