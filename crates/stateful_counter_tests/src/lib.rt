@@ -1,5 +1,0 @@
-//! The counter in the machine, told as events and marks. It has tests alone: the counter itself needs no machine.
-#![tactic(auto)]
-
-#[cfg(test)]
-mod tests;
