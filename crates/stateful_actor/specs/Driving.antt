@@ -22,24 +22,28 @@ use Rattle.stateful_whole.specs.StepBehind.{EachStands}
 use Rattle.stateful_lawful.specs.Completeness.{ComesLawfully}
 use Rattle.stateful_lawful.specs.Outside.{IsOutside}
 
-module _ {B C I P R D H G U : Type 0} (w : Workings B C I P R D H G U) (stored : ℕ → Option (Named B))
+module _ {B C I P R D H G U : Type 0} (w : Workings B C I P R D H G U)
+    (stored : ℕ → Option (Named B))
     (provider : P) (counts : Counts R D H) where
-  -- Where the event is lawful, and each since the last restart was, it was refused for a reason outside of the machine: over
-  -- the states on which the history is based at last, of fewer than 2^64 databases.
+  -- Where the event is lawful, and each since the last restart was, it was refused for a reason
+  -- outside of the machine: over the states on which the history is based at last, of fewer than
+  -- 2^64 databases.
   abbrev pub RefusesLawful : List (Entry B C I) → Event B C I → StepError → Moment w → Type 0
   RefusesLawful history event e old = (base : w.States)
       → w.kind.count < 2 ^ 64
       → TrueNames (setting w stored) (after_all [] history)
       → HasHonestStore w.header stored (Came event ∷ after_all [] history)
       → EachStands w stored
-      (λ last. ComesLawfully w stored last (after_all [] history) stored counts old event → IsOutside e)
+      (λ last. ComesLawfully w stored last (after_all [] history) stored counts old event
+      → IsOutside e)
       base [] history
 
   -- The event that was refused behind a history, and why: the machine before it, to which the
-  -- entries led from the first moment on, and the cause that it had. Counts have not fallen since the
-  -- start. And what it left of the databases, unless it may not come, is a restart, or the machine was
-  -- down. A lawful event that is no restart has its reason outside.
-  pub record IsRefused (first : Moment w) (history : List (Entry B C I)) (event : Event B C I) (e : StepError)
+  -- entries led from the first moment on, and the cause that it had. Counts have not fallen since
+  -- the start. And what it left of the databases, unless it may not come, is a restart, or the
+  -- machine was down. A lawful event that is no restart has its reason outside.
+  pub record IsRefused (first : Moment w) (history : List (Entry B C I)) (event : Event B C I)
+      (e : StepError)
       (m : w.kind.Members) (start «end» : Tally) : Type 0 where
     pub register : Register
     pub old : Moment w

@@ -16,7 +16,8 @@ use Rattle.stateful_processing.specs.Moments.{Moment}
 use Rattle.stateful_processing.specs.Opening.{FaultsOpening}
 use Rattle.stateful_processing.specs.Rules.{Along}
 use Rattle.stateful_processing.specs.declared.error.StepError.{StepError}
-use Rattle.stateful_processing.specs.declared.error.StepError.TheVariants.{BadEvent, Failed, OutOfMemory}
+use Rattle.stateful_processing.specs.declared.error.StepError.TheVariants.{BadEvent, Failed}
+use Rattle.stateful_processing.specs.declared.error.StepError.TheVariants.{OutOfMemory}
 use Rattle.stateful_whole.specs.Machine.{numbered, is_restart}
 
 -- how often the application has failed, and the database of each number
@@ -32,9 +33,11 @@ pub record HasNotFallen (before now : Tally) : Type 0 where
   pub application : before.application ≤ now.application
   pub databases : (i : ℕ) → before.databases i ≤ now.databases i
 
-module _ {B C I P R D H G U : Type 0} (w : Workings B C I P R D H G U) (stored : ℕ → Option (Named B))
+module _ {B C I P R D H G U : Type 0} (w : Workings B C I P R D H G U)
+    (stored : ℕ → Option (Named B))
     (provider : P) where
-  -- Rules went, one after another, and the next one that could go didn't: no count had fallen before it.
+  -- Rules went, one after another, and the next one that could go didn't: no count had fallen
+  -- before it.
   pub record FaultsSettling (start «end» : Tally) (new : w.kind.Members) (m : Moment w)
       (e : StepError) : Type 0 where
     pub reached : Moment w
@@ -44,8 +47,10 @@ module _ {B C I P R D H G U : Type 0} (w : Workings B C I P R D H G U) (stored :
     pub fault : FaultsRule w stored
         (Rose before.application «end».application) before.databases «end».databases new reached e
 
-  -- The event wasn't taken in; or it was, and then something that could go on didn't; or memory ran out.
-  pub data FaultsPlay (counts : Counts R D H) (start «end» : Tally) (new : w.kind.Members) (m : Moment w)
+  -- The event wasn't taken in; or it was, and then something that could go on didn't; or memory ran
+  -- out.
+  pub data FaultsPlay (counts : Counts R D H) (start «end» : Tally) (new : w.kind.Members)
+      (m : Moment w)
       (event : Event B C I) (e : StepError) : Type 0 where
     memory : e ≡ OutOfMemory → FaultsPlay counts start «end» new m event e
     taking : FaultsIntake w stored counts
@@ -56,21 +61,29 @@ module _ {B C I P R D H G U : Type 0} (w : Workings B C I P R D H G U) (stored :
         → FaultsSettling between «end» new taken e → FaultsPlay counts start «end» new m event e
 
   -- why what an event does isn't done
-  abbrev pub FaultsStep : Counts R D H → (start «end» : Tally) → w.kind.Members → Moment w → Event B C I
+  abbrev pub FaultsStep : Counts R D H
+      → (start «end» : Tally)
+      → w.kind.Members
+      → Moment w
+      → Event B C I
       → StepError → Type 0
   FaultsStep counts start «end» new m (Restart floor keep) e =
       FaultsOpening w stored floor keep start.databases «end».databases m.members new e
   FaultsStep counts start «end» new m event e = FaultsPlay counts start «end» new m event e
 
-  -- An event is refused where memory ran out; where the machine has failed and the event isn't a restart; where the event may
-  -- not come; and where it may come, and what it does isn't done.
-  pub data IsCause (counts : Counts R D H) (failed : Bool) (register : Register) (event : Event B C I)
+  -- An event is refused where memory ran out; where the machine has failed and the event isn't a
+  -- restart; where the event may not come; and where it may come, and what it does isn't done.
+  pub data IsCause (counts : Counts R D H) (failed : Bool) (register : Register)
+      (event : Event B C I)
       (start «end» : Tally) (new : w.kind.Members) (m : Moment w) (e : StepError) : Type 0 where
     memory : e ≡ OutOfMemory → IsCause counts failed register event start «end» new m e
     failed_before : e ≡ Failed → failed ≡ true → is_restart event ≡ false
         → IsCause counts failed register event start «end» new m e
     unlawful : e ≡ BadEvent
-        → ((p : Past B C I) → RegisterStands (numbered w.kind.count) p register → m.loop.up ≡ not (is_down p)
+        →
+        ((p : Past B C I)
+        → RegisterStands (numbered w.kind.count) p register
+        → m.loop.up ≡ not (is_down p)
         → may_come (numbered w.kind.count) p event ≡ false)
         → IsCause counts failed register event start «end» new m e
     fault : ((p : Past B C I) → RegisterStands (numbered w.kind.count) p register

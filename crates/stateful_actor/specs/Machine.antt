@@ -4,9 +4,9 @@ use Rattle.stateful_register.specs.declared.register.Register.{Register}
 use Rattle.stateful_processing.specs.declared.error.StepError.{StepError}
 use Rattle.stateful_processing.specs.declared.error.StepError.TheVariants.{Application}
 
--- an application, what is kept of execution and of the loop, the register of live work, what builds are given, how databases
--- are opened, whether the machine has answered an error since its last start, and in how many events the application or a job
--- failed
+-- an application, what is kept of execution and of the loop, the register of live work, what builds
+-- are given, how databases are opened, whether the machine has answered an error since its last
+-- start, and in how many events the application or a job failed
 pub record Machine (A E L P K : Type 0) : Type 0 where
   pub application : A
   pub execution : E

@@ -1,6 +1,7 @@
 //! A whole list of events.
 
-ghost use Rattle.std.specs.Prelude.{◌≡◌, ◌<◌, ◌≤◌, ◌++◌, ◌∷◌, [], ℕ, List, Option, true, false, IfOk, IfErr, OnOk, OnErr, IsErrOf, length, map, take};
+ghost use Rattle.std.specs.Prelude.{◌≡◌, ◌<◌, ◌≤◌, ◌++◌, ◌∷◌, [], ℕ, List, Option, true, false};
+ghost use Rattle.std.specs.Prelude.{IfOk, IfErr, OnOk, OnErr, IsErrOf, length, map, take};
 ghost use Rattle.stateful_history.specs.Met.{TrueNames};
 ghost use Rattle.stateful_history.specs.Past.{Past, after_all};
 ghost use Rattle.stateful_history.specs.declared.event.Event.{Event as Happening};
@@ -127,7 +128,8 @@ fn enter<A: Application + Drop, S: BlockStore<A::Block>>(
     Ok(())
 }
 
-/// Steps through all events, up to the first that is refused. The machine is new, and no database is away.
+/// Steps through all events, up to the first that is refused. The machine is new, and no database
+/// is away.
 pub fn drive<A: Application + Drop, S: BlockStore<A::Block>>(
     alloc: Global,
     stateful: Stateful<A>,
@@ -158,9 +160,10 @@ pub fn drive<A: Application + Drop, S: BlockStore<A::Block>>(
         (moment w driven.stateful.execution driven.stateful.loop
         (A.Databases.members driven.databases) (A.Databases.next driven.databases) [])) }
 
-    // Where names are true and the store is honest each entry keeps the rules, and at the end the machine stands for the
-    // history, and the databases hold what was applied. Behind a refusal it still stands for the events before, in what a
-    // restart needs; and behind BadEvent it hasn't failed.
+    // Where names are true and the store is honest each entry keeps the rules, and at the end the
+    // machine stands for the history, and the databases hold what was applied. Behind a refusal it
+    // still stands for the events before, in what a restart needs; and behind BadEvent it hasn't
+    // failed.
     ensures stands { IfOk result (λ driven. let w = ⟦<A as Worked>⟧.workings in
         (base : A.Databases.States)
         → TrueNames (setting w (S.stored store.old)) (after_all [] driven.history.items)
@@ -174,7 +177,8 @@ pub fn drive<A: Application + Drop, S: BlockStore<A::Block>>(
     ensures still_stands { IfErr result (λ halt. let w = ⟦<A as Worked>⟧.workings in
         (base : A.Databases.States)
         → TrueNames (setting w (S.stored store.old)) (after_all [] halt.driven.history.items)
-        → HasHonestStore A.Block.header (S.stored store.old) (after_all [] halt.driven.history.items)
+        → HasHonestStore A.Block.header (S.stored store.old)
+        (after_all [] halt.driven.history.items)
         → EachStands w (S.stored store.old)
         (λ last. StandsAndHolds w (S.stored store.old) last
         (after_all [] halt.driven.history.items)
@@ -183,7 +187,8 @@ pub fn drive<A: Application + Drop, S: BlockStore<A::Block>>(
         (A.Databases.members halt.driven.databases) (A.Databases.next halt.driven.databases) []))
         base [] halt.driven.history.items) }
 
-    // The machine works at the end, and its register stands for the history; it may be called again with these databases.
+    // The machine works at the end, and its register stands for the history; it may be called again
+    // with these databases.
     ensures works { IfOk result (λ driven. driven.stateful.failed ≡ false) }
     ensures registered { IfOk result (λ driven. RegisterStands (numbered A.Databases.kind.count)
         (after_all [] driven.history.items) driven.stateful.register) }

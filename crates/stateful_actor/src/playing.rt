@@ -86,7 +86,8 @@ pub(crate) fn play<A: Application + Drop, S: BlockStore<A::Block>>(
         (A.Databases.members databases.old) (A.Databases.next databases.old) marks.old.items) }
     ensures ok { OnOk result (let w = ⟦<A as Worked>⟧.workings in
         Plays w (S.stored store.now) provider
-        (record { run = A.Run.count; build = A.Build.count; hook = A.Hook.count }) register.now event.now
+        (record { run = A.Run.count; build = A.Build.count; hook = A.Hook.count }) register.now
+        event.now
         (moment w (executing handler.old) processing.old
         (A.Databases.members databases.old) (A.Databases.next databases.old) marks.old.items)
         (moment w (executing handler.new) processing.new

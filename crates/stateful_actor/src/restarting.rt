@@ -16,7 +16,8 @@ use stateful_processing::{ProcessingOf, StepError, clear, open};
 use stateful_register::Register;
 use stateful_types::{BlockStore, Floor};
 
-/// Ends all that is live, drops what goes on, and opens the databases on what a crash has left of them.
+/// Ends all that is live, drops what goes on, and opens the databases on what a crash has left of
+/// them.
 pub(crate) fn restart<A: Application + Drop, S: BlockStore<A::Block>>(
     config: &<A::Databases as DatabaseSet>::Config,
     handler: &mut Handler<A>,

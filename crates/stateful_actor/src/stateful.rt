@@ -16,7 +16,8 @@ use std::alloc::Global;
 use std::marker::Model;
 use thiserror::Error;
 
-/// What a machine is made of: the application, how its databases are opened, and what its builds are given.
+/// What a machine is made of: the application, how its databases are opened, and what its builds
+/// are given.
 #[derive(Drop)]
 pub struct Config<A: Application + Drop> {
     pub application: A,
@@ -58,14 +59,30 @@ impl<A: Application + Drop> Model for Stateful<A> {
     ghost use Rattle.stateful_processing.specs.Moments.{Executing, executing};
     ghost use Rattle.stateful_processing.specs.declared.tables.Processing.{Processing};
 
-    ghost Value = { Machine A (Executing A.Block A.Context A.Input A.Run A.Build A.Hook A.Databases.Merkleized) (Processing A.Block A.Context A.Input A.Captured) A.Provider A.Databases.Config };
+    ghost Value = { Machine A (Executing A.Block A.Context A.Input A.Run A.Build A.Hook A.Databases.Merkleized)
+        (Processing A.Block A.Context A.Input A.Captured) A.Provider A.Databases.Config };
 
     ghost coded = { Prim.hlevel (codes, btree_map_code) };
 
-    ghost view = { λ s. record { application = s.handler.application; execution = executing s.handler; loop = s.processing; register = s.register; provider = s.provider; config = s.db_config; failed = s.failed; faults = s.faults } };
+    ghost view = { λ s. record {
+      application =
+          s.handler.application;
+      execution =
+          executing s.handler;
+      loop =
+          s.processing;
+      register =
+          s.register;
+      provider =
+          s.provider;
+      config = s.db_config;
+      failed = s.failed;
+      faults = s.faults;
+    } };
 }
 
-/// The anchor of a machine that has opened nothing yet. Nothing is read off it while the machine is down.
+/// The anchor of a machine that has opened nothing yet. Nothing is read off it while the machine is
+/// down.
 const NOWHERE: Anchor = Anchor {
     height: Height(0),
     round: Round {
@@ -76,8 +93,8 @@ const NOWHERE: Anchor = Anchor {
 };
 
 impl<A: Application + Drop> Stateful<A> {
-    /// A machine that is down, of this configuration. `step` may be called beside any databases of which none is away. Media
-    /// that are as at the start stand for the empty past beside it.
+    /// A machine that is down, of this configuration. `step` may be called beside any databases of
+    /// which none is away. Media that are as at the start stand for the empty past beside it.
     pub fn new(alloc: Global, config: Config<A>) -> Result<Stateful<A>, NewError>
         ensures new { IfOk result (λ s. (m : A.Databases.kind.Members) (n : A.Databases.Ids)
             → IsNew ⟦<A as Worked>⟧.workings s.failed s.register
@@ -120,7 +137,8 @@ impl<A: Application + Drop> Stateful<A> {
         })
     }
 
-    /// In how many events the application, a run, a build or a hook has failed. It stays at the last number.
+    /// In how many events the application, a run, a build or a hook has failed. It stays at the
+    /// last number.
     pub fn faults(&self) -> u64
         ensures { result ≡ self.now.faults }
     {

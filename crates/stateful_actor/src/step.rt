@@ -1,6 +1,7 @@
 //! One event.
 
-ghost use Rattle.std.specs.Prelude.{◌≡◌, ◌≤◌, ◌<◌, ◌^◌, ◌⊎◌, ◌∷◌, [], ℕ, List, Option, Some, true, false, not, MatchResult, IfOk, IfErr, OnOk, OnErr, IsErrOf};
+ghost use Rattle.std.specs.Prelude.{◌≡◌, ◌≤◌, ◌<◌, ◌^◌, ◌⊎◌, ◌∷◌, [], ℕ, List, Option, Some, true};
+ghost use Rattle.std.specs.Prelude.{false, not, MatchResult, IfOk, IfErr, OnOk, OnErr, IsErrOf};
 ghost use Rattle.stateful_types.specs.Causes.{Rose};
 ghost use Rattle.stateful_types.specs.Names.{Named};
 ghost use Rattle.stateful_history.specs.Live.{may_come};
@@ -24,7 +25,8 @@ ghost use Rattle.stateful_actor.specs.Machine.{faults_after};
 ghost use Rattle.stateful_whole.specs.Jobs.{EachJobGoesOn};
 ghost use Rattle.stateful_whole.specs.Left.{LeavesFurther};
 ghost use Rattle.stateful_whole.specs.Machine.{IsSafe, numbered, is_restart};
-ghost use Rattle.stateful_whole.specs.Media.{MediaStand, StandsOnMedia, TargetsName, OpensOn, LeavesMedia};
+ghost use Rattle.stateful_whole.specs.Media.{MediaStand, StandsOnMedia, TargetsName, OpensOn};
+ghost use Rattle.stateful_whole.specs.Media.{LeavesMedia};
 ghost use Rattle.stateful_whole.specs.Stands.{Stands, StandsAsWell};
 ghost use Rattle.stateful_whole.specs.StepBehind.{Continues};
 ghost use Rattle.stateful_whole.specs.Steps.{IsStep};
@@ -48,7 +50,8 @@ fn is_restart<B, C, I>(event: &Event<B, C, I>) -> bool
     }
 }
 
-/// Whether the event may come: a restart always, and another one where the machine is up and the register allows it.
+/// Whether the event may come: a restart always, and another one where the machine is up and the
+/// register allows it.
 fn may_come<A: Application>(
     processing: &ProcessingOf<A>,
     register: &Register,
@@ -72,7 +75,8 @@ fn may_come<A: Application>(
     }
 }
 
-/// Takes an event on, or refuses it: a machine that has failed takes a restart alone, and another event has to be allowed.
+/// Takes an event on, or refuses it: a machine that has failed takes a restart alone, and another
+/// event has to be allowed.
 fn admit<A: Application>(
     failed: bool,
     processing: &ProcessingOf<A>,
@@ -117,8 +121,8 @@ fn count_fault(faults: u64, acted: &Result<(), StepError>) -> u64
 }
 
 impl<A: Application + Drop> Stateful<A> {
-    /// Takes one event in, and answers the marks that it made. The order of refusals is `Failed`, `BadEvent`, then the
-    /// cause that arises first.
+    /// Takes one event in, and answers the marks that it made. The order of refusals is `Failed`,
+    /// `BadEvent`, then the cause that arises first.
     pub fn step<S: BlockStore<A::Block>>(
         &mut self,
         databases: &mut A::Databases,
@@ -132,22 +136,24 @@ impl<A: Application + Drop> Stateful<A> {
         // The event was taken in, and what could go on has gone on, with these marks.
         ensures does { IfOk result (λ marks. let w = ⟦<A as Worked>⟧.workings in
             IsStep w (S.stored store.old) self.old.provider
-            (record { run = A.Run.count; build = A.Build.count; hook = A.Hook.count }) self.old.register event
+            (record { run = A.Run.count; build = A.Build.count; hook = A.Hook.count })
+            self.old.register event
             (moment w self.old.execution self.old.loop (A.Databases.members databases.old)
             (A.Databases.next databases.old) [])
             (moment w self.new.execution self.new.loop (A.Databases.members databases.new)
             (A.Databases.next databases.new) marks.items)) }
 
-        // It may come behind whatever the register stood for, and the register stands for that with the entry added.
+        // It may come behind whatever the register stood for, and the register stands for that with
+        // the entry added.
         ensures registers { IfOk result (λ marks. (p : Past A.Block A.Context A.Input)
             → RegisterStands (numbered A.Databases.kind.count) p self.old.register
             → (may_come (numbered A.Databases.kind.count) p event ≡ true)
             × RegisterStands (numbered A.Databases.kind.count) (after_entry p event marks.items)
             self.new.register) }
 
-        // Whatever past the machine stood for, it stands for that with the entry added, where names are true with it and the
-        // store is honest. True verdicts are earned, only durable heights are acknowledged, and the databases hold what was
-        // applied.
+        // Whatever past the machine stood for, it stands for that with the entry added, where names
+        // are true with it and the store is honest. True verdicts are earned, only durable heights
+        // are acknowledged, and the databases hold what was applied.
         ensures stands { IfOk result (λ marks. let w = ⟦<A as Worked>⟧.workings in
             (stored : ℕ → Option (Named A.Block))
             (base : A.Databases.States)
@@ -166,11 +172,13 @@ impl<A: Application + Drop> Stateful<A> {
             (A.Databases.next databases.new) []) }
         ensures works { OnOk result (self.new.failed ≡ false) }
 
-        // Why it was refused. Behind a refusal the register stands for what it stood for; behind BadEvent nothing has changed,
-        // and neither has it where a machine that has failed takes no restart; behind any other error the machine has failed.
+        // Why it was refused. Behind a refusal the register stands for what it stood for; behind
+        // BadEvent nothing has changed, and neither has it where a machine that has failed takes no
+        // restart; behind any other error the machine has failed.
         ensures cause { IfErr result (λ e. let w = ⟦<A as Worked>⟧.workings in
             IsCause w (S.stored store.old) self.old.provider
-            (record { run = A.Run.count; build = A.Build.count; hook = A.Hook.count }) self.old.failed
+            (record { run = A.Run.count; build = A.Build.count; hook = A.Hook.count })
+            self.old.failed
             self.old.register event
             (tally (A.count self.old.application) (A.Databases.counted databases.old))
             (tally (A.count self.new.application) (A.Databases.counted databases.new))
@@ -191,12 +199,14 @@ impl<A: Application + Drop> Stateful<A> {
             → (self.new ≡ self.old) × (databases.new ≡ databases.old) }
         ensures idle { self.old.failed ≡ true
             → is_restart event ≡ false
-            → (self.new ≡ self.old) × (databases.new ≡ databases.old) × IsErrOf result StepError.Failed }
+            → (self.new ≡ self.old)
+            × (databases.new ≡ databases.old)
+            × IsErrOf result StepError.Failed }
         ensures fails { IfErr result (λ e. (e ≡ StepError.BadEvent → ⊥) → self.new.failed ≡ true) }
 
-        // Behind any other error than BadEvent, at an event that isn't a restart, of a machine that hadn't failed, each database
-        // that is here has its part of the fold over what was applied, and over further blocks, if any: the event may have
-        // applied some before its error.
+        // Behind any other error than BadEvent, at an event that isn't a restart, of a machine that
+        // hadn't failed, each database that is here has its part of the fold over what was applied,
+        // and over further blocks, if any: the event may have applied some before its error.
         ensures behind { IfErr result (λ e. (e ≡ StepError.BadEvent → ⊥)
             → self.old.failed ≡ false
             → is_restart event ≡ false
@@ -208,9 +218,10 @@ impl<A: Application + Drop> Stateful<A> {
             (A.Databases.next databases.old) [])
             (A.Databases.members databases.new)) }
 
-        // What the media keep of the heights at which the databases can be opened again. Where the machine and the media stood
-        // for a past, names are true with the entry, the store is honest and its targets rise, they keep it for the past with
-        // the entry. Behind a refusal machine and media stand for the past as it was, with a restart that was tried.
+        // What the media keep of the heights at which the databases can be opened again. Where the
+        // machine and the media stood for a past, names are true with the entry, the store is
+        // honest and its targets rise, they keep it for the past with the entry. Behind a refusal
+        // machine and media stand for the past as it was, with a restart that was tried.
         ensures media { IfOk result (λ marks. let w = ⟦<A as Worked>⟧.workings in
             (stored : ℕ → Option (Named A.Block))
             (base : A.Databases.States)
@@ -235,9 +246,10 @@ impl<A: Application + Drop> Stateful<A> {
             (moment w self.new.execution self.new.loop (A.Databases.members databases.new)
             (A.Databases.next databases.new) [])) }
 
-        // A restart at a height at which the databases can be opened again opens them on the fold from genesis up to it, and isn't
-        // refused but for want of memory: where the fold is there and has the targets of the block at that height, which the
-        // store has, equal targets name equal states, and no database's count of faults rises.
+        // A restart at a height at which the databases can be opened again opens them on the fold
+        // from genesis up to it, and isn't refused but for want of memory: where the fold is there
+        // and has the targets of the block at that height, which the store has, equal targets name
+        // equal states, and no database's count of faults rises.
         ensures reopens { let w = ⟦<A as Worked>⟧.workings in
             (stored : ℕ → Option (Named A.Block))
             (p : Past A.Block A.Context A.Input)
@@ -262,8 +274,8 @@ impl<A: Application + Drop> Stateful<A> {
             (λ marks. OpensOn w marks.items (A.Databases.members databases.new) state)
             (λ e. e ≡ StepError.OutOfMemory) }
 
-        // Behind the event each live candidate run and each live build is wanted by a live request, and each live job was turned
-        // less often than it takes turns, where that is told.
+        // Behind the event each live candidate run and each live build is wanted by a live request,
+        // and each live job was turned less often than it takes turns, where that is told.
         ensures jobs { IfOk result (λ marks. let w = ⟦<A as Worked>⟧.workings in
             (stored : ℕ → Option (Named A.Block))
             (base : A.Databases.States)
@@ -276,11 +288,12 @@ impl<A: Application + Drop> Stateful<A> {
             → HasHonestStore A.Block.header stored (after_entry p event marks.items)
             → RunsAreWanted (setting w stored) (after_entry p event marks.items)
             × EachJobGoesOn w stored
-            (base_after base marks.items (A.Databases.kind.point (A.Databases.members databases.new)))
+            (base_after base marks.items
+            (A.Databases.kind.point (A.Databases.members databases.new)))
             (after_entry p event marks.items)) }
 
-        // The finalized blocks that wait lead up to the highest one, as long as each event since the last restart was lawful: that
-        // stays so behind each event.
+        // The finalized blocks that wait lead up to the highest one, as long as each event since
+        // the last restart was lawful: that stays so behind each event.
         ensures ahead { IfOk result (λ marks. let w = ⟦<A as Worked>⟧.workings in
             (stored : ℕ → Option (Named A.Block))
             (base : A.Databases.States)
@@ -295,14 +308,15 @@ impl<A: Application + Drop> Stateful<A> {
             (moment w self.old.execution self.old.loop (A.Databases.members databases.old)
             (A.Databases.next databases.old) [])
             → IsAheadLawfully w stored
-            (base_after base marks.items (A.Databases.kind.point (A.Databases.members databases.new)))
+            (base_after base marks.items
+            (A.Databases.kind.point (A.Databases.members databases.new)))
             (after_entry p event marks.items)
             (moment w self.new.execution self.new.loop (A.Databases.members databases.new)
             (A.Databases.next databases.new) [])) }
 
-        // A lawful event other than a restart, behind lawful ones since the last restart, is refused only where memory or numbers
-        // ran out, or the application, a job of it or a database failed: by a machine that hadn't failed, of fewer than 2^64
-        // databases.
+        // A lawful event other than a restart, behind lawful ones since the last restart, is
+        // refused only where memory or numbers ran out, or the application, a job of it or a
+        // database failed: by a machine that hadn't failed, of fewer than 2^64 databases.
         ensures complete { IfErr result (λ e. let w = ⟦<A as Worked>⟧.workings in
             (stored : ℕ → Option (Named A.Block))
             (base : A.Databases.States)
@@ -324,7 +338,8 @@ impl<A: Application + Drop> Stateful<A> {
             → A.Databases.kind.count < 2 ^ 64
             → IsOutside e) }
 
-        // Counts of faults and numbers never fall, and the store, the provider and the configuration stay.
+        // Counts of faults and numbers never fall, and the store, the provider and the
+        // configuration stay.
         ensures later { (n : ℕ)
             → A.Databases.counted databases.old n ≤ A.Databases.counted databases.new n }
         ensures application { A.count self.old.application ≤ A.count self.new.application }

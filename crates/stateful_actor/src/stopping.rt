@@ -14,7 +14,8 @@ use stateful_processing::{ProcessingOf, StepError, clear};
 use stateful_register::Register;
 use stateful_types::OutOfMemory;
 
-/// Ends all that is live behind an event with its marks so far. The register stays as it is: it hasn't taken in the event yet.
+/// Ends all that is live behind an event with its marks so far. The register stays as it is: it
+/// hasn't taken in the event yet.
 pub(crate) fn end_work<A: Application>(
     register: &Register,
     event: &Event<A::Block, A::Context, A::Input>,
@@ -29,7 +30,8 @@ pub(crate) fn end_work<A: Application>(
     Ok(())
 }
 
-/// Ends all that is live behind an event with its marks so far, marks that the machine has stopped, and drops what goes on.
+/// Ends all that is live behind an event with its marks so far, marks that the machine has stopped,
+/// and drops what goes on.
 pub(crate) fn stop<A: Application + Drop>(
     handler: &mut Handler<A>,
     processing: &mut ProcessingOf<A>,

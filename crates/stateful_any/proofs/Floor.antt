@@ -14,7 +14,8 @@ use Rattle.stateful_any.specs.declared.op.AnyOp.TheVariants.{Update}
 use Rattle.stateful_any.specs.Live.{writes_key, last_write, is_last, passed}
 use Rattle.stateful_any.specs.Any.{State, size_of, live_at}
 use Rattle.stateful_any.specs.Through.{Written, Change, op_over, op_through, place_over, place_through, IsIndexed}
-use Rattle.stateful_any.proofs.Writes.{cases, last_here, last_behind}
+use Rattle.stateful_log.proofs.Slices.{cases}
+use Rattle.stateful_any.proofs.Writes.{last_here, last_behind}
 use Rattle.stateful_any.proofs.Reading.{Reads, place_more, op_more}
 
 split : {X : Type 0} (i : ℕ) (xs : List X) → xs ≡ take i xs ++ drop i xs

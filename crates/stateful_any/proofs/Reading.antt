@@ -14,22 +14,8 @@ use Rattle.stateful_any.specs.Live.{last_write, stays, passed}
 use Rattle.stateful_any.specs.Any.{State, size_of, IsWhole, live_at, after}
 use Rattle.stateful_any.specs.Through.{Written, Change, op_over, op_through, place_over, place_through, IsIndexed}
 use Rattle.stateful_any.specs.Shown.{After}
-use Rattle.stateful_any.proofs.Writes.{cases, last_write-append, last_write-passed, passed-le, first_stays}
-
-slice_get-front : {X : Type 0} (xs ys : List X) (i : ℕ) → i < length xs → slice_get (xs ++ ys) i ≡ slice_get xs i
-slice_get-front [] ys i h = absurd (omega arith)
-slice_get-front (x ∷ xs) ys zero h = refl
-slice_get-front (x ∷ xs) ys (suc i) h = slice_get-front xs ys i (omega arith)
-
-slice_get-back : {X : Type 0} (xs ys : List X) (i : ℕ) → slice_get (xs ++ ys) (length xs + i) ≡ slice_get ys i
-slice_get-back [] ys i = let same : 0 + i ≡ i = omega arith in ap (λ n. slice_get ys n) same
-slice_get-back (x ∷ xs) ys i = let same : suc (length xs) + i ≡ suc (length xs + i) = omega arith in ap (λ n. slice_get (x ∷ xs ++ ys) n) same ∙ slice_get-back xs ys i
-
-test-true : (a b : ℕ) → nat_lt a b ≡ true → a < b
-test-true a b h = grind (arith, nat_tests)
-
-test-false : (a b : ℕ) → nat_lt a b ≡ false → b ≤ a
-test-false a b h = grind (arith, nat_tests)
+use Rattle.stateful_log.proofs.Slices.{cases, test-true, test-false, slice_get-front, slice_get-back}
+use Rattle.stateful_any.proofs.Writes.{last_write-append, last_write-passed, passed-le, first_stays}
 
 module _ {K V : Type 0} {cmp : K → K → Ordering} (total : IsTotalOrder cmp) where
   -- where a key was written last behind more operations

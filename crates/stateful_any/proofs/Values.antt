@@ -18,7 +18,8 @@ use Rattle.stateful_any.specs.declared.op.AnyOp.TheVariants.{Commit, Update, Del
 use Rattle.stateful_any.specs.Ops.{Changes}
 use Rattle.stateful_any.specs.Live.{writes_key, last_write}
 use Rattle.stateful_any.specs.Any.{State, live_at, value_at, metadata_of, ops_for, ops_of, sealed}
-use Rattle.stateful_any.proofs.Writes.{cases, last_write-at, last_write-none, last_write-append, same_key}
+use Rattle.stateful_log.proofs.Slices.{cases}
+use Rattle.stateful_any.proofs.Writes.{last_write-at, last_write-none, last_write-append, same_key}
 use Rattle.stateful_any.proofs.Reading.{live_after}
 
 module _ {K V : Type 0} (cmp : K → K → Ordering) where

@@ -9,13 +9,10 @@ use Rattle.std.specs.declared.cmp.Ordering.TheVariants.{Equal}
 use Rattle.std.specs.Cmp.{IsTotalOrder, Equal-is}
 use Rattle.std.specs.BTreeMap.{is_at}
 use Rattle.std.proofs.lemmas.Cmp.{tied_itself, alike_right}
+use Rattle.stateful_log.proofs.Slices.{cases}
 use Rattle.stateful_any.specs.declared.op.AnyOp.{AnyOp}
 use Rattle.stateful_any.specs.declared.op.AnyOp.TheVariants.{Commit, Update, Delete}
 use Rattle.stateful_any.specs.Live.{writes_key, written, last_write, stays, passed}
-
-pub cases : (b : Bool) → (b ≡ true) ⊎ (b ≡ false)
-cases true = inl refl
-cases false = inr refl
 
 module _ {K V : Type 0} (cmp : K → K → Ordering) where
   -- behind joined lists

@@ -1,5 +1,6 @@
 -- The states of a log of keys, and what a batch makes of them.
-use Rattle.std.specs.Prelude.{◌≡◌, ℕ, ◌+◌, Bool, if◌then◌else◌, List, [], ◌∷◌, ◌++◌, Option, Some, None, is_some, option_map, length}
+use Rattle.std.specs.Prelude.{◌≡◌, ℕ, ◌+◌, Bool, if◌then◌else◌, List, [], ◌∷◌, ◌++◌, Option, Some}
+use Rattle.std.specs.Prelude.{None, is_some, option_map, length}
 use Rattle.std.specs.declared.cmp.Ordering.{Ordering}
 use Rattle.stateful_types.specs.declared.target.Target.{Target}
 use Rattle.stateful_medium.specs.declared.checkpoints.Checkpoint.{Checkpoint}
@@ -37,7 +38,8 @@ module _ {K V : Type 0} where
   abbrev pub ops_for : (K → Bool) → List (K × Option V) → List (AnyOp K V)
   ops_for live [] = []
   ops_for live ((key, Some value) ∷ writes) = Update key value ∷ ops_for live writes
-  ops_for live ((key, None) ∷ writes) = if live key then Delete key ∷ ops_for live writes else ops_for live writes
+  ops_for live ((key, None) ∷ writes) =
+      if live key then Delete key ∷ ops_for live writes else ops_for live writes
 
   module _ (cmp : K → K → Ordering) where
     -- where a key is live: the location of its last write, and its value
@@ -73,6 +75,13 @@ module _ {K V : Type 0} where
     -- one commit without metadata
     abbrev pub initial : State K V
     initial = record {
-      target = record { root = chained (op_bytes spell_key spell_value) unlinked (Commit None ∷ []); start = record { 0 = 0 }; end = record { 0 = 1 } };
+      target =
+          record {
+            root =
+                chained (op_bytes spell_key spell_value) unlinked (Commit None ∷ []);
+            start =
+                record { 0 = 0 };
+            end = record { 0 = 1 };
+          };
       kept = Commit None ∷ [];
     }

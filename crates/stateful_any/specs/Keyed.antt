@@ -9,5 +9,12 @@ use Rattle.stateful_any.specs.declared.op.AnyOp.{AnyOp}
 use Rattle.stateful_any.specs.Any.{live_at}
 
 -- the index has the live keys of the newest checkpoint, each with the location of its last write
-abbrev pub HasLive : {K V : Type 0} → (K → K → Ordering) → OpenLog (AnyOp K V) → List (K × ℕ) → Type 0
-HasLive cmp log index = (key : _) → lookup (is_at (cmp key)) index ≡ option_map (λ x. x.0) (live_at cmp (logs.standing_of log).disk.newest key)
+abbrev pub HasLive : {K V : Type 0}
+    → (K → K → Ordering)
+    → OpenLog (AnyOp K V)
+    → List (K × ℕ)
+    → Type 0
+HasLive cmp log index =
+    (key : _)
+    → lookup (is_at (cmp key)) index
+    ≡ option_map (λ x. x.0) (live_at cmp (logs.standing_of log).disk.newest key)

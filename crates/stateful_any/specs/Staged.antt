@@ -23,7 +23,11 @@ module _ {K V : Type 0} where
   module _ (cmp : K → K → Ordering) where
     -- a batch with one write more
     abbrev pub with_write : Draft K V → K × Option V → Draft K V
-    with_write u write = record u { changes = record u.changes { writes = insert_entry cmp u.changes.writes write.0 write.1 } }
+    with_write u write =
+        record u {
+          changes =
+              record u.changes { writes = insert_entry cmp u.changes.writes write.0 write.1 };
+        }
 
     -- with these writes, one after another
     abbrev pub with_writes : Draft K V → List (K × Option V) → Draft K V

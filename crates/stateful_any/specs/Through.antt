@@ -1,5 +1,6 @@
 -- What sealed batches on a database say of keys and locations, the newest first.
-use Rattle.std.specs.Prelude.{◌≡◌, ℕ, ◌-◌, nat_lt, if◌then◌else◌, List, [], ◌∷◌, Option, option_map, slice_get}
+use Rattle.std.specs.Prelude.{◌≡◌, ℕ, ◌-◌, nat_lt, if◌then◌else◌, List, [], ◌∷◌, Option, option_map}
+use Rattle.std.specs.Prelude.{slice_get}
 use Rattle.std.specs.Option.{unwrap_or}
 use Rattle.std.specs.declared.cmp.Ordering.{Ordering}
 use Rattle.std.specs.Map.{lookup}
@@ -8,8 +9,8 @@ use Rattle.stateful_types.specs.declared.target.Target.{Target}
 use Rattle.stateful_any.specs.declared.op.AnyOp.{AnyOp}
 use Rattle.stateful_any.specs.Live.{last_write}
 
--- Operations from a location on. The index has each key that they write, with the location of its last write, or with
--- none where that is a delete.
+-- Operations from a location on. The index has each key that they write, with the location of its
+-- last write, or with none where that is a delete.
 pub record Written (K V : Type 0) : Type 0 where
   pub from : ℕ
   pub ops : List (AnyOp K V)
@@ -30,7 +31,8 @@ module _ {K V : Type 0} where
   op_through (l ∷ ls) at below = op_over l.1.written at (op_through ls at below)
 
   module _ (cmp : K → K → Ordering) where
-    -- the location of the last write of a key that is live: as these operations left it, or as it was below them
+    -- the location of the last write of a key that is live: as these operations left it, or as it
+    -- was below them
     abbrev pub place_over : Written K V → K → Option ℕ → Option ℕ
     place_over w key below = unwrap_or (lookup (is_at (cmp key)) w.index) below
 
@@ -40,4 +42,7 @@ module _ {K V : Type 0} where
 
     -- the index says of each key what the operations make of it
     abbrev pub IsIndexed : Written K V → Type 0
-    IsIndexed w = (key : K) (before : Option (ℕ × V)) → option_map (λ x. x.0) (last_write cmp key w.from w.ops before) ≡ place_over w key (option_map (λ x. x.0) before)
+    IsIndexed w =
+        (key : K) (before : Option (ℕ × V))
+        → option_map (λ x. x.0) (last_write cmp key w.from w.ops before)
+        ≡ place_over w key (option_map (λ x. x.0) before)

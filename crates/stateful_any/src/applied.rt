@@ -5,7 +5,8 @@ ghost use Rattle.stateful_db.specs.Disk.{applied};
 ghost use Rattle.stateful_log.specs.Logs.{extended};
 ghost use Rattle.stateful_any.specs.Any.{IsWhole, size_of};
 ghost use Rattle.stateful_any.specs.Live.{passed};
-ghost use Rattle.stateful_any.specs.Stored.{disk_of, next_of, calls_of, standing_of, next_here, calls_here};
+ghost use Rattle.stateful_any.specs.Stored.{disk_of, next_of, calls_of, standing_of, next_here};
+ghost use Rattle.stateful_any.specs.Stored.{calls_here};
 
 use crate::changes::AnyChanges;
 use crate::database::AnyDb;
@@ -14,7 +15,8 @@ use crate::medium::AnyMedium;
 use crate::seal::first_kept;
 use stateful_log::{Field, lengthened};
 
-/// Whether the operations of a batch begin where those of the database end, and its range where it has to.
+/// Whether the operations of a batch begin where those of the database end, and its range where it
+/// has to.
 fn follows<K: Field, V: Field>(db: &AnyDb<K, V>, changes: &AnyChanges<K, V>) -> bool
     ensures from { IsTrue result
         → changes.now.written.from ≡ size_of (standing_of db.now).disk.newest }
@@ -42,8 +44,8 @@ fn follows<K: Field, V: Field>(db: &AnyDb<K, V>, changes: &AnyChanges<K, V>) -> 
     changes.target.start.0 == first_kept(written, none.as_slice(), db, range.start.0)
 }
 
-/// The database with the operations of the batch behind it. It is closed where memory is wanting, or the batch isn't one
-/// on it.
+/// The database with the operations of the batch behind it. It is closed where memory is wanting,
+/// or the batch isn't one on it.
 pub(crate) fn longer<K: Field, V: Field>(
     db: AnyDb<K, V>,
     id: u64,

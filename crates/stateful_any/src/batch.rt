@@ -1,6 +1,8 @@
 //! Batches over a database of keys.
 
-ghost use Rattle.std.specs.Prelude.{◌≡◌, ◌≢◌, ◌==◌, Bool, ◌||◌, ◌∷◌, [], ◌-◌, ◌^◌, ◌<◌, ◌≤◌, ◌↔◌, ℕ, List, Option, Some, None, IfOk, IfErr, IsErrOf, false, length, map};
+ghost use Rattle.std.specs.Prelude.{◌≡◌, ◌≢◌, ◌==◌, Bool, ◌||◌, ◌∷◌, [], ◌-◌, ◌^◌, ◌<◌, ◌≤◌, ◌↔◌};
+ghost use Rattle.std.specs.Prelude.{ℕ, List, Option, Some, None, IfOk, IfErr, IsErrOf, false};
+ghost use Rattle.std.specs.Prelude.{length, map};
 ghost use Rattle.std.specs.BTreeMap.{insert_entry};
 ghost use Rattle.stateful_db.specs.Batch.{RefusesSeal};
 ghost use Rattle.stateful_db.specs.Chain.{has_id, IsPoint};
@@ -22,8 +24,8 @@ use stateful_types::{Digest, Location, OutOfMemory, Target};
 use std::collections::BTreeMap;
 use std::marker::Model;
 
-/// A batch that may still change: its id, the layers below it, the root of its parent with its range, its writes by key,
-/// and the metadata of its commit.
+/// A batch that may still change: its id, the layers below it, the root of its parent with its
+/// range, its writes by key, and the metadata of its commit.
 #[derive(Drop)]
 pub struct AnyUnmerkleized<K: Ord, V> {
     pub(crate) id: u64,
@@ -99,7 +101,8 @@ impl<K: Field, V: Field> AnyUnmerkleized<K, V> {
         self.id == at || inside
     }
 
-    /// The value at a key. `StaleRead` exactly where the database is at no state of the batch's chain.
+    /// The value at a key. `StaleRead` exactly where the database is at no state of the batch's
+    /// chain.
     pub fn get(&self, db: &AnyDb<K, V>, key: &K) -> Result<Option<V>, BatchError>
         ensures value { IfOk result (λ value. (p : ℕ × State K V) (c : List (ℕ × State K V))
             → DraftShows K.cmp K.fields.spelling V.fields.spelling self.now (p ∷ c)
@@ -130,8 +133,8 @@ impl<K: Field, V: Field> AnyUnmerkleized<K, V> {
         }
     }
 
-    /// The values at these keys, in their order. `StaleRead` exactly where the database is at no state of the batch's
-    /// chain.
+    /// The values at these keys, in their order. `StaleRead` exactly where the database is at no
+    /// state of the batch's chain.
     pub fn get_many(&self, db: &AnyDb<K, V>, keys: &[K]) -> Result<Vec<Option<V>>, BatchError>
         ensures value { IfOk result (λ values. (p : ℕ × State K V) (c : List (ℕ × State K V))
             → DraftShows K.cmp K.fields.spelling V.fields.spelling self.now (p ∷ c)
@@ -249,10 +252,7 @@ impl<K: Field, V: Field> Unmerkleized for AnyUnmerkleized<K, V> {
         if self.id == at {
             return Err(BatchError::OutOfMemory);
         }
-        match self.seal(db) {
-            Ok(batch) => Ok(batch),
-            Err(why) => Err(why),
-        }
+        self.seal(db)
     }
 }
 

@@ -1,6 +1,7 @@
 //! What a sealed batch of keys changes.
 
-ghost use Rattle.std.specs.Prelude.{◌≡◌, ◌+◌, ◌-◌, ◌^◌, ◌<◌, ◌≤◌, ◌++◌, ◌∷◌, [], IfOk, length, slice_get};
+ghost use Rattle.std.specs.Prelude.{◌≡◌, ◌+◌, ◌-◌, ◌^◌, ◌<◌, ◌≤◌, ◌++◌, ◌∷◌, [], IfOk, length};
+ghost use Rattle.std.specs.Prelude.{slice_get};
 ghost use Rattle.std.specs.Option.{option_copied};
 ghost use Rattle.std.specs.Map.{lookup};
 ghost use Rattle.std.specs.BTreeMap.{is_at};
@@ -13,8 +14,8 @@ use std::alloc::Global;
 use std::collections::BTreeMap;
 use std::marker::Model;
 
-/// Operations from a location on. The index has each key that they write, with the location of its last write, or with
-/// none where that is a delete.
+/// Operations from a location on. The index has each key that they write, with the location of its
+/// last write, or with none where that is a delete.
 #[derive(Drop)]
 pub struct AnyWritten<K: Ord, V> {
     pub(crate) from: u64,
@@ -94,7 +95,8 @@ impl<K: Field, V: Field> AnyWritten<K, V> {
         self.ops.get((at - self.from) as usize)
     }
 
-    /// The location of the last write of a key, or none where that is a delete, if these write the key.
+    /// The location of the last write of a key, or none where that is a delete, if these write the
+    /// key.
     pub(crate) fn place(&self, key: &K) -> Option<Option<u64>>
         ensures { result ≡ lookup (is_at (K.cmp key.now)) self.now.index }
     {

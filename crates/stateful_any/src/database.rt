@@ -21,8 +21,8 @@ use stateful_types::{Digest, Faulty, Location, OutOfMemory, Target};
 use std::alloc::Global;
 use std::collections::BTreeMap;
 
-/// A map that is kept as a log of operations, each from its floor on once. The index has the location of each live key's
-/// last write.
+/// A map that is kept as a log of operations, each from its floor on once. The index has the
+/// location of each live key's last write.
 #[derive(Drop)]
 pub struct AnyDb<K: Ord, V> {
     pub(crate) log: OpenLog<AnyOp<K, V>>,
@@ -94,16 +94,20 @@ impl<K: Field, V: Field> AnyDb<K, V> {
 }
 
 impl<K: Field, V: Field> ManagedDb for AnyDb<K, V> {
-    ghost use Rattle.std.specs.Prelude.{◌≡◌, ◌≢◌, ℕ, ◌+◌, ◌-◌, ◌^◌, ◌≤◌, ◌<◌, List, ◌∷◌, ◌++◌, [], IfOk, IfErr, IsErrAnd, Option, ◌↔◌, ◌⊎◌, Contains, length, refl};
+    ghost use Rattle.std.specs.Prelude.{◌≡◌, ◌≢◌, ℕ, ◌+◌, ◌-◌, ◌^◌, ◌≤◌, ◌<◌, List, ◌∷◌, ◌++◌, []};
+    ghost use Rattle.std.specs.Prelude.{IfOk, IfErr, IsErrAnd, Option, ◌↔◌, ◌⊎◌, Contains, length};
+    ghost use Rattle.std.specs.Prelude.{refl};
     ghost use Rattle.stateful_types.specs.Causes.{Rose};
     ghost use Rattle.stateful_db.specs.Disk.{IsEither, IsCrash, place, applied, flushed, point};
-    ghost use Rattle.stateful_db.specs.Reopening.{Reopens, FailsToReopen, HasNone, KeepsDurable, pruned_to};
+    ghost use Rattle.stateful_db.specs.Reopening.{Reopens, FailsToReopen, HasNone, KeepsDurable};
+    ghost use Rattle.stateful_db.specs.Reopening.{pruned_to};
     ghost use Rattle.stateful_db.specs.Tokens.{without};
     ghost use Rattle.stateful_medium.specs.Called.{IsListed, Called};
     ghost use Rattle.stateful_any.specs.AnySound.{sound_medium, sound_database, numbered};
     ghost use Rattle.stateful_any.specs.Any.{State, begun, initial, target_of};
     ghost use Rattle.stateful_any.specs.Shown.{DraftShows, SealShows};
-    ghost use Rattle.stateful_any.specs.Stored.{disk_of, next_of, calls_of, standing_of, next_here, calls_here};
+    ghost use Rattle.stateful_any.specs.Stored.{disk_of, next_of, calls_of, standing_of, next_here};
+    ghost use Rattle.stateful_any.specs.Stored.{calls_here};
 
     type State = AnyState<K, V>;
 
@@ -133,8 +137,8 @@ impl<K: Field, V: Field> ManagedDb for AnyDb<K, V> {
 
     ghost next_of = { next_of };
 
-    /// `Database` exactly where the call is listed as a failing one or no kept checkpoint has the expected end. The index
-    /// takes memory.
+    /// `Database` exactly where the call is listed as a failing one or no kept checkpoint has the
+    /// expected end. The index takes memory.
     fn init(
         medium: AnyMedium<K, V>,
         _config: &(),
@@ -241,8 +245,9 @@ impl<K: Field, V: Field> ManagedDb for AnyDb<K, V> {
         batch.target() == *target
     }
 
-    /// `Failed` exactly where the call is listed as a failing one. A failed apply leaves the checkpoints. A state that isn't
-    /// greater in size than the newest one, which is of no batch on it, is refused as if memory were wanting.
+    /// `Failed` exactly where the call is listed as a failing one. A failed apply leaves the
+    /// checkpoints. A state that isn't greater in size than the newest one, which is of no batch on
+    /// it, is refused as if memory were wanting.
     fn apply(self, batch: AnyMerkleized<K, V>) -> Result<AnyDb<K, V>, Broken<AnyMedium<K, V>>>
         ensures ok { IfOk result (λ db. (p : ℕ × State K V) (c : List (ℕ × State K V))
             → SealShows K.cmp K.fields.spelling V.fields.spelling batch
@@ -312,7 +317,8 @@ impl<K: Field, V: Field> ManagedDb for AnyDb<K, V> {
         }
     }
 
-    /// Takes no memory. It fails exactly where the call is listed as a failing one, and leaves the durable place.
+    /// Takes no memory. It fails exactly where the call is listed as a failing one, and leaves the
+    /// durable place.
     fn flush(self, token: FlushToken) -> Result<AnyDb<K, V>, Broken<AnyMedium<K, V>>>
         requires { Contains (standing_of self).out token.place }
         ensures ok { IfOk result (λ db. standing_of db ≡ record (standing_of self) {
@@ -343,7 +349,8 @@ impl<K: Field, V: Field> ManagedDb for AnyDb<K, V> {
         }
     }
 
-    /// Takes no memory. It fails exactly where the call is listed as a failing one, and leaves the checkpoints.
+    /// Takes no memory. It fails exactly where the call is listed as a failing one, and leaves the
+    /// checkpoints.
     fn prune(self, target: &Target) -> Result<AnyDb<K, V>, Broken<AnyMedium<K, V>>>
         requires idle { (standing_of self).out ≡ [] }
         requires kept { KeepsDurable target_of (λ t. t) target.now (standing_of self).disk }

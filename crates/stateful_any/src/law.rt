@@ -4,8 +4,8 @@ ghost use Rattle.stateful_any.specs.Laws.{KeepsLiveKeys, BeginsWithNeed};
 
 use stateful_log::Field;
 
-/// A range has all that counts: what it leaves out says nothing of any key, and its first operation is the last write of
-/// a live key, or the last of all.
+/// A range has all that counts: what it leaves out says nothing of any key, and its first operation
+/// is the last write of a live key, or the last of all.
 pub fn ranges_are_tight<K: Field, V: Field>()
     ensures live { KeepsLiveKeys K.cmp K.fields.spelling V.fields.spelling }
     ensures begins { BeginsWithNeed K.cmp K.fields.spelling V.fields.spelling }

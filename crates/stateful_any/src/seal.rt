@@ -1,6 +1,8 @@
 //! The operations of a batch, and where the range behind them begins.
 
-ghost use Rattle.std.specs.Prelude.{◌≡◌, ◌+◌, ◌-◌, ◌^◌, ◌<◌, ◌≤◌, ◌++◌, ◌∷◌, [], ℕ, List, Option, Bool, IsTrue, IfOk, OnOk, is_some, option_map, length, drop, slice_get, ◌↔◌};
+ghost use Rattle.std.specs.Prelude.{◌≡◌, ◌+◌, ◌-◌, ◌^◌, ◌<◌, ◌≤◌, ◌++◌, ◌∷◌, [], ℕ, List, Option};
+ghost use Rattle.std.specs.Prelude.{Bool, IsTrue, IfOk, OnOk, is_some, option_map, length, drop};
+ghost use Rattle.std.specs.Prelude.{slice_get, ◌↔◌};
 ghost use Rattle.std.specs.Option.{option_copied};
 ghost use Rattle.std.specs.Map.{lookup};
 ghost use Rattle.std.specs.BTreeMap.{is_at};
@@ -9,7 +11,8 @@ ghost use Rattle.stateful_any.specs.Live.{is_last, passed};
 ghost use Rattle.stateful_any.specs.Any.{State, IsWhole, size_of, ops_for};
 ghost use Rattle.stateful_any.specs.Shown.{After};
 ghost use Rattle.stateful_any.specs.Stored.{standing_of};
-ghost use Rattle.stateful_any.specs.Through.{IsIndexed, op_over, op_through, place_over, place_through};
+ghost use Rattle.stateful_any.specs.Through.{IsIndexed, op_over, op_through, place_over};
+ghost use Rattle.stateful_any.specs.Through.{place_through};
 ghost use Rattle.stateful_any.specs.declared.op.AnyOp.{AnyOp};
 ghost use Rattle.stateful_any.specs.declared.op.AnyOp.TheVariants.{Commit};
 

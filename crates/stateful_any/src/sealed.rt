@@ -1,6 +1,7 @@
 //! Reads of sealed batches.
 
-ghost use Rattle.std.specs.Prelude.{◌≡◌, ◌+◌, ◌++◌, ◌∷◌, ◌↔◌, ℕ, List, None, IfOk, IsErrOf, false, length, map, option_map};
+ghost use Rattle.std.specs.Prelude.{◌≡◌, ◌+◌, ◌++◌, ◌∷◌, ◌↔◌, ℕ, List, None, IfOk, IsErrOf, false};
+ghost use Rattle.std.specs.Prelude.{length, map, option_map};
 ghost use Rattle.stateful_db.specs.Chain.{has_id, IsPoint};
 ghost use Rattle.stateful_db.specs.Disk.{point};
 ghost use Rattle.stateful_overlay.specs.Chains.{Leads};
@@ -60,7 +61,8 @@ impl<K: Field, V: Field> AnyMerkleized<K, V> {
         self.layer.id() == at || inside
     }
 
-    /// The value at a key. `StaleRead` exactly where the database is at no state of the batch's chain.
+    /// The value at a key. `StaleRead` exactly where the database is at no state of the batch's
+    /// chain.
     pub fn get(&self, db: &AnyDb<K, V>, key: &K) -> Result<Option<V>, BatchError>
         ensures value { IfOk result (λ value. (p : ℕ × State K V) (c : List (ℕ × State K V))
             → SealShows K.cmp K.fields.spelling V.fields.spelling self.now (p ∷ c)
@@ -87,8 +89,8 @@ impl<K: Field, V: Field> AnyMerkleized<K, V> {
         }
     }
 
-    /// The values at these keys, in their order. `StaleRead` exactly where the database is at no state of the batch's
-    /// chain.
+    /// The values at these keys, in their order. `StaleRead` exactly where the database is at no
+    /// state of the batch's chain.
     pub fn get_many(&self, db: &AnyDb<K, V>, keys: &[K]) -> Result<Vec<Option<V>>, BatchError>
         ensures value { IfOk result (λ values. (p : ℕ × State K V) (c : List (ℕ × State K V))
             → SealShows K.cmp K.fields.spelling V.fields.spelling self.now (p ∷ c)

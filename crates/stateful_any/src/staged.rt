@@ -1,6 +1,8 @@
 //! Batches whose keys are read before they are written.
 
-ghost use Rattle.std.specs.Prelude.{◌≡◌, ◌≢◌, ◌+◌, ◌-◌, ◌^◌, ◌++◌, ◌∷◌, [], ◌≤◌, ◌<◌, ◌↔◌, ◌⊎◌, ℕ, List, Option, Some, IfOk, IfErr, IsErrOf, IsTrue, OnOk, false, length, map};
+ghost use Rattle.std.specs.Prelude.{◌≡◌, ◌≢◌, ◌+◌, ◌-◌, ◌^◌, ◌++◌, ◌∷◌, [], ◌≤◌, ◌<◌, ◌↔◌, ◌⊎◌, ℕ};
+ghost use Rattle.std.specs.Prelude.{List, Option, Some, IfOk, IfErr, IsErrOf, IsTrue, OnOk, false};
+ghost use Rattle.std.specs.Prelude.{length, map};
 ghost use Rattle.stateful_db.specs.Batch.{RefusesSeal};
 ghost use Rattle.stateful_db.specs.Chain.{has_id, IsPoint};
 ghost use Rattle.stateful_db.specs.Disk.{point};
@@ -35,8 +37,8 @@ impl<K: Ord, V> Model for AnyStaged<K, V> {
 }
 
 impl<K: Field, V: Field> AnyUnmerkleized<K, V> {
-    /// Reads these keys, and stages them for writes. `StaleRead` exactly where the database is at no state of the batch's
-    /// chain.
+    /// Reads these keys, and stages them for writes. `StaleRead` exactly where the database is at
+    /// no state of the batch's chain.
     pub fn stage(
         self,
         db: &AnyDb<K, V>,
@@ -92,8 +94,8 @@ impl<K: Field, V: Field> AnyStaged<K, V> {
         self.len() == 0
     }
 
-    /// Reads more keys, and stages them behind the others. `StaleRead` exactly where the database is at no state of the
-    /// batch's chain.
+    /// Reads more keys, and stages them behind the others. `StaleRead` exactly where the database
+    /// is at no state of the batch's chain.
     pub fn expand(
         self,
         db: &AnyDb<K, V>,
@@ -126,9 +128,10 @@ impl<K: Field, V: Field> AnyStaged<K, V> {
         Ok((range, values, staged))
     }
 
-    /// The seal of the batch with the writes of these slots, a slot for each staged key, and then with the other ones.
-    /// `SlotCount` exactly where the numbers of slots and of staged keys differ; else `StaleRead` exactly where the
-    /// database is at no state of the batch's chain; else as `AnyUnmerkleized::merkleize`.
+    /// The seal of the batch with the writes of these slots, a slot for each staged key, and then
+    /// with the other ones. `SlotCount` exactly where the numbers of slots and of staged keys
+    /// differ; else `StaleRead` exactly where the database is at no state of the batch's chain;
+    /// else as `AnyUnmerkleized::merkleize`.
     pub fn merkleize(
         self,
         db: &AnyDb<K, V>,

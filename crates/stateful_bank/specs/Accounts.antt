@@ -1,5 +1,6 @@
 -- Accounts, seen as states of any type, and what operations make of such a state.
-use Rattle.std.specs.Prelude.{◌≡◌, ℕ, ◌+◌, ◌-◌, ◌^◌, nat_le, nat_lt, if◌then◌else◌, List, [], ◌∷◌, Option, Some, None, MatchOption, option_and_then, max}
+use Rattle.std.specs.Prelude.{◌≡◌, ℕ, ◌+◌, ◌-◌, ◌^◌, nat_le, nat_lt, if◌then◌else◌, List, [], ◌∷◌}
+use Rattle.std.specs.Prelude.{Option, Some, None, MatchOption, option_and_then, max}
 use Rattle.std.specs.Option.{option_map_or}
 use Rattle.stateful_bank.specs.declared.op.Op.{Op}
 use Rattle.stateful_bank.specs.declared.op.Op.TheVariants.{Mint, Move}
@@ -20,17 +21,25 @@ module _ (book : Book) where
   -- the state with so much less at the account, where it has that much
   abbrev pub withdrawn : book.State → ℕ → ℕ → Option book.State
   withdrawn s account amount =
-      option_and_then (λ had. if nat_le amount had then Some (book.with_balance s account (had - amount)) else None) (book.balance s account)
+      option_and_then
+      (λ had. if nat_le amount had then Some (book.with_balance s account (had - amount))
+      else None)
+      (book.balance s account)
 
   -- the state with so much more at the account, where the sum is at most the last number
   abbrev pub deposited : book.State → ℕ → ℕ → Option book.State
   deposited s account amount =
-      option_and_then (λ had. if nat_lt (had + amount) (2 ^ 64) then Some (book.with_balance s account (had + amount)) else None) (book.balance s account)
+      option_and_then
+      (λ had. if nat_lt (had + amount) (2 ^ 64) then Some
+      (book.with_balance s account (had + amount))
+      else None)
+      (book.balance s account)
 
   -- the state after an operation, where it is allowed
   abbrev pub do_op : book.State → Op → Option book.State
   do_op s (Mint account amount) = deposited s account amount
-  do_op s (Move from to amount) = option_and_then (λ left. deposited left to amount) (withdrawn s from amount)
+  do_op s (Move from to amount) =
+      option_and_then (λ left. deposited left to amount) (withdrawn s from amount)
 
   -- the state after these operations in order, where each is allowed
   abbrev pub do_ops : book.State → List Op → Option book.State

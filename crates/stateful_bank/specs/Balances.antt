@@ -13,11 +13,19 @@ balance_of entries account = unwrap_or (lookup (is_at (nat_cmp account)) entries
 -- the entries with this balance of the account; one of 0 has no entry
 abbrev pub with_balance : List (ℕ × ℕ) → ℕ → ℕ → List (ℕ × ℕ)
 with_balance entries account balance =
-    if balance == 0 then remove_entry (is_at (nat_cmp account)) entries else insert_entry nat_cmp entries account balance
+    if balance == 0 then remove_entry (is_at (nat_cmp account)) entries
+    else insert_entry nat_cmp entries account balance
 
 -- entries as states of accounts, each of which can be read
 abbrev pub entries_book : accounts.Book
-entries_book = record { State = List (ℕ × ℕ); balance = λ entries account. Some (balance_of entries account); with_balance = with_balance }
+entries_book =
+    record {
+      State =
+          List (ℕ × ℕ);
+      balance =
+          λ entries account. Some (balance_of entries account);
+      with_balance = with_balance;
+    }
 
 -- the entries after an operation, where it is allowed
 abbrev pub do_op : List (ℕ × ℕ) → Op → Option (List (ℕ × ℕ))

@@ -14,19 +14,26 @@ use Rattle.stateful_bank.specs.Op.{op_bytes}
 
 -- its root, then its start and its end
 unfoldable pub target_bytes : Target → List ℕ
-target_bytes target = digest_format.spelling target.root ++ location_format.spelling target.start ++ location_format.spelling target.«end»
+target_bytes target =
+    digest_format.spelling target.root ++ location_format.spelling target.start
+    ++ location_format.spelling target.«end»
 
 -- height, round, the parent's digest and the turns of its hook
 unfoldable pub head_bytes : BankBlock → List ℕ
-head_bytes b = height_format.spelling b.height ++ round_format.spelling b.round ++ digest_format.spelling b.parent ++ b.slow ∷ []
+head_bytes b =
+    height_format.spelling b.height ++ round_format.spelling b.round
+    ++ digest_format.spelling b.parent ++ b.slow ∷ []
 
 -- the head, and behind it the operations and the targets, each behind their number
 unfoldable pub block_bytes : BankBlock → List ℕ
 block_bytes b =
-    head_bytes b ++ u32_format.spelling (length b.ops) ++ flat_map op_bytes b.ops ++ length b.targets ∷ flat_map target_bytes b.targets
+    head_bytes b ++ u32_format.spelling (length b.ops) ++ flat_map op_bytes b.ops
+    ++ length b.targets ∷ flat_map target_bytes b.targets
 
 abbrev pub block_header : Header BankBlock
-block_header = record { parent = λ b. b.parent; height = λ b. b.height.0; round = λ b. b.round; bytes = block_bytes }
+block_header =
+    record
+    { parent = λ b. b.parent; height = λ b. b.height.0; round = λ b. b.round; bytes = block_bytes }
 
 -- the block at height 0, over databases of these targets
 abbrev pub genesis_block : List Target → BankBlock

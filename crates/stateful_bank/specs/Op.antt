@@ -22,4 +22,5 @@ account_bytes account = to_be_bytes w16 account
 -- its byte, then its accounts and its amount
 unfoldable pub op_bytes : Op → List ℕ
 op_bytes (Mint account amount) = 0 ∷ account_bytes account ++ u64_format.spelling amount
-op_bytes (Move from to amount) = 1 ∷ account_bytes from ++ account_bytes to ++ u64_format.spelling amount
+op_bytes (Move from to amount) =
+    1 ∷ account_bytes from ++ account_bytes to ++ u64_format.spelling amount

@@ -1,5 +1,6 @@
 -- What builds give.
-use Rattle.std.specs.Prelude.{◌≡◌, ◌+◌, ◌^◌, ◌<◌, ◌≤◌, true, false, List, [], length, Option, Some, None}
+use Rattle.std.specs.Prelude.{◌≡◌, ◌+◌, ◌^◌, ◌<◌, ◌≤◌, true, false, List, [], length, Option, Some}
+use Rattle.std.specs.Prelude.{None}
 use Rattle.stateful_types.specs.Handoff.{IsWait}
 use Rattle.stateful_types.specs.declared.outcome.Handoff.{Handoff}
 use Rattle.stateful_types.specs.declared.outcome.Handoff.TheVariants.{Wait, Vote, Stage}
@@ -16,16 +17,19 @@ pub data IsDeclined (p : Proposal) : Type 0 where
   HasMany : 16 < length p.ops → IsDeclined p
   IsAtEnd : 2 ^ 64 ≤ p.height.0 + 1 → IsDeclined p
 
--- the block one above the parent, with these operations, in this round, over databases of these targets
+-- the block one above the parent, with these operations, in this round, over databases of these
+-- targets
 abbrev pub built_block : Proposal → List Target → BankBlock
 built_block p targets = child_block p.height.0 p.parent p.round p.ops targets
 
 -- Blocks lead from states to states, which are told by the targets of the databases.
-module _ {States : Type 0} (step : States → BankBlock → Option States) (targets_of : States → List Target) where
+module _ {States : Type 0} (step : States → BankBlock → Option States)
+    (targets_of : States → List Target) where
   -- why nothing is built on these states
   pub data Declines (p : Proposal) (before : States) : Type 0 where
     Declined : IsDeclined p → Declines p before
-    HasNoStates : ((targets : List Target) → step before (built_block p targets) ≡ None) → Declines p before
+    HasNoStates : ((targets : List Target) → step before (built_block p targets) ≡ None)
+        → Declines p before
     IsUnacceptable : accept p.ops ≡ false → Declines p before
 
   -- the block that is built on these states: it leads to states, and commits to them
@@ -44,8 +48,15 @@ module _ {States : Type 0} (step : States → BankBlock → Option States) (targ
 
   -- what blocks lead to doesn't hang on the targets that they commit to
   abbrev pub IgnoresTargets : Type 0
-  IgnoresTargets = (p : Proposal) (before : States) (a b : List Target) → step before (built_block p a) ≡ step before (built_block p b)
+  IgnoresTargets =
+      (p : Proposal) (before : States) (a b : List Target)
+      → step before (built_block p a) ≡ step before (built_block p b)
 
   -- then a build on given states hands over one thing and no other
   abbrev pub GivesOne : Type 0
-  GivesOne = IgnoresTargets → (p : Proposal) (before : States) → (given : Handoff BankBlock) × Gives p before given × ((other : Handoff BankBlock) → Gives p before other → other ≡ given)
+  GivesOne =
+      IgnoresTargets
+      → (p : Proposal) (before : States)
+      → (given : Handoff BankBlock)
+      × Gives p before given
+      × ((other : Handoff BankBlock) → Gives p before other → other ≡ given)

@@ -6,7 +6,8 @@ ghost use Rattle.stateful_bank.specs.Accounts.{Becomes, withdrawn, deposited, do
 use crate::op::Op;
 use stateful_types::OutOfMemory;
 
-/// What keeps the balances of accounts. Contracts see it as states, which tell what each account has.
+/// What keeps the balances of accounts. Contracts see it as states, which tell what each account
+/// has.
 pub trait Accounts: Sized + Drop {
     ghost use Rattle.std.specs.Prelude.{◌≡◌, ℕ, IfOk};
     ghost use Rattle.stateful_bank.specs.Accounts.{Book};
@@ -30,7 +31,8 @@ pub trait Accounts: Sized + Drop {
             shows after (book.with_balance s account balance)) };
 }
 
-/// The accounts with so much less at this one. None exactly where it hasn't that much, or can't be read.
+/// The accounts with so much less at this one. None exactly where it hasn't that much, or can't be
+/// read.
 fn withdraw<A: Accounts>(accounts: A, account: u16, amount: u64) -> Result<Option<A>, OutOfMemory>
     ensures { IfOk result (λ after. (s : A.book.State) →
         A.shows accounts s →
@@ -43,8 +45,8 @@ fn withdraw<A: Accounts>(accounts: A, account: u16, amount: u64) -> Result<Optio
     }
 }
 
-/// The accounts with so much more at this one. None exactly where the sum would pass the last number, or where it can't
-/// be read.
+/// The accounts with so much more at this one. None exactly where the sum would pass the last
+/// number, or where it can't be read.
 fn deposit<A: Accounts>(accounts: A, account: u16, amount: u64) -> Result<Option<A>, OutOfMemory>
     ensures { IfOk result (λ after. (s : A.book.State) →
         A.shows accounts s →
@@ -57,7 +59,8 @@ fn deposit<A: Accounts>(accounts: A, account: u16, amount: u64) -> Result<Option
     }
 }
 
-/// The accounts after an operation. None exactly where it isn't allowed, or where an account of it can't be read.
+/// The accounts after an operation. None exactly where it isn't allowed, or where an account of it
+/// can't be read.
 pub fn do_op<A: Accounts>(accounts: A, op: &Op) -> Result<Option<A>, OutOfMemory>
     ensures { IfOk result (λ after. (s : A.book.State) →
         A.shows accounts s →
@@ -72,8 +75,8 @@ pub fn do_op<A: Accounts>(accounts: A, op: &Op) -> Result<Option<A>, OutOfMemory
     }
 }
 
-/// The accounts after these operations, in order. None exactly where one of them isn't allowed, or where an account of
-/// it can't be read.
+/// The accounts after these operations, in order. None exactly where one of them isn't allowed, or
+/// where an account of it can't be read.
 pub fn do_ops<A: Accounts>(accounts: A, ops: &[Op]) -> Result<Option<A>, OutOfMemory>
     ensures { IfOk result (λ after. (s : A.book.State) →
         A.shows accounts s →

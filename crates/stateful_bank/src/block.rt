@@ -5,7 +5,8 @@ ghost use Rattle.std.specs.Option.{SomeIff};
 ghost use Rattle.std.specs.List.{flat_map};
 ghost use Rattle.stateful_types.specs.Number.{u32_format};
 ghost use Rattle.stateful_bank.specs.Op.{op_bytes};
-ghost use Rattle.stateful_bank.specs.BankBlock.{block_header, block_bytes, head_bytes, target_bytes, genesis_block, child_block};
+ghost use Rattle.stateful_bank.specs.BankBlock.{block_header, block_bytes, head_bytes};
+ghost use Rattle.stateful_bank.specs.BankBlock.{target_bytes, genesis_block, child_block};
 
 use crate::op::Op;
 use stateful_types::{
@@ -16,8 +17,8 @@ use std::alloc::Global;
 /// The most operations of a block that a script names or a build makes.
 pub const MAX_OPS: usize = 16;
 
-/// A block: operations at a height over a parent, and what they lead to. Its hook takes `slow` turns. There is one
-/// target for each database.
+/// A block: operations at a height over a parent, and what they lead to. Its hook takes `slow`
+/// turns. There is one target for each database.
 #[derive(Debug, Drop)]
 pub struct BankBlock {
     pub height: Height,
@@ -46,8 +47,8 @@ impl BankBlock {
         }
     }
 
-    /// The block one above a parent of this height and digest, whose hook takes no turn. None exactly where no height
-    /// is left.
+    /// The block one above a parent of this height and digest, whose hook takes no turn. None
+    /// exactly where no height is left.
     pub fn child(
         height: Height,
         parent: Digest,
@@ -146,7 +147,8 @@ impl Block for BankBlock {
         self.round
     }
 
-    /// Appends the block's bytes. More operations or targets than their number can say are refused as want of memory.
+    /// Appends the block's bytes. More operations or targets than their number can say are refused
+    /// as want of memory.
     #[tactic(auto, using(std::proofs::Common::append_assoc), unfolding(crate::specs::BankBlock::block_bytes))]
     fn encode(&self, out: &mut Vec<u8>) -> Result<(), OutOfMemory>
         ensures bytes { OnOk result (out.new.items ≡ out.old.items ++ block_bytes self.now) }

@@ -9,8 +9,9 @@ use crate::block::{BankBlock, MAX_OPS};
 use crate::op::Op;
 use stateful_types::{Digest, Handoff, Height, Items, Round, Target};
 
-/// What a build is asked for: how its block is handed over, the height and the digest of its parent, its round, and its
-/// operations. A block that is proposed, and not prepared, is handed over as `Vote`.
+/// What a build is asked for: how its block is handed over, the height and the digest of its
+/// parent, its round, and its operations. A block that is proposed, and not prepared, is handed
+/// over as `Vote`.
 #[derive(Debug, Drop)]
 pub struct Proposal {
     pub decision: Handoff<()>,
@@ -21,8 +22,8 @@ pub struct Proposal {
 }
 
 impl Proposal {
-    /// Whether it is declined whatever the states are: where nothing is to be handed over, where there are no operations
-    /// or more than `MAX_OPS`, and where no height is left.
+    /// Whether it is declined whatever the states are: where nothing is to be handed over, where
+    /// there are no operations or more than `MAX_OPS`, and where no height is left.
     pub fn is_declined(&self) -> bool
         ensures { IsTrue result ↔ IsDeclined self.now }
     {
@@ -48,8 +49,8 @@ impl Proposal {
     }
 }
 
-/// A build on given states hands over one thing and no other, where what blocks lead to doesn't hang on the targets that
-/// they commit to. The call does nothing: a caller learns what it ensures.
+/// A build on given states hands over one thing and no other, where what blocks lead to doesn't
+/// hang on the targets that they commit to. The call does nothing: a caller learns what it ensures.
 pub fn one_is_given<States>()
     ensures { (step : States → BankBlock → Option States) (targets_of : States → List Target) →
         GivesOne step targets_of }

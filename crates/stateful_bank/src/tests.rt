@@ -7,8 +7,8 @@ use std::collections::BTreeMap;
 use std::process::Abort;
 use std::test::Fail;
 
-// The roots, bytes and digests below were computed by another program: of genesis over one database, and of a block
-// of two operations on a child of it.
+// The roots, bytes and digests below were computed by another program: of genesis over one
+// database, and of a block of two operations on a child of it.
 const GENESIS_ROOT: &[u8; 32] = b"\
     \xcd\x26\x62\x15\x4e\x6d\x76\xb2\xb2\xb9\x2e\x70\xc0\xca\xc3\xcc\xf5\x34\xf9\xb7\x4e\xb5\
     \xb8\x98\x19\xec\x50\x90\x83\xd0\x0a\x50";

@@ -15,4 +15,5 @@ IsAtHand anchor cache digest = (digest ≡ anchor.digest) ⊎ IsIn cache digest
 -- the parent of each entry is the anchor, or the block of an entry before it
 abbrev pub InOrder : {U : Type 0} → Digest → List Digest → List (Cached U) → Type 0
 InOrder anchor earlier [] = Unit {0}
-InOrder anchor earlier (e ∷ es) = ((e.parent ≡ anchor) ⊎ Contains earlier e.parent) × InOrder anchor (earlier ++ e.digest ∷ []) es
+InOrder anchor earlier (e ∷ es) =
+    ((e.parent ≡ anchor) ⊎ Contains earlier e.parent) × InOrder anchor (earlier ++ e.digest ∷ []) es

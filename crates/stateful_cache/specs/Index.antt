@@ -5,7 +5,11 @@ use Rattle.stateful_types.specs.Digest.{digest_cmp}
 use Rattle.stateful_types.specs.declared.digest.Digest.{Digest}
 use Rattle.stateful_cache.specs.declared.cache.Cached.{Cached}
 
--- the place of a digest is that of an entry of this digest, and the digest of each entry has a place
-pub record IsIndex {U : Type 0} (entries : List (Cached U)) (places : BTreeMap Digest ℕ) : Type 0 where
-  pub sound : (d : Digest) (i : ℕ) → get digest_cmp places d ≡ Some i → MatchOption (slice_get entries i) ⊥ (λ e. e.digest ≡ d)
+-- the place of a digest is that of an entry of this digest, and the digest of each entry has a
+-- place
+pub record IsIndex {U : Type 0} (entries : List (Cached U))
+    (places : BTreeMap Digest ℕ) : Type 0 where
+  pub sound : (d : Digest) (i : ℕ)
+      → get digest_cmp places d ≡ Some i
+      → MatchOption (slice_get entries i) ⊥ (λ e. e.digest ≡ d)
   pub complete : All (λ e. get digest_cmp places e.digest ≢ None) entries

@@ -1,6 +1,7 @@
 //! The cache: sealed batches of blocks above the anchor that aren't final yet.
 
-ghost use Rattle.std.specs.Prelude.{◌≡◌, ◌≢◌, ◌++◌, ◌∷◌, [], IfOk, IfErr, OnOk, OnErr, IsTrue, ◌↔◌, ◌⊎◌, Any, All, MatchOption, IfSome, IfNone, Contains};
+ghost use Rattle.std.specs.Prelude.{◌≡◌, ◌≢◌, ◌++◌, ◌∷◌, [], IfOk, IfErr, OnOk, OnErr, IsTrue, ◌↔◌};
+ghost use Rattle.std.specs.Prelude.{◌⊎◌, Any, All, MatchOption, IfSome, IfNone, Contains};
 ghost use Rattle.std.specs.Option.{option_copied};
 ghost use Rattle.std.specs.BTreeSet.{keys};
 ghost use Rattle.stateful_cache.specs.Cut.{IsCutTo, IsRootOf, GoesOn, DescendsFrom, AreDescendants};
@@ -88,7 +89,8 @@ fn is_behind<U: Drop>(root: Anchor, digests: &BTreeSet<Digest>, entry: &Cached<U
     entry.parent.is(root.digest) || digests.contains(&entry.parent)
 }
 
-/// Whether the entry is another than the root, of a later round, and a child of the root or of one of these.
+/// Whether the entry is another than the root, of a later round, and a child of the root or of one
+/// of these.
 fn descends<U: Drop>(root: Anchor, digests: &BTreeSet<Digest>, entry: &Cached<U>) -> bool
     ensures { IsTrue result ↔ DescendsFrom root (keys digests.now) entry.now }
 {

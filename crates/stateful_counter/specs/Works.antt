@@ -31,7 +31,8 @@ pub record IsRun (run : CounterRun) (r : CounterRunOf) (turns : ℕ) : Type 0 wh
   pub block_is : run.block ≡ block_of r
   pub batch : IsSomeAnd run.batch (λ u. DraftShows u ((r.own, begun r.at.1) ∷ r.at ∷ r.below))
 
--- the block that a request asks for on this state: one above its parent, which it names by the digest of the parent's bytes
+-- the block that a request asks for on this state: one above its parent, which it names by the
+-- digest of the parent's bytes
 abbrev pub block_for : Asked CounterBlock Round Add → Whole → CounterBlock
 block_for a whole = record {
   parent = record { 0 = sha256 (block_bytes a.parent) };
@@ -41,13 +42,15 @@ block_for a whole = record {
   target = target_of (added_to whole a.input.0);
 }
 
--- a build for the request on this state hands its block over to be voted on, and nothing where it would add 0
+-- a build for the request on this state hands its block over to be voted on, and nothing where it
+-- would add 0
 abbrev pub Gives : Asked CounterBlock Round Add → Whole → Handoff CounterBlock → Type 0
 Gives a whole Wait = a.input.0 ≡ 0
 Gives a whole (Vote b) = (a.input.0 ≢ 0) × (b ≡ block_for a whole)
 Gives a whole (Stage b) = ⊥
 
--- the build is of this, and no turn was taken: it has what its block says but for the target, and a batch without changes
+-- the build is of this, and no turn was taken: it has what its block says but for the target, and a
+-- batch without changes
 pub record IsBuild (build : CounterBuild) (b : CounterBuildOf) (turns : ℕ) : Type 0 where
   pub turns_are : turns ≡ 0
   pub parent_is : build.parent ≡ (block_for b.asked b.at.1).parent
@@ -56,8 +59,10 @@ pub record IsBuild (build : CounterBuild) (b : CounterBuildOf) (turns : ℕ) : T
   pub added_is : build.added ≡ b.asked.input.0
   pub batch : IsSomeAnd build.batch (λ u. DraftShows u ((b.own, begun b.at.1) ∷ b.at ∷ b.below))
 
--- A run and a build take one turn. Nothing is read before a block is applied, and nothing is left to do behind it.
-abbrev pub counter_works : Works CounterBlock Round Add (Unit {0}) ℕ Whole Target CounterRun CounterBuild NoHook (Unit {0})
+-- A run and a build take one turn. Nothing is read before a block is applied, and nothing is left
+-- to do behind it.
+abbrev pub counter_works : Works CounterBlock Round Add
+    (Unit {0}) ℕ Whole Target CounterRun CounterBuild NoHook (Unit {0})
 counter_works = record {
   meaning = counter_meaning;
   gives = Gives;
@@ -77,4 +82,5 @@ one_turn n is = let one = same_Some 1 n is in omega arith
 
 -- a run and a build take a turn at least
 pub counter_takes_turns : TakesTurns counter_works
-counter_takes_turns = record { runs = λ f s b n is. one_turn n is; builds = λ asked s n is. one_turn n is }
+counter_takes_turns =
+    record { runs = λ f s b n is. one_turn n is; builds = λ asked s n is. one_turn n is }

@@ -1,7 +1,7 @@
 //! Blocks that add a number.
 //!
-//! A block names its parent by digest, and commits to the state that it leads to. Its bytes are its fields, one behind the
-//! other, each of a fixed width; so no two blocks have the same bytes.
+//! A block names its parent by digest, and commits to the state that it leads to. Its bytes are its
+//! fields, one behind the other, each of a fixed width; so no two blocks have the same bytes.
 
 ghost use Rattle.std.specs.Prelude.{◌≡◌, ◌++◌, OnOk};
 ghost use Rattle.stateful_counter.specs.CounterBlock.{target_bytes, genesis_block};

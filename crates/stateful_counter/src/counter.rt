@@ -1,10 +1,12 @@
 //! The counter as an application.
 //!
-//! What its blocks do, and what its runs and builds are of, is told by `counter_works`: the clauses of `Application` are
-//! about that record. What a request brings is the number to add; builds are given nothing beside it, nothing is read before
-//! a block is applied, and no hook is left behind one.
+//! What its blocks do, and what its runs and builds are of, is told by `counter_works`: the clauses
+//! of `Application` are about that record. What a request brings is the number to add; builds are
+//! given nothing beside it, nothing is read before a block is applied, and no hook is left behind
+//! one.
 //!
-//! It never fails. Where no height is left for a block, or no number for the range of a state, it says that memory is wanting.
+//! It never fails. Where no height is left for a block, or no number for the range of a state, it
+//! says that memory is wanting.
 
 ghost use Rattle.std.specs.Prelude.{◌≡◌, ℕ, List, ◌∷◌, IfOk, IsErrOf};
 ghost use Rattle.stateful_db.specs.Works.{asked_for, run_of, build_of};
@@ -106,7 +108,8 @@ impl Application for Counter {
     ghost use Rattle.stateful_plain.specs.Shown.{DraftShows};
     ghost use Rattle.stateful_db.specs.declared.application.Hooked.{Hooked};
     ghost use Rattle.stateful_counter.specs.CounterBlock.{genesis_block};
-    ghost use Rattle.stateful_counter.specs.Works.{counter_works, counter_takes_turns, IsRun, IsBuild};
+    ghost use Rattle.stateful_counter.specs.Works.{counter_works, counter_takes_turns, IsRun};
+    ghost use Rattle.stateful_counter.specs.Works.{IsBuild};
 
     type SigningScheme = VoteScheme;
 

@@ -1,7 +1,8 @@
 //! Runs and builds, and what each does in its one turn.
 //!
-//! The count is read through the batch, so it is that of the states which the run stands on, also where these aren't applied
-//! yet. Where the databases have moved on to another branch the batch is stale, and nothing comes of it.
+//! The count is read through the batch, so it is that of the states which the run stands on, also
+//! where these aren't applied yet. Where the databases have moved on to another branch the batch is
+//! stale, and nothing comes of it.
 
 ghost use Rattle.std.specs.Prelude.{◌≡◌, ℕ, List, ◌∷◌, IfOk, IsErrOf, IsSomeAnd};
 ghost use Rattle.stateful_db.specs.Chain.{IsPoint};
@@ -27,8 +28,8 @@ pub struct CounterRun {
     pub(crate) batch: Option<PlainUnmerkleized>,
 }
 
-/// A build of a block that adds a number, at this height over a parent of this digest, with a batch without changes until
-/// it has ended.
+/// A build of a block that adds a number, at this height over a parent of this digest, with a batch
+/// without changes until it has ended.
 #[derive(Drop)]
 pub struct CounterBuild {
     pub(crate) parent: Digest,
@@ -84,8 +85,9 @@ impl CounterBuild {
     }
 }
 
-/// The sealed batch with this number added to the count, which stays at the last number. None where the batch is stale.
-/// Where no number is left for the state's range it is refused as want of memory.
+/// The sealed batch with this number added to the count, which stays at the last number. None where
+/// the batch is stale. Where no number is left for the state's range it is refused as want of
+/// memory.
 pub(crate) fn add(
     batch: PlainUnmerkleized,
     database: &Plain,

@@ -1,5 +1,6 @@
 -- Barriers, as a list of tokens with their answers.
-use Rattle.std.specs.Prelude.{◌≡◌, ℕ, zero, suc, List, [], ◌∷◌, Option, Some, None, All, Any, slice_get, option_and_then}
+use Rattle.std.specs.Prelude.{◌≡◌, ℕ, zero, suc, List, [], ◌∷◌, Option, Some, None, All, Any}
+use Rattle.std.specs.Prelude.{slice_get, option_and_then}
 use Rattle.stateful_db.specs.declared.database.FlushToken.{FlushToken}
 use Rattle.stateful_db.specs.declared.barrier.Handle.{Handle}
 use Rattle.stateful_db.specs.declared.barrier.Flushed.{Flushed}
@@ -34,7 +35,8 @@ IsBroken handle = handle.answer ≡ Some Interrupted
 abbrev pub IsOpen : Handle → Type 0
 IsOpen handle = handle.answer ≡ None
 
--- durable where every flush was good, interrupted where one was, and pending where one is open and none was interrupted
+-- durable where every flush was good, interrupted where one was, and pending where one is open and
+-- none was interrupted
 abbrev pub Polled : List Handle → BarrierPoll → Type 0
 Polled handles poll.Durable = All IsGood handles
 Polled handles poll.Interrupted = Any IsBroken handles

@@ -1,8 +1,10 @@
 -- What a medium keeps, and what a database adds to it.
-use Rattle.std.specs.Prelude.{◌≡◌, ℕ, ◌+◌, ◌-◌, ◌<◌, ◌≤◌, List, [], ◌∷◌, ◌++◌, ◌⊎◌, length, take, drop, min, max, slice_get, Some}
+use Rattle.std.specs.Prelude.{◌≡◌, ℕ, ◌+◌, ◌-◌, ◌<◌, ◌≤◌, List, [], ◌∷◌, ◌++◌, ◌⊎◌, length, take}
+use Rattle.std.specs.Prelude.{drop, min, max, slice_get, Some}
 use Rattle.stateful_types.specs.declared.target.Target.{Target}
 
--- The kept checkpoints, oldest first, with the place of the last durable one. Places count the pruned ones too.
+-- The kept checkpoints, oldest first, with the place of the last durable one. Places count the
+-- pruned ones too.
 pub record Disk (S : Type 0) : Type 0 where
   pub older : List S
   pub newest : S
@@ -36,7 +38,8 @@ module _ {S : Type 0} where
 
   -- a prefix that contains the durable one
   pub record IsCrash (keep : ℕ) (d e : Disk S) : Type 0 where
-    pub prefix : all e ≡ take (max (d.durable + 1 - d.pruned) (min (keep - d.pruned) (length (all d)))) (all d)
+    pub prefix : all e
+        ≡ take (max (d.durable + 1 - d.pruned) (min (keep - d.pruned) (length (all d)))) (all d)
     pub pruned : e.pruned ≡ d.pruned
     pub durable : e.durable ≡ d.durable
 
@@ -50,16 +53,24 @@ module _ {S : Type 0} where
   abbrev pub IsEither : Disk S → Disk S → Disk S → Type 0
   IsEither old new d = (d ≡ old) ⊎ (d ≡ new)
 
--- The durable checkpoint is kept and no newer than the newest one. The range of each checkpoint ends behind that of every
--- earlier one, and doesn't start before it.
+-- The durable checkpoint is kept and no newer than the newest one. The range of each checkpoint
+-- ends behind that of every earlier one, and doesn't start before it.
 pub record IsSound {S : Type 0} (range_of : S → Target) (d : Disk S) : Type 0 where
   pub kept : d.pruned ≤ d.durable
   pub within : d.durable ≤ place d
-  pub ends : (i j : ℕ) (s t : S) → i < j → slice_get (all d) i ≡ Some s → slice_get (all d) j ≡ Some t → (range_of s).end.0 < (range_of t).end.0
-  pub starts : (i j : ℕ) (s t : S) → i < j → slice_get (all d) i ≡ Some s → slice_get (all d) j ≡ Some t → (range_of s).start.0 ≤ (range_of t).start.0
+  pub ends : (i j : ℕ) (s t : S)
+      → i < j
+      → slice_get (all d) i ≡ Some s
+      → slice_get (all d) j ≡ Some t
+      → (range_of s).end.0 < (range_of t).end.0
+  pub starts : (i j : ℕ) (s t : S)
+      → i < j
+      → slice_get (all d) i ≡ Some s
+      → slice_get (all d) j ≡ Some t
+      → (range_of s).start.0 ≤ (range_of t).start.0
 
--- an open database: the id of the last applied batch (0 after opening), its disk, and the places of the tokens that are
--- out, the oldest first
+-- an open database: the id of the last applied batch (0 after opening), its disk, and the places of
+-- the tokens that are out, the oldest first
 pub record Standing (S : Type 0) : Type 0 where
   pub id : ℕ
   pub disk : Disk S

@@ -23,7 +23,8 @@ module _ {Block States Targets : Type 0} (m : Meaning Block States Targets) wher
       accepted false = None
   outcome Finalized s b = m.step s b
 
--- a turn goes on, or ends without a batch where there are no states, or with a batch that shows the states
+-- a turn goes on, or ends without a batch where there are no states, or with a batch that shows the
+-- states
 abbrev pub Ends : {M S : Type 0} → Moved (Option M) → Option S → (M → S → Type 0) → Type 0 → Type 0
 Ends Pending o Shows GoesOn = GoesOn
 Ends (Done None) o Shows GoesOn = o ≡ None

@@ -1,8 +1,10 @@
 -- A database of a set, wherever it is.
-use Rattle.std.specs.Prelude.{◌≡◌, ℕ, ◌+◌, ◌-◌, ◌<◌, ◌⊎◌, List, [], ◌∷◌, ◌++◌, drop, length, Bool, true, Option, Some, None}
+use Rattle.std.specs.Prelude.{◌≡◌, ℕ, ◌+◌, ◌-◌, ◌<◌, ◌⊎◌, List, [], ◌∷◌, ◌++◌, drop, length, Bool}
+use Rattle.std.specs.Prelude.{true, Option, Some, None}
 use Rattle.stateful_types.specs.Causes.{Rose}
 use Rattle.stateful_types.specs.declared.target.Target.{Target}
-use Rattle.stateful_db.specs.Disk.{Disk, Standing, HasAt, IsSound, IsEither, IsCrash, all, applied, point, place, flushed}
+use Rattle.stateful_db.specs.Disk.{Disk, Standing, HasAt, IsSound, IsEither, IsCrash, all, applied}
+use Rattle.stateful_db.specs.Disk.{point, place, flushed}
 use Rattle.stateful_db.specs.Tokens.{without}
 use Rattle.stateful_db.specs.Reopening.{Reopens, HasNone, Differs, Refuses, KeepsDurable, pruned_to}
 use Rattle.stateful_db.specs.declared.database.InitError.{InitError}
@@ -30,7 +32,8 @@ module _ {S : Type 0} where
 
   -- its checkpoints from this place on are these states, less the pruned ones
   abbrev pub MemberKeeps : Member S → ℕ → List S → Type 0
-  MemberKeeps (here s) origin states = drop (origin - s.disk.pruned) (all s.disk) ≡ drop (s.disk.pruned - origin) states
+  MemberKeeps (here s) origin states =
+      drop (origin - s.disk.pruned) (all s.disk) ≡ drop (s.disk.pruned - origin) states
   MemberKeeps _ origin states = ⊥
 
   -- the place of its oldest checkpoint
@@ -165,7 +168,8 @@ module _ {S T : Type 0} (target_of : S → T) (targeted : T → Target) where
   IsLostPruning (here s) t (lost d) = IsEither s.disk (pruned_to target_of targeted t s.disk) d
   IsLostPruning _ t m = ⊥
 
-  -- where it was closed or lost, it is open at its checkpoint of the expected target, or at the latest; else it is as before
+  -- where it was closed or lost, it is open at its checkpoint of the expected target, or at the
+  -- latest; else it is as before
   abbrev pub MemberReopened : Member S → Option T → Member S → Type 0
   MemberReopened (here s) expected m = m ≡ here s
   MemberReopened away expected m = m ≡ away
@@ -173,12 +177,15 @@ module _ {S T : Type 0} (target_of : S → T) (targeted : T → Target) where
   MemberReopened (lost d) expected (here s) = Reopens target_of targeted expected d s
   MemberReopened _ expected m = ⊥
 
-  -- where it was closed or lost, it is closed, at the checkpoint at which it was opened; else it is as before
+  -- where it was closed or lost, it is closed, at the checkpoint at which it was opened; else it is
+  -- as before
   abbrev pub MemberReclosed : Member S → Option T → Member S → Type 0
   MemberReclosed (here s) expected m = m ≡ here s
   MemberReclosed away expected m = m ≡ away
-  MemberReclosed (closed d) expected (closed e) = (s : Standing S) × Reopens target_of targeted expected d s × (e ≡ s.disk)
-  MemberReclosed (lost d) expected (closed e) = (s : Standing S) × Reopens target_of targeted expected d s × (e ≡ s.disk)
+  MemberReclosed (closed d) expected (closed e) =
+      (s : Standing S) × Reopens target_of targeted expected d s × (e ≡ s.disk)
+  MemberReclosed (lost d) expected (closed e) =
+      (s : Standing S) × Reopens target_of targeted expected d s × (e ≡ s.disk)
   MemberReclosed _ expected m = ⊥
 
   -- it was closed or lost, and its checkpoints speak against an opening, for this reason
@@ -187,15 +194,23 @@ module _ {S T : Type 0} (target_of : S → T) (targeted : T → Target) where
   MemberRefuses (lost d) expected why = Refuses target_of targeted expected d why
   MemberRefuses _ expected why = ⊥
 
-  -- it doesn't open at its checkpoint of the expected target, or at the latest, for this reason, which may be that its count
-  -- rose: it is lost where it failed or wanted memory, and else closed as before
+  -- it doesn't open at its checkpoint of the expected target, or at the latest, for this reason,
+  -- which may be that its count rose: it is lost where it failed or wanted memory, and else closed
+  -- as before
   abbrev pub IsNotOpened : Option T → Disk S → (before now : ℕ) → InitError → Member S → Type 0
-  IsNotOpened expected d before now error.Database m = (Rose before now × (m ≡ lost d)) ⊎ (HasNone target_of targeted expected d × (m ≡ closed d))
-  IsNotOpened expected d before now (error.TargetMismatch given recovered) m = Differs target_of targeted expected d given recovered × (m ≡ closed d)
+  IsNotOpened expected d before now error.Database m =
+      (Rose before now × (m ≡ lost d)) ⊎ (HasNone target_of targeted expected d × (m ≡ closed d))
+  IsNotOpened expected d before now (error.TargetMismatch given recovered) m =
+      Differs target_of targeted expected d given recovered × (m ≡ closed d)
   IsNotOpened expected d before now error.OutOfMemory m = m ≡ lost d
 
   -- it was closed or lost, and doesn't open
-  abbrev pub MemberNotOpened : Member S → Option T → (before now : ℕ) → InitError → Member S → Type 0
+  abbrev pub MemberNotOpened : Member S
+      → Option T
+      → (before now : ℕ)
+      → InitError
+      → Member S
+      → Type 0
   MemberNotOpened (closed d) expected before now why m = IsNotOpened expected d before now why m
   MemberNotOpened (lost d) expected before now why m = IsNotOpened expected d before now why m
   MemberNotOpened _ expected before now why m = ⊥

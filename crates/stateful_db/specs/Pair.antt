@@ -1,5 +1,7 @@
--- What a set means that has one database before the others. The first has the number 0, and the others follow.
-use Rattle.std.specs.Prelude.{◌≡◌, ℕ, zero, suc, ◌+◌, ◌-◌, ◌^◌, ◌⊎◌, min, List, map, drop, Option, Some, None}
+-- What a set means that has one database before the others. The first has the number 0, and the
+-- others follow.
+use Rattle.std.specs.Prelude.{◌≡◌, ℕ, zero, suc, ◌+◌, ◌-◌, ◌^◌, ◌⊎◌, min, List, map, drop, Option}
+use Rattle.std.specs.Prelude.{Some, None}
 use Rattle.std.specs.Option.{option_map}
 use Rattle.stateful_db.specs.Databases.{Databases}
 use Rattle.stateful_db.specs.declared.set.SetError.{SetError}
@@ -32,12 +34,20 @@ by_number here behind zero = here
 by_number here behind (suc i) = behind i
 
 module _ {I J S U T V : Type 0} (a : Databases I S T) (b : Databases J U V) where
-  -- the first is lost, and the others are as before; or it has changed so, and one of the others is lost
-  abbrev pub LostInOrder : (a.Members → Type 0) → a.Members → (ℕ → b.Members → Type 0) → b.Members → ℕ → a.Members × b.Members → Type 0
+  -- the first is lost, and the others are as before; or it has changed so, and one of the others is
+  -- lost
+  abbrev pub LostInOrder : (a.Members → Type 0)
+      → a.Members
+      → (ℕ → b.Members → Type 0)
+      → b.Members
+      → ℕ
+      → a.Members × b.Members
+      → Type 0
   LostInOrder Lost changed LostBehind others zero k = Lost k.0 × (k.1 ≡ others)
   LostInOrder Lost changed LostBehind others (suc i) k = (k.0 ≡ changed) × LostBehind i k.1
 
-  -- the first is lost, and the others are as before; or one of the others is lost, and the first is as before
+  -- the first is lost, and the others are as before; or one of the others is lost, and the first is
+  -- as before
   abbrev pub pair : Databases (I × J) (S × U) (T × V)
   pair = record {
     Members = a.Members × b.Members;
@@ -54,7 +64,9 @@ module _ {I J S U T V : Type 0} (a : Databases I S T) (b : Databases J U V) wher
     begun = λ s. (a.begun s.0, b.begun s.1);
     issued = λ n c. a.issued n.0 (map left c) × b.issued n.1 (map right c);
     HasAt = λ m i k s. by_number (a.HasAt m.0 0 k s.0) (λ j. b.HasAt m.1 j k s.1) i;
-    Keeps = λ m i origin states. by_number (a.Keeps m.0 0 origin (map (λ s. s.0) states)) (λ j. b.Keeps m.1 j origin (map (λ s. s.1) states)) i;
+    Keeps =
+        λ m i origin states. by_number (a.Keeps m.0 0 origin (map (λ s. s.0) states))
+        (λ j. b.Keeps m.1 j origin (map (λ s. s.1) states)) i;
     first = λ m. by_number (a.first m.0 0) (b.first m.1);
     place = λ m. by_number (a.place m.0 0) (b.place m.1);
     durable = λ m. by_number (a.durable m.0 0) (b.durable m.1);
@@ -72,22 +84,36 @@ module _ {I J S U T V : Type 0} (a : Databases I S T) (b : Databases J U V) wher
     flushed = λ m i at. by_number (a.flushed m.0 0 at, m.1) (λ j. (m.0, b.flushed m.1 j at)) i;
     Prunable = λ m t. a.Prunable m.0 t.0 × b.Prunable m.1 t.1;
     pruned = λ m t. (a.pruned m.0 t.0, b.pruned m.1 t.1);
-    LostApplying = λ m p. LostInOrder (a.LostApplying m.0 (left p) 0) (a.applied m.0 (left p)) (b.LostApplying m.1 (right p)) m.1;
-    LostFinalizing = λ m. LostInOrder (a.LostFinalizing m.0 0) (a.finalized m.0) (b.LostFinalizing m.1) m.1;
-    LostFlushing = λ m i at k. by_number (a.LostFlushing m.0 0 at k.0 × (k.1 ≡ m.1)) (λ j. (k.0 ≡ m.0) × b.LostFlushing m.1 j at k.1) i;
-    LostPruning = λ m t. LostInOrder (a.LostPruning m.0 t.0 0) (a.pruned m.0 t.0) (b.LostPruning m.1 t.1) m.1;
-    Reopened = λ m expected k. a.Reopened m.0 (first_of expected) k.0 × b.Reopened m.1 (others_of expected) k.1;
-    Reclosed = λ m expected k. a.Reclosed m.0 (first_of expected) k.0 × b.Reclosed m.1 (others_of expected) k.1;
-    Refuses = λ m expected i why. by_number (a.Refuses m.0 (first_of expected) 0 why) (λ j. b.Refuses m.1 (others_of expected) j why) i;
+    LostApplying =
+        λ m p. LostInOrder (a.LostApplying m.0 (left p) 0) (a.applied m.0 (left p))
+        (b.LostApplying m.1 (right p)) m.1;
+    LostFinalizing =
+        λ m. LostInOrder (a.LostFinalizing m.0 0) (a.finalized m.0) (b.LostFinalizing m.1) m.1;
+    LostFlushing =
+        λ m i at k. by_number (a.LostFlushing m.0 0 at k.0 × (k.1 ≡ m.1))
+        (λ j. (k.0 ≡ m.0) × b.LostFlushing m.1 j at k.1) i;
+    LostPruning =
+        λ m t. LostInOrder (a.LostPruning m.0 t.0 0) (a.pruned m.0 t.0) (b.LostPruning m.1 t.1) m.1;
+    Reopened =
+        λ m expected k. a.Reopened m.0 (first_of expected) k.0
+        × b.Reopened m.1 (others_of expected) k.1;
+    Reclosed =
+        λ m expected k. a.Reclosed m.0 (first_of expected) k.0
+        × b.Reclosed m.1 (others_of expected) k.1;
+    Refuses =
+        λ m expected i why. by_number (a.Refuses m.0 (first_of expected) 0 why)
+        (λ j. b.Refuses m.1 (others_of expected) j why) i;
     NotOpened = λ m expected i before now why k.
         by_number
         (a.NotOpened m.0 (first_of expected) 0 before now why k.0 × (k.1 ≡ m.1))
-        (λ j. a.Reclosed m.0 (first_of expected) k.0 × b.NotOpened m.1 (others_of expected) j before now why k.1)
+        (λ j. a.Reclosed m.0 (first_of expected) k.0
+        × b.NotOpened m.1 (others_of expected) j before now why k.1)
         i;
     Crashed = λ m keep k. a.Crashed m.0 keep k.0 × b.Crashed m.1 (drop 1 keep) k.1;
   }
 
--- the error of a set that stands behind one database: its databases have the next numbers, up to the last one
+-- the error of a set that stands behind one database: its databases have the next numbers, up to
+-- the last one
 abbrev pub behind_first : SetError → SetError
 behind_first (DatabaseFault index call) = DatabaseFault (min (index + 1) (2 ^ 64 - 1)) call
 behind_first error = error

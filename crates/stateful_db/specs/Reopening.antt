@@ -1,5 +1,6 @@
 -- How a database opens on its medium, and why it doesn't.
-use Rattle.std.specs.Prelude.{◌≡◌, ◌≢◌, ℕ, ◌+◌, ◌≤◌, ◌==◌, ◌⊎◌, length, [], Option, Some, None, position, slice_get, unwrap_or}
+use Rattle.std.specs.Prelude.{◌≡◌, ◌≢◌, ℕ, ◌+◌, ◌≤◌, ◌==◌, ◌⊎◌, length, [], Option, Some, None}
+use Rattle.std.specs.Prelude.{position, slice_get, unwrap_or}
 use Rattle.stateful_types.specs.declared.target.Target.{Target}
 use Rattle.stateful_db.specs.Disk.{Disk, Standing, IsOpened, all, cut}
 use Rattle.stateful_db.specs.declared.database.InitError.{InitError}
@@ -23,7 +24,8 @@ module _ {S T : Type 0} (target_of : S → T) (targeted : T → Target) where
   -- opened at the checkpoint of the expected target, or at the latest
   abbrev pub Reopens : Option T → Disk S → Standing S → Type 0
   Reopens None d s = OpensAt (length d.older) d s
-  Reopens (Some t) d s = (n : ℕ) × (with_end t d ≡ Some n) × (target_of s.disk.newest ≡ t) × OpensAt n d s
+  Reopens (Some t) d s =
+      (n : ℕ) × (with_end t d ≡ Some n) × (target_of s.disk.newest ≡ t) × OpensAt n d s
 
   -- no kept checkpoint has the expected end
   abbrev pub HasNone : Option T → Disk S → Type 0
@@ -33,12 +35,20 @@ module _ {S T : Type 0} (target_of : S → T) (targeted : T → Target) where
   -- the checkpoint of the expected end has another target
   abbrev pub Differs : Option T → Disk S → Target → Target → Type 0
   Differs None d expected recovered = ⊥
-  Differs (Some t) d expected recovered = (n : ℕ) × (s : S) × (with_end t d ≡ Some n) × Is_at d n s × (target_of s ≢ t) × (expected ≡ targeted t) × (recovered ≡ targeted (target_of s))
+  Differs (Some t) d expected recovered =
+      (n : ℕ)
+      × (s : S)
+      × (with_end t d ≡ Some n)
+      × Is_at d n s
+      × (target_of s ≢ t)
+      × (expected ≡ targeted t)
+      × (recovered ≡ targeted (target_of s))
 
   -- why it didn't open
   abbrev pub FailsToReopen : Option T → Disk S → Type 0 → InitError → Type 0
   FailsToReopen expected d rose error.Database = rose ⊎ HasNone expected d
-  FailsToReopen expected d rose (error.TargetMismatch given recovered) = Differs expected d given recovered
+  FailsToReopen expected d rose (error.TargetMismatch given recovered) =
+      Differs expected d given recovered
   FailsToReopen expected d rose error.OutOfMemory = Unit {0}
 
   -- the checkpoints speak against an opening, for this reason
@@ -60,7 +70,8 @@ module _ {S T : Type 0} (target_of : S → T) (targeted : T → Target) where
   abbrev pub pruned_to : T → Disk S → Disk S
   pruned_to t d = cut d (unwrap_or (with_end t d) 0)
 
--- a database that doesn't open for this reason, which may be that its count rose, is lost: it failed, or wanted memory
+-- a database that doesn't open for this reason, which may be that its count rose, is lost: it
+-- failed, or wanted memory
 abbrev pub Loses : InitError → Type 0 → Type 0
 Loses error.Database rose = rose
 Loses (error.TargetMismatch given recovered) rose = ⊥

@@ -3,9 +3,16 @@ use Rattle.std.specs.Prelude.{◌≡◌, ℕ, ◌+◌, ◌-◌, ◌^◌, ◌≤�
 use Rattle.stateful_types.specs.declared.target.Target.{Target}
 use Rattle.stateful_db.specs.Chain.{AllBelow, ids}
 use Rattle.stateful_db.specs.Databases.{Databases}
-use Rattle.stateful_db.specs.Member.{Member, member_point, MemberHasAt, MemberKeeps, member_first, member_place, member_durable, member_tokens, MemberIsSound, IsIdle, HasRoom, IsOpenable, IsNotAway, IsAway, IsLost, MemberHas, member_applied, member_finalized, member_flushed, IsPrunable, member_pruned, IsLostApplying, IsLostFinalizing, IsLostFlushing, IsLostPruning, MemberReopened, MemberReclosed, MemberRefuses, MemberNotOpened, MemberCrashed}
+use Rattle.stateful_db.specs.Member.{Member, member_point, MemberHasAt, MemberKeeps, member_first}
+use Rattle.stateful_db.specs.Member.{member_place, member_durable, member_tokens, MemberIsSound}
+use Rattle.stateful_db.specs.Member.{IsIdle, HasRoom, IsOpenable, IsNotAway, IsAway, IsLost}
+use Rattle.stateful_db.specs.Member.{MemberHas, member_applied, member_finalized, member_flushed}
+use Rattle.stateful_db.specs.Member.{IsPrunable, member_pruned, IsLostApplying, IsLostFinalizing}
+use Rattle.stateful_db.specs.Member.{IsLostFlushing, IsLostPruning, MemberReopened, MemberReclosed}
+use Rattle.stateful_db.specs.Member.{MemberRefuses, MemberNotOpened, MemberCrashed}
 
-module _ {S T : Type 0} (target_of : S → T) (targeted : T → Target) (begun : S → S) (initial : S) where
+module _ {S T : Type 0} (target_of : S → T) (targeted : T → Target) (begun : S → S)
+    (initial : S) where
   abbrev pub single : Databases ℕ S T
   single = record {
     Members = Member S;
@@ -47,6 +54,8 @@ module _ {S T : Type 0} (target_of : S → T) (targeted : T → Target) (begun :
     Reopened = MemberReopened target_of targeted;
     Reclosed = MemberReclosed target_of targeted;
     Refuses = λ m expected i why. MemberRefuses target_of targeted m expected why;
-    NotOpened = λ m expected i before now why k. (i ≡ 0) × MemberNotOpened target_of targeted m expected before now why k;
+    NotOpened =
+        λ m expected i before now why k. (i ≡ 0)
+        × MemberNotOpened target_of targeted m expected before now why k;
     Crashed = λ m keep k. MemberCrashed m (slice_get keep 0) k;
   }

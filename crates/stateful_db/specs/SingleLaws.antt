@@ -6,10 +6,30 @@ use Rattle.stateful_db.specs.Chain.{ids}
 use Rattle.stateful_db.specs.Databases.{Preserves}
 use Rattle.stateful_db.specs.Member.{Member}
 use Rattle.stateful_db.specs.Single.{single}
-use Rattle.stateful_db.specs.Laws.{KeepsUpTo, KeepsFrom, IdLaws, TargetLaws, PlaceLaws, ApplyLaws, FinalizeLaws, FlushLaws, PruneLaws, OpeningLaws, Laws}
-use Rattle.stateful_db.specs.MemberLaws.{AllBelow-cut, has_newest, newest_has, whole_state, has_kept, has_point, not_away_openable, not_away_here, idle_from, room_from, idle_room, tokens_idle, keeps_applied, first_applied, place_applied, durable_applied, tokens_applied, point_applied, kept_applied, kept_lost_applying, durable_lost_applying, keeps_finalized, first_finalized, place_finalized, durable_finalized, tokens_finalized, point_finalized, has_finalized, kept_finalized, lost_finalizing, keeps_flushed, first_flushed, place_flushed, durable_flushed, tokens_flushed, point_flushed, flushed_preserves, lost_flushing, crashed, sound_crashed, prunable_from, keeps_pruned, first_pruned, place_pruned, durable_pruned, tokens_pruned, point_pruned, has_pruned, kept_pruned, lost_pruning, not_refused, refused, refused_reclosed, cause, opened_at, UpTo, up_to_reopened, up_to_reclosed, up_to_not_opened, not_away_reopened, not_away_reclosed, openable_reclosed, openable_not_opened, AllBelow-le}
+use Rattle.stateful_db.specs.Laws.{KeepsUpTo, KeepsFrom, IdLaws, TargetLaws, PlaceLaws, ApplyLaws}
+use Rattle.stateful_db.specs.Laws.{FinalizeLaws, FlushLaws, PruneLaws, OpeningLaws, Laws}
+use Rattle.stateful_db.specs.MemberLaws.{AllBelow-cut, has_newest, newest_has, whole_state}
+use Rattle.stateful_db.specs.MemberLaws.{has_kept, has_point, not_away_openable, not_away_here}
+use Rattle.stateful_db.specs.MemberLaws.{idle_from, room_from, idle_room, tokens_idle}
+use Rattle.stateful_db.specs.MemberLaws.{keeps_applied, first_applied, place_applied}
+use Rattle.stateful_db.specs.MemberLaws.{durable_applied, tokens_applied, point_applied}
+use Rattle.stateful_db.specs.MemberLaws.{kept_applied, kept_lost_applying, durable_lost_applying}
+use Rattle.stateful_db.specs.MemberLaws.{keeps_finalized, first_finalized, place_finalized}
+use Rattle.stateful_db.specs.MemberLaws.{durable_finalized, tokens_finalized, point_finalized}
+use Rattle.stateful_db.specs.MemberLaws.{has_finalized, kept_finalized, lost_finalizing}
+use Rattle.stateful_db.specs.MemberLaws.{keeps_flushed, first_flushed, place_flushed}
+use Rattle.stateful_db.specs.MemberLaws.{durable_flushed, tokens_flushed, point_flushed}
+use Rattle.stateful_db.specs.MemberLaws.{flushed_preserves, lost_flushing, crashed, sound_crashed}
+use Rattle.stateful_db.specs.MemberLaws.{prunable_from, keeps_pruned, first_pruned, place_pruned}
+use Rattle.stateful_db.specs.MemberLaws.{durable_pruned, tokens_pruned, point_pruned, has_pruned}
+use Rattle.stateful_db.specs.MemberLaws.{kept_pruned, lost_pruning, not_refused, refused}
+use Rattle.stateful_db.specs.MemberLaws.{refused_reclosed, cause, opened_at, UpTo, up_to_reopened}
+use Rattle.stateful_db.specs.MemberLaws.{up_to_reclosed, up_to_not_opened, not_away_reopened}
+use Rattle.stateful_db.specs.MemberLaws.{not_away_reclosed, openable_reclosed, openable_not_opened}
+use Rattle.stateful_db.specs.MemberLaws.{AllBelow-le}
 
-module _ {S T : Type 0} (target_of : S → T) (targeted : T → Target) (begun : S → S) (initial : S) where
+module _ {S T : Type 0} (target_of : S → T) (targeted : T → Target) (begun : S → S)
+    (initial : S) where
   ids_laws : IdLaws (single target_of targeted begun initial)
   ids_laws = record {
     issued_first = λ n p c h. (h.0, tt);
@@ -92,9 +112,12 @@ module _ {S T : Type 0} (target_of : S → T) (targeted : T → Target) (begun :
 
   prune_laws : PruneLaws (single target_of targeted begun initial)
   prune_laws = record {
-    prunable_from = λ m t sound idle kept. let k = kept 0 (omega arith) in prunable_from target_of targeted m t k.0 k.1 sound idle k.2 k.3 k.4;
+    prunable_from =
+        λ m t sound idle kept. let k =
+        kept 0 (omega arith) in prunable_from target_of targeted m t k.0 k.1 sound idle k.2 k.3 k.4;
     keeps_pruned = λ m t i. keeps_pruned target_of targeted m t;
-    first_pruned = λ m t i k s sound prunable within. first_pruned target_of targeted m t k s sound prunable;
+    first_pruned =
+        λ m t i k s sound prunable within. first_pruned target_of targeted m t k s sound prunable;
     place_pruned = λ m t i. place_pruned target_of targeted m t;
     durable_pruned = λ m t i. durable_pruned target_of targeted m t;
     tokens_pruned = λ m t i. tokens_pruned target_of targeted m t;
@@ -110,7 +133,9 @@ module _ {S T : Type 0} (target_of : S → T) (targeted : T → Target) (begun :
     };
   }
 
-  up_to : (t : T) (m n : Member S) → UpTo target_of targeted t m n → KeepsUpTo (single target_of targeted begun initial) t m n
+  up_to : (t : T) (m n : Member S)
+      → UpTo target_of targeted t m n
+      → KeepsUpTo (single target_of targeted begun initial) t m n
   up_to t m n is = record {
     kept = λ i k s within h near. (is k s h near).0;
     durable = λ i k s within h near. (is k s h near).1;
@@ -124,18 +149,29 @@ module _ {S T : Type 0} (target_of : S → T) (targeted : T → Target) (begun :
     kept_crashed = λ m n keep i at s within is. (crashed m n (slice_get keep 0) is).2 at s;
     refused = λ m n expected i why within. refused target_of targeted m n expected why;
     refused_first = λ m n expected i j why given before now within refuses is. omega (arith, is.0);
-    cause = λ m n expected i why before now is. cause target_of targeted m expected before now why n is.1;
+    cause =
+        λ m n expected i why before now is. cause target_of targeted m expected before now why n
+        is.1;
     not_refused = λ m t i at s why sound within. not_refused target_of targeted m t at s why sound;
     opened_at = λ m n t i at s sound within. opened_at target_of targeted m n t at s sound;
-    kept_reclosed = λ m n t sound is. up_to t m n (up_to_reclosed target_of targeted m n t sound is);
-    refused_reclosed = λ m n expected i why within. refused_reclosed target_of targeted m n expected why;
+    kept_reclosed =
+        λ m n t sound is. up_to t m n (up_to_reclosed target_of targeted m n t sound is);
+    refused_reclosed =
+        λ m n expected i why within. refused_reclosed target_of targeted m n expected why;
     away_reclosed = not_away_reclosed target_of targeted;
     openable_reclosed = openable_reclosed target_of targeted;
-    kept_reopened = λ m n t sound is. up_to t m n (up_to_reopened target_of targeted m n t sound is);
-    kept_not_opened = λ m n t j why before now sound is. up_to t m n (up_to_not_opened target_of targeted m n t before now why is.1);
+    kept_reopened =
+        λ m n t sound is. up_to t m n (up_to_reopened target_of targeted m n t sound is);
+    kept_not_opened =
+        λ m n t j why before now sound is. up_to t m n
+        (up_to_not_opened target_of targeted m n t before now why is.1);
     away_reopened = not_away_reopened target_of targeted;
-    away_not_opened = λ m n expected i why before now h is. not_away_openable n (openable_not_opened target_of targeted m n expected before now why is.1);
-    openable_not_opened = λ m n expected i why before now h is. openable_not_opened target_of targeted m n expected before now why is.1;
+    away_not_opened =
+        λ m n expected i why before now h is. not_away_openable n
+        (openable_not_opened target_of targeted m n expected before now why is.1);
+    openable_not_opened =
+        λ m n expected i why before now h is. openable_not_opened target_of targeted m n expected
+        before now why is.1;
   }
 
   pub single_laws : Laws (single target_of targeted begun initial)

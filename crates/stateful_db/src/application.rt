@@ -23,7 +23,8 @@ pub enum AppFault {
     OutOfMemory,
 }
 
-/// How a block is asked for: to be prepared, where the application decides how it is handed over, or to be proposed.
+/// How a block is asked for: to be prepared, where the application decides how it is handed over,
+/// or to be proposed.
 #[derive(Clone, Copy, Debug, PartialEq, Eq)]
 pub enum ProposalKind {
     Prepare,
@@ -56,23 +57,28 @@ pub enum Hooked<H> {
 
 /// Runs and builds blocks on batches over its databases.
 ///
-/// A run is started for a block on batches that show some states. At each turn at which the databases are at a point
-/// of the batches' chain it goes on, or it ends: with batches that show the states after the block, or with none where
-/// there are no such states or, for a candidate, where the block isn't acceptable. It fails only where its count rises.
-/// A build is started on the states of a parent likewise, and ends with nothing, or with a block and batches that show
-/// the states after it.
+/// A run is started for a block on batches that show some states. At each turn at which the
+/// databases are at a point of the batches' chain it goes on, or it ends: with batches that show
+/// the states after the block, or with none where there are no such states or, for a candidate,
+/// where the block isn't acceptable. It fails only where its count rises. A build is started on the
+/// states of a parent likewise, and ends with nothing, or with a block and batches that show the
+/// states after it.
 ///
-/// Behind a finalized block the application has nothing left to do, or a hook, which is turned to its end while the
-/// databases hold the states after the block. What it read of the states before is handed to it.
+/// Behind a finalized block the application has nothing left to do, or a hook, which is turned to
+/// its end while the databases hold the states after the block. What it read of the states before
+/// is handed to it.
 ///
 /// What all of that is of is told by `works`, with the turns that were taken.
 pub trait Application: Faulty + Sized {
-    ghost use Rattle.std.specs.Prelude.{◌≡◌, ℕ, List, ◌∷◌, ◌≤◌, ◌+◌, ◌⊎◌, OnOk, IfOk, IsErrOf, Some};
+    ghost use Rattle.std.specs.Prelude.{◌≡◌, ℕ, List, ◌∷◌, ◌≤◌, ◌+◌, ◌⊎◌, OnOk, IfOk, IsErrOf};
+    ghost use Rattle.std.specs.Prelude.{Some};
     ghost use Rattle.stateful_types.specs.Causes.{Rose};
     ghost use Rattle.stateful_db.specs.Chain.{IsPoint};
     ghost use Rattle.stateful_db.specs.Meaning.{outcome, Ends};
     ghost use Rattle.stateful_db.specs.Hooks.{left};
-    ghost use Rattle.stateful_db.specs.Works.{Works, RunOf, BuildOf, HookOf, asked_for, run_of, build_of, hook_of, block_of, run_chain, Costs, CostsHook, BuildEnds, TakesTurns};
+    ghost use Rattle.stateful_db.specs.Works.{Works, RunOf, BuildOf, HookOf, asked_for, run_of};
+    ghost use Rattle.stateful_db.specs.Works.{build_of, hook_of, block_of, run_chain, Costs};
+    ghost use Rattle.stateful_db.specs.Works.{CostsHook, BuildEnds, TakesTurns};
     ghost use Rattle.stateful_db.specs.declared.application.ProposalKind.{ProposalKind};
     ghost use Rattle.stateful_db.specs.declared.application.Hooked.{Hooked};
 
@@ -102,7 +108,9 @@ pub trait Application: Faulty + Sized {
     type Hook: Faulty + Drop;
 
     /// How it works.
-    ghost works: { Works Self.Block Self.Context Self.Input Self.Provider Self.Databases.Ids Self.Databases.States Self.Databases.SyncTargets Self.Run Self.Build Self.Hook Self.Captured };
+    ghost works: { Works Self.Block Self.Context Self.Input Self.Provider Self.Databases.Ids
+        Self.Databases.States Self.Databases.SyncTargets Self.Run Self.Build Self.Hook
+        Self.Captured };
 
     /// What it keeps of the blocks that were finalized.
     ghost notes: { Self → works.Notes };
@@ -119,7 +127,8 @@ pub trait Application: Faulty + Sized {
             → Rose (Self.count self.old) (Self.count self.new) × (notes self.new ≡ notes self.old) }
         ensures later { Self.count self.old ≤ Self.count self.new };
 
-    /// Starts a build on the first block of the ancestry, which is handed over as the application decides.
+    /// Starts a build on the first block of the ancestry, which is handed over as the application
+    /// decides.
     fn prepare(
         &mut self,
         context: Self::Context,
@@ -199,8 +208,8 @@ pub trait Application: Faulty + Sized {
             → Rose (Self.Run.count run.old) (Self.Run.count run.new) }
         ensures later { Self.Run.count run.old ≤ Self.Run.count run.new };
 
-    /// One turn of a build. Where it ends without a block it answers `Wait`. A block that was asked for by `propose` is
-    /// meant alike by `Vote` and `Stage`.
+    /// One turn of a build. Where it ends without a block it answers `Wait`. A block that was asked
+    /// for by `propose` is meant alike by `Vote` and `Stage`.
     fn turn_build(
         build: &mut Self::Build,
         databases: &Self::Databases,

@@ -91,7 +91,8 @@ impl<'a, DB> BatchContext<'a, DB> {
 
 /// A batch that may still change.
 pub trait Unmerkleized: Sized {
-    ghost use Rattle.std.specs.Prelude.{◌≡◌, ℕ, List, ◌∷◌, IfOk, IfErr, IsErrOf, false, true, ◌↔◌, ◌<◌, ◌≤◌, ◌-◌, ◌^◌};
+    ghost use Rattle.std.specs.Prelude.{◌≡◌, ℕ, List, ◌∷◌, IfOk, IfErr, IsErrOf, false, true, ◌↔◌};
+    ghost use Rattle.std.specs.Prelude.{◌<◌, ◌≤◌, ◌-◌, ◌^◌};
     ghost use Rattle.stateful_db.specs.Chain.{has_id, IsPoint};
     ghost use Rattle.stateful_db.specs.Batch.{RefusesSeal};
 
@@ -103,7 +104,8 @@ pub trait Unmerkleized: Sized {
 
     type Merkleized;
 
-    /// The chain on which the batch stands. Its own point is first, with the state that a seal gives now.
+    /// The chain on which the batch stands. Its own point is first, with the state that a seal
+    /// gives now.
     ghost shows: { Self → List (ℕ × Self.State) → Type 0 };
 
     /// The same of its seal.
@@ -115,8 +117,9 @@ pub trait Unmerkleized: Sized {
     /// The end of the range of a state.
     ghost end_of: { Self.State → ℕ };
 
-    /// Seals every change. `StaleRead` exactly where the database is at no state of the chain, and behind it
-    /// `Exhausted` exactly where the end of the sealed state would be the last number or more.
+    /// Seals every change. `StaleRead` exactly where the database is at no state of the chain, and
+    /// behind it `Exhausted` exactly where the end of the sealed state would be the last number or
+    /// more.
     fn merkleize(self, db: &Self::Db) -> Result<Self::Merkleized, BatchError>
         ensures ok { IfOk result (λ m. (c : List (ℕ × Self.State))
             → shows self c

@@ -91,9 +91,11 @@ impl Targeted for CompactTarget {
 /// A database. Its medium is a list of checkpoints, of which those up to a place are durable.
 /// A failed change hands back the medium.
 pub trait ManagedDb: Faulty + Sized + Drop {
-    ghost use Rattle.std.specs.Prelude.{◌≡◌, ℕ, ◌+◌, ◌-◌, ◌^◌, ◌≤◌, ◌<◌, List, ◌∷◌, ◌++◌, [], IfOk, IfErr, ◌↔◌, IsTrue, Contains, length};
+    ghost use Rattle.std.specs.Prelude.{◌≡◌, ℕ, ◌+◌, ◌-◌, ◌^◌, ◌≤◌, ◌<◌, List, ◌∷◌, ◌++◌, [], IfOk};
+    ghost use Rattle.std.specs.Prelude.{IfErr, ◌↔◌, IsTrue, Contains, length};
     ghost use Rattle.stateful_types.specs.Causes.{Rose};
-    ghost use Rattle.stateful_db.specs.Disk.{Disk, Standing, IsSound, IsCrash, IsEither, place, applied, flushed, point};
+    ghost use Rattle.stateful_db.specs.Disk.{Disk, Standing, IsSound, IsCrash, IsEither, place};
+    ghost use Rattle.stateful_db.specs.Disk.{applied, flushed, point};
     ghost use Rattle.stateful_db.specs.Tokens.{without};
     ghost use Rattle.stateful_db.specs.Reopening.{Reopens, FailsToReopen, KeepsDurable, pruned_to};
 
@@ -241,8 +243,8 @@ pub trait ManagedDb: Faulty + Sized + Drop {
         ensures failed { IfErr result (λ b.
             b.why ≡ Why.Failed → Rose (Self.count self) (Self.Medium.count b.medium)) };
 
-    /// Drops the checkpoints that are older than the target's, and what they alone need. The target's has to be kept and
-    /// durable, and no token may be out.
+    /// Drops the checkpoints that are older than the target's, and what they alone need. The
+    /// target's has to be kept and durable, and no token may be out.
     fn prune(self, target: &Self::SyncTarget) -> Result<Self, Broken<Self::Medium>>
         requires idle { (standing self).out ≡ [] }
         requires kept { KeepsDurable target_of Self.SyncTarget.targeted target.now
@@ -287,11 +289,17 @@ pub trait ManagedDb: Faulty + Sized + Drop {
 
     ghost same_begun: { (s : Self.State) → Self.Merkleized.begun s ≡ begun s };
 
-    ghost same_end: { (s : Self.State) → Self.Unmerkleized.end_of s ≡ (Self.SyncTarget.targeted (target_of s)).end.0 };
+    ghost same_end: { (s : Self.State)
+        → Self.Unmerkleized.end_of s ≡ (Self.SyncTarget.targeted (target_of s)).end.0 };
 
-    ghost same_root: { (s : Self.State) → Self.Merkleized.root_of s ≡ (Self.SyncTarget.targeted (target_of s)).root };
+    ghost same_root: { (s : Self.State)
+        → Self.Merkleized.root_of s ≡ (Self.SyncTarget.targeted (target_of s)).root };
 
-    ghost same_sealed: { (m : Self.Merkleized) (c : List (ℕ × Self.State)) → Self.Unmerkleized.sealed m c → Self.Merkleized.shows m c };
+    ghost same_sealed: { (m : Self.Merkleized) (c : List (ℕ × Self.State))
+        → Self.Unmerkleized.sealed m c
+        → Self.Merkleized.shows m c };
 
-    ghost same_opened: { (u : Self.Unmerkleized) (c : List (ℕ × Self.State)) → Self.Merkleized.opened u c → Self.Unmerkleized.shows u c };
+    ghost same_opened: { (u : Self.Unmerkleized) (c : List (ℕ × Self.State))
+        → Self.Merkleized.opened u c
+        → Self.Unmerkleized.shows u c };
 }

@@ -1,6 +1,7 @@
 //! One database, wherever it is.
 
-ghost use Rattle.std.specs.Prelude.{◌≡◌, ℕ, List, ◌∷◌, [], IfOk, IfErr, OnOk, OnErr, IsErrOf, IsTrue, ◌↔◌, Some, ◌<◌, ◌≤◌, ◌+◌, ◌-◌, ◌^◌, ◌++◌, min};
+ghost use Rattle.std.specs.Prelude.{◌≡◌, ℕ, List, ◌∷◌, [], IfOk, IfErr, OnOk, OnErr, IsErrOf};
+ghost use Rattle.std.specs.Prelude.{IsTrue, ◌↔◌, Some, ◌<◌, ◌≤◌, ◌+◌, ◌-◌, ◌^◌, ◌++◌, min};
 ghost use Rattle.stateful_db.specs.Chain.{AllBelow, ids};
 ghost use Rattle.stateful_db.specs.Disk.{point};
 ghost use Rattle.stateful_db.specs.Reopening.{Loses};
@@ -76,11 +77,21 @@ impl<D: ManagedDb> DatabaseSet for Held<D> {
 
     ghost kind = { single D.target_of D.SyncTarget.targeted D.begun D.initial };
 
-    ghost members = { elim [ Here d ↦ here (D.standing d) | Closed m ↦ closed (D.disk m) | Lost m ↦ lost (D.disk m) | Away ↦ away ] };
+    ghost members = { elim [
+      | Here d ↦ here (D.standing d)
+      | Closed m ↦ closed (D.disk m)
+      | Lost m ↦ lost (D.disk m)
+      | Away ↦ away
+    ] };
 
     ghost next = { elim [ Here d ↦ D.next d | Closed m ↦ D.next_of m | Lost m ↦ D.next_of m | Away ↦ 0 ] };
 
-    ghost counted = { λ s n. elim s [ Here d ↦ D.count d | Closed m ↦ D.Medium.count m | Lost m ↦ D.Medium.count m | Away ↦ 0 ] };
+    ghost counted = { λ s n. elim s [
+      | Here d ↦ D.count d
+      | Closed m ↦ D.Medium.count m
+      | Lost m ↦ D.Medium.count m
+      | Away ↦ 0
+    ] };
 
     ghost opened = { D.Unmerkleized.shows };
 
@@ -295,7 +306,11 @@ impl<D: ManagedDb> DatabaseSet for Held<D> {
 
 /// Draws an id and begins a batch over the database's state.
 fn begin<D: ManagedDb>(database: &mut D) -> Result<D::Unmerkleized, SetError>
-    ensures ok { IfOk result (λ u. (D.standing database.old).id < D.next database.old → D.Unmerkleized.shows u ((D.next database.old, D.begun (D.standing database.old).disk.newest) ∷ point (D.standing database.old) ∷ [])) }
+    ensures ok { IfOk result
+        (λ u. (D.standing database.old).id < D.next database.old
+        → D.Unmerkleized.shows u
+        ((D.next database.old, D.begun (D.standing database.old).disk.newest)
+        ∷ point (D.standing database.old) ∷ [])) }
     ensures drawn { OnOk result (D.next database.new ≡ D.next database.old + 1) }
     ensures next { D.next database.old ≤ D.next database.new }
     ensures standing { D.standing database.new ≡ D.standing database.old }
@@ -316,7 +331,8 @@ fn begin<D: ManagedDb>(database: &mut D) -> Result<D::Unmerkleized, SetError>
     }
 }
 
-/// Draws an id and begins a batch over a sealed one, whose chain is cut behind where the database is.
+/// Draws an id and begins a batch over a sealed one, whose chain is cut behind where the database
+/// is.
 #[tactic(auto, using(crate::proofs::Chains::below))]
 fn fork<D: ManagedDb>(database: &mut D, parent: &D::Merkleized) -> Result<D::Unmerkleized, SetError>
     ensures drawn { OnOk result (D.next database.new ≡ D.next database.old + 1) }

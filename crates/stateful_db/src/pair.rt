@@ -46,10 +46,14 @@ impl<A: ManagedDb, R: DatabaseSet> DatabaseSet for (Held<A>, R) {
     ghost shows = { λ m c. A.Merkleized.shows m.0 (map left c) × R.shows m.1 (map right c) };
 
     ghost laws = { let first = single A.target_of A.SyncTarget.targeted A.begun A.initial in
-        pair_laws first R.kind (single_laws A.target_of A.SyncTarget.targeted A.begun A.initial) R.laws refl };
+        pair_laws first R.kind
+        (single_laws A.target_of A.SyncTarget.targeted A.begun A.initial) R.laws refl };
 
     ghost sound = { λ s. (
-      elim s.0 as (λ h. MemberIsSound A.target_of A.SyncTarget.targeted (⟦<Held<A> as DatabaseSet>⟧.members h)) [ Here d ↦ A.sound_here d | Closed m ↦ A.sound m | Lost m ↦ A.sound m | Away ↦ tt ],
+      elim s.0 as
+          (λ h. MemberIsSound A.target_of A.SyncTarget.targeted
+          (⟦<Held<A> as DatabaseSet>⟧.members h))
+          [ Here d ↦ A.sound_here d | Closed m ↦ A.sound m | Lost m ↦ A.sound m | Away ↦ tt ],
       R.sound s.1,
     ) };
 

@@ -38,9 +38,13 @@ pub struct SetLost;
 
 /// Databases that a block changes together, numbered from 0, left to right.
 ///
-/// What a call says of a database's number holds of sets of fewer than 2^64 databases: there each has one.
+/// What a call says of a database's number holds of sets of fewer than 2^64 databases: there each
+/// has one.
 pub trait DatabaseSet: Sized {
-    ghost use Rattle.std.specs.Prelude.{◌≡◌, ℕ, ◌+◌, List, ◌∷◌, [], IfOk, IfErr, IfSome, OnOk, OnErr, IsErrOf, IsNone, Option, Some, None, ◌↔◌, is_some, ◌<◌, ◌≤◌, ◌-◌, ◌^◌, map, ◌++◌, ◌⊎◌, IsTrue, Contains, length, min};
+    ghost use Rattle.std.specs.Prelude.{◌≡◌, ℕ, ◌+◌, List, ◌∷◌, [], IfOk, IfErr, IfSome, OnOk};
+    ghost use Rattle.std.specs.Prelude.{OnErr, IsErrOf, IsNone, Option, Some, None, ◌↔◌, is_some};
+    ghost use Rattle.std.specs.Prelude.{◌<◌, ◌≤◌, ◌-◌, ◌^◌, map, ◌++◌, ◌⊎◌, IsTrue, Contains};
+    ghost use Rattle.std.specs.Prelude.{length, min};
     ghost use Rattle.stateful_types.specs.Causes.{Rose};
     ghost use Rattle.stateful_db.specs.Chain.{IsPoint};
     ghost use Rattle.stateful_db.specs.Databases.{Databases, IsOpening};
@@ -100,8 +104,9 @@ pub trait DatabaseSet: Sized {
     fn is_here(&self) -> bool
         ensures { result ≡ is_some (kind.point (members self.now)) };
 
-    /// Opens every closed or lost database, in order, at the expected targets or at the latest ones. Where one doesn't
-    /// open, those that were opened are closed again. The others stay as they are.
+    /// Opens every closed or lost database, in order, at the expected targets or at the latest
+    /// ones. Where one doesn't open, those that were opened are closed again. The others stay as
+    /// they are.
     fn init(
         &mut self,
         config: &Self::Config,
@@ -131,8 +136,9 @@ pub trait DatabaseSet: Sized {
     fn operations(targets: &Self::SyncTargets) -> u64
         ensures { result ≡ min (kind.operations targets.now) (2 ^ 64 - 1) };
 
-    /// Batches over the states as they are, for which one id of each database is drawn. Without an `Ok` ids may have been
-    /// drawn. `Lost` exactly where a database isn't here; behind that `Exhausted` where one has no id left.
+    /// Batches over the states as they are, for which one id of each database is drawn. Without an
+    /// `Ok` ids may have been drawn. `Lost` exactly where a database isn't here; behind that
+    /// `Exhausted` where one has no id left.
     fn new_batches(&mut self) -> Result<Self::Unmerkleized, SetError>
         ensures ok { IfOk result (λ u. (p : Self.Ids × Self.States)
             → kind.point (members self.old) ≡ Some p
@@ -150,8 +156,9 @@ pub trait DatabaseSet: Sized {
         ensures fault { (n : ℕ) (k : DbCall) → IsErrOf result (SetError.DatabaseFault n k) → ⊥ }
         ensures counts { (n : ℕ) → counted self.new n ≡ counted self.old n };
 
-    /// Children of sealed batches, whose reads see these first, and for which one id of each database is drawn. Their
-    /// chain is cut behind where the databases are. Refused as `new_batches` is.
+    /// Children of sealed batches, whose reads see these first, and for which one id of each
+    /// database is drawn. Their chain is cut behind where the databases are. Refused as
+    /// `new_batches` is.
     fn fork_batches(&mut self, parent: &Self::Merkleized) -> Result<Self::Unmerkleized, SetError>
         ensures ok { IfOk result (λ u. (p q : Self.Ids × Self.States) (above older : List
             (Self.Ids × Self.States))
@@ -262,7 +269,8 @@ pub trait DatabaseSet: Sized {
             → kind.HasState (members self.new) i p.1 ⊎ kind.HasState (members self.new) i q.1) }
         ensures later { (n : ℕ) → counted self.old n ≤ counted self.new n };
 
-    /// Starts persisting all checkpoints, in order. One token for each database is added to those that are given.
+    /// Starts persisting all checkpoints, in order. One token for each database is added to those
+    /// that are given.
     fn persist(&mut self, tokens: &mut Items<FlushToken>) -> Result<(), SetError>
         requires { kind.HasRoom (members self.old) }
         ensures ok { OnOk result (members self.new ≡ kind.finalized (members self.old)) }
@@ -330,7 +338,8 @@ pub trait DatabaseSet: Sized {
         }
     }
 
-    /// The checkpoints that the token covers are durable at the database of this number, at which it has to be out.
+    /// The checkpoints that the token covers are durable at the database of this number, at which
+    /// it has to be out.
     fn flush(&mut self, index: usize, token: FlushToken) -> Result<(), SetError>
         requires within { index < kind.count }
         requires out { Contains (kind.tokens (members self.old) index) token.place }
@@ -351,8 +360,8 @@ pub trait DatabaseSet: Sized {
             → kind.HasState (members self.new) i s) }
         ensures later { (n : ℕ) → counted self.old n ≤ counted self.new n };
 
-    /// Drops the checkpoints that are older than those of the targets, which every database has to keep durably. No token
-    /// may be out.
+    /// Drops the checkpoints that are older than those of the targets, which every database has to
+    /// keep durably. No token may be out.
     fn prune(&mut self, targets: &Self::SyncTargets) -> Result<(), SetError>
         requires { kind.Prunable (members self.old) targets.now }
         ensures ok { OnOk result (members self.new ≡ kind.pruned (members self.old) targets.now) }
@@ -382,8 +391,8 @@ pub trait DatabaseSet: Sized {
         ensures lost { OnErr result (kind.point (members self.now) ≡ None) }
         ensures here { OnOk result (IsNone (kind.point (members self.now)) → ⊥) };
 
-    /// What a crash leaves: all closed. `keep` has a number for each database, and where it has none that database
-    /// keeps all its checkpoints. No database may be away.
+    /// What a crash leaves: all closed. `keep` has a number for each database, and where it has
+    /// none that database keeps all its checkpoints. No database may be away.
     fn crash(self, keep: &[usize]) -> Self
         requires { kind.NoneAway (members self) }
         ensures openable { kind.Openable (members result) }

@@ -5,7 +5,8 @@ ghost use Rattle.stateful_db.specs.Tokens.{without};
 
 use std::marker::Model;
 
-/// The places of the tokens of a database that are out, at most two, the oldest first. It takes no memory.
+/// The places of the tokens of a database that are out, at most two, the oldest first. It takes no
+/// memory.
 #[derive(Clone, Copy)]
 pub struct Tokens {
     older: Option<u64>,

@@ -1,19 +1,21 @@
 -- How far applied heights are durable, and the receipts that wait.
-use Rattle.std.specs.Prelude.{◌≡◌, ℕ, ◌≤◌, nat_le, nat_lt, Option, Some, None, unwrap_or, List, ◌∷◌, ◌++◌, length, drop, All, filter}
+use Rattle.std.specs.Prelude.{◌≡◌, ℕ, ◌≤◌, nat_le, nat_lt, Option, Some, None, unwrap_or, List, ◌∷◌}
+use Rattle.std.specs.Prelude.{◌++◌, length, drop, All, filter}
 use Rattle.std.specs.List.{last_or}
 use Rattle.std.specs.List.Sorted.{IsNonDecreasingBy, IsStrictlyIncreasing}
 use Rattle.stateful_types.specs.declared.number.Height.{Height}
 
--- the durable height, the last applied one, those of the open barriers, the oldest first, and the receipts that wait, each
--- as its height and its ticket
+-- the durable height, the last applied one, those of the open barriers, the oldest first, and the
+-- receipts that wait, each as its height and its ticket
 pub record Coverage : Type 0 where
   pub durable : ℕ
   pub applied : ℕ
   pub barriers : List ℕ
   pub held : List (ℕ × ℕ)
 
--- What is durable was applied. At most two barriers are open. From the durable height on their heights ascend strictly, and
--- they were applied. The receipts stand by ascending heights, which were applied.
+-- What is durable was applied. At most two barriers are open. From the durable height on their
+-- heights ascend strictly, and they were applied. The receipts stand by ascending heights, which
+-- were applied.
 pub record IsInOrder (c : Coverage) : Type 0 where
   pub durable : c.durable ≤ c.applied
   pub at_most_two : length c.barriers ≤ 2
@@ -36,7 +38,8 @@ receipts_above height receipts = filter (λ receipt. nat_lt height receipt.0) re
 
 -- the receipts and one more, which stands behind those of its height and of lower ones
 abbrev pub with_duplicate : List (ℕ × ℕ) → ℕ → ℕ → List (ℕ × ℕ)
-with_duplicate receipts height ticket = receipts_up_to height receipts ++ (height, ticket) ∷ receipts_above height receipts
+with_duplicate receipts height ticket =
+    receipts_up_to height receipts ++ (height, ticket) ∷ receipts_above height receipts
 
 -- the receipts of durable heights
 abbrev pub covered_receipts : Coverage → List (ℕ × ℕ)

@@ -8,7 +8,8 @@ use Rattle.stateful_durability.specs.Durability.{Coverage, IsInOrder}
 abbrev pub pair_of : Receipt → ℕ × ℕ
 pair_of receipt = (receipt.height.0, receipt.ticket)
 
--- the heights of the open barriers, from that of the oldest and that of the newer one, which there is only beside the oldest
+-- the heights of the open barriers, from that of the oldest and that of the newer one, which there
+-- is only beside the oldest
 abbrev pub open_barriers : Option Height → Option Height → List ℕ
 open_barriers None _ = []
 open_barriers (Some oldest) None = oldest.0 ∷ []
@@ -23,7 +24,8 @@ coverage durable applied oldest newer held = record {
   held = map pair_of held;
 }
 
--- what holds of the fields: a newer barrier is open only beside the oldest, and what they show is in order
+-- what holds of the fields: a newer barrier is open only beside the oldest, and what they show is
+-- in order
 pub record IsSound (oldest newer : Option Height) (shown : Coverage) : Type 0 where
   pub oldest_first : oldest ≡ None → newer ≡ None
   pub in_order : IsInOrder shown

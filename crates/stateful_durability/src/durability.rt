@@ -1,9 +1,14 @@
 //! The durable height, the open barriers and the receipts that wait.
 
-ghost use Rattle.std.specs.Prelude.{◌≡◌, ◌≢◌, ◌<◌, ◌≤◌, ◌↔◌, ◌⊎◌, [], ◌∷◌, ◌++◌, length, take, slice_get, IsTrue, IfSome, IfNone, IfOk, OnSome, OnOk, OnErr, MatchOption, All, Any, option_map};
+ghost use Rattle.std.specs.Prelude.{◌≡◌, ◌≢◌, ◌<◌, ◌≤◌, ◌↔◌, ◌⊎◌, [], ◌∷◌, ◌++◌, length, take};
+ghost use Rattle.std.specs.Prelude.{slice_get, IsTrue, IfSome, IfNone, IfOk, OnSome, OnOk, OnErr};
+ghost use Rattle.std.specs.Prelude.{MatchOption, All, Any, option_map};
 ghost use Rattle.std.specs.Option.{ForSome};
 ghost use Rattle.std.specs.List.Sorted.{IsNonDecreasingBy, IsPermutation};
-ghost use Rattle.stateful_durability.specs.Durability.{covered_by_barriers, receipts_up_to, receipts_above, with_duplicate, covered_receipts, after_completion, IsInOrder, Releases};
+ghost use Rattle.stateful_durability.specs.Durability.{covered_by_barriers, receipts_up_to};
+ghost use Rattle.stateful_durability.specs.Durability.{receipts_above, with_duplicate};
+ghost use Rattle.stateful_durability.specs.Durability.{covered_receipts, after_completion};
+ghost use Rattle.stateful_durability.specs.Durability.{IsInOrder, Releases};
 ghost use Rattle.stateful_durability.specs.Calls.{ReleasesExactly, KeepsReceipts};
 
 use stateful_types::{Height, OutOfMemory};
@@ -79,7 +84,8 @@ impl Durability {
         self.applied
     }
 
-    /// The height of the oldest open barrier, which is the next that completes. None exactly where none is open.
+    /// The height of the oldest open barrier, which is the next that completes. None exactly where
+    /// none is open.
     pub fn oldest_barrier(&self) -> Option<Height>
         ensures height { slice_get self.now.barriers 0 ≡ option_map (λ height. height.0) result }
         ensures in_order { IsInOrder self.now }
@@ -103,8 +109,8 @@ impl Durability {
         height <= self.durable
     }
 
-    /// Whether a barrier has to begin: fewer than two are open, and the last applied height is past that of the newest
-    /// open one, or past the durable height where none is open.
+    /// Whether a barrier has to begin: fewer than two are open, and the last applied height is past
+    /// that of the newest open one, or past the durable height where none is open.
     pub fn needs_barrier(&self) -> bool
         ensures needed { IsTrue result
             ↔ ((length self.now.barriers < 2) × (covered_by_barriers self.now < self.now.applied)) }
@@ -140,8 +146,8 @@ impl Durability {
         }
     }
 
-    /// The oldest open barrier is over. It was good where its height is given, and that height is durable then.
-    /// The answer says how many receipts in front are to be released for it.
+    /// The oldest open barrier is over. It was good where its height is given, and that height is
+    /// durable then. The answer says how many receipts in front are to be released for it.
     pub fn complete(&mut self, completion: Option<Height>) -> usize
         requires one_open { self.old.barriers ≢ [] }
         requires oldest { ForSome completion
@@ -152,7 +158,8 @@ impl Durability {
             (covered_by_barriers self.new ≡ covered_by_barriers self.old) }
         ensures in_order { IsInOrder self.new }
 
-        // The receipts of the heights that it covered stand in front, and exactly these are released then.
+        // The receipts of the heights that it covered stand in front, and exactly these are
+        // released then.
         ensures count { MatchOption completion (result ≡ 0)
             (λ height. result ≡ length (receipts_up_to height.0 self.old.held)) }
         ensures front { IfSome completion
@@ -188,7 +195,8 @@ impl Durability {
         Ok(())
     }
 
-    /// Holds another receipt of a height that is durable or has a receipt, right behind the others of its height.
+    /// Holds another receipt of a height that is durable or has a receipt, right behind the others
+    /// of its height.
     pub fn record_duplicate(&mut self, height: Height, ticket: u64) -> Result<(), OutOfMemory>
         requires { (height.0 ≤ self.old.durable)
             ⊎ Any (λ receipt. receipt.0 ≡ height.0) self.old.held }
@@ -263,7 +271,8 @@ mod tests {
         Ok(receipts)
     }
 
-    // Blocks at heights 1 and 2, each with a barrier of its own, of which the first is delivered twice.
+    // Blocks at heights 1 and 2, each with a barrier of its own, of which the first is delivered
+    // twice.
     #[test]
     fn acknowledges_behind_two_barriers(rt: HostRuntime) -> Result<(), Fail> {
         let mut durability = Durability::new(rt.alloc(), Height(0));

@@ -14,7 +14,8 @@ pub record Boundary : Type 0 where
 
 -- the block's digest, its parent and its round
 abbrev pub step_by : {B : Type 0} → Header B → Named B → ExecutionStep
-step_by header b = record { digest = b.digest; parent = header.parent b.block; round = header.round b.block }
+step_by header b =
+    record { digest = b.digest; parent = header.parent b.block; round = header.round b.block }
 
 -- another block than the finalized one, of a later round, on a compatible parent
 pub record IsRetained (boundary : Boundary) (step : ExecutionStep) : Type 0 where

@@ -29,20 +29,29 @@ module _ {B C I R U : Type 0} (v : Tables B C I R U) where
     pub queued : at v.queued t ≡ Some p
     pub known : Knows v p.ancestry.first.digest
 
-  -- A proposal is taken out of the queue: with the next number of a job where it is ready, and else to be declined.
+  -- A proposal is taken out of the queue: with the next number of a job where it is ready, and else
+  -- to be declined.
   pub data Unqueues (t : ℕ) (new : Tables B C I R U) : Option (Queued B C I) → Type 0 where
-    ready : {q : Queued B C I} → IsReady t q.proposal → q.parent ≡ q.proposal.ancestry.first → q.job ≡ v.next_job → IsLeft v.next_job
-        → new ≡ record v { queued = without v.queued t; next_job = v.next_job + 1 } → Unqueues t new (Some q)
+    ready : {q : Queued B C I}
+        → IsReady t q.proposal
+        → q.parent ≡ q.proposal.ancestry.first
+        → q.job ≡ v.next_job
+        → IsLeft v.next_job
+        → new ≡ record v { queued = without v.queued t; next_job = v.next_job + 1 }
+        → Unqueues t new (Some q)
     declined : ((p : Proposal B C I) → IsReady t p → ⊥) → new ≡ unqueued t → Unqueues t new None
 
 module _ {B C I P R D H G U : Type 0} (w : Workings B C I P R D H G U) where
-  -- the build is of this proposal, on batches of these ids over a chain of points, and hasn't had a turn
+  -- the build is of this proposal, on batches of these ids over a chain of points, and hasn't had a
+  -- turn
   abbrev pub IsNewBuild : D → Proposal B C I → P → w.Ids → Point w → List (Point w) → Type 0
-  IsNewBuild build p provider own at below = w.works.building build (build_of (asked_by p) provider own at below) 0
+  IsNewBuild build p provider own at below =
+      w.works.building build (build_of (asked_by p) provider own at below) 0
 
-  -- A build of a queued proposal is live, over the states of its parent, under the next number of a job. That number and the
-  -- batches' ids weren't the last ones, and every database was here.
-  pub record StartsBuild (t : ℕ) (provider : P) (m : w.kind.Members) (next now : w.Ids) (old new : Tables B C I R U) (build : Option (Building B C D)) : Type 0 where
+  -- A build of a queued proposal is live, over the states of its parent, under the next number of a
+  -- job. That number and the batches' ids weren't the last ones, and every database was here.
+  pub record StartsBuild (t : ℕ) (provider : P) (m : w.kind.Members) (next now : w.Ids)
+      (old new : Tables B C I R U) (build : Option (Building B C D)) : Type 0 where
     pub proposal : Proposal B C I
     pub ready : IsReady old t proposal
     pub job_left : IsLeft old.next_job
@@ -58,16 +67,30 @@ module _ {B C I P R D H G U : Type 0} (w : Workings B C I P R D H G U) where
       build = live;
     })
     pub state : new ≡ record old { queued = without old.queued t; next_job = old.next_job + 1 }
-    pub over : IsOver w old.anchor.digest old.cache m next now (λ q c. IsNewBuild live proposal provider next q c) proposal.ancestry.first.digest
+    pub over : IsOver w old.anchor.digest old.cache m next now
+        (λ q c. IsNewBuild live proposal provider next q c) proposal.ancestry.first.digest
     pub keeps : (c : List (Point w)) → w.kind.issued next c → w.kind.issued now c
 
-  -- What becomes of a ticket's proposal: where it is queued and its parent is known a build of it is started; else it is
-  -- declined, and nothing else changes.
-  pub data Proposes (t : ℕ) (provider : P) (m : w.kind.Members) (next now : w.Ids) (old new : Tables B C I R U) (before after : Option (Building B C D)) : BuildStart → Type 0 where
-    starts : {job : ℕ} → job ≡ old.next_job → StartsBuild t provider m next now old new after → Proposes t provider m next now old new before after (Started job)
-    declines : ((p : Proposal B C I) → IsReady old t p → ⊥) → new ≡ unqueued old t → after ≡ before → now ≡ next → Proposes t provider m next now old new before after Declined
+  -- What becomes of a ticket's proposal: where it is queued and its parent is known a build of it
+  -- is started; else it is declined, and nothing else changes.
+  pub data Proposes (t : ℕ) (provider : P) (m : w.kind.Members) (next now : w.Ids)
+      (old new : Tables B C I R U) (before after : Option (Building B C D)) : BuildStart
+      → Type 0 where
+    starts : {job : ℕ}
+        → job ≡ old.next_job
+        → StartsBuild t provider m next now old new after
+        → Proposes t provider m next now old new before after (Started job)
+    declines : ((p : Proposal B C I) → IsReady old t p → ⊥)
+        → new ≡ unqueued old t
+        → after ≡ before
+        → now ≡ next
+        → Proposes t provider m next now old new before after Declined
 
   -- memory ran out, or no build was started of a proposal whose parent is known
-  pub data FaultsPropose (rose : Type 0) (t : ℕ) (m : w.kind.Members) (next : w.Ids) (old : Tables B C I R U) (e : ExecError) : Type 0 where
+  pub data FaultsPropose (rose : Type 0) (t : ℕ) (m : w.kind.Members) (next : w.Ids)
+      (old : Tables B C I R U) (e : ExecError) : Type 0 where
     memory : e ≡ OutOfMemory → FaultsPropose rose t m next old e
-    starting : {p : Proposal B C I} → IsReady old t p → FaultsStart w rose old.next_job m next e → FaultsPropose rose t m next old e
+    starting : {p : Proposal B C I}
+        → IsReady old t p
+        → FaultsStart w rose old.next_job m next e
+        → FaultsPropose rose t m next old e

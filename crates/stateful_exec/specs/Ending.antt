@@ -1,5 +1,7 @@
--- Turns of candidate runs, how their ends are told, and what becomes of the requests that waited for them.
-use Rattle.std.specs.Prelude.{◌≡◌, ◌≢◌, ◌⊎◌, ◌+◌, ◌++◌, ◌∷◌, [], ℕ, Option, Some, None, Result, Ok, Err, List, Any, IfOk, IsErrOf}
+-- Turns of candidate runs, how their ends are told, and what becomes of the requests that waited
+-- for them.
+use Rattle.std.specs.Prelude.{◌≡◌, ◌≢◌, ◌⊎◌, ◌+◌, ◌++◌, ◌∷◌, [], ℕ, Option, Some, None, Result, Ok}
+use Rattle.std.specs.Prelude.{Err, List, Any, IfOk, IsErrOf}
 use Rattle.stateful_types.specs.Causes.{Rose}
 use Rattle.stateful_types.specs.Names.{Header, Named}
 use Rattle.stateful_types.specs.Round.{IsLater}
@@ -38,10 +40,14 @@ use Rattle.stateful_exec.specs.declared.tables.Released.{Released}
 -- one relation after another, for each of these
 pub data InTurn {X M : Type 0} (R : X → M → M → Type 0) : List X → M → M → Type 0 where
   none : {m : M} → InTurn R [] m m
-  next : {x : X} {xs : List X} {m n last : M} → R x m n → InTurn R xs n last → InTurn R (x ∷ xs) m last
+  next : {x : X} {xs : List X} {m n last : M}
+      → R x m n
+      → InTurn R xs n last
+      → InTurn R (x ∷ xs) m last
 
 -- some of these were served in turn, and the next one wasn't
-pub record StopsAt {X M E : Type 0} (R : X → M → M → Type 0) (Faults : X → M → E → Type 0) (all : List X) (m : M) (e : E) : Type 0 where
+pub record StopsAt {X M E : Type 0} (R : X → M → M → Type 0) (Faults : X → M → E → Type 0)
+    (all : List X) (m : M) (e : E) : Type 0 where
   pub served : List X
   pub next : X
   pub rest : List X
@@ -54,20 +60,45 @@ pub record StopsAt {X M E : Type 0} (R : X → M → M → Type 0) (Faults : X �
 abbrev pub step_in : {U : Type 0} → Cached U → ExecutionStep
 step_in e = record { digest = e.digest; parent = e.parent; round = e.round }
 
--- What the cache takes of a block: an entry that is there keeps its states; a new one comes behind the others where the block
--- is later than the anchor and its parent is the anchor or cached; else it is missed.
-pub data Takes {B U : Type 0} (header : Header B) (anchor : Anchor) (b : Named B) (batch : U) (old new : List (Cached U)) : How → Type 0 where
-  there : Any (λ e. step_in e ≡ step_by header b) old → new ≡ old → Takes header anchor b batch old new Kept
-  added : (IsIn old b.digest → ⊥) → IsLater anchor.round (header.round b.block) → IsAtHand anchor old (header.parent b.block)
-      → new ≡ old ++ record { digest = b.digest; parent = header.parent b.block; round = header.round b.block; batch = batch } ∷ []
+-- What the cache takes of a block: an entry that is there keeps its states; a new one comes behind
+-- the others where the block is later than the anchor and its parent is the anchor or cached; else
+-- it is missed.
+pub data Takes {B U : Type 0} (header : Header B) (anchor : Anchor) (b : Named B) (batch : U)
+    (old new : List (Cached U)) : How
+    → Type 0 where
+  there : Any (λ e. step_in e ≡ step_by header b) old
+      → new ≡ old
       → Takes header anchor b batch old new Kept
-  missed : (IsIn old b.digest → ⊥) → (IsLater anchor.round (header.round b.block) → ⊥) ⊎ (IsAtHand anchor old (header.parent b.block) → ⊥)
+  added : (IsIn old b.digest → ⊥)
+      → IsLater anchor.round (header.round b.block)
+      → IsAtHand anchor old (header.parent b.block)
+      → new ≡ old
+      ++ record {
+        digest =
+            b.digest;
+        parent =
+            header.parent b.block;
+        round = header.round b.block;
+        batch = batch;
+      }
+      ∷ []
+      → Takes header anchor b batch old new Kept
+  missed : (IsIn old b.digest → ⊥)
+      → (IsLater anchor.round (header.round b.block) → ⊥)
+      ⊎ (IsAtHand anchor old (header.parent b.block) → ⊥)
       → new ≡ old → Takes header anchor b batch old new Missed
 
 -- an entry of the block's digest is of another parent or round
-abbrev pub ChangesPending : {B U : Type 0} → Header B → Named B → List (Cached U) → (before after : ExecutionStep) → Type 0
+abbrev pub ChangesPending : {B U : Type 0}
+    → Header B
+    → Named B
+    → List (Cached U)
+    → (before after : ExecutionStep)
+    → Type 0
 ChangesPending header b cache before after =
-    Any (λ e. (e.digest ≡ b.digest) × (step_in e ≡ before)) cache × (after ≡ step_by header b) × (before ≢ after)
+    Any (λ e. (e.digest ≡ b.digest) × (step_in e ≡ before)) cache
+    × (after ≡ step_by header b)
+    × (before ≢ after)
 
 -- why the cache doesn't take a block
 abbrev pub FaultsTake : {B U : Type 0} → Header B → Named B → List (Cached U) → ExecError → Type 0
@@ -78,13 +109,15 @@ FaultsTake header b cache e = ⊥
 -- while a finalization goes on, a block that goes on over it is compatible once its run has ended
 abbrev pub Crosses : {B : Type 0} → Header B → Named B → Pause → Pause → Type 0
 Crosses header b (Finalizing old) (Finalizing new) =
-    (IsRetained old (step_by header b) × Completes b.digest old new) ⊎ ((IsRetained old (step_by header b) → ⊥) × (new ≡ old))
+    (IsRetained old (step_by header b) × Completes b.digest old new)
+    ⊎ ((IsRetained old (step_by header b) → ⊥) × (new ≡ old))
 Crosses header b (Finalizing old) new = ⊥
 Crosses header b old new = new ≡ old
 
 -- the block doesn't go on over the finalization of another one
 abbrev pub IsGivenUp : {B : Type 0} → Header B → Pause → Named B → Type 0
-IsGivenUp header (Finalizing boundary) b = (b.digest ≢ boundary.digest) × (IsRetained boundary (step_by header b) → ⊥)
+IsGivenUp header (Finalizing boundary) b =
+    (b.digest ≢ boundary.digest) × (IsRetained boundary (step_by header b) → ⊥)
 IsGivenUp header pause b = ⊥
 
 -- the block is being finalized, and this run of it wasn't kept
@@ -94,39 +127,64 @@ IsHeld pause b how = ⊥
 
 -- what becomes of a request that waited for the run of a block, where the block is known or not
 abbrev pub IsFate : {B : Type 0} → Header B → Pause → Type 0 → Named B → How → Fate → Type 0
-IsFate header pause known b how fate.Invalid = IsGivenUp header pause b ⊎ ((IsHeld pause b how → ⊥) × (known → ⊥))
+IsFate header pause known b how fate.Invalid =
+    IsGivenUp header pause b ⊎ ((IsHeld pause b how → ⊥) × (known → ⊥))
 IsFate header pause known b how fate.Parked = IsHeld pause b how ⊎ ((pause ≡ Pruning) × known)
-IsFate header pause known b how fate.GoesOn = (IsGivenUp header pause b → ⊥) × (IsHeld pause b how → ⊥) × (pause ≢ Pruning) × known
+IsFate header pause known b how fate.GoesOn =
+    (IsGivenUp header pause b → ⊥) × (IsHeld pause b how → ⊥) × (pause ≢ Pruning) × known
 
 -- the requests that wait for the run of a job are taken out of their table
 abbrev pub released : {B C I R U : Type 0} → ℕ → Tables B C I R U → Tables B C I R U
 released job v = record v { requests = not_on job v.requests }
 
 module _ {B C I P R D H G U : Type 0} (w : Workings B C I P R D H G U) where
-  -- A turn of a run: where the databases are at a point of its chain, it goes on, or ends with what is to come of its block,
-  -- in as many turns as it costs, where that is told.
+  -- A turn of a run: where the databases are at a point of its chain, it goes on, or ends with what
+  -- is to come of its block, in as many turns as it costs, where that is told.
   pub record Turns (m : w.kind.Members) (run turned : R) (moved : Moved (Option U)) : Type 0 where
-    pub ends : (r : RunOf B C w.Ids w.States) (n : ℕ) (q : Point w) → w.works.runs run r n → w.kind.point m ≡ Some q → IsPoint q (r.at ∷ r.below)
-        → Ends moved (outcome w.works.meaning r.finality r.at.1 (block_of r)) (λ batch s. w.shows batch (run_chain r s)) (w.works.runs turned r (n + 1))
-    pub costs : (r : RunOf B C w.Ids w.States) (n : ℕ) (q : Point w) → w.works.runs run r n → w.kind.point m ≡ Some q → IsPoint q (r.at ∷ r.below)
+    pub ends : (r : RunOf B C w.Ids w.States) (n : ℕ) (q : Point w)
+        → w.works.runs run r n
+        → w.kind.point m ≡ Some q
+        → IsPoint q (r.at ∷ r.below)
+        → Ends moved (outcome w.works.meaning r.finality r.at.1 (block_of r))
+        (λ batch s. w.shows batch (run_chain r s)) (w.works.runs turned r (n + 1))
+    pub costs : (r : RunOf B C w.Ids w.States) (n : ℕ) (q : Point w)
+        → w.works.runs run r n
+        → w.kind.point m ≡ Some q
+        → IsPoint q (r.at ∷ r.below)
         → Costs (w.works.run_cost r.finality r.at.1 (block_of r)) moved n
 
   -- the batch stands on states that the block commits to, or on others
   abbrev pub Agrees : Named B → U → Type 0
-  Agrees b batch = (p : Point w) (c : List (Point w)) → w.shows batch (p ∷ c) → w.kind.target_of p.1 ≡ w.works.meaning.targets b.block
+  Agrees b batch =
+      (p : Point w) (c : List (Point w))
+      → w.shows batch (p ∷ c)
+      → w.kind.target_of p.1 ≡ w.works.meaning.targets b.block
 
   abbrev pub Differs : Named B → U → Type 0
-  Differs b batch = (p : Point w) (c : List (Point w)) → w.shows batch (p ∷ c) → w.kind.target_of p.1 ≢ w.works.meaning.targets b.block
+  Differs b batch =
+      (p : Point w) (c : List (Point w))
+      → w.shows batch (p ∷ c)
+      → w.kind.target_of p.1 ≢ w.works.meaning.targets b.block
 
-  -- How a candidate run that ended so is told, and what it leaves of the cache: without a batch it is rejected; a batch with
-  -- other targets is mismatched; another one is taken by the cache, or missed.
-  pub data IsTold (anchor : Anchor) (b : Named B) (old new : List (Cached U)) : Option U → How → Type 0 where
+  -- How a candidate run that ended so is told, and what it leaves of the cache: without a batch it
+  -- is rejected; a batch with other targets is mismatched; another one is taken by the cache, or
+  -- missed.
+  pub data IsTold (anchor : Anchor) (b : Named B) (old new : List (Cached U)) : Option U
+      → How
+      → Type 0 where
     rejected : new ≡ old → IsTold anchor b old new None Rejected
-    mismatched : {batch : U} → Differs b batch → new ≡ old → IsTold anchor b old new (Some batch) Mismatched
-    agreed : {batch : U} {how : How} → Agrees b batch → Takes w.header anchor b batch old new how → IsTold anchor b old new (Some batch) how
+    mismatched : {batch : U}
+        → Differs b batch
+        → new ≡ old
+        → IsTold anchor b old new (Some batch) Mismatched
+    agreed : {batch : U} {how : How}
+        → Agrees b batch
+        → Takes w.header anchor b batch old new how
+        → IsTold anchor b old new (Some batch) how
 
   -- the run of a job has ended so
-  pub record EndsRun (m : Moment w) (j : ℕ) (b : Named B) (ended : Option U) (how : How) (now : Moment w) : Type 0 where
+  pub record EndsRun (m : Moment w) (j : ℕ) (b : Named B) (ended : Option U) (how : How)
+      (now : Moment w) : Type 0 where
     pub run : LiveRun B R
     pub live : at m.state.runs j ≡ Some run
     pub block_is : run.block ≡ b
@@ -134,10 +192,13 @@ module _ {B C I P R D H G U : Type 0} (w : Workings B C I P R D H G U) where
     pub told : IsTold m.state.anchor b m.state.cache cache ended how
     pub pause : Pause
     pub crosses : Crosses w.header b m.state.pause pause
-    pub becomes : Becomes w m (record m.state { cache = cache; runs = without m.state.runs j; pause = pause }) (mark.Ended j how ∷ []) now
+    pub becomes : Becomes w m
+        (record m.state { cache = cache; runs = without m.state.runs j; pause = pause })
+        (mark.Ended j how ∷ []) now
 
   -- the run of a job has had a turn, which answers so; it failed only where its count rose
-  pub record TurnsRun (count : R → ℕ) (m : w.kind.Members) (j : ℕ) (old new : Tables B C I R U) (answer : Result (Moved (Option U)) AppFault) : Type 0 where
+  pub record TurnsRun (count : R → ℕ) (m : w.kind.Members) (j : ℕ) (old new : Tables B C I R U)
+      (answer : Result (Moved (Option U)) AppFault) : Type 0 where
     pub live : LiveRun B R
     pub live_is : at old.runs j ≡ Some live
     pub turned : R
@@ -145,16 +206,25 @@ module _ {B C I P R D H G U : Type 0} (w : Workings B C I P R D H G U) where
     pub failed : IsErrOf answer Failed → Rose (count live.run) (count turned)
     pub state : new ≡ record old { runs = put old.runs j (record live { run = turned }) }
 
-  -- What becomes of a request that waited for a run of the block: its block doesn't go on over a finalization, or isn't known,
-  -- and it ends; or it is parked, since the block is being finalized or a prune is to come; or it goes along its path.
+  -- What becomes of a request that waited for a run of the block: its block doesn't go on over a
+  -- finalization, or isn't known, and it ends; or it is parked, since the block is being finalized
+  -- or a prune is to come; or it goes along its path.
   pub data Follows (b : Named B) (how : How) (r : Released B C I) (m now : Moment w) : Type 0 where
-    given_up : IsGivenUp w.header m.state.pause b → Concludes w m r.ticket (requested r.request) Invalid now → Follows b how r m now
-    held : IsHeld m.state.pause b how → Becomes w m (moved m.state r.ticket (requested r.request) (Parked r.path)) [] now → Follows b how r m now
+    given_up : IsGivenUp w.header m.state.pause b
+        → Concludes w m r.ticket (requested r.request) Invalid now
+        → Follows b how r m now
+    held : IsHeld m.state.pause b how
+        → Becomes w m (moved m.state r.ticket (requested r.request) (Parked r.path)) [] now
+        → Follows b how r m now
     failed : (IsHeld m.state.pause b how → ⊥) → (IsIn m.state.cache b.digest → ⊥)
         → Concludes w m r.ticket (requested r.request) Invalid now → Follows b how r m now
     parked : m.state.pause ≡ Pruning → IsIn m.state.cache b.digest
-        → Becomes w m (moved m.state r.ticket (requested r.request) (Parked r.path)) [] now → Follows b how r m now
-    goes_on : (IsGivenUp w.header m.state.pause b → ⊥) → (IsHeld m.state.pause b how → ⊥) → m.state.pause ≢ Pruning → IsIn m.state.cache b.digest
+        → Becomes w m (moved m.state r.ticket (requested r.request) (Parked r.path)) [] now
+        → Follows b how r m now
+    goes_on : (IsGivenUp w.header m.state.pause b → ⊥)
+        → (IsHeld m.state.pause b how → ⊥)
+        → m.state.pause ≢ Pruning
+        → IsIn m.state.cache b.digest
         → Advances w m r.ticket (requested r.request) r.path now → Follows b how r m now
 
   -- the run of a job has ended, and the requests that waited for it follow, by ascending tickets
@@ -163,9 +233,11 @@ module _ {B C I P R D H G U : Type 0} (w : Workings B C I P R D H G U) where
     pub how : How
     pub done : Moment w
     pub ends : EndsRun m j block ended how done
-    pub follow : InTurn (Follows block how) (released_on j done.state.requests) (record done { state = released j done.state }) now
+    pub follow : InTurn (Follows block how) (released_on j done.state.requests)
+        (record done { state = released j done.state }) now
 
-  -- what a turn's answer leads to: nothing where the run goes on, and where it has ended what follows
+  -- what a turn's answer leads to: nothing where the run goes on, and where it has ended what
+  -- follows
   abbrev pub SettlesBy : Moment w → ℕ → Result (Moved (Option U)) AppFault → Moment w → Type 0
   SettlesBy m j (Ok Pending) now = now ≡ m
   SettlesBy m j (Ok (Done ended)) now = Settles m j ended now

@@ -4,7 +4,8 @@ use Rattle.stateful_db.specs.declared.application.AppFault.TheVariants as app
 use Rattle.stateful_exec.specs.declared.error.ExecError.{ExecError}
 use Rattle.stateful_db.specs.declared.set.SetError.{SetError}
 use Rattle.stateful_db.specs.declared.set.SetError.TheVariants as set
-use Rattle.stateful_exec.specs.declared.error.ExecError.TheVariants.{Lost, Application, Exhausted, OutOfMemory}
+use Rattle.stateful_exec.specs.declared.error.ExecError.TheVariants.{Lost, Application, Exhausted}
+use Rattle.stateful_exec.specs.declared.error.ExecError.TheVariants.{OutOfMemory}
 
 abbrev pub error_of_app : AppFault → ExecError
 error_of_app app.Failed = Application

@@ -1,5 +1,6 @@
 -- Answers of fetches, and cancels.
-use Rattle.std.specs.Prelude.{◌≡◌, ◌≢◌, ◌==◌, not, ◌++◌, ◌∷◌, [], ℕ, Option, Some, None, List, Any, filter}
+use Rattle.std.specs.Prelude.{◌≡◌, ◌≢◌, ◌==◌, not, ◌++◌, ◌∷◌, [], ℕ, Option, Some, None, List, Any}
+use Rattle.std.specs.Prelude.{filter}
 use Rattle.stateful_types.specs.Names.{Named}
 use Rattle.stateful_history.specs.declared.mark.How.TheVariants.{Cancelled}
 use Rattle.stateful_history.specs.declared.mark.Mark.{Mark}
@@ -44,22 +45,38 @@ module _ {B C I P R D H G U : Type 0} (w : Workings B C I P R D H G U) where
   abbrev pub serving : Moment w → ℕ → Moment w
   serving m t = record m { state = taken m.state t }
 
-  -- What becomes of a request whose fetch is answered: with the block it acquires what it needs; without one a verification
-  -- waits, and a proposal ends. Where no block is fetched under the number nothing changes.
-  pub data IsFetched (stored : ℕ → Option (Named B)) (m : Moment w) (fetch : ℕ) (answer : Option (Named B)) (now : Moment w) : Type 0 where
-    found : (t : ℕ) (r : Requested B C I) (b : Named B) → Fetches m.state fetch t r → answer ≡ Some b
-        → Acquires w stored (serving m t) t (with_block r b) now → IsFetched stored m fetch answer now
-    waits : (t : ℕ) (r : Requested B C I) → Fetches m.state fetch t r → answer ≡ None → IsVerification r.request
-        → Becomes w m (moved (taken m.state t) t r Waiting) [] now → IsFetched stored m fetch answer now
-    declines : (t : ℕ) (r : Requested B C I) → Fetches m.state fetch t r → answer ≡ None → (IsVerification r.request → ⊥)
+  -- What becomes of a request whose fetch is answered: with the block it acquires what it needs;
+  -- without one a verification waits, and a proposal ends. Where no block is fetched under the
+  -- number nothing changes.
+  pub data IsFetched (stored : ℕ → Option (Named B)) (m : Moment w) (fetch : ℕ)
+      (answer : Option (Named B)) (now : Moment w) : Type 0 where
+    found : (t : ℕ) (r : Requested B C I) (b : Named B)
+        → Fetches m.state fetch t r
+        → answer ≡ Some b
+        → Acquires w stored (serving m t) t (with_block r b) now
+        → IsFetched stored m fetch answer now
+    waits : (t : ℕ) (r : Requested B C I)
+        → Fetches m.state fetch t r
+        → answer ≡ None
+        → IsVerification r.request
+        → Becomes w m (moved (taken m.state t) t r Waiting) [] now
+        → IsFetched stored m fetch answer now
+    declines : (t : ℕ) (r : Requested B C I)
+        → Fetches m.state fetch t r
+        → answer ≡ None
+        → (IsVerification r.request → ⊥)
         → Concludes w (serving m t) t r Invalid now → IsFetched stored m fetch answer now
     dead : (IsLiveFetch m.state fetch → ⊥) → now ≡ m → IsFetched stored m fetch answer now
 
   -- memory ran out, or the request didn't acquire what it needs
-  pub data FaultsFetched (rose : Type 0) (stored : ℕ → Option (Named B)) (m : Moment w) (fetch : ℕ) (answer : Option (Named B)) (e : ExecError) : Type 0 where
+  pub data FaultsFetched (rose : Type 0) (stored : ℕ → Option (Named B)) (m : Moment w) (fetch : ℕ)
+      (answer : Option (Named B)) (e : ExecError) : Type 0 where
     no_room : e ≡ OutOfMemory → FaultsFetched rose stored m fetch answer e
-    acquiring : (t : ℕ) (r : Requested B C I) (b : Named B) → Fetches m.state fetch t r → answer ≡ Some b
-        → FaultsAcquire w rose stored (serving m t) (with_block r b) e → FaultsFetched rose stored m fetch answer e
+    acquiring : (t : ℕ) (r : Requested B C I) (b : Named B)
+        → Fetches m.state fetch t r
+        → answer ≡ Some b
+        → FaultsAcquire w rose stored (serving m t) (with_block r b) e
+        → FaultsFetched rose stored m fetch answer e
 
 -- the request waits for no run and no fetch
 abbrev pub IsIdle : {B : Type 0} → Phase B → Type 0
@@ -67,16 +84,39 @@ IsIdle (Fetching fetch) = ⊥
 IsIdle (Executing job path) = ⊥
 IsIdle phase = Unit {0}
 
--- What a cancel leaves, and its marks: the request is gone, its fetch is withdrawn, and the run ends that it was the last to
--- wait for; or its build isn't queued any more.
-pub data Cancels {B C I R U : Type 0} (old new : Tables B C I R U) (t : ℕ) (marks : List (Mark B)) : Type 0 where
-  idle : (r : Requested B C I) → at old.requests t ≡ Some r → IsIdle r.phase → new ≡ taken old t → marks ≡ [] → Cancels old new t marks
-  withdraws : (r : Requested B C I) (fetch : ℕ) → Fetches old fetch t r → new ≡ taken old t → marks ≡ mark.Withdrawn fetch ∷ [] → Cancels old new t marks
-  leaves : (r : Requested B C I) (j : ℕ) (path : Path B) → at old.requests t ≡ Some r → r.phase ≡ Executing j path
-      → tickets_on j (without old.requests t) ≢ [] → new ≡ taken old t → marks ≡ [] → Cancels old new t marks
-  ends : (r : Requested B C I) (j : ℕ) (path : Path B) → at old.requests t ≡ Some r → r.phase ≡ Executing j path
-      → tickets_on j (without old.requests t) ≡ [] → new ≡ record (taken old t) { runs = without old.runs j }
+-- What a cancel leaves, and its marks: the request is gone, its fetch is withdrawn, and the run
+-- ends that it was the last to wait for; or its build isn't queued any more.
+pub data Cancels {B C I R U : Type 0} (old new : Tables B C I R U) (t : ℕ)
+    (marks : List (Mark B)) : Type 0 where
+  idle : (r : Requested B C I)
+      → at old.requests t ≡ Some r
+      → IsIdle r.phase
+      → new ≡ taken old t
+      → marks ≡ []
+      → Cancels old new t marks
+  withdraws : (r : Requested B C I) (fetch : ℕ)
+      → Fetches old fetch t r
+      → new ≡ taken old t
+      → marks ≡ mark.Withdrawn fetch ∷ []
+      → Cancels old new t marks
+  leaves : (r : Requested B C I) (j : ℕ) (path : Path B)
+      → at old.requests t ≡ Some r
+      → r.phase ≡ Executing j path
+      → tickets_on j (without old.requests t) ≢ []
+      → new ≡ taken old t
+      → marks ≡ []
+      → Cancels old new t marks
+  ends : (r : Requested B C I) (j : ℕ) (path : Path B)
+      → at old.requests t ≡ Some r
+      → r.phase ≡ Executing j path
+      → tickets_on j (without old.requests t) ≡ []
+      → new ≡ record (taken old t) { runs = without old.runs j }
       → marks ≡ mark.Ended j Cancelled ∷ [] → Cancels old new t marks
   unqueued : at old.requests t ≡ None
-      → new ≡ record (taken old t) { queued = without old.queued t; recovered = filter (λ u. not (u == t)) old.recovered }
+      → new
+      ≡ record (taken old t) {
+        queued =
+            without old.queued t;
+        recovered = filter (λ u. not (u == t)) old.recovered;
+      }
       → marks ≡ [] → Cancels old new t marks

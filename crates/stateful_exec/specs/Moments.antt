@@ -13,7 +13,8 @@ pub record Moment {B C I P R D H G U : Type 0} (w : Workings B C I P R D H G U) 
 
 module _ {B C I P R D H G U : Type 0} (w : Workings B C I P R D H G U) where
   abbrev pub moment : Tables B C I R U → w.kind.Members → w.Ids → List (Mark B) → Moment w
-  moment state members next marks = record { state = state; members = members; next = next; marks = marks }
+  moment state members next marks =
+      record { state = state; members = members; next = next; marks = marks }
 
   -- the tables change to these, and these marks are made
   abbrev pub Becomes : Moment w → Tables B C I R U → List (Mark B) → Moment w → Type 0

@@ -18,7 +18,9 @@ pub record IsLastOf {T : Type 0} (items : List T) (item : T) : Type 0 where
 module _ {B : Type 0} (header : Header B) where
   -- the block is one above the other, and its child
   abbrev pub IsOneAbove : Named B → Named B → Type 0
-  IsOneAbove b parent = (parent.digest ≡ header.parent b.block) × (header.height b.block ≡ header.height parent.block + 1)
+  IsOneAbove b parent =
+      (parent.digest ≡ header.parent b.block)
+      × (header.height b.block ≡ header.height parent.block + 1)
 
   -- each block is one above the next one, and its child
   abbrev pub Descends : List (Named B) → Type 0
@@ -38,7 +40,8 @@ module _ {B U : Type 0} (header : Header B) (anchor : Anchor) (cache : List (Cac
     pub low : header.height b.block ≤ anchor.height.0
 
   -- the blocks begin with missing ones, each one above the next one and its child, down to this one
-  pub record Leads (blocks missing : List (Named B)) («end» : Named B) (rest : List (Named B)) : Type 0 where
+  pub record Leads (blocks missing : List (Named B)) («end» : Named B)
+      (rest : List (Named B)) : Type 0 where
     pub parts : blocks ≡ missing ++ «end» ∷ rest
     pub each : All IsMissing missing
     pub descends : Descends header (missing ++ «end» ∷ [])

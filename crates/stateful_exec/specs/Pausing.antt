@@ -27,8 +27,8 @@ abbrev pub pause_for : Option Boundary → Pause
 pause_for None = Pruning
 pause_for (Some boundary) = Finalizing boundary
 
--- The pause waits for the end of a run of the block: before a prune of each run, and before a finalization of each that
--- doesn't go on over it.
+-- The pause waits for the end of a run of the block: before a prune of each run, and before a
+-- finalization of each that doesn't go on over it.
 abbrev pub IsAwaited : {B : Type 0} → Header B → Pause → Named B → Type 0
 IsAwaited header Free b = ⊥
 IsAwaited header Pruning b = Unit {0}
@@ -42,16 +42,18 @@ pub data IsCount {T : Type 0} (P : T → Type 0) : List T → ℕ → Type 0 whe
 
 -- how many live runs the pause waits for
 abbrev pub AwaitsRuns : {B C I R U : Type 0} → Header B → Tables B C I R U → ℕ → Type 0
-AwaitsRuns header v n = IsCount (λ (e : ℕ × LiveRun _ _). IsAwaited header v.pause e.1.block) v.runs n
+AwaitsRuns header v n =
+    IsCount (λ (e : ℕ × LiveRun _ _). IsAwaited header v.pause e.1.block) v.runs n
 
 -- these are the numbers of the live fetches, ascending
 pub record AreFetches {B C I R U : Type 0} (v : Tables B C I R U) (fetches : List ℕ) : Type 0 where
   pub ascending : IsStrictlySortedBy nat_cmp fetches
   pub each : (f : ℕ) → Contains fetches f ↔ IsLiveFetch v f
 
--- Execution is paused: the live fetches are withdrawn, by ascending numbers, and what their requests need is to be found
--- anew.
-pub record Pauses {B C I R U : Type 0} (boundary : Option Boundary) (old new : Tables B C I R U) (marks : List (Mark B)) : Type 0 where
+-- Execution is paused: the live fetches are withdrawn, by ascending numbers, and what their
+-- requests need is to be found anew.
+pub record Pauses {B C I R U : Type 0} (boundary : Option Boundary) (old new : Tables B C I R U)
+    (marks : List (Mark B)) : Type 0 where
   pub fetches : List ℕ
   pub are : AreFetches old fetches
   pub marks_are : marks ≡ map (λ f. mark.Withdrawn f) fetches
@@ -63,19 +65,24 @@ module _ {B C I P R D H G U : Type 0} (w : Workings B C I P R D H G U) where
   GoesAlong r m now = Advances w m r.ticket (requested r.request) r.path now
 
   -- a request acquires what it needs, anew
-  abbrev pub AcquiresAnew : (ℕ → Option (Named B)) → ℕ × Requested B C I → Moment w → Moment w → Type 0
+  abbrev pub AcquiresAnew : (ℕ → Option (Named B))
+      → ℕ × Requested B C I
+      → Moment w
+      → Moment w
+      → Type 0
   AcquiresAnew stored e m now = Acquires w stored m e.0 (requested e.1.request) now
 
   -- execution isn't paused any more, and the parked requests are taken out of their table
   abbrev pub unparked : Moment w → Moment w
-  unparked m = record m { state = record m.state { pause = Free; requests = not_parked m.state.requests } }
+  unparked m =
+      record m { state = record m.state { pause = Free; requests = not_parked m.state.requests } }
 
   -- those are taken out that are to acquire anew what they need
   abbrev pub unsettled : Moment w → Moment w
   unsettled m = record m { state = record m.state { requests = not_unacquired m.state.requests } }
 
-  -- Execution goes on behind a pause: the parked requests go along their paths, and then all others that wait for no run
-  -- acquire what they need anew, each by ascending tickets.
+  -- Execution goes on behind a pause: the parked requests go along their paths, and then all others
+  -- that wait for no run acquire what they need anew, each by ascending tickets.
   pub record Resumes (stored : ℕ → Option (Named B)) (m now : Moment w) : Type 0 where
     pub mid : Moment w
     pub along : InTurn GoesAlong (parked_in m.state.requests) (unparked m) mid
@@ -87,12 +94,20 @@ module _ {B C I P R D H G U : Type 0} (w : Workings B C I P R D H G U) (rose : T
   FaultsAlong r m e = FaultsAdvance w rose m r.path e
 
   -- a request didn't acquire what it needs
-  abbrev pub FaultsAnew : (ℕ → Option (Named B)) → ℕ × Requested B C I → Moment w → ExecError → Type 0
+  abbrev pub FaultsAnew : (ℕ → Option (Named B))
+      → ℕ × Requested B C I
+      → Moment w
+      → ExecError
+      → Type 0
   FaultsAnew stored x m e = FaultsAcquire w rose stored m (requested x.1.request) e
 
   -- memory ran out; or one of the requests wasn't served
-  pub data FaultsResume (stored : ℕ → Option (Named B)) (m : Moment w) (e : ExecError) : Type 0 where
+  pub data FaultsResume (stored : ℕ → Option (Named B)) (m : Moment w)
+      (e : ExecError) : Type 0 where
     memory : e ≡ OutOfMemory → FaultsResume stored m e
-    along : StopsAt (GoesAlong w) FaultsAlong (parked_in m.state.requests) (unparked w m) e → FaultsResume stored m e
+    along : StopsAt (GoesAlong w) FaultsAlong (parked_in m.state.requests) (unparked w m) e
+        → FaultsResume stored m e
     anew : (mid : Moment w) → InTurn (GoesAlong w) (parked_in m.state.requests) (unparked w m) mid
-        → StopsAt (AcquiresAnew w stored) (FaultsAnew stored) (unacquired_in mid.state.requests) (unsettled w mid) e → FaultsResume stored m e
+        → StopsAt (AcquiresAnew w stored) (FaultsAnew stored) (unacquired_in mid.state.requests)
+        (unsettled w mid) e
+        → FaultsResume stored m e

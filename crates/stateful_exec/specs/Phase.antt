@@ -1,8 +1,10 @@
 -- What requests wait for.
-use Rattle.std.specs.Prelude.{ℕ, ◌==◌, Bool, true, false, not, if◌then◌else◌, Option, Some, None, is_none, option_map, List, map, filter, filter_map}
+use Rattle.std.specs.Prelude.{ℕ, ◌==◌, Bool, true, false, not, if◌then◌else◌, Option, Some, None}
+use Rattle.std.specs.Prelude.{is_none, option_map, List, map, filter, filter_map}
 use Rattle.stateful_exec.specs.Path.{Path}
 use Rattle.stateful_exec.specs.declared.tables.Phase.{Phase}
-use Rattle.stateful_exec.specs.declared.tables.Phase.TheVariants.{Open, Fetching, Waiting, Executing, Parked}
+use Rattle.stateful_exec.specs.declared.tables.Phase.TheVariants.{Open, Fetching, Waiting}
+use Rattle.stateful_exec.specs.declared.tables.Phase.TheVariants.{Executing, Parked}
 use Rattle.stateful_exec.specs.declared.tables.Released.{Released}
 use Rattle.stateful_exec.specs.declared.tables.Requested.{Requested}
 
@@ -21,7 +23,9 @@ path_on job (Executing of path) = if of == job then Some path else None
 path_on job phase = None
 
 abbrev pub released_from : {B C I : Type 0} → ℕ → ℕ × Requested B C I → Option (Released B C I)
-released_from job e = option_map (λ path. record { ticket = e.0; request = e.1.request; path = path }) (path_on job e.1.phase)
+released_from job e =
+    option_map (λ path. record { ticket = e.0; request = e.1.request; path = path })
+    (path_on job e.1.phase)
 
 -- the requests that wait for the run of a job, by ascending tickets
 abbrev pub released_on : {B C I : Type 0} → ℕ → List (ℕ × Requested B C I) → List (Released B C I)
@@ -37,7 +41,9 @@ parked_path (Parked path) = Some path
 parked_path phase = None
 
 abbrev pub parked_from : {B C I : Type 0} → ℕ × Requested B C I → Option (Released B C I)
-parked_from e = option_map (λ path. record { ticket = e.0; request = e.1.request; path = path }) (parked_path e.1.phase)
+parked_from e =
+    option_map (λ path. record { ticket = e.0; request = e.1.request; path = path })
+    (parked_path e.1.phase)
 
 -- the parked requests, by ascending tickets, and the others
 abbrev pub parked_in : {B C I : Type 0} → List (ℕ × Requested B C I) → List (Released B C I)
@@ -53,10 +59,14 @@ is_unacquired Waiting = true
 is_unacquired phase = false
 
 -- the requests of which that holds, by ascending tickets, and the others
-abbrev pub unacquired_in : {B C I : Type 0} → List (ℕ × Requested B C I) → List (ℕ × Requested B C I)
+abbrev pub unacquired_in : {B C I : Type 0}
+    → List (ℕ × Requested B C I)
+    → List (ℕ × Requested B C I)
 unacquired_in requests = filter (λ e. is_unacquired e.1.phase) requests
 
-abbrev pub not_unacquired : {B C I : Type 0} → List (ℕ × Requested B C I) → List (ℕ × Requested B C I)
+abbrev pub not_unacquired : {B C I : Type 0}
+    → List (ℕ × Requested B C I)
+    → List (ℕ × Requested B C I)
 not_unacquired requests = filter (λ e. not (is_unacquired e.1.phase)) requests
 
 -- a request whose fetch is given up

@@ -18,7 +18,14 @@ pub record Workings (B C I P R D H G U : Type 0) : Type 1 where
   -- the sealed batch stands on this chain
   pub shows : U → List (Ids × States) → Type 0
 
-abbrev pub workings : {B C I P Ids S T R D H G U : Type 0} → Header B → (B → C) → (C → Round) → Works B C I P Ids S T R D H G → Databases Ids S T → (U → List (Ids × S) → Type 0) → Workings B C I P R D H G U
+abbrev pub workings : {B C I P Ids S T R D H G U : Type 0}
+    → Header B
+    → (B → C)
+    → (C → Round)
+    → Works B C I P Ids S T R D H G
+    → Databases Ids S T
+    → (U → List (Ids × S) → Type 0)
+    → Workings B C I P R D H G U
 workings {Ids = Ids} {S = S} {T = T} header context_of round_of works kind shows = record {
   Ids = Ids;
   States = S;

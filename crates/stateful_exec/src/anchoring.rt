@@ -1,12 +1,16 @@
 //! The anchor moves to a finalized block, and the application observes it.
 
-ghost use Rattle.std.specs.Prelude.{◌≡◌, ◌≢◌, ◌≤◌, ◌⊎◌, true, false, All, Some, None, OnOk, IfOk, IfErr, IfSome, IfNone, IsErrOf, OnErr};
+ghost use Rattle.std.specs.Prelude.{◌≡◌, ◌≢◌, ◌≤◌, ◌⊎◌, true, false, All, Some, None, OnOk, IfOk};
+ghost use Rattle.std.specs.Prelude.{IfErr, IfSome, IfNone, IsErrOf, OnErr};
 ghost use Rattle.stateful_types.specs.Anchor.{anchor_by};
 ghost use Rattle.stateful_types.specs.Causes.{Rose};
 ghost use Rattle.stateful_types.specs.Names.{Named};
 ghost use Rattle.stateful_cache.specs.Cache.{IsIn};
 ghost use Rattle.stateful_cache.specs.Cut.{IsCutTo, IsRootOf};
-ghost use Rattle.stateful_exec.specs.Finalizing.{front_at, HasStates, IsRoot, Moves, FaultsMove, Observes, HooksOn, FaultsHooksOn, FaultsObserve, IsHookLive, SettlesHook, FaultsSettleHook, TurnsHook, FaultsHook};
+ghost use Rattle.stateful_exec.specs.Finalizing.{front_at, HasStates, IsRoot, Moves, FaultsMove};
+ghost use Rattle.stateful_exec.specs.Finalizing.{Observes, HooksOn, FaultsHooksOn, FaultsObserve};
+ghost use Rattle.stateful_exec.specs.Finalizing.{IsHookLive, SettlesHook, FaultsSettleHook};
+ghost use Rattle.stateful_exec.specs.Finalizing.{TurnsHook, FaultsHook};
 ghost use Rattle.stateful_exec.specs.Starting.{IsLeft, Rises};
 ghost use Rattle.stateful_exec.specs.declared.front.Stage.TheVariants as stage;
 
@@ -23,8 +27,8 @@ use stateful_types::{Anchor, Block, Digested, Moved, OutOfMemory, Share};
 use std::mem;
 
 impl<B: Block + Drop, C: Copy, I: Drop, R: Drop, U: Drop> Tables<B, C, I, R, U> {
-    /// Makes a block the anchor, and cuts the cache to its descendants of later rounds. The batch of its entry is handed
-    /// out, if there was one.
+    /// Makes a block the anchor, and cuts the cache to its descendants of later rounds. The batch
+    /// of its entry is handed out, if there was one.
     fn cut(&mut self, block: &Digested<B>) -> Result<Option<U>, OutOfMemory>
         ensures kept { OnOk result (IsCutTo (anchor_by B.header block.now) self.old.cache
             self.new.cache) }
@@ -62,8 +66,9 @@ fn take_ran<A: Application>(front: &mut Option<FrontOf<A>>) -> Option<Batch<A>>
     }
 }
 
-/// The batch of a finalized block: that of its entry in the cache, where there is one, and else that of its run. The block
-/// is the anchor from now on. `FinalizedRejected` exactly where it has no states.
+/// The batch of a finalized block: that of its entry in the cache, where there is one, and else
+/// that of its run. The block is the anchor from now on. `FinalizedRejected` exactly where it has
+/// no states.
 fn take_root<A: Application>(
     tables: &mut TablesOf<A>,
     front: &mut Option<FrontOf<A>>,
@@ -93,8 +98,8 @@ fn take_root<A: Application>(
     }
 }
 
-/// The anchor moves to the finalized block, and what the application reads of the states before it is handed out with its
-/// batch, which is to be applied.
+/// The anchor moves to the finalized block, and what the application reads of the states before it
+/// is handed out with its batch, which is to be applied.
 pub(crate) fn advance_to<A: Application>(
     application: &mut A,
     tables: &mut TablesOf<A>,
@@ -123,7 +128,8 @@ pub(crate) fn advance_to<A: Application>(
     Ok((batch, captured))
 }
 
-/// A hook behind the finalized block is live, under the next number of a job, or there is none. Whether there is one.
+/// A hook behind the finalized block is live, under the next number of a job, or there is none.
+/// Whether there is one.
 fn hook_on<A: Application>(
     tables: &mut TablesOf<A>,
     front: &mut Option<FrontOf<A>>,
@@ -156,8 +162,8 @@ fn hook_on<A: Application>(
     Ok(live)
 }
 
-/// The application observes the states after the finalized block, with what it read of those before it. Whether a hook is
-/// live then.
+/// The application observes the states after the finalized block, with what it read of those before
+/// it. Whether a hook is live then.
 pub(crate) fn observe<A: Application>(
     application: &mut A,
     tables: &mut TablesOf<A>,
@@ -186,7 +192,8 @@ pub(crate) fn observe<A: Application>(
     hook_on::<A>(tables, front, block, hooked, marks)
 }
 
-/// Takes the hook behind the finalized block, where it is live under this number; else nothing changes.
+/// Takes the hook behind the finalized block, where it is live under this number; else nothing
+/// changes.
 fn take_hook<A: Application>(
     front: &mut Option<FrontOf<A>>,
     job: u64,

@@ -50,8 +50,8 @@ pub enum Disposition {
     Reject,
 }
 
-/// The blocks whose states stay valid once one block is applied: that block, and those that were found to descend from
-/// it in later rounds.
+/// The blocks whose states stay valid once one block is applied: that block, and those that were
+/// found to descend from it in later rounds.
 #[derive(Drop)]
 pub struct FinalizationBoundary {
     digest: Digest,
@@ -69,7 +69,8 @@ impl Model for FinalizationBoundary {
 }
 
 impl FinalizationBoundary {
-    /// The boundary of the finalization of a block: compatible are the block and its cached descendants of later rounds.
+    /// The boundary of the finalization of a block: compatible are the block and its cached
+    /// descendants of later rounds.
     pub(crate) fn of<B: Block, U: Drop>(
         alloc: Global,
         block: &Digested<B>,
@@ -86,8 +87,8 @@ impl FinalizationBoundary {
         })
     }
 
-    /// `Join` exactly for the finalized digest; `Retain` exactly for a later round on a compatible parent, where it isn't
-    /// of that digest; else `Reject`.
+    /// `Join` exactly for the finalized digest; `Retain` exactly for a later round on a compatible
+    /// parent, where it isn't of that digest; else `Reject`.
     pub fn disposition(&self, step: &ExecutionStep) -> Disposition
         ensures join { (result ≡ Disposition.Join) ↔ (step.now.digest ≡ self.now.digest) }
         ensures retain { (result ≡ Disposition.Retain) ↔ IsRetained self.now step.now }

@@ -1,7 +1,9 @@
 //! Turns of builds, and the blocks that they give.
 
 ghost use Rattle.std.specs.Prelude.{◌≡◌, ◌++◌, ◌∷◌, [], List, OnOk, IfOk, IfErr, IfSome, IfNone};
-ghost use Rattle.stateful_exec.specs.Built.{decided, IsOther, IsAskedFor, IsBuilt, FaultsKeep, FaultsBuilt, Gives, EndsBuild, FaultsGiven, TurnsBuild, FaultsTurn, GivesUp};
+ghost use Rattle.stateful_exec.specs.Built.{decided, IsOther, IsAskedFor, IsBuilt, FaultsKeep};
+ghost use Rattle.stateful_exec.specs.Built.{FaultsBuilt, Gives, EndsBuild, FaultsGiven, TurnsBuild};
+ghost use Rattle.stateful_exec.specs.Built.{FaultsTurn, GivesUp};
 ghost use Rattle.stateful_history.specs.declared.mark.Mark.{Mark as Marked};
 ghost use Rattle.stateful_exec.specs.Ending.{Takes};
 ghost use Rattle.stateful_exec.specs.Moments.{moment};
@@ -48,7 +50,8 @@ impl<B: Block + Drop, C: Copy, I: Drop, R: Drop, U: Drop> Tables<B, C, I, R, U> 
     }
 }
 
-/// How a block differs from what was asked for: in its targets, else in its parent, else in its round.
+/// How a block differs from what was asked for: in its targets, else in its parent, else in its
+/// round.
 fn fault_of<A: Application>(
     building: &BuildingOf<A>,
     proposed: &Proposed<A>,
@@ -165,8 +168,8 @@ fn end_build<A: Application>(
     }
 }
 
-/// The build of a job has a turn. Where it has ended, its block is cached and its proposal answered. Where no build of this
-/// job is live nothing changes.
+/// The build of a job has a turn. Where it has ended, its block is cached and its proposal
+/// answered. Where no build of this job is live nothing changes.
 pub(crate) fn turn_build<A: Application>(
     tables: &mut TablesOf<A>,
     databases: &A::Databases,
@@ -200,8 +203,8 @@ pub(crate) fn turn_build<A: Application>(
     }
 }
 
-/// Gives up the request of a ticket: the live build ends where it is for it; else the request is given up, or its build isn't
-/// queued any more.
+/// Gives up the request of a ticket: the live build ends where it is for it; else the request is
+/// given up, or its build isn't queued any more.
 pub(crate) fn give_up<A: Application>(
     tables: &mut TablesOf<A>,
     build: &mut Option<BuildingOf<A>>,

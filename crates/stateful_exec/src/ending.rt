@@ -5,8 +5,10 @@ ghost use Rattle.stateful_types.specs.Causes.{Rose};
 ghost use Rattle.stateful_table.specs.Table.{at};
 ghost use Rattle.stateful_exec.specs.Moments.{moment};
 ghost use Rattle.stateful_exec.specs.Starting.{Rises};
-ghost use Rattle.stateful_exec.specs.Causes.{FaultsEnd, FaultsAdvance, FaultsFollow, FaultsAnswer, FaultsStep};
-ghost use Rattle.stateful_exec.specs.Ending.{InTurn, IsTold, EndsRun, FaultsTake, TurnsRun, Follows, SettlesBy, Steps};
+ghost use Rattle.stateful_exec.specs.Causes.{FaultsEnd, FaultsAdvance, FaultsFollow, FaultsAnswer};
+ghost use Rattle.stateful_exec.specs.Causes.{FaultsStep};
+ghost use Rattle.stateful_exec.specs.Ending.{InTurn, IsTold, EndsRun, FaultsTake, TurnsRun};
+ghost use Rattle.stateful_exec.specs.Ending.{Follows, SettlesBy, Steps};
 
 use crate::error::ExecError;
 use crate::request::Verdict;
@@ -27,8 +29,8 @@ pub type ReleasedOf<A> = Released<
 /// What a turn of a run answers.
 pub type Turned<A> = Result<Moved<Option<Batch<A>>>, AppFault>;
 
-/// How a candidate run ended: without states, with other targets than its block commits to, or with a batch that the cache
-/// takes or misses.
+/// How a candidate run ended: without states, with other targets than its block commits to, or with
+/// a batch that the cache takes or misses.
 fn end<A: Application>(
     tables: &mut TablesOf<A>,
     block: &Digested<A::Block>,

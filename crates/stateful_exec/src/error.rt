@@ -25,7 +25,8 @@ pub enum ProposalFault {
     },
 }
 
-/// Why execution refused a call. Behind a refusal nothing is said of its tables but of the numbers that are drawn next.
+/// Why execution refused a call. Behind a refusal nothing is said of its tables but of the numbers
+/// that are drawn next.
 #[derive(Clone, Copy, Debug, PartialEq, Eq, Error)]
 pub enum ExecError {
     /// A database isn't here.

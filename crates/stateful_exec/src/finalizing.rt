@@ -1,12 +1,17 @@
 //! Finalizations: which blocks may be final next, runs of them, and how the anchor moves to one.
 
-ghost use Rattle.std.specs.Prelude.{◌≡◌, ◌<◌, ◌≤◌, ◌++◌, ◌∷◌, [], ℕ, true, false, OnOk, OnErr, IfOk, IfErr, IfSome, IfNone, IsErrOf};
+ghost use Rattle.std.specs.Prelude.{◌≡◌, ◌<◌, ◌≤◌, ◌++◌, ◌∷◌, [], ℕ, true, false, OnOk, OnErr};
+ghost use Rattle.std.specs.Prelude.{IfOk, IfErr, IfSome, IfNone, IsErrOf};
 ghost use Rattle.stateful_types.specs.Names.{Named};
 ghost use Rattle.stateful_types.specs.Causes.{Rose};
 ghost use Rattle.stateful_history.specs.declared.mark.JobKind.TheVariants as job;
 ghost use Rattle.stateful_history.specs.declared.mark.Mark.TheVariants.{Started};
 ghost use Rattle.stateful_exec.specs.Causes.{FaultsStart};
-ghost use Rattle.stateful_exec.specs.Finalizing.{IsRedelivered, Conflicts, MayBegin, FaultsBegin, front_at, RunsFinal, IsFinalBatch, FaultsFinal, IsFinalLive, StepsFinal, FaultsStepFinal, SettlesFinal, FaultsSettleFinal, Completes, FaultsComplete, SettlesRun, FaultsSettleRun};
+ghost use Rattle.stateful_exec.specs.Finalizing.{IsRedelivered, Conflicts, MayBegin, FaultsBegin};
+ghost use Rattle.stateful_exec.specs.Finalizing.{front_at, RunsFinal, IsFinalBatch, FaultsFinal};
+ghost use Rattle.stateful_exec.specs.Finalizing.{IsFinalLive, StepsFinal, FaultsStepFinal};
+ghost use Rattle.stateful_exec.specs.Finalizing.{SettlesFinal, FaultsSettleFinal, Completes};
+ghost use Rattle.stateful_exec.specs.Finalizing.{FaultsComplete, SettlesRun, FaultsSettleRun};
 ghost use Rattle.stateful_exec.specs.Moments.{moment};
 ghost use Rattle.stateful_exec.specs.Starting.{IsLeft, Rises};
 
@@ -28,7 +33,8 @@ pub type FrontOf<A> = Front<
     <A as Application>::Hook,
 >;
 
-/// Whether a finalized block is no higher than the anchor. Refused where another block was finalized at its height.
+/// Whether a finalized block is no higher than the anchor. Refused where another block was
+/// finalized at its height.
 pub(crate) fn is_redelivered<B: Block>(
     anchor: Anchor,
     block: &Digested<B>,
@@ -49,7 +55,8 @@ pub(crate) fn is_redelivered<B: Block>(
     Ok(height.0 <= anchor.height.0)
 }
 
-/// Begins the finalization of a block: it has to be no higher than the next height, and on the anchor.
+/// Begins the finalization of a block: it has to be no higher than the next height, and on the
+/// anchor.
 pub(crate) fn begin<B: Block + Drop, R: Drop, U: Drop, H: Drop>(
     anchor: Anchor,
     front: &mut Option<Front<B, R, U, H>>,
@@ -126,7 +133,8 @@ pub(crate) fn run_finalized<A: Application>(
     Ok(())
 }
 
-/// The batch that a run of the finalized block has to lead to: one whose targets are what the block commits to.
+/// The batch that a run of the finalized block has to lead to: one whose targets are what the block
+/// commits to.
 fn end_finalized<A: Application>(
     block: &Digested<A::Block>,
     ended: Option<Batch<A>>,
@@ -178,7 +186,8 @@ pub(crate) fn settle_finalized<A: Application>(
     Ok(())
 }
 
-/// The run of the finalized block has a turn, where it is live under this number; else nothing changes.
+/// The run of the finalized block has a turn, where it is live under this number; else nothing
+/// changes.
 fn complete_finalized<A: Application>(
     front: &mut Option<FrontOf<A>>,
     databases: &A::Databases,
@@ -220,8 +229,8 @@ fn take_finalized<A: Application>(
     }
 }
 
-/// A run of a job has a turn: a candidate's, or that of the finalized block. Where it has ended, what follows is done. Where
-/// the job isn't live nothing changes.
+/// A run of a job has a turn: a candidate's, or that of the finalized block. Where it has ended,
+/// what follows is done. Where the job isn't live nothing changes.
 pub(crate) fn complete_run<A: Application>(
     application: &mut A,
     tables: &mut TablesOf<A>,

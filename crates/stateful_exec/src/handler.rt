@@ -1,6 +1,7 @@
 //! Requests to judge blocks and to build them.
 
-ghost use Rattle.std.specs.Prelude.{◌≡◌, ◌++◌, ◌∷◌, [], ◌≤◌, ℕ, List, None, OnOk, IfOk, IfErr, IfSome, IfNone, IsErrOf};
+ghost use Rattle.std.specs.Prelude.{◌≡◌, ◌++◌, ◌∷◌, [], ◌≤◌, ℕ, List, None, OnOk, IfOk, IfErr};
+ghost use Rattle.std.specs.Prelude.{IfSome, IfNone, IsErrOf};
 ghost use Rattle.stateful_types.specs.Causes.{Rose};
 ghost use Rattle.stateful_history.specs.declared.mark.Mark.{Mark as Marked};
 ghost use Rattle.stateful_exec.specs.Moments.{moment};
@@ -10,7 +11,8 @@ ghost use Rattle.stateful_exec.specs.Rules.{requested, Acquires};
 ghost use Rattle.stateful_exec.specs.Causes.{FaultsAcquire};
 ghost use Rattle.stateful_exec.specs.Built.{GivesUp};
 ghost use Rattle.stateful_exec.specs.Fetching.{IsFetched, FaultsFetched};
-ghost use Rattle.stateful_exec.specs.Finalizing.{Completes, FaultsComplete, SettlesRun, FaultsSettleRun};
+ghost use Rattle.stateful_exec.specs.Finalizing.{Completes, FaultsComplete, SettlesRun};
+ghost use Rattle.stateful_exec.specs.Finalizing.{FaultsSettleRun};
 ghost use Rattle.stateful_exec.specs.Pausing.{AwaitsRuns, Pauses, Resumes, FaultsResume};
 
 use crate::boundary::FinalizationBoundary;
@@ -58,8 +60,9 @@ impl<A: Application + Drop> Execution<A, Handling> {
         })
     }
 
-    /// Drops all requests, runs, builds and cached states, the finalization that goes on and the pause. The application
-    /// stays. Nothing is cached above this anchor, and jobs and fetches are numbered from these numbers on.
+    /// Drops all requests, runs, builds and cached states, the finalization that goes on and the
+    /// pause. The application stays. Nothing is cached above this anchor, and jobs and fetches are
+    /// numbered from these numbers on.
     pub fn reopen(&mut self, anchor: Anchor, job: u64, fetch: u64)
         requires { (self.old.state.next_job ≤ job) × (self.old.state.next_fetch ≤ fetch) }
         ensures application { self.new.application ≡ self.old.application }
@@ -79,8 +82,8 @@ impl<A: Application + Drop> Execution<A, Handling> {
         self.front = None;
     }
 
-    /// Pauses for a finalization with this boundary, or for a prune without one: the live fetches are withdrawn, by
-    /// ascending numbers. Answers how many live runs it waits for.
+    /// Pauses for a finalization with this boundary, or for a prune without one: the live fetches
+    /// are withdrawn, by ascending numbers. Answers how many live runs it waits for.
     pub fn pause(
         &mut self,
         boundary: Option<FinalizationBoundary>,
@@ -105,8 +108,8 @@ impl<A: Application + Drop> Execution<A, Handling> {
         self.tables.awaited()
     }
 
-    /// Goes on behind a pause: parked requests go along their paths, and then all others that wait for no run acquire what
-    /// they need anew, each by ascending tickets.
+    /// Goes on behind a pause: parked requests go along their paths, and then all others that wait
+    /// for no run acquire what they need anew, each by ascending tickets.
     pub fn resume<S: BlockStore<A::Block>>(
         &mut self,
         databases: &mut A::Databases,
@@ -142,8 +145,8 @@ impl<A: Application + Drop> Execution<A, Handling> {
         )
     }
 
-    /// Takes a request, whose ticket should be no other's. It ends at once, or a block is fetched for it, or it waits, or it joins
-    /// a run or starts one.
+    /// Takes a request, whose ticket should be no other's. It ends at once, or a block is fetched
+    /// for it, or it waits, or it joins a run or starts one.
     pub fn schedule<S: BlockStore<A::Block>>(
         &mut self,
         databases: &mut A::Databases,
@@ -154,7 +157,8 @@ impl<A: Application + Drop> Execution<A, Handling> {
         ensures ok { OnOk result (let w = ⟦<A as Worked>⟧.workings in
             Acquires w (S.stored store.now)
             (moment w self.old.state (A.Databases.members databases.old)
-            (A.Databases.next databases.old) marks.old.items) (ticket_by request) (requested request)
+            (A.Databases.next databases.old) marks.old.items) (ticket_by request)
+            (requested request)
             (moment w self.new.state (A.Databases.members databases.new)
             (A.Databases.next databases.new) marks.new.items)) }
         ensures fault { IfErr result (let w = ⟦<A as Worked>⟧.workings in
@@ -184,8 +188,8 @@ impl<A: Application + Drop> Execution<A, Handling> {
         )
     }
 
-    /// A fetch is answered: with the block that was asked for, or with none. Where no block is fetched under the number
-    /// nothing changes.
+    /// A fetch is answered: with the block that was asked for, or with none. Where no block is
+    /// fetched under the number nothing changes.
     pub fn fetched<S: BlockStore<A::Block>>(
         &mut self,
         databases: &mut A::Databases,
@@ -225,9 +229,9 @@ impl<A: Application + Drop> Execution<A, Handling> {
         )
     }
 
-    /// The run of a job has one turn. Where a candidate run has ended, its end is told, and the requests that waited for it
-    /// follow, by ascending tickets; where the run of a finalized block has ended, its batch is there. Where the job isn't
-    /// that of a live run nothing changes.
+    /// The run of a job has one turn. Where a candidate run has ended, its end is told, and the
+    /// requests that waited for it follow, by ascending tickets; where the run of a finalized block
+    /// has ended, its batch is there. Where the job isn't that of a live run nothing changes.
     pub fn complete(
         &mut self,
         databases: &mut A::Databases,
@@ -264,7 +268,8 @@ impl<A: Application + Drop> Execution<A, Handling> {
         )
     }
 
-    /// Does what `complete` does behind the turn: `answer` is what the last turn of the job's run answered.
+    /// Does what `complete` does behind the turn: `answer` is what the last turn of the job's run
+    /// answered.
     pub fn settle(
         &mut self,
         databases: &mut A::Databases,
@@ -302,7 +307,8 @@ impl<A: Application + Drop> Execution<A, Handling> {
         )
     }
 
-    /// Takes the ticket of the next proposal whose parent became known and that wasn't taken yet, in this order.
+    /// Takes the ticket of the next proposal whose parent became known and that wasn't taken yet,
+    /// in this order.
     pub fn ready(&mut self) -> Option<u64>
         ensures first { IfSome result (λ ticket. self.old.state.recovered
             ≡ ticket ∷ self.new.state.recovered) }
@@ -316,8 +322,9 @@ impl<A: Application + Drop> Execution<A, Handling> {
         self.tables.ready()
     }
 
-    /// Gives up the request of a ticket. The live build ends where it is for it; else the request is given up, its fetch is
-    /// withdrawn, and the run that it was the last to wait for ends; or its build isn't queued any more.
+    /// Gives up the request of a ticket. The live build ends where it is for it; else the request
+    /// is given up, its fetch is withdrawn, and the run that it was the last to wait for ends; or
+    /// its build isn't queued any more.
     pub fn cancel(
         &mut self,
         ticket: u64,

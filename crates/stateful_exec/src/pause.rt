@@ -19,7 +19,8 @@ pub enum Pause {
 }
 
 impl Pause {
-    /// A run of this block has ended. While a finalization goes on over which the block goes on, it is compatible from now on.
+    /// A run of this block has ended. While a finalization goes on over which the block goes on, it
+    /// is compatible from now on.
     pub(crate) fn cross<B: Block + Drop>(&mut self, block: &Digested<B>) -> Result<(), OutOfMemory>
         ensures { OnOk result (Crosses B.header block.now self.old self.new) }
     {
@@ -33,7 +34,8 @@ impl Pause {
         boundary.completed(&step)
     }
 
-    /// What becomes of the requests that waited for a run of the block that ended so, where the block is known or not.
+    /// What becomes of the requests that waited for a run of the block that ended so, where the
+    /// block is known or not.
     pub(crate) fn fate<B: Block + Drop>(&self, known: bool, block: &Digested<B>, how: How) -> Fate
         ensures { IsFate B.header self.now (IsTrue known) block.now how result }
     {

@@ -4,7 +4,8 @@ ghost use Rattle.std.specs.Prelude.{◌≡◌, ◌↔◌, ◌++◌, map, IsTrue,
 ghost use Rattle.std.specs.BTreeSet.{keys};
 ghost use Rattle.stateful_history.specs.declared.mark.Mark.{Mark as Marked};
 ghost use Rattle.stateful_history.specs.declared.mark.Mark.TheVariants as mark;
-ghost use Rattle.stateful_exec.specs.Phase.{unfetched, dropped, parked_path, parked_in, not_parked, unacquired_in, not_unacquired};
+ghost use Rattle.stateful_exec.specs.Phase.{unfetched, dropped, parked_path, parked_in, not_parked};
+ghost use Rattle.stateful_exec.specs.Phase.{unacquired_in, not_unacquired};
 ghost use Rattle.stateful_exec.specs.Starting.{Rises};
 ghost use Rattle.stateful_exec.specs.Pausing.{pause_for, IsAwaited, AwaitsRuns, AreFetches, Pauses};
 
@@ -134,8 +135,8 @@ impl<B: Block + Drop, C: Copy, I: Drop, R: Drop, U: Drop> Tables<B, C, I, R, U> 
         Ok(())
     }
 
-    /// Pauses for a finalization with this boundary, or for a prune without one. The live fetches are withdrawn, by
-    /// ascending numbers.
+    /// Pauses for a finalization with this boundary, or for a prune without one. The live fetches
+    /// are withdrawn, by ascending numbers.
     pub(crate) fn pause(
         &mut self,
         boundary: Option<FinalizationBoundary>,
@@ -196,7 +197,8 @@ impl<B: Block + Drop, C: Copy, I: Drop, R: Drop, U: Drop> Tables<B, C, I, R, U> 
         Ok(out)
     }
 
-    /// Takes the requests out of their table that are to acquire anew what they need, by ascending tickets.
+    /// Takes the requests out of their table that are to acquire anew what they need, by ascending
+    /// tickets.
     pub(crate) fn take_unacquired(&mut self) -> Result<Vec<(u64, Requested<B, C, I>)>, OutOfMemory>
         ensures out { IfOk result (λ out. out.items ≡ unacquired_in self.old.requests) }
         ensures rest { OnOk result (self.new ≡ record self.old {

@@ -1,6 +1,7 @@
 //! An application with the states of blocks that aren't final yet.
 
-ghost use Rattle.std.specs.Prelude.{◌≡◌, ◌↔◌, ◌<◌, ◌≤◌, ◌++◌, ◌∷◌, ◌⊎◌, [], ℕ, true, false, None, OnOk, OnErr, IfOk, IfErr, IsErrOf, IsTrue};
+ghost use Rattle.std.specs.Prelude.{◌≡◌, ◌↔◌, ◌<◌, ◌≤◌, ◌++◌, ◌∷◌, ◌⊎◌, [], ℕ, true, false, None};
+ghost use Rattle.std.specs.Prelude.{OnOk, OnErr, IfOk, IfErr, IsErrOf, IsTrue};
 ghost use Rattle.std.specs.Option.{option_copied};
 ghost use Rattle.stateful_types.specs.Causes.{Rose};
 ghost use Rattle.stateful_cache.specs.Cache.{IsIn};
@@ -9,7 +10,10 @@ ghost use Rattle.stateful_history.specs.declared.mark.Mark.TheVariants.{Started}
 ghost use Rattle.stateful_exec.specs.Building.{Proposes, FaultsPropose};
 ghost use Rattle.stateful_exec.specs.Built.{TurnsBuild, FaultsTurn};
 ghost use Rattle.stateful_exec.specs.Causes.{FaultsStart};
-ghost use Rattle.stateful_exec.specs.Finalizing.{IsRedelivered, Conflicts, MayBegin, FaultsBegin, IsBoundaryOf, front_at, RunsFinal, Moves, FaultsMove, Observes, FaultsObserve, TurnsHook, FaultsHook};
+ghost use Rattle.stateful_exec.specs.Finalizing.{IsRedelivered, Conflicts, MayBegin, FaultsBegin};
+ghost use Rattle.stateful_exec.specs.Finalizing.{IsBoundaryOf, front_at, RunsFinal, Moves};
+ghost use Rattle.stateful_exec.specs.Finalizing.{FaultsMove, Observes, FaultsObserve, TurnsHook};
+ghost use Rattle.stateful_exec.specs.Finalizing.{FaultsHook};
 ghost use Rattle.stateful_exec.specs.Moments.{moment};
 ghost use Rattle.stateful_exec.specs.Starting.{Rises};
 
@@ -30,8 +34,9 @@ use stateful_types::{Anchor, Digest, Digested, OutOfMemory};
 use std::alloc::Global;
 use std::marker::{Model, PhantomData};
 
-/// An application with the anchor, the cached states of blocks above it, and what goes on: requests, runs, a build, a
-/// finalization. `M` tells which calls are offered beside those of a processor.
+/// An application with the anchor, the cached states of blocks above it, and what goes on:
+/// requests, runs, a build, a finalization. `M` tells which calls are offered beside those of a
+/// processor.
 #[derive(Drop)]
 pub struct Execution<A: Application + Drop, M> {
     pub(crate) application: A,
@@ -54,13 +59,17 @@ impl<A: Application + Drop, M> Model for Execution<A, M> {
     ghost use Rattle.stateful_exec.specs.declared.front.Front.{Front};
     ghost use Rattle.stateful_exec.specs.declared.state.Tables.{Tables};
 
-    ghost Value = { Owner A (Tables A.Block A.Context A.Input A.Run A.Databases.Merkleized) (Option (Building A.Block A.Context A.Build)) (Option (Front A.Block A.Run A.Databases.Merkleized A.Hook)) };
+    ghost Value = { Owner A (Tables A.Block A.Context A.Input A.Run A.Databases.Merkleized)
+        (Option (Building A.Block A.Context A.Build))
+        (Option (Front A.Block A.Run A.Databases.Merkleized A.Hook)) };
 
-    ghost view = { λ e. record { application = e.application; state = e.tables; build = e.build; front = e.front } };
+    ghost view = { λ e. record
+        { application = e.application; state = e.tables; build = e.build; front = e.front } };
 }
 
 impl<A: Application + Drop> Execution<A, Processing> {
-    /// Nothing is cached above the anchor, and nothing goes on. Jobs and fetches are numbered from 0.
+    /// Nothing is cached above the anchor, and nothing goes on. Jobs and fetches are numbered from
+    /// 0.
     pub fn new(alloc: Global, application: A, anchor: Anchor) -> Result<Processor<A>, OutOfMemory>
         ensures application { IfOk result (λ p. p.application ≡ application) }
         ensures anchor { IfOk result (λ p. p.state.anchor ≡ anchor) }
@@ -133,8 +142,9 @@ impl<A: Application + Drop, M> Execution<A, M> {
         (self.tables.next_job, self.tables.next_fetch)
     }
 
-    /// Starts the build of a ticket that is queued, under the next number of a job; where the block that it is to be built on
-    /// isn't known it is declined. A ticket that isn't queued is declined, and nothing changes.
+    /// Starts the build of a ticket that is queued, under the next number of a job; where the block
+    /// that it is to be built on isn't known it is declined. A ticket that isn't queued is
+    /// declined, and nothing changes.
     pub fn propose(
         &mut self,
         ticket: u64,
@@ -168,8 +178,8 @@ impl<A: Application + Drop, M> Execution<A, M> {
         )
     }
 
-    /// The build of a job has a turn. Where it has ended, its block is cached and its proposal answered. Where no build of
-    /// this job is live nothing changes.
+    /// The build of a job has a turn. Where it has ended, its block is cached and its proposal
+    /// answered. Where no build of this job is live nothing changes.
     pub fn turn_build(
         &mut self,
         databases: &A::Databases,
@@ -193,8 +203,8 @@ impl<A: Application + Drop, M> Execution<A, M> {
         turn_build::<A>(&mut self.tables, databases, &mut self.build, job, marks)
     }
 
-    /// Whether a finalized block is no higher than the anchor. `ConflictAtAnchor` exactly where another block was finalized
-    /// at its height.
+    /// Whether a finalized block is no higher than the anchor. `ConflictAtAnchor` exactly where
+    /// another block was finalized at its height.
     pub fn redelivered(&self, block: &Digested<A::Block>) -> Result<bool, ExecError>
         ensures past { IfOk result (λ past. past ≡ true
             → IsRedelivered A.Block.header self.now.state.anchor block.now) }
@@ -205,15 +215,16 @@ impl<A: Application + Drop, M> Execution<A, M> {
         is_redelivered(self.tables.anchor, block)
     }
 
-    /// The boundary of the finalization of a block: compatible are the block and its cached descendants of later rounds.
+    /// The boundary of the finalization of a block: compatible are the block and its cached
+    /// descendants of later rounds.
     pub fn boundary(&self, block: &Digested<A::Block>) -> Result<FinalizationBoundary, OutOfMemory>
         ensures { IfOk result (IsBoundaryOf A.Block.header block.now self.now.state.cache) }
     {
         FinalizationBoundary::of(self.tables.alloc, block, &self.tables.cache)
     }
 
-    /// Begins the finalization of a block. `SkippedHeight` exactly where it is above the next height, else `NotExtending`
-    /// exactly where it has another parent than the anchor.
+    /// Begins the finalization of a block. `SkippedHeight` exactly where it is above the next
+    /// height, else `NotExtending` exactly where it has another parent than the anchor.
     pub fn begin(&mut self, block: &Digested<A::Block>) -> Result<(), ExecError>
         ensures ok { OnOk result (MayBegin A.Block.header self.old.state.anchor block.now
             × (self.new ≡ record self.old { front = front_at block.now Stage.Begun })) }
@@ -224,7 +235,8 @@ impl<A: Application + Drop, M> Execution<A, M> {
         begin(self.tables.anchor, &mut self.front, block)
     }
 
-    /// Starts a run of the block that was begun, over the databases' states, under the next number of a job.
+    /// Starts a run of the block that was begun, over the databases' states, under the next number
+    /// of a job.
     pub fn run_finalized(
         &mut self,
         databases: &mut A::Databases,
@@ -259,9 +271,10 @@ impl<A: Application + Drop, M> Execution<A, M> {
         )
     }
 
-    /// Moves the anchor to the finalized block, whose states are cached or were run to. The cache is cut to its descendants
-    /// of later rounds. Answered are its batch, which is to be applied before any other call, and what the application read
-    /// of the states before it. `FinalizedRejected` exactly where the block has no states.
+    /// Moves the anchor to the finalized block, whose states are cached or were run to. The cache
+    /// is cut to its descendants of later rounds. Answered are its batch, which is to be applied
+    /// before any other call, and what the application read of the states before it.
+    /// `FinalizedRejected` exactly where the block has no states.
     pub fn advance(
         &mut self,
         databases: &A::Databases,
@@ -288,8 +301,8 @@ impl<A: Application + Drop, M> Execution<A, M> {
         )
     }
 
-    /// The application observes the states after the finalized block, which the databases hold. Answers whether a hook is
-    /// live then, under the next number of a job.
+    /// The application observes the states after the finalized block, which the databases hold.
+    /// Answers whether a hook is live then, under the next number of a job.
     pub fn hook(
         &mut self,
         databases: &A::Databases,

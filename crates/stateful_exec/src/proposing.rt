@@ -1,9 +1,11 @@
 //! Builds are started.
 
-ghost use Rattle.std.specs.Prelude.{◌≡◌, ◌≢◌, ◌⊎◌, ◌≤◌, ◌+◌, ◌∷◌, ℕ, List, None, OnOk, OnErr, IfOk, IfErr, IfSome, IsErrOf};
+ghost use Rattle.std.specs.Prelude.{◌≡◌, ◌≢◌, ◌⊎◌, ◌≤◌, ◌+◌, ◌∷◌, ℕ, List, None, OnOk, OnErr, IfOk};
+ghost use Rattle.std.specs.Prelude.{IfErr, IfSome, IsErrOf};
 ghost use Rattle.stateful_types.specs.Causes.{Rose};
 ghost use Rattle.stateful_db.specs.Works.{build_of};
-ghost use Rattle.stateful_exec.specs.Building.{asked_by, unqueued, IsReady, Unqueues, IsNewBuild, Proposes, FaultsPropose};
+ghost use Rattle.stateful_exec.specs.Building.{asked_by, unqueued, IsReady, Unqueues, IsNewBuild};
+ghost use Rattle.stateful_exec.specs.Building.{Proposes, FaultsPropose};
 ghost use Rattle.stateful_exec.specs.Causes.{FaultsBatches, FaultsStart};
 ghost use Rattle.stateful_exec.specs.Rules.{Knows};
 ghost use Rattle.stateful_exec.specs.Starting.{IsLeft, IsOver, Rises};
@@ -51,8 +53,8 @@ impl<B: Block + Drop, C: Copy, I: Drop, R: Drop, U: Drop> Tables<B, C, I, R, U> 
         Ok(job)
     }
 
-    /// Takes the proposal of a ticket out of the queue. Where the block that it is to be built on is known, the number of
-    /// its job is drawn.
+    /// Takes the proposal of a ticket out of the queue. Where the block that it is to be built on
+    /// is known, the number of its job is drawn.
     pub(crate) fn unqueue(&mut self, ticket: u64) -> Result<Option<Queued<B, C, I>>, ExecError>
         ensures ok { IfOk result (Unqueues self.old ticket self.new) }
         ensures known { IfOk result (λ found. IfSome found (λ q. Knows self.new q.parent.digest)) }
@@ -145,8 +147,9 @@ fn begin_build<A: Application>(
     Ok(ask(application, proposal, batches, provider)?)
 }
 
-/// Starts the build of a ticket that is queued, under the next number of a job; where the block that it is to be built on
-/// isn't known it is declined. A ticket that isn't queued is declined, and nothing changes.
+/// Starts the build of a ticket that is queued, under the next number of a job; where the block
+/// that it is to be built on isn't known it is declined. A ticket that isn't queued is declined,
+/// and nothing changes.
 pub(crate) fn propose<A: Application>(
     application: &mut A,
     tables: &mut TablesOf<A>,

@@ -35,7 +35,8 @@ impl<B, C: Copy, I> Request<B, C, I> {
     }
 }
 
-/// How a request ends: the block of a verification is valid, or the parent of a proposal is known; or not.
+/// How a request ends: the block of a verification is valid, or the parent of a proposal is known;
+/// or not.
 #[derive(Clone, Copy, Debug, PartialEq, Eq)]
 pub enum Verdict {
     Valid,

@@ -5,7 +5,8 @@ ghost use Rattle.stateful_types.specs.Causes.{Rose};
 ghost use Rattle.stateful_exec.specs.Moments.{moment};
 ghost use Rattle.stateful_exec.specs.Starting.{Rises};
 ghost use Rattle.stateful_exec.specs.Ending.{InTurn, StopsAt};
-ghost use Rattle.stateful_exec.specs.Pausing.{GoesAlong, AcquiresAnew, Resumes, FaultsAlong, FaultsAnew, FaultsResume};
+ghost use Rattle.stateful_exec.specs.Pausing.{GoesAlong, AcquiresAnew, Resumes, FaultsAlong};
+ghost use Rattle.stateful_exec.specs.Pausing.{FaultsAnew, FaultsResume};
 
 use crate::ending::ReleasedOf;
 use crate::error::ExecError;

@@ -1,6 +1,7 @@
 //! Requests on their way: what they need, and the runs that are started for them.
 
-ghost use Rattle.std.specs.Prelude.{◌≡◌, ◌≢◌, ◌≤◌, ◌++◌, ◌∷◌, [], ℕ, List, Some, None, OnOk, IfOk, IfErr, IsErrOf};
+ghost use Rattle.std.specs.Prelude.{◌≡◌, ◌≢◌, ◌≤◌, ◌++◌, ◌∷◌, [], ℕ, List, Some, None, OnOk, IfOk};
+ghost use Rattle.std.specs.Prelude.{IfErr, IsErrOf};
 ghost use Rattle.stateful_history.specs.declared.mark.Mark.TheVariants.{Started};
 ghost use Rattle.stateful_history.specs.declared.mark.JobKind.TheVariants as job;
 ghost use Rattle.stateful_types.specs.Causes.{Rose};
@@ -10,7 +11,8 @@ ghost use Rattle.stateful_exec.specs.Moments.{moment};
 ghost use Rattle.stateful_exec.specs.Starting.{IsOver, IsFresh, Rises, StartsRun};
 ghost use Rattle.stateful_exec.specs.Rules.{requested, Knows, Advances, Acquires};
 ghost use Rattle.stateful_exec.specs.Fetching.{IsFetched, FaultsFetched};
-ghost use Rattle.stateful_exec.specs.Causes.{FaultsBatches, FaultsStart, FaultsAdvance, FaultsAcquire};
+ghost use Rattle.stateful_exec.specs.Causes.{FaultsBatches, FaultsStart, FaultsAdvance};
+ghost use Rattle.stateful_exec.specs.Causes.{FaultsAcquire};
 
 use crate::error::ExecError;
 use crate::met::Met;
@@ -204,7 +206,8 @@ pub(crate) fn advance<A: Application>(
     Ok(())
 }
 
-/// A request acquires what it needs: it ends, or a block is fetched for it, or it waits, or its blocks are run.
+/// A request acquires what it needs: it ends, or a block is fetched for it, or it waits, or its
+/// blocks are run.
 pub(crate) fn acquire<A: Application, S: BlockStore<A::Block>>(
     application: &mut A,
     tables: &mut TablesOf<A>,
@@ -253,8 +256,8 @@ pub(crate) fn acquire<A: Application, S: BlockStore<A::Block>>(
     Ok(())
 }
 
-/// A fetch is answered: with a block its request acquires what it needs; without one a verification waits, and a proposal
-/// ends. Where no block is fetched under the number nothing changes.
+/// A fetch is answered: with a block its request acquires what it needs; without one a verification
+/// waits, and a proposal ends. Where no block is fetched under the number nothing changes.
 pub(crate) fn fetched<A: Application, S: BlockStore<A::Block>>(
     application: &mut A,
     tables: &mut TablesOf<A>,

@@ -1,13 +1,15 @@
 //! Answers of fetches, cancels, and proposals whose parents are known.
 
-ghost use Rattle.std.specs.Prelude.{◌≡◌, ◌≢◌, ◌⊎◌, ◌++◌, ◌∷◌, [], ℕ, List, Some, None, IsSome, OnOk, OnErr, IfOk, IfErr, IfSome, IfNone, All, MatchOption};
+ghost use Rattle.std.specs.Prelude.{◌≡◌, ◌≢◌, ◌⊎◌, ◌++◌, ◌∷◌, [], ℕ, List, Some, None, IsSome};
+ghost use Rattle.std.specs.Prelude.{OnOk, OnErr, IfOk, IfErr, IfSome, IfNone, All, MatchOption};
 ghost use Rattle.stateful_history.specs.declared.mark.Mark.TheVariants as mark;
 ghost use Rattle.stateful_history.specs.declared.mark.How.TheVariants as how;
 ghost use Rattle.stateful_table.specs.Table.{at, put, without};
 ghost use Rattle.stateful_exec.specs.Phase.{tickets_on};
 ghost use Rattle.stateful_exec.specs.Starting.{Rises};
 ghost use Rattle.stateful_exec.specs.Rules.{taken, moved, ended, told};
-ghost use Rattle.stateful_exec.specs.Fetching.{IsVerification, Fetches, IsLiveFetch, with_block, Cancels};
+ghost use Rattle.stateful_exec.specs.Fetching.{IsVerification, Fetches, IsLiveFetch, with_block};
+ghost use Rattle.stateful_exec.specs.Fetching.{Cancels};
 ghost use Rattle.stateful_exec.specs.declared.request.Verdict.TheVariants as verdict;
 ghost use Rattle.stateful_exec.specs.declared.tables.Phase.TheVariants as phase;
 
@@ -92,7 +94,8 @@ impl<B: Block + Drop, C: Copy, I: Drop, R: Drop, U: Drop> Tables<B, C, I, R, U> 
         }
     }
 
-    /// The ticket of the next build that is queued and wasn't handed out, in the order in which their parents became known.
+    /// The ticket of the next build that is queued and wasn't handed out, in the order in which
+    /// their parents became known.
     pub(crate) fn ready(&mut self) -> Option<u64>
         ensures first { IfSome result (λ ticket. self.old.recovered ≡ ticket ∷ self.new.recovered) }
         ensures none { IfNone result ((self.old.recovered ≡ []) × (self.new ≡ self.old)) }

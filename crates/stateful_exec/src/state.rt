@@ -1,6 +1,8 @@
 //! The tables of execution, over plain types.
 
-ghost use Rattle.std.specs.Prelude.{◌≡◌, ◌≢◌, ◌↔◌, ◌⊎◌, ◌<◌, ◌+◌, ◌-◌, ◌^◌, ◌++◌, ◌∷◌, [], ℕ, false, List, Some, None, IsSome, OnOk, OnErr, IfOk, IfErr, IfSome, IfNone, All, IsTrue, MatchOption};
+ghost use Rattle.std.specs.Prelude.{◌≡◌, ◌≢◌, ◌↔◌, ◌⊎◌, ◌<◌, ◌+◌, ◌-◌, ◌^◌, ◌++◌, ◌∷◌, [], ℕ};
+ghost use Rattle.std.specs.Prelude.{false, List, Some, None, IsSome, OnOk, OnErr, IfOk, IfErr};
+ghost use Rattle.std.specs.Prelude.{IfSome, IfNone, All, IsTrue, MatchOption};
 ghost use Rattle.std.specs.List.Sorted.{IsStrictlySortedBy};
 ghost use Rattle.std.specs.Map.{keys_of};
 ghost use Rattle.std.specs.Ordering.{nat_cmp};
@@ -10,7 +12,8 @@ ghost use Rattle.stateful_table.specs.Table.{at, put, without};
 ghost use Rattle.stateful_exec.specs.Ending.{step_in, Takes, FaultsTake, Crosses, IsFate, released};
 ghost use Rattle.stateful_exec.specs.Starting.{IsLeft, Rises};
 ghost use Rattle.stateful_exec.specs.Phase.{tickets_on, released_on};
-ghost use Rattle.stateful_exec.specs.Rules.{taken, requested, moved, ended, told, Knows, HasRun, RunsNone, GoesOn, JoinsAs, Meets, MeetsOnKnown, Skips};
+ghost use Rattle.stateful_exec.specs.Rules.{taken, requested, moved, ended, told, Knows, HasRun};
+ghost use Rattle.stateful_exec.specs.Rules.{RunsNone, GoesOn, JoinsAs, Meets, MeetsOnKnown, Skips};
 ghost use Rattle.stateful_exec.specs.declared.tables.Phase.TheVariants as phase;
 
 use crate::boundary::{Disposition, ExecutionStep};
@@ -27,7 +30,8 @@ use stateful_table::Table;
 use stateful_types::{Anchor, Block, Digest, Digested, Items, OutOfMemory, Share};
 use std::alloc::Global;
 
-/// What execution keeps, over blocks `B`, contexts `C`, inputs `I`, runs `R` and sealed batches `U`.
+/// What execution keeps, over blocks `B`, contexts `C`, inputs `I`, runs `R` and sealed batches
+/// `U`.
 #[derive(Drop)]
 pub struct Tables<B, C, I, R, U> {
     pub(crate) alloc: Global,
@@ -39,7 +43,8 @@ pub struct Tables<B, C, I, R, U> {
     pub(crate) requests: Table<Requested<B, C, I>>,
     /// The builds that aren't started yet, by their tickets.
     pub(crate) queued: Table<Proposal<B, C, I>>,
-    /// The tickets of those that weren't handed out yet, in the order in which their parents became known.
+    /// The tickets of those that weren't handed out yet, in the order in which their parents became
+    /// known.
     pub(crate) recovered: Tickets,
     pub(crate) next_job: u64,
     pub(crate) next_fetch: u64,
@@ -58,7 +63,8 @@ fn step_in<U>(entry: &Cached<U>) -> ExecutionStep
 }
 
 impl<B: Block + Drop, C: Copy, I: Drop, R: Drop, U: Drop> Tables<B, C, I, R, U> {
-    /// Nothing is cached above the anchor, and nothing goes on. Jobs and fetches are numbered from these numbers on.
+    /// Nothing is cached above the anchor, and nothing goes on. Jobs and fetches are numbered from
+    /// these numbers on.
     pub(crate) fn new(
         alloc: Global,
         anchor: Anchor,
@@ -279,7 +285,8 @@ impl<B: Block + Drop, C: Copy, I: Drop, R: Drop, U: Drop> Tables<B, C, I, R, U> 
         )
     }
 
-    /// A block is fetched for a request, under the next number. `Exhausted` exactly where that is the last one.
+    /// A block is fetched for a request, under the next number. `Exhausted` exactly where that is
+    /// the last one.
     pub(crate) fn ask(
         &mut self,
         ticket: u64,
@@ -349,7 +356,8 @@ impl<B: Block + Drop, C: Copy, I: Drop, R: Drop, U: Drop> Tables<B, C, I, R, U> 
         }
     }
 
-    /// The parent of a proposal is known, and its build is queued; or it can't be made known, and the proposal is declined.
+    /// The parent of a proposal is known, and its build is queued; or it can't be made known, and
+    /// the proposal is declined.
     fn end_recovery(
         &mut self,
         ticket: u64,
@@ -399,8 +407,9 @@ impl<B: Block + Drop, C: Copy, I: Drop, R: Drop, U: Drop> Tables<B, C, I, R, U> 
         self.runs.put(job, live)
     }
 
-    /// The cache takes a block with its sealed batch, or misses it. An entry of the block that is there keeps its states.
-    /// `PendingChanged` exactly where an entry of its digest is of another parent or round.
+    /// The cache takes a block with its sealed batch, or misses it. An entry of the block that is
+    /// there keeps its states. `PendingChanged` exactly where an entry of its digest is of another
+    /// parent or round.
     pub(crate) fn keep(&mut self, block: &Digested<B>, batch: U) -> Result<How, ExecError>
         ensures takes { IfOk result (Takes B.header self.old.anchor block.now batch
             self.old.cache self.new.cache) }

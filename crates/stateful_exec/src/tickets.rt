@@ -1,6 +1,7 @@
 //! Tickets in a row.
 
-ghost use Rattle.std.specs.Prelude.{◌≡◌, ◌==◌, not, ◌++◌, ◌∷◌, [], OnOk, OnErr, IfSome, IfNone, filter};
+ghost use Rattle.std.specs.Prelude.{◌≡◌, ◌==◌, not, ◌++◌, ◌∷◌, [], OnOk, OnErr, IfSome, IfNone};
+ghost use Rattle.std.specs.Prelude.{filter};
 
 use stateful_types::OutOfMemory;
 use std::alloc::Global;

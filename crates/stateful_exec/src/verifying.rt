@@ -1,6 +1,7 @@
 //! A request's path, taken a block at a time.
 
-ghost use Rattle.std.specs.Prelude.{◌≡◌, ◌≢◌, ◌↔◌, ◌≤◌, ◌++◌, ◌∷◌, [], ℕ, true, false, IsTrue, OnOk, IfOk, IfErr, IfSome, IfNone, IsErrOf};
+ghost use Rattle.std.specs.Prelude.{◌≡◌, ◌≢◌, ◌↔◌, ◌≤◌, ◌++◌, ◌∷◌, [], ℕ, true, false, IsTrue};
+ghost use Rattle.std.specs.Prelude.{OnOk, IfOk, IfErr, IfSome, IfNone, IsErrOf};
 ghost use Rattle.std.specs.Option.{option_copied};
 ghost use Rattle.stateful_types.specs.Causes.{Rose};
 ghost use Rattle.stateful_types.specs.Names.{Named};
@@ -9,7 +10,8 @@ ghost use Rattle.stateful_exec.specs.Fetching.{IsIdle};
 ghost use Rattle.stateful_exec.specs.Moments.{moment};
 ghost use Rattle.stateful_exec.specs.Rules.{taken, JoinsAs, MeetsOnKnown};
 ghost use Rattle.stateful_exec.specs.Starting.{Rises};
-ghost use Rattle.stateful_exec.specs.Verifying.{IsFree, IsParked, HasNext, SetsOut, Prepares, Processes, FaultsProcess};
+ghost use Rattle.stateful_exec.specs.Verifying.{IsFree, IsParked, HasNext, SetsOut, Prepares};
+ghost use Rattle.stateful_exec.specs.Verifying.{Processes, FaultsProcess};
 ghost use Rattle.stateful_exec.specs.declared.request.Request.{Request as Req};
 ghost use Rattle.stateful_exec.specs.Path.{Path};
 
@@ -144,7 +146,8 @@ impl<B: Block + Drop, C: Copy, I: Drop, R: Drop, U: Drop> Tables<B, C, I, R, U> 
         Some((request, path))
     }
 
-    /// Passes the next block of a path, and tells what it is. A block that is to be run is met on a known parent.
+    /// Passes the next block of a path, and tells what it is. A block that is to be run is met on a
+    /// known parent.
     fn join_next(&self, path: &mut ReplayPath<B>) -> Result<Met<B>, OutOfMemory>
         requires { path.old.blocks ≢ [] }
         ensures passed { path.old.blocks ≡ path.new.blocks ++ path.new.parent ∷ [] }
@@ -167,7 +170,8 @@ impl<B: Block + Drop, C: Copy, I: Drop, R: Drop, U: Drop> Tables<B, C, I, R, U> 
     }
 }
 
-/// The next block of a request's path is known and left behind, or the request joins its run or starts it, or it ends.
+/// The next block of a request's path is known and left behind, or the request joins its run or
+/// starts it, or it ends.
 fn process<A: Application>(
     application: &mut A,
     tables: &mut TablesOf<A>,
@@ -219,7 +223,8 @@ fn process<A: Application>(
 }
 
 impl<A: Application + Drop> Execution<A, Handling> {
-    /// What the request of a ticket needs, with the blocks that were acquired for it so far: none where none goes on under it.
+    /// What the request of a ticket needs, with the blocks that were acquired for it so far: none
+    /// where none goes on under it.
     pub fn prepare<S: BlockStore<A::Block>>(
         &self,
         ticket: u64,
@@ -232,8 +237,8 @@ impl<A: Application + Drop> Execution<A, Handling> {
         Ok(self.tables.needs(ticket, store)?)
     }
 
-    /// The request of a ticket is to go along a path, where it waits for no run and no fetch; else nothing changes. Answers
-    /// which.
+    /// The request of a ticket is to go along a path, where it waits for no run and no fetch; else
+    /// nothing changes. Answers which.
     pub fn start(&mut self, ticket: u64, path: ReplayPath<A::Block>) -> Result<bool, OutOfMemory>
         ensures ok { IfOk result (SetsOut self.old.state ticket path self.new.state) }
         ensures rest { self.new ≡ record self.old { state = self.new.state } }
@@ -254,8 +259,9 @@ impl<A: Application + Drop> Execution<A, Handling> {
         self.tables.next_step(ticket)
     }
 
-    /// The next block of a ticket's path: it is known and left behind, or the request joins its run or starts it, or its
-    /// parent isn't known and the request ends. None exactly where `next` gives none, and then nothing changes.
+    /// The next block of a ticket's path: it is known and left behind, or the request joins its run
+    /// or starts it, or its parent isn't known and the request ends. None exactly where `next`
+    /// gives none, and then nothing changes.
     pub fn process(
         &mut self,
         ticket: u64,

@@ -1,5 +1,5 @@
-//! What a request needs before its blocks can be run: walks from its first unknown block through its ancestors, to one
-//! that is known.
+//! What a request needs before its blocks can be run: walks from its first unknown block through
+//! its ancestors, to one that is known.
 
 ghost use Rattle.std.specs.Prelude.{◌≡◌, ◌≢◌, ◌↔◌, ◌++◌, ◌∷◌, [], IfOk, IsTrue, take};
 ghost use Rattle.stateful_exec.specs.Path.{IsOneAbove};
@@ -59,7 +59,8 @@ fn is_one_above<B: Block + Drop>(block: &Digested<B>, parent: &Digested<B>) -> b
     child && Some(block.height()) == parent.height().next()
 }
 
-/// Walks on from the end of a path through these blocks, each the parent of the one before, to one that is at hand.
+/// Walks on from the end of a path through these blocks, each the parent of the one before, to one
+/// that is at hand.
 fn walk_from<B: Block + Drop, U: Drop>(
     path: ReplayPath<B>,
     anchor: Anchor,

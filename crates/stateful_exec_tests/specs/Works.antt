@@ -25,11 +25,19 @@ use Rattle.stateful_exec_tests.specs.declared.work.Work.{Work}
 abbrev pub Stands : Work → ℕ → ℕ × Whole → List (ℕ × Whole) → Type 0
 Stands work own at below = IsSomeAnd work.batch (λ u. DraftShows u ((own, begun at.1) ∷ at ∷ below))
 
--- a turn goes on, or ends without a batch where the work says so, or with one that shows the same entries
-abbrev pub EndsWith : Moved (Option PlainMerkleized) → End → ℕ → ℕ × Whole → List (ℕ × Whole) → Work → Type 0
+-- a turn goes on, or ends without a batch where the work says so, or with one that shows the same
+-- entries
+abbrev pub EndsWith : Moved (Option PlainMerkleized)
+    → End
+    → ℕ
+    → ℕ × Whole
+    → List (ℕ × Whole)
+    → Work
+    → Type 0
 EndsWith moved.Pending end own at below now = Stands now own at below
 EndsWith (moved.Done None) end own at below now = end ≡ Nothing
-EndsWith (moved.Done (Some m)) end own at below now = (end ≢ Nothing) × SealShows m ((own, begun at.1) ∷ at ∷ below)
+EndsWith (moved.Done (Some m)) end own at below now =
+    (end ≢ Nothing) × SealShows m ((own, begun at.1) ∷ at ∷ below)
 
 -- what is handed over has the batch, and its block leads to states
 abbrev pub IsHanded : PlainMerkleized → Handoff (ProposedBlock FakeBlock PlainMerkleized) → Type 0
@@ -52,7 +60,8 @@ abbrev pub IsBuild : FakeBuild → FakeBuildOf → ℕ → Type 0
 IsBuild build b turns = Stands build.work b.own b.at b.below
 
 -- A build may give whatever leads to states. It isn't told how many turns anything takes.
-abbrev pub fake_works : Works FakeBlock Round Order (Unit {0}) ℕ Whole Target Work FakeBuild FakeHook (Unit {0})
+abbrev pub fake_works : Works FakeBlock Round Order
+    (Unit {0}) ℕ Whole Target Work FakeBuild FakeHook (Unit {0})
 fake_works = record {
   meaning = fake_meaning;
   gives = λ asked whole given. Unit {0};
@@ -69,4 +78,9 @@ fake_works = record {
 
 -- nothing is told of turns
 pub fake_takes_turns : TakesTurns fake_works
-fake_takes_turns = record { runs = λ f s b n is. absurd (none-some n is); builds = λ asked s n is. absurd (none-some n is) }
+fake_takes_turns =
+    record {
+      runs =
+          λ f s b n is. absurd (none-some n is);
+      builds = λ asked s n is. absurd (none-some n is);
+    }

@@ -15,7 +15,8 @@ pub enum End {
     Fails,
 }
 
-/// A block that changes no entry. Its bytes are its name alone, so that blocks of one name have one digest.
+/// A block that changes no entry. Its bytes are its name alone, so that blocks of one name have one
+/// digest.
 #[derive(Clone, Copy, Debug, PartialEq, Eq)]
 pub struct FakeBlock {
     pub name: u8,

@@ -20,7 +20,8 @@ use stateful_types::{
 #[derive(Clone, Copy, Debug, PartialEq, Eq)]
 pub struct Fake;
 
-/// What a build is ordered to do: so many turns before the last one, how it ends, and what it hands over then.
+/// What a build is ordered to do: so many turns before the last one, how it ends, and what it hands
+/// over then.
 #[derive(Clone, Copy, Debug, PartialEq, Eq)]
 pub struct Order {
     pub turns: u8,

@@ -1,5 +1,5 @@
-//! A fake application over a database that is kept whole, and what execution makes of it, told as marks. It has tests
-//! alone: no crate between the databases and the machine has an application.
+//! A fake application over a database that is kept whole, and what execution makes of it, told as
+//! marks. It has tests alone: no crate between the databases and the machine has an application.
 #![tactic(auto)]
 
 mod block;

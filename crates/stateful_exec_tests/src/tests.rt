@@ -55,8 +55,8 @@ fn requests_are_judged(rt: HostRuntime) -> Result<(), Fail> {
         // At the anchor's height the digest decides.
         (Call::Verify(GENESIS, None), &[valid(0)]),
         (Call::Verify(NOUGHT, None), &[invalid(1)]),
-        // A parent that isn't at hand is asked for, and the parent's too, until one is known. What was fetched is run oldest
-        // first, and the block itself last.
+        // A parent that isn't at hand is asked for, and the parent's too, until one is known. What
+        // was fetched is run oldest first, and the block itself last.
         (Call::Verify(B, None), &[Told::Asked(0, 2, A)]),
         (Call::Fetched(0, Some(A)), &[Told::Asked(1, 2, GENESIS)]),
         (Call::Fetched(1, Some(GENESIS)), &[runs(0, A)]),
@@ -67,7 +67,8 @@ fn requests_are_judged(rt: HostRuntime) -> Result<(), Fail> {
         // A cached block is valid, whatever its ancestry says.
         (Call::Verify(A, None), &[valid(3)]),
         (Call::Verify(B, Some(GENESIS)), &[valid(4)]),
-        // A parent of another digest makes a block false: in the ancestry, fetched, or further down.
+        // A parent of another digest makes a block false: in the ancestry, fetched, or further
+        // down.
         (Call::Verify(C, Some(A)), &[invalid(5)]),
         (Call::Verify(C, None), &[Told::Asked(2, 6, B)]),
         (Call::Fetched(2, Some(A)), &[invalid(6)]),
@@ -82,16 +83,16 @@ fn requests_are_judged(rt: HostRuntime) -> Result<(), Fail> {
         // The block's own height isn't compared with its parent's.
         (Call::Verify(FAR, Some(A)), &[runs(2, FAR)]),
         (Call::Turn(2), &[kept(2), valid(9)]),
-        // An answer with none leaves a verification waiting, and what comes later under its number is nothing. What it needs
-        // is found anew at the next resume.
+        // An answer with none leaves a verification waiting, and what comes later under its number
+        // is nothing. What it needs is found anew at the next resume.
         (Call::Verify(C, None), &[Told::Asked(5, 10, B)]),
         (Call::Fetched(5, None), &[]),
         (Call::Fetched(5, Some(B)), &[]),
         (Call::Resume, &[Told::Asked(6, 10, B)]),
         (Call::Fetched(6, Some(B)), &[runs(3, C)]),
         (Call::Turn(3), &[kept(3), valid(10)]),
-        // A proposal on a known block is ready for its build. One on another block is declined where no parent is found, or
-        // where another one comes.
+        // A proposal on a known block is ready for its build. One on another block is declined
+        // where no parent is found, or where another one comes.
         (Call::Propose(A, proposed(2, B)), &[]),
         (Call::Ready, &[Told::Ready(11)]),
         (
@@ -108,7 +109,8 @@ fn requests_are_judged(rt: HostRuntime) -> Result<(), Fail> {
     play(&rt, rt.alloc(), &over_genesis)?;
     let over_b: [Row<'_>; 14] = [
         (Call::Reopen(B, 0, 0), &[]),
-        // Below the anchor's height the store decides. Where it has no block there the request waits.
+        // Below the anchor's height the store decides. Where it has no block there the request
+        // waits.
         (Call::Verify(A, None), &[]),
         (Call::Store(A), &[]),
         (Call::Verify(RIVAL, None), &[invalid(1)]),
@@ -218,7 +220,8 @@ fn requests_share_runs(rt: HostRuntime) -> Result<(), Fail> {
             Call::TurnBuild(0),
             &[Told::Built(0, 0, A), Told::Answered(0, Decision::Block, A)],
         ),
-        // A build caches the block of a run that then ends without states: its requests go on all the same.
+        // A build caches the block of a run that then ends without states: its requests go on all
+        // the same.
         (Call::Verify(HOLLOW, Some(A)), &[runs(1, B)]),
         (Call::Verify(C, Some(HOLLOW)), &[Told::Asked(0, 2, A)]),
         (Call::Fetched(0, Some(A)), &[]),
@@ -464,7 +467,8 @@ fn blocks_are_built(rt: HostRuntime) -> Result<(), Fail> {
         ..proposed(1, A)
     };
     let refused = [
-        // Other targets than the block commits to come first, then another parent, then another round.
+        // Other targets than the block commits to come first, then another parent, then another
+        // round.
         (proposed(9, WRONG), Why::BuiltTargets(0)),
         (proposed(9, ASKEW), Why::BuiltTargets(0)),
         (proposed(9, STRAY), Why::BuiltParent(GENESIS, A)),
@@ -506,7 +510,8 @@ fn runs_cross_a_pause(rt: HostRuntime) -> Result<(), Fail> {
             &[Told::Asked(3, 6, FAR)],
         ),
         (Call::Verify(EMPTY, Some(A)), &[runs(3, EMPTY)]),
-        // The fetches are withdrawn. Runs of blocks that descend from the finalized one aren't awaited, and another is.
+        // The fetches are withdrawn. Runs of blocks that descend from the finalized one aren't
+        // awaited, and another is.
         (Call::Begin(A), &[]),
         (
             Call::Pause(Some(A)),
@@ -522,8 +527,9 @@ fn runs_cross_a_pause(rt: HostRuntime) -> Result<(), Fail> {
         (Call::Awaited, &[Told::Awaits(0)]),
         (Call::Advance(A), &[]),
         (Call::IsCached(RIVAL), &[Told::No]),
-        // A run goes on over the finalization. Behind it a block of no later round than the finalized one makes its request
-        // false, and one of a later round is run: the block of the run goes on over it from now on.
+        // A run goes on over the finalization. Behind it a block of no later round than the
+        // finalized one makes its request false, and one of a later round is run: the block of the
+        // run goes on over it from now on.
         (Call::Turn(1), &[kept(1), valid(1), invalid(3)]),
         (Call::Verify(C, Some(B)), &[runs(4, C)]),
         // Another one ends badly.
@@ -561,8 +567,8 @@ fn runs_cross_a_pause(rt: HostRuntime) -> Result<(), Fail> {
         (Call::Verify(EARLY, Some(A)), &[Told::Asked(2, 4, GENESIS)]),
         (Call::Fetched(2, Some(GENESIS)), &[]),
         (Call::Begin(A), &[]),
-        // The finalized block's own run is awaited too. Where it is kept its requests go on, and a block
-        // of no later round makes its request false.
+        // The finalized block's own run is awaited too. Where it is kept its requests go on, and a
+        // block of no later round makes its request false.
         (Call::Pause(Some(A)), &[Told::Awaits(2)]),
         (Call::Turn(0), &[]),
         (Call::Turn(0), &[]),
@@ -610,8 +616,8 @@ fn runs_cross_a_pause(rt: HostRuntime) -> Result<(), Fail> {
         (Call::TurnHook(3), &[]),
         (Call::TurnHook(3), &[Told::Ended(3, How::Hooked)]),
         (Call::DropRoot, &[]),
-        // A parked request can be given up. The others go on by ascending tickets, and behind them those whose needs are
-        // found anew.
+        // A parked request can be given up. The others go on by ascending tickets, and behind them
+        // those whose needs are found anew.
         (Call::Cancel(4), &[]),
         (Call::Resume, &[valid(2), runs(4, C), Told::Asked(2, 1, B)]),
         (Call::Fetched(2, Some(B)), &[]),
@@ -638,7 +644,8 @@ fn runs_cross_a_pause(rt: HostRuntime) -> Result<(), Fail> {
         (Call::Verify(LATE, Some(B)), &[runs(3, LATE)]),
         (Call::Turn(3), &[kept(3), valid(4)]),
         (Call::Begin(A), &[]),
-        // A block that is cached, of no later round than the finalized one, makes a request false too.
+        // A block that is cached, of no later round than the finalized one, makes a request false
+        // too.
         (Call::Pause(Some(A)), &[Told::Awaits(0)]),
         (Call::Turn(1), &[kept(1), valid(1), invalid(2)]),
     ];
@@ -649,7 +656,8 @@ fn runs_cross_a_pause(rt: HostRuntime) -> Result<(), Fail> {
         (Call::Fetched(0, Some(GENESIS)), &[]),
         (Call::Verify(BAD, Some(GENESIS)), &[runs(1, BAD)]),
         (Call::Verify(RIVAL, None), &[Told::Asked(1, 3, GENESIS)]),
-        // Before a prune all runs are awaited. Where one ends badly its requests are answered, and else they are parked.
+        // Before a prune all runs are awaited. Where one ends badly its requests are answered, and
+        // else they are parked.
         (Call::Pause(None), &[Told::Withdrawn(1), Told::Awaits(2)]),
         (Call::Turn(1), &[]),
         (Call::Turn(1), &[Told::Ended(1, How::Rejected), invalid(2)]),

@@ -2,9 +2,9 @@
 //!
 //!     stateful_fanout SUBSCRIBERS OTHERS OPERATIONS DELIVERIES
 //!
-//! So many tickets subscribe to one key, and so many others to a key each. Then so many deliveries come for the one key.
-//! Each holds so many operations and one byte more, so that it is read to its end and is bad. The number of bad ones is
-//! printed.
+//! So many tickets subscribe to one key, and so many others to a key each. Then so many deliveries
+//! come for the one key. Each holds so many operations and one byte more, so that it is read to its
+//! end and is bad. The number of bad ones is printed.
 #![tactic(auto)]
 
 mod source;
@@ -18,8 +18,8 @@ use std::alloc::Global;
 use std::env;
 use std::num::NonZeroU64;
 
-/// How many tickets subscribe to one key and to others, how many operations a delivery holds, and how many deliveries
-/// come.
+/// How many tickets subscribe to one key and to others, how many operations a delivery holds, and
+/// how many deliveries come.
 #[derive(Clone, Copy)]
 struct Load {
     subscribers: u64,

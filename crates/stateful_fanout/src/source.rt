@@ -35,7 +35,13 @@ impl Operation for Number {
     }
 
     ghost lawful = { Rest-format _ u64_format (λ value. record { value = value })
-        (record { fits = λ value fits. fits; spelled = λ value fits. refl; back = λ number bytes fits e. (number.value, fits, refl) })
+        (record {
+          fits =
+              λ value fits. fits;
+          spelled =
+              λ value fits. refl;
+          back = λ number bytes fits e. (number.value, fits, refl);
+        })
         u64_alone };
 }
 

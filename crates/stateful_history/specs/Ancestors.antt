@@ -7,7 +7,8 @@ use Rattle.stateful_history.specs.Past.{Past}
 use Rattle.stateful_history.specs.Met.{Met}
 
 module _ {B C I S T : Type 0} (s : Setting B S T) (p : Past B C I) where
-  -- the block itself, its parent, its parent's parent and so on, as far as they are blocks of the history
+  -- the block itself, its parent, its parent's parent and so on, as far as they are blocks of the
+  -- history
   pub data Up (b : Named B) : Named B → Type 0 where
     itself : Up b b
     above : {x y : Named B} → Up b x → Met s p y → y.digest ≡ parent_of s x → Up b y

@@ -1,5 +1,6 @@
 -- Marks that end requests and receipts, and what a build is answered with.
-use Rattle.std.specs.Prelude.{◌≡◌, ◌≢◌, ◌⊎◌, ℕ, ◌==◌, Bool, false, ◌||◌, Option, Some, None, [], ◌∷◌, MatchOption}
+use Rattle.std.specs.Prelude.{◌≡◌, ◌≢◌, ◌⊎◌, ℕ, ◌==◌, Bool, false, ◌||◌, Option, Some, None, []}
+use Rattle.std.specs.Prelude.{◌∷◌, MatchOption}
 use Rattle.stateful_types.specs.Names.{Named}
 use Rattle.stateful_types.specs.declared.outcome.Handoff.TheVariants as handed
 use Rattle.stateful_db.specs.declared.application.ProposalKind.{ProposalKind}
@@ -11,12 +12,15 @@ use Rattle.stateful_history.specs.Asked.{finalized}
 use Rattle.stateful_history.specs.Opening.{opening, is_handing_over}
 use Rattle.stateful_history.specs.Live.{live_ticket}
 use Rattle.stateful_history.specs.States.{HasState}
-use Rattle.stateful_history.specs.Requests.{Proposal, asked_by, proposed, IsLiveReceipt, IsLiveVerification, IsLiveProposal, IsLiveSubscription}
+use Rattle.stateful_history.specs.Requests.{Proposal, asked_by, proposed, IsLiveReceipt}
+use Rattle.stateful_history.specs.Requests.{IsLiveVerification, IsLiveProposal, IsLiveSubscription}
 use Rattle.stateful_history.specs.declared.event.Event.TheVariants.{Cancel}
 use Rattle.stateful_history.specs.declared.mark.Decision.{Decision}
 use Rattle.stateful_history.specs.declared.mark.Decision.TheVariants.{Block, Vote, Stage}
 use Rattle.stateful_history.specs.declared.mark.Mark.{Mark}
-use Rattle.stateful_history.specs.declared.mark.Mark.TheVariants.{Asked, Built, Verdict, Answered, Declined, Databases, Began, Acknowledged, Dropped}
+use Rattle.stateful_history.specs.declared.mark.Mark.TheVariants.{Asked, Built, Verdict, Answered}
+use Rattle.stateful_history.specs.declared.mark.Mark.TheVariants.{Declined, Databases, Began}
+use Rattle.stateful_history.specs.declared.mark.Mark.TheVariants.{Acknowledged, Dropped}
 
 -- the ticket that the mark names
 abbrev pub ticket_of : {B : Type 0} → Mark B → Option ℕ
@@ -42,14 +46,17 @@ module _ {B C I : Type 0} where
   NamesNoCancelled p mark = MatchOption (ticket_of mark) (Unit {0}) (λ t. was_cancelled t p ≡ false)
 
 module _ {B C I S T : Type 0} (s : Setting B S T) where
-  -- A mark that ends a request or receipt names a live one of the kind that it answers. A receipt is acknowledged at its
-  -- block's height, and a subscription is answered where the databases are there.
+  -- A mark that ends a request or receipt names a live one of the kind that it answers. A receipt
+  -- is acknowledged at its block's height, and a subscription is answered where the databases are
+  -- there.
   abbrev pub EndsLive : Past B C I → Mark B → Type 0
   EndsLive p (Verdict t valid) = (b : Named B) × IsLiveVerification t p b
   EndsLive p (Answered t decision b) = (r : Proposal B C I) × IsLiveProposal t p r
   EndsLive p (Declined t) = (r : Proposal B C I) × IsLiveProposal t p r
-  EndsLive p (Databases t) = IsLiveSubscription t p × (opening p ≢ None) × (is_handing_over p ≡ false)
-  EndsLive p (Acknowledged t height) = IsLiveReceipt t p × MatchOption (finalized t p) ⊥ (λ b. height.0 ≡ height_of s b)
+  EndsLive p (Databases t) =
+      IsLiveSubscription t p × (opening p ≢ None) × (is_handing_over p ≡ false)
+  EndsLive p (Acknowledged t height) =
+      IsLiveReceipt t p × MatchOption (finalized t p) ⊥ (λ b. height.0 ≡ height_of s b)
   EndsLive p (Dropped t) = live_ticket t p ≢ None
   EndsLive p mark = Unit {0}
 
@@ -62,11 +69,14 @@ module _ {B C I S T : Type 0} (s : Setting B S T) where
         GivenFor kinds.Prepare Vote = a.gives (asked_by r) t (handed.Vote b.block)
         GivenFor kinds.Prepare Stage = a.gives (asked_by r) t (handed.Stage b.block)
         GivenFor kinds.Prepare Block = ⊥
-        GivenFor kinds.Propose Block = a.gives (asked_by r) t (handed.Vote b.block) ⊎ a.gives (asked_by r) t (handed.Stage b.block)
+        GivenFor kinds.Propose Block =
+            a.gives (asked_by r) t (handed.Vote b.block)
+            ⊎ a.gives (asked_by r) t (handed.Stage b.block)
         GivenFor kinds.Propose decision = ⊥
 
     -- a block that was just built for this request, on its parent's states, and handed over so
-    pub record IsBuiltFor (base : S) (p : Past B C I) (t : ℕ) (decision : Decision) (b : Named B) : Type 0 where
+    pub record IsBuiltFor (base : S) (p : Past B C I) (t : ℕ) (decision : Decision)
+        (b : Named B) : Type 0 where
       pub job : ℕ
       pub before : Past B C I
       pub built : p ≡ Made (Built job t b) ∷ before

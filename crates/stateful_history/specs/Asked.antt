@@ -29,7 +29,8 @@ module _ {B C I : Type 0} where
   -- the digest of the block that was asked
   abbrev pub asked_digest : ℕ → Past B C I → Option Digest
   asked_digest f [] = None
-  asked_digest f (Made (Asked g ticket digest) ∷ p) = if f == g then Some digest else asked_digest f p
+  asked_digest f (Made (Asked g ticket digest) ∷ p) =
+      if f == g then Some digest else asked_digest f p
   asked_digest f (item ∷ p) = asked_digest f p
 
   -- the digest that the start of this job names

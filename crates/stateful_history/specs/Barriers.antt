@@ -1,5 +1,6 @@
 -- Barriers: which are live or outstanding, and the rules on them.
-use Rattle.std.specs.Prelude.{◌≡◌, ◌<◌, ℕ, ◌==◌, ◌⊎◌, Bool, true, false, not, ◌&&◌, ◌||◌, if◌then◌else◌, Option, Some, None, [], ◌∷◌, MatchOption}
+use Rattle.std.specs.Prelude.{◌≡◌, ◌<◌, ℕ, ◌==◌, ◌⊎◌, Bool, true, false, not, ◌&&◌, ◌||◌}
+use Rattle.std.specs.Prelude.{if◌then◌else◌, Option, Some, None, [], ◌∷◌, MatchOption}
 use Rattle.stateful_types.specs.Names.{Header}
 use Rattle.stateful_types.specs.declared.number.Height.{Height}
 use Rattle.stateful_history.specs.Past.{Past, Came, Made}
@@ -8,7 +9,8 @@ use Rattle.stateful_history.specs.Durable.{durable}
 use Rattle.stateful_history.specs.Live.{live_flush}
 use Rattle.stateful_history.specs.declared.event.Event.TheVariants.{Flushed, Restart}
 use Rattle.stateful_history.specs.declared.mark.Mark.{Mark}
-use Rattle.stateful_history.specs.declared.mark.Mark.TheVariants.{Opened, Converged, BarrierBegun, BarrierDone, Stopped}
+use Rattle.stateful_history.specs.declared.mark.Mark.TheVariants.{Opened, Converged, BarrierBegun}
+use Rattle.stateful_history.specs.declared.mark.Mark.TheVariants.{BarrierDone, Stopped}
 use Rattle.stateful_db.specs.declared.barrier.Flushed.TheVariants.{Interrupted}
 
 module _ {B C I : Type 0} where
@@ -49,7 +51,8 @@ module _ {B C I : Type 0} where
   -- this barrier began before that one, since the opening
   abbrev pub BeganBefore : ℕ → ℕ → Past B C I → Type 0
   BeganBefore m k [] = ⊥
-  BeganBefore m k (Made (BarrierBegun l height) ∷ p) = ((k ≡ l) × BeganSince m p) ⊎ BeganBefore m k p
+  BeganBefore m k (Made (BarrierBegun l height) ∷ p) =
+      ((k ≡ l) × BeganSince m p) ⊎ BeganBefore m k p
   BeganBefore m k (item ∷ p) = BeganBefore m k p
 
   -- this barrier was done, and is good
@@ -58,18 +61,26 @@ module _ {B C I : Type 0} where
   WasDone k (Made (BarrierDone m height true) ∷ p) = (k ≡ m) ⊎ WasDone k p
   WasDone k (item ∷ p) = WasDone k p
 
-  -- a barrier is good where each that began before it, since the opening, was done before and is good
+  -- a barrier is good where each that began before it, since the opening, was done before and is
+  -- good
   abbrev pub GoodIsInOrder : Past B C I → Mark B → Type 0
   GoodIsInOrder p (BarrierDone k height true) = (m : ℕ) → BeganBefore m k p → WasDone m p
   GoodIsInOrder p mark = Unit {0}
 
-  -- A barrier begins over the anchor's height, which is above the durable one and above that of every live barrier. It is
-  -- done over the same height, and broken only where a flush of it was interrupted.
+  -- A barrier begins over the anchor's height, which is above the durable one and above that of
+  -- every live barrier. It is done over the same height, and broken only where a flush of it was
+  -- interrupted.
   abbrev pub BarrierIsOver : Header B → Past B C I → Mark B → Type 0
   BarrierIsOver header p (BarrierBegun k height) =
       MatchOption (anchor_of header p) ⊥ (λ anchor. height ≡ anchor.height)
       × (durable p < height.0)
-      × ((m : ℕ) (low : Height) → live_barrier m p ≡ true → begun_over m p ≡ Some low → low.0 < height.0)
+      ×
+      ((m : ℕ) (low : Height)
+      → live_barrier m p ≡ true
+      → begun_over m p ≡ Some low
+      → low.0 < height.0)
   BarrierIsOver header p (BarrierDone k height good) =
-      (live_barrier k p ≡ true) × (begun_over k p ≡ Some height) × (good ≡ false → WasInterrupted k p)
+      (live_barrier k p ≡ true)
+      × (begun_over k p ≡ Some height)
+      × (good ≡ false → WasInterrupted k p)
   BarrierIsOver header p mark = Unit {0}

@@ -29,14 +29,15 @@ module _ {B C I S T : Type 0} (s : Setting B S T) (a : Telling B C I S) (base : 
     pub is_parent : parent.digest ≡ parent_of s b
     pub skips : height_of s b ≢ height_of s parent + 1
 
-  -- The parent can't be made known: a missing block of it is bad on a known one, or isn't one above its parent, or is no
-  -- higher than the tip.
+  -- The parent can't be made known: a missing block of it is bad on a known one, or isn't one above
+  -- its parent, or is no higher than the tip.
   pub record IsOutOfReach (p : Past B C I) (parent : Named B) : Type 0 where
     pub unknown : IsUnknown s p parent.digest
     pub because : FailsOnKnown s base p parent
         ⊎ ((x : Named B) × Missing s base p parent x × (IsSkipping p x ⊎ IsCovered s base p x))
 
-  -- the build for the request just ended without a block, and the application gives none on the parent's states
+  -- the build for the request just ended without a block, and the application gives none on the
+  -- parent's states
   pub record BuildsNothing (p : Past B C I) (r : Proposal B C I) : Type 0 where
     pub job : ℕ
     pub before : Past B C I
@@ -46,8 +47,8 @@ module _ {B C I S T : Type 0} (s : Setting B S T) (a : Telling B C I S) (base : 
     pub has_state : HasState s base before r.parent.digest state
     pub declines : a.gives (asked_by r) state handed.Wait
 
-  -- Why the request is declined: the machine syncs; it stops or starts; a fetch of the request is answered none; its
-  -- parent is out of reach; or a build for it ended without a block.
+  -- Why the request is declined: the machine syncs; it stops or starts; a fetch of the request is
+  -- answered none; its parent is out of reach; or a build for it ended without a block.
   abbrev pub MayDecline : Event B C I → List (Mark B) → Past B C I → ℕ → Proposal B C I → Type 0
   MayDecline event marks p t r =
       IsSyncing p
@@ -57,5 +58,6 @@ module _ {B C I S T : Type 0} (s : Setting B S T) (a : Telling B C I S) (base : 
       ⊎ BuildsNothing p r)))
 
   abbrev pub DeclinedHasReason : Event B C I → List (Mark B) → Past B C I → Mark B → Type 0
-  DeclinedHasReason event marks p (Declined t) = MatchOption (proposed t p) ⊥ (λ r. MayDecline event marks p t r)
+  DeclinedHasReason event marks p (Declined t) =
+      MatchOption (proposed t p) ⊥ (λ r. MayDecline event marks p t r)
   DeclinedHasReason event marks p mark = Unit {0}

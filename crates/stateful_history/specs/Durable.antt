@@ -5,7 +5,9 @@ use Rattle.stateful_history.specs.Past.{Past, Came, Made}
 use Rattle.stateful_history.specs.Opening.{opening}
 use Rattle.stateful_history.specs.declared.event.Event.TheVariants.{Flushed, Restart}
 use Rattle.stateful_history.specs.declared.mark.Mark.{Mark}
-use Rattle.stateful_history.specs.declared.mark.Mark.TheVariants.{Opened, Converged, Applied, BarrierBegun, BarrierDone, Acknowledged, Recorded}
+use Rattle.stateful_history.specs.declared.mark.Mark.TheVariants.{Opened, Converged, Applied}
+use Rattle.stateful_history.specs.declared.mark.Mark.TheVariants.{BarrierBegun, BarrierDone}
+use Rattle.stateful_history.specs.declared.mark.Mark.TheVariants.{Acknowledged, Recorded}
 use Rattle.stateful_db.specs.declared.barrier.Flushed.TheVariants.{Good}
 
 module _ {B C I : Type 0} where
@@ -30,7 +32,8 @@ module _ {B C I : Type 0} where
   -- this barrier began over this height, which was applied before
   abbrev pub BeganOver : Header B → ℕ → ℕ → Past B C I → Type 0
   BeganOver header k n [] = ⊥
-  BeganOver header k n (Made (BarrierBegun m height) ∷ p) = ((k ≡ m) × (height.0 ≡ n) × WasApplied header n p) ⊎ BeganOver header k n p
+  BeganOver header k n (Made (BarrierBegun m height) ∷ p) =
+      ((k ≡ m) × (height.0 ≡ n) × WasApplied header n p) ⊎ BeganOver header k n p
   BeganOver header k n (item ∷ p) = BeganOver header k n p
 
   -- a good flush of this database came for this barrier
@@ -41,7 +44,8 @@ module _ {B C I : Type 0} where
 
   -- a good barrier began behind the apply of its height, and each database was flushed for it
   abbrev pub GoodIsFlushed : Header B → ℕ → Past B C I → Mark B → Type 0
-  GoodIsFlushed header count p (BarrierDone k height true) = BeganOver header k height.0 p × ((i : ℕ) → i < count → WasFlushed k i p)
+  GoodIsFlushed header count p (BarrierDone k height true) =
+      BeganOver header k height.0 p × ((i : ℕ) → i < count → WasFlushed k i p)
   GoodIsFlushed header count p mark = Unit {0}
 
   -- a tip of at least this height was recorded since the restart
@@ -53,5 +57,6 @@ module _ {B C I : Type 0} where
 
   -- only durable heights are acknowledged; in a sync only those that a recorded tip covers
   abbrev pub AcknowledgedIsDurable : Past B C I → Mark B → Type 0
-  AcknowledgedIsDurable p (Acknowledged t height) = MatchOption (opening p) (WasRecorded height.0 p) (λ anchor. height.0 ≤ durable p)
+  AcknowledgedIsDurable p (Acknowledged t height) =
+      MatchOption (opening p) (WasRecorded height.0 p) (λ anchor. height.0 ≤ durable p)
   AcknowledgedIsDurable p mark = Unit {0}

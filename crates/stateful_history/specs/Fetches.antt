@@ -1,5 +1,6 @@
 -- Fetches: which are outstanding, and the rules on them.
-use Rattle.std.specs.Prelude.{◌≡◌, ◌<◌, ℕ, ◌⊎◌, true, Option, Some, None, List, [], ◌∷◌, Any, MatchOption}
+use Rattle.std.specs.Prelude.{◌≡◌, ◌<◌, ℕ, ◌⊎◌, true, Option, Some, None, List, [], ◌∷◌, Any}
+use Rattle.std.specs.Prelude.{MatchOption}
 use Rattle.stateful_types.specs.Names.{Named}
 use Rattle.stateful_types.specs.declared.digest.Digest.{Digest}
 use Rattle.stateful_history.specs.Setting.{Setting, parent_of, height_of}
@@ -16,7 +17,8 @@ use Rattle.stateful_history.specs.Stops.{IsStopped}
 use Rattle.stateful_history.specs.declared.event.Event.{Event}
 use Rattle.stateful_history.specs.declared.event.Event.TheVariants.{Cancel, Fetched}
 use Rattle.stateful_history.specs.declared.mark.Mark.{Mark}
-use Rattle.stateful_history.specs.declared.mark.Mark.TheVariants.{Asked, Withdrawn, Applied, Pruned, Began}
+use Rattle.stateful_history.specs.declared.mark.Mark.TheVariants.{Asked, Withdrawn, Applied, Pruned}
+use Rattle.stateful_history.specs.declared.mark.Mark.TheVariants.{Began}
 
 abbrev pub IsBegan : {B : Type 0} → Mark B → Type 0
 IsBegan (Began t b) = Unit {0}
@@ -34,7 +36,8 @@ module _ {B C I : Type 0} where
   WasAnsweredNone t [] = ⊥
   WasAnsweredNone t (Made (Applied b) ∷ p) = ⊥
   WasAnsweredNone t (Made (Pruned marshal target) ∷ p) = ⊥
-  WasAnsweredNone t (Came (Fetched f None) ∷ p) = (asked_for f p ≡ Some (Some t)) ⊎ WasAnsweredNone t p
+  WasAnsweredNone t (Came (Fetched f None) ∷ p) =
+      (asked_for f p ≡ Some (Some t)) ⊎ WasAnsweredNone t p
   WasAnsweredNone t (item ∷ p) = WasAnsweredNone t p
 
   -- this digest was asked for the ticket, and nothing was applied or pruned since
@@ -48,24 +51,30 @@ module _ {B C I : Type 0} where
 module _ {B C I S T : Type 0} (s : Setting B S T) where
   -- a block below the tip's height, where no finalized block of its height is at hand
   abbrev pub IsUndecided : Past B C I → Named B → Type 0
-  IsUndecided p b = MatchOption (tip_of s.header p) ⊥ (λ tip. (height_of s b < tip.height.0) × (canonical s p (height_of s b) ≡ None))
+  IsUndecided p b =
+      MatchOption (tip_of s.header p) ⊥
+      (λ tip. (height_of s b < tip.height.0) × (canonical s p (height_of s b) ≡ None))
 
-  -- the verification waits for nothing that was begun: its fetch was answered none, or its block's height is undecided
+  -- the verification waits for nothing that was begun: its fetch was answered none, or its block's
+  -- height is undecided
   abbrev pub Abstains : ℕ → Past B C I → Named B → Type 0
   Abstains t p b = WasAnsweredNone t p ⊎ IsUndecided p b
 
-  -- A fetch is asked for a live request, and for the parent of a block that its subject is missing. It isn't asked
-  -- again before something is applied or pruned, but where its block is a proper ancestor of itself.
+  -- A fetch is asked for a live request, and for the parent of a block that its subject is missing.
+  -- It isn't asked again before something is applied or pruned, but where its block is a proper
+  -- ancestor of itself.
   abbrev pub AskedIsNeeded : S → Past B C I → Mark B → Type 0
   AskedIsNeeded base p (Asked f (Some t) d) =
       IsLiveRequest t p
-      × MatchOption (subject t p) ⊥ (λ b. (x : Named B) × Missing s base p b x × (d ≡ parent_of s x))
+      × MatchOption (subject t p) ⊥
+      (λ b. (x : Named B) × Missing s base p b x × (d ≡ parent_of s x))
       × (WasAsked t d p → IsCircular s p d)
   AskedIsNeeded base p mark = Unit {0}
 
-module _ {B C I S T : Type 0} (s : Setting B S T) (rule : Option (PruneRule T)) (event : Event B C I) (marks : List (Mark B)) where
-  -- why a fetch is withdrawn in this entry: its request is cancelled, the machine stops or starts, a finalization begins,
-  -- or a prune is due
+module _ {B C I S T : Type 0} (s : Setting B S T) (rule : Option (PruneRule T))
+    (event : Event B C I) (marks : List (Mark B)) where
+  -- why a fetch is withdrawn in this entry: its request is cancelled, the machine stops or starts,
+  -- a finalization begins, or a prune is due
   abbrev pub MayWithdraw : Past B C I → ℕ → Type 0
   MayWithdraw p f =
       ((t : ℕ) × (event ≡ Cancel t) × (asked_for f p ≡ Some (Some t)))

@@ -1,5 +1,6 @@
 -- Finalizations: in order, each once, and what they leave with the application.
-use Rattle.std.specs.Prelude.{◌≡◌, ◌<◌, ◌≤◌, ◌+◌, ℕ, ◌==◌, if◌then◌else◌, Option, Some, None, List, [], ◌∷◌, MatchOption}
+use Rattle.std.specs.Prelude.{◌≡◌, ◌<◌, ◌≤◌, ◌+◌, ℕ, ◌==◌, if◌then◌else◌, Option, Some, None, List}
+use Rattle.std.specs.Prelude.{[], ◌∷◌, MatchOption}
 use Rattle.stateful_types.specs.Names.{Header, Named}
 use Rattle.stateful_types.specs.declared.anchor.Anchor.{Anchor}
 use Rattle.stateful_history.specs.Past.{Past, Came, Made}
@@ -8,11 +9,13 @@ use Rattle.stateful_history.specs.Opening.{opening}
 use Rattle.stateful_history.specs.Durable.{durable, WasApplied}
 use Rattle.stateful_history.specs.declared.event.Event.TheVariants.{Finalized, Restart}
 use Rattle.stateful_history.specs.declared.mark.Mark.{Mark}
-use Rattle.stateful_history.specs.declared.mark.Mark.TheVariants.{Opened, Converged, Began, Applied, Acknowledged}
+use Rattle.stateful_history.specs.declared.mark.Mark.TheVariants.{Opened, Converged, Began, Applied}
+use Rattle.stateful_history.specs.declared.mark.Mark.TheVariants.{Acknowledged}
 
 -- the block is one above this anchor, and its child
 abbrev pub IsChildOf : {B : Type 0} → Header B → Anchor → Named B → Type 0
-IsChildOf header anchor b = (header.height b.block ≡ anchor.height.0 + 1) × (header.parent b.block ≡ anchor.digest)
+IsChildOf header anchor b =
+    (header.height b.block ≡ anchor.height.0 + 1) × (header.parent b.block ≡ anchor.digest)
 
 module _ {B C I : Type 0} where
   -- the block whose finalization began last since the opening, as long as it isn't applied
@@ -32,8 +35,8 @@ module _ {B C I : Type 0} where
   finalized_since t (Came (Finalized u b) ∷ p) = if t == u then Some b else finalized_since t p
   finalized_since t (item ∷ p) = finalized_since t p
 
-  -- The finalization that begins is of the block of a live ticket's event, which is the next child of the tip. What is
-  -- applied is the block whose finalization began, and it is applied once.
+  -- The finalization that begins is of the block of a live ticket's event, which is the next child
+  -- of the tip. What is applied is the block whose finalization began, and it is applied once.
   abbrev pub FinalizesInOrder : Header B → Past B C I → Mark B → Type 0
   FinalizesInOrder header p (Began t b) =
       (finalized_since t p ≡ Some b)

@@ -1,5 +1,6 @@
 -- What the databases hold.
-use Rattle.std.specs.Prelude.{◌≡◌, ◌≤◌, ℕ, ◌+◌, ◌-◌, ◌<◌, ◌⊎◌, ◌++◌, ◌∷◌, [], Option, Some, None, MatchOption, List}
+use Rattle.std.specs.Prelude.{◌≡◌, ◌≤◌, ℕ, ◌+◌, ◌-◌, ◌<◌, ◌⊎◌, ◌++◌, ◌∷◌, [], Option, Some, None}
+use Rattle.std.specs.Prelude.{MatchOption, List}
 use Rattle.stateful_types.specs.Names.{Named}
 use Rattle.stateful_types.specs.declared.anchor.Anchor.{Anchor}
 use Rattle.stateful_db.specs.Databases.{Databases}
@@ -13,9 +14,9 @@ use Rattle.stateful_history.specs.declared.event.Event.TheVariants.{Restart}
 use Rattle.stateful_history.specs.declared.mark.Mark.TheVariants.{Opened, Converged, Pruned}
 
 module _ {B C I Ids S T : Type 0} (s : Setting B S T) (d : Databases Ids S T) where
-  -- The databases are here and hold the fold over what was applied since this opening. From a place of its own on, each
-  -- database keeps the states before and after each applied block, less what was pruned, and is durable at least as
-  -- far as the durable height.
+  -- The databases are here and hold the fold over what was applied since this opening. From a place
+  -- of its own on, each database keeps the states before and after each applied block, less what
+  -- was pruned, and is durable at least as far as the durable height.
   pub record HoldsSince (base : S) (p : Past B C I) (m : d.Members) (anchor : Anchor) : Type 0 where
     pub point : Ids × S
     pub here : d.point m ≡ Some point
@@ -39,9 +40,11 @@ module _ {B C I : Type 0} where
   pruned_to (item ∷ p) = pruned_to p
 
 module _ {B C I Ids S T : Type 0} (s : Setting B S T) (d : Databases Ids S T) where
-  -- The databases hold the fold over what was applied since this opening, and of their checkpoints from the opening's on
-  -- they lack those that are older than the target of the last prune, and no other.
-  pub record HoldsLessPruned (base : S) (p : Past B C I) (m : d.Members) (anchor : Anchor) : Type 0 where
+  -- The databases hold the fold over what was applied since this opening, and of their checkpoints
+  -- from the opening's on they lack those that are older than the target of the last prune, and no
+  -- other.
+  pub record HoldsLessPruned (base : S) (p : Past B C I) (m : d.Members)
+      (anchor : Anchor) : Type 0 where
     pub holds : HoldsSince s d base p m anchor
     pub first : (i : ℕ) → i < d.count → MatchOption (pruned_to p) (d.first m i ≤ holds.origin i)
         (λ target. d.first m i ≡ holds.origin i + (target - anchor.height.0))

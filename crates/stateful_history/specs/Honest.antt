@@ -5,7 +5,8 @@ use Rattle.stateful_types.specs.declared.block.Ancestry.{Ancestry}
 use Rattle.stateful_history.specs.Setting.{Setting, parent_of}
 use Rattle.stateful_history.specs.Past.{Past, Came}
 use Rattle.stateful_history.specs.Asked.{asked_digest}
-use Rattle.stateful_history.specs.declared.event.Event.TheVariants.{Verify, Prepare, Propose, Fetched}
+use Rattle.stateful_history.specs.declared.event.Event.TheVariants.{Verify, Prepare, Propose}
+use Rattle.stateful_history.specs.declared.event.Event.TheVariants.{Fetched}
 
 module _ {B S T : Type 0} (s : Setting B S T) where
   -- each block of the list is the parent of the one before it

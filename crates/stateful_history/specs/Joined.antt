@@ -35,11 +35,18 @@ module _ {B S T : Type 0} (s : Setting B S T) where
     abbrev pub IsEarned : Past B C I → S → Named B → Type 0
     IsEarned p t b = (s.meaning.accept t b.block ≡ true) ⊎ WasBuilt p b.digest
 
-    -- From the anchor with its states on, child by child through blocks of the history, matching steps lead to the
-    -- block of a digest with its states; each of these blocks but the tip is acceptable too, or was built here.
+    -- From the anchor with its states on, child by child through blocks of the history, matching
+    -- steps lead to the block of a digest with its states; each of these blocks but the tip is
+    -- acceptable too, or was built here.
     pub data Earns (p : Past B C I) (anchor tip : Digest) (now : S) : Digest → S → Type 0 where
       at_anchor : Earns p anchor tip now anchor now
-      further : {b : Named B} {t u : S} → Earns p anchor tip now (parent_of s b) t → Met s p b → b.digest ≢ anchor → Matches t b u → (b.digest ≢ tip → IsEarned p t b) → Earns p anchor tip now b.digest u
+      further : {b : Named B} {t u : S}
+          → Earns p anchor tip now (parent_of s b) t
+          → Met s p b
+          → b.digest ≢ anchor
+          → Matches t b u
+          → (b.digest ≢ tip → IsEarned p t b)
+          → Earns p anchor tip now b.digest u
 
     -- the block is known, and joined to the anchor by matching steps
     pub record Joined (base : S) (p : Past B C I) (d : Digest) : Type 0 where
@@ -53,7 +60,9 @@ module _ {B S T : Type 0} (s : Setting B S T) where
       pub folded : fold s (Some base) (applied p) ≡ Some now
       pub path : Earns p anchor.digest tip.digest now d state
 
-    -- a true verdict is on a block that is joined to the anchor, or is the finalized one of its height
+    -- a true verdict is on a block that is joined to the anchor, or is the finalized one of its
+    -- height
     abbrev pub TrueIsEarned : S → Past B C I → Mark B → Type 0
-    TrueIsEarned base p (Verdict t true) = MatchOption (verified t p) ⊥ (λ b. Joined base p b.digest ⊎ IsCanonical s p b)
+    TrueIsEarned base p (Verdict t true) =
+        MatchOption (verified t p) ⊥ (λ b. Joined base p b.digest ⊎ IsCanonical s p b)
     TrueIsEarned base p mark = Unit {0}

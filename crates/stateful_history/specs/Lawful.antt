@@ -1,5 +1,6 @@
 -- Lawful events: what consensus, the block store and the application are trusted with.
-use Rattle.std.specs.Prelude.{◌≡◌, ◌≤◌, ◌⊎◌, ℕ, nat_lt, true, if◌then◌else◌, Option, Some, None, [], ◌∷◌}
+use Rattle.std.specs.Prelude.{◌≡◌, ◌≤◌, ◌⊎◌, ℕ, nat_lt, true, if◌then◌else◌, Option, Some, None, []}
+use Rattle.std.specs.Prelude.{◌∷◌}
 use Rattle.stateful_types.specs.Names.{Header, Named}
 use Rattle.stateful_types.specs.Anchor.{anchor_by}
 use Rattle.stateful_types.specs.Round.{IsLater}
@@ -20,7 +21,8 @@ use Rattle.stateful_history.specs.Ancestors.{IsOnPath}
 use Rattle.stateful_history.specs.Finalizations.{IsChildOf}
 use Rattle.stateful_history.specs.Refusals.{WasFinalized}
 use Rattle.stateful_history.specs.declared.event.Event.{Event}
-use Rattle.stateful_history.specs.declared.event.Event.TheVariants.{Prepare, Propose, Finalized, Fetched, Turn, Restart}
+use Rattle.stateful_history.specs.declared.event.Event.TheVariants.{Prepare, Propose, Finalized}
+use Rattle.stateful_history.specs.declared.event.Event.TheVariants.{Fetched, Turn, Restart}
 use Rattle.stateful_history.specs.declared.mark.Mark.TheVariants.{Opened}
 use Rattle.stateful_history.specs.Asked.{asked_digest}
 use Rattle.stateful_history.specs.Requests.{Proposal, asked_by, IsLiveProposal}
@@ -30,7 +32,8 @@ use Rattle.stateful_history.specs.declared.mark.JobKind.TheVariants.{Build}
 -- the anchor of the block, where it is higher
 abbrev pub higher : {B : Type 0} → Header B → Option Anchor → Named B → Option Anchor
 higher header None b = None
-higher header (Some last) b = if nat_lt last.height.0 (header.height b.block) then Some (anchor_by header b) else Some last
+higher header (Some last) b =
+    if nat_lt last.height.0 (header.height b.block) then Some (anchor_by header b) else Some last
 
 -- the block that a handoff hands over
 abbrev pub handed_block : {B : Type 0} → Handoff B → Option B
@@ -47,7 +50,8 @@ module _ {B C I : Type 0} where
   highest header (Came (Finalized t b) ∷ p) = higher header (highest header p) b
   highest header (item ∷ p) = highest header p
 
-module _ {B C I S T : Type 0} (s : Setting B S T) (a : Telling B C I S) (round_by : C → Round) (base : S) (p : Past B C I) where
+module _ {B C I S T : Type 0} (s : Setting B S T) (a : Telling B C I S) (round_by : C → Round)
+    (base : S) (p : Past B C I) where
   -- the block is one above the highest final one, its child, and matches its states
   pub record IsNextFinal (b : Named B) : Type 0 where
     pub last : Anchor
@@ -58,7 +62,8 @@ module _ {B C I S T : Type 0} (s : Setting B S T) (a : Telling B C I S) (round_b
     pub after : S
     pub matches : Matches s before b after
 
-  -- the block is the opening's, or an ancestor of it, which isn't higher, and at its height is the opening's
+  -- the block is the opening's, or an ancestor of it, which isn't higher, and at its height is the
+  -- opening's
   pub record IsBehindStart (b : Named B) : Type 0 where
     pub start : Anchor
     pub is_start : opening p ≡ Some start
@@ -73,7 +78,8 @@ module _ {B C I S T : Type 0} (s : Setting B S T) (a : Telling B C I S) (round_b
   abbrev pub MayFinalize : Named B → Type 0
   MayFinalize b = IsNextFinal b ⊎ (WasFinalized p b ⊎ IsBehindStart b)
 
-  -- the block is a child of the parent that the request names, of the round that it names, and matches the parent's states
+  -- the block is a child of the parent that the request names, of the round that it names, and
+  -- matches the parent's states
   pub record FitsRequest (r : Proposal B C I) (before : S) (b : B) : Type 0 where
     pub parent : s.header.parent b ≡ r.parent.digest
     pub round : s.header.round b ≡ round_by r.context
@@ -91,12 +97,15 @@ module _ {B C I S T : Type 0} (s : Setting B S T) (a : Telling B C I S) (round_b
       → handed_block given ≡ Some b
       → FitsRequest r before b
 
-  -- what the event brings is true: finalized blocks follow one another, a proposal's round is later than its parent's, a
-  -- fetch is answered with the asked block, a build gives what it was asked for, and at a restart some receipt may wait
+  -- what the event brings is true: finalized blocks follow one another, a proposal's round is later
+  -- than its parent's, a fetch is answered with the asked block, a build gives what it was asked
+  -- for, and at a restart some receipt may wait
   abbrev pub BringsTruth : Event B C I → Type 0
   BringsTruth (Finalized t b) = MayFinalize b
-  BringsTruth (Prepare t context ancestry input) = IsLater (round_of s ancestry.first) (round_by context)
-  BringsTruth (Propose t context ancestry input) = IsLater (round_of s ancestry.first) (round_by context)
+  BringsTruth (Prepare t context ancestry input) =
+      IsLater (round_of s ancestry.first) (round_by context)
+  BringsTruth (Propose t context ancestry input) =
+      IsLater (round_of s ancestry.first) (round_by context)
   BringsTruth (Fetched f (Some b)) = asked_digest f p ≡ Some b.digest
   BringsTruth (Turn j) = BuildsFit j
   BringsTruth (Restart floor keep) = 1 ≤ floor.max_pending_acks
@@ -108,7 +117,8 @@ module _ {B C I S T : Type 0} (s : Setting B S T) (a : Telling B C I S) (round_b
     pub linked : IsHonest s (Came event ∷ [])
     pub true_of : BringsTruth event
 
-module _ {B C I S T : Type 0} (s : Setting B S T) (a : Telling B C I S) (round_by : C → Round) (base : S) (count : ℕ) where
+module _ {B C I S T : Type 0} (s : Setting B S T) (a : Telling B C I S) (round_by : C → Round)
+    (base : S) (count : ℕ) where
   -- each event since the last restart was lawful when it came
   abbrev pub LawfulSince : Past B C I → Type 0
   LawfulSince [] = Unit {0}

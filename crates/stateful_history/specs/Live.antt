@@ -1,13 +1,22 @@
 -- What is live at a place, and which events may come there.
-use Rattle.std.specs.Prelude.{ℕ, ◌+◌, Bool, true, false, not, nat_lt, ◌==◌, ◌&&◌, ◌||◌, max, if◌then◌else◌, Option, Some, None, List, [], ◌∷◌}
+use Rattle.std.specs.Prelude.{ℕ, ◌+◌, Bool, true, false, not, nat_lt, ◌==◌, ◌&&◌, ◌||◌, max}
+use Rattle.std.specs.Prelude.{if◌then◌else◌, Option, Some, None, List, [], ◌∷◌}
 use Rattle.std.specs.List.{list_any}
 use Rattle.stateful_history.specs.Past.{Past, Came, Made, Seeking}
 use Rattle.stateful_history.specs.Opening.{is_down}
 use Rattle.stateful_history.specs.declared.ticket.Ticket.{Ticket}
 use Rattle.stateful_history.specs.declared.ticket.Ticket.TheVariants.{Request, Receipt}
 use Rattle.stateful_history.specs.declared.event.Event.{Event}
-use Rattle.stateful_history.specs.declared.event.Event.TheVariants.{Verify, Prepare, Propose, Finalized, Subscribe, Cancel, Fetched, Turn, Flushed, Progress, Stop, Restart}
-use Rattle.stateful_history.specs.declared.mark.Mark.TheVariants.{Asked, Withdrawn, Started, Ended, Built, Verdict, Answered, Declined, Databases, BarrierBegun, BarrierDone, Acknowledged, Dropped, Stopped, Opened, Converged}
+use Rattle.stateful_history.specs.declared.event.Event.TheVariants.{Verify, Prepare, Propose}
+use Rattle.stateful_history.specs.declared.event.Event.TheVariants.{Finalized, Subscribe, Cancel}
+use Rattle.stateful_history.specs.declared.event.Event.TheVariants.{Fetched, Turn, Flushed}
+use Rattle.stateful_history.specs.declared.event.Event.TheVariants.{Progress, Stop, Restart}
+use Rattle.stateful_history.specs.declared.mark.Mark.TheVariants.{Asked, Withdrawn, Started, Ended}
+use Rattle.stateful_history.specs.declared.mark.Mark.TheVariants.{Built, Verdict, Answered}
+use Rattle.stateful_history.specs.declared.mark.Mark.TheVariants.{Declined, Databases, BarrierBegun}
+use Rattle.stateful_history.specs.declared.mark.Mark.TheVariants.{BarrierDone, Acknowledged}
+use Rattle.stateful_history.specs.declared.mark.Mark.TheVariants.{Dropped, Stopped, Opened}
+use Rattle.stateful_history.specs.declared.mark.Mark.TheVariants.{Converged}
 
 -- a request that may be cancelled
 abbrev pub is_request : Option Ticket → Bool
@@ -15,12 +24,15 @@ is_request (Some Request) = true
 is_request ticket = false
 
 module _ {B C I : Type 0} where
-  -- A request or receipt is live from its event to the mark that answers or drops it, or to the cancel of a request.
+  -- A request or receipt is live from its event to the mark that answers or drops it, or to the
+  -- cancel of a request.
   abbrev pub live_ticket : ℕ → Past B C I → Option Ticket
   live_ticket t [] = None
   live_ticket t (Came (Verify u ancestry) ∷ p) = if t == u then Some Request else live_ticket t p
-  live_ticket t (Came (Prepare u context ancestry input) ∷ p) = if t == u then Some Request else live_ticket t p
-  live_ticket t (Came (Propose u context ancestry input) ∷ p) = if t == u then Some Request else live_ticket t p
+  live_ticket t (Came (Prepare u context ancestry input) ∷ p) =
+      if t == u then Some Request else live_ticket t p
+  live_ticket t (Came (Propose u context ancestry input) ∷ p) =
+      if t == u then Some Request else live_ticket t p
   live_ticket t (Came (Subscribe u) ∷ p) = if t == u then Some Request else live_ticket t p
   live_ticket t (Came (Finalized u b) ∷ p) = if t == u then Some Receipt else live_ticket t p
   live_ticket t (Came (Cancel u) ∷ p) = if t == u then None else live_ticket t p
@@ -58,19 +70,22 @@ module _ {B C I : Type 0} where
   live_fetch f (Made (Withdrawn g) ∷ p) = not (f == g) && live_fetch f p
   live_fetch f (item ∷ p) = live_fetch f p
 
-  -- A database of a barrier waits for its flush from the barrier's begin to that flush, or to the barrier's end.
-  -- The first number says how many databases there are.
+  -- A database of a barrier waits for its flush from the barrier's begin to that flush, or to the
+  -- barrier's end. The first number says how many databases there are.
   abbrev pub live_flush : ℕ → ℕ → ℕ → Past B C I → Bool
   live_flush count k i [] = false
-  live_flush count k i (Made (BarrierBegun m height) ∷ p) = ((k == m) && nat_lt i count) || live_flush count k i p
-  live_flush count k i (Came (Flushed m n answer) ∷ p) = not ((k == m) && (i == n)) && live_flush count k i p
-  live_flush count k i (Made (BarrierDone m height good) ∷ p) = not (k == m) && live_flush count k i p
+  live_flush count k i (Made (BarrierBegun m height) ∷ p) =
+      ((k == m) && nat_lt i count) || live_flush count k i p
+  live_flush count k i (Came (Flushed m n answer) ∷ p) =
+      not ((k == m) && (i == n)) && live_flush count k i p
+  live_flush count k i (Made (BarrierDone m height good) ∷ p) =
+      not (k == m) && live_flush count k i p
   live_flush count k i (Made Stopped ∷ p) = false
   live_flush count k i (Came (Restart floor keep) ∷ p) = false
   live_flush count k i (item ∷ p) = live_flush count k i p
 
-  -- The databases that are live for progress: those that a sync was last said to wait for, until it converges, the
-  -- machine is stopped, or the next restart.
+  -- The databases that are live for progress: those that a sync was last said to wait for, until it
+  -- converges, the machine is stopped, or the next restart.
   abbrev pub seeking : Past B C I → List ℕ
   seeking [] = []
   seeking (Seeking databases ∷ p) = databases
@@ -99,7 +114,8 @@ module _ {B C I : Type 0} where
   names_live count p Stop = true
   names_live count p (Restart floor keep) = true
 
-  -- a restart may always come, and any other event where the machine isn't down and the event names live work
+  -- a restart may always come, and any other event where the machine isn't down and the event names
+  -- live work
   abbrev pub may_come : ℕ → Past B C I → Event B C I → Bool
   may_come count p (Restart floor keep) = true
   may_come count p event = not (is_down p) && names_live count p event

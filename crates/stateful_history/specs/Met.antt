@@ -4,7 +4,8 @@ use Rattle.stateful_types.specs.Names.{Named}
 use Rattle.stateful_types.specs.declared.block.Ancestry.{Ancestry}
 use Rattle.stateful_history.specs.Setting.{Setting}
 use Rattle.stateful_history.specs.Past.{Past, Item, Came, Made}
-use Rattle.stateful_history.specs.declared.event.Event.TheVariants.{Verify, Prepare, Propose, Finalized, Fetched}
+use Rattle.stateful_history.specs.declared.event.Event.TheVariants.{Verify, Prepare, Propose}
+use Rattle.stateful_history.specs.declared.event.Event.TheVariants.{Finalized, Fetched}
 use Rattle.stateful_history.specs.declared.mark.Mark.TheVariants.{Built, Answered, Began, Applied}
 
 -- a block of the ancestry

@@ -1,10 +1,13 @@
--- Openings: where the databases were opened or synced to, and whether the machine is down, syncs or hands over.
-use Rattle.std.specs.Prelude.{◌≡◌, Bool, true, false, if◌then◌else◌, Option, Some, None, List, [], ◌∷◌}
+-- Openings: where the databases were opened or synced to, and whether the machine is down, syncs or
+-- hands over.
+use Rattle.std.specs.Prelude.{◌≡◌, Bool, true, false, if◌then◌else◌, Option, Some, None, List, []}
+use Rattle.std.specs.Prelude.{◌∷◌}
 use Rattle.stateful_types.specs.declared.anchor.Anchor.{Anchor}
 use Rattle.stateful_history.specs.Past.{Past, Item, Came, Made}
 use Rattle.stateful_history.specs.declared.event.Event.TheVariants.{Restart}
 use Rattle.stateful_history.specs.declared.mark.Mark.{Mark}
-use Rattle.stateful_history.specs.declared.mark.Mark.TheVariants.{Opened, Converged, Completed, Stopped}
+use Rattle.stateful_history.specs.declared.mark.Mark.TheVariants.{Opened, Converged, Completed}
+use Rattle.stateful_history.specs.declared.mark.Mark.TheVariants.{Stopped}
 
 module _ {B C I : Type 0} where
   -- the last opening, by files or by a sync, that follows the last restart
@@ -54,7 +57,7 @@ abbrev pub held_or : {I S : Type 0} → S → Option (I × S) → S
 held_or base None = base
 held_or base (Some point) = point.1
 
--- The states that a history is based on after an entry: where it has an opening, what the databases hold at its end,
--- and else the states before. No block is applied in an entry with an opening.
+-- The states that a history is based on after an entry: where it has an opening, what the databases
+-- hold at its end, and else the states before. No block is applied in an entry with an opening.
 abbrev pub base_after : {B I S : Type 0} → S → List (Mark B) → Option (I × S) → S
 base_after base marks point = if opens marks then held_or base point else base

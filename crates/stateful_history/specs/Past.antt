@@ -5,9 +5,10 @@ use Rattle.stateful_history.specs.declared.event.Event.{Event}
 use Rattle.stateful_history.specs.declared.mark.Mark.{Mark}
 use Rattle.stateful_history.specs.declared.entry.Entry.{Entry}
 
--- An event came, or a mark was made. Further items tell what no entry does. An event that was refused had pruned the
--- store below this height before, without a mark; it had pruned databases, some at least, to the block of this height;
--- it was a restart at this height. And from here on these databases are live for progress.
+-- An event came, or a mark was made. Further items tell what no entry does. An event that was
+-- refused had pruned the store below this height before, without a mark; it had pruned databases,
+-- some at least, to the block of this height; it was a restart at this height. And from here on
+-- these databases are live for progress.
 pub data Item (B C I : Type 0) : Type 0 where
   Came : Event B C I → Item B C I
   Made : Mark B → Item B C I
@@ -47,10 +48,14 @@ module _ {B C I : Type 0} where
       × EachEntry Rule (after_entry p entry.event entry.marks) entries
 
   -- the rule holds of each of these marks, at its place and with the mark behind it
-  abbrev pub EachNext : (Past B C I → Mark B → Option (Mark B) → Type 0) → Past B C I → List (Mark B) → Type 0
+  abbrev pub EachNext : (Past B C I → Mark B → Option (Mark B) → Type 0)
+      → Past B C I
+      → List (Mark B)
+      → Type 0
   EachNext Rule p [] = Unit {0}
   EachNext Rule p (mark ∷ []) = Rule p mark None
-  EachNext Rule p (mark ∷ next ∷ marks) = Rule p mark (Some next) × EachNext Rule (Made mark ∷ p) (next ∷ marks)
+  EachNext Rule p (mark ∷ next ∷ marks) =
+      Rule p mark (Some next) × EachNext Rule (Made mark ∷ p) (next ∷ marks)
 
   -- the event of the entry at this place
   abbrev pub event_of : Past B C I → Option (Event B C I)

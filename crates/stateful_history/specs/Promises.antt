@@ -13,7 +13,8 @@ use Rattle.stateful_history.specs.Numbers.{NumberIsNew}
 use Rattle.stateful_history.specs.Syncs.{SyncsInPlace}
 use Rattle.stateful_history.specs.Fetches.{AskedIsNeeded, WithdrawnHasCause}
 use Rattle.stateful_history.specs.Finalizations.{FinalizesInOrder, AcknowledgedIsApplied}
-use Rattle.stateful_history.specs.Runs.{StartsWell, EndsAsItsKind, CancelledHasCause, BuildIsAnswered, RunsAreWanted}
+use Rattle.stateful_history.specs.Runs.{StartsWell, EndsAsItsKind, CancelledHasCause}
+use Rattle.stateful_history.specs.Runs.{BuildIsAnswered, RunsAreWanted}
 use Rattle.stateful_history.specs.Answers.{EndsLive, AnsweredIsBuilt, NamesNoCancelled}
 use Rattle.stateful_history.specs.Stops.{StopsClean, StartsClean, EndsStopped}
 use Rattle.stateful_history.specs.Prunes.{PruneRule, PrunedIsDue, PendingWaits}
@@ -22,13 +23,17 @@ use Rattle.stateful_history.specs.Waiting.{AllWait}
 use Rattle.stateful_history.specs.declared.event.Event.{Event}
 use Rattle.stateful_history.specs.declared.mark.Mark.{Mark}
 
-module _ {B C I S T : Type 0} (s : Setting B S T) (a : Telling B C I S) (count : ℕ) (rule : Option (PruneRule T)) (base : S) where
+module _ {B C I S T : Type 0} (s : Setting B S T) (a : Telling B C I S) (count : ℕ)
+    (rule : Option (PruneRule T)) (base : S) where
   -- the rules that hold of each mark of an entry, at its place
-  pub record KeepsRules (p : Past B C I) (event : Event B C I) (marks : List (Mark B)) : Type 0 where
+  pub record KeepsRules (p : Past B C I) (event : Event B C I)
+      (marks : List (Mark B)) : Type 0 where
     -- verdicts and declines
     pub earned : EachMark (TrueIsEarned s base) p marks
     pub reasons : IsHonest s p → IsAnswered p → EachMark (FalseHasReason s base) p marks
-    pub declined : IsHonest s p → IsAnswered p → EachMark (DeclinedHasReason s a base event marks) p marks
+    pub declined : IsHonest s p
+        → IsAnswered p
+        → EachMark (DeclinedHasReason s a base event marks) p marks
     pub answered : EachMark (AnsweredIsBuilt s a base) p marks
     -- which tickets and new numbers marks may name
     pub ends_live : EachMark (EndsLive s) p marks
@@ -64,6 +69,7 @@ module _ {B C I S T : Type 0} (s : Setting B S T) (a : Telling B C I S) (count :
     pub prunes_wait : PendingWaits s a base count rule p
 
   -- An entry keeps the rules, and at its end all that is unanswered waits.
-  pub record KeepsPromises (p : Past B C I) (event : Event B C I) (marks : List (Mark B)) : Type 0 where
+  pub record KeepsPromises (p : Past B C I) (event : Event B C I)
+      (marks : List (Mark B)) : Type 0 where
     pub rules : KeepsRules (Came event ∷ p) event marks
     pub ends : KeepsEnds (after_entry p event marks)

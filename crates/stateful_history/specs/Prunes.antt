@@ -1,5 +1,6 @@
 -- Prunes: which is due, and the rules on them.
-use Rattle.std.specs.Prelude.{◌≡◌, ◌≤◌, ◌⊎◌, ℕ, ◌++◌, nat_lt, true, false, if◌then◌else◌, Option, Some, None, List, [], ◌∷◌, map}
+use Rattle.std.specs.Prelude.{◌≡◌, ◌≤◌, ◌⊎◌, ℕ, ◌++◌, nat_lt, true, false, if◌then◌else◌, Option}
+use Rattle.std.specs.Prelude.{Some, None, List, [], ◌∷◌, map}
 use Rattle.stateful_types.specs.Names.{Named}
 use Rattle.stateful_types.specs.declared.digest.Digest.{Digest}
 use Rattle.stateful_pruning.specs.Rule.{Schedule, Entry, IsDue, IsPrune}
@@ -11,11 +12,13 @@ use Rattle.stateful_history.specs.Opening.{is_down}
 use Rattle.stateful_history.specs.Anchors.{applied}
 use Rattle.stateful_history.specs.Durable.{durable}
 use Rattle.stateful_history.specs.Barriers.{live_barrier, HasOutstandingBarrier}
-use Rattle.stateful_history.specs.Jobs.{IsLiveJob, HasOutstandingRun, HasOutstandingBuild, HasOutstandingHook}
+use Rattle.stateful_history.specs.Jobs.{IsLiveJob, HasOutstandingRun, HasOutstandingBuild}
+use Rattle.stateful_history.specs.Jobs.{HasOutstandingHook}
 use Rattle.stateful_history.specs.declared.event.Event.TheVariants.{Restart}
 use Rattle.stateful_history.specs.declared.mark.JobKind.TheVariants.{Candidate}
 use Rattle.stateful_history.specs.declared.mark.Mark.{Mark}
-use Rattle.stateful_history.specs.declared.mark.Mark.TheVariants.{Opened, Converged, Applied, Pruned}
+use Rattle.stateful_history.specs.declared.mark.Mark.TheVariants.{Opened, Converged, Applied}
+use Rattle.stateful_history.specs.declared.mark.Mark.TheVariants.{Pruned}
 
 -- when a prune is due, and how many operations lie below targets
 pub record PruneRule (T : Type 0) : Type 0 where
@@ -46,7 +49,9 @@ module _ {B C I S T : Type 0} (s : Setting B S T) where
   IsPending rule (Made (Pruned marshal target) ∷ p) prune = ⊥
   IsPending rule (Made (Applied b) ∷ p) prune =
       MakeDue s rule (applied p ++ b ∷ []) prune
-      ⊎ ((IsDue rule.schedule (map (recorded_of s rule) (applied p ++ b ∷ [])) → ⊥) × IsPending rule p prune)
+      ⊎
+      ((IsDue rule.schedule (map (recorded_of s rule) (applied p ++ b ∷ [])) → ⊥)
+      × IsPending rule p prune)
   IsPending rule (item ∷ p) prune = IsPending rule p prune
 
   -- some prune is due and isn't done; a machine without a rule prunes nothing
@@ -54,7 +59,8 @@ module _ {B C I S T : Type 0} (s : Setting B S T) where
   HasPending None p = ⊥
   HasPending (Some rule) p = (prune : Prune T) × IsPending rule p prune
 
-  -- a prune that is due, to these heights, whose target is durable, where no candidate runs and no barrier is live
+  -- a prune that is due, to these heights, whose target is durable, where no candidate runs and no
+  -- barrier is live
   pub record MayPrune (rule : PruneRule T) (p : Past B C I) (marshal target : ℕ) : Type 0 where
     pub prune : Prune T
     pub pending : IsPending rule p prune
@@ -69,7 +75,8 @@ module _ {B C I S T : Type 0} (s : Setting B S T) where
   PrunedIsDue (Some rule) p (Pruned marshal target) = MayPrune rule p marshal.0 target.0
   PrunedIsDue rule p mark = Unit {0}
 
-  -- at the end of an entry a prune that is due waits for a job or a barrier, or the machine has stopped
+  -- at the end of an entry a prune that is due waits for a job or a barrier, or the machine has
+  -- stopped
   abbrev pub PendingWaits : Telling B C I S → S → ℕ → Option (PruneRule T) → Past B C I → Type 0
   PendingWaits a base count rule p = HasPending rule p
       → (is_down p ≡ true)
@@ -79,5 +86,9 @@ module _ {B C I S T : Type 0} (s : Setting B S T) where
       ⊎ HasOutstandingBarrier count p)))
 
 -- the store without its blocks below this height, and otherwise as before
-abbrev pub IsStorePruned : {B : Type 0} → ℕ → (ℕ → Option (Named B)) → (ℕ → Option (Named B)) → Type 0
+abbrev pub IsStorePruned : {B : Type 0}
+    → ℕ
+    → (ℕ → Option (Named B))
+    → (ℕ → Option (Named B))
+    → Type 0
 IsStorePruned marshal old new = (h : ℕ) → new h ≡ (if nat_lt h marshal then None else old h)

@@ -14,10 +14,16 @@ use Rattle.stateful_history.specs.declared.mark.Mark.{Mark}
 use Rattle.stateful_history.specs.declared.mark.Mark.TheVariants.{Verdict}
 
 module _ {B C I S T : Type 0} (s : Setting B S T) (base : S) (p : Past B C I) where
-  -- up from the block through its ancestors, as far as they are blocks of the history and none is known
+  -- up from the block through its ancestors, as far as they are blocks of the history and none is
+  -- known
   pub data Missing (b : Named B) : Named B → Type 0 where
     itself : IsUnknown s p b.digest → Missing b b
-    above : {x y : Named B} → Missing b x → Met s p y → y.digest ≡ parent_of s x → IsUnknown s p y.digest → Missing b y
+    above : {x y : Named B}
+        → Missing b x
+        → Met s p y
+        → y.digest ≡ parent_of s x
+        → IsUnknown s p y.digest
+        → Missing b y
 
   -- an ancestor of it, from its parent on, is missing
   pub record IsMissingAbove (b ancestor : Named B) : Type 0 where
@@ -37,7 +43,8 @@ module _ {B C I S T : Type 0} (s : Setting B S T) (base : S) (p : Past B C I) wh
     pub is : canonical s p (height_of s b) ≡ Some other
     pub differs : other ≢ b.digest
 
-  -- the block leads to no states, isn't acceptable, leads to other targets than it commits to, or comes too late
+  -- the block leads to no states, isn't acceptable, leads to other targets than it commits to, or
+  -- comes too late
   abbrev pub IsBad : S → Named B → Type 0
   IsBad t b =
       (step_of s t b ≡ None)

@@ -12,7 +12,8 @@ use Rattle.stateful_history.specs.Finalizations.{IsChildOf}
 use Rattle.stateful_history.specs.declared.event.Event.{Event}
 use Rattle.stateful_history.specs.declared.event.Event.TheVariants.{Finalized, Restart}
 
--- each of these blocks is one above the one before it and its child, and the first one is so of the anchor
+-- each of these blocks is one above the one before it and its child, and the first one is so of the
+-- anchor
 abbrev pub Climbs : {B : Type 0} → Header B → Anchor → List (Named B) → Type 0
 Climbs header anchor [] = Unit {0}
 Climbs header anchor (b ∷ bs) = IsChildOf header anchor b × Climbs header (anchor_by header b) bs
@@ -26,13 +27,16 @@ module _ {B C I : Type 0} where
   WasFinalized (item ∷ p) b = WasFinalized p b
 
   -- blocks that were finalized since the last restart, one child behind another from the anchor on
-  pub record AreFurther (header : Header B) (p : Past B C I) (blocks : List (Named B)) : Type 0 where
+  pub record AreFurther (header : Header B) (p : Past B C I)
+      (blocks : List (Named B)) : Type 0 where
     pub finalized : All (WasFinalized p) blocks
     pub climb : MatchOption (anchor_of header p) ⊥ (λ anchor. Climbs header anchor blocks)
 
 module _ {B C I Ids S T : Type 0} (s : Setting B S T) (d : Databases Ids S T) where
-  -- Each database that is here has its part of the fold over what was applied, and over further blocks, if any: the
-  -- refused event may have applied some before its error.
+  -- Each database that is here has its part of the fold over what was applied, and over further
+  -- blocks, if any: the refused event may have applied some before its error.
   abbrev pub HoldsFurther : S → Past B C I → Event B C I → d.Members → Type 0
   HoldsFurther base p event m = (i : ℕ) → i < d.count
-      → (blocks : List (Named B)) × AreFurther s.header (Came event ∷ p) blocks × HasFold s d base (applied p ++ blocks) m i
+      → (blocks : List (Named B))
+      × AreFurther s.header (Came event ∷ p) blocks
+      × HasFold s d base (applied p ++ blocks) m i

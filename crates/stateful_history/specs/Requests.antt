@@ -1,5 +1,6 @@
 -- What requests ask for, and which of them are live.
-use Rattle.std.specs.Prelude.{◌≡◌, ℕ, ◌==◌, Bool, true, false, ◌||◌, if◌then◌else◌, Option, Some, None, [], ◌∷◌, option_map, MatchOption}
+use Rattle.std.specs.Prelude.{◌≡◌, ℕ, ◌==◌, Bool, true, false, ◌||◌, if◌then◌else◌, Option, Some}
+use Rattle.std.specs.Prelude.{None, [], ◌∷◌, option_map, MatchOption}
 use Rattle.stateful_types.specs.Names.{Named}
 use Rattle.stateful_types.specs.declared.digest.Digest.{Digest}
 use Rattle.stateful_db.specs.Works as works
@@ -23,15 +24,22 @@ pub record Proposal (B C I : Type 0) : Type 0 where
 module _ {B C I : Type 0} where
   -- what an application is asked for by it
   abbrev pub asked_by : Proposal B C I → works.Asked B C I
-  asked_by r = record { kind = r.kind; context = r.context; parent = r.parent.block; input = r.input }
+  asked_by r =
+      record { kind = r.kind; context = r.context; parent = r.parent.block; input = r.input }
 
   -- what the request of this ticket asks to build
   abbrev pub proposed : ℕ → Past B C I → Option (Proposal B C I)
   proposed t [] = None
   proposed t (Came (Prepare u context ancestry input) ∷ p) =
-      if t == u then Some (record { kind = kinds.Prepare; context = context; parent = ancestry.first; input = input }) else proposed t p
+      if t == u then Some
+      (record
+      { kind = kinds.Prepare; context = context; parent = ancestry.first; input = input })
+      else proposed t p
   proposed t (Came (Propose u context ancestry input) ∷ p) =
-      if t == u then Some (record { kind = kinds.Propose; context = context; parent = ancestry.first; input = input }) else proposed t p
+      if t == u then Some
+      (record
+      { kind = kinds.Propose; context = context; parent = ancestry.first; input = input })
+      else proposed t p
   proposed t (item ∷ p) = proposed t p
 
   -- the ticket is that of a subscription
@@ -44,8 +52,8 @@ module _ {B C I : Type 0} where
   abbrev pub parent_by : Option (Proposal B C I) → Option (Named B)
   parent_by proposal = option_map (λ r. r.parent) proposal
 
-  -- the block that has to be known before the request is answered: the one that it asks to judge, or the parent of the
-  -- one that it asks to build
+  -- the block that has to be known before the request is answered: the one that it asks to judge,
+  -- or the parent of the one that it asks to build
   abbrev pub subject : ℕ → Past B C I → Option (Named B)
   subject t p = MatchSubject (verified t p) (proposed t p)
     where

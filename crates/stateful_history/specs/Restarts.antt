@@ -10,7 +10,8 @@ use Rattle.stateful_history.specs.Opening.{opening}
 use Rattle.stateful_history.specs.declared.event.Event.{Event}
 use Rattle.stateful_history.specs.declared.event.Event.TheVariants.{Restart}
 use Rattle.stateful_history.specs.declared.mark.Mark.{Mark}
-use Rattle.stateful_history.specs.declared.mark.Mark.TheVariants.{Opened, Converged, Acknowledged, Pruned}
+use Rattle.stateful_history.specs.declared.mark.Mark.TheVariants.{Opened, Converged, Acknowledged}
+use Rattle.stateful_history.specs.declared.mark.Mark.TheVariants.{Pruned}
 
 -- the height that a restart opens where no completion is recorded: the processed one, or 0
 abbrev pub reopened_height : Floor → ℕ
@@ -62,7 +63,11 @@ module _ {B S T : Type 0} (s : Setting B S T) where
   -- the states after the store's blocks from height 1 up to this height
   pub data FoldsTo (genesis : S) : ℕ → S → Type 0 where
     start : FoldsTo genesis 0 genesis
-    next : {n : ℕ} {b : Named B} {t u : S} → FoldsTo genesis n t → s.stored (n + 1) ≡ Some b → step_of s t b ≡ Some u → FoldsTo genesis (n + 1) u
+    next : {n : ℕ} {b : Named B} {t u : S}
+        → FoldsTo genesis n t
+        → s.stored (n + 1) ≡ Some b
+        → step_of s t b ≡ Some u
+        → FoldsTo genesis (n + 1) u
 
   -- what a restart at this height finds: the fold from genesis up to it, and the store's block
   -- there, which commits to it
@@ -75,6 +80,10 @@ module _ {B S T : Type 0} (s : Setting B S T) where
   abbrev pub OpenedIsStored : {C I : Type 0} → Event B C I → Past B C I → Mark B → Type 0
   OpenedIsStored (Restart floor keep) p (Opened anchor) =
       (opening p ≡ None)
-      × ((b : Named B) × (s.stored (reopened_height floor) ≡ Some b) × (anchor ≡ anchor_by s.header b) × (anchor.height.0 ≡ reopened_height floor))
+      ×
+      ((b : Named B)
+      × (s.stored (reopened_height floor) ≡ Some b)
+      × (anchor ≡ anchor_by s.header b)
+      × (anchor.height.0 ≡ reopened_height floor))
   OpenedIsStored event p (Opened anchor) = ⊥
   OpenedIsStored event p mark = Unit {0}

@@ -21,13 +21,19 @@ module _ {B S T : Type 0} (s : Setting B S T) where
   prefixes (Some t) [] = t ∷ []
   prefixes (Some t) (b ∷ bs) = t ∷ prefixes (step_of s t b) bs
 
-  -- From a block with this digest and these states on, child by child through such blocks, steps lead to the block of
-  -- a digest with its states.
+  -- From a block with this digest and these states on, child by child through such blocks, steps
+  -- lead to the block of a digest with its states.
   pub data Reaches (IsMet : Named B → Type 0) (from : Digest) (at : S) : Digest → S → Type 0 where
     here : Reaches IsMet from at from at
-    further : {b : Named B} {t u : S} → Reaches IsMet from at (parent_of s b) t → IsMet b → b.digest ≢ from → step_of s t b ≡ Some u → Reaches IsMet from at b.digest u
+    further : {b : Named B} {t u : S}
+        → Reaches IsMet from at (parent_of s b) t
+        → IsMet b
+        → b.digest ≢ from
+        → step_of s t b ≡ Some u
+        → Reaches IsMet from at b.digest u
 
-  -- the states after the block of this digest, at a place: steps lead to it from the anchor, over what was applied
+  -- the states after the block of this digest, at a place: steps lead to it from the anchor, over
+  -- what was applied
   pub record HasState {C I : Type 0} (base : S) (p : Past B C I) (d : Digest) (t : S) : Type 0 where
     pub anchor : Anchor
     pub now : S

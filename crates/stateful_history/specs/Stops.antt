@@ -6,7 +6,8 @@ use Rattle.stateful_history.specs.Barriers.{live_barrier}
 use Rattle.stateful_history.specs.declared.event.Event.{Event}
 use Rattle.stateful_history.specs.declared.event.Event.TheVariants.{Stop, Restart}
 use Rattle.stateful_history.specs.declared.mark.Mark.{Mark}
-use Rattle.stateful_history.specs.declared.mark.Mark.TheVariants.{Opened, BarrierDone, Dropped, Stopped}
+use Rattle.stateful_history.specs.declared.mark.Mark.TheVariants.{Opened, BarrierDone, Dropped}
+use Rattle.stateful_history.specs.declared.mark.Mark.TheVariants.{Stopped}
 
 abbrev pub IsBroken : {B : Type 0} → Mark B → Type 0
 IsBroken (BarrierDone k height false) = Unit {0}
@@ -33,10 +34,11 @@ module _ {B C I : Type 0} where
   BrokeBefore (Made mark ∷ p) = IsBroken mark ⊎ BrokeBefore p
   BrokeBefore p = ⊥
 
-  -- A stop is marked where the event is a stop or behind a barrier that broke, and nothing is live behind it. A
-  -- request or receipt is dropped by a stop or a restart alone.
+  -- A stop is marked where the event is a stop or behind a barrier that broke, and nothing is live
+  -- behind it. A request or receipt is dropped by a stop or a restart alone.
   abbrev pub StopsClean : Event B C I → List (Mark B) → Past B C I → Mark B → Type 0
-  StopsClean event marks p Stopped = ((event ≡ Stop) ⊎ BrokeBefore p) × NothingLive (Made Stopped ∷ p)
+  StopsClean event marks p Stopped =
+      ((event ≡ Stop) ⊎ BrokeBefore p) × NothingLive (Made Stopped ∷ p)
   StopsClean event marks p (Dropped t) = IsStopped event marks
   StopsClean event marks p mark = Unit {0}
 
@@ -45,6 +47,9 @@ module _ {B C I : Type 0} where
   StartsClean p (Opened anchor) = NothingLive p
   StartsClean p mark = Unit {0}
 
-  -- the entry of a stop, and each in which a barrier broke, ends with the mark that the machine has stopped
+  -- the entry of a stop, and each in which a barrier broke, ends with the mark that the machine has
+  -- stopped
   abbrev pub EndsStopped : Event B C I → List (Mark B) → Type 0
-  EndsStopped event marks = ((event ≡ Stop) ⊎ Any IsBroken marks) → (before : List (Mark B)) × (marks ≡ before ++ Stopped ∷ [])
+  EndsStopped event marks =
+      ((event ≡ Stop) ⊎ Any IsBroken marks)
+      → (before : List (Mark B)) × (marks ≡ before ++ Stopped ∷ [])

@@ -1,4 +1,5 @@
--- What an application tells of its builds, of the turns that its jobs take, and of what it keeps of finalized blocks.
+-- What an application tells of its builds, of the turns that its jobs take, and of what it keeps of
+-- finalized blocks.
 use Rattle.std.specs.Prelude.{ℕ, Option, List, [], ◌∷◌}
 use Rattle.stateful_types.specs.Names.{Named}
 use Rattle.stateful_types.specs.declared.outcome.Finality.{Finality}
@@ -8,7 +9,8 @@ use Rattle.stateful_db.specs.Works.{Works, Asked}
 pub record Telling (B C I S : Type 0) : Type 1 where
   -- a build on these states may hand this over
   pub gives : Asked B C I → S → Handoff B → Type 0
-  -- how many turns a run of the block, a build for the request and the hook behind the block take, where that is told
+  -- how many turns a run of the block, a build for the request and the hook behind the block take,
+  -- where that is told
   pub run_cost : Finality → S → B → Option ℕ
   pub build_cost : Asked B C I → S → Option ℕ
   pub hook_cost : B → S → Option ℕ
@@ -17,7 +19,9 @@ pub record Telling (B C I S : Type 0) : Type 1 where
   pub noted : Notes → B → Notes
 
 -- what an application that works so tells
-abbrev pub telling_of : {B C I P Ids S T R D H G : Type 0} → Works B C I P Ids S T R D H G → Telling B C I S
+abbrev pub telling_of : {B C I P Ids S T R D H G : Type 0}
+    → Works B C I P Ids S T R D H G
+    → Telling B C I S
 telling_of works = record {
   gives = works.gives;
   run_cost = works.run_cost;
@@ -28,6 +32,9 @@ telling_of works = record {
 }
 
 -- what is kept once these blocks were finalized, one after another
-abbrev pub noted_along : {B C I S : Type 0} (t : Telling B C I S) → t.Notes → List (Named B) → t.Notes
+abbrev pub noted_along : {B C I S : Type 0} (t : Telling B C I S)
+    → t.Notes
+    → List (Named B)
+    → t.Notes
 noted_along t notes [] = notes
 noted_along t notes (b ∷ bs) = noted_along t (t.noted notes b.block) bs

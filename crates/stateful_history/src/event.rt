@@ -5,8 +5,8 @@ ghost use Rattle.std.specs.Prelude.{◌≡◌, IfOk};
 use stateful_db::Flushed;
 use stateful_types::{Ancestry, Digested, Floor, Items, OutOfMemory, Share};
 
-/// One event, over blocks `B`, contexts `C` and inputs `I`. A ticket names a request or a receipt, and is greater than
-/// every earlier one.
+/// One event, over blocks `B`, contexts `C` and inputs `I`. A ticket names a request or a receipt,
+/// and is greater than every earlier one.
 #[derive(Debug, Drop)]
 pub enum Event<B, C, I> {
     /// A request to judge the first block of an ancestry.
@@ -62,7 +62,8 @@ pub enum Event<B, C, I> {
     },
     /// The machine is to stop.
     Stop,
-    /// The machine is to start, by what a block store reports. Of each database a crash has left so many checkpoints.
+    /// The machine is to start, by what a block store reports. Of each database a crash has left so
+    /// many checkpoints.
     Restart {
         floor: Floor,
         keep: Items<usize>,

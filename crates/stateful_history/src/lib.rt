@@ -1,5 +1,5 @@
-//! Histories: the events that come to the machine and the marks that it makes of them. The definitions over them, in
-//! specs/, say what the machine promises.
+//! Histories: the events that come to the machine and the marks that it makes of them. The
+//! definitions over them, in specs/, say what the machine promises.
 #![tactic(auto)]
 
 mod entry;

@@ -137,7 +137,8 @@ pub enum Mark<B> {
         generation: u64,
         height: Height,
     },
-    /// What lies below a height was dropped from the block store, and from the databases what is older than a target.
+    /// What lies below a height was dropped from the block store, and from the databases what is
+    /// older than a target.
     Pruned {
         marshal: Height,
         target: Height,

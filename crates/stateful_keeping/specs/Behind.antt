@@ -17,13 +17,14 @@ use Rattle.stateful_keeping.specs.Tickets.{TicketsStand}
 use Rattle.stateful_processing.specs.Moments.{Moment}
 use Rattle.stateful_processing.specs.Sound.{Sound}
 
-module _ {B C I P R D H G U : Type 0} (w : Workings B C I P R D H G U) (stored : ℕ → Option (Named B))
+module _ {B C I P R D H G U : Type 0} (w : Workings B C I P R D H G U)
+    (stored : ℕ → Option (Named B))
     (base : w.States) (p : Past B C I) (m now : Moment w) where
-  -- From one moment to a later one some marks are made, all of them marks of rules. True verdicts among
-  -- them are earned, and those of barriers and acknowledgements keep their rules. Where the machine is up
-  -- it stands for the past with them. Be it up, or taken down by a broken barrier, execution and what
-  -- waits stand, heights and receipts are in order, the databases hold what was applied, and each barrier
-  -- so far has a number below the next one.
+  -- From one moment to a later one some marks are made, all of them marks of rules. True verdicts
+  -- among them are earned, and those of barriers and acknowledgements keep their rules. Where the
+  -- machine is up it stands for the past with them. Be it up, or taken down by a broken barrier,
+  -- execution and what waits stand, heights and receipts are in order, the databases hold what was
+  -- applied, and each barrier so far has a number below the next one.
   pub record UpBehind : Type 0 where
     pub more : List (Mark B)
     pub marks_are : now.marks ≡ m.marks ++ more

@@ -1,10 +1,12 @@
--- What a machine stands for at which nothing goes on: a new one, one that was stopped, and one that is to be opened.
+-- What a machine stands for at which nothing goes on: a new one, one that was stopped, and one that
+-- is to be opened.
 use Rattle.std.specs.Prelude.{◌≡◌, ◌≢◌, ◌<◌, ℕ, false, None, []}
 use Rattle.stateful_history.specs.Barriers.{begun_over}
 use Rattle.stateful_history.specs.Past.{Past}
 use Rattle.stateful_history.specs.Stops.{NothingLive}
 use Rattle.stateful_history.specs.declared.mark.Mark.{Mark}
-use Rattle.stateful_history.specs.declared.mark.Mark.TheVariants.{Withdrawn, Ended, Declined, Dropped, Stopped}
+use Rattle.stateful_history.specs.declared.mark.Mark.TheVariants.{Withdrawn, Ended, Declined}
+use Rattle.stateful_history.specs.declared.mark.Mark.TheVariants.{Dropped, Stopped}
 use Rattle.stateful_exec.specs.Workings.{Workings}
 use Rattle.stateful_exec.specs.declared.pause.Pause.TheVariants.{Free}
 use Rattle.stateful_standing.specs.Standing.{NumbersStand}
@@ -30,11 +32,14 @@ module _ {B C I P R D H G U : Type 0} (w : Workings B C I P R D H G U) where
     pub barriers : m.loop.barriers ≡ []
     pub cache : m.execution.state.cache ≡ []
     pub runs : m.execution.state.runs ≡ []
-    pub requests : (m.execution.state.requests ≡ []) × (m.execution.state.queued ≡ []) × (m.execution.state.recovered ≡ [])
+    pub requests : (m.execution.state.requests ≡ [])
+        × (m.execution.state.queued ≡ [])
+        × (m.execution.state.recovered ≡ [])
     pub free : m.execution.state.pause ≡ Free
 
   module _ (p : Past B C I) (m : Moment w) where
-    -- each job, fetch and barrier so far has a number below the one that is drawn next, and no database is away
+    -- each job, fetch and barrier so far has a number below the one that is drawn next, and no
+    -- database is away
     pub record IsCounted : Type 0 where
       pub numbers : NumbersStand p m.execution.state.next_job m.execution.state.next_fetch
       pub barriers : (k : ℕ) → begun_over k p ≢ None → k < m.loop.next_barrier

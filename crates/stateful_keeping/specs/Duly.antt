@@ -19,22 +19,26 @@ use Rattle.stateful_processing.specs.Moments.{Moment}
 abbrev pub AreAmong : {B : Type 0} → List (Mark B) → List (Mark B) → Type 0
 AreAmong all marks = All (λ mark. Contains all mark) marks
 
-module _ {B C I P R D H G U : Type 0} (w : Workings B C I P R D H G U) (stored : ℕ → Option (Named B)) (base : w.States)
+module _ {B C I P R D H G U : Type 0} (w : Workings B C I P R D H G U)
+    (stored : ℕ → Option (Named B)) (base : w.States)
     (event : Event B C I) where
-  -- In an entry of this event with all these marks: finalizations begin and are applied in order, requests to build are
-  -- answered with what was built, jobs end as their kind does, and cancelled ones have a cause, as has each withdrawn
-  -- fetch, whatever is to be pruned; and syncs are in their place.
+  -- In an entry of this event with all these marks: finalizations begin and are applied in order,
+  -- requests to build are answered with what was built, jobs end as their kind does, and cancelled
+  -- ones have a cause, as has each withdrawn fetch, whatever is to be pruned; and syncs are in
+  -- their place.
   abbrev pub IsDulySaid : List (Mark B) → Past B C I → Mark B → Type 0
   IsDulySaid all p mark =
       FinalizesInOrder w.header p mark
       × AnsweredIsBuilt (setting w stored) (telling_of w.works) base p mark
       × EndsAsItsKind event p mark
       × CancelledHasCause (setting w stored) event all p mark
-      × ((rule : Option (PruneRule w.Targets)) → WithdrawnHasCause (setting w stored) rule event all p mark)
+      ×
+      ((rule : Option (PruneRule w.Targets))
+      → WithdrawnHasCause (setting w stored) rule event all p mark)
       × SyncsInPlace w.header p mark
 
-  -- From one moment to a later one some marks are made, which keep these rules in an entry that has them; and each build
-  -- that ends among them is answered at once.
+  -- From one moment to a later one some marks are made, which keep these rules in an entry that has
+  -- them; and each build that ends among them is answered at once.
   pub record DulyBehind (p : Past B C I) (m now : Moment w) : Type 0 where
     pub more : List (Mark B)
     pub marks_are : now.marks ≡ m.marks ++ more

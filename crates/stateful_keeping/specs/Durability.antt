@@ -20,10 +20,11 @@ module _ {B C I P R D H G U : Type 0} (w : Workings B C I P R D H G U) where
       × AcknowledgedIsDurable p mark
       × AcknowledgedIsApplied w.header p mark
 
-module _ {B C I P R D H G U : Type 0} (w : Workings B C I P R D H G U) (stored : ℕ → Option (Named B)) (base : w.States) (p : Past B C I)
+module _ {B C I P R D H G U : Type 0} (w : Workings B C I P R D H G U)
+    (stored : ℕ → Option (Named B)) (base : w.States) (p : Past B C I)
     (m now : Moment w) where
-  -- From one moment to a later one some marks are made, which keep these rules; and what the loop keeps stands for the past
-  -- with them.
+  -- From one moment to a later one some marks are made, which keep these rules; and what the loop
+  -- keeps stands for the past with them.
   pub record LoopBehind : Type 0 where
     pub more : List (Mark B)
     pub marks_are : now.marks ≡ m.marks ++ more

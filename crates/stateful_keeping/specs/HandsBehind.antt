@@ -7,9 +7,11 @@ use Rattle.stateful_exec.specs.Workings.{Workings}
 use Rattle.stateful_keeping.specs.InHand.{AllInHand, GoesOnAt}
 use Rattle.stateful_processing.specs.Moments.{Moment}
 
-module _ {B C I P R D H G U : Type 0} (w : Workings B C I P R D H G U) (stored : ℕ → Option (Named B))
+module _ {B C I P R D H G U : Type 0} (w : Workings B C I P R D H G U)
+    (stored : ℕ → Option (Named B))
     (base : w.States) (p : Past B C I) (m now : Moment w) where
-  -- From one moment to a later one some marks are made. All that is live is in hand with them, and goes on.
+  -- From one moment to a later one some marks are made. All that is live is in hand with them, and
+  -- goes on.
   pub record HandsBehind : Type 0 where
     pub more : List (Mark B)
     pub marks_are : now.marks ≡ m.marks ++ more

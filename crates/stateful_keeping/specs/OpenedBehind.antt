@@ -11,9 +11,11 @@ use Rattle.stateful_keeping.specs.Durability.{IsDurablySaid}
 use Rattle.stateful_keeping.specs.Stands.{IsUpAt}
 use Rattle.stateful_processing.specs.Moments.{Moment}
 
-module _ {B C I P R D H G U : Type 0} (w : Workings B C I P R D H G U) (stored : ℕ → Option (Named B)) (base : w.States) (q : Past B C I)
+module _ {B C I P R D H G U : Type 0} (w : Workings B C I P R D H G U)
+    (stored : ℕ → Option (Named B)) (base : w.States) (q : Past B C I)
     (m now : Moment w) (anchor : Anchor) where
-  -- The machine is opened at this anchor, which is the one mark that is made: it is up, and stands for the past with it.
+  -- The machine is opened at this anchor, which is the one mark that is made: it is up, and stands
+  -- for the past with it.
   pub record OpenedBehind : Type 0 where
     pub marks_are : now.marks ≡ m.marks ++ Opened anchor ∷ []
     pub up : now.loop.up ≡ true

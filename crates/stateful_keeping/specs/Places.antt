@@ -19,7 +19,8 @@ use Rattle.stateful_exec.specs.Workings.{Workings}
 use Rattle.stateful_exec.specs.declared.building.Building.{Building}
 use Rattle.stateful_exec.specs.declared.front.Front.{Front}
 use Rattle.stateful_exec.specs.declared.front.Stage.{Stage}
-use Rattle.stateful_exec.specs.declared.front.Stage.TheVariants.{Begun, Running, Ran, Advanced, Hooking}
+use Rattle.stateful_exec.specs.declared.front.Stage.TheVariants.{Begun, Running, Ran, Advanced}
+use Rattle.stateful_exec.specs.declared.front.Stage.TheVariants.{Hooking}
 use Rattle.stateful_exec.specs.declared.state.Tables.{Tables}
 use Rattle.stateful_standing.specs.Due.{IsDue}
 use Rattle.stateful_standing.specs.Gathering.{AsksAlong, AsksNothing}
@@ -53,9 +54,10 @@ abbrev pub HasMovedIn : {B R U H : Type 0} → Option (Front B R U H) → Type 0
 HasMovedIn None = ⊥
 HasMovedIn (Some front) = HasMovedAt front.stage
 
-module _ {B C I P R D H G U : Type 0} (w : Workings B C I P R D H G U) (stored : ℕ → Option (Named B)) where
-  -- A mark is in its place: it names a live ticket where it ends one, begins under a new number, asks
-  -- what is needed and starts what may run, and it names no request that was cancelled.
+module _ {B C I P R D H G U : Type 0} (w : Workings B C I P R D H G U)
+    (stored : ℕ → Option (Named B)) where
+  -- A mark is in its place: it names a live ticket where it ends one, begins under a new number,
+  -- asks what is needed and starts what may run, and it names no request that was cancelled.
   abbrev pub IsInPlace : w.States → Past B C I → Mark B → Type 0
   IsInPlace base p mark =
       EndsLive (setting w stored) p mark
@@ -71,15 +73,17 @@ module _ {B C I P R D H G U : Type 0} (w : Workings B C I P R D H G U) (stored :
       pub gone : CancelledIsGone p
       pub whole : is_handing_over p ≡ false
 
-    -- So it is, and what was asked for a ticket was so for an earlier one: that is kept whether the machine is up or down.
+    -- So it is, and what was asked for a ticket was so for an earlier one: that is kept whether the
+    -- machine is up or down.
     pub record PastKept : Type 0 where
       pub past : IsOrderlyPast
       pub earlier : (t : ℕ) (d : Digest) → WasAsked t d p → t < bound_of p
 
-    module _ (v : Tables B C I R U) (build : Option (Building B C D)) (front : Option (Front B R U H)) where
-      -- What was asked for a request that fetches is the parent of what was gathered for it; what was
-      -- asked for a ticket was so for an earlier one, which isn't one of a request that is live and in no
-      -- table; and nothing was asked since the block in front was applied.
+    module _ (v : Tables B C I R U) (build : Option (Building B C D))
+        (front : Option (Front B R U H)) where
+      -- What was asked for a request that fetches is the parent of what was gathered for it; what
+      -- was asked for a ticket was so for an earlier one, which isn't one of a request that is live
+      -- and in no table; and nothing was asked since the block in front was applied.
       pub record AsksStand : Type 0 where
         pub along : AsksAlong (setting w stored) p v.requests
         pub earlier : (t : ℕ) (d : Digest) → WasAsked t d p → t < bound_of p
@@ -87,13 +91,16 @@ module _ {B C I P R D H G U : Type 0} (w : Workings B C I P R D H G U) (stored :
             → IsOutside w stored p v build t → ⊥
         pub nothing : HasMovedIn front → AsksNothing (setting w stored) p
 
-    -- What is kept for the marks of rules and of events: tickets and runs are in order, what is due of the
-    -- finalization in front, what was asked, and that no hook was started yet behind a block to observe.
+    -- What is kept for the marks of rules and of events: tickets and runs are in order, what is due
+    -- of the finalization in front, what was asked, and that no hook was started yet behind a block
+    -- to observe.
     pub record PlacesKept (m : Moment w) : Type 0 where
       pub past : IsOrderlyPast
       pub due : IsDue (setting w stored) p m.execution.state.cache m.execution.front
       pub asks : AsksStand m.execution.state m.execution.build m.execution.front
-      pub hooks : (f : Finalizing B G) (captured : G) → m.loop.front ≡ Some f → f.captured ≡ Some captured
+      pub hooks : (f : Finalizing B G) (captured : G)
+          → m.loop.front ≡ Some f
+          → f.captured ≡ Some captured
           → unhooked p ≡ Some f.block
 
   -- From one moment to a later one marks are made, each in its place, and that is kept with them.

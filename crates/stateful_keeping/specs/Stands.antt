@@ -24,21 +24,26 @@ module _ {B C I P R D H G U : Type 0} (w : Workings B C I P R D H G U) where
 
   -- what was captured for the block that is finalized was read for it
   abbrev pub CapturedStands : Option (Finalizing B G) → Type 0
-  CapturedStands front = IfSome front (λ f. IfSome f.captured (λ captured. IsCaptured f.block captured))
+  CapturedStands front =
+      IfSome front (λ f. IfSome f.captured (λ captured. IsCaptured f.block captured))
 
-module _ {B C I P R D H G U : Type 0} (w : Workings B C I P R D H G U) (stored : ℕ → Option (Named B)) (base : w.States) (p : Past B C I) where
-  -- The databases keep what was applied since the opening, and are durable as far as the loop has it; the open barriers stand,
-  -- and what they await are the live flushes.
+module _ {B C I P R D H G U : Type 0} (w : Workings B C I P R D H G U)
+    (stored : ℕ → Option (Named B)) (base : w.States) (p : Past B C I) where
+  -- The databases keep what was applied since the opening, and are durable as far as the loop has
+  -- it; the open barriers stand, and what they await are the live flushes.
   pub record LoopStands (m : Moment w) : Type 0 where
     pub first : Anchor
     pub origin : ℕ → ℕ
-    pub keeping : Keeping (setting w stored) w.kind base p m.members m.execution.state.anchor first origin
+    pub keeping : Keeping
+        (setting w stored) w.kind base p m.members m.execution.state.anchor first origin
     pub durable_is : m.loop.durability.durable ≡ durable p
-    pub barriers : BarriersStand w.kind w.header p m.members first origin m.loop.barriers m.loop.next_barrier
+    pub barriers : BarriersStand w.kind w.header p m.members first origin m.loop.barriers
+        m.loop.next_barrier
     pub awaits : AwaitsEach w.kind.count p m.loop.barriers
     pub lives : AwaitsLive w.kind.count p m.loop.barriers
 
-  -- A machine that is up stands for a past: it is sound, its heights and receipts are in order, and so on.
+  -- A machine that is up stands for a past: it is sound, its heights and receipts are in order, and
+  -- so on.
   pub record IsUpAt (m : Moment w) : Type 0 where
     pub sound : Sound w m
     pub in_order : IsInOrder m.loop.durability

@@ -11,11 +11,13 @@ use Rattle.stateful_keeping.specs.RuleMarks.{IsOfRule}
 use Rattle.stateful_keeping.specs.Stands.{IsUpAt}
 use Rattle.stateful_processing.specs.Moments.{Moment}
 
-module _ {B C I P R D H G U : Type 0} (w : Workings B C I P R D H G U) (stored : ℕ → Option (Named B)) (base : w.States) (q : Past B C I)
+module _ {B C I P R D H G U : Type 0} (w : Workings B C I P R D H G U)
+    (stored : ℕ → Option (Named B)) (base : w.States) (q : Past B C I)
     (m now : Moment w) where
-  -- From the moment before an event to the one at which it is taken in some marks of rules are made behind that event; true
-  -- verdicts among them are earned, and each keeps the rules of barriers and of acknowledgements. All stands with them as it
-  -- does for a machine that is up, which it needn't be any more: a stop alone takes the machine down, and leaves the rest.
+  -- From the moment before an event to the one at which it is taken in some marks of rules are made
+  -- behind that event; true verdicts among them are earned, and each keeps the rules of barriers
+  -- and of acknowledgements. All stands with them as it does for a machine that is up, which it
+  -- needn't be any more: a stop alone takes the machine down, and leaves the rest.
   pub record TakenBehind : Type 0 where
     pub more : List (Mark B)
     pub marks_are : now.marks ≡ m.marks ++ more

@@ -1,5 +1,7 @@
--- What waits in the loop, ticket by ticket: messages, actions, the finalization in front and the receipts.
-use Rattle.std.specs.Prelude.{◌≡◌, ◌≢◌, ℕ, Option, Some, None, IfSome, IsSome, List, [], ◌∷◌, ◌++◌, map, All, AllPairs}
+-- What waits in the loop, ticket by ticket: messages, actions, the finalization in front and the
+-- receipts.
+use Rattle.std.specs.Prelude.{◌≡◌, ◌≢◌, ℕ, Option, Some, None, IfSome, IsSome, List, [], ◌∷◌, ◌++◌}
+use Rattle.std.specs.Prelude.{map, All, AllPairs}
 use Rattle.stateful_types.specs.Names.{Header, Named}
 use Rattle.stateful_history.specs.Finalizations.{finalized_since}
 use Rattle.stateful_history.specs.Met.{Met}
@@ -18,7 +20,8 @@ use Rattle.stateful_processing.specs.Moments.{Moment}
 use Rattle.stateful_processing.specs.declared.message.Action.{Action}
 use Rattle.stateful_processing.specs.declared.message.Action.TheVariants as action
 use Rattle.stateful_processing.specs.declared.message.Message.{Message}
-use Rattle.stateful_processing.specs.declared.message.Message.TheVariants.{Request, Finalized, Subscribe}
+use Rattle.stateful_processing.specs.declared.message.Message.TheVariants.{Request, Finalized}
+use Rattle.stateful_processing.specs.declared.message.Message.TheVariants.{Subscribe}
 use Rattle.stateful_processing.specs.declared.tables.Finalizing.{Finalizing}
 
 -- the ticket of a message
@@ -45,7 +48,8 @@ module _ {B C I : Type 0} (header : Header B) (p : Past B C I) where
     pub finalized : finalized_since t p ≡ Some block
     pub height_is : height ≡ header.height block.block
 
-module _ {B C I P R D H G U : Type 0} (w : Workings B C I P R D H G U) (stored : ℕ → Option (Named B)) (p : Past B C I) where
+module _ {B C I P R D H G U : Type 0} (w : Workings B C I P R D H G U)
+    (stored : ℕ → Option (Named B)) (p : Past B C I) where
   module _ (v : Tables B C I R U) (build : Option (Building B C D)) where
     -- the request of this ticket is in no table of execution, and nothing is built for it
     pub record IsOutside (t : ℕ) : Type 0 where
@@ -55,26 +59,32 @@ module _ {B C I P R D H G U : Type 0} (w : Workings B C I P R D H G U) (stored :
     -- a message is what the event of its ticket brought, which is live
     abbrev pub MessageStands : Message B C I → Type 0
     MessageStands (Request request) =
-        IsRequestOf w stored p (ticket_by request) request × All (Met (setting w stored) p) (brought_by request) × IsOutside (ticket_by request)
+        IsRequestOf w stored p (ticket_by request) request
+        × All (Met (setting w stored) p) (brought_by request)
+        × IsOutside (ticket_by request)
     MessageStands (Subscribe t) = IsLiveSubscription t p × IsOutside t
     MessageStands (Finalized t b) = IsLiveReceipt t p × (finalized_since t p ≡ Some b)
 
     -- an action is such a message; or the proposal of its ticket is queued, and was handed out
     abbrev pub ActionStands : Action B C I → Type 0
     ActionStands (action.Message x) = MessageStands x
-    ActionStands (action.Build t) = IsSome (at v.queued t) × All (λ u. u ≢ t) v.recovered × IfSome build (λ b. b.ticket ≢ t)
+    ActionStands (action.Build t) =
+        IsSome (at v.queued t) × All (λ u. u ≢ t) v.recovered × IfSome build (λ b. b.ticket ≢ t)
 
   -- All that waits in the loop stands so; no two of these are of one ticket.
   pub record TicketsStand (m : Moment w) : Type 0 where
     pub queue : All (MessageStands m.execution.state m.execution.build) m.loop.queue
     pub actions : All (ActionStands m.execution.state m.execution.build) m.loop.actions
-    pub front : IfSome m.loop.front (λ f. IsLiveReceipt f.ticket p × (finalized_since f.ticket p ≡ Some f.block))
+    pub front : IfSome m.loop.front
+        (λ f. IsLiveReceipt f.ticket p × (finalized_since f.ticket p ≡ Some f.block))
     pub held : All (λ receipt. IsReceiptAt w.header p receipt.1 receipt.0) m.loop.durability.held
-    pub apart : AllPairs (λ t u. t ≢ u) (map ticket_in m.loop.queue ++ map ticket_under m.loop.actions
+    pub apart : AllPairs (λ t u. t ≢ u)
+        (map ticket_in m.loop.queue ++ map ticket_under m.loop.actions
         ++ ticket_in_front m.loop.front ++ map (λ receipt. receipt.1) m.loop.durability.held)
     pub once : AllPairs (λ t u. t ≢ u) m.execution.state.recovered
 
-module _ {B C I P R D H G U : Type 0} (w : Workings B C I P R D H G U) (stored : ℕ → Option (Named B)) (p : Past B C I) (m now : Moment w) where
+module _ {B C I P R D H G U : Type 0} (w : Workings B C I P R D H G U)
+    (stored : ℕ → Option (Named B)) (p : Past B C I) (m now : Moment w) where
   -- From one moment to a later one some marks are made, and all that waits stands with them.
   pub record TicketsBehind : Type 0 where
     pub more : List (Mark B)

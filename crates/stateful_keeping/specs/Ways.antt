@@ -34,20 +34,22 @@ module _ {B : Type 0} (header : Header B) (stored : ℕ → Option (Named B)) wh
   StoresFinalized (Came (Finalized t b) ∷ p) = StoresAs b × StoresFinalized p
   StoresFinalized (item ∷ p) = StoresFinalized p
 
-  -- The store is honest: what it has at a height is a block of that height, and the one that came as finalized, if one came.
+  -- The store is honest: what it has at a height is a block of that height, and the one that came
+  -- as finalized, if one came.
   pub record HasHonestStore {C I : Type 0} (p : Past B C I) : Type 0 where
     pub heights : StoresHeights
     pub finalized : StoresFinalized p
 
-module _ {B C I P R D H G U : Type 0} (w : Workings B C I P R D H G U) (stored : ℕ → Option (Named B)) (p : Past B C I) where
+module _ {B C I P R D H G U : Type 0} (w : Workings B C I P R D H G U)
+    (stored : ℕ → Option (Named B)) (p : Past B C I) where
   -- where the store has a block of the anchor's height, it has the anchor's
   abbrev pub StoresAnchor : Type 0
   StoresAnchor = (anchor : Anchor) (b : Named B) → anchor_of w.header p ≡ Some anchor
       → stored anchor.height.0 ≡ Some b → b.digest ≡ anchor.digest
 
-  -- The ways of requests are open; the block of none of those that are on their way is final, unless it is that of the last
-  -- finalization that began. Where nothing pauses no request is parked. And the store has the anchor's block, or none, at its
-  -- height.
+  -- The ways of requests are open; the block of none of those that are on their way is final,
+  -- unless it is that of the last finalization that began. Where nothing pauses no request is
+  -- parked. And the store has the anchor's block, or none, at its height.
   pub record WaysKept (v : Tables B C I R U) : Type 0 where
     pub tip : Anchor
     pub tip_is : tip_of w.header p ≡ Some tip
@@ -56,7 +58,8 @@ module _ {B C I P R D H G U : Type 0} (w : Workings B C I P R D H G U) (stored :
     pub stores : StoresAnchor
 
 -- From one moment to a later one some marks are made, and the ways are kept with them.
-pub record WaysBehind {B C I P R D H G U : Type 0} (w : Workings B C I P R D H G U) (stored : ℕ → Option (Named B))
+pub record WaysBehind {B C I P R D H G U : Type 0} (w : Workings B C I P R D H G U)
+    (stored : ℕ → Option (Named B))
     (p : Past B C I) (m now : Moment w) : Type 0 where
   pub more : List (Mark B)
   pub marks_are : now.marks ≡ m.marks ++ more

@@ -4,7 +4,7 @@ use Rattle.std.specs.Bool.{if◌then◌else◌}
 use Rattle.std.specs.Option.{option_or}
 use Rattle.stateful_types.specs.declared.number.Location.{Location}
 use Rattle.stateful_db.specs.declared.batch.BatchError.TheVariants.{LocationOutOfBounds, BelowInactivityFloor}
-use Rattle.stateful_keyless.proofs.Reading.{cases, test-false}
+use Rattle.stateful_log.proofs.Slices.{cases, test-false}
 use Rattle.stateful_keyless.specs.Reads.{out_of_order, unreadable, first_unreadable, refusal}
 
 -- the last one alone

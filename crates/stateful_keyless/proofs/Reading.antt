@@ -3,31 +3,13 @@ use Rattle.std.proofs.Common.{◌≡◌, ℕ, zero, suc, ◌+◌, ◌-◌, ◌�
 use Rattle.std.specs.Bool.{if◌then◌else◌}
 use Rattle.std.proofs.lemmas.Bool.Decides.{nat_tests}
 use Rattle.stateful_db.specs.CheckpointLaws.{slice_get-drop}
+use Rattle.stateful_log.proofs.Slices.{cases, test-true, test-false, slice_get-front, slice_get-back}
 use Rattle.stateful_overlay.specs.Chains.{Leads}
 use Rattle.stateful_keyless.specs.declared.op.KeylessOp.{KeylessOp}
 use Rattle.stateful_keyless.specs.declared.keyless.batch.KeylessChanges.{KeylessChanges}
 use Rattle.stateful_keyless.specs.Keyless.{State, size_of}
 use Rattle.stateful_keyless.specs.KeylessShown.{After}
 use Rattle.stateful_keyless.specs.Through.{IsWhole, op_over, op_through}
-
-pub cases : (b : Bool) → (b ≡ true) ⊎ (b ≡ false)
-cases true = inl refl
-cases false = inr refl
-
-pub test-true : (a b : ℕ) → nat_lt a b ≡ true → a < b
-test-true a b h = grind (arith, nat_tests)
-
-pub test-false : (a b : ℕ) → nat_lt a b ≡ false → b ≤ a
-test-false a b h = grind (arith, nat_tests)
-
-slice_get-front : {X : Type 0} (xs ys : List X) (i : ℕ) → i < length xs → slice_get (xs ++ ys) i ≡ slice_get xs i
-slice_get-front [] ys i h = absurd (omega arith)
-slice_get-front (x ∷ xs) ys zero h = refl
-slice_get-front (x ∷ xs) ys (suc i) h = slice_get-front xs ys i (omega arith)
-
-slice_get-back : {X : Type 0} (xs ys : List X) (i : ℕ) → slice_get (xs ++ ys) (length xs + i) ≡ slice_get ys i
-slice_get-back [] ys i = let same : 0 + i ≡ i = omega arith in ap (λ n. slice_get ys n) same
-slice_get-back (x ∷ xs) ys i = let same : suc (length xs) + i ≡ suc (length xs + i) = omega arith in ap (λ n. slice_get (x ∷ xs ++ ys) n) same ∙ slice_get-back xs ys i
 
 module _ {V : Type 0} where
   -- the operation at a location, among a state's and more behind them

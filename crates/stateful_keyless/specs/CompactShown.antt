@@ -17,20 +17,29 @@ TopIs (p ∷ c) s = p.1 ≡ s
 
 module _ {V : Type 0} (spell : V → List ℕ) where
   -- a batch that may still change has these changes on its parent's state
-  pub record Holds (u : KeylessUnjournaledUnmerkleized V) (ch : Changes V) (s : State V) : Type 0 where
+  pub record Holds (u : KeylessUnjournaledUnmerkleized V) (ch : Changes V)
+      (s : State V) : Type 0 where
     pub before : u.before ≡ chained (append_bytes spell) s.target.root ch.values
     pub end : u.end ≡ min (size_of s + length ch.values) (2 ^ 64 - 1)
     pub floor : u.floor ≡ s.kept.floor
     pub metadata : u.metadata ≡ ch.metadata
     pub asked : u.asked ≡ ch.floor
 
-  -- It stands on this chain, whose second point is its parent. The state of the first is the one that a seal gives now.
+  -- It stands on this chain, whose second point is its parent. The state of the first is the one
+  -- that a seal gives now.
   abbrev pub DraftShows : KeylessUnjournaledUnmerkleized V → List (ℕ × State V) → Type 0
   DraftShows u [] = ⊥
   DraftShows u (p ∷ []) = ⊥
-  DraftShows u (p ∷ q ∷ c) = (p.0 ≡ u.id) × ((q.0 < p.0) × (Stands Unread u.below.base u.below.layers (q ∷ c) × ((ch : Changes V) × (Holds u ch q.1 × (p.1 ≡ sealed spell ch q.1)))))
+  DraftShows u (p ∷ q ∷ c) =
+      (p.0 ≡ u.id)
+      ×
+      ((q.0 < p.0)
+      ×
+      (Stands Unread u.below.base u.below.layers (q ∷ c)
+      × ((ch : Changes V) × (Holds u ch q.1 × (p.1 ≡ sealed spell ch q.1)))))
 
 -- the sealed batch stands on this chain, and has the state of its first point
-pub record SealShows {V : Type 0} (m : KeylessUnjournaledMerkleized V) (c : List (ℕ × State V)) : Type 0 where
+pub record SealShows {V : Type 0} (m : KeylessUnjournaledMerkleized V)
+    (c : List (ℕ × State V)) : Type 0 where
   pub chain : Stands Unread m.below.base (m.layer ∷ m.below.layers) c
   pub top : TopIs c m.state

@@ -10,7 +10,9 @@ use Rattle.stateful_keyless.specs.Compacted.{State, target_of}
 use Rattle.stateful_keyless.specs.CompactStored.{disk_of, standing_of}
 
 module _ {V : Type 0} where
-  compact_sound : (d : Disk (State V)) → IsSound range_of d → IsSound (λ s. compact_target (target_of s)) d
+  compact_sound : (d : Disk (State V))
+      → IsSound range_of d
+      → IsSound (λ s. compact_target (target_of s)) d
   compact_sound d sound = record {
     kept = sound.kept;
     within = sound.within;
@@ -21,5 +23,6 @@ module _ {V : Type 0} where
   pub sound_medium : (m : CompactMedium V) → IsSound (λ s. compact_target (target_of s)) (disk_of m)
   sound_medium m = compact_sound (disk_of m) (kept.sound_medium m.medium)
 
-  pub sound_database : (d : CompactDb V) → IsSound (λ s. compact_target (target_of s)) (standing_of d).disk
+  pub sound_database : (d : CompactDb V)
+      → IsSound (λ s. compact_target (target_of s)) (standing_of d).disk
   sound_database d = compact_sound (standing_of d).disk (kept.sound_opened d.opened)

@@ -18,7 +18,13 @@ module _ {V : Type 0} where
 
   -- this digest behind so many operations, of which the last is this commit
   abbrev pub state_of : Digest → ℕ → Commit V → State V
-  state_of root size commit = record { target = record { root = root; start = record { 0 = size - 1 }; end = record { 0 = size } }; kept = commit }
+  state_of root size commit =
+      record {
+        target =
+            record { root = root; start = record { 0 = size - 1 }; end = record { 0 = size } };
+        kept =
+            commit;
+      }
 
   abbrev pub target_of : State V → CompactTarget
   target_of s = record { root = s.target.root; size = s.target.end }
@@ -26,7 +32,9 @@ module _ {V : Type 0} where
 module _ {V : Type 0} (spell : V → List ℕ) where
   -- the state behind a commit, at this location and behind this digest
   abbrev pub committed : Digest → ℕ → Option V → ℕ → State V
-  committed before at metadata floor = state_of (linked before (commit_bytes spell metadata floor)) (at + 1) (record { before = before; metadata = metadata; floor = floor })
+  committed before at metadata floor =
+      state_of (linked before (commit_bytes spell metadata floor)) (at + 1)
+      (record { before = before; metadata = metadata; floor = floor })
 
   -- one commit without metadata, and with the floor 0
   abbrev pub initial : State V
@@ -36,7 +44,8 @@ module _ {V : Type 0} (spell : V → List ℕ) where
   abbrev pub sealed : Changes V → State V → State V
   sealed ch s =
       let commit = size_of s + length ch.values in
-      committed (chained (append_bytes spell) s.target.root ch.values) commit ch.metadata (raised s.kept.floor ch.floor commit)
+      committed (chained (append_bytes spell) s.target.root ch.values) commit ch.metadata
+      (raised s.kept.floor ch.floor commit)
 
   -- that of a batch without changes
   abbrev pub begun : State V → State V

@@ -13,4 +13,6 @@ pub record Follows {V : Type 0} (s : keyless.State V) (t : compact.State V) : Ty
 -- those of empty media are, and batches with the same changes keep it so
 pub record KeepsFollowing {V : Type 0} (spell : V → List ℕ) : Type 0 where
   pub initial : Follows (keyless.initial spell) (compact.initial spell)
-  pub sealed : (ch : Changes V) (s : keyless.State V) (t : compact.State V) → Follows s t → Follows (keyless.sealed spell ch s) (compact.sealed spell ch t)
+  pub sealed : (ch : Changes V) (s : keyless.State V) (t : compact.State V)
+      → Follows s t
+      → Follows (keyless.sealed spell ch s) (compact.sealed spell ch t)

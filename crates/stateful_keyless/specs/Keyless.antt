@@ -18,7 +18,8 @@ target_of s = s.target
 abbrev pub size_of : {V : Type 0} → State V → ℕ
 size_of s = s.target.end.0
 
--- the operations of a batch whose commit has this floor: an append for each value, and then the commit
+-- the operations of a batch whose commit has this floor: an append for each value, and then the
+-- commit
 abbrev pub ops_of : {V : Type 0} → Changes V → ℕ → List (KeylessOp V)
 ops_of ch floor = map Append ch.values ++ Commit ch.metadata floor ∷ []
 
@@ -30,7 +31,14 @@ module _ {V : Type 0} (spell : V → List ℕ) where
   -- one commit without metadata, and with the floor 0
   abbrev pub initial : State V
   initial = record {
-    target = record { root = chained op_bytes unlinked (Commit None 0 ∷ []); start = record { 0 = 0 }; end = record { 0 = 1 } };
+    target =
+        record {
+          root =
+              chained op_bytes unlinked (Commit None 0 ∷ []);
+          start =
+              record { 0 = 0 };
+          end = record { 0 = 1 };
+        };
     kept = Commit None 0 ∷ [];
   }
 
@@ -39,7 +47,14 @@ module _ {V : Type 0} (spell : V → List ℕ) where
   sealed ch s =
       let commit = size_of s + length ch.values in
       let floor = raised s.target.start.0 ch.floor commit in
-      extended s (ops_of ch floor) (record { root = chained op_bytes s.target.root (ops_of ch floor); start = record { 0 = floor }; end = record { 0 = commit + 1 } })
+      extended s (ops_of ch floor)
+      (record {
+        root =
+            chained op_bytes s.target.root (ops_of ch floor);
+        start =
+            record { 0 = floor };
+        end = record { 0 = commit + 1 };
+      })
 
   -- that of a batch without changes
   abbrev pub begun : State V → State V

@@ -11,7 +11,8 @@ commit_bytes spell (Some metadata) floor = 0 ∷ 1 ∷ spell metadata ++ to_be_b
 abbrev pub append_bytes : {V : Type 0} → (V → List ℕ) → V → List ℕ
 append_bytes spell value = 1 ∷ spell value
 
--- what a batch changes: the values that it appends, the metadata of its commit, and the floor that it asks for, which is
+-- what a batch changes: the values that it appends, the metadata of its commit, and the floor that
+-- it asks for, which is
 -- 0 where it asks for none
 pub record Changes (V : Type 0) : Type 0 where
   pub values : List V
@@ -21,7 +22,7 @@ pub record Changes (V : Type 0) : Type 0 where
 abbrev pub unchanged : {V : Type 0} → Changes V
 unchanged = record { values = []; metadata = None; floor = 0 }
 
--- The floor of a commit behind so many operations: the one that was asked for, or the nearest that isn't below the
--- parent's and not behind the commit.
+-- The floor of a commit behind so many operations: the one that was asked for, or the nearest that
+-- isn't below the parent's and not behind the commit.
 abbrev pub raised : ℕ → ℕ → ℕ → ℕ
 raised parent asked commit = max parent (min asked commit)

@@ -4,7 +4,8 @@ ghost use Rattle.stateful_keyless.specs.Follows.{KeepsFollowing};
 
 use stateful_log::Field;
 
-/// A compact database has the root and the size of the keyless one with the same batches of appends, metadata and floors.
+/// A compact database has the root and the size of the keyless one with the same batches of
+/// appends, metadata and floors.
 pub fn compact_follows_keyless<V: Field>()
     ensures { KeepsFollowing V.fields.spelling }
 {}

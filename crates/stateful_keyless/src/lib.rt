@@ -1,4 +1,5 @@
-//! Logs of values without keys: `KeylessDb` keeps the log, and `CompactDb` of it the latest commit alone.
+//! Logs of values without keys: `KeylessDb` keeps the log, and `CompactDb` of it the latest commit
+//! alone.
 #![tactic(auto)]
 
 mod compact;

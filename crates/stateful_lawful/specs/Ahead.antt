@@ -20,7 +20,8 @@ use Rattle.stateful_exec.specs.Finalizing.{IsRedelivered}
 use Rattle.stateful_exec.specs.Workings.{Workings}
 use Rattle.stateful_exec.specs.declared.front.Front.{Front}
 use Rattle.stateful_exec.specs.declared.front.Stage.{Stage}
-use Rattle.stateful_exec.specs.declared.front.Stage.TheVariants.{Begun, Running, Ran, Advanced, Hooking}
+use Rattle.stateful_exec.specs.declared.front.Stage.TheVariants.{Begun, Running, Ran, Advanced}
+use Rattle.stateful_exec.specs.declared.front.Stage.TheVariants.{Hooking}
 use Rattle.stateful_standing.specs.Setting.{setting}
 use Rattle.stateful_processing.specs.Moments.{Moment}
 use Rattle.stateful_processing.specs.declared.message.Action.{Action}
@@ -49,13 +50,18 @@ module _ {B C I : Type 0} where
   finals_under (x ∷ xs) = final_under x ++ finals_under xs
 
 module _ {B S T : Type 0} (s : Setting B S T) (top : Anchor) (last : S) where
-  -- These blocks follow one another from a block with its states on: each is the next child and matches the states, or isn't
-  -- higher, and at the block's height is the block itself. So they lead up to the top, with its states.
+  -- These blocks follow one another from a block with its states on: each is the next child and
+  -- matches the states, or isn't higher, and at the block's height is the block itself. So they
+  -- lead up to the top, with its states.
   pub data LeadsUp : Anchor → S → List (Named B) → Type 0 where
     there : LeadsUp top last []
-    next : {head : Anchor} {before after : S} {b : Named B} {bs : List (Named B)} → IsChildOf s.header head b
-        → Matches s before b after → LeadsUp (anchor_by s.header b) after bs → LeadsUp head before (b ∷ bs)
-    again : {head : Anchor} {before : S} {b : Named B} {bs : List (Named B)} → IsRedelivered s.header head b
+    next : {head : Anchor} {before after : S} {b : Named B} {bs : List (Named B)}
+        → IsChildOf s.header head b
+        → Matches s before b after
+        → LeadsUp (anchor_by s.header b) after bs
+        → LeadsUp head before (b ∷ bs)
+    again : {head : Anchor} {before : S} {b : Named B} {bs : List (Named B)}
+        → IsRedelivered s.header head b
         → LeadsUp head before bs → LeadsUp head before (b ∷ bs)
 
 module _ {B S T : Type 0} (s : Setting B S T) (anchor : Anchor) (now : S) where
@@ -64,7 +70,8 @@ module _ {B S T : Type 0} (s : Setting B S T) (anchor : Anchor) (now : S) where
     pub head_is : head ≡ anchor
     pub before_is : before ≡ now
 
-  -- the head is the block whose finalization goes on: a child of the anchor, which matches its states
+  -- the head is the block whose finalization goes on: a child of the anchor, which matches its
+  -- states
   pub record IsAbove (b : Named B) (head : Anchor) (before : S) : Type 0 where
     pub head_is : head ≡ anchor_by s.header b
     pub child : IsChildOf s.header anchor b
@@ -89,21 +96,26 @@ RoundsAscend {B} {C} {I} header round_by p = (t : ℕ) (r : Proposal B C I) → 
     → IsLater (header.round r.parent.block) (round_by r.context)
 
 -- the finalized blocks that wait at a moment, in the order in which they will be taken
-abbrev pub finals_at : {B C I P R D H G U : Type 0} (w : Workings B C I P R D H G U) → Moment w → List (Named B)
+abbrev pub finals_at : {B C I P R D H G U : Type 0} (w : Workings B C I P R D H G U)
+    → Moment w
+    → List (Named B)
 finals_at w m = finals_under m.loop.actions ++ finals_in m.loop.queue
 
-module _ {B C I P R D H G U : Type 0} (w : Workings B C I P R D H G U) (stored : ℕ → Option (Named B)) where
+module _ {B C I P R D H G U : Type 0} (w : Workings B C I P R D H G U)
+    (stored : ℕ → Option (Named B)) where
   -- from the block in front or the anchor on, the finalized blocks that wait lead up to the top
-  pub record LeadsAt (anchor : Anchor) (now : w.States) (top : Anchor) (last : w.States) (m : Moment w) : Type 0 where
+  pub record LeadsAt (anchor : Anchor) (now : w.States) (top : Anchor) (last : w.States)
+      (m : Moment w) : Type 0 where
     pub head : Anchor
     pub before : w.States
     pub front : HeadIs (setting w stored) anchor now m.execution.front head before
     pub leads : LeadsUp (setting w stored) top last head before (finals_at w m)
 
   module _ (base : w.States) (p : Past B C I) where
-    -- The finalized blocks that wait lead up to the highest one. Each block that was finalized since the last restart isn't
-    -- higher than the highest one, and nor is the opening's; and at its height it is the highest one. Each live request to
-    -- build is for a later round than that of its parent.
+    -- The finalized blocks that wait lead up to the highest one. Each block that was finalized
+    -- since the last restart isn't higher than the highest one, and nor is the opening's; and at
+    -- its height it is the highest one. Each live request to build is for a later round than that
+    -- of its parent.
     pub record IsAhead (m : Moment w) : Type 0 where
       pub anchor : Anchor
       pub now : w.States
@@ -115,11 +127,13 @@ module _ {B C I P R D H G U : Type 0} (w : Workings B C I P R D H G U) (stored :
       pub waits : LeadsAt anchor now top last m
       pub finalized : (b : Named B) → WasFinalized p b → IsRedelivered w.header top b
       pub opened : (start : Anchor) → opening p ≡ Some start
-          → (start.height.0 ≤ top.height.0) × (start.height.0 ≡ top.height.0 → start.digest ≡ top.digest)
+          → (start.height.0 ≤ top.height.0)
+          × (start.height.0 ≡ top.height.0 → start.digest ≡ top.digest)
       pub rounds : RoundsAscend w.header w.round_of p
 
     -- so it is where each event since the last restart was lawful, as long as the machine is up
     abbrev pub IsAheadLawfully : Moment w → Type 0
     IsAheadLawfully m = m.loop.up ≡ true
-        → LawfulSince (setting w stored) (telling_of w.works) w.round_of base (numbered w.kind.count) p
+        → LawfulSince (setting w stored) (telling_of w.works) w.round_of base
+        (numbered w.kind.count) p
         → IsAhead m

@@ -21,8 +21,10 @@ use Rattle.stateful_processing.specs.Intake.{Counts, TakesIn}
 use Rattle.stateful_processing.specs.Moments.{Moment}
 use Rattle.stateful_whole.specs.Machine.{numbered}
 
-module _ {B C I P R D H G U : Type 0} (w : Workings B C I P R D H G U) (stored : ℕ → Option (Named B)) (base : w.States) (p : Past B C I) where
-  -- names are true with whatever block a build of this job may give for a live request, under the SHA-256 of its bytes
+module _ {B C I P R D H G U : Type 0} (w : Workings B C I P R D H G U)
+    (stored : ℕ → Option (Named B)) (base : w.States) (p : Past B C I) where
+  -- names are true with whatever block a build of this job may give for a live request, under the
+  -- SHA-256 of its bytes
   abbrev pub NamesBuilt : ℕ → Type 0
   NamesBuilt j = (t : ℕ) (r : Proposal B C I) (before : w.States) (given : Handoff B) (b : Named B)
       → IsLiveProposal t p r
@@ -38,11 +40,17 @@ module _ {B C I P R D H G U : Type 0} (w : Workings B C I P R D H G U) (stored :
   IsBuiltNamed (Turn j) = NamesBuilt j
   IsBuiltNamed event = Unit {0}
 
-  -- What an event and the world are trusted with: each event since the last restart was lawful, and so is this one; names are
-  -- true with it, with the marks of its intake, and with whatever block a build may give that it turns.
-  pub record ComesLawfully (stored_now : ℕ → Option (Named B)) (counts : Counts R D H) (m : Moment w) (event : Event B C I) : Type 0 where
-    pub since : LawfulSince (setting w stored) (telling_of w.works) w.round_of base (numbered w.kind.count) p
-    pub lawful : IsLawful (setting w stored) (telling_of w.works) w.round_of base p (numbered w.kind.count) event
+  -- What an event and the world are trusted with: each event since the last restart was lawful, and
+  -- so is this one; names are true with it, with the marks of its intake, and with whatever block a
+  -- build may give that it turns.
+  pub record ComesLawfully (stored_now : ℕ → Option (Named B)) (counts : Counts R D H)
+      (m : Moment w) (event : Event B C I) : Type 0 where
+    pub since : LawfulSince (setting w stored) (telling_of w.works) w.round_of base
+        (numbered w.kind.count) p
+    pub lawful : IsLawful (setting w stored) (telling_of w.works) w.round_of base p
+        (numbered w.kind.count) event
     pub named : TrueNames (setting w stored) (Came event ∷ p)
-    pub taken : (now : Moment w) → TakesIn w stored_now counts m now event → NamesBehind w stored base (Came event ∷ p) m now
+    pub taken : (now : Moment w)
+        → TakesIn w stored_now counts m now event
+        → NamesBehind w stored base (Came event ∷ p) m now
     pub built : IsBuiltNamed event

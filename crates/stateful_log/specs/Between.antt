@@ -9,4 +9,5 @@ module _ {Op : Type 0} where
 
   -- a kept checkpoint with the operations of its range
   abbrev pub state_in : ℕ → List Op → Checkpoint (Unit {0}) → Checkpoint (List Op)
-  state_in first ops k = record { target = k.target; kept = between first ops k.target.start.0 k.target.end.0 }
+  state_in first ops k =
+      record { target = k.target; kept = between first ops k.target.start.0 k.target.end.0 }

@@ -12,7 +12,9 @@ digest_alone =
     let law = bytes_alone 32 in
     record {
       some = (record { 0 = law.some.0 }, law.some.1);
-      alone = λ x y rest fits fits' e. ap (λ bytes. record { 0 = bytes }) (law.alone x.0 y.0 rest fits fits' e);
+      alone =
+          λ x y rest fits fits' e. ap (λ bytes. record { 0 = bytes })
+          (law.alone x.0 y.0 rest fits fits' e);
     }
 
 pub digest_exact : (a b : Digest) → digest_cmp a b ≡ Equal → a ≡ b

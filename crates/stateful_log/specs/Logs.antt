@@ -13,7 +13,8 @@ use Rattle.stateful_log.specs.Between.{state_in}
 module _ {Op : Type 0} where
   -- a log with more operations, and then from another floor on
   abbrev pub extended : Checkpoint (List Op) → List Op → Target → Checkpoint (List Op)
-  extended s more t = record { target = t; kept = drop (t.start.0 - s.target.start.0) (s.kept ++ more) }
+  extended s more t =
+      record { target = t; kept = drop (t.start.0 - s.target.start.0) (s.kept ++ more) }
 
   -- the checkpoints of a medium, each with its operations
   abbrev pub disk_of : LogMedium Op → Disk (Checkpoint (List Op))

@@ -1,5 +1,5 @@
-//! What databases that are kept as a log have in common: fields of operations with their bytes, the chain of digests, and
-//! media that keep each operation once.
+//! What databases that are kept as a log have in common: fields of operations with their bytes, the
+//! chain of digests, and media that keep each operation once.
 #![tactic(auto)]
 
 mod bounds;

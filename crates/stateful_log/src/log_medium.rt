@@ -18,7 +18,9 @@ pub struct LogMedium<Op> {
     pub(crate) medium: Medium<()>,
     pub(crate) first: u64,
     pub(crate) ops: Run<Op>,
-    ghost begins: { (i : ℕ) (k : Checkpoint (Unit {0})) → slice_get (all (kept.disk_of medium)) i ≡ Some k → first ≤ k.target.start.0 },
+    ghost begins: { (i : ℕ) (k : Checkpoint (Unit {0}))
+        → slice_get (all (kept.disk_of medium)) i ≡ Some k
+        → first ≤ k.target.start.0 },
     ghost ends: { (kept.disk_of medium).newest.target.end.0 ≡ first + length ops },
 }
 
@@ -41,10 +43,11 @@ impl<Op: Drop> LogMedium<Op> {
     ghost use Rattle.stateful_medium.specs.Called.{number_of, IsListed, Called};
     ghost use Rattle.stateful_medium.specs.Ranged.{range_of};
     ghost use Rattle.stateful_medium.specs.Openings.{IsNumberOf};
-    ghost use Rattle.stateful_log.specs.Logs.{disk_of, next_of, calls_of, standing_of, next_here, calls_here};
+    ghost use Rattle.stateful_log.specs.Logs.{disk_of, next_of, calls_of, standing_of, next_here};
+    ghost use Rattle.stateful_log.specs.Logs.{calls_here};
 
-    /// A medium with one operation alone, behind which this digest stands. The calls that are listed, by kind and by
-    /// number from 0 on, fail.
+    /// A medium with one operation alone, behind which this digest stands. The calls that are
+    /// listed, by kind and by number from 0 on, fail.
     pub fn new(alloc: Global, op: Op, root: Digest, failing: Vec<(DbCall, u64)>) -> LogMedium<Op>
         ensures disk { disk_of result ≡ record {
           older = [];
@@ -77,8 +80,9 @@ impl<Op: Drop> LogMedium<Op> {
         self.medium.allocator()
     }
 
-    /// The number of the kept checkpoint of this target, or of the latest. This is a call of the kind `Init`; `Database`
-    /// exactly where it is listed as a failing one, or no kept checkpoint has the expected end.
+    /// The number of the kept checkpoint of this target, or of the latest. This is a call of the
+    /// kind `Init`; `Database` exactly where it is listed as a failing one, or no kept checkpoint
+    /// has the expected end.
     pub fn number_to_open(&mut self, expected: Option<Target>) -> Result<usize, InitError>
         ensures ok { IfOk result (λ n. IsNumberOf range_of (λ t. t) expected (disk_of self.old) n) }
         ensures within { IfOk result (λ n. n < length (all (disk_of self.old))) }
@@ -97,10 +101,7 @@ impl<Op: Drop> LogMedium<Op> {
         ensures disk { disk_of self.new ≡ disk_of self.old }
         ensures next { next_of self.new ≡ next_of self.old }
     {
-        match self.medium.number_to_open(expected) {
-            Ok(number) => Ok(number),
-            Err(why) => Err(why),
-        }
+        self.medium.number_to_open(expected)
     }
 
     /// Opened at the kept checkpoint of this number, which is then the last and the durable one.

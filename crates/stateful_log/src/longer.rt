@@ -2,15 +2,16 @@
 
 ghost use Rattle.std.specs.Prelude.{◌≡◌, ◌+◌, ◌-◌, ◌++◌, length, IsTrue, ◌≤◌, IfOk, IfErr};
 ghost use Rattle.stateful_db.specs.Disk.{applied};
-ghost use Rattle.stateful_log.specs.Logs.{extended, disk_of, next_of, calls_of, standing_of, next_here, calls_here};
+ghost use Rattle.stateful_log.specs.Logs.{extended, disk_of, next_of, calls_of, standing_of};
+ghost use Rattle.stateful_log.specs.Logs.{next_here, calls_here};
 
 use crate::log_medium::LogMedium;
 use crate::open_log::OpenLog;
 use stateful_medium::Checkpoint;
 use stateful_types::{Share, Target};
 
-/// The log with these operations behind it, and with their checkpoint. It is given back where memory is wanting, or the
-/// range isn't that of a batch on it.
+/// The log with these operations behind it, and with their checkpoint. It is given back where
+/// memory is wanting, or the range isn't that of a batch on it.
 pub fn longer<Op: Share + Drop>(
     log: OpenLog<Op>,
     id: u64,

@@ -15,13 +15,16 @@ use stateful_medium::{Medium, Opened};
 use stateful_types::{Faulty, Location, Share, Target};
 use std::alloc::Global;
 
-/// An open database, and the operations from the location `first` up to the end of the newest checkpoint.
+/// An open database, and the operations from the location `first` up to the end of the newest
+/// checkpoint.
 #[derive(Drop)]
 pub struct OpenLog<Op> {
     pub(crate) opened: Opened<()>,
     pub(crate) first: u64,
     pub(crate) ops: Run<Op>,
-    ghost begins: { (i : ℕ) (k : Checkpoint (Unit {0})) → slice_get (all (kept.standing_of opened).disk) i ≡ Some k → first ≤ k.target.start.0 },
+    ghost begins: { (i : ℕ) (k : Checkpoint (Unit {0}))
+        → slice_get (all (kept.standing_of opened).disk) i ≡ Some k
+        → first ≤ k.target.start.0 },
     ghost ends: { (kept.standing_of opened).disk.newest.target.end.0 ≡ first + length ops },
 }
 
@@ -36,13 +39,15 @@ impl<Op> Faulty for OpenLog<Op> {
 }
 
 impl<Op: Drop> OpenLog<Op> {
-    ghost use Rattle.std.specs.Prelude.{◌≢◌, ◌<◌, ◌-◌, ◌^◌, ◌++◌, ◌∷◌, [], ◌==◌, ◌↔◌, position, Contains, IfOk, IfErr, IsErrAnd};
+    ghost use Rattle.std.specs.Prelude.{◌≢◌, ◌<◌, ◌-◌, ◌^◌, ◌++◌, ◌∷◌, [], ◌==◌, ◌↔◌, position};
+    ghost use Rattle.std.specs.Prelude.{Contains, IfOk, IfErr, IsErrAnd};
     ghost use Rattle.stateful_types.specs.Causes.{Rose};
     ghost use Rattle.stateful_db.specs.Disk.{place, flushed, cut};
     ghost use Rattle.stateful_db.specs.Tokens.{without};
     ghost use Rattle.stateful_db.specs.declared.database.DbCall.{DbCall};
     ghost use Rattle.stateful_medium.specs.Called.{IsListed, Called};
-    ghost use Rattle.stateful_log.specs.Logs.{disk_of, next_of, calls_of, standing_of, next_here, calls_here};
+    ghost use Rattle.stateful_log.specs.Logs.{disk_of, next_of, calls_of, standing_of, next_here};
+    ghost use Rattle.stateful_log.specs.Logs.{calls_here};
 
     /// The id of the last applied batch.
     pub fn id(&self) -> u64
@@ -177,8 +182,8 @@ impl<Op: Drop> OpenLog<Op> {
         self.opened.number_with_end(end)
     }
 
-    /// Takes no memory. Drops so many of the oldest checkpoints, and the operations below the start of the oldest that is
-    /// left. The durable checkpoint stays, and no token may be out.
+    /// Takes no memory. Drops so many of the oldest checkpoints, and the operations below the start
+    /// of the oldest that is left. The durable checkpoint stays, and no token may be out.
     pub fn prune_first(self, count: usize) -> Result<OpenLog<Op>, Broken<LogMedium<Op>>>
         requires idle { (standing_of self).out ≡ [] }
         requires within { count ≤ length (standing_of self).disk.older }
@@ -214,10 +219,12 @@ impl<Op: Share + Drop> OpenLog<Op> {
     ghost use Rattle.stateful_db.specs.Disk.{applied};
     ghost use Rattle.stateful_db.specs.declared.database.DbCall.{DbCall};
     ghost use Rattle.stateful_medium.specs.Called.{IsListed, Called};
-    ghost use Rattle.stateful_log.specs.Logs.{extended, disk_of, next_of, calls_of, standing_of, next_here, calls_here};
+    ghost use Rattle.stateful_log.specs.Logs.{extended, disk_of, next_of, calls_of, standing_of};
+    ghost use Rattle.stateful_log.specs.Logs.{next_here, calls_here};
 
-    /// Appends the operations of a batch that is applied, and adds its checkpoint. Where its range doesn't end behind
-    /// them, or starts before the newest one does, it is refused as if memory were wanting.
+    /// Appends the operations of a batch that is applied, and adds its checkpoint. Where its range
+    /// doesn't end behind them, or starts before the newest one does, it is refused as if memory
+    /// were wanting.
     pub fn apply(
         self,
         id: u64,
@@ -225,7 +232,8 @@ impl<Op: Share + Drop> OpenLog<Op> {
         target: Target,
     ) -> Result<OpenLog<Op>, Broken<LogMedium<Op>>>
         ensures ok { let s = standing_of self in IfOk result (λ o. standing_of o
-            ≡ record s { id = id; disk = applied s.disk (extended s.disk.newest more.now target) }) }
+            ≡ record s
+            { id = id; disk = applied s.disk (extended s.disk.newest more.now target) }) }
         ensures ok_next { IfOk result (λ o. next_here o ≡ next_here self) }
         ensures ok_count { IfOk result (λ o. (calls_here self).faults ≤ (calls_here o).faults) }
         ensures ok_called { IfOk result (λ o.

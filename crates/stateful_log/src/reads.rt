@@ -37,7 +37,8 @@ impl<Op: Drop> LogMedium<Op> {
         self.medium.get(number).target
     }
 
-    /// The operation at a location of the range of the kept checkpoint of this number. None outside of the range.
+    /// The operation at a location of the range of the kept checkpoint of this number. None outside
+    /// of the range.
     pub fn get(&self, number: usize, at: u64) -> Option<&Op>
         requires { number < length (all (disk_of self.now)) }
         ensures { (s : Checkpoint (List Op))

@@ -1,13 +1,15 @@
 //! Operations that stand one behind another, and are kept once.
 
-ghost use Rattle.std.specs.Prelude.{◌≡◌, ◌++◌, ◌∷◌, ◌-◌, ◌^◌, List, [], min, length, take, drop, slice_get, OnOk, OnErr};
+ghost use Rattle.std.specs.Prelude.{◌≡◌, ◌++◌, ◌∷◌, ◌-◌, ◌^◌, List, [], min, length, take, drop};
+ghost use Rattle.std.specs.Prelude.{slice_get, OnOk, OnErr};
 ghost use Rattle.std.specs.Option.{option_copied};
 
 use stateful_types::{OutOfMemory, Share};
 use std::alloc::Global;
 use std::marker::Model;
 
-/// Operations in order. The first of all may stand apart, so that a run of one operation takes no memory.
+/// Operations in order. The first of all may stand apart, so that a run of one operation takes no
+/// memory.
 #[derive(Drop)]
 pub struct Run<Op> {
     apart: Option<Op>,

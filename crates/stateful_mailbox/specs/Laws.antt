@@ -1,5 +1,6 @@
 -- What holds of a mailbox whatever calls come.
-use Rattle.std.specs.Prelude.{◌≡◌, ◌≢◌, ℕ, ◌≤◌, ◌==◌, true, if◌then◌else◌, Option, Some, None, Result, Ok, List, [], ◌∷◌, ◌++◌, length, slice_get, All}
+use Rattle.std.specs.Prelude.{◌≡◌, ◌≢◌, ℕ, ◌≤◌, ◌==◌, true, if◌then◌else◌, Option, Some, None}
+use Rattle.std.specs.Prelude.{Result, Ok, List, [], ◌∷◌, ◌++◌, length, slice_get, All}
 use Rattle.std.specs.List.{flat_map, filter_map}
 use Rattle.stateful_types.specs.declared.mailbox.Feedback.{Feedback}
 use Rattle.stateful_types.specs.declared.outcome.Moved.{Moved}
@@ -9,7 +10,8 @@ use Rattle.stateful_history.specs.declared.event.Event.TheVariants as events
 use Rattle.stateful_history.specs.declared.mark.Mark.{Mark}
 use Rattle.stateful_mailbox.specs.Replies.{is_request, note_of, outcome, gone}
 use Rattle.stateful_mailbox.specs.Messages.{kind_of}
-use Rattle.stateful_mailbox.specs.Mail.{Mail, Asks, Takes, cancelled_mail, answered, polled, polled_as, taken_mail}
+use Rattle.stateful_mailbox.specs.Mail.{Mail, Asks, Takes, cancelled_mail, answered, polled}
+use Rattle.stateful_mailbox.specs.Mail.{polled_as, taken_mail}
 use Rattle.stateful_mailbox.specs.declared.message.Ask.{Ask}
 use Rattle.stateful_mailbox.specs.declared.note.Note.{Note}
 use Rattle.stateful_mailbox.specs.declared.note.Note.TheVariants.{Ends, Stops}
@@ -94,16 +96,19 @@ module _ {B C I : Type 0} where
     pub numbers : (before behind : List (Call B C I)) (ask : Ask B C I) (t : ℕ)
         → calls ≡ before ++ asked ask t ∷ behind
         → t ≡ length (flat_map asks_of before)
-    -- a ticket is pending exactly until a mark ends it, and then gives what the first such mark tells, once
+    -- a ticket is pending exactly until a mark ends it, and then gives what the first such mark
+    -- tells, once
     pub replies : (before between behind : List (Call B C I)) (ask : Ask B C I) (t : ℕ)
         (answer : Result (Moved (Reply B)) Stopped)
         → calls ≡ before ++ asked ask t ∷ (between ++ polled_for t answer ∷ behind)
         → All (λ call. HandsReply t call → ⊥) between
         → answer ≡ polled_as (ended_in t (kind_of ask) between)
-    -- a request that is cancelled before it was taken out is never handed out, and the machine isn't told of it
+    -- a request that is cancelled before it was taken out is never handed out, and the machine
+    -- isn't told of it
     pub withdrawn : (before between later behind : List (Call B C I)) (ask : Ask B C I) (t : ℕ)
         (event : Event B C I)
-        → calls ≡ before ++ asked ask t ∷ (between ++ cancelled t ∷ (later ++ taken (Some event) ∷ behind))
+        → calls ≡ before ++ asked ask t
+        ∷ (between ++ cancelled t ∷ (later ++ taken (Some event) ∷ behind))
         → is_request (kind_of ask) ≡ true
         → All (λ call. TakesOut t call → ⊥) between
         → ticket_in event ≢ Some t
@@ -113,11 +118,12 @@ module _ {B C I : Type 0} where
         → ticket_in first ≡ Some t
         → ticket_in second ≡ Some t
         → (first ≢ events.Cancel t) × (second ≡ events.Cancel t)
-    -- a cancel behind its event isn't forgotten, whatever else is cancelled: until it is taken out, what is taken out is a
-    -- cancel of this ticket or of a lower one, unless a mark ends the ticket
+    -- a cancel behind its event isn't forgotten, whatever else is cancelled: until it is taken out,
+    -- what is taken out is a cancel of this ticket or of a lower one, unless a mark ends the ticket
     pub told_of : (before one two three behind : List (Call B C I)) (ask : Ask B C I) (t : ℕ)
         (event : Event B C I) (found : Option (Event B C I))
-        → calls ≡ before ++ asked ask t ∷ (one ++ taken (Some event) ∷ (two ++ cancelled t ∷ (three ++ taken found ∷ behind)))
+        → calls ≡ before ++ asked ask t
+        ∷ (one ++ taken (Some event) ∷ (two ++ cancelled t ∷ (three ++ taken found ∷ behind)))
         → is_request (kind_of ask) ≡ true
         → ticket_in event ≡ Some t
         → All (λ call. TakesOut t call → ⊥) (one ++ two ++ three)
@@ -126,4 +132,5 @@ module _ {B C I : Type 0} where
 
   -- whatever calls follow
   abbrev pub KeepsLaws : Mail B C I → Type 0
-  KeepsLaws first = (calls : List (Call B C I)) (last : Mail B C I) → Runs first calls last → Lawful calls
+  KeepsLaws first =
+      (calls : List (Call B C I)) (last : Mail B C I) → Runs first calls last → Lawful calls

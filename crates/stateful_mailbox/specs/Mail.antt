@@ -1,5 +1,6 @@
 -- What contracts see of a mailbox.
-use Rattle.std.specs.Prelude.{◌≡◌, ℕ, ◌+◌, Bool, true, false, if◌then◌else◌, Option, Some, None, Result, Ok, Err, List, [], ◌∷◌, ◌++◌, filter, fold, All}
+use Rattle.std.specs.Prelude.{◌≡◌, ℕ, ◌+◌, Bool, true, false, if◌then◌else◌, Option, Some, None}
+use Rattle.std.specs.Prelude.{Result, Ok, Err, List, [], ◌∷◌, ◌++◌, filter, fold, All}
 use Rattle.std.specs.List.{filter_map}
 use Rattle.stateful_types.specs.Mailbox.{Queues, queues, messages, IsFilled}
 use Rattle.stateful_types.specs.declared.mailbox.Feedback.{Feedback}
@@ -11,7 +12,9 @@ use Rattle.stateful_history.specs.declared.mark.Mark.{Mark}
 use Rattle.stateful_mailbox.specs.Replies.{note_of}
 use Rattle.stateful_mailbox.specs.Sending.{Sends}
 use Rattle.stateful_mailbox.specs.Messages.{kind_of, event_of, is_not_of, is_none_of}
-use Rattle.stateful_mailbox.specs.Tickets.{Book, empty_book, opened, is_queued, handed_out, cancelled, may_withdraw, first_due, told_due, ended, outcome_of, taken_out, AreBelow}
+use Rattle.stateful_mailbox.specs.Tickets.{Book, empty_book, opened, is_queued, handed_out}
+use Rattle.stateful_mailbox.specs.Tickets.{cancelled, may_withdraw, first_due, told_due, ended}
+use Rattle.stateful_mailbox.specs.Tickets.{outcome_of, taken_out, AreBelow}
 use Rattle.stateful_mailbox.specs.declared.message.Ask.{Ask}
 use Rattle.stateful_mailbox.specs.declared.message.Message.{Message}
 use Rattle.stateful_mailbox.specs.declared.note.Note.{Note}
@@ -29,7 +32,9 @@ abbrev pub mail : {B C I : Type 0} → ℕ → Queues (Message B C I) → Book B
 mail next queue tickets = record { next_ticket = next; queue = queue; tickets = tickets }
 
 -- what is told of a ticket that has ended so, or hasn't
-abbrev pub polled_as : {B : Type 0} → Option (Result (Reply B) Stopped) → Result (Moved (Reply B)) Stopped
+abbrev pub polled_as : {B : Type 0}
+    → Option (Result (Reply B) Stopped)
+    → Result (Moved (Reply B)) Stopped
 polled_as None = Ok Pending
 polled_as (Some (Ok reply)) = Ok (Done reply)
 polled_as (Some (Err stopped)) = Err stopped
@@ -43,7 +48,8 @@ module _ {B C I : Type 0} where
   message_of t ask = record { ticket = t; ask = ask }
 
   -- what is asked for is on its way, and its ticket is drawn
-  pub record Asks (m : Mail B C I) (ask : Ask B C I) (feedback : Feedback) (ticket : ℕ) (next : Mail B C I) : Type 0 where
+  pub record Asks (m : Mail B C I) (ask : Ask B C I) (feedback : Feedback) (ticket : ℕ)
+      (next : Mail B C I) : Type 0 where
     pub drawn : ticket ≡ m.next_ticket
     pub sends : Sends m.queue (message_of ticket ask) feedback next.queue
     pub others : next ≡ mail (ticket + 1) next.queue (opened m.tickets ticket (kind_of ask))
@@ -74,15 +80,17 @@ module _ {B C I : Type 0} where
         → messages queue ≡ []
         → SameShape m.queue queue
         → HandsOut m None (record m { queue = queue })
-    message : {queue : Queues (Message B C I)} {first : Message B C I} (passed : List (Message B C I))
+    message : {queue : Queues (Message B C I)} {first : Message B C I}
+        (passed : List (Message B C I))
         → messages m.queue ≡ passed ++ first ∷ messages queue
         → All (IsPassed m.tickets) passed
         → is_queued m.tickets first.ticket ≡ true
         → SameShape m.queue queue
         → HandsOut m (Some first) (record m { queue = queue })
 
-  -- The machine is told of the least ticket that was cancelled behind its event and of which it wasn't told yet. Where
-  -- there is none, the first message that is still to be handed out is, if there is one.
+  -- The machine is told of the least ticket that was cancelled behind its event and of which it
+  -- wasn't told yet. Where there is none, the first message that is still to be handed out is, if
+  -- there is one.
   pub data Takes (m : Mail B C I) : Option (Event B C I) → Mail B C I → Type 0 where
     cancel : {t : ℕ}
         → first_due m.tickets ≡ Some t
@@ -90,7 +98,8 @@ module _ {B C I : Type 0} where
     event : {message : Message B C I} {next : Mail B C I}
         → first_due m.tickets ≡ None
         → HandsOut m (Some message) next
-        → Takes m (Some (event_of message)) (record next { tickets = handed_out m.tickets message.ticket })
+        → Takes m (Some (event_of message))
+        (record next { tickets = handed_out m.tickets message.ticket })
     nothing : {next : Mail B C I}
         → first_due m.tickets ≡ None
         → HandsOut m None next
@@ -99,7 +108,9 @@ module _ {B C I : Type 0} where
   -- a ticket is ended, or all are, and then no message takes room any more
   abbrev pub noted : Mail B C I → Note B → Mail B C I
   noted m (Ends t answer) = record m { tickets = ended m.tickets t answer }
-  noted m Stops = mail m.next_ticket (with_waiting is_none_of m.queue) (record m.tickets { stopped = m.next_ticket })
+  noted m Stops =
+      mail m.next_ticket (with_waiting is_none_of m.queue)
+      (record m.tickets { stopped = m.next_ticket })
 
   -- what the marks tell of tickets is noted, one behind the other
   abbrev pub answered : Mail B C I → List (Mark B) → Mail B C I
@@ -113,7 +124,8 @@ module _ {B C I : Type 0} where
   abbrev pub taken_mail : Mail B C I → ℕ → Mail B C I
   taken_mail m t = record m { tickets = taken_out m.tickets t }
 
-  -- The mailbox is never closed, messages wait only where no more may be ready, and no ticket is there that wasn't drawn.
+  -- The mailbox is never closed, messages wait only where no more may be ready, and no ticket is
+  -- there that wasn't drawn.
   pub record IsSound (m : Mail B C I) : Type 0 where
     pub still_open : m.queue.closed ≡ false
     pub filled : IsFilled m.queue

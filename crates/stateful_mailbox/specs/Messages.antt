@@ -5,7 +5,8 @@ use Rattle.stateful_history.specs.declared.event.Event.TheVariants as events
 use Rattle.stateful_mailbox.specs.declared.reply.Kind.{Kind}
 use Rattle.stateful_mailbox.specs.declared.reply.Kind.TheVariants as kinds
 use Rattle.stateful_mailbox.specs.declared.message.Ask.{Ask}
-use Rattle.stateful_mailbox.specs.declared.message.Ask.TheVariants.{Prepare, Propose, Verify, Report, Subscribe}
+use Rattle.stateful_mailbox.specs.declared.message.Ask.TheVariants.{Prepare, Propose, Verify}
+use Rattle.stateful_mailbox.specs.declared.message.Ask.TheVariants.{Report, Subscribe}
 use Rattle.stateful_mailbox.specs.declared.message.Message.{Message}
 
 module _ {B C I : Type 0} where

@@ -5,12 +5,15 @@ use Rattle.stateful_history.specs.declared.mark.Decision.TheVariants as decision
 use Rattle.stateful_history.specs.declared.mark.Mark.{Mark}
 use Rattle.stateful_history.specs.declared.mark.Mark.TheVariants as marks
 use Rattle.stateful_mailbox.specs.declared.reply.Kind.{Kind}
-use Rattle.stateful_mailbox.specs.declared.reply.Kind.TheVariants.{Prepare, Propose, Verify, Report, Subscribe}
+use Rattle.stateful_mailbox.specs.declared.reply.Kind.TheVariants.{Prepare, Propose, Verify, Report}
+use Rattle.stateful_mailbox.specs.declared.reply.Kind.TheVariants.{Subscribe}
 use Rattle.stateful_mailbox.specs.declared.reply.Reply.{Reply}
 use Rattle.stateful_mailbox.specs.declared.reply.Reply.TheVariants as replies
 use Rattle.stateful_mailbox.specs.declared.reply.Stopped.{Stopped}
 use Rattle.stateful_mailbox.specs.declared.note.Answer.{Answer}
-use Rattle.stateful_mailbox.specs.declared.note.Answer.TheVariants.{Verdict, Built, Declined, Databases, Acknowledged, Dropped}
+use Rattle.stateful_mailbox.specs.declared.note.Answer.TheVariants.{Verdict, Built, Declined}
+use Rattle.stateful_mailbox.specs.declared.note.Answer.TheVariants.{Databases, Acknowledged}
+use Rattle.stateful_mailbox.specs.declared.note.Answer.TheVariants.{Dropped}
 use Rattle.stateful_mailbox.specs.declared.note.Note.{Note}
 use Rattle.stateful_mailbox.specs.declared.note.Note.TheVariants.{Ends, Stops}
 

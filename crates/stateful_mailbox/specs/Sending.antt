@@ -11,5 +11,7 @@ module _ {T : Type 0} where
 
   -- the message is ready, or it waits behind all that wait
   pub data Sends (queue : Queues T) (message : T) : Feedback → Queues T → Type 0 where
-    ready : HasRoom queue → Sends queue message Ok (record queue { ready = queue.ready ++ message ∷ [] })
-    waits : IsBusy queue → Sends queue message Backoff (record queue { overflow = in_order queue.overflow message })
+    ready : HasRoom queue
+        → Sends queue message Ok (record queue { ready = queue.ready ++ message ∷ [] })
+    waits : IsBusy queue
+        → Sends queue message Backoff (record queue { overflow = in_order queue.overflow message })

@@ -1,5 +1,7 @@
 -- How the tickets of a mailbox stand.
-use Rattle.std.specs.Prelude.{◌≡◌, ℕ, ◌≤◌, nat_lt, nat_le, ◌&&◌, Bool, true, false, not, if◌then◌else◌, Option, Some, None, is_some, option_map, Result, List, []}
+use Rattle.std.specs.Prelude.{◌≡◌, ℕ, ◌≤◌, nat_lt, nat_le, ◌&&◌, Bool, true, false, not}
+use Rattle.std.specs.Prelude.{if◌then◌else◌, Option, Some, None, is_some, option_map, Result, List}
+use Rattle.std.specs.Prelude.{[]}
 use Rattle.std.specs.List.{find}
 use Rattle.stateful_table.specs.Table.{at, put, without}
 use Rattle.stateful_mailbox.specs.Replies.{is_request, outcome, gone}
@@ -9,9 +11,11 @@ use Rattle.stateful_mailbox.specs.declared.reply.Reply.{Reply}
 use Rattle.stateful_mailbox.specs.declared.reply.Stopped.{Stopped}
 use Rattle.stateful_mailbox.specs.declared.tickets.Ticket.{Ticket}
 use Rattle.stateful_mailbox.specs.declared.tickets.Standing.{Standing}
-use Rattle.stateful_mailbox.specs.declared.tickets.Standing.TheVariants.{Queued, Handed, Due, Cancelled, Ended}
+use Rattle.stateful_mailbox.specs.declared.tickets.Standing.TheVariants.{Queued, Handed, Due}
+use Rattle.stateful_mailbox.specs.declared.tickets.Standing.TheVariants.{Cancelled, Ended}
 
--- The tickets whose end wasn't handed out yet. Those below a number were ended by a stop, unless they had ended before.
+-- The tickets whose end wasn't handed out yet. Those below a number were ended by a stop, unless
+-- they had ended before.
 pub record Book (B : Type 0) : Type 0 where
   pub entries : List (ℕ × Ticket B)
   pub stopped : ℕ
@@ -52,7 +56,8 @@ module _ {B : Type 0} where
 
   abbrev pub cancelling : Option (Ticket B) → Option (Ticket B)
   cancelling None = None
-  cancelling (Some ticket) = if is_request ticket.kind then cancelling_from ticket.kind ticket.standing else None
+  cancelling (Some ticket) =
+      if is_request ticket.kind then cancelling_from ticket.kind ticket.standing else None
 
   -- what becomes of a ticket of whose cancelling the machine is told
   abbrev pub telling : Option (Ticket B) → Option (Ticket B)
@@ -66,17 +71,22 @@ module _ {B : Type 0} where
   -- what becomes of a ticket that is answered so, if that ends it
   abbrev pub ending : Answer B → Option (Ticket B) → Option (Ticket B)
   ending answer None = None
-  ending answer (Some ticket) = if is_some (end_of ticket.standing) then None else ended_by ticket.kind (outcome ticket.kind answer)
+  ending answer (Some ticket) =
+      if is_some (end_of ticket.standing) then None
+      else ended_by ticket.kind (outcome ticket.kind answer)
 
   -- how a ticket ended by a stop, if it wasn't ended before
-  abbrev pub end_by_stop : Ticket B → Option (Result (Reply B) Stopped) → Option (Result (Reply B) Stopped)
+  abbrev pub end_by_stop : Ticket B
+      → Option (Result (Reply B) Stopped)
+      → Option (Result (Reply B) Stopped)
   end_by_stop ticket None = Some (gone ticket.kind)
   end_by_stop ticket (Some outcome) = Some outcome
 
   -- how a ticket has ended, if it has
   abbrev pub outcome_from : Bool → Option (Ticket B) → Option (Result (Reply B) Stopped)
   outcome_from was_stopped None = None
-  outcome_from was_stopped (Some ticket) = if was_stopped then end_by_stop ticket (end_of ticket.standing) else end_of ticket.standing
+  outcome_from was_stopped (Some ticket) =
+      if was_stopped then end_by_stop ticket (end_of ticket.standing) else end_of ticket.standing
 
   abbrev pub is_queued_from : Bool → Option (Ticket B) → Bool
   is_queued_from was_stopped None = false
@@ -113,8 +123,8 @@ module _ {B : Type 0} where
   abbrev pub handed_out : Book B → ℕ → Book B
   handed_out k t = moved k t (handing (at k.entries t))
 
-  -- The ticket is cancelled, unless it is that of a receipt, has ended or isn't there. Where its message was handed out, the
-  -- machine is to be told.
+  -- The ticket is cancelled, unless it is that of a receipt, has ended or isn't there. Where its
+  -- message was handed out, the machine is to be told.
   abbrev pub cancelled : Book B → ℕ → Book B
   cancelled k t = if was_stopped k t then k else moved k t (cancelling (at k.entries t))
 

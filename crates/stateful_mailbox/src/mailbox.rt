@@ -3,7 +3,8 @@
 ghost use Rattle.std.specs.Prelude.{◌≡◌, ◌-◌, ◌^◌, ◌≤◌, ◌↔◌, [], false, IfOk, OnOk, OnErr, IsErrOf};
 ghost use Rattle.stateful_mailbox.specs.declared.message.Ask.TheVariants as asks;
 ghost use Rattle.stateful_mailbox.specs.Laws.{KeepsLaws};
-ghost use Rattle.stateful_mailbox.specs.Mail.{empty_mail, Asks, cancelled_mail, Takes, HandsOut, noted, answered, polled, taken_mail};
+ghost use Rattle.stateful_mailbox.specs.Mail.{empty_mail, Asks, cancelled_mail, Takes, HandsOut};
+ghost use Rattle.stateful_mailbox.specs.Mail.{noted, answered, polled, taken_mail};
 
 use crate::message::{Ask, Message, NoMessage, NotOf};
 use crate::note::{Note, notes};
@@ -15,11 +16,12 @@ use std::alloc::Global;
 use std::collections::VecDeque;
 use std::marker::Model;
 
-/// What is asked of a machine, on its way there, and what became of it, over blocks `B`, contexts `C` and inputs `I`.
+/// What is asked of a machine, on its way there, and what became of it, over blocks `B`, contexts
+/// `C` and inputs `I`.
 ///
-/// It draws a ticket for each request and each receipt, from 0 on. A request that is cancelled before its event was taken
-/// out is never handed out; behind that the machine is told of it. A mark ends a ticket that no earlier mark has ended, and
-/// a stop ends them all.
+/// It draws a ticket for each request and each receipt, from 0 on. A request that is cancelled
+/// before its event was taken out is never handed out; behind that the machine is told of it. A
+/// mark ends a ticket that no earlier mark has ended, and a stop ends them all.
 #[derive(Drop)]
 pub struct Mailbox<B: Drop, C: Drop, I: Drop> {
     alloc: Global,
@@ -39,7 +41,8 @@ impl<B: Drop, C: Drop, I: Drop> Model for Mailbox<B, C, I> {
 }
 
 impl<B: Drop, C: Drop, I: Drop> Mailbox<B, C, I> {
-    /// An empty mailbox, in which so many messages are ready at most. Further ones wait behind them.
+    /// An empty mailbox, in which so many messages are ready at most. Further ones wait behind
+    /// them.
     pub fn new(alloc: Global, capacity: usize) -> Result<Mailbox<B, C, I>, OutOfMemory>
         requires { 1 ≤ capacity }
         ensures empty { IfOk result (λ mailbox. mailbox ≡ empty_mail capacity) }
@@ -152,7 +155,8 @@ impl<B: Drop, C: Drop, I: Drop> Mailbox<B, C, I> {
         }
     }
 
-    /// Cancels a request. A receipt, a ticket that has ended and one that wasn't drawn here stay what they are.
+    /// Cancels a request. A receipt, a ticket that has ended and one that wasn't drawn here stay
+    /// what they are.
     pub fn cancel(&mut self, ticket: u64)
         ensures { self.new ≡ cancelled_mail self.old ticket }
     {
@@ -161,8 +165,8 @@ impl<B: Drop, C: Drop, I: Drop> Mailbox<B, C, I> {
         }
     }
 
-    /// Takes out the next event: first those that tell of cancels, by ascending tickets, and then what was asked for, in
-    /// that order. None exactly where nothing waits.
+    /// Takes out the next event: first those that tell of cancels, by ascending tickets, and then
+    /// what was asked for, in that order. None exactly where nothing waits.
     pub fn take(&mut self) -> Option<Event<B, C, I>>
         ensures { Takes self.old result self.new }
     {
@@ -212,8 +216,9 @@ impl<B: Drop, C: Drop, I: Drop> Mailbox<B, C, I> {
         }
     }
 
-    /// Hands out what became of a ticket, once. It is pending where no mark has ended it. It is refused where one did so
-    /// without an answer, and a verification or a subscription was asked for.
+    /// Hands out what became of a ticket, once. It is pending where no mark has ended it. It is
+    /// refused where one did so without an answer, and a verification or a subscription was asked
+    /// for.
     pub fn poll(&mut self, ticket: u64) -> Result<Moved<Reply<B>>, Stopped>
         ensures answer { result ≡ polled self.old ticket }
         ensures once { self.new ≡ taken_mail self.old ticket }

@@ -63,7 +63,8 @@ fn ancestry(alloc: Global, letter: u8) -> Result<Ancestry<Letter>, OutOfMemory> 
     })
 }
 
-/// What a mailbox hands out: of what kind it is, with its ticket and its block's letter, where it has one.
+/// What a mailbox hands out: of what kind it is, with its ticket and its block's letter, where it
+/// has one.
 #[derive(Clone, Copy, Debug, PartialEq, Eq)]
 enum Taken {
     Prepare(u64, u8),

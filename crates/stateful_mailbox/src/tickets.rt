@@ -2,7 +2,9 @@
 
 ghost use Rattle.std.specs.Prelude.{◌≡◌, IsSome, OnOk, OnErr};
 ghost use Rattle.stateful_table.specs.Table.{at, put, without};
-ghost use Rattle.stateful_mailbox.specs.Tickets.{empty_book, ticket_of, opened, is_queued, handed_out, cancelled, may_withdraw, first_due, told_due, ended, outcome_of, taken_out};
+ghost use Rattle.stateful_mailbox.specs.Tickets.{empty_book, ticket_of, opened, is_queued};
+ghost use Rattle.stateful_mailbox.specs.Tickets.{handed_out, cancelled, may_withdraw, first_due};
+ghost use Rattle.stateful_mailbox.specs.Tickets.{told_due, ended, outcome_of, taken_out};
 
 use crate::note::{Answer, Outcome, gone, outcome};
 use crate::reply::Kind;
@@ -33,7 +35,8 @@ pub(crate) struct Ticket<B> {
     pub(crate) standing: Standing<B>,
 }
 
-/// The tickets whose end wasn't handed out yet. Those below a number were ended by a stop, unless they had ended before.
+/// The tickets whose end wasn't handed out yet. Those below a number were ended by a stop, unless
+/// they had ended before.
 #[derive(Drop)]
 pub(crate) struct Tickets<B> {
     entries: Table<Ticket<B>>,
@@ -79,7 +82,8 @@ impl<B: Drop> Tickets<B> {
         self.entries.remove(ticket);
     }
 
-    /// Whether the message of a ticket is still to be handed out: it was neither cancelled nor ended.
+    /// Whether the message of a ticket is still to be handed out: it was neither cancelled nor
+    /// ended.
     pub(crate) fn is_queued(&self, ticket: u64) -> bool
         ensures { result ≡ is_queued self.now ticket }
     {
@@ -102,8 +106,8 @@ impl<B: Drop> Tickets<B> {
         }
     }
 
-    /// Cancels a ticket. A receipt, a ticket that has ended and one that isn't there stay what they are. Tells whether its
-    /// message was still to be handed out, and isn't now.
+    /// Cancels a ticket. A receipt, a ticket that has ended and one that isn't there stay what they
+    /// are. Tells whether its message was still to be handed out, and isn't now.
     pub(crate) fn cancel(&mut self, ticket: u64) -> bool
         ensures tickets { self.new ≡ cancelled self.old ticket }
         ensures withdrawn { result ≡ may_withdraw self.old ticket }
@@ -156,7 +160,8 @@ impl<B: Drop> Tickets<B> {
         None
     }
 
-    /// A ticket is answered. That ends it, unless it has ended, or isn't there, or this is no answer to it.
+    /// A ticket is answered. That ends it, unless it has ended, or isn't there, or this is no
+    /// answer to it.
     pub(crate) fn end(&mut self, ticket: u64, answer: Answer<B>)
         ensures { self.new ≡ ended self.old ticket answer }
     {

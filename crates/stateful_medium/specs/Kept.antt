@@ -10,7 +10,8 @@ use Rattle.stateful_medium.specs.declared.calls.Calls.{Calls}
 module _ {X : Type 0} where
   -- checkpoints as a disk
   abbrev pub disk_in : Checkpoints X → Disk (Checkpoint X)
-  disk_in c = record { older = c.older.items; newest = c.newest; pruned = c.pruned; durable = c.durable }
+  disk_in c =
+      record { older = c.older.items; newest = c.newest; pruned = c.pruned; durable = c.durable }
 
   -- the checkpoints of a medium
   abbrev pub disk_of : Medium X → Disk (Checkpoint X)

@@ -1,5 +1,6 @@
 -- The tokens that are out, against the places of checkpoints.
-use Rattle.std.proofs.Common.{◌≡◌, ℕ, zero, suc, ◌<◌, ◌==◌, true, false, List, [], ◌∷◌, ◌++◌, length, Contains, slice_index_or, arith, inl, inr, ◌≤◌}
+use Rattle.std.proofs.Common.{◌≡◌, ℕ, zero, suc, ◌<◌, ◌==◌, true, false, List, [], ◌∷◌, ◌++◌}
+use Rattle.std.proofs.Common.{length, Contains, slice_index_or, arith, inl, inr, ◌≤◌}
 use Rattle.std.specs.Bool.{if◌then◌else◌}
 use Rattle.std.proofs.lemmas.List.Elements.{Contains-append_cases}
 use Rattle.stateful_db.specs.Tokens.{without}
@@ -16,12 +17,21 @@ Contains-without p x (y ∷ xs) h =
       | false ↦ λ (k, within, is). kept y x xs (without p xs) (Contains-without p x xs) k within is
     ] h
   where
-    kept : (y x : ℕ) (xs ys : List ℕ) → (Contains ys x → Contains xs x) → (k : ℕ) → k < length (y ∷ ys) → slice_index_or (y ∷ ys) k x ≡ x → Contains (y ∷ xs) x
+    kept : (y x : ℕ) (xs ys : List ℕ)
+        → (Contains ys x → Contains xs x)
+        → (k : ℕ)
+        → k < length (y ∷ ys)
+        → slice_index_or (y ∷ ys) k x ≡ x
+        → Contains (y ∷ xs) x
     kept y x xs ys rest zero within is = (zero, omega arith, is)
     kept y x xs ys rest (suc k) within is = behind y x xs (rest (k, omega arith, is))
 
 -- no token is later than a place, where none that was out before is, and the new one isn't
-pub no_later_put : (new place : ℕ) (xs : List ℕ) (x : ℕ) → ((y : ℕ) → Contains xs y → y ≤ place) → new ≤ place → Contains (xs ++ new ∷ []) x → x ≤ place
+pub no_later_put : (new place : ℕ) (xs : List ℕ) (x : ℕ)
+    → ((y : ℕ) → Contains xs y → y ≤ place)
+    → new ≤ place
+    → Contains (xs ++ new ∷ []) x
+    → x ≤ place
 no_later_put new place xs x before below out =
     elim (Contains-append_cases xs (new ∷ []) x out) [
       | inl h ↦ before x h

@@ -1,6 +1,8 @@
-//! Changes of an open database that keep a call: they fail exactly where the call is listed as a failing one.
+//! Changes of an open database that keep a call: they fail exactly where the call is listed as a
+//! failing one.
 
-ghost use Rattle.std.specs.Prelude.{◌≡◌, ◌≢◌, ◌≤◌, ◌<◌, ◌+◌, ◌∷◌, ◌++◌, [], ◌↔◌, length, Contains, IfOk, IfErr, IsErrAnd};
+ghost use Rattle.std.specs.Prelude.{◌≡◌, ◌≢◌, ◌≤◌, ◌<◌, ◌+◌, ◌∷◌, ◌++◌, [], ◌↔◌, length, Contains};
+ghost use Rattle.std.specs.Prelude.{IfOk, IfErr, IsErrAnd};
 ghost use Rattle.stateful_types.specs.Causes.{Rose};
 ghost use Rattle.stateful_db.specs.Disk.{place, applied, flushed, cut};
 ghost use Rattle.stateful_db.specs.Tokens.{without};
@@ -13,8 +15,8 @@ use crate::opened::Opened;
 use stateful_db::{Broken, DbCall, FlushToken, Why};
 
 impl<X: Drop> Opened<X> {
-    /// Adds the checkpoint of a batch that is applied. Where its range doesn't end behind that of the newest, or starts
-    /// before it, it is refused as if memory were wanting.
+    /// Adds the checkpoint of a batch that is applied. Where its range doesn't end behind that of
+    /// the newest, or starts before it, it is refused as if memory were wanting.
     pub fn apply(self, id: u64, state: Checkpoint<X>) -> Result<Opened<X>, Broken<Medium<X>>>
         ensures ok { IfOk result (λ o. standing_of o
             ≡ record (standing_of self) { id = id; disk = applied (standing_of self).disk state }) }
@@ -30,7 +32,8 @@ impl<X: Drop> Opened<X> {
         ensures err_called { IfErr result (λ b.
             Called DbCall.Apply (calls_of (medium_of self)) (calls_of b.medium)) }
         ensures failed { IfErr result (λ b.
-            b.why ≡ Why.Failed → Rose (calls_of (medium_of self)).faults (calls_of b.medium).faults) }
+            b.why ≡ Why.Failed
+            → Rose (calls_of (medium_of self)).faults (calls_of b.medium).faults) }
         ensures listed { IsErrAnd result (λ b. b.why ≡ Why.Failed)
             ↔ IsListed (calls_of (medium_of self)) DbCall.Apply }
     {
@@ -65,7 +68,8 @@ impl<X: Drop> Opened<X> {
         ensures err_called { IfErr result (λ b.
             Called DbCall.Finalize (calls_of (medium_of self)) (calls_of b.medium)) }
         ensures failed { IfErr result (λ b.
-            b.why ≡ Why.Failed → Rose (calls_of (medium_of self)).faults (calls_of b.medium).faults) }
+            b.why ≡ Why.Failed
+            → Rose (calls_of (medium_of self)).faults (calls_of b.medium).faults) }
         ensures listed { IsErrAnd result (λ b. b.why ≡ Why.Failed)
             ↔ IsListed (calls_of (medium_of self)) DbCall.Finalize }
         ensures memory { IfErr result (λ b. b.why ≢ Why.OutOfMemory) }
@@ -97,7 +101,8 @@ impl<X: Drop> Opened<X> {
         ensures err_called { IfErr result (λ b.
             Called DbCall.Flush (calls_of (medium_of self)) (calls_of b.medium)) }
         ensures failed { IfErr result (λ b.
-            b.why ≡ Why.Failed → Rose (calls_of (medium_of self)).faults (calls_of b.medium).faults) }
+            b.why ≡ Why.Failed
+            → Rose (calls_of (medium_of self)).faults (calls_of b.medium).faults) }
         ensures listed { IsErrAnd result (λ b. b.why ≡ Why.Failed)
             ↔ IsListed (calls_of (medium_of self)) DbCall.Flush }
         ensures memory { IfErr result (λ b. b.why ≢ Why.OutOfMemory) }
@@ -110,7 +115,8 @@ impl<X: Drop> Opened<X> {
         Ok(opened)
     }
 
-    /// Takes no memory. Drops so many of the oldest checkpoints. The durable one stays, and no token may be out.
+    /// Takes no memory. Drops so many of the oldest checkpoints. The durable one stays, and no
+    /// token may be out.
     pub fn prune_first(self, count: usize) -> Result<Opened<X>, Broken<Medium<X>>>
         requires idle { (standing_of self).out ≡ [] }
         requires within { count ≤ length (standing_of self).disk.older }
@@ -129,7 +135,8 @@ impl<X: Drop> Opened<X> {
         ensures err_called { IfErr result (λ b.
             Called DbCall.Prune (calls_of (medium_of self)) (calls_of b.medium)) }
         ensures failed { IfErr result (λ b.
-            b.why ≡ Why.Failed → Rose (calls_of (medium_of self)).faults (calls_of b.medium).faults) }
+            b.why ≡ Why.Failed
+            → Rose (calls_of (medium_of self)).faults (calls_of b.medium).faults) }
         ensures listed { IsErrAnd result (λ b. b.why ≡ Why.Failed)
             ↔ IsListed (calls_of (medium_of self)) DbCall.Prune }
         ensures memory { IfErr result (λ b. b.why ≢ Why.OutOfMemory) }

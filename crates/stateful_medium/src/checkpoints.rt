@@ -1,6 +1,7 @@
 //! The kept checkpoints of a medium.
 
-ghost use Rattle.std.specs.Prelude.{◌≡◌, ◌==◌, ◌≤◌, ◌<◌, ◌+◌, ◌^◌, [], ◌∷◌, ◌++◌, length, position, take, OnOk, OnErr, IsTrue, ◌↔◌};
+ghost use Rattle.std.specs.Prelude.{◌≡◌, ◌==◌, ◌≤◌, ◌<◌, ◌+◌, ◌^◌, [], ◌∷◌, ◌++◌, length, position};
+ghost use Rattle.std.specs.Prelude.{take, OnOk, OnErr, IsTrue, ◌↔◌};
 ghost use Rattle.stateful_medium.specs.Orders.{Ascend, Ascend-prop};
 ghost use Rattle.stateful_medium.specs.Ranged.{range_of};
 
@@ -25,8 +26,9 @@ impl<X> Checkpoint<X> {
     }
 }
 
-/// The kept checkpoints, oldest first, the number of older ones that were pruned, and the place of the last durable one.
-/// Places count the pruned ones too. Ranges ascend, and the durable one is kept.
+/// The kept checkpoints, oldest first, the number of older ones that were pruned, and the place of
+/// the last durable one. Places count the pruned ones too. Ranges ascend, and the durable one is
+/// kept.
 #[derive(Drop)]
 pub struct Checkpoints<X> {
     older: Vec<Checkpoint<X>>,
@@ -163,8 +165,8 @@ impl<X: Drop> Checkpoints<X> {
         keep_first(&mut self.older, &mut self.newest, count);
     }
 
-    /// One more. Where its range doesn't end behind that of the newest, or starts before it, it is refused as if memory
-    /// were wanting.
+    /// One more. Where its range doesn't end behind that of the newest, or starts before it, it is
+    /// refused as if memory were wanting.
     pub fn push(&mut self, state: Checkpoint<X>) -> Result<(), AllocError>
         ensures ok { OnOk result (disk_in self.new ≡ applied (disk_in self.old) state) }
         ensures err { OnErr result (disk_in self.new ≡ disk_in self.old) }

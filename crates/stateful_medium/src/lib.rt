@@ -1,5 +1,6 @@
-//! What media of databases have in common, whatever is kept of a checkpoint: the checkpoints in order, the next batch
-//! id, the calls with those that fail, and the tokens that are out at an open database.
+//! What media of databases have in common, whatever is kept of a checkpoint: the checkpoints in
+//! order, the next batch id, the calls with those that fail, and the tokens that are out at an open
+//! database.
 #![tactic(auto)]
 
 mod calls;

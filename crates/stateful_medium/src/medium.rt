@@ -9,7 +9,8 @@ use stateful_db::{DbCall, InitError, Tokens};
 use stateful_types::{Faulty, Location, Target};
 use std::alloc::Global;
 
-/// The kept checkpoints, and the next batch id. Of the calls of databases that are made on it, those that it lists fail.
+/// The kept checkpoints, and the next batch id. Of the calls of databases that are made on it,
+/// those that it lists fail.
 #[derive(Drop)]
 pub struct Medium<X> {
     pub(crate) checkpoints: Checkpoints<X>,
@@ -27,17 +28,20 @@ impl<X: Drop> Faulty for Medium<X> {
 }
 
 impl<X: Drop> Medium<X> {
-    ghost use Rattle.std.specs.Prelude.{◌≡◌, ◌≢◌, ◌↔◌, ◌⊎◌, ◌+◌, ◌≤◌, [], length, slice_get, Some, ◌==◌, position, IsTrue, IfOk, IfErr, IsErrAnd};
+    ghost use Rattle.std.specs.Prelude.{◌≡◌, ◌≢◌, ◌↔◌, ◌⊎◌, ◌+◌, ◌≤◌, [], length, slice_get, Some};
+    ghost use Rattle.std.specs.Prelude.{◌==◌, position, IsTrue, IfOk, IfErr, IsErrAnd};
     ghost use Rattle.stateful_types.specs.Causes.{Rose};
     ghost use Rattle.stateful_db.specs.Disk.{all, IsCrash};
     ghost use Rattle.stateful_db.specs.Reopening.{FailsToReopen, HasNone, OpensAt};
     ghost use Rattle.stateful_db.specs.declared.database.DbCall.{DbCall};
     ghost use Rattle.stateful_medium.specs.Called.{number_of, IsListed, Called};
     ghost use Rattle.stateful_medium.specs.Ranged.{range_of};
-    ghost use Rattle.stateful_medium.specs.Kept.{disk_of, next_of, calls_of, medium_of, standing_of};
+    ghost use Rattle.stateful_medium.specs.Kept.{disk_of, next_of, calls_of, medium_of};
+    ghost use Rattle.stateful_medium.specs.Kept.{standing_of};
     ghost use Rattle.stateful_medium.specs.Openings.{IsNumberOf};
 
-    /// A medium with one checkpoint. The calls that are listed, by kind and by number from 0 on, fail.
+    /// A medium with one checkpoint. The calls that are listed, by kind and by number from 0 on,
+    /// fail.
     pub fn new(alloc: Global, first: Checkpoint<X>, failing: Vec<(DbCall, u64)>) -> Medium<X>
         requires { 0 < first.target.end.0 }
         ensures disk { disk_of result
@@ -71,8 +75,9 @@ impl<X: Drop> Medium<X> {
         self.calls.fails(call)
     }
 
-    /// The number of the kept checkpoint of this target, or of the latest. This is a call of the kind `Init`; `Database`
-    /// exactly where it is listed as a failing one, or no kept checkpoint has the expected end.
+    /// The number of the kept checkpoint of this target, or of the latest. This is a call of the
+    /// kind `Init`; `Database` exactly where it is listed as a failing one, or no kept checkpoint
+    /// has the expected end.
     pub fn number_to_open(&mut self, expected: Option<Target>) -> Result<usize, InitError>
         ensures ok { IfOk result (λ n. IsNumberOf range_of (λ t. t) expected (disk_of self.old) n) }
         ensures within { IfOk result (λ n. n < length (all (disk_of self.old))) }
@@ -94,10 +99,7 @@ impl<X: Drop> Medium<X> {
         if self.fails(DbCall::Init) {
             return Err(InitError::Database);
         }
-        match self.checkpoints.number_to_open(expected) {
-            Ok(number) => Ok(number),
-            Err(why) => Err(why),
-        }
+        self.checkpoints.number_to_open(expected)
     }
 
     /// The number of the first kept checkpoint whose range has this end.

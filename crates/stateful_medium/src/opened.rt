@@ -8,7 +8,8 @@ use stateful_db::{Broken, DbCall, Exhausted, FlushToken, Tokens, Why};
 use stateful_types::{Faulty, Location};
 use std::alloc::{AllocError, Global};
 
-/// The id of the last applied batch, the tokens that are out, which name places of kept checkpoints, and the medium.
+/// The id of the last applied batch, the tokens that are out, which name places of kept
+/// checkpoints, and the medium.
 #[derive(Drop)]
 pub struct Opened<X> {
     pub(crate) id: u64,
@@ -27,13 +28,15 @@ impl<X: Drop> Faulty for Opened<X> {
 }
 
 impl<X: Drop> Opened<X> {
-    ghost use Rattle.std.specs.Prelude.{◌≡◌, ◌-◌, ◌^◌, ◌<◌, ◌↔◌, ◌∷◌, ◌++◌, [], ◌==◌, position, slice_get, Some, IfOk, IfErr, OnOk, OnErr};
+    ghost use Rattle.std.specs.Prelude.{◌≡◌, ◌-◌, ◌^◌, ◌<◌, ◌↔◌, ◌∷◌, ◌++◌, [], ◌==◌, position};
+    ghost use Rattle.std.specs.Prelude.{slice_get, Some, IfOk, IfErr, OnOk, OnErr};
     ghost use Rattle.stateful_db.specs.Disk.{all, place, applied, flushed, cut};
     ghost use Rattle.stateful_db.specs.Tokens.{without};
     ghost use Rattle.stateful_types.specs.Causes.{Rose};
     ghost use Rattle.stateful_db.specs.declared.database.DbCall.{DbCall};
     ghost use Rattle.stateful_medium.specs.Called.{IsListed, Called};
-    ghost use Rattle.stateful_medium.specs.Kept.{disk_of, next_of, calls_of, medium_of, standing_of};
+    ghost use Rattle.stateful_medium.specs.Kept.{disk_of, next_of, calls_of, medium_of};
+    ghost use Rattle.stateful_medium.specs.Kept.{standing_of};
 
     /// The id of the last applied batch.
     pub fn id(&self) -> u64
@@ -121,8 +124,8 @@ impl<X: Drop> Opened<X> {
         Ok(id)
     }
 
-    /// Adds the checkpoint of a batch that is applied. Where its range doesn't end behind that of the newest, or starts
-    /// before it, it is refused as if memory were wanting.
+    /// Adds the checkpoint of a batch that is applied. Where its range doesn't end behind that of
+    /// the newest, or starts before it, it is refused as if memory were wanting.
     pub fn push(&mut self, id: u64, state: Checkpoint<X>) -> Result<(), AllocError>
         ensures ok { OnOk result (standing_of self.new
             ≡ record (standing_of self.old)

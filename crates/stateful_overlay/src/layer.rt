@@ -7,7 +7,8 @@ use std::alloc::Global;
 use std::marker::Model;
 use std::sync::Arc;
 
-/// The id of a sealed batch, and its changes, which its copies share. Contracts see the id with the changes.
+/// The id of a sealed batch, and its changes, which its copies share. Contracts see the id with the
+/// changes.
 #[derive(Drop)]
 pub struct Layer<C> {
     id: u64,

@@ -1,6 +1,7 @@
 //! The layers of a chain.
 
-ghost use Rattle.std.specs.Prelude.{◌≡◌, ◌==◌, ◌∷◌, [], ◌++◌, ◌<◌, ◌^◌, ℕ, IfOk, OnOk, length, position};
+ghost use Rattle.std.specs.Prelude.{◌≡◌, ◌==◌, ◌∷◌, [], ◌++◌, ◌<◌, ◌^◌, ℕ, IfOk, OnOk, length};
+ghost use Rattle.std.specs.Prelude.{position};
 ghost use Rattle.stateful_overlay.specs.Stack.{Stack, above, cut_at, has_layer};
 
 use crate::layer::Layer;
@@ -8,7 +9,8 @@ use stateful_types::OutOfMemory;
 use std::alloc::Global;
 use std::marker::Model;
 
-/// The layers of a chain, newest first, over the point of a database. They are shared with other chains.
+/// The layers of a chain, newest first, over the point of a database. They are shared with other
+/// chains.
 #[derive(Drop)]
 pub struct Layers<C> {
     base: u64,
@@ -94,8 +96,8 @@ impl<C> Layers<C> {
         }
     }
 
-    /// Drops the layers from the one of this id down, which is then the base. Nothing changes where neither the base nor
-    /// a layer has it.
+    /// Drops the layers from the one of this id down, which is then the base. Nothing changes where
+    /// neither the base nor a layer has it.
     pub fn cut(&mut self, id: u64)
     where
         C: Drop,

@@ -1,4 +1,5 @@
-//! Chains of sealed batches. Each keeps its own changes alone, and shares them with the batches above it.
+//! Chains of sealed batches. Each keeps its own changes alone, and shares them with the batches
+//! above it.
 #![tactic(auto)]
 
 mod layer;

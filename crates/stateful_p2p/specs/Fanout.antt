@@ -1,5 +1,7 @@
 -- Who judges a delivery, and what becomes of it.
-use Rattle.std.specs.Prelude.{◌≡◌, ◌≢◌, ℕ, ◌+◌, ◌-◌, ◌≤◌, ◌==◌, Bool, false, not, if◌then◌else◌, Option, Some, None, is_some, List, [], ◌∷◌, ◌++◌, map, filter, length, option_to_list}
+use Rattle.std.specs.Prelude.{◌≡◌, ◌≢◌, ℕ, ◌+◌, ◌-◌, ◌≤◌, ◌==◌, Bool, false, not, if◌then◌else◌}
+use Rattle.std.specs.Prelude.{Option, Some, None, is_some, List, [], ◌∷◌, ◌++◌, map, filter, length}
+use Rattle.std.specs.Prelude.{option_to_list}
 use Rattle.stateful_types.specs.Format.{Format}
 use Rattle.stateful_types.specs.declared.request.Request.{Request}
 use Rattle.stateful_types.specs.declared.response.Response.{Response}
@@ -10,7 +12,8 @@ use Rattle.stateful_p2p.specs.Inbox.{Inbox, offered_each}
 use Rattle.stateful_p2p.specs.declared.state.State.{State}
 use Rattle.stateful_p2p.specs.declared.state.Verdicts.{Verdicts}
 use Rattle.stateful_p2p.specs.declared.event.ActorOut.{ActorOut}
-use Rattle.stateful_p2p.specs.declared.event.ActorOut.TheVariants.{Forget, Candidate, Feedback, Unjudged}
+use Rattle.stateful_p2p.specs.declared.event.ActorOut.TheVariants.{Forget, Candidate, Feedback}
+use Rattle.stateful_p2p.specs.declared.event.ActorOut.TheVariants.{Unjudged}
 
 -- ---- verdicts
 
@@ -45,40 +48,55 @@ abbrev pub is_free : List (ℕ × ℕ) → ℕ → Bool
 is_free unjudged t = not (is_some (at unjudged t))
 
 module _ {D : Type 0} where
-  -- As many verdicts on each delivery are awaited as tickets have its candidate to judge, and a delivery that is yet to come has
-  -- none.
+  -- As many verdicts on each delivery are awaited as tickets have its candidate to judge, and a
+  -- delivery that is yet to come has none.
   pub record IsSound (s : State D) : Type 0 where
     pub counted : (d : ℕ) → waiting_on d s.unjudged ≡ awaited_of (at s.deliveries d)
     pub fresh : (d : ℕ) → s.next_delivery ≤ d → at s.deliveries d ≡ None
 
   -- ---- a ticket judges, leaves, or is forgotten
 
-  -- A ticket gives its verdict on the candidate that it hasn't judged, or none as it leaves. The delivery is settled once no
-  -- further verdict is awaited.
-  pub data Releases (s : State D) (t : ℕ) (verdict : Option Bool) : Option ActorOut → State D → Type 0 where
+  -- A ticket gives its verdict on the candidate that it hasn't judged, or none as it leaves. The
+  -- delivery is settled once no further verdict is awaited.
+  pub data Releases (s : State D) (t : ℕ) (verdict : Option Bool) : Option ActorOut
+      → State D
+      → Type 0 where
     has_none : at s.unjudged t ≡ None → Releases s t verdict None s
     releases : {d : ℕ} {v : Verdicts} → at s.unjudged t ≡ Some d → at s.deliveries d ≡ Some v
         → Releases s t verdict (settled_by d (heard v t verdict))
-        (record s { unjudged = without s.unjudged t; deliveries = kept d (heard v t verdict) (without s.deliveries d) })
+        (record s {
+          unjudged =
+              without s.unjudged t;
+          deliveries =
+              kept d (heard v t verdict) (without s.deliveries d);
+        })
 
   -- nothing is fetched for a ticket any more, and it leaves the delivery that it hasn't judged
   pub data Forgets (s : State D) (t : ℕ) : Option (Option ActorOut) → State D → Type 0 where
     stranger : at s.subscriptions t ≡ None → Forgets s t None s
-    forgets : {key : Request} {settled : Option ActorOut} {next : State D} → at s.subscriptions t ≡ Some key
-        → Releases (record s { subscriptions = without s.subscriptions t }) t None settled next → Forgets s t (Some settled) next
+    forgets : {key : Request} {settled : Option ActorOut} {next : State D}
+        → at s.subscriptions t ≡ Some key
+        → Releases (record s { subscriptions = without s.subscriptions t }) t None settled next
+        → Forgets s t (Some settled) next
 
-  -- Tickets are forgotten, one behind the other. Beside the outputs for those that were fetched stand those of the deliveries
-  -- that were settled by it.
+  -- Tickets are forgotten, one behind the other. Beside the outputs for those that were fetched
+  -- stand those of the deliveries that were settled by it.
   pub data Retires : State D → List ℕ → List ActorOut → List ActorOut → State D → Type 0 where
     nobody : {s : State D} → Retires s [] [] [] s
-    unfetched : {s : State D} {t : ℕ} {ts : List ℕ} {forgotten settled : List ActorOut} {next last : State D} → Forgets s t None next
+    unfetched : {s : State D} {t : ℕ} {ts : List ℕ} {forgotten settled : List ActorOut}
+        {next last : State D}
+        → Forgets s t None next
         → Retires next ts forgotten settled last → Retires s (t ∷ ts) forgotten settled last
-    fetched : {s : State D} {t : ℕ} {ts : List ℕ} {one : Option ActorOut} {forgotten settled : List ActorOut} {next last : State D} → Forgets s t (Some one) next
-        → Retires next ts forgotten settled last → Retires s (t ∷ ts) (Forget t ∷ forgotten) (option_to_list one ++ settled) last
+    fetched : {s : State D} {t : ℕ} {ts : List ℕ} {one : Option ActorOut}
+        {forgotten settled : List ActorOut} {next last : State D}
+        → Forgets s t (Some one) next
+        → Retires next ts forgotten settled last
+        → Retires s (t ∷ ts) (Forget t ∷ forgotten) (option_to_list one ++ settled) last
 
   -- ---- a delivery
 
-  -- the tickets that take a candidate for this key: its subscribers, of which there are some, that have none to judge
+  -- the tickets that take a candidate for this key: its subscribers, of which there are some, that
+  -- have none to judge
   pub record Takes (s : State D) (key : Request) (takers : List ℕ) : Type 0 where
     pub subscribers : List ℕ
     pub are : AreSubscribers s.subscriptions key subscribers
@@ -90,14 +108,35 @@ module _ {D : Type 0} where
 
   -- the verdicts of these tickets on a delivery are awaited
   abbrev pub awaiting : State D → ℕ → List ℕ → State D
-  awaiting s d takers = record s { unjudged = put_each s.unjudged takers d; deliveries = put s.deliveries d (record { awaited = length takers; given = [] }) }
+  awaiting s d takers =
+      record s {
+        unjudged =
+            put_each s.unjudged takers d;
+        deliveries =
+            put s.deliveries d (record { awaited = length takers; given = [] });
+      }
 
-  -- A delivery. Without a subscriber it stays unjudged whatever its bytes are. It is bad where they aren't a response to its
-  -- key. Else each subscriber without a candidate to judge takes this one, and where none takes it, it stays unjudged.
-  pub data Delivers {Op : Type 0} (operations : Format Op) (s : State D) (m : Inbox D Op) (d : ℕ) (key : Request) (bytes : List ℕ) : List ActorOut → State D → Inbox D Op → Type 0 where
-    unheard : AreSubscribers s.subscriptions key [] → Delivers operations s m d key bytes (Unjudged d ∷ []) (delivered s d) m
-    malformed : {takers : List ℕ} → Takes s key takers → ((response : Response Op) → IsResponse operations key bytes response → ⊥)
+  -- A delivery. Without a subscriber it stays unjudged whatever its bytes are. It is bad where they
+  -- aren't a response to its key. Else each subscriber without a candidate to judge takes this one,
+  -- and where none takes it, it stays unjudged.
+  pub data Delivers {Op : Type 0} (operations : Format Op) (s : State D) (m : Inbox D Op) (d : ℕ)
+      (key : Request) (bytes : List ℕ) : List ActorOut
+      → State D
+      → Inbox D Op
+      → Type 0 where
+    unheard : AreSubscribers s.subscriptions key []
+        → Delivers operations s m d key bytes (Unjudged d ∷ []) (delivered s d) m
+    malformed : {takers : List ℕ}
+        → Takes s key takers
+        → ((response : Response Op) → IsResponse operations key bytes response → ⊥)
         → Delivers operations s m d key bytes (Feedback d false ∷ []) (delivered s d) m
-    untaken : {response : Response Op} → Takes s key [] → IsResponse operations key bytes response → Delivers operations s m d key bytes (Unjudged d ∷ []) (delivered s d) m
-    taken : {takers : List ℕ} {response : Response Op} → Takes s key takers → takers ≢ [] → IsResponse operations key bytes response
-        → Delivers operations s m d key bytes (map (λ t. Candidate t) takers) (awaiting (delivered s d) d takers) (offered_each m takers response)
+    untaken : {response : Response Op}
+        → Takes s key []
+        → IsResponse operations key bytes response
+        → Delivers operations s m d key bytes (Unjudged d ∷ []) (delivered s d) m
+    taken : {takers : List ℕ} {response : Response Op}
+        → Takes s key takers
+        → takers ≢ []
+        → IsResponse operations key bytes response
+        → Delivers operations s m d key bytes (map (λ t. Candidate t) takers)
+        (awaiting (delivered s d) d takers) (offered_each m takers response)

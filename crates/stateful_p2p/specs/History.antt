@@ -13,7 +13,8 @@ use Rattle.stateful_p2p.specs.declared.event.ActorEvent.{ActorEvent}
 use Rattle.stateful_p2p.specs.declared.event.ActorEvent.TheVariants as events
 use Rattle.stateful_p2p.specs.declared.event.ActorOut.{ActorOut}
 
--- One call on the mailbox, or one event with the message that it took from the mailbox, and what was put out.
+-- One call on the mailbox, or one event with the message that it took from the mailbox, and what
+-- was put out.
 pub data Entry (D : Type 0) : Type 0 where
   Asked : ℕ → Request → Entry D
   Attached : D → Entry D
@@ -89,7 +90,10 @@ module _ {D Op : Type 0} where
           → Turns s m (Stepped task outs) next left
 
     -- entries, one after another, from one resolver and its mailbox to what they became
-    pub data Runs (first : State D) (box : Inbox D Op) : List (Entry D) → State D → Inbox D Op → Type 0 where
+    pub data Runs (first : State D) (box : Inbox D Op) : List (Entry D)
+        → State D
+        → Inbox D Op
+        → Type 0 where
       begins : Runs first box [] first box
       goes_on : {entries : List (Entry D)} {entry : Entry D}
           {s next : State D} {m left : Inbox D Op}

@@ -1,5 +1,7 @@
 -- What holds of a resolver whatever is done to it and to its mailbox, said of what is seen of both.
-use Rattle.std.specs.Prelude.{◌≡◌, ◌≢◌, ◌↔◌, ℕ, ◌+◌, ◌≤◌, ◌<◌, ◌==◌, ◌⊎◌, Bool, true, false, Option, Some, None, Ok, Err, List, [], ◌∷◌, ◌++◌, map, All, Contains, count_by, option_to_list}
+use Rattle.std.specs.Prelude.{◌≡◌, ◌≢◌, ◌↔◌, ℕ, ◌+◌, ◌≤◌, ◌<◌, ◌==◌, ◌⊎◌, Bool, true, false, Option}
+use Rattle.std.specs.Prelude.{Some, None, Ok, Err, List, [], ◌∷◌, ◌++◌, map, All, Contains}
+use Rattle.std.specs.Prelude.{count_by, option_to_list}
 use Rattle.std.specs.Int.NonZero.{non_zero_u64_get}
 use Rattle.std.specs.Ordering.{nat_cmp}
 use Rattle.std.specs.List.Sorted.{IsStrictlySortedBy}
@@ -15,7 +17,8 @@ use Rattle.stateful_p2p.specs.Inbox.{Inbox, waiting_for}
 use Rattle.stateful_p2p.specs.Tickets.{is_dropped}
 use Rattle.stateful_p2p.specs.Reading.{IsResponse}
 use Rattle.stateful_p2p.specs.Resolving.{Setup, may_come}
-use Rattle.stateful_p2p.specs.History.{Entry, Asked, Cancelled, Polled, Stepped, outs_of, count_outs, Once, Always, Since, Runs}
+use Rattle.stateful_p2p.specs.History.{Entry, Asked, Cancelled, Polled, Stepped, outs_of}
+use Rattle.stateful_p2p.specs.History.{count_outs, Once, Always, Since, Runs}
 use Rattle.stateful_p2p.specs.declared.state.State.{State}
 use Rattle.stateful_p2p.specs.declared.message.Message.{Message}
 use Rattle.stateful_p2p.specs.declared.message.Message.TheVariants.{AttachDatabase, GetOperations}
@@ -24,7 +27,9 @@ use Rattle.stateful_p2p.specs.declared.actor.Task.TheVariants.{Hear, Deliver, Ju
 use Rattle.stateful_p2p.specs.declared.event.ActorEvent.{ActorEvent}
 use Rattle.stateful_p2p.specs.declared.event.ActorEvent.TheVariants as events
 use Rattle.stateful_p2p.specs.declared.event.ActorOut.{ActorOut}
-use Rattle.stateful_p2p.specs.declared.event.ActorOut.TheVariants.{Fetch, Forget, Candidate, Feedback, Unjudged, Served, Unserved}
+use Rattle.stateful_p2p.specs.declared.event.ActorOut.TheVariants.{Fetch, Forget, Candidate}
+use Rattle.stateful_p2p.specs.declared.event.ActorOut.TheVariants.{Feedback, Unjudged, Served}
+use Rattle.stateful_p2p.specs.declared.event.ActorOut.TheVariants.{Unserved}
 
 -- ---- tickets
 
@@ -100,7 +105,8 @@ module _ {D : Type 0} where
 
   -- the ticket gave this verdict on the candidate of the delivery
   abbrev pub HasJudged : List (Entry D) → ℕ → ℕ → Bool → Type 0
-  HasJudged entries t d valid = Once (λ before entry. GivesVerdict t valid entry × HasToJudge before t d) entries
+  HasJudged entries t d valid =
+      Once (λ before entry. GivesVerdict t valid entry × HasToJudge before t d) entries
 
   -- everybody who had the candidate of the delivery has replied
   abbrev pub HaveReplied : List (Entry D) → ℕ → Type 0
@@ -178,8 +184,9 @@ is_served n out = false
 -- ---- what an event puts out, by what came before
 
 module _ {D Op : Type 0} (operations : Format Op) (before : List (Entry D)) where
-  -- A delivery. Without a subscriber it stays unjudged. It is bad exactly where its bytes aren't a response to its key. Else
-  -- each subscriber that has nothing to judge takes it, in ascending order, and where none does, it stays unjudged.
+  -- A delivery. Without a subscriber it stays unjudged. It is bad exactly where its bytes aren't a
+  -- response to its key. Else each subscriber that has nothing to judge takes it, in ascending
+  -- order, and where none does, it stays unjudged.
   pub data Spreads (d : ℕ) (key : Request) (bytes : List ℕ) : List ActorOut → Type 0 where
     unheard : ((t : ℕ) → IsSubscriber before key t → ⊥) → Spreads d key bytes (Unjudged d ∷ [])
     malformed : {t : ℕ}
@@ -231,8 +238,8 @@ module _ {D Op : Type 0} (operations : Format Op) (before : List (Entry D)) wher
       × (IsLive before t → ⊥)
       × (count_outs (is_forget_of t) before ≡ 0)
 
-  -- all that it puts out: those who were cancelled are forgotten first, in ascending order, then come answers to the
-  -- deliveries that this settles, and then what is its own
+  -- all that it puts out: those who were cancelled are forgotten first, in ascending order, then
+  -- come answers to the deliveries that this settles, and then what is its own
   pub record Tells (task : Task D) (outs : List ActorOut) : Type 0 where
     pub gone : List ℕ
     pub are : AreThose IsLeft gone
@@ -265,8 +272,8 @@ module _ {D : Type 0} (before : List (Entry D)) where
       ⊎ ((t : ℕ) × HasToJudge (before ++ Stepped task outs ∷ []) t d)
   AnswersAt entry = Unit {0}
 
-  -- A verdict that isn't given where the delivery comes is that of the lowest ticket that gave one, once all have replied;
-  -- a delivery that comes to be unjudged had none.
+  -- A verdict that isn't given where the delivery comes is that of the lowest ticket that gave one,
+  -- once all have replied; a delivery that comes to be unjudged had none.
   abbrev pub SettlesAt : Entry D → Type 0
   SettlesAt (Stepped task outs) = ((d : ℕ) (valid : Bool)
       → Contains outs (Feedback d valid)
@@ -280,8 +287,8 @@ module _ {D : Type 0} (before : List (Entry D)) where
       × HasNoVerdict (before ++ Stepped task outs ∷ []) d))
   SettlesAt entry = Unit {0}
 
--- Which events may come. A message waits; who judges has a candidate to judge; who leaves is live; and the number of a
--- delivery or of a production is above every earlier one.
+-- Which events may come. A message waits; who judges has a candidate to judge; who leaves is live;
+-- and the number of a delivery or of a production is above every earlier one.
 abbrev pub CanCome : {D Op : Type 0} → List (Entry D) → Inbox D Op → ActorEvent → Type 0
 CanCome entries m events.Message = messages m.queue ≢ []
 CanCome entries m (events.Deliver d key bytes) = (e : ℕ) → WasDelivered entries e → e < d
@@ -322,9 +329,9 @@ AsksTooMuch most (requests.Operations size start max_ops) = most < non_zero_u64_
 AsksTooMuch most (requests.Boundary size start) = ⊥
 
 module _ {D Op : Type 0} (u : Setup D Op) where
-  -- What a peer is sent, and the database behind that. It is nothing exactly where none is attached, where the key asks for
-  -- more operations than are served, in which case the database isn't asked, and where the database doesn't serve what is
-  -- asked for or fails.
+  -- What a peer is sent, and the database behind that. It is nothing exactly where none is
+  -- attached, where the key asks for more operations than are served, in which case the database
+  -- isn't asked, and where the database doesn't serve what is asked for or fails.
   pub data Gives (key : Request) : Option D → Option (List ℕ) → Option D → Type 0 where
     none_attached : Gives key None None None
     too_much : {db : D} → AsksTooMuch u.max_serve_ops key → Gives key (Some db) None (Some db)
@@ -344,8 +351,8 @@ module _ {D Op : Type 0} (u : Setup D Op) where
   Sent n None outs = Contains outs (Unserved n)
   Sent n (Some bytes) outs = Contains outs (Served n bytes)
 
-  -- The database that is served behind these entries, if there is one: the last that was taken from the mailbox, as the
-  -- requests that it answered left it. Each peer was sent what it answered.
+  -- The database that is served behind these entries, if there is one: the last that was taken from
+  -- the mailbox, as the requests that it answered left it. Each peer was sent what it answered.
   pub data Serves : List (Entry D) → Option D → Type 0 where
     nothing : Serves [] None
     attached : {entries : List (Entry D)} {served : Option D} (db : D) (outs : List ActorOut)
@@ -374,17 +381,20 @@ module _ {D Op : Type 0} (u : Setup D Op) where
     -- a key is fetched where the request for it is taken, and its ticket is live
     pub fetches : Always (λ before entry. (t : ℕ) (key : Request)
         → Contains (outs_of entry) (Fetch t key)
-        → IsTaken t key entry × IsLive before t × Once (λ earlier drawn. Draws t key drawn) before) entries
+        → IsTaken t key entry × IsLive before t × Once (λ earlier drawn. Draws t key drawn) before)
+        entries
     pub taken : Always (λ before entry. (t : ℕ) (key : Request)
         → IsTaken t key entry
         → IsLive before t
         → Contains (outs_of entry) (Fetch t key)) entries
-    -- once for each ticket at most, and no live one is forgotten: its request is on its way, or it was fetched
+    -- once for each ticket at most, and no live one is forgotten: its request is on its way, or it
+    -- was fetched
     pub fetched_once : (t : ℕ) → count_outs (is_fetch_of t) entries ≤ 1
     pub none_forgotten : (t : ℕ)
         → IsLive entries t
         → waiting t m + count_outs (is_fetch_of t) entries ≡ 1
-    -- a ticket is forgotten once at most, and is behind each event where it was fetched for and is live no more
+    -- a ticket is forgotten once at most, and is behind each event where it was fetched for and is
+    -- live no more
     pub forgotten_once : (t : ℕ) → count_outs (is_forget_of t) entries ≤ 1
     pub forgets : Always ForgetsAt entries
     -- a ticket has one candidate to judge at a time
@@ -393,7 +403,8 @@ module _ {D Op : Type 0} (u : Setup D Op) where
     pub answered_once : (d : ℕ) → count_outs (is_answer_to d) entries ≤ 1
     pub answers : Always AnswersAt entries
     pub settles : Always SettlesAt entries
-    -- who was let go before a candidate is told so, and a candidate waits until it is polled or replaced
+    -- who was let go before a candidate is told so, and a candidate waits until it is polled or
+    -- replaced
     pub dropped : (t : ℕ) → (is_dropped m.tickets t ≡ true) ↔ WasLetGo entries t
     pub waits : (t : ℕ) (response : Response Op)
         → waiting_for m t ≡ Some response

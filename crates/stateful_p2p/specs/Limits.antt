@@ -8,7 +8,8 @@ use Rattle.stateful_types.specs.declared.request.Request.{Request}
 use Rattle.stateful_types.specs.declared.response.Response.{Response}
 use Rattle.stateful_types.specs.declared.response.Response.TheVariants.{Operations, Boundary}
 
--- how many bytes a message has at most, where no more than so many operations are served and each has so many bytes at most
+-- how many bytes a message has at most, where no more than so many operations are served and each
+-- has so many bytes at most
 abbrev pub payload_size : ℕ → ℕ → ℕ
 payload_size most op = 9 + max (5 + most * op) (33 + op)
 
@@ -50,4 +51,8 @@ module _ {Op : Type 0} (operations : Format Op) where
 
   -- no message with such a payload is longer than the formula says
   abbrev pub IsBounded : ℕ → ℕ → Type 0
-  IsBounded most op = (frame : ℕ × Payload Op) → frame_format.fits frame → IsSmall most op frame.1 → length (frame_format.spelling frame) ≤ payload_size most op
+  IsBounded most op =
+      (frame : ℕ × Payload Op)
+      → frame_format.fits frame
+      → IsSmall most op frame.1
+      → length (frame_format.spelling frame) ≤ payload_size most op

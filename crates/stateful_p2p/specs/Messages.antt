@@ -1,5 +1,6 @@
 -- How messages wait behind a full mailbox.
-use Rattle.std.specs.Prelude.{ℕ, ◌==◌, Bool, true, false, not, Option, Some, None, List, [], ◌∷◌, ◌++◌, map, filter}
+use Rattle.std.specs.Prelude.{ℕ, ◌==◌, Bool, true, false, not, Option, Some, None, List, [], ◌∷◌}
+use Rattle.std.specs.Prelude.{◌++◌, map, filter}
 use Rattle.stateful_p2p.specs.declared.message.Message.{Message}
 use Rattle.stateful_p2p.specs.declared.message.Message.TheVariants.{AttachDatabase, GetOperations}
 use Rattle.stateful_p2p.specs.declared.message.Ask.{Ask}
@@ -15,7 +16,8 @@ module _ {D : Type 0} where
   is_not_of t (AttachDatabase db) = true
   is_not_of t (GetOperations u request) = not (u == t)
 
-  -- what waits once one more message has come: the newest database, and behind it the requests in their order
+  -- what waits once one more message has come: the newest database, and behind it the requests in
+  -- their order
   abbrev pub kept : List (Message D) → Message D → List (Message D)
   kept waiting (AttachDatabase db) = AttachDatabase db ∷ filter is_request waiting
   kept waiting (GetOperations t request) = waiting ++ GetOperations t request ∷ []

@@ -17,9 +17,10 @@ IsOfKind (asked.Operations size start max_ops) (Boundary before op) = ⊥
 IsOfKind (asked.Boundary size start) (Operations operations) = ⊥
 IsOfKind (asked.Boundary size start) (Boundary before op) = Unit {0}
 
--- The bytes are a response to the key, and nothing else: it is of the key's kind, and has no more operations than were asked
--- for.
-pub record IsResponse {Op : Type 0} (operations : Format Op) (key : Request) (bytes : List ℕ) (response : Response Op) : Type 0 where
+-- The bytes are a response to the key, and nothing else: it is of the key's kind, and has no more
+-- operations than were asked for.
+pub record IsResponse {Op : Type 0} (operations : Format Op) (key : Request) (bytes : List ℕ)
+    (response : Response Op) : Type 0 where
   pub fits : (response_format operations).fits response
   pub whole : bytes ≡ (response_format operations).spelling response
   pub allowed : IsAllowed key response
@@ -27,16 +28,27 @@ pub record IsResponse {Op : Type 0} (operations : Format Op) (key : Request) (by
 
 -- what was read: the response that the bytes are, or none where they are no response to the key
 abbrev pub IsReadAs : {Op : Type 0} → Format Op → Request → List ℕ → Option (Response Op) → Type 0
-IsReadAs operations key bytes found = MatchOption found ((response : Response _) → IsResponse operations key bytes response → ⊥) (IsResponse operations key bytes)
+IsReadAs operations key bytes found =
+    MatchOption found ((response : Response _) → IsResponse operations key bytes response → ⊥)
+    (IsResponse operations key bytes)
 
 -- the bytes are a response, and nothing else, with no more operations than were asked for
-pub record IsWhole {Op : Type 0} (operations : Format Op) (key : Request) (bytes : List ℕ) (response : Response Op) : Type 0 where
+pub record IsWhole {Op : Type 0} (operations : Format Op) (key : Request) (bytes : List ℕ)
+    (response : Response Op) : Type 0 where
   pub fits : (response_format operations).fits response
   pub whole : bytes ≡ (response_format operations).spelling response
   pub allowed : IsAllowed key response
 
--- what a reader of whole responses answered: the one that the bytes are, and an error only where they are none, or for want of
--- memory
-abbrev pub IsWholeAs : {Op : Type 0} → Format Op → Request → List ℕ → Result (Response Op) CodecError → Type 0
-IsWholeAs operations key bytes (Ok response) = IsWhole operations key bytes response × ((other : Response _) → IsWhole operations key bytes other → other ≡ response)
-IsWholeAs operations key bytes (Err error) = (error ≡ OutOfMemory) ⊎ ((response : Response _) → IsWhole operations key bytes response → ⊥)
+-- what a reader of whole responses answered: the one that the bytes are, and an error only where
+-- they are none, or for want of memory
+abbrev pub IsWholeAs : {Op : Type 0}
+    → Format Op
+    → Request
+    → List ℕ
+    → Result (Response Op) CodecError
+    → Type 0
+IsWholeAs operations key bytes (Ok response) =
+    IsWhole operations key bytes response
+    × ((other : Response _) → IsWhole operations key bytes other → other ≡ response)
+IsWholeAs operations key bytes (Err error) =
+    (error ≡ OutOfMemory) ⊎ ((response : Response _) → IsWhole operations key bytes response → ⊥)

@@ -1,5 +1,8 @@
--- What a resolver does: it fetches for those who ask, hands out candidates and hears verdicts, and serves peers.
-use Rattle.std.specs.Prelude.{◌≡◌, ◌⊎◌, ℕ, ◌+◌, ◌-◌, ◌^◌, nat_le, nat_lt, Bool, true, false, not, ◌&&◌, Option, Some, None, is_some, Result, Ok, Err, List, [], ◌∷◌, ◌++◌, option_to_list}
+-- What a resolver does: it fetches for those who ask, hands out candidates and hears verdicts, and
+-- serves peers.
+use Rattle.std.specs.Prelude.{◌≡◌, ◌⊎◌, ℕ, ◌+◌, ◌-◌, ◌^◌, nat_le, nat_lt, Bool, true, false, not}
+use Rattle.std.specs.Prelude.{◌&&◌, Option, Some, None, is_some, Result, Ok, Err, List, [], ◌∷◌}
+use Rattle.std.specs.Prelude.{◌++◌, option_to_list}
 use Rattle.std.specs.List.Sorted.{IsPermutation, IsNonDecreasing}
 use Rattle.std.specs.Int.NonZero.{non_zero_u64_get}
 use Rattle.stateful_types.specs.Format.{Format}
@@ -29,8 +32,13 @@ pub record Setup (D Op : Type 0) : Type 1 where
   pub serves : D → Request → Result (Response Op) ServeFault → D → Type 0
   pub max_serve_ops : ℕ
 
-abbrev pub setup : {D Op : Type 0} → Format Op → (D → Request → Result (Response Op) ServeFault → D → Type 0) → ℕ → Setup D Op
-setup operations serves max_serve_ops = record { operations = operations; serves = serves; max_serve_ops = max_serve_ops }
+abbrev pub setup : {D Op : Type 0}
+    → Format Op
+    → (D → Request → Result (Response Op) ServeFault → D → Type 0)
+    → ℕ
+    → Setup D Op
+setup operations serves max_serve_ops =
+    record { operations = operations; serves = serves; max_serve_ops = max_serve_ops }
 
 abbrev pub is_empty : {A : Type 0} → List A → Bool
 is_empty [] = true
@@ -57,8 +65,8 @@ pub record IsNew {D : Type 0} (s : State D) : Type 0 where
   pub first_serve : s.next_serve ≡ 0
 
 module _ {D Op : Type 0} where
-  -- An event may come where a message waits that it takes, the ticket that it names is live and has a candidate if it judges it,
-  -- and its number is above every earlier one.
+  -- An event may come where a message waits that it takes, the ticket that it names is live and has
+  -- a candidate if it judges it, and its number is above every earlier one.
   abbrev pub may_come : State D → Inbox D Op → ActorEvent → Bool
   may_come s m events.Message = not (is_empty (messages m.queue))
   may_come s m (events.Deliver d key bytes) = nat_le s.next_delivery d
@@ -66,33 +74,60 @@ module _ {D Op : Type 0} where
   may_come s m (events.Leave t) = is_live m.tickets t
   may_come s m (events.Produce n key) = nat_le s.next_serve n
 
-  -- A message. A database is served from then on, in place of an earlier one. A request is fetched, unless its ticket was let
-  -- go.
+  -- A message. A database is served from then on, in place of an earlier one. A request is fetched,
+  -- unless its ticket was let go.
   pub data Hears (s : State D) (m : Inbox D Op) : Message D → List ActorOut → State D → Type 0 where
     attaches : {db : D} → Hears s m (AttachDatabase db) [] (record s { database = Some db })
-    fetches : {t : ℕ} {key : Request} → is_live m.tickets t ≡ true → Hears s m (GetOperations t key) (Fetch t key ∷ []) (record s { subscriptions = subscribed s.subscriptions t key })
-    passes_over : {t : ℕ} {key : Request} → is_live m.tickets t ≡ false → Hears s m (GetOperations t key) [] s
+    fetches : {t : ℕ} {key : Request}
+        → is_live m.tickets t ≡ true
+        → Hears s m (GetOperations t key) (Fetch t key ∷ [])
+        (record s { subscriptions = subscribed s.subscriptions t key })
+    passes_over : {t : ℕ} {key : Request}
+        → is_live m.tickets t ≡ false
+        → Hears s m (GetOperations t key) [] s
 
   -- A verdict. A good candidate ends its ticket, and a bad one leaves it open.
-  pub data Judges (s : State D) (m : Inbox D Op) (t : ℕ) : Bool → List ActorOut → State D → Inbox D Op → Type 0 where
+  pub data Judges (s : State D) (m : Inbox D Op) (t : ℕ) : Bool
+      → List ActorOut
+      → State D
+      → Inbox D Op
+      → Type 0 where
     accepts : {settled : Option ActorOut} {next : State D} → Releases s t (Some true) settled next
-        → Judges s m t true (Forget t ∷ option_to_list settled) (record next { subscriptions = without next.subscriptions t }) (record m { tickets = ended m.tickets t })
-    rejects : {settled : Option ActorOut} {next : State D} → Releases s t (Some false) settled next → Judges s m t false (option_to_list settled) next m
+        → Judges s m t true (Forget t ∷ option_to_list settled)
+        (record next { subscriptions = without next.subscriptions t })
+        (record m { tickets = ended m.tickets t })
+    rejects : {settled : Option ActorOut} {next : State D}
+        → Releases s t (Some false) settled next
+        → Judges s m t false (option_to_list settled) next m
 
   -- A departure. What was fetched for the ticket is forgotten.
-  pub data Leaves (s : State D) (m : Inbox D Op) (t : ℕ) : List ActorOut → State D → Inbox D Op → Type 0 where
-    leaves : {settled : Option ActorOut} {next : State D} → Forgets s t (Some settled) next → Leaves s m t (Forget t ∷ option_to_list settled) next (let_go m t)
+  pub data Leaves (s : State D) (m : Inbox D Op) (t : ℕ) : List ActorOut
+      → State D
+      → Inbox D Op
+      → Type 0 where
+    leaves : {settled : Option ActorOut} {next : State D}
+        → Forgets s t (Some settled) next
+        → Leaves s m t (Forget t ∷ option_to_list settled) next (let_go m t)
     leaves_unfetched : {next : State D} → Forgets s t None next → Leaves s m t [] next (let_go m t)
 
 module _ {D Op : Type 0} (u : Setup D Op) where
-  -- What the database answers to a peer, in bytes: nothing where none is attached, the key asks for too much, or the database
-  -- gives no answer.
+  -- What the database answers to a peer, in bytes: nothing where none is attached, the key asks for
+  -- too much, or the database gives no answer.
   pub data Answers (attached : Option D) (key : Request) : Option (List ℕ) → Option D → Type 0 where
     unattached : attached ≡ None → Answers attached key None attached
-    too_many : {db : D} → attached ≡ Some db → asks_too_many u.max_serve_ops key ≡ true → Answers attached key None attached
-    unserved : {db next : D} {fault : ServeFault} → attached ≡ Some db → asks_too_many u.max_serve_ops key ≡ false
-        → u.serves db key (Err fault) next → (fault ≡ faults.NotServed) ⊎ (fault ≡ faults.Failed) → Answers attached key None (Some next)
-    served : {db next : D} {response : Response Op} → attached ≡ Some db → asks_too_many u.max_serve_ops key ≡ false
+    too_many : {db : D}
+        → attached ≡ Some db
+        → asks_too_many u.max_serve_ops key ≡ true
+        → Answers attached key None attached
+    unserved : {db next : D} {fault : ServeFault}
+        → attached ≡ Some db
+        → asks_too_many u.max_serve_ops key ≡ false
+        → u.serves db key (Err fault) next
+        → (fault ≡ faults.NotServed) ⊎ (fault ≡ faults.Failed)
+        → Answers attached key None (Some next)
+    served : {db next : D} {response : Response Op}
+        → attached ≡ Some db
+        → asks_too_many u.max_serve_ops key ≡ false
         → u.serves db key (Ok response) next → (response_format u.operations).fits response
         → Answers attached key (Some ((response_format u.operations).spelling response)) (Some next)
 
@@ -102,25 +137,41 @@ module _ {D Op : Type 0} (u : Setup D Op) where
   sent n (Some bytes) = Served n bytes
 
   -- a peer asks, and is sent the database's answer, or nothing
-  pub record Produces (s : State D) (n : ℕ) (key : Request) (outs : List ActorOut) (next : State D) : Type 0 where
+  pub record Produces (s : State D) (n : ℕ) (key : Request) (outs : List ActorOut)
+      (next : State D) : Type 0 where
     pub bytes : Option (List ℕ)
     pub answers : Answers s.database key bytes next.database
     pub outs_are : outs ≡ sent n bytes ∷ []
     pub others : next ≡ record s { next_serve = n + 1; database = next.database }
 
   -- what an event does
-  pub data Does (s : State D) (m : Inbox D Op) : ActorEvent → List ActorOut → State D → Inbox D Op → Type 0 where
-    hears : {message : Message D} {outs : List ActorOut} {next : State D} {left : Inbox D Op} → HandsOut m.queue left.queue (Some message) → left ≡ record m { queue = left.queue }
+  pub data Does (s : State D) (m : Inbox D Op) : ActorEvent
+      → List ActorOut
+      → State D
+      → Inbox D Op
+      → Type 0 where
+    hears : {message : Message D} {outs : List ActorOut} {next : State D} {left : Inbox D Op}
+        → HandsOut m.queue left.queue (Some message)
+        → left ≡ record m { queue = left.queue }
         → Hears s m message outs next → Does s m events.Message outs next left
-    delivers : {d : ℕ} {key : Request} {bytes : List ℕ} {outs : List ActorOut} {next : State D} {left : Inbox D Op} → Delivers u.operations s m d key bytes outs next left
+    delivers : {d : ℕ} {key : Request} {bytes : List ℕ} {outs : List ActorOut} {next : State D}
+        {left : Inbox D Op}
+        → Delivers u.operations s m d key bytes outs next left
         → Does s m (events.Deliver d key bytes) outs next left
-    judges : {t : ℕ} {valid : Bool} {outs : List ActorOut} {next : State D} {left : Inbox D Op} → Judges s m t valid outs next left → Does s m (events.Judge t valid) outs next left
-    leaves : {t : ℕ} {outs : List ActorOut} {next : State D} {left : Inbox D Op} → Leaves s m t outs next left → Does s m (events.Leave t) outs next left
-    produces : {n : ℕ} {key : Request} {outs : List ActorOut} {next : State D} → Produces s n key outs next → Does s m (events.Produce n key) outs next m
+    judges : {t : ℕ} {valid : Bool} {outs : List ActorOut} {next : State D} {left : Inbox D Op}
+        → Judges s m t valid outs next left
+        → Does s m (events.Judge t valid) outs next left
+    leaves : {t : ℕ} {outs : List ActorOut} {next : State D} {left : Inbox D Op}
+        → Leaves s m t outs next left
+        → Does s m (events.Leave t) outs next left
+    produces : {n : ℕ} {key : Request} {outs : List ActorOut} {next : State D}
+        → Produces s n key outs next
+        → Does s m (events.Produce n key) outs next m
 
-  -- One event. The tickets that were cancelled since the last one are forgotten first, in ascending order, and the deliveries
-  -- that this settles come behind them. Then comes what the event does.
-  pub record Steps (s : State D) (m : Inbox D Op) (event : ActorEvent) (outs : List ActorOut) (last : State D) (left : Inbox D Op) : Type 0 where
+  -- One event. The tickets that were cancelled since the last one are forgotten first, in ascending
+  -- order, and the deliveries that this settles come behind them. Then comes what the event does.
+  pub record Steps (s : State D) (m : Inbox D Op) (event : ActorEvent) (outs : List ActorOut)
+      (last : State D) (left : Inbox D Op) : Type 0 where
     pub gone : List ℕ
     pub ascending : IsNonDecreasing gone
     pub all : IsPermutation m.cancelled gone

@@ -23,7 +23,8 @@ abbrev pub is_listed : {K : Type 0} → (K → K → Ordering) → BTreeMap K (B
 is_listed cmp index key t = has_ticket (get cmp index key) t
 
 -- the subscribers of a key: the tickets for which it is fetched, in ascending order
-pub record AreSubscribers (subscriptions : List (ℕ × Request)) (key : Request) (tickets : List ℕ) : Type 0 where
+pub record AreSubscribers (subscriptions : List (ℕ × Request)) (key : Request)
+    (tickets : List ℕ) : Type 0 where
   pub ascending : IsStrictlySortedBy nat_cmp tickets
   pub members : (t : ℕ) → Contains tickets t ↔ (at subscriptions t ≡ Some key)
 

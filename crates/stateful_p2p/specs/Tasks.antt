@@ -28,8 +28,12 @@ IsTimely s task = (is_new_number s task ≡ true) × (has_last_number task ≡ f
 
 -- the task is the event, with the message that it took out of the mailbox
 pub data Admits {D Op : Type 0} (m : Inbox D Op) : ActorEvent → Task D → Inbox D Op → Type 0 where
-  hear : {message : Message D} {left : Inbox D Op} → HandsOut m.queue left.queue (Some message) → left ≡ record m { queue = left.queue } → Admits m events.Message (tasks.Hear message) left
-  deliver : {d : ℕ} {key : Request} {bytes : List ℕ} → Admits m (events.Deliver d key bytes) (tasks.Deliver d key bytes) m
+  hear : {message : Message D} {left : Inbox D Op}
+      → HandsOut m.queue left.queue (Some message)
+      → left ≡ record m { queue = left.queue }
+      → Admits m events.Message (tasks.Hear message) left
+  deliver : {d : ℕ} {key : Request} {bytes : List ℕ}
+      → Admits m (events.Deliver d key bytes) (tasks.Deliver d key bytes) m
   judge : {t : ℕ} {valid : Bool} → Admits m (events.Judge t valid) (tasks.Judge t valid) m
   leave : {t : ℕ} → Admits m (events.Leave t) (tasks.Leave t) m
   produce : {n : ℕ} {key : Request} → Admits m (events.Produce n key) (tasks.Produce n key) m

@@ -1,12 +1,14 @@
 //! The resolver, one event at a time.
 
-ghost use Rattle.std.specs.Prelude.{◌≡◌, ◌≢◌, ◌≤◌, ◌^◌, ◌-◌, ◌++◌, ◌↔◌, ℕ, List, true, false, IsTrue, IsNone, IfOk, OnOk, IfErr, IfSome, IsErrOf};
+ghost use Rattle.std.specs.Prelude.{◌≡◌, ◌≢◌, ◌≤◌, ◌^◌, ◌-◌, ◌++◌, ◌↔◌, ℕ, List, true, false};
+ghost use Rattle.std.specs.Prelude.{IsTrue, IsNone, IfOk, OnOk, IfErr, IfSome, IsErrOf};
 ghost use Rattle.std.specs.Int.NonZero.{non_zero_u64_get};
 ghost use Rattle.stateful_types.specs.Mailbox.{HandsOut};
 ghost use Rattle.stateful_p2p.specs.Inbox.{Inbox, empty_inbox};
 ghost use Rattle.stateful_p2p.specs.Fanout.{IsSound};
 ghost use Rattle.stateful_p2p.specs.Laws.{KeepsLaws};
-ghost use Rattle.stateful_p2p.specs.Resolving.{setup, IsNew, may_come, IsExhausting, Hears, Does, Steps};
+ghost use Rattle.stateful_p2p.specs.Resolving.{setup, IsNew, may_come, IsExhausting, Hears, Does};
+ghost use Rattle.stateful_p2p.specs.Resolving.{Steps};
 ghost use Rattle.stateful_p2p.specs.Tasks.{Admits, IsTimely, is_new_number, has_last_number};
 ghost use Rattle.stateful_p2p.specs.declared.event.ActorOut.{ActorOut};
 ghost use Rattle.stateful_p2p.specs.declared.event.ActorEvent.{ActorEvent};
@@ -22,12 +24,12 @@ use stateful_types::{OutOfMemory, Request};
 use std::alloc::Global;
 use std::num::NonZeroU64;
 
-/// How many operations a peer's request may ask for, and how many messages are ready in the mailbox at most, which is
-/// at least one.
+/// How many operations a peer's request may ask for, and how many messages are ready in the mailbox
+/// at most, which is at least one.
 #[derive(Drop)]
 pub struct Config {
-    /// Larger requests go unanswered. Peers that fetch from this node ask for no more operations at a time, or their
-    /// requests are never answered.
+    /// Larger requests go unanswered. Peers that fetch from this node ask for no more operations at
+    /// a time, or their requests are never answered.
     pub max_serve_ops: NonZeroU64,
     pub mailbox_size: usize,
 }
@@ -88,7 +90,8 @@ impl<D: SyncSource> Actor<D> {
         Ok((actor, mailbox))
     }
 
-    /// Takes one event in, and answers what is to be done. The order of refusals is `Failed`, `BadEvent`, `Exhausted`.
+    /// Takes one event in, and answers what is to be done. The order of refusals is `Failed`,
+    /// `BadEvent`, `Exhausted`.
     pub fn step(
         &mut self,
         mailbox: &mut Mailbox<D>,
@@ -158,7 +161,8 @@ impl<D> Task<D> {
 }
 
 impl<D: SyncSource> State<D> {
-    /// What an event is, with the message that it takes. None exactly where it may not come, and then nothing has changed.
+    /// What an event is, with the message that it takes. None exactly where it may not come, and
+    /// then nothing has changed.
     fn admit(&self, mailbox: &mut Mailbox<D>, event: ActorEvent) -> Option<Task<D>>
         ensures admits { IfSome result (λ task.
             Admits mailbox.old event task mailbox.new) }

@@ -1,12 +1,14 @@
 //! Deliveries: who judges them, and what becomes of them.
 
-ghost use Rattle.std.specs.Prelude.{◌≡◌, ◌≢◌, ◌^◌, ◌-◌, ◌<◌, ◌≤◌, ◌++◌, ◌∷◌, [], ℕ, List, true, map, filter, IfOk, OnOk, option_to_list};
+ghost use Rattle.std.specs.Prelude.{◌≡◌, ◌≢◌, ◌^◌, ◌-◌, ◌<◌, ◌≤◌, ◌++◌, ◌∷◌, [], ℕ, List, true};
+ghost use Rattle.std.specs.Prelude.{map, filter, IfOk, OnOk, option_to_list};
 ghost use Rattle.std.specs.Option.{MatchOption};
 ghost use Rattle.stateful_types.specs.declared.response.Response.{Response};
 ghost use Rattle.stateful_table.specs.Table.{at};
 ghost use Rattle.stateful_p2p.specs.Subscribing.{AreSubscribers};
 ghost use Rattle.stateful_p2p.specs.Inbox.{offered_each};
-ghost use Rattle.stateful_p2p.specs.Fanout.{IsSound, Releases, Forgets, Retires, Takes, Delivers, awaiting, is_free};
+ghost use Rattle.stateful_p2p.specs.Fanout.{IsSound, Releases, Forgets, Retires, Takes, Delivers};
+ghost use Rattle.stateful_p2p.specs.Fanout.{awaiting, is_free};
 ghost use Rattle.stateful_p2p.specs.Resolving.{Judges, Leaves};
 ghost use Rattle.stateful_p2p.specs.declared.event.ActorOut.{ActorOut};
 ghost use Rattle.stateful_p2p.specs.declared.event.ActorOut.TheVariants.{Candidate};
@@ -24,8 +26,8 @@ use std::alloc::Global;
 use std::collections::BTreeSet;
 
 impl<D: SyncSource> State<D> {
-    /// A ticket gives its verdict on the candidate that it hasn't judged, or none as it leaves. Answers what becomes of
-    /// the delivery, where no further verdict is awaited.
+    /// A ticket gives its verdict on the candidate that it hasn't judged, or none as it leaves.
+    /// Answers what becomes of the delivery, where no further verdict is awaited.
     fn release(
         &mut self,
         ticket: u64,
@@ -50,8 +52,8 @@ impl<D: SyncSource> State<D> {
         Ok(None)
     }
 
-    /// Nothing is fetched for a ticket any more, and it judges nothing. Answers none where nothing was fetched for it,
-    /// and else what becomes of the delivery that it hasn't judged.
+    /// Nothing is fetched for a ticket any more, and it judges nothing. Answers none where nothing
+    /// was fetched for it, and else what becomes of the delivery that it hasn't judged.
     fn forget(&mut self, ticket: u64) -> Result<Option<Option<ActorOut>>, OutOfMemory>
         requires { IsSound self.old }
         ensures forgets { IfOk result (λ settled. Forgets self.old ticket settled self.new) }
@@ -207,7 +209,8 @@ impl<D: SyncSource> State<D> {
         offer(mailbox, takers.as_slice(), &response, outs)
     }
 
-    /// The subscribers of a key that have no candidate to judge, in ascending order. None where it has no subscribers.
+    /// The subscribers of a key that have no candidate to judge, in ascending order. None where it
+    /// has no subscribers.
     fn takers(&self, alloc: Global, key: &Request) -> Result<Option<Vec<u64>>, OutOfMemory>
         ensures { IfOk result (λ found. MatchOption found
             (AreSubscribers self.now.subscriptions key.now [])

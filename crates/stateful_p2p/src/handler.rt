@@ -1,8 +1,10 @@
 //! What a network's engine hands to a resolver, on its way.
 
-ghost use Rattle.std.specs.Prelude.{◌≡◌, ◌+◌, ◌-◌, ◌^◌, ◌≤◌, ◌↔◌, ◌∷◌, [], false, IsNone, IfOk, OnOk, OnErr, IsErrOf, filter};
+ghost use Rattle.std.specs.Prelude.{◌≡◌, ◌+◌, ◌-◌, ◌^◌, ◌≤◌, ◌↔◌, ◌∷◌, [], false, IsNone, IfOk};
+ghost use Rattle.std.specs.Prelude.{OnOk, OnErr, IsErrOf, filter};
 ghost use Rattle.stateful_types.specs.Mailbox.{queues, messages, HandsOut};
-ghost use Rattle.stateful_p2p.specs.Handling.{handled, Delivers, Produces, without_delivery, HandsEvent};
+ghost use Rattle.stateful_p2p.specs.Handling.{handled, Delivers, Produces, without_delivery};
+ghost use Rattle.stateful_p2p.specs.Handling.{HandsEvent};
 ghost use Rattle.stateful_p2p.specs.declared.handler.EngineMessage.TheVariants as engine;
 
 use crate::event::ActorEvent;
@@ -21,8 +23,8 @@ pub(crate) enum EngineMessage<K> {
     Produce { serve: u64, key: K },
 }
 
-// Where the mailbox is full, peers' requests are dropped at once, so that deliveries to local callers keep priority. The
-// peer can ask one that has less to do.
+// Where the mailbox is full, peers' requests are dropped at once, so that deliveries to local
+// callers keep priority. The peer can ask one that has less to do.
 impl<K: Drop> Policy for EngineMessage<K> {
     ghost use Rattle.stateful_p2p.specs.Handling.{kept};
 
@@ -80,7 +82,8 @@ impl Model for Handler {
 }
 
 impl Handler {
-    /// Nothing is on its way. So many messages are ready at most; further deliveries wait behind them.
+    /// Nothing is on its way. So many messages are ready at most; further deliveries wait behind
+    /// them.
     pub fn new(alloc: Global, capacity: usize) -> Result<Handler, OutOfMemory>
         requires { 1 ≤ capacity }
         ensures { IfOk result (λ handler. handler ≡ handled 0 0 (queues capacity [] [] false)) }
@@ -113,8 +116,8 @@ impl Handler {
         Ok((feedback, delivery))
     }
 
-    /// A peer asks for what this key names. Gives the number of the production, which is dropped where the feedback is
-    /// `Backoff`.
+    /// A peer asks for what this key names. Gives the number of the production, which is dropped
+    /// where the feedback is `Backoff`.
     pub fn produce(&mut self, key: Request) -> Result<(Feedback, u64), DrawError>
         ensures produces { IfOk result (λ drawn.
             Produces self.old key drawn.0 drawn.1 self.new) }

@@ -1,12 +1,14 @@
 //! The resolver: operations from peers, for whoever syncs a database.
 //!
-//! A database that syncs asks for operations, and peers answer. An answer may be anything, so it is a *candidate* until
-//! whoever asked has judged it. Several may ask for the same at once: each gets a candidate of its own, and the first
-//! verdict of the lowest ticket tells whether the delivery was good.
+//! A database that syncs asks for operations, and peers answer. An answer may be anything, so it is
+//! a *candidate* until whoever asked has judged it. Several may ask for the same at once: each gets
+//! a candidate of its own, and the first verdict of the lowest ticket tells whether the delivery
+//! was good.
 //!
-//! An [`Actor`] is a machine without threads: one event is one call of [`Actor::step`], and what it answers is to be done by
-//! the caller. Requests, cancels and a database that answers peers come to it through its [`Mailbox`], which also hands out
-//! the candidates. A [`Handler`] keeps the deliveries and productions of a peer-to-peer engine on their way to it.
+//! An [`Actor`] is a machine without threads: one event is one call of [`Actor::step`], and what it
+//! answers is to be done by the caller. Requests, cancels and a database that answers peers come to
+//! it through its [`Mailbox`], which also hands out the candidates. A [`Handler`] keeps the
+//! deliveries and productions of a peer-to-peer engine on their way to it.
 #![tactic(auto)]
 
 mod actor;

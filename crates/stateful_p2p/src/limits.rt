@@ -8,8 +8,9 @@ use crate::error::TooManyOps;
 use stateful_types::Operation;
 use std::num::NonZeroU64;
 
-/// How many bytes a message between resolvers has at most, where no more than so many operations are served at a time and
-/// each has at most `op` bytes. Refused where these are more than 4294967295 operations. It takes no memory.
+/// How many bytes a message between resolvers has at most, where no more than so many operations
+/// are served at a time and each has at most `op` bytes. Refused where these are more than
+/// 4294967295 operations. It takes no memory.
 pub fn max_payload_size(max_serve_ops: NonZeroU64, op: usize) -> Result<usize, TooManyOps>
     requires { op ≤ 16777216 }
     ensures size { IfOk result (λ size.

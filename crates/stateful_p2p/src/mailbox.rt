@@ -1,10 +1,13 @@
 //! The mailbox of a resolver: what is asked of it, and what comes back.
 
-ghost use Rattle.std.specs.Prelude.{◌≡◌, ◌≢◌, ◌+◌, ◌-◌, ◌^◌, ◌≤◌, ◌↔◌, ◌∷◌, ◌++◌, [], ℕ, Option, Some, None, true, false, IsNone, IsTrue, IsErr, IfOk, OnOk, OnErr, IsErrOf, length};
+ghost use Rattle.std.specs.Prelude.{◌≡◌, ◌≢◌, ◌+◌, ◌-◌, ◌^◌, ◌≤◌, ◌↔◌, ◌∷◌, ◌++◌, [], ℕ, Option};
+ghost use Rattle.std.specs.Prelude.{Some, None, true, false, IsNone, IsTrue, IsErr, IfOk, OnOk};
+ghost use Rattle.std.specs.Prelude.{OnErr, IsErrOf, length};
 ghost use Rattle.std.specs.List.Sorted.{IsPermutation, IsNonDecreasing};
 ghost use Rattle.stateful_types.specs.Mailbox.{queues, messages, HandsOut};
 ghost use Rattle.stateful_p2p.specs.Tickets.{is_live, is_dropped, ended};
-ghost use Rattle.stateful_p2p.specs.Inbox.{empty_inbox, Asks, Attaches, let_go, cancelled, offered, taken_out, waiting_for};
+ghost use Rattle.stateful_p2p.specs.Inbox.{empty_inbox, Asks, Attaches, let_go, cancelled, offered};
+ghost use Rattle.stateful_p2p.specs.Inbox.{taken_out, waiting_for};
 
 use crate::error::ResponseDropped;
 use crate::message::{Message, NotOf, Pending};
@@ -15,8 +18,8 @@ use stateful_types::{Bounded, DrawError, Feedback, Moved, OutOfMemory, Request, 
 use std::alloc::Global;
 use std::marker::Model;
 
-/// The requests to a resolver and the databases that are attached to it, on their way, and the answers to the
-/// requests. It draws a ticket for each request, from 0 on.
+/// The requests to a resolver and the databases that are attached to it, on their way, and the
+/// answers to the requests. It draws a ticket for each request, from 0 on.
 #[derive(Drop)]
 pub struct Mailbox<D: SyncSource> {
     next_ticket: u64,
@@ -41,7 +44,8 @@ impl<D: SyncSource> Model for Mailbox<D> {
 }
 
 impl<D: SyncSource> Mailbox<D> {
-    /// An empty mailbox, in which so many messages are ready at most. Further ones wait behind them.
+    /// An empty mailbox, in which so many messages are ready at most. Further ones wait behind
+    /// them.
     pub(crate) fn new(alloc: Global, capacity: usize) -> Result<Mailbox<D>, OutOfMemory>
         requires { 1 ≤ capacity }
         ensures { IfOk result (λ mailbox. mailbox ≡ empty_inbox capacity) }
@@ -102,8 +106,8 @@ impl<D: SyncSource> Mailbox<D> {
         }
     }
 
-    /// Takes the candidate that waits for a ticket. It is refused exactly where the ticket was let go before a
-    /// candidate, and is pending where none waits.
+    /// Takes the candidate that waits for a ticket. It is refused exactly where the ticket was let
+    /// go before a candidate, and is pending where none waits.
     pub fn poll(&mut self, ticket: u64) -> Result<Moved<Response<D::Op>>, ResponseDropped>
         ensures dropped { IsErr result ↔ (is_dropped self.old.tickets ticket ≡ true) }
         ensures done { (response : Response D.Op)

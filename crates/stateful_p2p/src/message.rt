@@ -23,7 +23,8 @@ pub(crate) struct Ask {
     request: Request,
 }
 
-/// Messages that wait behind a full mailbox: the newest database, and behind it the requests in their order.
+/// Messages that wait behind a full mailbox: the newest database, and behind it the requests in
+/// their order.
 #[derive(Drop)]
 pub(crate) struct Pending<D> {
     database: Option<D>,

@@ -44,9 +44,9 @@ impl Verdicts {
     }
 }
 
-/// The database that answers requests of peers; for which tickets something is fetched; which delivery's candidate a
-/// ticket hasn't judged yet; the deliveries on which verdicts are awaited; and the least numbers of a delivery and of a
-/// production that are new.
+/// The database that answers requests of peers; for which tickets something is fetched; which
+/// delivery's candidate a ticket hasn't judged yet; the deliveries on which verdicts are awaited;
+/// and the least numbers of a delivery and of a production that are new.
 #[derive(Drop)]
 pub(crate) struct State<D> {
     pub(crate) database: Option<D>,

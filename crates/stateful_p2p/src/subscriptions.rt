@@ -12,8 +12,8 @@ use std::alloc::Global;
 use std::collections::BTreeSet;
 use std::marker::Model;
 
-/// The tickets for which something is fetched, each with its key. An index has the tickets of each key in ascending
-/// order.
+/// The tickets for which something is fetched, each with its key. An index has the tickets of each
+/// key in ascending order.
 #[derive(Drop)]
 pub(crate) struct Subscriptions {
     keys: Table<Request>,
@@ -55,7 +55,8 @@ impl Subscriptions {
         }
     }
 
-    /// The tickets for which this key is fetched, in ascending order. None only where there are none.
+    /// The tickets for which this key is fetched, in ascending order. None only where there are
+    /// none.
     pub(crate) fn of(&self, key: &Request) -> Option<&BTreeSet<u64>>
         ensures { ListsSubscribers self.now key.now (option_copied result) }
     {

@@ -28,7 +28,8 @@ impl Operation for Update {
 
     ghost operations = { record {
       fits = λ update. u64_format.fits update.key × u64_format.fits update.value;
-      spelling = λ update. 1 ∷ [] ++ (u64_format.spelling update.key ++ u64_format.spelling update.value);
+      spelling =
+          λ update. 1 ∷ [] ++ (u64_format.spelling update.key ++ u64_format.spelling update.value);
     } };
 
     fn write(&self, out: &mut Vec<u8>) -> Result<(), OutOfMemory> {
@@ -49,7 +50,14 @@ impl Operation for Update {
     }
 
     ghost lawful = { Rest-whole _ (1 ∷ []) (both u64_format u64_format) (λ p. record { key = p.0; value = p.1 })
-        (record { fits = λ p fits. fits; spelled = λ p fits. refl; back = λ update bytes fits e. ((update.key, update.value), fits, refl) })
+        (record {
+          fits =
+              λ p fits. fits;
+          spelled =
+              λ p fits. refl;
+          back =
+              λ update bytes fits e. ((update.key, update.value), fits, refl);
+        })
         (λ update fits. (u64_format.spelling update.key ++ u64_format.spelling update.value, refl))
         (IsFormat-both u64_format u64_format u64_alone u64_alone) };
 }
@@ -129,7 +137,8 @@ fn respond(alloc: Global, request: &Request, op: Update) -> Result<Response<Upda
     }
 }
 
-/// What is done to a resolver and its mailbox. Keys go by how many operations they ask for, and 0 asks for a boundary.
+/// What is done to a resolver and its mailbox. Keys go by how many operations they ask for, and 0
+/// asks for a boundary.
 #[derive(Clone, Copy)]
 enum Act {
     Serve(u64),
@@ -159,7 +168,8 @@ fn key(max_ops: u64) -> Request {
     }
 }
 
-/// A resolver that serves two operations at most, and its mailbox, in which one message is ready at most.
+/// A resolver that serves two operations at most, and its mailbox, in which one message is ready at
+/// most.
 fn resolver(alloc: Global) -> Result<(Actor<Fixed>, Mailbox<Fixed>), Fail> {
     let config = Config {
         max_serve_ops: NonZeroU64::new(2).ok_or("two isn't 0")?,

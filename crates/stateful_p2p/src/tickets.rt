@@ -1,6 +1,7 @@
 //! How the tickets of a mailbox stand.
 
-ghost use Rattle.std.specs.Prelude.{◌≡◌, ◌+◌, ◌≤◌, ◌^◌, ◌<◌, [], None, true, if◌then◌else◌, OnOk, OnErr, length};
+ghost use Rattle.std.specs.Prelude.{◌≡◌, ◌+◌, ◌≤◌, ◌^◌, ◌<◌, [], None, true, if◌then◌else◌, OnOk};
+ghost use Rattle.std.specs.Prelude.{OnErr, length};
 ghost use Rattle.stateful_table.specs.Table.{at, put, without};
 ghost use Rattle.stateful_p2p.specs.Tickets.{is_live, is_dropped, ended, answered, live_count};
 ghost use Rattle.stateful_p2p.specs.declared.tickets.Standing.TheVariants.{Open};

@@ -1,7 +1,8 @@
 -- The numbers of the calls on a medium, of which the listed ones fail.
 use Rattle.std.specs.Prelude.{◌≡◌, ℕ, ◌+◌, ◌-◌, ◌^◌, min, Contains}
 use Rattle.stateful_db.specs.declared.database.DbCall.{DbCall}
-use Rattle.stateful_db.specs.declared.database.DbCall.TheVariants.{Init, Apply, Finalize, Flush, Prune, Sync}
+use Rattle.stateful_db.specs.declared.database.DbCall.TheVariants.{Init, Apply, Finalize, Flush}
+use Rattle.stateful_db.specs.declared.database.DbCall.TheVariants.{Prune, Sync}
 use Rattle.stateful_plain.specs.declared.calls.Numbers.{Numbers}
 use Rattle.stateful_plain.specs.declared.calls.Calls.{Calls}
 

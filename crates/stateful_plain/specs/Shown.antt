@@ -1,4 +1,5 @@
--- The chains on which batches stand: points of a batch id and the state behind it, the newest first.
+-- The chains on which batches stand: points of a batch id and the state behind it, the newest
+-- first.
 use Rattle.std.specs.Prelude.{◌≡◌, ℕ, ◌+◌, ◌<◌, ◌==◌, List, [], ◌∷◌, if◌then◌else◌}
 use Rattle.stateful_db.specs.Chain.{ids}
 use Rattle.stateful_plain.specs.declared.batch.PlainUnmerkleized.{PlainUnmerkleized}

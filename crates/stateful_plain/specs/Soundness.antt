@@ -13,5 +13,6 @@ sound_checkpoints c =
       kept = c.kept;
       within = c.within;
       ends = λ i j v w less at_i at_j. later i j v w c.sizes less at_i at_j;
-      starts = λ i j v w less at_i at_j. let above = later i j v w c.sizes less at_i at_j in omega arith;
+      starts =
+          λ i j v w less at_i at_j. let above = later i j v w c.sizes less at_i at_j in omega arith;
     }

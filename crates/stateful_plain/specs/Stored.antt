@@ -10,7 +10,8 @@ use Rattle.stateful_plain.specs.Whole.{Whole, target_of}
 
 -- checkpoints as a disk
 abbrev pub disk_in : Checkpoints → Disk Whole
-disk_in c = record { older = c.older.items; newest = c.newest; pruned = c.pruned; durable = c.durable }
+disk_in c =
+    record { older = c.older.items; newest = c.newest; pruned = c.pruned; durable = c.durable }
 
 -- the checkpoints of a medium
 abbrev pub disk_of : PlainMedium → Disk Whole
@@ -23,4 +24,6 @@ standing_of d = record { id = d.id; disk = disk_of d.medium; out = d.out }
 -- the number of the kept checkpoint of the expected target, or of the latest
 abbrev pub IsNumberOf : Option Target → Disk Whole → ℕ → Type 0
 IsNumberOf None d n = n ≡ length d.older
-IsNumberOf (Some t) d n = (with_end target_of (λ s. s) t d ≡ Some n) × ((w : Whole) × (slice_get (all d) n ≡ Some w) × (target_of w ≡ t))
+IsNumberOf (Some t) d n =
+    (with_end target_of (λ s. s) t d ≡ Some n)
+    × ((w : Whole) × (slice_get (all d) n ≡ Some w) × (target_of w ≡ t))

@@ -39,7 +39,8 @@ root_of w = record { 0 = sha256 (whole_bytes w) }
 
 -- the range has the last location alone
 abbrev pub target_of : Whole → Target
-target_of w = record { root = root_of w; start = record { 0 = w.size - 1 }; end = record { 0 = w.size } }
+target_of w =
+    record { root = root_of w; start = record { 0 = w.size - 1 }; end = record { 0 = w.size } }
 
 -- the state that the seal of a batch without changes gives
 abbrev pub begun : Whole → Whole

@@ -1,6 +1,7 @@
 //! Batches that hold a whole copy of their state.
 
-ghost use Rattle.std.specs.Prelude.{◌≡◌, ◌≢◌, ℕ, ◌-◌, ◌^◌, ◌<◌, ◌≤◌, ◌==◌, List, ◌∷◌, IfOk, IfErr, IsErrOf, ◌↔◌, false, position};
+ghost use Rattle.std.specs.Prelude.{◌≡◌, ◌≢◌, ℕ, ◌-◌, ◌^◌, ◌<◌, ◌≤◌, ◌==◌, List, ◌∷◌, IfOk, IfErr};
+ghost use Rattle.std.specs.Prelude.{IsErrOf, ◌↔◌, false, position};
 ghost use Rattle.std.specs.List.{list_any};
 ghost use Rattle.stateful_db.specs.Batch.{RefusesSeal};
 ghost use Rattle.stateful_db.specs.Chain.{has_id, IsPoint};
@@ -15,8 +16,8 @@ use stateful_db::{BatchError, Merkleized, Unmerkleized};
 use stateful_types::{Digest, OutOfMemory};
 use std::collections::BTreeMap;
 
-/// A batch that may still change: its id, those below it, newest first, the end of its parent's range, and all
-/// entries.
+/// A batch that may still change: its id, those below it, newest first, the end of its parent's
+/// range, and all entries.
 #[derive(Drop)]
 pub struct PlainUnmerkleized {
     pub(crate) id: u64,
@@ -34,7 +35,8 @@ pub struct PlainMerkleized {
 }
 
 impl PlainUnmerkleized {
-    /// The batch's value at a key. `StaleRead` exactly where the database is at no state of the batch's chain.
+    /// The batch's value at a key. `StaleRead` exactly where the database is at no state of the
+    /// batch's chain.
     pub fn get(&self, db: &Plain, key: u64) -> Result<Option<u64>, BatchError>
         ensures value { IfOk result (λ value. (p : ℕ × Whole) (c : List (ℕ × Whole))
             → DraftShows self.now (p ∷ c)

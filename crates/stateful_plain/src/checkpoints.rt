@@ -1,6 +1,7 @@
 //! The kept checkpoints of a medium.
 
-ghost use Rattle.std.specs.Prelude.{◌≡◌, ◌==◌, ◌≤◌, ◌<◌, ◌+◌, ◌^◌, [], ◌∷◌, ◌++◌, length, position, take, OnOk, OnErr};
+ghost use Rattle.std.specs.Prelude.{◌≡◌, ◌==◌, ◌≤◌, ◌<◌, ◌+◌, ◌^◌, [], ◌∷◌, ◌++◌, length, position};
+ghost use Rattle.std.specs.Prelude.{take, OnOk, OnErr};
 ghost use Rattle.stateful_plain.specs.Sizes.{Ascend, Ascend-prop};
 
 use crate::state::PlainState;
@@ -9,8 +10,9 @@ use stateful_types::{Location, Target};
 use std::alloc::{AllocError, Global};
 use std::mem;
 
-/// The kept checkpoints, oldest first, the number of older ones that were pruned, and the place of the last durable one.
-/// Places count the pruned ones too. Sizes ascend, and the durable one is kept.
+/// The kept checkpoints, oldest first, the number of older ones that were pruned, and the place of
+/// the last durable one. Places count the pruned ones too. Sizes ascend, and the durable one is
+/// kept.
 #[derive(Drop)]
 pub(crate) struct Checkpoints {
     pub(crate) older: Vec<PlainState>,
@@ -127,7 +129,8 @@ impl Checkpoints {
         keep_first(&mut self.older, &mut self.newest, count);
     }
 
-    /// One more. Where its size isn't greater than that of the newest, it is refused as if memory were wanting.
+    /// One more. Where its size isn't greater than that of the newest, it is refused as if memory
+    /// were wanting.
     pub(crate) fn push(&mut self, state: PlainState) -> Result<(), AllocError>
         ensures ok { OnOk result (disk_in self.new ≡ applied (disk_in self.old) state) }
         ensures err { OnErr result (disk_in self.new ≡ disk_in self.old) }

@@ -14,8 +14,9 @@ use stateful_types::{Digest, Faulty, Location, OutOfMemory, Target};
 use std::collections::BTreeMap;
 use std::ops::Range;
 
-/// A database from numbers to numbers, each of 64 bits: the id of the last applied batch, the tokens that are out, which
-/// name places of kept checkpoints, and the medium that it was opened on.
+/// A database from numbers to numbers, each of 64 bits: the id of the last applied batch, the
+/// tokens that are out, which name places of kept checkpoints, and the medium that it was opened
+/// on.
 #[derive(Drop)]
 pub struct Plain {
     pub(crate) id: u64,
@@ -68,10 +69,13 @@ impl Faulty for Plain {
 }
 
 impl ManagedDb for Plain {
-    ghost use Rattle.std.specs.Prelude.{◌≡◌, ◌≢◌, ℕ, ◌+◌, ◌-◌, ◌^◌, ◌≤◌, ◌<◌, List, ◌∷◌, ◌++◌, [], IfOk, IfErr, IsErrAnd, Option, ◌↔◌, ◌⊎◌, Contains, length, refl};
+    ghost use Rattle.std.specs.Prelude.{◌≡◌, ◌≢◌, ℕ, ◌+◌, ◌-◌, ◌^◌, ◌≤◌, ◌<◌, List, ◌∷◌, ◌++◌, []};
+    ghost use Rattle.std.specs.Prelude.{IfOk, IfErr, IsErrAnd, Option, ◌↔◌, ◌⊎◌, Contains, length};
+    ghost use Rattle.std.specs.Prelude.{refl};
     ghost use Rattle.stateful_types.specs.Causes.{Rose};
     ghost use Rattle.stateful_db.specs.Disk.{IsEither, IsCrash, place, applied, flushed, point};
-    ghost use Rattle.stateful_db.specs.Reopening.{Reopens, FailsToReopen, HasNone, KeepsDurable, pruned_to};
+    ghost use Rattle.stateful_db.specs.Reopening.{Reopens, FailsToReopen, HasNone, KeepsDurable};
+    ghost use Rattle.stateful_db.specs.Reopening.{pruned_to};
     ghost use Rattle.stateful_db.specs.Tokens.{without};
     ghost use Rattle.stateful_plain.specs.Whole.{Whole, begun, initial, target_of};
     ghost use Rattle.stateful_plain.specs.Called.{IsListed, Called};
@@ -107,8 +111,8 @@ impl ManagedDb for Plain {
 
     ghost next_of = { λ m. m.next };
 
-    /// Takes no memory. `Database` exactly where the call is listed as a failing one or no kept checkpoint has the
-    /// expected end.
+    /// Takes no memory. `Database` exactly where the call is listed as a failing one or no kept
+    /// checkpoint has the expected end.
     fn init(
         medium: PlainMedium,
         _config: &(),
@@ -221,8 +225,9 @@ impl ManagedDb for Plain {
         Plain::batch_target(batch) == *target
     }
 
-    /// `Failed` exactly where the call is listed as a failing one. A failed apply leaves the checkpoints. A state that isn't
-    /// greater in size than the newest one, which is of no batch on it, is refused as if memory were wanting.
+    /// `Failed` exactly where the call is listed as a failing one. A failed apply leaves the
+    /// checkpoints. A state that isn't greater in size than the newest one, which is of no batch on
+    /// it, is refused as if memory were wanting.
     fn apply(self, batch: PlainMerkleized) -> Result<Plain, Broken<PlainMedium>>
         ensures ok { IfOk result (λ db. (p : ℕ × Whole) (c : List (ℕ × Whole))
             → SealShows batch (p ∷ point (standing_of self) ∷ c)
@@ -305,7 +310,8 @@ impl ManagedDb for Plain {
         Ok((Plain { id, out, medium }, FlushToken { place }))
     }
 
-    /// Takes no memory. It fails exactly where the call is listed as a failing one, and leaves the durable place.
+    /// Takes no memory. It fails exactly where the call is listed as a failing one, and leaves the
+    /// durable place.
     fn flush(self, token: FlushToken) -> Result<Plain, Broken<PlainMedium>>
         requires { Contains (standing_of self).out token.place }
         ensures ok { IfOk result (λ db. standing_of db ≡ record (standing_of self) {
@@ -345,7 +351,8 @@ impl ManagedDb for Plain {
         Ok(Plain { id, out, medium })
     }
 
-    /// Takes no memory. It fails exactly where the call is listed as a failing one, and leaves the checkpoints.
+    /// Takes no memory. It fails exactly where the call is listed as a failing one, and leaves the
+    /// checkpoints.
     fn prune(self, target: &Target) -> Result<Plain, Broken<PlainMedium>>
         requires idle { (standing_of self).out ≡ [] }
         requires kept { KeepsDurable target_of (λ t. t) target.now (standing_of self).disk }

@@ -8,7 +8,8 @@ use stateful_db::DbCall;
 use stateful_types::Faulty;
 use std::alloc::Global;
 
-/// The kept checkpoints, and the next batch id. Of the calls of databases that are made on it, those that it lists fail.
+/// The kept checkpoints, and the next batch id. Of the calls of databases that are made on it,
+/// those that it lists fail.
 #[derive(Drop)]
 pub struct PlainMedium {
     pub(crate) checkpoints: Checkpoints,
@@ -32,7 +33,8 @@ impl PlainMedium {
     ghost use Rattle.stateful_plain.specs.Stored.{disk_of};
     ghost use Rattle.stateful_plain.specs.Whole.{initial};
 
-    /// A medium with the empty state alone. The calls that are listed, by kind and by number from 0 on, fail.
+    /// A medium with the empty state alone. The calls that are listed, by kind and by number from 0
+    /// on, fail.
     pub fn empty(alloc: Global, failing: Vec<(DbCall, u64)>) -> PlainMedium
         ensures disk { disk_of result
             ≡ record { older = []; newest = initial; pruned = 0; durable = 0 } }

@@ -4,8 +4,8 @@ use crate::medium::PlainMedium;
 use crate::state::PlainState;
 use stateful_types::{Faulty, Target};
 
-/// A sync that isn't finished: the medium as it was before, the target that it leads to, and the state that was fetched
-/// for it, if one was.
+/// A sync that isn't finished: the medium as it was before, the target that it leads to, and the
+/// state that was fetched for it, if one was.
 #[derive(Drop)]
 pub struct PlainPass {
     pub(crate) medium: PlainMedium,

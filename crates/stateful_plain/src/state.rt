@@ -1,7 +1,8 @@
 //! A whole state.
 
 ghost use Rattle.std.specs.Prelude.{◌≡◌, ◌++◌, ℕ, List, IfOk};
-ghost use Rattle.stateful_plain.specs.Whole.{Whole, pair_bytes, entry_bytes, root_of, target_of, initial};
+ghost use Rattle.stateful_plain.specs.Whole.{Whole, pair_bytes, entry_bytes, root_of, target_of};
+ghost use Rattle.stateful_plain.specs.Whole.{initial};
 ghost use Rattle.sha2.specs.Hashers.{Holds256};
 
 use sha2::{Digest as Hasher, Sha256};

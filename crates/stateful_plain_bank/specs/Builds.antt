@@ -27,7 +27,8 @@ abbrev pub decision_of : ProposalKind → Ask → Handoff (Unit {0})
 decision_of Prepare ask = ask.decision
 decision_of Propose ask = Vote tt
 
--- what a request asks for: a block above its parent, which it names by the digest of the parent's bytes
+-- what a request asks for: a block above its parent, which it names by the digest of the parent's
+-- bytes
 abbrev pub proposal_of : Asked BankBlock Round Ask → Proposal
 proposal_of a = record {
   decision = decision_of a.kind a.input;
@@ -58,12 +59,20 @@ pub record IsBuild (build : BankBuild) (b : BankBuildOf) (turns : ℕ) : Type 0 
 
 -- what holds of all that the build may be of, where the database is at this point of its chain
 abbrev pub EachBuild : BankBuild → ℕ × Whole → (BankBuildOf → ℕ → Type 0) → Type 0
-EachBuild build at Holds = (b : BankBuildOf) (turns : ℕ) → IsBuild build b turns → IsPoint at (b.at ∷ b.below) → Holds b turns
+EachBuild build at Holds =
+    (b : BankBuildOf) (turns : ℕ)
+    → IsBuild build b turns
+    → IsPoint at (b.at ∷ b.below)
+    → Holds b turns
 
 -- the same where the database may be away
 abbrev pub EachBuildAt : BankBuild → Option (ℕ × Whole) → (BankBuildOf → ℕ → Type 0) → Type 0
 EachBuildAt build place Holds =
-    (b : BankBuildOf) (turns : ℕ) (at : ℕ × Whole) → IsBuild build b turns → place ≡ Some at → IsPoint at (b.at ∷ b.below) → Holds b turns
+    (b : BankBuildOf) (turns : ℕ) (at : ℕ × Whole)
+    → IsBuild build b turns
+    → place ≡ Some at
+    → IsPoint at (b.at ∷ b.below)
+    → Holds b turns
 
 -- a turn that ends with a block
 abbrev pub IsBuilt : {T : Type 0} → Moved (Handoff T) → Type 0

@@ -6,7 +6,8 @@ use Rattle.stateful_db.specs.declared.application.Hooked.{Hooked}
 use Rattle.stateful_db.specs.declared.application.Hooked.TheVariants as hooked
 use Rattle.stateful_plain_bank.specs.declared.hook.BankHook.{BankHook}
 
--- of so many turns so many were taken: a hook has the others left, and there is none where no turn is left
+-- of so many turns so many were taken: a hook has the others left, and there is none where no turn
+-- is left
 abbrev pub IsLeft : Hooked BankHook → ℕ → ℕ → Type 0
 IsLeft hooked.Done turns taken = turns ≡ taken
 IsLeft (hooked.Pending hook) turns taken = (taken + hook.left ≡ turns) × (taken < turns)

@@ -1,5 +1,6 @@
 -- Runs of blocks: what they stand on, and what they count.
-use Rattle.std.specs.Prelude.{◌≡◌, ℕ, ◌+◌, ◌-◌, ◌^◌, List, ◌∷◌, min, false, Option, None, Some, Result, Ok, Err}
+use Rattle.std.specs.Prelude.{◌≡◌, ℕ, ◌+◌, ◌-◌, ◌^◌, List, ◌∷◌, min, false, Option, None, Some}
+use Rattle.std.specs.Prelude.{Result, Ok, Err}
 use Rattle.stateful_types.specs.declared.round.Round.{Round}
 use Rattle.stateful_types.specs.declared.outcome.Finality.{Finality}
 use Rattle.stateful_types.specs.declared.outcome.Finality.TheVariants.{Candidate, Finalized}
@@ -32,12 +33,17 @@ pub record IsRun (run : BankRun) (r : BankRunOf) (turns : ℕ) : Type 0 where
 
 -- what holds of all that the run may be of, where the database is at this point of its chain
 abbrev pub EachRun : BankRun → ℕ × Whole → (BankRunOf → ℕ → Type 0) → Type 0
-EachRun run at Holds = (r : BankRunOf) (turns : ℕ) → IsRun run r turns → IsPoint at (r.at ∷ r.below) → Holds r turns
+EachRun run at Holds =
+    (r : BankRunOf) (turns : ℕ) → IsRun run r turns → IsPoint at (r.at ∷ r.below) → Holds r turns
 
 -- the same where the database may be away
 abbrev pub EachRunAt : BankRun → Option (ℕ × Whole) → (BankRunOf → ℕ → Type 0) → Type 0
 EachRunAt run place Holds =
-    (r : BankRunOf) (turns : ℕ) (at : ℕ × Whole) → IsRun run r turns → place ≡ Some at → IsPoint at (r.at ∷ r.below) → Holds r turns
+    (r : BankRunOf) (turns : ℕ) (at : ℕ × Whole)
+    → IsRun run r turns
+    → place ≡ Some at
+    → IsPoint at (r.at ∷ r.below)
+    → Holds r turns
 
 -- a candidate that isn't acceptable
 abbrev pub IsRejected : Finality → List Op → Type 0

@@ -11,9 +11,12 @@ use Rattle.stateful_plain.specs.Whole.{Whole, initial, target_of}
 
 -- the state after these operations, where each is allowed: one applied batch more
 abbrev pub stepped : Whole → List Op → Option Whole
-stepped whole ops = option_map (λ entries. record { size = whole.size + 1; entries = entries }) (do_ops whole.entries ops)
+stepped whole ops =
+    option_map (λ entries. record { size = whole.size + 1; entries = entries })
+    (do_ops whole.entries ops)
 
--- the target of a block's one database; a block with another number of targets commits to the empty state
+-- the target of a block's one database; a block with another number of targets commits to the empty
+-- state
 abbrev pub one_target : List Target → Target
 one_target [] = target_of initial
 one_target (target ∷ []) = target

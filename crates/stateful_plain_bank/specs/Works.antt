@@ -17,9 +17,11 @@ use Rattle.stateful_plain_bank.specs.declared.run.BankRun.{BankRun}
 use Rattle.stateful_plain_bank.specs.declared.build.BankBuild.{BankBuild}
 use Rattle.stateful_plain_bank.specs.declared.hook.BankHook.{BankHook}
 
--- It reads nothing before a block is applied, and keeps nothing of the blocks that were finalized. A build takes as many
--- turns as a run of its operations, also where it is declined. A hook takes as many as its block says.
-abbrev pub bank_works : Works BankBlock Round Ask (Unit {0}) ℕ Whole Target BankRun BankBuild BankHook (Unit {0})
+-- It reads nothing before a block is applied, and keeps nothing of the blocks that were finalized.
+-- A build takes as many turns as a run of its operations, also where it is declined. A hook takes
+-- as many as its block says.
+abbrev pub bank_works : Works BankBlock Round Ask
+    (Unit {0}) ℕ Whole Target BankRun BankBuild BankHook (Unit {0})
 bank_works = record {
   meaning = bank_meaning;
   gives = bank_gives;

@@ -104,11 +104,13 @@ fn target_in(targets: &[Target]) -> Target
 }
 
 impl Application for Bank {
-    ghost use Rattle.std.specs.Prelude.{◌≡◌, ◌≤◌, ◌<◌, ◌+◌, ◌-◌, ◌^◌, [], ◌∷◌, ℕ, List, Some, IsOk, IfOk, IsErrOf};
+    ghost use Rattle.std.specs.Prelude.{◌≡◌, ◌≤◌, ◌<◌, ◌+◌, ◌-◌, ◌^◌, [], ◌∷◌, ℕ, List, Some, IsOk};
+    ghost use Rattle.std.specs.Prelude.{IfOk, IsErrOf};
     ghost use Rattle.stateful_types.specs.Causes.{Rose};
     ghost use Rattle.stateful_db.specs.Meaning.{outcome, Ends};
     ghost use Rattle.stateful_db.specs.Hooks.{left};
-    ghost use Rattle.stateful_db.specs.Works.{asked_for, run_of, build_of, block_of, run_chain, Costs, CostsHook, BuildEnds};
+    ghost use Rattle.stateful_db.specs.Works.{asked_for, run_of, build_of, block_of, run_chain};
+    ghost use Rattle.stateful_db.specs.Works.{Costs, CostsHook, BuildEnds};
     ghost use Rattle.stateful_bank.specs.Balances.{run_turns};
     ghost use Rattle.stateful_bank.specs.BankBlock.{genesis_block};
     ghost use Rattle.stateful_plain.specs.Whole.{Whole, begun, initial, target_of};

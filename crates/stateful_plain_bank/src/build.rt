@@ -1,6 +1,7 @@
 //! Builds of blocks.
 
-ghost use Rattle.std.specs.Prelude.{◌≡◌, ℕ, ◌+◌, ◌-◌, ◌^◌, ◌<◌, ◌≤◌, List, ◌∷◌, IfOk, IsErrOf, Some};
+ghost use Rattle.std.specs.Prelude.{◌≡◌, ℕ, ◌+◌, ◌-◌, ◌^◌, ◌<◌, ◌≤◌, List, ◌∷◌, IfOk, IsErrOf};
+ghost use Rattle.std.specs.Prelude.{Some};
 ghost use Rattle.stateful_types.specs.declared.outcome.Moved.{Moved};
 ghost use Rattle.stateful_db.specs.Chain.{IsPoint};
 ghost use Rattle.stateful_db.specs.Disk.{point};
@@ -11,7 +12,8 @@ ghost use Rattle.stateful_plain.specs.Stored.{standing_of};
 ghost use Rattle.stateful_plain.specs.Shown.{DraftShows, SealShows};
 ghost use Rattle.stateful_plain_bank.specs.Progress.{Shows};
 ghost use Rattle.stateful_plain_bank.specs.Runs.{counted};
-ghost use Rattle.stateful_plain_bank.specs.Builds.{BankBuildOf, IsBuild, EachBuild, IsBuilt, proposal_of, targets_after};
+ghost use Rattle.stateful_plain_bank.specs.Builds.{BankBuildOf, IsBuild, EachBuild, IsBuilt};
+ghost use Rattle.stateful_plain_bank.specs.Builds.{proposal_of, targets_after};
 ghost use Rattle.stateful_plain_bank.specs.Works.{bank_works};
 
 use crate::progress::{Advanced, Progress, seal};
@@ -24,7 +26,8 @@ use std::alloc::Global;
 /// A block of the bank that was built, with its sealed batch.
 type Built = ProposedBlock<BankBlock, PlainMerkleized>;
 
-/// A build of a block: it does one operation a turn, and at the last one it is declined or seals its batch.
+/// A build of a block: it does one operation a turn, and at the last one it is declined or seals
+/// its batch.
 #[derive(Drop)]
 pub struct BankBuild {
     alloc: Global,
@@ -52,8 +55,9 @@ fn targets_of(alloc: Global, batch: &PlainMerkleized) -> Result<Items<Target>, O
     Ok(targets)
 }
 
-/// The block over the batch with all its operations, handed over as it was asked for. Nothing is where it is declined
-/// whatever the state is, where they aren't acceptable, or where the batch is stale.
+/// The block over the batch with all its operations, handed over as it was asked for. Nothing is
+/// where it is declined whatever the state is, where they aren't acceptable, or where the batch is
+/// stale.
 fn finish(
     alloc: Global,
     proposal: Proposal,

@@ -1,6 +1,7 @@
 //! Operations of a block, done one a turn on its batch.
 
-ghost use Rattle.std.specs.Prelude.{◌≡◌, ℕ, ◌-◌, ◌^◌, ◌<◌, ◌≤◌, List, ◌∷◌, IfOk, IsErrOf, IsSomeAnd, true, take, drop};
+ghost use Rattle.std.specs.Prelude.{◌≡◌, ℕ, ◌-◌, ◌^◌, ◌<◌, ◌≤◌, List, ◌∷◌, IfOk, IsErrOf};
+ghost use Rattle.std.specs.Prelude.{IsSomeAnd, true, take, drop};
 ghost use Rattle.stateful_db.specs.Chain.{has_id, IsPoint};
 ghost use Rattle.stateful_db.specs.Disk.{point};
 ghost use Rattle.stateful_bank.specs.declared.op.Op.{Op};
@@ -36,8 +37,8 @@ pub(crate) enum Advanced {
     Complete(PlainUnmerkleized),
 }
 
-/// The batch after the operation of this number, where there is one. None where it isn't allowed, or where the batch
-/// is stale.
+/// The batch after the operation of this number, where there is one. None where it isn't allowed,
+/// or where the batch is stale.
 fn do_next(
     batch: PlainUnmerkleized,
     database: &Plain,
@@ -87,7 +88,8 @@ impl Progress {
     }
 }
 
-/// The sealed batch. None where the batch is stale. It fails where no number is left, which is then counted.
+/// The sealed batch. None where the batch is stale. It fails where no number is left, which is then
+/// counted.
 pub(crate) fn seal(
     batch: PlainUnmerkleized,
     database: &Plain,

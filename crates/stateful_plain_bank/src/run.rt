@@ -1,6 +1,7 @@
 //! Runs of blocks.
 
-ghost use Rattle.std.specs.Prelude.{◌≡◌, ℕ, ◌+◌, ◌-◌, ◌^◌, ◌<◌, ◌≤◌, List, ◌∷◌, IfOk, IsErrOf, IsTrue, ◌↔◌, Some};
+ghost use Rattle.std.specs.Prelude.{◌≡◌, ℕ, ◌+◌, ◌-◌, ◌^◌, ◌<◌, ◌≤◌, List, ◌∷◌, IfOk, IsErrOf};
+ghost use Rattle.std.specs.Prelude.{IsTrue, ◌↔◌, Some};
 ghost use Rattle.stateful_types.specs.declared.outcome.Finality.{Finality};
 ghost use Rattle.stateful_db.specs.Disk.{point};
 ghost use Rattle.stateful_db.specs.Meaning.{outcome, Ends};
@@ -10,7 +11,8 @@ ghost use Rattle.stateful_plain.specs.Whole.{begun};
 ghost use Rattle.stateful_plain.specs.Stored.{standing_of};
 ghost use Rattle.stateful_plain.specs.Shown.{DraftShows, SealShows};
 ghost use Rattle.stateful_plain_bank.specs.Stepped.{bank_meaning};
-ghost use Rattle.stateful_plain_bank.specs.Runs.{BankRunOf, IsRun, EachRun, IsRejected, IsSealed, counted};
+ghost use Rattle.stateful_plain_bank.specs.Runs.{BankRunOf, IsRun, EachRun, IsRejected, IsSealed};
+ghost use Rattle.stateful_plain_bank.specs.Runs.{counted};
 
 use crate::progress::{Advanced, Progress, seal};
 use stateful_bank::{BankBlock, Op, is_acceptable};

@@ -7,8 +7,8 @@ use stateful_bank::{Op, apply_ops};
 use stateful_plain::PlainState;
 use stateful_types::OutOfMemory;
 
-/// The state after a block of these operations. None exactly where one of them isn't allowed. A state whose range
-/// would end past the last number is refused as want of memory.
+/// The state after a block of these operations. None exactly where one of them isn't allowed. A
+/// state whose range would end past the last number is refused as want of memory.
 pub fn step(state: &PlainState, ops: &[Op]) -> Result<Option<PlainState>, OutOfMemory>
     ensures { IfOk result (λ after. after ≡ stepped state.now ops.now) }
 {

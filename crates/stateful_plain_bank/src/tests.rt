@@ -93,8 +93,8 @@ fn run(
     Ok((None, 0))
 }
 
-/// Builds a block of these operations on genesis, or on the same block at another height, and gives what is handed over and
-/// the turns that it takes.
+/// Builds a block of these operations on genesis, or on the same block at another height, and gives
+/// what is handed over and the turns that it takes.
 fn build(
     rt: &impl Abort,
     alloc: Global,

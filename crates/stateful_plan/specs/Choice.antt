@@ -12,8 +12,8 @@ use Rattle.stateful_plan.specs.declared.error.SyncError.TheVariants.{MissingBloc
 use Rattle.stateful_plan.specs.declared.choice.Resolved.{Resolved}
 use Rattle.stateful_plan.specs.declared.choice.Resolved.TheVariants.{Block, Fetch}
 
--- The block store has come at least as far as the floor's round: it has seen a block processed, and hands out nothing up to
--- a round that isn't before that of the floor.
+-- The block store has come at least as far as the floor's round: it has seen a block processed, and
+-- hands out nothing up to a round that isn't before that of the floor.
 pub record IsCovered (floor : Floor) (round : Round) (processed : Height) : Type 0 where
   pub processed_is : floor.processed ≡ Some processed
   pub cutoff : Round
@@ -37,13 +37,20 @@ module _ {B : Type 0} (stored : ℕ → Option (Named B)) where
 
   -- the store's block of this height, or the refusal that names the height
   pub data IsStored (height : Height) (answer : Result (Named B) SyncError) : Type 0 where
-    there : (block : Named B) → stored height.0 ≡ Some block → answer ≡ Ok block → IsStored height answer
-    missing : stored height.0 ≡ None → answer ≡ Err (MissingBlock (AtHeight height)) → IsStored height answer
+    there : (block : Named B)
+        → stored height.0 ≡ Some block
+        → answer ≡ Ok block
+        → IsStored height answer
+    missing : stored height.0 ≡ None
+        → answer ≡ Err (MissingBlock (AtHeight height))
+        → IsStored height answer
 
   module _ (floor : Floor) where
-    -- What a floor resolves to. Where the store has come at least as far, it is the block right behind the processed one if
-    -- that is the floor's own, and else the processed one. In all other cases the floor's block is to be fetched.
-    pub data Resolves (round : Round) (payload : Digest) (answer : Result (Resolved B) SyncError) : Type 0 where
+    -- What a floor resolves to. Where the store has come at least as far, it is the block right
+    -- behind the processed one if that is the floor's own, and else the processed one. In all other
+    -- cases the floor's block is to be fetched.
+    pub data Resolves (round : Round) (payload : Digest)
+        (answer : Result (Resolved B) SyncError) : Type 0 where
       next : (processed : Height) (block : Named B)
           → IsCovered floor round processed
           → IsNext processed block
@@ -66,8 +73,10 @@ module _ {B : Type 0} (stored : ℕ → Option (Named B)) where
           → answer ≡ Ok (Fetch payload)
           → Resolves round payload answer
 
-    -- What a fetch resolves to, by the heights of blocks: the fetched block, or the processed one if that is higher.
-    pub data ResolvesFetched (height_of : B → ℕ) (fetched : Option (Named B)) (answer : Result (Named B) SyncError) : Type 0 where
+    -- What a fetch resolves to, by the heights of blocks: the fetched block, or the processed one
+    -- if that is higher.
+    pub data ResolvesFetched (height_of : B → ℕ) (fetched : Option (Named B))
+        (answer : Result (Named B) SyncError) : Type 0 where
       unanswered : fetched ≡ None
           → answer ≡ Err (MissingBlock Fetched)
           → ResolvesFetched height_of fetched answer

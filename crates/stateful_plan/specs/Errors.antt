@@ -23,5 +23,6 @@ of_store store.OutOfMemory = plan.OutOfMemory
 -- of a database of this number that didn't open
 abbrev pub of_opening : ℕ → InitError → SyncError
 of_opening index init.Database = sync.Database index
-of_opening index (init.TargetMismatch expected recovered) = sync.TargetMismatch index expected recovered
+of_opening index (init.TargetMismatch expected recovered) =
+    sync.TargetMismatch index expected recovered
 of_opening index init.OutOfMemory = sync.OutOfMemory

@@ -8,8 +8,8 @@ use Rattle.stateful_plan.specs.Plan.{floor_of, completion_of, digest_of, TakesFl
 use Rattle.stateful_plan.specs.declared.state.SyncState.{SyncState}
 
 module _ {S K C : Type 0} where
-  -- One call: a floor is taken or ignored, a completion is recorded, or nothing changes. The last is so of a call that is
-  -- refused, of one that only reads, and where the store is loaded again.
+  -- One call: a floor is taken or ignored, a completion is recorded, or nothing changes. The last
+  -- is so of a call that is refused, of one that only reads, and where the store is loaded again.
   pub data Call (old new : Option (SyncState S K C)) : Type 0 where
     takes_floor : (f : Finalization C) → TakesFloor old f new → Call old new
     completes : (height : Height) (digest : Digest) → Completes old height digest new → Call old new
@@ -18,10 +18,14 @@ module _ {S K C : Type 0} where
   -- calls, one after another
   pub data Calls : Option (SyncState S K C) → Option (SyncState S K C) → Type 0 where
     none : {state : Option (SyncState S K C)} → Calls state state
-    further : {old mid new : Option (SyncState S K C)} → Call old mid → Calls mid new → Calls old new
+    further : {old mid new : Option (SyncState S K C)}
+        → Call old mid
+        → Calls mid new
+        → Calls old new
 
-  -- What was accepted later is ahead. A recorded height never falls, and a digest that was recorded with it stays as long
-  -- as the height does. A floor stays, or a floor of a later round comes in its place, until there is a completion.
+  -- What was accepted later is ahead. A recorded height never falls, and a digest that was recorded
+  -- with it stays as long as the height does. A floor stays, or a floor of a later round comes in
+  -- its place, until there is a completion.
   pub record IsAhead (old new : Option (SyncState S K C)) : Type 0 where
     pub height : (before : Height) → completion_of old ≡ Some before
         → (now : Height) × (completion_of new ≡ Some now) × (before.0 ≤ now.0)
@@ -37,4 +41,8 @@ module _ {S K C : Type 0} where
 
   -- whatever calls follow, each leaves a state that is ahead of all earlier ones
   abbrev pub NeverFallsBack : Option (SyncState S K C) → Type 0
-  NeverFallsBack first = (earlier later : Option (SyncState S K C)) → Calls first earlier → Calls earlier later → IsAhead earlier later
+  NeverFallsBack first =
+      (earlier later : Option (SyncState S K C))
+      → Calls first earlier
+      → Calls earlier later
+      → IsAhead earlier later

@@ -12,7 +12,8 @@ use Rattle.stateful_db.specs.declared.database.InitError.TheVariants as init
 use Rattle.stateful_plan.specs.Errors.{of_opening}
 use Rattle.stateful_plan.specs.declared.error.Missing.TheVariants.{AtHeight}
 use Rattle.stateful_plan.specs.declared.error.SyncError.{SyncError}
-use Rattle.stateful_plan.specs.declared.error.SyncError.TheVariants.{MissingBlock, CompletedConflict, OutOfMemory}
+use Rattle.stateful_plan.specs.declared.error.SyncError.TheVariants.{MissingBlock}
+use Rattle.stateful_plan.specs.declared.error.SyncError.TheVariants.{CompletedConflict, OutOfMemory}
 
 -- the height, or 0 where there is none
 abbrev pub height_or_first : Option Height → ℕ
@@ -29,12 +30,14 @@ abbrev pub opening_height : Option Height → Option (Height × Option Digest) �
 opening_height processed completed = max (height_or_first processed) (completion_or_first completed)
 
 -- the completion is at this height, with a recorded digest that isn't this one
-pub record IsContradicted (completed : Option (Height × Option Digest)) (height : ℕ) (recorded given : Digest) : Type 0 where
+pub record IsContradicted (completed : Option (Height × Option Digest)) (height : ℕ)
+    (recorded given : Digest) : Type 0 where
   pub completion_is : completed ≡ Some (record { 0 = height }, Some recorded)
   pub differs : recorded ≡ given → ⊥
 
 -- the block of this digest may be opened, unless it is contradicted
-pub data IsChecked (completed : Option (Height × Option Digest)) (height : ℕ) (digest : Digest) (answer : Result (Unit {0}) SyncError) : Type 0 where
+pub data IsChecked (completed : Option (Height × Option Digest)) (height : ℕ) (digest : Digest)
+    (answer : Result (Unit {0}) SyncError) : Type 0 where
   agrees : ((recorded : Digest) → IsContradicted completed height recorded digest → ⊥)
       → answer ≡ Ok tt
       → IsChecked completed height digest answer
@@ -43,21 +46,35 @@ pub data IsChecked (completed : Option (Height × Option Digest)) (height : ℕ)
       → answer ≡ Err (CompletedConflict (record { 0 = height }) recorded digest)
       → IsChecked completed height digest answer
 
--- Why the database of this number didn't open: memory ran out, its count rose from this to that, or its checkpoints speak
--- against it.
-abbrev pub IsRefused : {Ids States Targets : Type 0} (kind : Databases Ids States Targets) → Option Targets → (before now : ℕ) → kind.Members → ℕ → InitError → Type 0
-IsRefused kind expected before now members index why = (why ≡ init.OutOfMemory) ⊎ (((why ≡ init.Database) × Rose before now) ⊎ kind.Refuses members expected index why)
+-- Why the database of this number didn't open: memory ran out, its count rose from this to that, or
+-- its checkpoints speak against it.
+abbrev pub IsRefused : {Ids States Targets : Type 0} (kind : Databases Ids States Targets)
+    → Option Targets
+    → (before now : ℕ)
+    → kind.Members
+    → ℕ
+    → InitError
+    → Type 0
+IsRefused kind expected before now members index why =
+    (why ≡ init.OutOfMemory)
+    ⊎ (((why ≡ init.Database) × Rose before now) ⊎ kind.Refuses members expected index why)
 
-module _ {Ids States Targets B : Type 0} (kind : Databases Ids States Targets) (header : Header B) (targets_of : B → Targets) (stored : ℕ → Option (Named B)) where
-  -- the store has this block at the height that is to be opened, and no recorded digest speaks against it
-  pub record IsToOpen (height : ℕ) (completed : Option (Height × Option Digest)) (block : Named B) : Type 0 where
+module _ {Ids States Targets B : Type 0} (kind : Databases Ids States Targets) (header : Header B)
+    (targets_of : B → Targets) (stored : ℕ → Option (Named B)) where
+  -- the store has this block at the height that is to be opened, and no recorded digest speaks
+  -- against it
+  pub record IsToOpen (height : ℕ) (completed : Option (Height × Option Digest))
+      (block : Named B) : Type 0 where
     pub stored_is : stored height ≡ Some block
     pub agrees : (recorded : Digest) → IsContradicted completed height recorded block.digest → ⊥
 
-  -- What an opening at a height answers, and what it makes of the databases, whose counts of faults were these and are those.
-  -- The block is missing, or it isn't the recorded one; then the databases are as before. Or one of them doesn't open at the
-  -- block's targets. Or all are open there, and the anchor is the block's.
-  pub data Opens (height : ℕ) (completed : Option (Height × Option Digest)) (counted now_counted : ℕ → ℕ) (old new : kind.Members) (answer : Result Anchor SyncError) : Type 0 where
+  -- What an opening at a height answers, and what it makes of the databases, whose counts of faults
+  -- were these and are those. The block is missing, or it isn't the recorded one; then the
+  -- databases are as before. Or one of them doesn't open at the block's targets. Or all are open
+  -- there, and the anchor is the block's.
+  pub data Opens (height : ℕ) (completed : Option (Height × Option Digest))
+      (counted now_counted : ℕ → ℕ) (old new : kind.Members)
+      (answer : Result Anchor SyncError) : Type 0 where
     missing : stored height ≡ None
         → new ≡ old
         → answer ≡ Err (MissingBlock (AtHeight (record { 0 = height })))
@@ -72,7 +89,8 @@ module _ {Ids States Targets B : Type 0} (kind : Databases Ids States Targets) (
         → IsToOpen height completed block
         → index < kind.count
         → (kind.count < 2 ^ 64
-        → kind.NotOpened old (Some (targets_of block.block)) index (counted index) (now_counted index) why new)
+        → kind.NotOpened old (Some (targets_of block.block)) index (counted index)
+        (now_counted index) why new)
         → answer ≡ Err (of_opening index why)
         → Opens height completed counted now_counted old new answer
     opened : (block : Named B)

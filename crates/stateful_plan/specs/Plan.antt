@@ -11,7 +11,9 @@ use Rattle.stateful_plan.specs.Worth.{IsWorth}
 use Rattle.stateful_plan.specs.declared.state.SyncState.{SyncState}
 use Rattle.stateful_plan.specs.declared.state.SyncState.TheVariants.{InProgress, Complete}
 use Rattle.stateful_plan.specs.declared.error.PlanError.{PlanError}
-use Rattle.stateful_plan.specs.declared.error.PlanError.TheVariants.{InvalidEnum, EndOfBuffer, PlanStore, CompletedBackward, CompletedConflict, OutOfMemory}
+use Rattle.stateful_plan.specs.declared.error.PlanError.TheVariants.{InvalidEnum, EndOfBuffer}
+use Rattle.stateful_plan.specs.declared.error.PlanError.TheVariants.{PlanStore, CompletedBackward}
+use Rattle.stateful_plan.specs.declared.error.PlanError.TheVariants.{CompletedConflict, OutOfMemory}
 
 -- a store, and what was accepted last, if anything ever was
 pub record Planned (P S K C : Type 0) : Type 0 where
@@ -37,12 +39,14 @@ module _ {S K C : Type 0} where
   digest_of (Some (InProgress f)) = None
   digest_of (Some (Complete height digest)) = digest
 
-  -- a floor that is new: there is no completion, and its round is later than that of the floor that is there, if there is one
+  -- a floor that is new: there is no completion, and its round is later than that of the floor that
+  -- is there, if there is one
   pub record IsNew (state : Option (SyncState S K C)) (f : Finalization C) : Type 0 where
     pub may_sync : completion_of state ≡ None
     pub later : (floor : Finalization C) → floor_of state ≡ Some floor → IsLater floor.round f.round
 
-  -- a floor that changes nothing: there is a completion, or its round isn't later than that of the floor that is there
+  -- a floor that changes nothing: there is a completion, or its round isn't later than that of the
+  -- floor that is there
   pub data IsIgnored (state : Option (SyncState S K C)) (f : Finalization C) : Type 0 where
     completed : (height : Height) → completion_of state ≡ Some height → IsIgnored state f
     not_later : (floor : Finalization C)
@@ -51,17 +55,23 @@ module _ {S K C : Type 0} where
         → IsIgnored state f
 
   -- a floor is taken where it is new, and else ignored
-  pub data TakesFloor (old : Option (SyncState S K C)) (f : Finalization C) (new : Option (SyncState S K C)) : Type 0 where
+  pub data TakesFloor (old : Option (SyncState S K C)) (f : Finalization C)
+      (new : Option (SyncState S K C)) : Type 0 where
     taken : IsNew old f → new ≡ Some (InProgress f) → TakesFloor old f new
     ignored : IsIgnored old f → new ≡ old → TakesFloor old f new
 
-  -- A completion may be recorded: its height isn't below the recorded one, and at that height no other digest is recorded.
-  pub record MayComplete (state : Option (SyncState S K C)) (height : Height) (digest : Digest) : Type 0 where
+  -- A completion may be recorded: its height isn't below the recorded one, and at that height no
+  -- other digest is recorded.
+  pub record MayComplete (state : Option (SyncState S K C)) (height : Height)
+      (digest : Digest) : Type 0 where
     pub above : (recorded : Height) → completion_of state ≡ Some recorded → recorded.0 ≤ height.0
-    pub same : (recorded : Digest) → state ≡ Some (Complete height (Some recorded)) → recorded ≡ digest
+    pub same : (recorded : Digest)
+        → state ≡ Some (Complete height (Some recorded))
+        → recorded ≡ digest
 
   -- a completion is recorded that may be
-  pub record Completes (old : Option (SyncState S K C)) (height : Height) (digest : Digest) (new : Option (SyncState S K C)) : Type 0 where
+  pub record Completes (old : Option (SyncState S K C)) (height : Height) (digest : Digest)
+      (new : Option (SyncState S K C)) : Type 0 where
     pub may : MayComplete old height digest
     pub recorded : new ≡ Some (Complete height (Some digest))
 
@@ -71,20 +81,28 @@ module _ {S K C : Type 0} where
     pub below : given.0 < recorded.0
 
   -- a completion at the recorded height, with which another digest was recorded
-  pub record IsConflict (state : Option (SyncState S K C)) (height : Height) (recorded given : Digest) : Type 0 where
+  pub record IsConflict (state : Option (SyncState S K C)) (height : Height)
+      (recorded given : Digest) : Type 0 where
     pub recorded_is : state ≡ Some (Complete height (Some recorded))
     pub differs : recorded ≡ given → ⊥
 
   -- what the store holds is worth this, where it is told what it holds
   abbrev pub IsKept : Format C → Option (Option (List ℕ)) → Option (SyncState S K C) → Type 0
-  IsKept certificate held state = IfSome held (λ value. IsWorth (state_format certificate) value (Ok state))
+  IsKept certificate stored state =
+      IfSome stored (λ value. IsWorth (state_format certificate) value (Ok state))
 
-  -- A plan was loaded: its state is what the stored value is worth. Or it wasn't, by the fault of the stored bytes. Or the
-  -- store failed, or memory ran out.
-  abbrev pub IsLoaded : {P : Type 0} → Format C → Option (List ℕ) → Result (Planned P S K C) PlanError → Type 0
+  -- A plan was loaded: its state is what the stored value is worth. Or it wasn't, by the fault of
+  -- the stored bytes. Or the store failed, or memory ran out.
+  abbrev pub IsLoaded : {P : Type 0}
+      → Format C
+      → Option (List ℕ)
+      → Result (Planned P S K C) PlanError
+      → Type 0
   IsLoaded certificate value (Ok plan) = IsWorth (state_format certificate) value (Ok plan.state)
-  IsLoaded certificate value (Err (InvalidEnum byte)) = IsWorth (state_format {S = S} {K = K} certificate) value (Err (codec.InvalidEnum byte))
-  IsLoaded certificate value (Err EndOfBuffer) = IsWorth (state_format {S = S} {K = K} certificate) value (Err codec.EndOfBuffer)
+  IsLoaded certificate value (Err (InvalidEnum byte)) =
+      IsWorth (state_format {S = S} {K = K} certificate) value (Err (codec.InvalidEnum byte))
+  IsLoaded certificate value (Err EndOfBuffer) =
+      IsWorth (state_format {S = S} {K = K} certificate) value (Err codec.EndOfBuffer)
   IsLoaded certificate value (Err PlanStore) = Unit {0}
   IsLoaded certificate value (Err OutOfMemory) = Unit {0}
   IsLoaded certificate value (Err (CompletedBackward recorded given)) = ⊥

@@ -16,7 +16,8 @@ module _ {S K C : Type 0} (certificate : Format C) where
   abbrev pub state_bytes : SyncState S K C → List ℕ
   state_bytes (InProgress f) = 0 ∷ [] ++ (finalization_format certificate).spelling f
   state_bytes (Complete height None) = 1 ∷ [] ++ height_format.spelling height
-  state_bytes (Complete height (Some digest)) = 2 ∷ [] ++ (height_format.spelling height ++ digest_format.spelling digest)
+  state_bytes (Complete height (Some digest)) =
+      2 ∷ [] ++ (height_format.spelling height ++ digest_format.spelling digest)
 
   -- byte 0 and the floor; byte 1 and the height; or byte 2, the height and the digest
   abbrev pub state_format : Format (SyncState S K C)

@@ -4,7 +4,8 @@ use Rattle.stateful_types.specs.Causes.{risen}
 use Rattle.stateful_plan.specs.declared.store.PlanCall.{PlanCall}
 use Rattle.stateful_plan.specs.declared.store.PlanCall.TheVariants.{Load, Put}
 
--- its value, the calls that are to fail, the numbers of the next calls, and how many calls have failed
+-- its value, the calls that are to fail, the numbers of the next calls, and how many calls have
+-- failed
 pub record StoredPlan : Type 0 where
   pub value : Option (List ℕ)
   pub failing : List (PlanCall × ℕ)

@@ -1,9 +1,11 @@
 //! From which block a sync starts.
 
-ghost use Rattle.std.specs.Prelude.{◌≡◌, ◌↔◌, ◌≢◌, ◌+◌, ◌<◌, ◌^◌, Err, Option, Result, IsTrue, IfOk, MatchOption};
+ghost use Rattle.std.specs.Prelude.{◌≡◌, ◌↔◌, ◌≢◌, ◌+◌, ◌<◌, ◌^◌, Err, Option, Result, IsTrue};
+ghost use Rattle.std.specs.Prelude.{IfOk, MatchOption};
 ghost use Rattle.stateful_types.specs.Names.{Named};
 ghost use Rattle.stateful_types.specs.declared.number.Height.{Height};
-ghost use Rattle.stateful_plan.specs.Choice.{IsCovered, IsNext, HasNext, IsStored, IsBehind, Resolves, ResolvesFetched};
+ghost use Rattle.stateful_plan.specs.Choice.{IsCovered, IsNext, HasNext, IsStored, IsBehind};
+ghost use Rattle.stateful_plan.specs.Choice.{Resolves, ResolvesFetched};
 ghost use Rattle.stateful_plan.specs.Refusals.{UnlessMemory};
 ghost use Rattle.stateful_plan.specs.declared.error.SyncError.{SyncError};
 ghost use Rattle.stateful_plan.specs.declared.error.SyncError.TheVariants as errors;
@@ -13,18 +15,21 @@ use stateful_types::{
     Block, BlockStore, Digest, Digested, Finalization, Floor, Height, OutOfMemory, Round,
 };
 
-/// What a floor resolves to: a block of the block store, or the digest of the one that is to be fetched.
+/// What a floor resolves to: a block of the block store, or the digest of the one that is to be
+/// fetched.
 #[derive(Drop)]
 pub enum Resolved<B> {
     Block(Digested<B>),
     Fetch(Digest),
 }
 
-/// Chooses the block from which a sync to this finalization starts. `floor` is what the block store reports.
+/// Chooses the block from which a sync to this finalization starts. `floor` is what the block store
+/// reports.
 ///
-/// Where the store has seen a block processed, and its cutoff isn't before the finalized round, the store's block right
-/// behind the processed one is chosen if it is the finalized one, and else the processed one. Behind the last height there
-/// is no block. In all other cases the finalized block is to be fetched.
+/// Where the store has seen a block processed, and its cutoff isn't before the finalized round, the
+/// store's block right behind the processed one is chosen if it is the finalized one, and else the
+/// processed one. Behind the last height there is no block. In all other cases the finalized block
+/// is to be fetched.
 pub fn resolve<B: Block + Drop, T: BlockStore<B>, C>(
     store: &T,
     floor: &Floor,
@@ -48,8 +53,8 @@ pub fn resolve<B: Block + Drop, T: BlockStore<B>, C>(
     Ok(Resolved::Block(block_at(store, processed)?))
 }
 
-/// Chooses the block from which a sync starts whose floor was fetched, by the answer of the fetch: the fetched block, or the
-/// store's processed one if that is higher.
+/// Chooses the block from which a sync starts whose floor was fetched, by the answer of the fetch:
+/// the fetched block, or the store's processed one if that is higher.
 pub fn resolve_fetched<B: Block + Drop, T: BlockStore<B>>(
     store: &T,
     floor: &Floor,

@@ -14,7 +14,8 @@ use thiserror::Error;
 /// Why a plan didn't load, or didn't change.
 #[derive(Clone, Copy, Debug, PartialEq, Eq, Error)]
 pub enum PlanError {
-    /// A byte that no case has stands in the stored bytes, or a byte is left over behind a whole state.
+    /// A byte that no case has stands in the stored bytes, or a byte is left over behind a whole
+    /// state.
     #[error("InvalidEnum")]
     InvalidEnum(u8),
     /// The stored bytes end inside a state.
@@ -91,7 +92,8 @@ pub enum Missing {
 /// Why no start of a sync was chosen, why databases weren't opened, or why a sync goes no further.
 #[derive(Clone, Copy, Debug, PartialEq, Eq, Error)]
 pub enum SyncError {
-    /// The database of this number failed to open, or keeps no checkpoint with the end that the block commits to.
+    /// The database of this number failed to open, or keeps no checkpoint with the end that the
+    /// block commits to.
     #[error("Database")]
     Database {
         index: usize,
@@ -106,7 +108,8 @@ pub enum SyncError {
     /// The block that is to be chosen isn't there.
     #[error("MissingBlock")]
     MissingBlock(Missing),
-    /// The block that is to be opened isn't the one with which the completion at its height was recorded.
+    /// The block that is to be opened isn't the one with which the completion at its height was
+    /// recorded.
     #[error("CompletedConflict")]
     CompletedConflict {
         height: Height,

@@ -1,13 +1,14 @@
 //! What a node remembers of its sync, where a sync starts, and how databases are opened behind one.
 //!
-//! A node that begins late asks peers for the databases of a finalized block, its floor. The plan keeps that floor until
-//! the sync is done, over all restarts, and then the height and the digest of the block at which it was done: from then on
-//! the node never syncs from peers again. [`SyncPlan`] is that memory over a store of one value. A floor never moves to an
-//! earlier round, and a completion never to a lower height.
+//! A node that begins late asks peers for the databases of a finalized block, its floor. The plan
+//! keeps that floor until the sync is done, over all restarts, and then the height and the digest
+//! of the block at which it was done: from then on the node never syncs from peers again.
+//! [`SyncPlan`] is that memory over a store of one value. A floor never moves to an earlier round,
+//! and a completion never to a lower height.
 //!
-//! [`resolve`] and [`resolve_fetched`] choose the block from which a sync starts: the floor's own, or one of the block
-//! store where that has come further. [`open_set`] opens databases that no sync is to fill, at the block up to which the
-//! node has come.
+//! [`resolve`] and [`resolve_fetched`] choose the block from which a sync starts: the floor's own,
+//! or one of the block store where that has come further. [`open_set`] opens databases that no sync
+//! is to fill, at the block up to which the node has come.
 #![tactic(auto)]
 
 mod choice;

@@ -15,10 +15,11 @@ use crate::error::SyncError;
 use stateful_db::{Application, DatabaseSet};
 use stateful_types::{Anchor, BlockStore, Digest, Height};
 
-/// Opens each database at the targets of the block store's block of the later of two heights: `processed`, which the store
-/// reports, and that of `completed`, the recorded completion with the digest that was recorded. Without either it is
-/// height 0. The order of refusals is: the block is missing, it isn't the recorded one, a database didn't open, a database
-/// opened at another target. The completion with the anchor's height and digest is to be recorded then.
+/// Opens each database at the targets of the block store's block of the later of two heights:
+/// `processed`, which the store reports, and that of `completed`, the recorded completion with the
+/// digest that was recorded. Without either it is height 0. The order of refusals is: the block is
+/// missing, it isn't the recorded one, a database didn't open, a database opened at another target.
+/// The completion with the anchor's height and digest is to be recorded then.
 pub fn open_set<A: Application, T: BlockStore<A::Block>>(
     databases: &mut A::Databases,
     config: &<A::Databases as DatabaseSet>::Config,
@@ -44,7 +45,8 @@ pub fn open_set<A: Application, T: BlockStore<A::Block>>(
         → IsErrOf result (SyncError.CompletedConflict height recorded given)
         → databases.new ≡ databases.old }
 
-    // A database that didn't open has a cause, and where there is one but for its count no opening comes to its end.
+    // A database that didn't open has a cause, and where there is one but for its count no opening
+    // comes to its end.
     ensures cause { (block : Named A.Block) (index : ℕ) (why : InitError)
         → T.stored store.now (opening_height processed completed) ≡ Some block
         → IsErrOf result (of_opening index why)

@@ -1,6 +1,7 @@
 //! The plan: what a node remembers of its sync, over a store of one value.
 
-ghost use Rattle.std.specs.Prelude.{◌≡◌, ◌↔◌, ◌≤◌, ◌⊎◌, ℕ, Option, None, IsErrOf, IsSome, IsTrue, IsFalse, IfOk, IfErr, IfSome, OnOk, OnErr};
+ghost use Rattle.std.specs.Prelude.{◌≡◌, ◌↔◌, ◌≤◌, ◌⊎◌, ℕ, Option, None, IsErrOf, IsSome, IsTrue};
+ghost use Rattle.std.specs.Prelude.{IsFalse, IfOk, IfErr, IfSome, OnOk, OnErr};
 ghost use Rattle.std.specs.Option.{option_copied};
 ghost use Rattle.stateful_types.specs.Causes.{Rose};
 ghost use Rattle.stateful_types.specs.declared.digest.Digest.{Digest};
@@ -8,7 +9,9 @@ ghost use Rattle.stateful_types.specs.declared.number.Height.{Height};
 ghost use Rattle.stateful_types.specs.Format.{UnlessMemory};
 ghost use Rattle.stateful_plan.specs.State.{state_format};
 ghost use Rattle.stateful_plan.specs.Worth.{IsWhole};
-ghost use Rattle.stateful_plan.specs.Plan.{floor_of, completion_of, digest_of, IsNew, IsIgnored, TakesFloor, MayComplete, Completes, IsBackward, IsConflict, IsKept, IsLoaded, IsOfBytes, IsOfCompletion};
+ghost use Rattle.stateful_plan.specs.Plan.{floor_of, completion_of, digest_of, IsNew, IsIgnored};
+ghost use Rattle.stateful_plan.specs.Plan.{TakesFloor, MayComplete, Completes, IsBackward};
+ghost use Rattle.stateful_plan.specs.Plan.{IsConflict, IsKept, IsLoaded, IsOfBytes, IsOfCompletion};
 ghost use Rattle.stateful_plan.specs.Laws.{Call, NeverFallsBack};
 ghost use Rattle.stateful_plan.specs.Start.{Starts};
 ghost use Rattle.stateful_plan.specs.declared.state.SyncState.{SyncState};
@@ -43,30 +46,31 @@ impl<P: PlanStore, S: Scheme> Model for SyncPlan<P, S> {
 
     ghost view = { λ a. record { store = a.store; state = a.state } };
 
-    ghost invariant = { λ a. IsKept S.certificates (P.held a.store) a.state };
+    ghost invariant = { λ a. IsKept S.certificates (P.stored a.store) a.state };
 }
 
 impl<P: PlanStore + Drop, S: Scheme> SyncPlan<P, S> {
-    /// Loads the plan. The store holds the value of one partition, so the prefix of its name tells it nothing more.
+    /// Loads the plan. The store holds the value of one partition, so the prefix of its name tells
+    /// it nothing more.
     pub fn init(
         alloc: Global,
         mut store: P,
         _partition_prefix: &str,
     ) -> Result<SyncPlan<P, S>, PlanError>
         // The answer is what the stored bytes are worth, unless the store failed or memory ran out.
-        ensures loaded { IfSome (P.held store) (λ value. IsLoaded S.certificates value result) }
+        ensures loaded { IfSome (P.stored store) (λ value. IsLoaded S.certificates value result) }
         ensures cause { IsErrOf result PlanError.PlanStore
             → (failed : P)
-            × (P.held failed ≡ P.held store)
+            × (P.stored failed ≡ P.stored store)
             × Rose (P.count store) (P.count failed) }
-        ensures kept { IfOk result (λ plan. IsKept S.certificates (P.held plan.store) plan.state) }
-        ensures same { IfOk result (λ plan. P.held plan.store ≡ P.held store) }
+        ensures kept { IfOk result (λ plan. IsKept S.certificates (P.stored plan.store) plan.state) }
+        ensures same { IfOk result (λ plan. P.stored plan.store ≡ P.stored store) }
         ensures later { IfOk result (λ plan. P.count store ≤ P.count plan.store) }
 
         // Where the store was that of a plan, this one has what that plan accepted last.
-        ensures again { IfOk result (λ plan. IfSome (P.held store) (λ _.
+        ensures again { IfOk result (λ plan. IfSome (P.stored store) (λ _.
             (earlier : Option (SyncState S S.Key S.Certificate))
-            → IsKept S.certificates (P.held store) earlier
+            → IsKept S.certificates (P.stored store) earlier
             → plan.state ≡ earlier)) }
 
         // Whatever calls follow.
@@ -140,8 +144,9 @@ impl<P: PlanStore + Drop, S: Scheme> SyncPlan<P, S> {
         }
     }
 
-    /// Takes a floor, which makes every start of the node a sync until one is done. It is ignored where a completion is
-    /// recorded, or where its round isn't later than that of the floor that is there.
+    /// Takes a floor, which makes every start of the node a sync until one is done. It is ignored
+    /// where a completion is recorded, or where its round isn't later than that of the floor that
+    /// is there.
     pub fn set_floor(&mut self, finalization: Finalization<S::Certificate>) -> Result<(), PlanError>
         ensures ok { OnOk result (TakesFloor self.old.state finalization self.new.state) }
         ensures ignored { IsIgnored self.old.state finalization
@@ -152,9 +157,9 @@ impl<P: PlanStore + Drop, S: Scheme> SyncPlan<P, S> {
             → Rose (P.count self.old.store) (P.count self.new.store) }
         ensures only { IfErr result (λ e. (IsOfBytes e → ⊥) × (IsOfCompletion e → ⊥)) }
         ensures err { OnErr result ((self.new.state ≡ self.old.state)
-            × (P.held self.new.store ≡ P.held self.old.store)) }
+            × (P.stored self.new.store ≡ P.stored self.old.store)) }
 
-        ensures kept { IsKept S.certificates (P.held self.new.store) self.new.state }
+        ensures kept { IsKept S.certificates (P.stored self.new.store) self.new.state }
         ensures call { Call self.old.state self.new.state }
         ensures later { P.count self.old.store ≤ P.count self.new.store }
     {
@@ -164,8 +169,8 @@ impl<P: PlanStore + Drop, S: Scheme> SyncPlan<P, S> {
         self.accept(SyncState::InProgress(finalization))
     }
 
-    /// Records a completion with the block at which it was done. Its height isn't below the recorded one, and at that height
-    /// the block is the recorded one.
+    /// Records a completion with the block at which it was done. Its height isn't below the
+    /// recorded one, and at that height the block is the recorded one.
     pub fn set_completed(&mut self, height: Height, digest: Digest) -> Result<(), PlanError>
         ensures ok { OnOk result (Completes self.old.state height digest self.new.state) }
 
@@ -183,8 +188,8 @@ impl<P: PlanStore + Drop, S: Scheme> SyncPlan<P, S> {
         ensures only { IfErr result (λ e. IsOfBytes e → ⊥) }
 
         ensures err { OnErr result ((self.new.state ≡ self.old.state)
-            × (P.held self.new.store ≡ P.held self.old.store)) }
-        ensures kept { IsKept S.certificates (P.held self.new.store) self.new.state }
+            × (P.stored self.new.store ≡ P.stored self.old.store)) }
+        ensures kept { IsKept S.certificates (P.stored self.new.store) self.new.state }
         ensures call { Call self.old.state self.new.state }
         ensures later { P.count self.old.store ≤ P.count self.new.store }
     {
@@ -198,7 +203,7 @@ impl<P: PlanStore + Drop, S: Scheme> SyncPlan<P, S> {
     /// The store, which holds what was accepted last.
     pub fn into_store(self) -> P
         ensures store { result ≡ self.store }
-        ensures kept { IsKept S.certificates (P.held result) self.state }
+        ensures kept { IsKept S.certificates (P.stored result) self.state }
     {
         let SyncPlan {
             alloc: _,
@@ -212,7 +217,7 @@ impl<P: PlanStore + Drop, S: Scheme> SyncPlan<P, S> {
     fn ignores(&self, finalization: &Finalization<S::Certificate>) -> bool
         ensures ignored { IsTrue result ↔ IsIgnored self.now.state finalization.now }
         ensures new { IsFalse result → IsNew self.now.state finalization.now }
-        ensures kept { IsKept S.certificates (P.held self.now.store) self.now.state }
+        ensures kept { IsKept S.certificates (P.stored self.now.store) self.now.state }
     {
         let Some(state) = &self.state else {
             return false;
@@ -238,7 +243,7 @@ impl<P: PlanStore + Drop, S: Scheme> SyncPlan<P, S> {
             × (given ≡ digest)) }
         ensures ok { OnOk result (MayComplete self.now.state height digest) }
         ensures only { IfErr result IsOfCompletion }
-        ensures kept { IsKept S.certificates (P.held self.now.store) self.now.state }
+        ensures kept { IsKept S.certificates (P.stored self.now.store) self.now.state }
     {
         let Some(
             SyncState::Complete {
@@ -272,8 +277,8 @@ impl<P: PlanStore + Drop, S: Scheme> SyncPlan<P, S> {
     fn accept(&mut self, state: SyncState<S>) -> Result<(), PlanError>
         ensures ok { OnOk result (self.new.state ≡ Some state) }
         ensures err { OnErr result ((self.new.state ≡ self.old.state)
-            × (P.held self.new.store ≡ P.held self.old.store)) }
-        ensures kept { IsKept S.certificates (P.held self.new.store) self.new.state }
+            × (P.stored self.new.store ≡ P.stored self.old.store)) }
+        ensures kept { IsKept S.certificates (P.stored self.new.store) self.new.state }
         ensures cause { IsErrOf result PlanError.PlanStore
             → Rose (P.count self.old.store) (P.count self.new.store) }
         ensures only { IfErr result (λ e. (IsOfBytes e → ⊥) × (IsOfCompletion e → ⊥)) }

@@ -18,8 +18,8 @@ use std::alloc::Global;
 pub enum SyncState<S: Scheme> {
     /// It syncs to this floor.
     InProgress(Finalization<S::Certificate>),
-    /// It has its databases, and never syncs again. When this was recorded they held the block of this height, and of this
-    /// digest where that was recorded too.
+    /// It has its databases, and never syncs again. When this was recorded they held the block of
+    /// this height, and of this digest where that was recorded too.
     Complete {
         height: Height,
         digest: Option<Digest>,
@@ -27,8 +27,8 @@ pub enum SyncState<S: Scheme> {
 }
 
 impl<S: Scheme> SyncState<S> {
-    /// Appends byte 0 and the floor; or byte 1 and the height where no digest was recorded; or byte 2, the height and the
-    /// digest.
+    /// Appends byte 0 and the floor; or byte 1 and the height where no digest was recorded; or byte
+    /// 2, the height and the digest.
     pub fn write(&self, out: &mut Vec<u8>) -> Result<(), OutOfMemory>
         ensures { Writes (state_format S.certificates) self.now result out.old.items
             out.new.items }
@@ -91,8 +91,8 @@ impl<S: Scheme> SyncState<S> {
     }
 }
 
-/// No spelling of a state begins another, and so no state has the spelling of another. And what a store holds is worth one
-/// state, or has one fault, and nothing else.
+/// No spelling of a state begins another, and so no state has the spelling of another. And what a
+/// store holds is worth one state, or has one fault, and nothing else.
 pub fn no_state_begins_another<S: Scheme>()
     ensures states { IsFormat (state_format {S = S} {K = S.Key} S.certificates) }
     ensures worth { (value : Option (List ℕ))

@@ -1,6 +1,7 @@
 //! Stores of one value.
 
-ghost use Rattle.std.specs.Prelude.{◌≡◌, ◌↔◌, ◌≤◌, Some, IsErrOf, IsTrue, IfOk, OnOk, OnErr, Contains};
+ghost use Rattle.std.specs.Prelude.{◌≡◌, ◌↔◌, ◌≤◌, Some, IsErrOf, IsTrue, IfOk, OnOk, OnErr};
+ghost use Rattle.std.specs.Prelude.{Contains};
 ghost use Rattle.stateful_types.specs.Causes.{Rose, risen};
 ghost use Rattle.stateful_plan.specs.Store.{IsListed, numbered, failed};
 
@@ -32,25 +33,27 @@ impl From<AllocError> for StoreFault {
 
 /// Keeps one value, or none, over restarts. What a node remembers of its sync is such a value.
 pub trait PlanStore: Faulty {
-    ghost use Rattle.std.specs.Prelude.{◌≡◌, ◌≤◌, ℕ, List, Option, Some, IfOk, IfSome, OnOk, OnErr, IsErrOf};
+    ghost use Rattle.std.specs.Prelude.{◌≡◌, ◌≤◌, ℕ, List, Option, Some, IfOk, IfSome, OnOk, OnErr};
+    ghost use Rattle.std.specs.Prelude.{IsErrOf};
     ghost use Rattle.std.specs.Option.{option_map};
     ghost use Rattle.stateful_types.specs.Causes.{Rose};
 
     /// The value that it holds, where that is told.
-    ghost held: { Self → Option (Option (List ℕ)) };
+    ghost stored: { Self → Option (Option (List ℕ)) };
 
     /// The value, where there is one.
     fn load(&mut self) -> Result<Option<Bytes>, StoreFault>
-        ensures value { IfOk result (λ value. IfSome (held self.old) (λ was. value ≡ was)) }
-        ensures same { held self.new ≡ held self.old }
+        ensures value { IfOk result (λ value. IfSome (stored self.old) (λ was. value ≡ was)) }
+        ensures same { stored self.new ≡ stored self.old }
         ensures cause { IsErrOf result StoreFault.Failed
             → Rose (Self.count self.old) (Self.count self.new) }
         ensures later { Self.count self.old ≤ Self.count self.new };
 
-    /// Keeps this value in place of the one that was there. Where it fails, the one that was there is kept.
+    /// Keeps this value in place of the one that was there. Where it fails, the one that was there
+    /// is kept.
     fn put(&mut self, value: Bytes) -> Result<(), StoreFault>
-        ensures ok { OnOk result (held self.new ≡ option_map (λ _. Some value) (held self.old)) }
-        ensures err { OnErr result (held self.new ≡ held self.old) }
+        ensures ok { OnOk result (stored self.new ≡ option_map (λ _. Some value) (stored self.old)) }
+        ensures err { OnErr result (stored self.new ≡ stored self.old) }
         ensures cause { IsErrOf result StoreFault.Failed
             → Rose (Self.count self.old) (Self.count self.new) }
         ensures later { Self.count self.old ≤ Self.count self.new };
@@ -146,7 +149,7 @@ impl Faulty for MemoryPlanStore {
 }
 
 impl PlanStore for MemoryPlanStore {
-    ghost held = { λ store. Some store.value };
+    ghost stored = { λ store. Some store.value };
 
     fn load(&mut self) -> Result<Option<Bytes>, StoreFault>
         ensures value { IfOk result (λ value. value ≡ self.old.value) }
@@ -154,7 +157,8 @@ impl PlanStore for MemoryPlanStore {
         ensures cause { IsErrOf result StoreFault.Failed → Rose self.old.faults self.new.faults }
         ensures later { self.old.faults ≤ self.new.faults }
 
-        // The listed calls fail, and a fault is counted exactly there: want of memory isn't counted.
+        // The listed calls fail, and a fault is counted exactly there: want of memory isn't
+        // counted.
         ensures listed { IsErrOf result StoreFault.Failed ↔ IsListed self.old PlanCall.Load }
         ensures failed { IsListed self.old PlanCall.Load
             → self.new ≡ failed (numbered self.old PlanCall.Load) }

@@ -26,7 +26,8 @@ enum Act {
     Reload,
 }
 
-/// What is done, the error that comes of it, and then the view of the floor and the recorded height.
+/// What is done, the error that comes of it, and then the view of the floor and the recorded
+/// height.
 type Row = (Act, Option<PlanError>, Option<u64>, Option<u64>);
 
 fn round(view: u64) -> Round
@@ -286,7 +287,8 @@ fn reported(processed: Option<u64>, cutoff: Option<u64>) -> Floor {
 
 const LAST: u64 = u64::MAX;
 
-/// The processed height, the view of the cutoff, the stored blocks, and the start of a sync to block b of view 5.
+/// The processed height, the view of the cutoff, the stored blocks, and the start of a sync to
+/// block b of view 5.
 type Resolving = (Option<u64>, Option<u64>, &'static [(u64, u8)], Choice);
 
 #[test]

@@ -13,12 +13,12 @@ use Rattle.stateful_play.specs.Shown.{text_of}
 use Rattle.stateful_play.specs.Play.{IsPlayOf}
 use Rattle.stateful_play.specs.Rows.{Known, HoldsPrefix, HoldsPart, Writes, AsksFor, IsLoaded, IsPlayed, IsHaltedAt, status_by}
 
--- nothing more is held
-pub nothing_held : (held : Known) (text : List ℕ) → HoldsPrefix held held text
-nothing_held held text = (0, omega arith, appends_none held)
+-- nothing more is out
+pub nothing_out : (out : Known) (text : List ℕ) → HoldsPrefix out out text
+nothing_out out text = (0, omega arith, appends_none out)
 
-pub want_writes : (rose : Type 0) (held : Known) (text : List ℕ) (asked answer : Status) → answer ≡ NoMemory → Writes rose held held text asked answer
-want_writes rose held text asked answer e = inr (inr (e, nothing_held held text))
+pub want_writes : (rose : Type 0) (out : Known) (text : List ℕ) (asked answer : Status) → answer ≡ NoMemory → Writes rose out out text asked answer
+want_writes rose out text asked answer e = inr (inr (e, nothing_out out text))
 
 end_none : (e : Option Halted) → Done ≡ status_by e → IsNone e
 end_none None h = refl
@@ -49,18 +49,18 @@ not_read_fault None h = cc
 not_read_fault (Some halted) h = cc
 
 -- A play's transcript was written, or not all of it: this was answered, and this is told of the play.
-pub record WasTold (left left_after held held_after : Known) (rose : Type 0) (answer : Status) (played : Option Played) : Type 0 where
+pub record WasTold (left left_after out out_after : Known) (rose : Type 0) (answer : Status) (played : Option Played) : Type 0 where
   pub p : Played
   pub text : List ℕ
   pub play : IsPlayed left left_after p text
-  pub writes : Writes rose held held_after text (status_by p.«end») answer
+  pub writes : Writes rose out out_after text (status_by p.«end») answer
   pub is : ((answer ≡ NoMemory) × IsNone played) ⊎ ((answer ≢ NoMemory) × (played ≡ Some p))
 
-pub was_told : (left left_after held held_after : Known) (rose : Type 0) (answer : Status) (played : Option Played) (script : Script) (labels : List Label) (p : Played)
-    → IsLoaded left left_after script → IsPlayOf script labels p → Writes rose held held_after (text_of labels p) (status_by p.«end») answer
+pub was_told : (left left_after out out_after : Known) (rose : Type 0) (answer : Status) (played : Option Played) (script : Script) (labels : List Label) (p : Played)
+    → IsLoaded left left_after script → IsPlayOf script labels p → Writes rose out out_after (text_of labels p) (status_by p.«end») answer
     → ((answer ≡ NoMemory) × IsNone played) ⊎ ((answer ≢ NoMemory) × (played ≡ Some p))
-    → WasTold left left_after held held_after rose answer played
-was_told left left_after held held_after rose answer played script labels p loaded play writes is = record {
+    → WasTold left left_after out out_after rose answer played
+was_told left left_after out out_after rose answer played script labels p loaded play writes is = record {
   p = p;
   text = text_of labels p;
   play = record { script = script; loaded = loaded; labels = labels; play = play; text_is = refl };
@@ -68,37 +68,37 @@ was_told left left_after held held_after rose answer played script labels p load
   is = is;
 }
 
-written : (rose : Type 0) (held held_after : Known) (text : List ℕ) (asked answer : Status) → Writes rose held held_after text asked answer → answer ≢ WriteFault → answer ≢ NoMemory → (answer ≡ asked) × Appends held held_after text
-written rose held held_after text asked answer (inl w) f m = w
-written rose held held_after text asked answer (inr (inl w)) f m = absurd (f w.0)
-written rose held held_after text asked answer (inr (inr w)) f m = absurd (m w.0)
+written : (rose : Type 0) (out out_after : Known) (text : List ℕ) (asked answer : Status) → Writes rose out out_after text asked answer → answer ≢ WriteFault → answer ≢ NoMemory → (answer ≡ asked) × Appends out out_after text
+written rose out out_after text asked answer (inl w) f m = w
+written rose out out_after text asked answer (inr (inl w)) f m = absurd (f w.0)
+written rose out out_after text asked answer (inr (inr w)) f m = absurd (m w.0)
 
-cut : (rose : Type 0) (held held_after : Known) (text : List ℕ) (asked answer : Status) → Writes rose held held_after text asked answer → answer ≡ WriteFault → (WriteFault ≡ asked → ⊥) → rose × HoldsPrefix held held_after text
-cut rose held held_after text asked answer (inl w) e n = absurd (n (sym e ∙ w.0))
-cut rose held held_after text asked answer (inr (inl w)) e n = (w.1, w.2)
-cut rose held held_after text asked answer (inr (inr w)) e n = absurd (cc)
+cut : (rose : Type 0) (out out_after : Known) (text : List ℕ) (asked answer : Status) → Writes rose out out_after text asked answer → answer ≡ WriteFault → (WriteFault ≡ asked → ⊥) → rose × HoldsPrefix out out_after text
+cut rose out out_after text asked answer (inl w) e n = absurd (n (sym e ∙ w.0))
+cut rose out out_after text asked answer (inr (inl w)) e n = (w.1, w.2)
+cut rose out out_after text asked answer (inr (inr w)) e n = absurd (cc)
 
-wanted : (rose : Type 0) (held held_after : Known) (text : List ℕ) (asked answer : Status) → Writes rose held held_after text asked answer → answer ≡ NoMemory → (NoMemory ≡ asked → ⊥) → HoldsPrefix held held_after text
-wanted rose held held_after text asked answer (inl w) e n = absurd (n (sym e ∙ w.0))
-wanted rose held held_after text asked answer (inr (inl w)) e n = absurd (cc)
-wanted rose held held_after text asked answer (inr (inr w)) e n = w.1
+wanted : (rose : Type 0) (out out_after : Known) (text : List ℕ) (asked answer : Status) → Writes rose out out_after text asked answer → answer ≡ NoMemory → (NoMemory ≡ asked → ⊥) → HoldsPrefix out out_after text
+wanted rose out out_after text asked answer (inl w) e n = absurd (n (sym e ∙ w.0))
+wanted rose out out_after text asked answer (inr (inl w)) e n = absurd (cc)
+wanted rose out out_after text asked answer (inr (inr w)) e n = w.1
 
-module _ (left left_after held held_after : Known) (rose : Type 0) (answer : Status) (played : Option Played) (w : WasTold left left_after held held_after rose answer played) where
+module _ (left left_after out out_after : Known) (rose : Type 0) (answer : Status) (played : Option Played) (w : WasTold left left_after out out_after rose answer played) where
   is_told : answer ≢ NoMemory → played ≡ Some w.p
   is_told n = elim w.is [ inl m ↦ absurd (n m.0) | inr s ↦ s.1 ]
 
-  pub told_done : answer ≡ Done → IsSomeAnd played (λ p. IsNone p.«end» × ((text : List ℕ) × IsPlayed left left_after p text × Appends held held_after text))
+  pub told_done : answer ≡ Done → IsSomeAnd played (λ p. IsNone p.«end» × ((text : List ℕ) × IsPlayed left left_after p text × Appends out out_after text))
   told_done e =
-      let done = written rose held held_after w.text (status_by w.p.«end») answer w.writes (λ f. cc) (λ m. cc) in
+      let done = written rose out out_after w.text (status_by w.p.«end») answer w.writes (λ f. cc) (λ m. cc) in
       rw (is_told (λ m. cc)) (end_none w.p.«end» (sym e ∙ done.0), (w.text, w.play, done.1))
 
-  pub told_halted : (at : ℕ) → answer ≡ status.Halted at → IsSomeAnd played (λ p. IsHaltedAt p.«end» at × ((text : List ℕ) × IsPlayed left left_after p text × Appends held held_after text))
+  pub told_halted : (at : ℕ) → answer ≡ status.Halted at → IsSomeAnd played (λ p. IsHaltedAt p.«end» at × ((text : List ℕ) × IsPlayed left left_after p text × Appends out out_after text))
   told_halted at e =
-      let done = written rose held held_after w.text (status_by w.p.«end») answer w.writes (λ f. cc) (λ m. cc) in
+      let done = written rose out out_after w.text (status_by w.p.«end») answer w.writes (λ f. cc) (λ m. cc) in
       rw (is_told (λ m. cc)) (end_halted w.p.«end» at (sym e ∙ done.0), (w.text, w.play, done.1))
 
   status_is : answer ≢ WriteFault → answer ≢ NoMemory → answer ≡ status_by w.p.«end»
-  status_is f m = (written rose held held_after w.text (status_by w.p.«end») answer w.writes f m).0
+  status_is f m = (written rose out out_after w.text (status_by w.p.«end») answer w.writes f m).0
 
   pub never_usage : answer ≡ Usage → ⊥
   never_usage e = not_usage w.p.«end» (sym e ∙ status_is (λ f. cc) (λ m. cc))
@@ -109,13 +109,13 @@ module _ (left left_after held held_after : Known) (rose : Type 0) (answer : Sta
   pub never_read_fault : answer ≡ ReadFault → ⊥
   never_read_fault e = not_read_fault w.p.«end» (sym e ∙ status_is (λ f. cc) (λ m. cc))
 
-  pub told_cut : (play : Bool) → play ≡ true → answer ≡ WriteFault → rose × ((text : List ℕ) × AsksFor left left_after play played text × HoldsPrefix held held_after text)
+  pub told_cut : (play : Bool) → play ≡ true → answer ≡ WriteFault → rose × ((text : List ℕ) × AsksFor left left_after play played text × HoldsPrefix out out_after text)
   told_cut play asked e =
-      let part = cut rose held held_after w.text (status_by w.p.«end») answer w.writes e (not_cut w.p.«end») in
+      let part = cut rose out out_after w.text (status_by w.p.«end») answer w.writes e (not_cut w.p.«end») in
       rw (is_told (λ m. cc)) (part.0, (w.text, (asked, w.play), part.1))
 
-  pub told_wanting : (play : Bool) → play ≡ true → answer ≡ NoMemory → IsNone played × HoldsPart left left_after play held held_after
+  pub told_wanting : (play : Bool) → play ≡ true → answer ≡ NoMemory → IsNone played × HoldsPart left left_after play out out_after
   told_wanting play asked e =
-      let part = wanted rose held held_after w.text (status_by w.p.«end») answer w.writes e (not_wanting w.p.«end») in
+      let part = wanted rose out out_after w.text (status_by w.p.«end») answer w.writes e (not_wanting w.p.«end») in
       let none : IsNone played = elim w.is [ inl m ↦ m.1 | inr s ↦ absurd (s.0 e) ] in
       (none, inr (Some w.p, w.text, (asked, w.play), part))

@@ -17,17 +17,28 @@ use Rattle.stateful_play.specs.Events.{planned_at, ask_for}
 
 -- what is asked for on a parent, in the round and with the operations of a block
 abbrev pub asked : ProposalKind → Handoff (Unit {0}) → Planned → Planned → Asked BankBlock Round Ask
-asked kind decision parent p = record { kind = kind; context = p.block.block.round; parent = parent.block.block; input = ask_for decision p }
+asked kind decision parent p =
+    record {
+      kind =
+          kind;
+      context =
+          p.block.block.round;
+      parent = parent.block.block;
+      input = ask_for decision p;
+    }
 
 -- on the state after the parent, no block is built for this but the named one
 abbrev pub NamesBuild : ProposalKind → Handoff (Unit {0}) → Planned → Planned → Type 0
 NamesBuild kind decision parent p =
     (whole : Whole) (b : BankBlock) → parent.after ≡ Some whole
-    → (bank_gives (asked kind decision parent p) whole (Vote b)) ⊎ (bank_gives (asked kind decision parent p) whole (Stage b))
+    → (bank_gives (asked kind decision parent p) whole (Vote b))
+    ⊎ (bank_gives (asked kind decision parent p) whole (Stage b))
     → b ≡ p.block.block
 
 -- a line that asks for a build names the block that the build gives
 abbrev pub NamesItsBuild : List Planned → PlannedEvent → Type 0
-NamesItsBuild made (line.Prepare parent block decision) = NamesBuild Prepare decision (planned_at made parent) (planned_at made block)
-NamesItsBuild made (line.Propose parent block) = NamesBuild Propose (Vote tt) (planned_at made parent) (planned_at made block)
+NamesItsBuild made (line.Prepare parent block decision) =
+    NamesBuild Prepare decision (planned_at made parent) (planned_at made block)
+NamesItsBuild made (line.Propose parent block) =
+    NamesBuild Propose (Vote tt) (planned_at made parent) (planned_at made block)
 NamesItsBuild made _ = Unit {0}

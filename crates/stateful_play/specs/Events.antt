@@ -1,5 +1,6 @@
 -- The events of a script.
-use Rattle.std.specs.Prelude.{ℕ, ◌+◌, Bool, true, false, if◌then◌else◌, List, [], ◌∷◌, Option, Some, None, option_map, slice_index_or}
+use Rattle.std.specs.Prelude.{ℕ, ◌+◌, Bool, true, false, if◌then◌else◌, List, [], ◌∷◌, Option, Some}
+use Rattle.std.specs.Prelude.{None, option_map, slice_index_or}
 use Rattle.stateful_types.specs.Names.{Named}
 use Rattle.stateful_types.specs.declared.block.Ancestry.{Ancestry}
 use Rattle.stateful_types.specs.declared.number.Height.{Height}
@@ -20,10 +21,11 @@ use Rattle.stateful_play.specs.Plan.{genesis}
 abbrev pub BankEvent : Type 0
 BankEvent = Event BankBlock Round Ask
 
--- a start, where this height was processed last, a crash left so many checkpoints of each database, and one finalization
--- may be unacknowledged
+-- a start, where this height was processed last, a crash left so many checkpoints of each database,
+-- and one finalization may be unacknowledged
 abbrev pub restart : Option Height → List ℕ → BankEvent
-restart processed keep = event.Restart (record { processed = processed; cutoff = None; max_pending_acks = 1 }) keep
+restart processed keep =
+    event.Restart (record { processed = processed; cutoff = None; max_pending_acks = 1 }) keep
 
 -- the block at a place of the script's names
 abbrev pub planned_at : List Planned → ℕ → Planned
@@ -47,20 +49,25 @@ abbrev pub flushed : Bool → Flushed
 flushed true = Interrupted
 flushed false = Good
 
--- The event of a line, with this ticket if it takes one. A build is asked for on the parent alone, in the round and with
--- the operations of the block that it would give.
+-- The event of a line, with this ticket if it takes one. A build is asked for on the parent alone,
+-- in the round and with the operations of the block that it would give.
 abbrev pub event_of : List Planned → ℕ → PlannedEvent → BankEvent
-event_of made ticket (line.Verify block alone) = event.Verify ticket (ancestry_of alone (planned_at made block))
+event_of made ticket (line.Verify block alone) =
+    event.Verify ticket (ancestry_of alone (planned_at made block))
 event_of made ticket (line.Prepare parent block decision) =
-    event.Prepare ticket (planned_at made block).block.block.round (ancestry_of true (planned_at made parent)) (ask_for decision (planned_at made block))
+    event.Prepare ticket (planned_at made block).block.block.round
+    (ancestry_of true (planned_at made parent)) (ask_for decision (planned_at made block))
 event_of made ticket (line.Propose parent block) =
-    event.Propose ticket (planned_at made block).block.block.round (ancestry_of true (planned_at made parent)) (ask_for (Vote tt) (planned_at made block))
+    event.Propose ticket (planned_at made block).block.block.round
+    (ancestry_of true (planned_at made parent)) (ask_for (Vote tt) (planned_at made block))
 event_of made ticket (line.Finalize block) = event.Finalized ticket (planned_at made block).block
 event_of made ticket line.Subscribe = event.Subscribe ticket
 event_of made ticket (line.Cancel given_up) = event.Cancel given_up
-event_of made ticket (line.Fetched fetch answer) = event.Fetched fetch (option_map (λ block. (planned_at made block).block) answer)
+event_of made ticket (line.Fetched fetch answer) =
+    event.Fetched fetch (option_map (λ block. (planned_at made block).block) answer)
 event_of made ticket (line.Turn job) = event.Turn job
-event_of made ticket (line.Flushed barrier database stopped) = event.Flushed barrier database (flushed stopped)
+event_of made ticket (line.Flushed barrier database stopped) =
+    event.Flushed barrier database (flushed stopped)
 event_of made ticket line.Stop = event.Stop
 event_of made ticket (line.Restart processed keep) = restart processed keep
 
@@ -80,9 +87,10 @@ ticket_after ticket l = if takes_ticket l then ticket + 1 else ticket
 -- the events of lines, with tickets from this one on
 abbrev pub events_from : List Planned → ℕ → List PlannedEvent → List BankEvent
 events_from made ticket [] = []
-events_from made ticket (l ∷ ls) = event_of made ticket l ∷ events_from made (ticket_after ticket l) ls
+events_from made ticket (l ∷ ls) =
+    event_of made ticket l ∷ events_from made (ticket_after ticket l) ls
 
--- The first start, where nothing was processed and each database is left as it is, and then the event of each line.
--- Tickets are numbered from 0.
+-- The first start, where nothing was processed and each database is left as it is, and then the
+-- event of each line. Tickets are numbered from 0.
 unfoldable pub events_of : List Planned → List PlannedEvent → List BankEvent
 events_of made ls = restart None [] ∷ events_from made 0 ls

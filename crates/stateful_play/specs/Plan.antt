@@ -1,5 +1,6 @@
 -- The blocks of a script.
-use Rattle.std.specs.Prelude.{ℕ, ◌≡◌, Bool, if◌then◌else◌, List, [], ◌∷◌, ◌++◌, Option, Some, None, option_and_then, slice_get, map, replicate}
+use Rattle.std.specs.Prelude.{ℕ, ◌≡◌, Bool, if◌then◌else◌, List, [], ◌∷◌, ◌++◌, Option, Some, None}
+use Rattle.std.specs.Prelude.{option_and_then, slice_get, map, replicate}
 use Rattle.std.specs.List.{zip}
 use Rattle.sha2.specs.Sha256.{sha256}
 use Rattle.stateful_types.specs.Names.{Named}
@@ -23,11 +24,19 @@ target_after (Some whole) = target_of whole
 
 -- what a block commits to: where it is to be wrong, the root is 32 zero bytes
 abbrev pub committed : Bool → Target → Target
-committed wrong target = if wrong then record target { root = record { 0 = replicate 32 0 } } else target
+committed wrong target =
+    if wrong then record target { root = record { 0 = replicate 32 0 } } else target
 
 -- genesis leads to the empty state
 unfoldable pub genesis : Planned
-genesis = record { block = named (genesis_block (target_after (Some initial) ∷ [])); parent = None; after = Some initial }
+genesis =
+    record {
+      block =
+          named (genesis_block (target_after (Some initial) ∷ []));
+      parent =
+          None;
+      after = Some initial;
+    }
 
 -- the state after a block on this parent, where there is one
 abbrev pub state_after : Planned → PlannedBlock → Option Whole
@@ -45,7 +54,9 @@ block_on parent b = record {
 }
 
 unfoldable pub child : Planned → PlannedBlock → Planned
-child parent b = record { block = named (block_on parent b); parent = Some parent.block; after = state_after parent b }
+child parent b =
+    record
+    { block = named (block_on parent b); parent = Some parent.block; after = state_after parent b }
 
 -- Genesis stands first, and behind it the block of each line, on the block at its parent's place.
 pub data ArePlanned : List PlannedBlock → List Planned → Type 0 where

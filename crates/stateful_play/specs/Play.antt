@@ -1,5 +1,6 @@
 -- What was played of a script.
-use Rattle.std.specs.Prelude.{◌≡◌, ◌≢◌, ◌<◌, ℕ, false, All, List, [], ◌∷◌, ◌++◌, Option, Some, None, IfSome, length, map, take}
+use Rattle.std.specs.Prelude.{◌≡◌, ◌≢◌, ◌<◌, ℕ, false, All, List, [], ◌∷◌, ◌++◌, Option, Some, None}
+use Rattle.std.specs.Prelude.{IfSome, length, map, take}
 use Rattle.stateful_types.specs.Names.{Named}
 use Rattle.stateful_types.specs.declared.round.Round.{Round}
 use Rattle.stateful_db.specs.Member.{closed}
@@ -46,10 +47,12 @@ use Rattle.stateful_play.specs.Plan.{ArePlanned, labels_of}
 use Rattle.stateful_play.specs.Events.{BankEvent, events_of}
 use Rattle.stateful_play.specs.Builds.{NamesItsBuild}
 use Rattle.stateful_play.specs.Store.{store_of}
-use Rattle.stateful_play.specs.Shown.{entries_of, listed_in, member_of, next_of, failed_of, register_of, has_failed}
+use Rattle.stateful_play.specs.Shown.{entries_of, listed_in, member_of, next_of, failed_of}
+use Rattle.stateful_play.specs.Shown.{register_of, has_failed}
 
 -- the bank over one database that is kept whole, as the definitions of the machine take it
-abbrev pub bank : Workings BankBlock Round Ask (Unit {0}) BankRun BankBuild BankHook (Unit {0}) PlainMerkleized
+abbrev pub bank : Workings BankBlock Round Ask (Unit {0}) BankRun BankBuild BankHook
+    (Unit {0}) PlainMerkleized
 bank = workings block_header (λ b. b.round) (λ round. round) bank_works
     (single target_of (λ target. target) begun initial) SealShows
 
@@ -59,45 +62,53 @@ bank_counts = record { run = run_faults; build = build_faults; hook = hook_fault
 
 -- the machine and the database as they are handed out
 abbrev pub last_of : Machine → Databases → Moment bank
-last_of (machine.Plain stateful) d = moment bank stateful.execution stateful.loop (member_of d) (next_of d) []
+last_of (machine.Plain stateful) d =
+    moment bank stateful.execution stateful.loop (member_of d) (next_of d) []
 
--- All events were taken in; or those before the one of a number, which was refused, and not for want of memory.
+-- All events were taken in; or those before the one of a number, which was refused, and not for
+-- want of memory.
 abbrev pub AreTaken : Option Halted → List BankEvent → List BankEvent → Type 0
 AreTaken None events taken = taken ≡ events
-AreTaken (Some halted) events taken = (taken ≡ take halted.at events) × (halted.at < length events) × (halted.error ≢ OutOfMemory)
+AreTaken (Some halted) events taken =
+    (taken ≡ take halted.at events) × (halted.at < length events) × (halted.error ≢ OutOfMemory)
 
 module _ (stored : ℕ → Option (Named BankBlock)) (entries : List (Entry BankBlock Round Ask))
     (machine : Machine) (d : Databases) where
-  -- What holds at the end, over the states on which the history is based at last: where all events were taken in, the machine
-  -- stands for them, and the database holds the fold over what was applied. Behind a refusal the machine still stands for the
-  -- events before, and so does the database where the machine hasn't failed.
+  -- What holds at the end, over the states on which the history is based at last: where all events
+  -- were taken in, the machine stands for them, and the database holds the fold over what was
+  -- applied. Behind a refusal the machine still stands for the events before, and so does the
+  -- database where the machine hasn't failed.
   abbrev pub EndsWell : Option Halted → Whole → Type 0
   EndsWell None base =
-      StandsAndHolds bank stored base (after_all [] entries) false (register_of machine) (last_of machine d)
+      StandsAndHolds bank stored base (after_all [] entries) false (register_of machine)
+      (last_of machine d)
   EndsWell (Some halted) base =
-      StandsAndHolds bank stored base (after_all [] entries) (has_failed machine) (register_of machine)
+      StandsAndHolds bank stored base (after_all [] entries) (has_failed machine)
+      (register_of machine)
       (last_of machine d)
 
-  -- where names are true, and the store has the finalized block of each height, each entry keeps the rules
+  -- where names are true, and the store has the finalized block of each height, each entry keeps
+  -- the rules
   abbrev pub KeepRules : Option Halted → Type 0
   KeepRules «end» =
       TrueNames (setting bank stored) (after_all [] entries)
       → StoresFinalized block_header stored (after_all [] entries)
       → EachStands bank stored (EndsWell «end») initial [] entries
 
--- where a play begins: the machine has taken nothing in, and the database is closed on an empty medium, of which no call is
--- listed as one that fails
+-- where a play begins: the machine has taken nothing in, and the database is closed on an empty
+-- medium, of which no call is listed as one that fails
 pub record IsFirst (first : Moment bank) : Type 0 where
   pub register : Register
   pub new : IsNew bank false register first
   pub database : Databases
   pub unlisted : listed_in database ≡ []
   pub shown : first.members ≡ member_of database
-  pub members : first.members ≡ closed (record { older = []; newest = initial; pruned = 0; durable = 0 })
+  pub members : first.members
+      ≡ closed (record { older = []; newest = initial; pruned = 0; durable = 0 })
   pub batches : first.next ≡ 1
 
--- Each entry is one step of the machine, from the first moment on. Where all events were taken in, the last moment is the one that
--- is handed out.
+-- Each entry is one step of the machine, from the first moment on. Where all events were taken in,
+-- the last moment is the one that is handed out.
 pub record AreSteps (stored : ℕ → Option (Named BankBlock)) («end» : Option Halted)
     (entries : List (Entry BankBlock Round Ask)) (machine : Machine) (d : Databases) : Type 0 where
   pub first : Moment bank
@@ -106,8 +117,9 @@ pub record AreSteps (stored : ℕ → Option (Named BankBlock)) («end» : Optio
   pub steps : Steps bank stored tt bank_counts [] first entries last
   pub handed : «end» ≡ None → last ≡ last_of machine d
 
--- The event behind those that were taken in was refused with this error, and the machine says why. The bank itself never
--- fails, and no database had failed before the start. An event that may not come makes no machine fail.
+-- The event behind those that were taken in was refused with this error, and the machine says why.
+-- The bank itself never fails, and no database had failed before the start. An event that may not
+-- come makes no machine fail.
 pub record IsHaltedBy (stored : ℕ → Option (Named BankBlock)) (events : List BankEvent)
     (entries : List (Entry BankBlock Round Ask)) (machine : Machine) (d : Databases)
     (halted : Halted) : Type 0 where
@@ -120,18 +132,25 @@ pub record IsHaltedBy (stored : ℕ → Option (Named BankBlock)) (events : List
       (tally 0 (λ i. 0)) (tally 0 (failed_of d))
   pub works : halted.error ≡ BadEvent → has_failed machine ≡ false
 
--- This was played of the script, whose blocks go by these labels: a line that asks for a build names the block that the
--- build gives, the events were taken in, in each ancestry each block is the parent of the one before it, each entry is a step of
--- the machine, the rules are kept, and an event that was refused has its cause.
+-- This was played of the script, whose blocks go by these labels: a line that asks for a build
+-- names the block that the build gives, the events were taken in, in each ancestry each block is
+-- the parent of the one before it, each entry is a step of the machine, the rules are kept, and an
+-- event that was refused has its cause.
 pub record IsPlayOf (script : Script) (labels : List Label) (p : Played) : Type 0 where
   pub blocks : List Planned
   pub planned : ArePlanned script.blocks blocks
   pub builds : All (NamesItsBuild blocks) script.events
   pub labelled : labels ≡ labels_of script.names blocks
   pub world : p.world ≡ world.Plain
-  pub events : AreTaken p.«end» (events_of blocks script.events) (map (λ entry. entry.event) (entries_of p.history))
-  pub honest : IsHonest (setting bank (store_of blocks script.events)) (after_all [] (entries_of p.history))
-  pub steps : AreSteps (store_of blocks script.events) p.«end» (entries_of p.history) p.machine p.databases
-  pub rules : KeepRules (store_of blocks script.events) (entries_of p.history) p.machine p.databases p.«end»
-  pub refused : IfSome p.«end» (IsHaltedBy (store_of blocks script.events) (events_of blocks script.events) (entries_of p.history) p.machine
+  pub events : AreTaken p.«end» (events_of blocks script.events)
+      (map (λ entry. entry.event) (entries_of p.history))
+  pub honest : IsHonest (setting bank (store_of blocks script.events))
+      (after_all [] (entries_of p.history))
+  pub steps : AreSteps (store_of blocks script.events) p.«end»
+      (entries_of p.history) p.machine p.databases
+  pub rules : KeepRules (store_of blocks script.events)
+      (entries_of p.history) p.machine p.databases p.«end»
+  pub refused : IfSome p.«end»
+      (IsHaltedBy (store_of blocks script.events) (events_of blocks script.events)
+      (entries_of p.history) p.machine
       p.databases)

@@ -1,5 +1,7 @@
 -- The rows of a run: each status, and what it says of the words, the bytes and the faults.
-use Rattle.std.specs.Prelude.{ℕ, ◌≡◌, ◌<◌, ◌≤◌, ◌⊎◌, ◌*◌, ◌==◌, ◌&&◌, Bool, true, false, List, [], String, string_bytes, Option, Some, None, Ok, Err, IfSome, length, take, codes}
+use Rattle.std.specs.Prelude.{ℕ, ◌≡◌, ◌<◌, ◌≤◌, ◌⊎◌, ◌*◌, ◌==◌, ◌&&◌, Bool, true, false, List, []}
+use Rattle.std.specs.Prelude.{String, string_bytes, Option, Some, None, Ok, Err, IfSome, length}
+use Rattle.std.specs.Prelude.{take, codes}
 use Rattle.std.specs.List.{list_all}
 use Rattle.std.specs.Str.{bytes_eq}
 use Rattle.std.specs.Io.KnownBytes.{Consumes, Appends, IsAtEnd}
@@ -18,7 +20,8 @@ use Rattle.stateful_play.specs.Play.{IsPlayOf}
 
 -- the words are the one word `play`
 unfoldable pub asks_play : {Z : Type 0} → List (String Z) → Bool
-asks_play words = length words == 1 && list_all (λ word. bytes_eq (string_bytes word) (codes "play")) words
+asks_play words =
+    length words == 1 && list_all (λ word. bytes_eq (string_bytes word) (codes "play")) words
 
 -- the most bytes of a script: 16 MiB
 abbrev pub limit : ℕ
@@ -36,9 +39,11 @@ pub record IsWhole (left left_after : Known) (bytes : List ℕ) : Type 0 where
 
 -- all bytes were read, and they are this script
 abbrev pub IsLoaded : Known → Known → Script → Type 0
-IsLoaded left left_after script = (bytes : List ℕ) × IsWhole left left_after bytes × (script_or_line bytes ≡ Ok script)
+IsLoaded left left_after script =
+    (bytes : List ℕ) × IsWhole left left_after bytes × (script_or_line bytes ≡ Ok script)
 
--- All bytes were read, and this is the first line that no rule reads; or it is line 0, and there were too many.
+-- All bytes were read, and this is the first line that no rule reads; or it is line 0, and there
+-- were too many.
 abbrev pub IsUnread : Known → Known → ℕ → Type 0
 IsUnread left left_after line =
     ((bytes : List ℕ) × IsWhole left left_after bytes × (script_or_line bytes ≡ Err line))
@@ -65,9 +70,10 @@ AsksFor left left_after play None text =
     ⊎ ((line : ℕ) × (play ≡ true) × IsUnread left left_after line × (text ≡ script_line line))
 AsksFor left left_after play (Some p) text = (play ≡ true) × IsPlayed left left_after p text
 
--- a prefix of the text is held more
+-- a prefix of the text is written too
 abbrev pub HoldsPrefix : Known → Known → List ℕ → Type 0
-HoldsPrefix held held_after text = (n : ℕ) × (n ≤ length text) × Appends held held_after (take n text)
+HoldsPrefix out out_after text =
+    (n : ℕ) × (n ≤ length text) × Appends out out_after (take n text)
 
 -- the event of this number was refused
 abbrev pub IsHaltedAt : Option Halted → ℕ → Type 0
@@ -76,22 +82,26 @@ IsHaltedAt (Some halted) at = halted.at ≡ at
 
 -- nothing was written, or a prefix of a text that the words and the bytes ask for
 abbrev pub HoldsPart : Known → Known → Bool → Known → Known → Type 0
-HoldsPart left left_after play held held_after =
-    Appends held held_after []
-    ⊎ ((p : Option Played) × (text : List ℕ) × AsksFor left left_after play p text × HoldsPrefix held held_after text)
+HoldsPart left left_after play out out_after =
+    Appends out out_after []
+    ⊎
+    ((p : Option Played)
+    × (text : List ℕ)
+    × AsksFor left left_after play p text
+    × HoldsPrefix out out_after text)
 
 -- with the last event, or at the refused one
 abbrev pub status_by : Option Halted → Status
 status_by None = status.Done
 status_by (Some halted) = status.Halted halted.at
 
--- What writing a text answers, which asks for this status: the sink holds it all, or it failed or wanted memory, and holds
--- a prefix.
+-- What writing a text answers, which asks for this status: the sink holds it all, or it failed or
+-- wanted memory, and holds a prefix.
 abbrev pub Writes : Type 0 → Known → Known → List ℕ → Status → Status → Type 0
-Writes rose held held_after text asked answer =
-    ((answer ≡ asked) × Appends held held_after text)
-    ⊎ ((answer ≡ status.WriteFault) × rose × HoldsPrefix held held_after text)
-    ⊎ ((answer ≡ status.NoMemory) × HoldsPrefix held held_after text)
+Writes rose out out_after text asked answer =
+    ((answer ≡ asked) × Appends out out_after text)
+    ⊎ ((answer ≡ status.WriteFault) × rose × HoldsPrefix out out_after text)
+    ⊎ ((answer ≡ status.NoMemory) × HoldsPrefix out out_after text)
 
 -- this status, or the sink failed or memory ran out
 abbrev pub IsOrCut : Status → Status → Type 0
@@ -103,4 +113,6 @@ IsScript bytes = (length bytes ≤ limit) × ((script : Script) × (script_or_li
 
 -- this is the first line of these bytes that no rule reads; or it is line 0, and there are too many
 abbrev pub IsRefused : List ℕ → ℕ → Type 0
-IsRefused bytes line = ((length bytes ≤ limit) × (script_or_line bytes ≡ Err line)) ⊎ ((limit < length bytes) × (line ≡ 0))
+IsRefused bytes line =
+    ((length bytes ≤ limit) × (script_or_line bytes ≡ Err line))
+    ⊎ ((limit < length bytes) × (line ≡ 0))

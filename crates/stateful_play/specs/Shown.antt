@@ -3,7 +3,7 @@ use Rattle.std.specs.Prelude.{ℕ, ◌-◌, Bool, List, [], ◌∷◌, Option, S
 use Rattle.stateful_types.specs.declared.round.Round.{Round}
 use Rattle.stateful_db.specs.Member.{Member, here, closed, lost, away}
 use Rattle.stateful_db.specs.declared.database.DbCall.{DbCall}
-use Rattle.stateful_db.specs.declared.held.Held.TheVariants as held
+use Rattle.stateful_db.specs.declared.member.Held.TheVariants as member
 use Rattle.stateful_bank.specs.declared.ask.Ask.{Ask}
 use Rattle.stateful_bank.specs.declared.block.BankBlock.{BankBlock}
 use Rattle.stateful_plain.specs.Whole.{Whole}
@@ -32,37 +32,37 @@ entries_of (history.Plain entries) = entries.items
 -- the database of a play, wherever it is
 abbrev pub member_of : Databases → Member Whole
 member_of (databases.Plain d) = elim d [
-  | held.Here db ↦ here (standing_of db)
-  | held.Closed medium ↦ closed (disk_of medium)
-  | held.Lost medium ↦ lost (disk_of medium)
-  | held.Away ↦ away
+  | member.Here db ↦ here (standing_of db)
+  | member.Closed medium ↦ closed (disk_of medium)
+  | member.Lost medium ↦ lost (disk_of medium)
+  | member.Away ↦ away
 ]
 
 -- how often the database has failed
 abbrev pub failed_of : Databases → ℕ → ℕ
 failed_of (databases.Plain d) i = elim d [
-  | held.Here db ↦ db.medium.calls.faults
-  | held.Closed medium ↦ medium.calls.faults
-  | held.Lost medium ↦ medium.calls.faults
-  | held.Away ↦ 0
+  | member.Here db ↦ db.medium.calls.faults
+  | member.Closed medium ↦ medium.calls.faults
+  | member.Lost medium ↦ medium.calls.faults
+  | member.Away ↦ 0
 ]
 
 -- the calls that are to fail on the database's medium, by kind and by number
 abbrev pub listed_in : Databases → List (DbCall × ℕ)
 listed_in (databases.Plain d) = elim d [
-  | held.Here db ↦ db.medium.calls.failing.items
-  | held.Closed medium ↦ medium.calls.failing.items
-  | held.Lost medium ↦ medium.calls.failing.items
-  | held.Away ↦ []
+  | member.Here db ↦ db.medium.calls.failing.items
+  | member.Closed medium ↦ medium.calls.failing.items
+  | member.Lost medium ↦ medium.calls.failing.items
+  | member.Away ↦ []
 ]
 
 -- the batch id that the database draws next
 abbrev pub next_of : Databases → ℕ
 next_of (databases.Plain d) = elim d [
-  | held.Here db ↦ db.medium.next
-  | held.Closed medium ↦ medium.next
-  | held.Lost medium ↦ medium.next
-  | held.Away ↦ 0
+  | member.Here db ↦ db.medium.next
+  | member.Closed medium ↦ medium.next
+  | member.Lost medium ↦ medium.next
+  | member.Away ↦ 0
 ]
 
 -- the register of live work of the machine of a play
@@ -107,4 +107,6 @@ ending_by (Some halted) = HaltedAt halted.at (error_name halted.error)
 
 -- the transcript of a play, by these names of its blocks
 abbrev pub text_of : List Label → Played → List ℕ
-text_of labels p = transcript (λ b. b.height.0) labels (entries_of p.history) (shown_of (member_of p.databases) ∷ []) (ending_by p.«end»)
+text_of labels p =
+    transcript (λ b. b.height.0) labels (entries_of p.history)
+    (shown_of (member_of p.databases) ∷ []) (ending_by p.«end»)

@@ -26,6 +26,7 @@ at_height blocks height = find (λ b. b.block.height.0 == height) blocks
 abbrev pub Keeps : (ℕ → Option (Named BankBlock)) → List (Named BankBlock) → Type 0
 Keeps stored blocks = (height : ℕ) → stored height ≡ at_height blocks height
 
--- the store has genesis at height 0, and at each other height the first block there that a line finalizes
+-- the store has genesis at height 0, and at each other height the first block there that a line
+-- finalizes
 unfoldable pub store_of : List Planned → List PlannedEvent → ℕ → Option (Named BankBlock)
 store_of made ls = at_height (genesis.block ∷ finalized made ls)

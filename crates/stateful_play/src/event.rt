@@ -1,8 +1,11 @@
 //! The events of a script.
 
-ghost use Rattle.std.specs.Prelude.{◌≡◌, ◌≤◌, ◌<◌, ◌-◌, ◌^◌, true, IfOk, IfSome, All, length, option_map};
+ghost use Rattle.std.specs.Prelude.{◌≡◌, ◌≤◌, ◌<◌, ◌-◌, ◌^◌, true, IfOk, IfSome, All, length};
+ghost use Rattle.std.specs.Prelude.{option_map};
 ghost use Rattle.stateful_script.specs.Laws.{IsNamedBelow};
-ghost use Rattle.stateful_play.specs.Events.{restart, planned_at, list_of, ancestry_of, ask_for, flushed, event_of, takes_ticket, ticket_after, events_of};
+ghost use Rattle.stateful_play.specs.Events.{restart, planned_at, list_of, ancestry_of, ask_for};
+ghost use Rattle.stateful_play.specs.Events.{flushed, event_of, takes_ticket, ticket_after};
+ghost use Rattle.stateful_play.specs.Events.{events_of};
 
 use crate::plan::Planned;
 use stateful_bank::{Ask, BankBlock};
@@ -20,7 +23,8 @@ pub type BankEvent = Event<BankBlock, Round, Ask>;
 /// How many finalizations may be unacknowledged.
 pub const WINDOW: usize = 1;
 
-/// A start, with this height as the last processed one. A crash has left so many checkpoints of each database.
+/// A start, with this height as the last processed one. A crash has left so many checkpoints of
+/// each database.
 fn restart(processed: Option<Height>, keep: Items<usize>) -> BankEvent
     ensures { result ≡ restart processed keep }
 {
@@ -128,7 +132,8 @@ fn flushed(stopped: bool) -> Flushed
     }
 }
 
-/// A request to build this block on this parent ahead of its proposal, and to hand it over in this way.
+/// A request to build this block on this parent ahead of its proposal, and to hand it over in this
+/// way.
 fn prepare(
     alloc: Global,
     ticket: u64,

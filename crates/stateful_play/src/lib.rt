@@ -1,5 +1,5 @@
-//! Plays a script: makes its blocks, its block store and its events, steps the machine through them, and writes what
-//! came of it.
+//! Plays a script: makes its blocks, its block store and its events, steps the machine through
+//! them, and writes what came of it.
 #![tactic(auto)]
 
 mod event;

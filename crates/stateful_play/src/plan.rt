@@ -1,8 +1,10 @@
 //! The blocks of a script, with the states after them.
 
-ghost use Rattle.std.specs.Prelude.{◌≡◌, ◌≤◌, ◌+◌, ◌∷◌, [], Some, IfOk, EachIndex, slice_get, slice_index_or, length};
+ghost use Rattle.std.specs.Prelude.{◌≡◌, ◌≤◌, ◌+◌, ◌∷◌, [], Some, IfOk, EachIndex, slice_get};
+ghost use Rattle.std.specs.Prelude.{slice_index_or, length};
 ghost use Rattle.stateful_script.specs.declared.script.PlannedBlock.{PlannedBlock};
-ghost use Rattle.stateful_play.specs.Plan.{ArePlanned, named, genesis, child, state_after, target_after, committed};
+ghost use Rattle.stateful_play.specs.Plan.{ArePlanned, named, genesis, child, state_after};
+ghost use Rattle.stateful_play.specs.Plan.{target_after, committed};
 
 use stateful_bank::BankBlock;
 use stateful_plain::PlainState;

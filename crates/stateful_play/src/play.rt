@@ -42,7 +42,8 @@ pub enum Databases {
     Plain(Held<Plain>),
 }
 
-/// What was played: the entries, the machine and the databases as they are after them, and the refused event if one was.
+/// What was played: the entries, the machine and the databases as they are after them, and the
+/// refused event if one was.
 #[derive(Drop)]
 pub struct Played {
     pub world: World,
@@ -99,7 +100,8 @@ fn new_machine(alloc: Global) -> Result<Stateful<Bank>, OutOfMemory>
     }
 }
 
-/// A database that is closed, on an empty medium that hasn't failed. No call on it is to fail: a script lists none.
+/// A database that is closed, on an empty medium that hasn't failed. No call on it is to fail: a
+/// script lists none.
 fn empty_database(alloc: Global) -> Held<Plain>
     ensures none_away { ⟦<Held<Plain> as DatabaseSet>⟧.kind.NoneAway
         (⟦<Held<Plain> as DatabaseSet>⟧.members result) }

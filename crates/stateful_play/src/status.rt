@@ -9,9 +9,11 @@ pub enum Status {
     Done,
     /// 1: the words ask for nothing that the program does. The usage line is written.
     Usage,
-    /// 2: no rule reads this line, from 1; or line 0, and the script is longer than 16 MiB. The line's number is written.
+    /// 2: no rule reads this line, from 1; or line 0, and the script is longer than 16 MiB. The
+    ///   line's number is written.
     Script { line: u64 },
-    /// 3: the event of this number was refused. The transcript is written, whose last line names the error.
+    /// 3: the event of this number was refused. The transcript is written, whose last line names
+    ///   the error.
     Halted { at: usize },
     /// 4: the source failed. Nothing is written.
     ReadFault,
@@ -21,8 +23,8 @@ pub enum Status {
     NoMemory,
 }
 
-/// How a run ended, and what it played: there is something played exactly at `Done`, at `Halted`, and at a `WriteFault`
-/// that cut the transcript of one of them.
+/// How a run ended, and what it played: there is something played exactly at `Done`, at `Halted`,
+/// and at a `WriteFault` that cut the transcript of one of them.
 #[derive(Drop)]
 pub struct Outcome {
     pub status: Status,

@@ -1,6 +1,7 @@
 //! The block store of a script.
 
-ghost use Rattle.std.specs.Prelude.{◌≡◌, ◌++◌, ◌∷◌, [], ℕ, List, IfOk, OnOk, Some, All, length, slice_get};
+ghost use Rattle.std.specs.Prelude.{◌≡◌, ◌++◌, ◌∷◌, [], ℕ, List, IfOk, OnOk, Some, All, length};
+ghost use Rattle.std.specs.Prelude.{slice_get};
 ghost use Rattle.stateful_types.specs.Names.{Named};
 ghost use Rattle.stateful_bank.specs.declared.block.BankBlock.{BankBlock};
 ghost use Rattle.stateful_script.specs.Laws.{IsNamedBelow};

@@ -90,8 +90,9 @@ fn answers_faults(rt: HostRuntime) -> Result<(), Fail> {
     Ok(())
 }
 
-/// Blocks of the scripts below: a chain of a, b and c, and beside it s with n on it. z isn't acceptable, m leads to no
-/// state, d takes two turns, w has no operations, e has the round of genesis, and u that of its parent a.
+/// Blocks of the scripts below: a chain of a, b and c, and beside it s with n on it. z isn't
+/// acceptable, m leads to no state, d takes two turns, w has no operations, e has the round of
+/// genesis, and u that of its parent a.
 const BLOCKS: &str =
     "block a on genesis view 1 mint 1 100;block b on a view 2 mint 2 50;block c on b view 3 mint 3 7;block s on genesis view 2 mint 2 5;block n on s view 3 mint 4 1;block z on genesis view 1 mint 1 0;block m on genesis view 1 move 1 2 5;block d on genesis view 1 mint 1 5 move 1 2 5;block w on genesis view 1;block e on genesis view 0 mint 1 1;block u on a view 1 mint 5 1;";
 
@@ -143,7 +144,8 @@ fn plays_the_empty_script(rt: HostRuntime) -> Result<(), Fail> {
 #[test]
 fn plays_to_the_end(rt: HostRuntime) -> Result<(), Fail> {
     let rows = [
-        // Redelivered receipts are acknowledged with the first one, or at once where their height is durable.
+        // Redelivered receipts are acknowledged with the first one, or at once where their height
+        // is durable.
         Row {
             script: "verify a;turn 0;finalize a;finalize a;flushed 0 0;finalize a;",
             text: "#1;started 0 candidate a;#2;ended 0 kept;verdict 0 true;#3;began 1 a;applied 1 a;barrier 0 1;#4;#5;durable 0 1;acknowledged 1 1;acknowledged 2 1;#6;acknowledged 3 1;database 0 1..2 1=100;done;",
@@ -154,26 +156,29 @@ fn plays_to_the_end(rt: HostRuntime) -> Result<(), Fail> {
             text: "#1;acknowledged 0 0;#2;verdict 1 true;database 0 0..1;done;",
             status: Status::Done,
         },
-        // A sibling's state is kept until another block is final at its height, and the sibling is false then.
+        // A sibling's state is kept until another block is final at its height, and the sibling is
+        // false then.
         Row {
             script: "verify a;turn 0;verify s;turn 1;finalize a;verify s;verify a;verify genesis;",
             text: "#1;started 0 candidate a;#2;ended 0 kept;verdict 0 true;#3;started 1 candidate s;#4;ended 1 kept;verdict 1 true;#5;began 2 a;applied 1 a;barrier 0 1;#6;verdict 3 false;#7;verdict 4 true;#8;verdict 5 true;database 0 1..2 1=100;done;",
             status: Status::Done,
         },
-        // Below the anchor the finalized block of a height is true, and another one false. The second block's barrier is
-        // begun while the first one's is open.
+        // Below the anchor the finalized block of a height is true, and another one false. The
+        // second block's barrier is begun while the first one's is open.
         Row {
             script: "verify a;turn 0;verify b;turn 1;finalize a;finalize b;verify s;verify a;flushed 0 0;flushed 1 0;",
             text: "#1;started 0 candidate a;#2;ended 0 kept;verdict 0 true;#3;started 1 candidate b;#4;ended 1 kept;verdict 1 true;#5;began 2 a;applied 1 a;barrier 0 1;#6;began 3 b;applied 2 b;barrier 1 2;#7;verdict 4 false;#8;verdict 5 true;#9;durable 0 1;acknowledged 2 1;#10;durable 1 2;acknowledged 3 2;database 0 2..3 1=100 2=50;done;",
             status: Status::Done,
         },
-        // A receipt of a height below the anchor is held with those of its height, whichever block it is for.
+        // A receipt of a height below the anchor is held with those of its height, whichever block
+        // it is for.
         Row {
             script: "verify a;turn 0;verify b;turn 1;finalize a;finalize b;finalize a;finalize s;flushed 0 0;flushed 1 0;",
             text: "#1;started 0 candidate a;#2;ended 0 kept;verdict 0 true;#3;started 1 candidate b;#4;ended 1 kept;verdict 1 true;#5;began 2 a;applied 1 a;barrier 0 1;#6;began 3 b;applied 2 b;barrier 1 2;#7;#8;#9;durable 0 1;acknowledged 2 1;acknowledged 4 1;acknowledged 5 1;#10;durable 1 2;acknowledged 3 2;database 0 2..3 1=100 2=50;done;",
             status: Status::Done,
         },
-        // A block that isn't acceptable, which is run again, one that leads to no state, and one that comes too late.
+        // A block that isn't acceptable, which is run again, one that leads to no state, and one
+        // that comes too late.
         Row {
             script: "verify z;turn 0;verify m;turn 1;verify e;turn 2;verify z;turn 3;",
             text: "#1;started 0 candidate z;#2;ended 0 rejected;verdict 0 false;#3;started 1 candidate m;#4;ended 1 rejected;verdict 1 false;#5;started 2 candidate e;#6;ended 2 missed;verdict 2 false;#7;started 3 candidate z;#8;ended 3 rejected;verdict 3 false;database 0 0..1;done;",
@@ -185,13 +190,15 @@ fn plays_to_the_end(rt: HostRuntime) -> Result<(), Fail> {
             text: "#1;started 0 candidate a;#2;ended 0 kept;verdict 0 true;#3;started 1 candidate u;#4;ended 1 kept;verdict 1 true;#5;began 2 a;applied 1 a;barrier 0 1;#6;started 2 candidate u;#7;ended 2 missed;verdict 3 false;database 0 1..2 1=100;done;",
             status: Status::Done,
         },
-        // A turn for each operation, and one where there is none. An account that ends at nothing isn't shown.
+        // A turn for each operation, and one where there is none. An account that ends at nothing
+        // isn't shown.
         Row {
             script: "verify w;turn 0;finalize w;flushed 0 0;",
             text: "#1;started 0 candidate w;#2;ended 0 kept;verdict 0 true;#3;began 1 w;applied 1 w;barrier 0 1;#4;durable 0 1;acknowledged 1 1;database 0 1..2;done;",
             status: Status::Done,
         },
-        // A hook of two turns, wrong roots, a height of the line's own, a later epoch, and a block without its parent.
+        // A hook of two turns, wrong roots, a height of the line's own, a later epoch, and a block
+        // without its parent.
         Row {
             script: "block h on genesis view 1 slow 2 mint 1 100;verify h;turn 0;finalize h;turn 1;turn 1;flushed 0 0;",
             text: "#1;started 0 candidate h;#2;ended 0 kept;verdict 0 true;#3;began 1 h;applied 1 h;barrier 0 1;started 1 hook h;#4;#5;ended 1 hooked;#6;durable 0 1;acknowledged 1 1;database 0 1..2 1=100;done;",
@@ -355,7 +362,8 @@ fn plays_what_goes_on(rt: HostRuntime) -> Result<(), Fail> {
             text: "#1;started 0 candidate z;#2;ended 0 rejected;verdict 0 false;#3;began 1 z;started 1 finalized z;#4;ended 1 kept;applied 1 z;barrier 0 1;database 0 1..2;done;",
             status: Status::Done,
         },
-        // A run goes on: a second request waits with the first one, and a finalization waits for the run.
+        // A run goes on: a second request waits with the first one, and a finalization waits for
+        // the run.
         Row {
             script: "verify a;verify a;",
             text: "#1;started 0 candidate a;#2;database 0 0..1;done;",

@@ -1,13 +1,17 @@
 //! The top call.
 
-ghost use Rattle.std.specs.Prelude.{◌≡◌, ◌≢◌, ◌⊎◌, ◌≤◌, ℕ, List, [], true, false, Option, None, Some, IfOk, IfErr, IsNone, IsSome, IsSomeAnd, codes, string_bytes};
+ghost use Rattle.std.specs.Prelude.{◌≡◌, ◌≢◌, ◌⊎◌, ◌≤◌, ℕ, List, [], true, false, Option, None};
+ghost use Rattle.std.specs.Prelude.{Some, IfOk, IfErr, IsNone, IsSome, IsSomeAnd, codes};
+ghost use Rattle.std.specs.Prelude.{string_bytes};
 ghost use Rattle.std.specs.List.{list_all};
 ghost use Rattle.std.specs.Str.{bytes_eq};
 ghost use Rattle.std.specs.Io.KnownBytes.{Appends};
 ghost use Rattle.stateful_types.specs.Causes.{Rose};
 ghost use Rattle.stateful_text.specs.Transcript.{usage_line, script_line};
 ghost use Rattle.stateful_play.specs.declared.play.Played.{Played};
-ghost use Rattle.stateful_play.specs.Rows.{asks_play, IsLoaded, IsUnread, Stops, IsPlayed, AsksFor, HoldsPrefix, HoldsPart, IsHaltedAt, status_by, Writes, IsOrCut, IsScript, IsRefused};
+ghost use Rattle.stateful_play.specs.Rows.{asks_play, IsLoaded, IsUnread, Stops, IsPlayed, AsksFor};
+ghost use Rattle.stateful_play.specs.Rows.{HoldsPrefix, HoldsPart, IsHaltedAt, status_by, Writes};
+ghost use Rattle.stateful_play.specs.Rows.{IsOrCut, IsScript, IsRefused};
 ghost use Rattle.stateful_play.specs.Shown.{text_of};
 ghost use Rattle.stateful_script.specs.Laws.{IsPlan};
 
@@ -81,8 +85,8 @@ fn without_play(status: Status) -> Outcome
 /// Writes a text that stands in the place of a transcript, and has this status.
 fn write_text<K: Sink>(sink: &mut K, text: &[u8], status: Status) -> Outcome
     ensures none { IsNone result.played }
-    ensures status { Writes (Rose (K.count sink.old) (K.count sink.new)) (K.held sink.old)
-        (K.held sink.new) text.now status result.status }
+    ensures status { Writes (Rose (K.count sink.old) (K.count sink.new)) (K.written sink.old)
+        (K.written sink.new) text.now status result.status }
 {
     match write_all(sink, text) {
         Ok(()) => without_play(status),
@@ -109,8 +113,8 @@ fn outcome_of(played: Played) -> Outcome
 
 /// Writes the transcript of a play. Where memory runs out nothing is told of it.
 fn write_transcript<K: Sink>(alloc: Global, sink: &mut K, told: Told) -> Outcome
-    ensures status { Writes (Rose (K.count sink.old) (K.count sink.new)) (K.held sink.old)
-        (K.held sink.new) (text_of told.labels.items told.played) (status_by told.played.end)
+    ensures status { Writes (Rose (K.count sink.old) (K.count sink.new)) (K.written sink.old)
+        (K.written sink.new) (text_of told.labels.items told.played) (status_by told.played.end)
         result.status }
     ensures played { ((result.status ≡ Status.NoMemory) × IsNone result.played)
         ⊎ ((result.status ≢ Status.NoMemory) × (result.played ≡ Some told.played)) }
@@ -132,8 +136,8 @@ fn write_transcript<K: Sink>(alloc: Global, sink: &mut K, told: Told) -> Outcome
 /// Answers words that aren't the one word `play`.
 fn refuse_words<K: Sink>(alloc: Global, sink: &mut K) -> Outcome
     ensures none { IsNone result.played }
-    ensures status { Writes (Rose (K.count sink.old) (K.count sink.new)) (K.held sink.old)
-        (K.held sink.new) usage_line Status.Usage result.status }
+    ensures status { Writes (Rose (K.count sink.old) (K.count sink.new)) (K.written sink.old)
+        (K.written sink.new) usage_line Status.Usage result.status }
 {
     match usage_line(alloc) {
         Ok(text) => write_text(sink, text.as_slice(), Status::Usage),
@@ -144,8 +148,8 @@ fn refuse_words<K: Sink>(alloc: Global, sink: &mut K) -> Outcome
 /// Answers a script of which no rule reads this line.
 fn refuse_line<K: Sink>(alloc: Global, sink: &mut K, line: u64) -> Outcome
     ensures none { IsNone result.played }
-    ensures status { Writes (Rose (K.count sink.old) (K.count sink.new)) (K.held sink.old)
-        (K.held sink.new) (script_line line) (Status.Script line) result.status }
+    ensures status { Writes (Rose (K.count sink.old) (K.count sink.new)) (K.written sink.old)
+        (K.written sink.new) (script_line line) (Status.Script line) result.status }
 {
     match script_line(alloc, line) {
         Ok(text) => write_text(sink, text.as_slice(), Status::Script { line }),
@@ -153,7 +157,8 @@ fn refuse_line<K: Sink>(alloc: Global, sink: &mut K, line: u64) -> Outcome
     }
 }
 
-/// Reads a script of at most 16 MiB, plays it, and writes its transcript. The words are the one word `play`.
+/// Reads a script of at most 16 MiB, plays it, and writes its transcript. The words are the one
+/// word `play`.
 pub fn run<S: Source, K: Sink>(
     alloc: Global,
     words: &[String],
@@ -166,32 +171,33 @@ pub fn run<S: Source, K: Sink>(
         × IsSomeAnd result.played (λ p. IsNone p.end
         × ((text : List ℕ)
         × IsPlayed (S.left source.old) (S.left source.new) p text
-        × Appends (K.held sink.old) (K.held sink.new) text)) }
+        × Appends (K.written sink.old) (K.written sink.new) text)) }
 
-    // The event of this number was refused. The transcript, whose last line names the error, is written.
+    // The event of this number was refused. The transcript, whose last line names the error, is
+    // written.
     ensures halted { (at : ℕ)
         → result.status ≡ Status.Halted at
         → (asks_play words.now ≡ true)
         × IsSomeAnd result.played (λ p. IsHaltedAt p.end at
         × ((text : List ℕ)
         × IsPlayed (S.left source.old) (S.left source.new) p text
-        × Appends (K.held sink.old) (K.held sink.new) text)) }
+        × Appends (K.written sink.old) (K.written sink.new) text)) }
 
     // The words aren't the one word `play`. The usage line is written.
     ensures usage { result.status ≡ Status.Usage
         → (asks_play words.now ≡ false)
         × IsNone result.played
-        × Appends (K.held sink.old) (K.held sink.new) usage_line }
+        × Appends (K.written sink.old) (K.written sink.new) usage_line }
     ensures other_words { asks_play words.now ≡ false → IsOrCut Status.Usage result.status }
 
-    // All bytes were read, and this is the first line that no rule reads; or it is line 0, and there were more than 16 MiB.
-    // The line's number is written.
+    // All bytes were read, and this is the first line that no rule reads; or it is line 0, and
+    // there were more than 16 MiB. The line's number is written.
     ensures script { (line : ℕ)
         → result.status ≡ Status.Script line
         → (asks_play words.now ≡ true)
         × IsNone result.played
         × IsUnread (S.left source.old) (S.left source.new) line
-        × Appends (K.held sink.old) (K.held sink.new) (script_line line) }
+        × Appends (K.written sink.old) (K.written sink.new) (script_line line) }
     ensures refused { (bytes : List ℕ) (line : ℕ)
         → asks_play words.now ≡ true
         → S.left source.old ≡ Some bytes
@@ -212,7 +218,7 @@ pub fn run<S: Source, K: Sink>(
         → (asks_play words.now ≡ true)
         × IsNone result.played
         × Rose (S.count source.old) (S.count source.new)
-        × Appends (K.held sink.old) (K.held sink.new) [] }
+        × Appends (K.written sink.old) (K.written sink.new) [] }
 
     // The sink failed. A prefix of the text is written.
     ensures write_fault { result.status ≡ Status.WriteFault
@@ -220,13 +226,13 @@ pub fn run<S: Source, K: Sink>(
         × ((text : List ℕ)
         × AsksFor (S.left source.old) (S.left source.new) (asks_play words.now)
         result.played text
-        × HoldsPrefix (K.held sink.old) (K.held sink.new) text) }
+        × HoldsPrefix (K.written sink.old) (K.written sink.new) text) }
 
     // Memory ran out. Nothing is written, or a prefix of the text.
     ensures memory { result.status ≡ Status.NoMemory
         → IsNone result.played
         × HoldsPart (S.left source.old) (S.left source.new) (asks_play words.now)
-        (K.held sink.old) (K.held sink.new) }
+        (K.written sink.old) (K.written sink.new) }
 {
     if !asks_play(words) {
         return refuse_words(alloc, sink);

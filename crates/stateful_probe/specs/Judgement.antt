@@ -1,11 +1,13 @@
 -- What the functions that read and judge a message answer.
-use Rattle.std.specs.Prelude.{◌≡◌, ◌⊎◌, ℕ, ◌<◌, true, false, Option, Some, None, Result, Ok, Err, List, length}
+use Rattle.std.specs.Prelude.{◌≡◌, ◌⊎◌, ℕ, ◌<◌, true, false, Option, Some, None, Result, Ok, Err}
+use Rattle.std.specs.Prelude.{List, length}
 use Rattle.stateful_types.specs.declared.codec.CodecError.{CodecError}
 use Rattle.stateful_types.specs.declared.codec.CodecError.TheVariants.{OutOfMemory}
 use Rattle.stateful_types.specs.declared.number.Epoch.{Epoch}
 use Rattle.stateful_types.specs.declared.finalization.Finalization.{Finalization}
 use Rattle.stateful_probe.specs.Setup.{Setup, committee, membership, is_one_of, Counts}
-use Rattle.stateful_probe.specs.Reply.{IsRequest, IsForeign, IsWhole, IsMalformed, IsGood, IsAtFault, IsIgnored}
+use Rattle.stateful_probe.specs.Reply.{IsRequest, IsForeign, IsWhole, IsMalformed, IsGood}
+use Rattle.stateful_probe.specs.Reply.{IsAtFault, IsIgnored}
 use Rattle.stateful_probe.specs.declared.reply.Decoded.{Decoded}
 use Rattle.stateful_probe.specs.declared.reply.Decoded.TheVariants as decoded
 use Rattle.stateful_probe.specs.declared.reply.Judgement.{Judgement}
@@ -17,8 +19,9 @@ module _ {S K C : Type 0} (u : Setup S K C) where
   IsCountedScheme epoch None = (scheme : S) → Counts u epoch scheme → ⊥
   IsCountedScheme epoch (Some scheme) = Counts u epoch scheme
 
-  -- Of this peer no certificate of so many bytes makes a good reply in this epoch: the epoch doesn't count; or it is known who
-  -- takes part, and the peer doesn't, or no certificate that holds has as many bytes.
+  -- Of this peer no certificate of so many bytes makes a good reply in this epoch: the epoch
+  -- doesn't count; or it is known who takes part, and the peer doesn't, or no certificate that
+  -- holds has as many bytes.
   pub data IsHopeless (max_size : ℕ → ℕ) (peer : K) (epoch : Epoch) (size : ℕ) : Type 0 where
     foreign : ((scheme : S) → Counts u epoch scheme → ⊥) → IsHopeless max_size peer epoch size
     outsider : membership u peer ≡ Some false → IsHopeless max_size peer epoch size
@@ -28,7 +31,8 @@ module _ {S K C : Type 0} (u : Setup S K C) where
         → max_size (length (u.keys scheme)) < size
         → IsHopeless max_size peer epoch size
 
-  -- a finalization of an epoch that counts, in bytes of a peer that takes part, where it is known who does
+  -- a finalization of an epoch that counts, in bytes of a peer that takes part, where it is known
+  -- who does
   pub record IsHeld (peer : K) (bytes : List ℕ) (f : Finalization C) : Type 0 where
     pub whole : IsWhole u bytes f
     pub scheme : S

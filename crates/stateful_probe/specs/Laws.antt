@@ -1,5 +1,7 @@
 -- What holds of a probe whatever events come, and whatever peers send.
-use Rattle.std.specs.Prelude.{◌≡◌, ◌≢◌, ℕ, ◌+◌, ◌≤◌, ◌==◌, true, false, if◌then◌else◌, Option, Some, None, List, [], ◌∷◌, ◌++◌, All, Any, Contains, count_by, sum_by, length}
+use Rattle.std.specs.Prelude.{◌≡◌, ◌≢◌, ℕ, ◌+◌, ◌≤◌, ◌==◌, true, false, if◌then◌else◌, Option, Some}
+use Rattle.std.specs.Prelude.{None, List, [], ◌∷◌, ◌++◌, All, Any, Contains, count_by, sum_by}
+use Rattle.std.specs.Prelude.{length}
 use Rattle.std.specs.Map.{values_of}
 use Rattle.stateful_types.specs.Round.{IsLater}
 use Rattle.stateful_types.specs.Vote.{max_faults}
@@ -14,7 +16,8 @@ use Rattle.stateful_probe.specs.declared.event.Event.TheVariants.{Subscribe, Can
 use Rattle.stateful_probe.specs.declared.event.Out.{Out}
 use Rattle.stateful_probe.specs.declared.event.Out.TheVariants.{Floor, Closed, Request, Block}
 
--- one event that was taken in, with what the probe kept and the node's latest finalization before it, and what was put out
+-- one event that was taken in, with what the probe kept and the node's latest finalization before
+-- it, and what was put out
 pub record Turn (K C : Type 0) : Type 0 where
   pub before : State K C
   pub event : Event K
@@ -79,9 +82,10 @@ module _ {S K C : Type 0} (u : Setup S K C) where
       × Steps u turn.latest s turn.event turn.outs next
       × Runs next turns last
 
-  -- A floor that may be trusted as far as no more participants lie than may be faulty: its certificate holds under the scheme
-  -- of its epoch, which counts; it is a recorded reply, and none is later; and whichever participants lie, if they are no more
-  -- than may be faulty, another participant's reply is recorded.
+  -- A floor that may be trusted as far as no more participants lie than may be faulty: its
+  -- certificate holds under the scheme of its epoch, which counts; it is a recorded reply, and none
+  -- is later; and whichever participants lie, if they are no more than may be faulty, another
+  -- participant's reply is recorded.
   pub record IsTrusted (s : State K C) (f : Finalization C) : Type 0 where
     pub scheme : S
     pub counts : Counts u f.round.epoch scheme
@@ -96,8 +100,9 @@ module _ {S K C : Type 0} (u : Setup S K C) where
         × (is_one_of u.eq keys peer ≡ true)
         × (is_one_of u.eq liars peer ≡ false)
 
-  -- A peer is blocked for bytes that it has just sent. While the probe discovers: its reply still counted, and the bytes are
-  -- nothing to be ignored and no good reply. While it serves: they have no tag.
+  -- A peer is blocked for bytes that it has just sent. While the probe discovers: its reply still
+  -- counted, and the bytes are nothing to be ignored and no good reply. While it serves: they have
+  -- no tag.
   pub data IsToBlame (before : State K C) (event : Event K) (peer : K) : Type 0 where
     while_discovering : (bytes : List ℕ)
         → event ≡ Received peer bytes
@@ -131,7 +136,8 @@ module _ {S K C : Type 0} (u : Setup S K C) where
         last.sample.replies
     -- without a floor no more replies are recorded than participants may be faulty
     pub few : last.sample.floor ≡ None → length last.sample.replies ≤ tolerated u
-    -- as long as someone waits, whoever has sent a good reply since the last request has one recorded
+    -- as long as someone waits, whoever has sent a good reply since the last request has one
+    -- recorded
     pub heard : (request : LastRequest turns)
         → last.subscribers ≢ []
         → All (λ turn. (peer : K) (f : Finalization C)

@@ -1,5 +1,6 @@
 -- What a probe does: it discovers a floor, and then serves the node's latest finalization.
-use Rattle.std.specs.Prelude.{◌≡◌, ◌≢◌, ◌⊎◌, ℕ, ◌+◌, ◌-◌, ◌^◌, ◌==◌, nat_le, Bool, true, false, not, ◌&&◌, Option, Some, None, List, [], ◌∷◌, ◌++◌, map, filter, length}
+use Rattle.std.specs.Prelude.{◌≡◌, ◌≢◌, ◌⊎◌, ℕ, ◌+◌, ◌-◌, ◌^◌, ◌==◌, nat_le, Bool, true, false, not}
+use Rattle.std.specs.Prelude.{◌&&◌, Option, Some, None, List, [], ◌∷◌, ◌++◌, map, filter, length}
 use Rattle.std.specs.List.{list_any}
 use Rattle.stateful_types.specs.Format.{Format}
 use Rattle.stateful_types.specs.declared.number.Epoch.{Epoch}
@@ -11,9 +12,11 @@ use Rattle.stateful_probe.specs.Reply.{IsRequest, IsTagged, IsGood, IsAtFault, I
 use Rattle.stateful_probe.specs.declared.probe.Config.{Config}
 use Rattle.stateful_probe.specs.declared.state.State.{State}
 use Rattle.stateful_probe.specs.declared.event.Event.{Event}
-use Rattle.stateful_probe.specs.declared.event.Event.TheVariants.{Subscribe, Cancel, Attach, Received, Retry, Stop}
+use Rattle.stateful_probe.specs.declared.event.Event.TheVariants.{Subscribe, Cancel, Attach}
+use Rattle.stateful_probe.specs.declared.event.Event.TheVariants.{Received, Retry, Stop}
 use Rattle.stateful_probe.specs.declared.event.Out.{Out}
-use Rattle.stateful_probe.specs.declared.event.Out.TheVariants.{Floor, Closed, Request, Response, Block}
+use Rattle.stateful_probe.specs.declared.event.Out.TheVariants.{Floor, Closed, Request, Response}
+use Rattle.stateful_probe.specs.declared.event.Out.TheVariants.{Block}
 use Rattle.stateful_probe.specs.declared.wire.Message.TheVariants as messages
 
 abbrev pub is_empty : {A : Type 0} → List A → Bool
@@ -45,8 +48,8 @@ module _ {K C : Type 0} where
   abbrev pub is_waiting : State K C → ℕ → Bool
   is_waiting s t = list_any (λ u. u == t) s.subscribers
 
-  -- An event may come until the probe is stopped, where the ticket of a subscription is above every earlier one, and a
-  -- cancel names one that waits.
+  -- An event may come until the probe is stopped, where the ticket of a subscription is above every
+  -- earlier one, and a cancel names one that waits.
   abbrev pub names_live : State K C → Event K → Bool
   names_live s (Subscribe t) = nat_le s.next_ticket t
   names_live s (Cancel t) = is_waiting s t
@@ -92,8 +95,8 @@ Sends certificates (Some f) peer outs = (message_format certificates).fits (mess
 module _ {S K C : Type 0} (u : Setup S K C) (latest : Option (Finalization C)) where
   -- one event, with what is put out and the state behind it
   pub data Steps (s : State K C) : Event K → List (Out K C) → State K C → Type 0 where
-    -- a subscription is answered with the floor; without one it is closed while the probe serves, and else it waits, and
-    -- the first that waits begins a round
+    -- a subscription is answered with the floor; without one it is closed while the probe serves,
+    -- and else it waits, and the first that waits begins a round
     answered : {t : ℕ} {f : Finalization C}
         → s.sample.floor ≡ Some f
         → Steps s (Subscribe t) (Floor t f ∷ []) (numbered s t)

@@ -19,7 +19,8 @@ IsRequest bytes = (rest : List ℕ) × (bytes ≡ 0 ∷ rest)
 abbrev pub IsTagged : List ℕ → Type 0
 IsTagged bytes = (rest : List ℕ) × (bytes ≡ 1 ∷ rest)
 
--- what stands before the certificate of a response: the round, the view of the parent and the payload
+-- what stands before the certificate of a response: the round, the view of the parent and the
+-- payload
 pub record IsHeader (round : Round) (parent : View) (payload : Digest)
     (bytes rest : List ℕ) : Type 0 where
   pub fits : round_format.fits round × view_format.fits parent × digest_format.fits payload
@@ -53,13 +54,15 @@ module _ {S K C : Type 0} (u : Setup S K C) where
   IsWhole bytes f = (message_format u.certificates).fits (Response f)
       × (bytes ≡ (message_format u.certificates).spelling (Response f))
 
-  -- they don't decode: they are no request, no response of an epoch that doesn't count, and no whole response
+  -- they don't decode: they are no request, no response of an epoch that doesn't count, and no
+  -- whole response
   pub record IsMalformed (bytes : List ℕ) : Type 0 where
     pub no_request : IsRequest bytes → ⊥
     pub no_foreign : IsForeign bytes → ⊥
     pub no_whole : (f : Finalization C) → IsWhole bytes f → ⊥
 
-  -- a good reply: a participant of the lowest epoch sent a finalization of an epoch that counts, and its certificate holds
+  -- a good reply: a participant of the lowest epoch sent a finalization of an epoch that counts,
+  -- and its certificate holds
   pub record IsGood (peer : K) (bytes : List ℕ) (f : Finalization C) : Type 0 where
     pub whole : IsWhole bytes f
     pub scheme : S
@@ -68,8 +71,9 @@ module _ {S K C : Type 0} (u : Setup S K C) where
     pub keys : List K
     pub takes_part : TakesPart u peer keys
 
-  -- A message for which its peer is blocked: it doesn't decode; or it begins as a response of an epoch that counts, it is known
-  -- who takes part, and the peer doesn't, or the bytes hold no finalization that is certified.
+  -- A message for which its peer is blocked: it doesn't decode; or it begins as a response of an
+  -- epoch that counts, it is known who takes part, and the peer doesn't, or the bytes hold no
+  -- finalization that is certified.
   pub data IsAtFault (peer : K) (bytes : List ℕ) : Type 0 where
     malformed : IsMalformed bytes → IsAtFault peer bytes
     outsider : (scheme : S) (keys : List K)
@@ -83,8 +87,8 @@ module _ {S K C : Type 0} (u : Setup S K C) where
         → ((f : Finalization C) → IsWhole bytes f → u.certifies scheme f → ⊥)
         → IsAtFault peer bytes
 
-  -- A message of which nothing is made: a request; a response of an epoch that doesn't count; a whole response where the
-  -- scheme of the lowest epoch isn't known.
+  -- A message of which nothing is made: a request; a response of an epoch that doesn't count; a
+  -- whole response where the scheme of the lowest epoch isn't known.
   pub data IsIgnored (bytes : List ℕ) : Type 0 where
     request : IsRequest bytes → IsIgnored bytes
     foreign : IsForeign bytes → IsIgnored bytes

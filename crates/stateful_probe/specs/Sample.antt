@@ -1,5 +1,7 @@
 -- Samples of a committee's replies.
-use Rattle.std.specs.Prelude.{◌≡◌, ℕ, ◌+◌, ◌≤◌, ◌↔◌, Bool, not, ◌&&◌, if◌then◌else◌, is_some, is_none, Option, Some, None, IsSome, IfSome, List, [], ◌∷◌, ◌++◌, All, filter, length}
+use Rattle.std.specs.Prelude.{◌≡◌, ℕ, ◌+◌, ◌≤◌, ◌↔◌, Bool, not, ◌&&◌, if◌then◌else◌, is_some}
+use Rattle.std.specs.Prelude.{is_none, Option, Some, None, IsSome, IfSome, List, [], ◌∷◌, ◌++◌, All}
+use Rattle.std.specs.Prelude.{filter, length}
 use Rattle.std.specs.List.{Any}
 use Rattle.std.specs.Map.{values_of, lookup}
 use Rattle.std.specs.BTreeMap.{is_at, insert_entry}
@@ -10,7 +12,8 @@ use Rattle.stateful_types.specs.declared.number.Epoch.{Epoch}
 use Rattle.stateful_types.specs.declared.round.Round.{Round}
 use Rattle.stateful_types.specs.declared.finalization.Finalization.{Finalization}
 
--- the lowest epoch that counts, the first reply of each peer since the last reset, by ascending keys, and the floor
+-- the lowest epoch that counts, the first reply of each peer since the last reset, by ascending
+-- keys, and the floor
 pub record Sampled (K C : Type 0) : Type 0 where
   pub minimum_epoch : Epoch
   pub replies : List (K × Finalization C)
@@ -66,8 +69,8 @@ module _ {K C : Type 0} (committee : ℕ) (judges : Finalization C → Bool) whe
   abbrev pub judged : Sampled K C → List (Finalization C)
   judged s = filter judges (values_of s.replies)
 
-  -- A floor is chosen exactly where none was selected and more replies can be judged than participants may be faulty; it is
-  -- the highest of these.
+  -- A floor is chosen exactly where none was selected and more replies can be judged than
+  -- participants may be faulty; it is the highest of these.
   pub record Selects (s : Sampled K C) (chosen : Option (Finalization C)) : Type 0 where
     pub exactly : IsSome chosen
         ↔ ((s.floor ≡ None) × (max_faults committee + 1 ≤ length (judged s)))

@@ -1,5 +1,6 @@
 -- What a probe is set up with.
-use Rattle.std.specs.Prelude.{◌≡◌, ℕ, ◌≤◌, ◌==◌, Bool, true, Option, Some, None, List, length, option_map, is_some}
+use Rattle.std.specs.Prelude.{◌≡◌, ℕ, ◌≤◌, ◌==◌, Bool, true, Option, Some, None, List, length}
+use Rattle.std.specs.Prelude.{option_map, is_some}
 use Rattle.std.specs.List.{list_any}
 use Rattle.std.specs.Map.{lookup}
 use Rattle.std.specs.declared.cmp.Ordering.{Ordering}
@@ -9,7 +10,8 @@ use Rattle.stateful_types.specs.declared.number.Epoch.{Epoch}
 use Rattle.stateful_types.specs.declared.finalization.Finalization.{Finalization}
 use Rattle.stateful_probe.specs.declared.probe.Config.{Config}
 
--- how keys compare and certificates are spelled, what schemes are, which schemes are known, and which epochs count
+-- how keys compare and certificates are spelled, what schemes are, which schemes are known, and
+-- which epochs count
 pub record Setup (S K C : Type 0) : Type 1 where
   -- the order of keys, and which are the same
   pub cmp : K → K → Ordering

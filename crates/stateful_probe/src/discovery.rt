@@ -1,6 +1,7 @@
 //! Discovery: the participants are asked, and the floor is selected from their replies.
 
-ghost use Rattle.std.specs.Prelude.{◌≡◌, ◌<◌, ◌-◌, ◌^◌, ◌++◌, List, [], false, Option, Some, is_some, OnOk, length};
+ghost use Rattle.std.specs.Prelude.{◌≡◌, ◌<◌, ◌-◌, ◌^◌, ◌++◌, List, [], false, Option, Some};
+ghost use Rattle.std.specs.Prelude.{is_some, OnOk, length};
 ghost use Rattle.stateful_types.specs.declared.finalization.Finalization.{Finalization};
 ghost use Rattle.stateful_probe.specs.Setup.{setup, scheme_in, committee};
 ghost use Rattle.stateful_probe.specs.Probe.{Steps, asked, restarted, handed_out, is_serving};
@@ -16,7 +17,8 @@ use bytes::Bytes;
 use stateful_types::{Epoch, Finalization, Items, OutOfMemory, Scheme, Share};
 use std::alloc::Global;
 
-/// Begins the round anew: the replies are dropped, and the participants of the lowest epoch are asked.
+/// Begins the round anew: the replies are dropped, and the participants of the lowest epoch are
+/// asked.
 pub(crate) fn request_latest<S: Scheme>(
     alloc: Global,
     schemes: &Schemes<S>,

@@ -8,10 +8,11 @@ use stateful_types::{Finalization, Items, Scheme};
 pub enum Event<K> {
     /// Someone asks for the floor, under a ticket above every earlier one.
     Subscribe { ticket: u64 },
-    /// Who waits under this ticket no longer does. Behind its floor, or a stop, nobody waits under it.
+    /// Who waits under this ticket no longer does. Behind its floor, or a stop, nobody waits under
+    /// it.
     Cancel { ticket: u64 },
-    /// The node's own finalizations can be served. From then on, while nobody waits and there is no floor, subscriptions
-    /// are closed.
+    /// The node's own finalizations can be served. From then on, while nobody waits and there is no
+    /// floor, subscriptions are closed.
     Attach,
     /// A peer sent these bytes. The caller bounds them (`Message::max_encode_size`).
     Received { peer: K, value: Bytes },

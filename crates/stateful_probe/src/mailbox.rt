@@ -1,6 +1,7 @@
 //! The mailbox of a probe.
 
-ghost use Rattle.std.specs.Prelude.{◌≡◌, ◌+◌, ◌-◌, ◌^◌, ◌≤◌, ◌↔◌, ◌++◌, ◌∷◌, [], IsNone, IfOk, OnOk, OnErr, IsErrOf, option_to_list};
+ghost use Rattle.std.specs.Prelude.{◌≡◌, ◌+◌, ◌-◌, ◌^◌, ◌≤◌, ◌↔◌, ◌++◌, ◌∷◌, [], IsNone, IfOk};
+ghost use Rattle.std.specs.Prelude.{OnOk, OnErr, IsErrOf, option_to_list};
 ghost use Rattle.stateful_probe.specs.Mailbox.{waiting};
 ghost use Rattle.stateful_probe.specs.declared.event.Event.TheVariants as events;
 
@@ -23,8 +24,8 @@ impl<K: Drop> Policy for Event<K> {
     }
 }
 
-/// Subscriptions and attachments on their way to a probe, in the order in which they were made. It draws the tickets of
-/// subscriptions, from 0 on.
+/// Subscriptions and attachments on their way to a probe, in the order in which they were made. It
+/// draws the tickets of subscriptions, from 0 on.
 #[derive(Drop)]
 pub struct Mailbox<S: Scheme> {
     next_ticket: u64,

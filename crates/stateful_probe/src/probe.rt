@@ -1,6 +1,7 @@
 //! The probe, one event at a time.
 
-ghost use Rattle.std.specs.Prelude.{◌≡◌, ◌≢◌, ◌^◌, ◌<◌, ◌↔◌, All, length, true, false, IfOk, OnOk, IfErr, IsErrOf};
+ghost use Rattle.std.specs.Prelude.{◌≡◌, ◌≢◌, ◌^◌, ◌<◌, ◌↔◌, All, length, true, false, IfOk, OnOk};
+ghost use Rattle.std.specs.Prelude.{IfErr, IsErrOf};
 ghost use Rattle.stateful_probe.specs.Setup.{setup};
 ghost use Rattle.stateful_probe.specs.Probe.{Steps, may_come, IsNew, IsExhausting};
 ghost use Rattle.stateful_probe.specs.Laws.{KeepsLaws};
@@ -16,8 +17,9 @@ use stateful_types::{Epoch, Items, Latest, OutOfMemory, Scheme};
 use std::alloc::Global;
 use std::marker::Model;
 
-/// The schemes of the epochs that are known, of which the first one of an epoch counts, and the lowest epoch whose
-/// finalizations are taken. The participants of that epoch are asked, and they alone are heard.
+/// The schemes of the epochs that are known, of which the first one of an epoch counts, and the
+/// lowest epoch whose finalizations are taken. The participants of that epoch are asked, and they
+/// alone are heard.
 #[derive(Drop)]
 pub struct Config<S> {
     pub schemes: Items<(Epoch, S)>,
@@ -42,7 +44,8 @@ impl<S: Scheme> Model for Probe<S> {
 }
 
 impl<S: Scheme> Probe<S> {
-    /// A probe that has asked nobody, and whom nobody has asked. Each scheme has fewer than 2^32 participants.
+    /// A probe that has asked nobody, and whom nobody has asked. Each scheme has fewer than 2^32
+    /// participants.
     pub fn new(alloc: Global, config: Config<S>) -> Result<Probe<S>, OutOfMemory>
     where
         S: Drop,
@@ -70,7 +73,8 @@ impl<S: Scheme> Probe<S> {
         })
     }
 
-    /// Takes one event in, and answers what is to be done. The order of refusals is `Failed`, `BadEvent`, `Exhausted`.
+    /// Takes one event in, and answers what is to be done. The order of refusals is `Failed`,
+    /// `BadEvent`, `Exhausted`.
     pub fn step<L: Latest<S::Certificate>>(
         &mut self,
         event: ProbeEvent<S>,

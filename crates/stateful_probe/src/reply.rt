@@ -1,6 +1,7 @@
 //! What a peer's bytes are, and what they are worth.
 
-ghost use Rattle.std.specs.Prelude.{◌≡◌, ◌<◌, ◌^◌, ◌∷◌, ◌↔◌, ℕ, List, IfOk, IfErr, IsErrOf, IsTrue, length};
+ghost use Rattle.std.specs.Prelude.{◌≡◌, ◌<◌, ◌^◌, ◌∷◌, ◌↔◌, ℕ, List, IfOk, IfErr, IsErrOf, IsTrue};
+ghost use Rattle.std.specs.Prelude.{length};
 ghost use Rattle.stateful_probe.specs.Setup.{setup, Counts};
 ghost use Rattle.stateful_probe.specs.Reply.{IsHeader, HasHeader};
 ghost use Rattle.stateful_probe.specs.Judgement.{IsHopeless, IsReadAs, IsDecodedAs, IsJudgedAs};
@@ -37,7 +38,8 @@ pub(crate) enum Judgement<C> {
     Good(Finalization<C>),
 }
 
-/// Whether no certificate of so many bytes makes a good reply of this peer, in an epoch of this scheme.
+/// Whether no certificate of so many bytes makes a good reply of this peer, in an epoch of this
+/// scheme.
 fn is_hopeless<S: Scheme>(schemes: &Schemes<S>, scheme: &S, peer: &S::Key, size: usize) -> bool
     requires { length (S.keys scheme.now) < 2 ^ 32 }
     ensures { (epoch : Epoch)
@@ -70,7 +72,8 @@ fn read_reply<S: Scheme>(
     }
 }
 
-/// Reads what stands before the certificate: the round, the view of the parent and the payload. It takes no memory.
+/// Reads what stands before the certificate: the round, the view of the parent and the payload. It
+/// takes no memory.
 fn read_header(input: &mut Bytes) -> Result<(Round, View, Digest), CodecError>
     ensures found { IfOk result (λ h. IsHeader h.0 h.1 h.2 input.old input.new) }
     ensures none { IfErr result (λ e. (round : Round) → HasHeader (1 ∷ input.old) round → ⊥) }
@@ -82,7 +85,8 @@ fn read_header(input: &mut Bytes) -> Result<(Round, View, Digest), CodecError>
     Ok((round, parent, payload))
 }
 
-/// Reads a response behind its tag. The certificate is read only where it could make a good reply of this peer.
+/// Reads a response behind its tag. The certificate is read only where it could make a good reply
+/// of this peer.
 fn read_response<S: Scheme>(
     alloc: Global,
     schemes: &Schemes<S>,

@@ -1,6 +1,7 @@
 //! Samples of a committee's replies.
 
-ghost use Rattle.std.specs.Prelude.{◌≡◌, ◌+◌, ◌≤◌, ◌⊎◌, ◌∷◌, [], None, Some, Bool, IfOk, OnOk, OnErr, IsSome, IfSome, ◌↔◌, length, filter};
+ghost use Rattle.std.specs.Prelude.{◌≡◌, ◌+◌, ◌≤◌, ◌⊎◌, ◌∷◌, [], None, Some, Bool, IfOk, OnOk};
+ghost use Rattle.std.specs.Prelude.{OnErr, IsSome, IfSome, ◌↔◌, length, filter};
 ghost use Rattle.std.specs.BTreeMap.{values};
 ghost use Rattle.std.specs.Option.{option_copied};
 ghost use Rattle.std.specs.Fn.{FnReturnsAt};
@@ -9,7 +10,8 @@ ghost use Rattle.std.specs.Map.{keys_of};
 ghost use Rattle.stateful_types.specs.declared.finalization.Finalization.{Finalization};
 ghost use Rattle.stateful_types.specs.Round.{IsLater};
 ghost use Rattle.stateful_types.specs.Vote.{max_faults};
-ghost use Rattle.stateful_probe.specs.Sample.{awaits, with_reply, with_floor, cleared, IsHighest, IsHighestRound, Selects};
+ghost use Rattle.stateful_probe.specs.Sample.{awaits, with_reply, with_floor, cleared, IsHighest};
+ghost use Rattle.stateful_probe.specs.Sample.{IsHighestRound, Selects};
 
 use stateful_types::{Epoch, Finalization, OutOfMemory, Round, Share, max_faults};
 use std::alloc::Global;
@@ -18,8 +20,9 @@ use std::marker::Model;
 
 /// The first replies of a committee's participants, from which the floor is selected.
 ///
-/// It resolves to the highest reply once there is one more than may be faulty: if no more than these lie, one reply at
-/// least is an honest participant's. Who records a reply has verified it before, and that the peer takes part.
+/// It resolves to the highest reply once there is one more than may be faulty: if no more than
+/// these lie, one reply at least is an honest participant's. Who records a reply has verified it
+/// before, and that the peer takes part.
 #[derive(Drop)]
 pub struct Sample<K: Ord, C> {
     minimum_epoch: Epoch,
@@ -99,9 +102,10 @@ impl<K: Ord + Drop, C: Share + Drop> Sample<K, C> {
         self.floor = None;
     }
 
-    /// Selects the floor once more replies can be judged than participants of a committee of this size may be faulty: the
-    /// highest of these. It answers the floor when it is selected, and none at any other time. Replies are looked at only
-    /// where so many are recorded, so the closure has to be callable only there.
+    /// Selects the floor once more replies can be judged than participants of a committee of this
+    /// size may be faulty: the highest of these. It answers the floor when it is selected, and none
+    /// at any other time. Replies are looked at only where so many are recorded, so the closure has
+    /// to be callable only there.
     pub fn select<F: Fn(&Finalization<C>) -> bool>(
         &mut self,
         committee: u32,
@@ -110,7 +114,8 @@ impl<K: Ord + Drop, C: Share + Drop> Sample<K, C> {
         requires { max_faults committee + 1 ≤ length self.old.replies
             → F.IsAlwaysCallable judgeable }
 
-        // Where the closure always gives the answers of some test, as one does that only looks at the reply.
+        // Where the closure always gives the answers of some test, as one does that only looks at
+        // the reply.
         ensures selects { IfOk result (λ chosen. (judges : Finalization C → Bool)
             → ((f : Finalization C) (b : Bool) → FnReturnsAt F.Fn judgeable f b → b ≡ judges f)
             → Selects committee judges self.old chosen) }
@@ -129,8 +134,8 @@ impl<K: Ord + Drop, C: Share + Drop> Sample<K, C> {
     }
 }
 
-/// The highest reply that can be judged, and of equal rounds the first, where there are more of these than participants of a
-/// committee of this size may be faulty.
+/// The highest reply that can be judged, and of equal rounds the first, where there are more of
+/// these than participants of a committee of this size may be faulty.
 fn highest_reply<'a, K: Ord, C, F: Fn(&Finalization<C>) -> bool>(
     replies: &'a BTreeMap<K, Finalization<C>>,
     committee: u32,
@@ -158,8 +163,8 @@ fn highest_reply<'a, K: Ord, C, F: Fn(&Finalization<C>) -> bool>(
     None
 }
 
-/// The highest round of the replies that can be judged, where there are more of these than participants of a committee of
-/// this size may be faulty.
+/// The highest round of the replies that can be judged, where there are more of these than
+/// participants of a committee of this size may be faulty.
 fn highest_round<K: Ord, C, F: Fn(&Finalization<C>) -> bool>(
     replies: &BTreeMap<K, Finalization<C>>,
     committee: u32,

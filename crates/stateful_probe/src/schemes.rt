@@ -12,8 +12,8 @@ use std::alloc::Global;
 use std::collections::BTreeSet;
 use std::marker::Model;
 
-/// The schemes of the epochs that are known, and the lowest epoch that counts. Each scheme has fewer than 2^32
-/// participants. Those of the lowest epoch can be looked up.
+/// The schemes of the epochs that are known, and the lowest epoch that counts. Each scheme has
+/// fewer than 2^32 participants. Those of the lowest epoch can be looked up.
 #[derive(Drop)]
 pub(crate) struct Schemes<S: Scheme> {
     config: Config<S>,

@@ -9,8 +9,8 @@ use crate::sample::Sample;
 use crate::subscribers::Subscribers;
 use stateful_types::Share;
 
-/// The replies and the floor, who waits for one, whether the node's finalizations are attached, the least ticket that is
-/// new, and whether the probe was stopped.
+/// The replies and the floor, who waits for one, whether the node's finalizations are attached, the
+/// least ticket that is new, and whether the probe was stopped.
 #[derive(Drop)]
 pub(crate) struct State<K: Ord, C> {
     pub(crate) sample: Sample<K, C>,
@@ -28,7 +28,8 @@ impl<K: Ord + Drop, C: Share + Drop> State<K, C> {
         self.attached && self.subscribers.is_empty()
     }
 
-    /// Whether a reply of this peer still counts: no floor is selected, and none of its replies is recorded.
+    /// Whether a reply of this peer still counts: no floor is selected, and none of its replies is
+    /// recorded.
     pub(crate) fn still_counts(&self, peer: &K) -> bool
         ensures { result ≡ still_counts K.cmp self.now.sample peer.now }
     {

@@ -24,7 +24,8 @@ enum Act {
     Stop,
     /// A peer sends these bytes.
     Bytes(u64, &'static [u8]),
-    /// A peer sends a finalization of this epoch and view, signed by so many, from the first participant on.
+    /// A peer sends a finalization of this epoch and view, signed by so many, from the first
+    /// participant on.
     Reply(u64, u64, u64, u32),
     /// A peer sends a good reply of this epoch without its last byte.
     Cut(u64, u64),
@@ -35,7 +36,8 @@ enum Act {
 /// What is done, and what comes of it.
 type Row = (Act, &'static str);
 
-/// The participants of a small committee, of which one may be faulty, and of a larger one, of which two may.
+/// The participants of a small committee, of which one may be faulty, and of a larger one, of which
+/// two may.
 const FOUR: [u64; 4] = [10, 11, 12, 13];
 
 const SEVEN: [u64; 7] = [10, 11, 12, 13, 14, 15, 16];
@@ -303,7 +305,8 @@ fn begins_rounds_anew(rt: HostRuntime) -> Result<(), Fail> {
     runs(&rt, rt.alloc(), &FOUR, None, &rows)
 }
 
-/// Byte 1, the epoch, the view, the parent's view, the payload, the number of signers, and each signer.
+/// Byte 1, the epoch, the view, the parent's view, the payload, the number of signers, and each
+/// signer.
 const RESPONDED: &str =
     "response 12: 1 0 0 0 0 0 0 0 1 0 0 0 0 0 0 1 2 0 0 0 0 0 0 0 8 7 7 7 7 7 7 7 7 7 7 7 7 7 7 7 7 7 7 7 7 7 7 7 7 7 7 7 7 7 7 7 7 0 0 0 2 0 0 0 0 0 0 0 1;";
 

@@ -89,11 +89,13 @@ impl<C> Message<C> {
         }
     }
 
-    /// How many bytes a message has at most whose finalization holds under a scheme of at most so many participants.
+    /// How many bytes a message has at most whose finalization holds under a scheme of at most so
+    /// many participants.
     pub fn max_encode_size<S: Scheme<Certificate = C>>(participants: u32) -> usize
         ensures formula { result ≡ 57 + S.max_size participants }
 
-        // No message is longer: a request isn't, and no response whose finalization such a scheme certifies.
+        // No message is longer: a request isn't, and no response whose finalization such a scheme
+        // certifies.
         ensures requests { 1 ≤ result }
         ensures responses { (scheme : S) (f : Finalization C)
             → S.certifies scheme f

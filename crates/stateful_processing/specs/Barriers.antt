@@ -1,5 +1,6 @@
 -- The open barriers, the oldest first.
-use Rattle.std.specs.Prelude.{ℕ, ◌==◌, ◌&&◌, Bool, true, false, if◌then◌else◌, Option, Some, None, is_some, List, [], ◌∷◌, filter}
+use Rattle.std.specs.Prelude.{ℕ, ◌==◌, ◌&&◌, Bool, true, false, if◌then◌else◌, Option, Some, None}
+use Rattle.std.specs.Prelude.{is_some, List, [], ◌∷◌, filter}
 use Rattle.std.specs.List.{list_any, list_all}
 use Rattle.stateful_types.specs.declared.number.Height.{Height}
 use Rattle.stateful_db.specs.Barrier.{open_at, answered}
@@ -61,4 +62,5 @@ answered_by i answer active = record active { barrier = answered active.barrier 
 abbrev pub with_answer : ℕ → ℕ → Flushed → List Active → List Active
 with_answer k i answer [] = []
 with_answer k i answer (active ∷ barriers) =
-    if awaits k i active then answered_by i answer active ∷ barriers else active ∷ with_answer k i answer barriers
+    if awaits k i active then answered_by i answer active ∷ barriers
+    else active ∷ with_answer k i answer barriers

@@ -7,7 +7,8 @@ use Rattle.stateful_db.specs.declared.database.DbCall.{DbCall}
 use Rattle.stateful_db.specs.declared.database.DbCall.TheVariants as call
 use Rattle.stateful_exec.specs.Building.{FaultsPropose}
 use Rattle.stateful_exec.specs.Causes.{FaultsAcquire, FaultsStart}
-use Rattle.stateful_exec.specs.Finalizing.{front_at, Conflicts, FaultsBegin, FaultsMove, FaultsObserve}
+use Rattle.stateful_exec.specs.Finalizing.{front_at, Conflicts, FaultsBegin, FaultsMove}
+use Rattle.stateful_exec.specs.Finalizing.{FaultsObserve}
 use Rattle.stateful_exec.specs.Pausing.{AwaitsRuns, FaultsResume}
 use Rattle.stateful_exec.specs.Rules.{requested}
 use Rattle.stateful_exec.specs.Starting.{IsLeft}
@@ -19,7 +20,8 @@ use Rattle.stateful_cache.specs.Cache.{IsIn}
 use Rattle.stateful_processing.specs.Errors.{error_of_exec}
 use Rattle.stateful_processing.specs.Message.{is_verification}
 use Rattle.stateful_processing.specs.Moments.{Moment, inner, with_loop}
-use Rattle.stateful_processing.specs.Rules.{Needed, IsCollected, IsIdle, IsFinalizing, IsCalm, HasStates, Takes}
+use Rattle.stateful_processing.specs.Rules.{Needed, IsCollected, IsIdle, IsFinalizing, IsCalm}
+use Rattle.stateful_processing.specs.Rules.{HasStates, Takes}
 use Rattle.stateful_processing.specs.declared.message.Action.{Action}
 use Rattle.stateful_processing.specs.declared.message.Action.TheVariants as action
 use Rattle.stateful_processing.specs.declared.message.Message.{Message}
@@ -28,12 +30,16 @@ use Rattle.stateful_processing.specs.declared.tables.Finalizing.{Finalizing}
 use Rattle.stateful_processing.specs.Barriers.{awaiting}
 use Rattle.stateful_processing.specs.declared.barriers.Active.{Active}
 use Rattle.stateful_processing.specs.declared.error.StepError.{StepError}
-use Rattle.stateful_processing.specs.declared.error.StepError.TheVariants.{Exhausted, Failed, DatabaseFault, OutOfMemory}
+use Rattle.stateful_processing.specs.declared.error.StepError.TheVariants.{Exhausted, Failed}
+use Rattle.stateful_processing.specs.declared.error.StepError.TheVariants.{DatabaseFault}
+use Rattle.stateful_processing.specs.declared.error.StepError.TheVariants.{OutOfMemory}
 
 module _ {Ids S T : Type 0} (d : Databases Ids S T) (before now : ℕ → ℕ) (new : d.Members) where
-  -- of fewer than 2^64 databases: the one of this number failed at this call, has counted it, and is lost with its medium
+  -- of fewer than 2^64 databases: the one of this number failed at this call, has counted it, and
+  -- is lost with its medium
   abbrev pub HasCounted : ℕ → DbCall → DbCall → Type 0
-  HasCounted i given call = d.count < 2 ^ 64 → (given ≡ call) × (i < d.count) × Rose (before i) (now i) × d.Lost new i
+  HasCounted i given call =
+      d.count < 2 ^ 64 → (given ≡ call) × (i < d.count) × Rose (before i) (now i) × d.Lost new i
 
   -- no barrier has begun: no number was left for it, or one was, and a database failed
   abbrev pub FaultsBarrier : ℕ → StepError → Type 0
@@ -60,33 +66,77 @@ module _ {Ids S T : Type 0} (d : Databases Ids S T) (before now : ℕ → ℕ) (
 abbrev pub Via : (ExecError → Type 0) → StepError → Type 0
 Via Faults e = (fault : ExecError) × Faults fault × (e ≡ error_of_exec fault)
 
-module _ {B C I P R D H G U : Type 0} (w : Workings B C I P R D H G U) (stored : ℕ → Option (Named B)) (rose : Type 0) (before now : ℕ → ℕ) (new : w.kind.Members) where
-  -- why a message that is taken isn't done: a request doesn't acquire what it needs; or another block is the anchor at the
-  -- finalized one's height; or it is above the next height, or on another parent
+module _ {B C I P R D H G U : Type 0} (w : Workings B C I P R D H G U)
+    (stored : ℕ → Option (Named B)) (rose : Type 0) (before now : ℕ → ℕ)
+    (new : w.kind.Members) where
+  -- why a message that is taken isn't done: a request doesn't acquire what it needs; or another
+  -- block is the anchor at the finalized one's height; or it is above the next height, or on
+  -- another parent
   abbrev pub FaultsMessage : Moment w → Message B C I → StepError → Type 0
-  FaultsMessage m (message.Request request) e = Via (FaultsAcquire w rose stored (inner w m) (requested request)) e
+  FaultsMessage m (message.Request request) e =
+      Via (FaultsAcquire w rose stored (inner w m) (requested request)) e
   FaultsMessage m (message.Finalized t b) e = Via (Conflicts w.header m.execution.state.anchor b) e
-      ⊎ ((m.execution.state.anchor.height.0 < w.header.height b.block) × Via (FaultsBegin w.header m.execution.state.anchor b) e)
+      ⊎
+      ((m.execution.state.anchor.height.0 < w.header.height b.block)
+      × Via (FaultsBegin w.header m.execution.state.anchor b) e)
   FaultsMessage m (message.Subscribe t) e = ⊥
 
   -- Why the rule that could go didn't: memory ran out, or what it does was refused.
   pub data FaultsRule (m : Moment w) (e : StepError) : Type 0 where
     memory : e ≡ OutOfMemory → FaultsRule m e
-    scheduling : {request : Request B C I} {rest : List (Message B C I)} → IsCollected w m → IsSome m.execution.build
-        → m.loop.queue ≡ message.Request request ∷ rest → is_verification (message.Request request) ≡ true
-        → Via (FaultsAcquire w rose stored (inner w (with_loop w m (record m.loop { queue = rest }))) (requested request)) e → FaultsRule m e
-    running : {f : Finalizing B G} → IsFinalizing w m f → m.execution.front ≡ front_at f.block Begun → AwaitsRuns w.header m.execution.state 0
-        → (IsIn m.execution.state.cache f.block.digest → ⊥) → Via (FaultsStart w rose m.execution.state.next_job m.members m.next) e → FaultsRule m e
+    scheduling : {request : Request B C I} {rest : List (Message B C I)}
+        → IsCollected w m
+        → IsSome m.execution.build
+        → m.loop.queue ≡ message.Request request ∷ rest
+        → is_verification (message.Request request) ≡ true
+        → Via
+        (FaultsAcquire w rose stored (inner w (with_loop w m (record m.loop { queue = rest })))
+        (requested request))
+        e
+        → FaultsRule m e
+    running : {f : Finalizing B G}
+        → IsFinalizing w m f
+        → m.execution.front ≡ front_at f.block Begun
+        → AwaitsRuns w.header m.execution.state 0
+        → (IsIn m.execution.state.cache f.block.digest → ⊥)
+        → Via (FaultsStart w rose m.execution.state.next_job m.members m.next) e
+        → FaultsRule m e
     advancing : {f : Finalizing B G} → IsFinalizing w m f → HasStates w m f.block
-        → Via (FaultsMove w rose f.block m.execution.state.cache m.execution.front) e → FaultsRule m e
-    applying : {f : Finalizing B G} → IsFinalizing w m f → HasStates w m f.block → FaultsApply w.kind before now new m.members e → FaultsRule m e
-    covering : {f : Finalizing B G} {captured : G} → IsFinalizing w m f → m.execution.front ≡ front_at f.block Advanced → f.captured ≡ Some captured
-        → Needed m.loop.durability → FaultsBarrier w.kind before now new m.loop.next_barrier e → FaultsRule m e
-    observing : {f : Finalizing B G} {captured : G} → IsFinalizing w m f → m.execution.front ≡ front_at f.block Advanced → f.captured ≡ Some captured
-        → Via (FaultsObserve w rose f.block captured m.members m.execution.state.next_job) e → FaultsRule m e
-    ending : {f : Finalizing B G} → IsFinalizing w m f → m.execution.front ≡ front_at f.block Advanced → f.captured ≡ None
+        → Via (FaultsMove w rose f.block m.execution.state.cache m.execution.front) e
+        → FaultsRule m e
+    applying : {f : Finalizing B G}
+        → IsFinalizing w m f
+        → HasStates w m f.block
+        → FaultsApply w.kind before now new m.members e
+        → FaultsRule m e
+    covering : {f : Finalizing B G} {captured : G}
+        → IsFinalizing w m f
+        → m.execution.front ≡ front_at f.block Advanced
+        → f.captured ≡ Some captured
+        → Needed m.loop.durability
+        → FaultsBarrier w.kind before now new m.loop.next_barrier e
+        → FaultsRule m e
+    observing : {f : Finalizing B G} {captured : G}
+        → IsFinalizing w m f
+        → m.execution.front ≡ front_at f.block Advanced
+        → f.captured ≡ Some captured
+        → Via (FaultsObserve w rose f.block captured m.members m.execution.state.next_job) e
+        → FaultsRule m e
+    ending : {f : Finalizing B G}
+        → IsFinalizing w m f
+        → m.execution.front ≡ front_at f.block Advanced
+        → f.captured ≡ None
         → Via (FaultsResume w rose stored (inner w m)) e → FaultsRule m e
-    beginning : IsIdle w m → Needed m.loop.durability → FaultsBarrier w.kind before now new m.loop.next_barrier e → FaultsRule m e
-    building : {t : ℕ} {rest : List (Action B C I)} → IsCalm w m → m.loop.actions ≡ action.Build t ∷ rest
+    beginning : IsIdle w m
+        → Needed m.loop.durability
+        → FaultsBarrier w.kind before now new m.loop.next_barrier e
+        → FaultsRule m e
+    building : {t : ℕ} {rest : List (Action B C I)}
+        → IsCalm w m
+        → m.loop.actions ≡ action.Build t ∷ rest
         → Via (FaultsPropose w rose t m.members m.next m.execution.state) e → FaultsRule m e
-    taking : {x : Message B C I} {mid : Moment w} → IsCalm w m → Takes w x m mid → FaultsMessage mid x e → FaultsRule m e
+    taking : {x : Message B C I} {mid : Moment w}
+        → IsCalm w m
+        → Takes w x m mid
+        → FaultsMessage mid x e
+        → FaultsRule m e

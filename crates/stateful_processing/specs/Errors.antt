@@ -16,7 +16,8 @@ error_of_exec (exec.SkippedHeight expected given) = step.SkippedHeight expected 
 error_of_exec (exec.NotExtending expected given) = step.NotExtending expected given
 error_of_exec (exec.ConflictAtAnchor expected given) = step.ConflictAtAnchor expected given
 error_of_exec (exec.FinalizedRejected digest) = step.FinalizedRejected digest
-error_of_exec (exec.FinalizedMismatch index expected given) = step.FinalizedMismatch index expected given
+error_of_exec (exec.FinalizedMismatch index expected given) =
+    step.FinalizedMismatch index expected given
 error_of_exec (exec.ProposalMismatch fault) = step.ProposalMismatch fault
 error_of_exec (exec.ProposalStale anchor round) = step.ProposalStale anchor round
 error_of_exec (exec.PendingChanged before after) = step.PendingChanged before after
@@ -32,7 +33,8 @@ error_of_set set.OutOfMemory = step.OutOfMemory
 
 abbrev pub error_of_why : InitError → ℕ → StepError
 error_of_why init.Database index = step.Database index
-error_of_why (init.TargetMismatch expected recovered) index = step.TargetMismatch index expected recovered
+error_of_why (init.TargetMismatch expected recovered) index =
+    step.TargetMismatch index expected recovered
 error_of_why init.OutOfMemory index = step.OutOfMemory
 
 abbrev pub error_of_init : SetInit → StepError

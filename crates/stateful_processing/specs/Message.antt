@@ -5,7 +5,8 @@ use Rattle.stateful_exec.specs.declared.request.Request.TheVariants.{Verify, Rec
 use Rattle.stateful_processing.specs.declared.message.Action.{Action}
 use Rattle.stateful_processing.specs.declared.message.Action.TheVariants as action
 use Rattle.stateful_processing.specs.declared.message.Message.{Message}
-use Rattle.stateful_processing.specs.declared.message.Message.TheVariants.{Request, Finalized, Subscribe}
+use Rattle.stateful_processing.specs.declared.message.Message.TheVariants.{Request, Finalized}
+use Rattle.stateful_processing.specs.declared.message.Message.TheVariants.{Subscribe}
 
 -- the message is the request of this ticket
 abbrev pub asks_of : {B C I : Type 0} → Message B C I → ℕ → Bool

@@ -16,7 +16,9 @@ pub record Executing (B C I R D H U : Type 0) : Type 0 where
   pub front : Option (Front B R U H)
 
 -- what is kept beside an application
-abbrev pub executing : {A B C I R D H U : Type 0} → Owner A (Tables B C I R U) (Option (Building B C D)) (Option (Front B R U H)) → Executing B C I R D H U
+abbrev pub executing : {A B C I R D H U : Type 0}
+    → Owner A (Tables B C I R U) (Option (Building B C D)) (Option (Front B R U H))
+    → Executing B C I R D H U
 executing owner = record { state = owner.state; build = owner.build; front = owner.front }
 
 pub record Moment {B C I P R D H G U : Type 0} (w : Workings B C I P R D H G U) : Type 0 where
@@ -28,16 +30,31 @@ pub record Moment {B C I P R D H G U : Type 0} (w : Workings B C I P R D H G U) 
   pub marks : List (Mark B)
 
 module _ {B C I P R D H G U : Type 0} (w : Workings B C I P R D H G U) where
-  abbrev pub moment : Executing B C I R D H U → Processing B C I G → w.kind.Members → w.Ids → List (Mark B) → Moment w
-  moment execution loop members next marks = record { execution = execution; loop = loop; members = members; next = next; marks = marks }
+  abbrev pub moment : Executing B C I R D H U
+      → Processing B C I G
+      → w.kind.Members
+      → w.Ids
+      → List (Mark B)
+      → Moment w
+  moment execution loop members next marks =
+      record { execution = execution; loop = loop; members = members; next = next; marks = marks }
 
   -- the moment of the tables of execution
   abbrev pub inner : Moment w → exec.Moment w
-  inner m = record { state = m.execution.state; members = m.members; next = m.next; marks = m.marks }
+  inner m =
+      record { state = m.execution.state; members = m.members; next = m.next; marks = m.marks }
 
   -- another moment of the tables of execution; all else is as it is
   abbrev pub with_inner : Moment w → exec.Moment w → Moment w
-  with_inner m now = record m { execution = record m.execution { state = now.state }; members = now.members; next = now.next; marks = now.marks }
+  with_inner m now =
+      record m {
+        execution =
+            record m.execution { state = now.state };
+        members =
+            now.members;
+        next = now.next;
+        marks = now.marks;
+      }
 
   abbrev pub with_loop : Moment w → Processing B C I G → Moment w
   with_loop m loop = record m { loop = loop }

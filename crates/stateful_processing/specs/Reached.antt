@@ -4,7 +4,8 @@ use Rattle.stateful_exec.specs.declared.front.Front.{Front}
 use Rattle.stateful_exec.specs.declared.front.Stage.{Stage}
 use Rattle.stateful_exec.specs.declared.front.Stage.TheVariants as stage
 use Rattle.stateful_processing.specs.declared.reached.Reached.{Reached}
-use Rattle.stateful_processing.specs.declared.reached.Reached.TheVariants.{Begun, Ran, Advanced, Waiting}
+use Rattle.stateful_processing.specs.declared.reached.Reached.TheVariants.{Begun, Ran, Advanced}
+use Rattle.stateful_processing.specs.declared.reached.Reached.TheVariants.{Waiting}
 
 abbrev pub stage_of : {R U H : Type 0} → Stage R U H → Reached
 stage_of stage.Begun = Begun

@@ -1,5 +1,6 @@
 -- What the rules need of the machine and the databases, whatever came before.
-use Rattle.std.specs.Prelude.{◌≡◌, ◌<◌, ◌≤◌, ◌+◌, ◌⊎◌, ◌++◌, ◌∷◌, [], ℕ, zero, suc, true, Option, Some, None, List, All, Any, map, length}
+use Rattle.std.specs.Prelude.{◌≡◌, ◌<◌, ◌≤◌, ◌+◌, ◌⊎◌, ◌++◌, ◌∷◌, [], ℕ, zero, suc, true, Option}
+use Rattle.std.specs.Prelude.{Some, None, List, All, Any, map, length}
 use Rattle.stateful_db.specs.declared.barrier.Flushed.TheVariants.{Good, Interrupted}
 use Rattle.stateful_db.specs.declared.barrier.Handle.{Handle}
 use Rattle.stateful_durability.specs.Durability.{Coverage}
@@ -7,14 +8,19 @@ use Rattle.stateful_exec.specs.Finalizing.{front_at}
 use Rattle.stateful_exec.specs.Workings.{Workings, Point}
 use Rattle.stateful_exec.specs.declared.front.Front.{Front}
 use Rattle.stateful_exec.specs.declared.front.Stage.{Stage}
-use Rattle.stateful_exec.specs.declared.front.Stage.TheVariants.{Begun, Running, Ran, Advanced, Hooking}
+use Rattle.stateful_exec.specs.declared.front.Stage.TheVariants.{Begun, Running, Ran, Advanced}
+use Rattle.stateful_exec.specs.declared.front.Stage.TheVariants.{Hooking}
 use Rattle.stateful_processing.specs.Moments.{Moment}
 use Rattle.stateful_processing.specs.declared.barriers.Active.{Active}
 use Rattle.stateful_processing.specs.declared.tables.Finalizing.{Finalizing}
 
 -- the place of a token that is out: until a good flush of it
 abbrev pub out_of : Handle → List ℕ
-out_of handle = elim handle.answer [ None ↦ handle.token.place ∷ [] | Some answer ↦ elim answer [ Good ↦ [] | Interrupted ↦ handle.token.place ∷ [] ] ]
+out_of handle =
+    elim handle.answer [
+      | None ↦ handle.token.place ∷ []
+      | Some answer ↦ elim answer [ Good ↦ [] | Interrupted ↦ handle.token.place ∷ [] ]
+    ]
 
 -- the place of the token of a database that is out, if it is
 abbrev pub out_in : List Handle → ℕ → List ℕ
@@ -36,16 +42,23 @@ abbrev pub IsHeldFor : Coverage → ℕ → Type 0
 IsHeldFor c n = (n ≤ c.durable) ⊎ HasReceipt c n
 
 module _ {B C I P R D H G U : Type 0} (w : Workings B C I P R D H G U) where
-  -- the finalization in front is that of execution: until its block is applied it is of the next height, and nothing was
-  -- captured; from then on it is of the last applied height, which has no receipt yet
+  -- the finalization in front is that of execution: until its block is applied it is of the next
+  -- height, and nothing was captured; from then on it is of the last applied height, which has no
+  -- receipt yet
   abbrev pub AgreesWith : Coverage → Finalizing B G → Stage R U H → Type 0
   AgreesWith c f Begun = (f.captured ≡ None) × (w.header.height f.block.block ≡ c.applied + 1)
-  AgreesWith c f (Running j run) = (f.captured ≡ None) × (w.header.height f.block.block ≡ c.applied + 1)
+  AgreesWith c f (Running j run) =
+      (f.captured ≡ None) × (w.header.height f.block.block ≡ c.applied + 1)
   AgreesWith c f (Ran batch) = (f.captured ≡ None) × (w.header.height f.block.block ≡ c.applied + 1)
-  AgreesWith c f Advanced = (w.header.height f.block.block ≡ c.applied) × All (λ receipt. receipt.0 < c.applied) c.held
-  AgreesWith c f (Hooking j hook) = (f.captured ≡ None) × (w.header.height f.block.block ≡ c.applied) × All (λ receipt. receipt.0 < c.applied) c.held
+  AgreesWith c f Advanced =
+      (w.header.height f.block.block ≡ c.applied) × All (λ receipt. receipt.0 < c.applied) c.held
+  AgreesWith c f (Hooking j hook) =
+      (f.captured ≡ None)
+      × (w.header.height f.block.block ≡ c.applied)
+      × All (λ receipt. receipt.0 < c.applied) c.held
 
-  -- each applied height that isn't durable has a receipt, but for that of the block that is being finalized
+  -- each applied height that isn't durable has a receipt, but for that of the block that is being
+  -- finalized
   abbrev pub AreHeld : Coverage → Option (Finalizing B G) → Type 0
   AreHeld c None = (n : ℕ) → n ≤ c.applied → IsHeldFor c n
   AreHeld c (Some f) = (n : ℕ) → n ≤ c.applied → n < w.header.height f.block.block → IsHeldFor c n
@@ -53,10 +66,12 @@ module _ {B C I P R D H G U : Type 0} (w : Workings B C I P R D H G U) where
   -- the finalization of the loop and that of execution are one
   abbrev pub FrontAgrees : Coverage → Option (Finalizing B G) → Option (Front B R U H) → Type 0
   FrontAgrees c None front = front ≡ None
-  FrontAgrees c (Some f) front = (stage : Stage R U H) × (front ≡ front_at f.block stage) × AgreesWith c f stage
+  FrontAgrees c (Some f) front =
+      (stage : Stage R U H) × (front ≡ front_at f.block stage) × AgreesWith c f stage
 
-  -- What holds of a machine that is up: its databases are here, at the anchor's height; the tokens that are out are those
-  -- with which the open barriers await answers; and the receipts and the finalization in front are those of its heights.
+  -- What holds of a machine that is up: its databases are here, at the anchor's height; the tokens
+  -- that are out are those with which the open barriers await answers; and the receipts and the
+  -- finalization in front are those of its heights.
   pub record IsUp (m : Moment w) : Type 0 where
     pub point : Point w
     pub here : w.kind.point m.members ≡ Some point

@@ -1,6 +1,8 @@
 //! How barriers begin, are flushed and complete.
 
-ghost use Rattle.std.specs.Prelude.{◌≡◌, ◌≢◌, ◌<◌, ◌≤◌, ◌∷◌, ◌++◌, [], ℕ, Some, None, OnOk, OnErr, IfErr, IsSome, Contains, length, option_and_then, slice_get, map};
+ghost use Rattle.std.specs.Prelude.{◌≡◌, ◌≢◌, ◌<◌, ◌≤◌, ◌∷◌, ◌++◌, [], ℕ, Some, None, OnOk, OnErr};
+ghost use Rattle.std.specs.Prelude.{IfErr, IsSome, Contains, length, option_and_then, slice_get};
+ghost use Rattle.std.specs.Prelude.{map};
 ghost use Rattle.std.specs.Option.{ForSome};
 ghost use Rattle.stateful_db.specs.Barrier.{open_at};
 ghost use Rattle.stateful_durability.specs.Durability.{receipts_above, covered_receipts};
@@ -10,7 +12,8 @@ ghost use Rattle.stateful_processing.specs.Causes.{FaultsBarrier, FaultsFlush};
 ghost use Rattle.stateful_processing.specs.Intake.{Flushes};
 ghost use Rattle.stateful_processing.specs.Left.{KeepsStates};
 ghost use Rattle.stateful_processing.specs.Moments.{Executing, moment};
-ghost use Rattle.stateful_processing.specs.Rules.{Needed, BeginsBarrier, CompletesBarrier, acknowledged};
+ghost use Rattle.stateful_processing.specs.Rules.{Needed, BeginsBarrier, CompletesBarrier};
+ghost use Rattle.stateful_processing.specs.Rules.{acknowledged};
 
 use crate::barriers::Active;
 use crate::error::StepError;
@@ -20,8 +23,8 @@ use stateful_exec::Worked;
 use stateful_history::Mark;
 use stateful_types::Height;
 
-/// A barrier over all that is applied begins, under the next number, with the tokens of all databases. `Exhausted` exactly
-/// where the number is the last one.
+/// A barrier over all that is applied begins, under the next number, with the tokens of all
+/// databases. `Exhausted` exactly where the number is the last one.
 pub(crate) fn begin_barrier<A: Application>(
     processing: &mut ProcessingOf<A>,
     databases: &mut A::Databases,
@@ -130,8 +133,8 @@ fn release<A: Application>(
     Ok(())
 }
 
-/// The oldest barrier, which was flushed, is done: its height is durable, and the receipts of durable heights are
-/// acknowledged.
+/// The oldest barrier, which was flushed, is done: its height is durable, and the receipts of
+/// durable heights are acknowledged.
 pub(crate) fn complete_barrier<A: Application>(
     processing: &mut ProcessingOf<A>,
     number: u64,

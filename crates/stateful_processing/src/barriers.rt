@@ -1,8 +1,11 @@
 //! The open barriers.
 
-ghost use Rattle.std.specs.Prelude.{◌≡◌, ◌<◌, ◌∷◌, ◌++◌, [], drop, option_map, option_and_then, length, IsSome};
+ghost use Rattle.std.specs.Prelude.{◌≡◌, ◌<◌, ◌∷◌, ◌++◌, [], drop, option_map, option_and_then};
+ghost use Rattle.std.specs.Prelude.{length, IsSome};
 ghost use Rattle.stateful_db.specs.Barrier.{open_at};
-ghost use Rattle.stateful_processing.specs.Barriers.{is_broken, is_flushed, awaits, numbered, broken, flushed, awaiting, answered_by, with_answer};
+ghost use Rattle.stateful_processing.specs.Barriers.{is_broken, is_flushed, awaits, numbered};
+ghost use Rattle.stateful_processing.specs.Barriers.{broken, flushed, awaiting, answered_by};
+ghost use Rattle.stateful_processing.specs.Barriers.{with_answer};
 
 use stateful_db::{Barrier, BarrierPoll, FlushToken, Flushed};
 use stateful_types::Height;

@@ -6,11 +6,12 @@ use stateful_types::{Digest, Height, OutOfMemory, Round, Target};
 use std::alloc::{AllocError, AllocFailed};
 use thiserror::Error;
 
-/// Why an event was refused. After `BadEvent` nothing has changed; after any other error every event but a restart is
-/// answered `Failed`.
+/// Why an event was refused. After `BadEvent` nothing has changed; after any other error every
+/// event but a restart is answered `Failed`.
 #[derive(Clone, Copy, Debug, PartialEq, Eq, Error)]
 pub enum StepError {
-    /// The database of this number failed to open, or keeps no checkpoint with the end that a block commits to.
+    /// The database of this number failed to open, or keeps no checkpoint with the end that a block
+    /// commits to.
     #[error("Database")]
     Database {
         index: usize,
@@ -84,7 +85,8 @@ pub enum StepError {
     /// A counter stands at its last value.
     #[error("Exhausted")]
     Exhausted,
-    /// The database of this number failed at this call, has counted it, and is lost with its medium.
+    /// The database of this number failed at this call, has counted it, and is lost with its
+    /// medium.
     #[error("DatabaseFault")]
     DatabaseFault {
         index: usize,

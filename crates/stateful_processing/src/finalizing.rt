@@ -1,6 +1,8 @@
 //! A finalization, from its begin to the end of its hook.
 
-ghost use Rattle.std.specs.Prelude.{◌≡◌, ◌≢◌, ◌<◌, ◌≤◌, ◌∷◌, ◌++◌, ◌⊎◌, [], ℕ, Bool, true, false, Option, Some, None, List, OnOk, OnErr, IfOk, IfErr, All, length};
+ghost use Rattle.std.specs.Prelude.{◌≡◌, ◌≢◌, ◌<◌, ◌≤◌, ◌∷◌, ◌++◌, ◌⊎◌, [], ℕ, Bool, true, false};
+ghost use Rattle.std.specs.Prelude.{Option, Some, None, List, OnOk, OnErr, IfOk, IfErr, All};
+ghost use Rattle.std.specs.Prelude.{length};
 ghost use Rattle.stateful_types.specs.Causes.{Rose};
 ghost use Rattle.stateful_types.specs.Names.{Named};
 ghost use Rattle.stateful_exec.specs.Causes.{FaultsStart};
@@ -14,7 +16,9 @@ ghost use Rattle.stateful_exec.specs.Moments as exec;
 ghost use Rattle.stateful_processing.specs.Moments.{executing, moment};
 ghost use Rattle.stateful_processing.specs.declared.tables.Processing.{Processing as Kept};
 ghost use Rattle.stateful_processing.specs.Reached.{reached_by};
-ghost use Rattle.stateful_processing.specs.Rules.{BeginsFinalization, RunsFinalized, AppliesBlock, ObservesBlock, EndsFinalization, IsFinalizing, Needed, Rule, Goes};
+ghost use Rattle.stateful_processing.specs.Rules.{BeginsFinalization, RunsFinalized, AppliesBlock};
+ghost use Rattle.stateful_processing.specs.Rules.{ObservesBlock, EndsFinalization, IsFinalizing};
+ghost use Rattle.stateful_processing.specs.Rules.{Needed, Rule, Goes};
 ghost use Rattle.stateful_processing.specs.Sound.{IsUp};
 
 use crate::barrier::begin_barrier;
@@ -250,7 +254,8 @@ fn run_or_apply<A: Application + Drop>(
 ) -> Result<(), StepError>
     requires finalizing { let w = ⟦<A as Worked>⟧.workings in IsFinalizing w
         (moment w (executing handler.old) (record processing.old { front = Some front })
-        (A.Databases.members databases.old) (A.Databases.next databases.old) marks.old.items) front }
+        (A.Databases.members databases.old) (A.Databases.next databases.old) marks.old.items)
+        front }
     requires begun { handler.old.front ≡ front_at front.block stage.Begun }
     requires idle { AwaitsRuns A.Block.header handler.old.state 0 }
     requires next { processing.old.durability.applied < A.Block.header.height front.block.block }
@@ -292,8 +297,8 @@ fn run_or_apply<A: Application + Drop>(
     }
 }
 
-/// The anchor has moved, and no hook goes on: a barrier begins where one is needed before the application has observed the
-/// block; else it observes it; and once it has, the finalization ends.
+/// The anchor has moved, and no hook goes on: a barrier begins where one is needed before the
+/// application has observed the block; else it observes it; and once it has, the finalization ends.
 fn go_on_advanced<A: Application + Drop, S: BlockStore<A::Block>>(
     handler: &mut Handler<A>,
     processing: &mut ProcessingOf<A>,
@@ -304,7 +309,8 @@ fn go_on_advanced<A: Application + Drop, S: BlockStore<A::Block>>(
 ) -> Result<(), StepError>
     requires finalizing { let w = ⟦<A as Worked>⟧.workings in IsFinalizing w
         (moment w (executing handler.old) (record processing.old { front = Some front })
-        (A.Databases.members databases.old) (A.Databases.next databases.old) marks.old.items) front }
+        (A.Databases.members databases.old) (A.Databases.next databases.old) marks.old.items)
+        front }
     requires none { processing.old.front ≡ None }
     requires advanced { handler.old.front ≡ front_at front.block stage.Advanced }
     requires room { Needed processing.old.durability
@@ -371,7 +377,8 @@ pub(crate) fn go_on_finalizing<A: Application + Drop, S: BlockStore<A::Block>>(
 ) -> Result<bool, StepError>
     requires finalizing { let w = ⟦<A as Worked>⟧.workings in IsFinalizing w
         (moment w (executing handler.old) (record processing.old { front = Some front })
-        (A.Databases.members databases.old) (A.Databases.next databases.old) marks.old.items) front }
+        (A.Databases.members databases.old) (A.Databases.next databases.old) marks.old.items)
+        front }
     requires none { processing.old.front ≡ None }
     requires up { let w = ⟦<A as Worked>⟧.workings in IsUp w
         (moment w (executing handler.old) (record processing.old { front = Some front })
@@ -382,7 +389,8 @@ pub(crate) fn go_on_finalizing<A: Application + Drop, S: BlockStore<A::Block>>(
         (moment w (executing handler.old) (record processing.old { front = Some front })
         (A.Databases.members databases.old) (A.Databases.next databases.old) marks.old.items)
         (moment w (executing handler.new) processing.new
-        (A.Databases.members databases.new) (A.Databases.next databases.new) marks.new.items) went) }
+        (A.Databases.members databases.new) (A.Databases.next databases.new) marks.new.items)
+        went) }
     ensures fault { IfErr result (let w = ⟦<A as Worked>⟧.workings in
         FaultsRule w (S.stored store.now) (Rose (A.count handler.old.application)
         (A.count handler.new.application))

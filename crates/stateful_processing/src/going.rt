@@ -1,6 +1,7 @@
 //! What goes on without another event.
 
-ghost use Rattle.std.specs.Prelude.{◌≡◌, ◌≢◌, ◌<◌, ◌≤◌, ◌∷◌, ◌++◌, ◌⊎◌, [], ℕ, Bool, true, false, Option, Some, None, List, OnOk, OnErr, IfOk, IfErr};
+ghost use Rattle.std.specs.Prelude.{◌≡◌, ◌≢◌, ◌<◌, ◌≤◌, ◌∷◌, ◌++◌, ◌⊎◌, [], ℕ, Bool, true, false};
+ghost use Rattle.std.specs.Prelude.{Option, Some, None, List, OnOk, OnErr, IfOk, IfErr};
 ghost use Rattle.stateful_types.specs.Causes.{Rose};
 ghost use Rattle.stateful_history.specs.declared.mark.Mark.TheVariants as mark;
 ghost use Rattle.stateful_exec.specs.Starting.{Rises};
@@ -42,7 +43,8 @@ fn break_barrier<A: Application>(
     Ok(())
 }
 
-/// One thing that goes on without another event, where nothing is in front. False where there is none.
+/// One thing that goes on without another event, where nothing is in front. False where there is
+/// none.
 fn go_on_idle<A: Application + Drop, S: BlockStore<A::Block>>(
     handler: &mut Handler<A>,
     processing: &mut ProcessingOf<A>,
@@ -62,7 +64,8 @@ fn go_on_idle<A: Application + Drop, S: BlockStore<A::Block>>(
         (moment w (executing handler.old) processing.old
         (A.Databases.members databases.old) (A.Databases.next databases.old) marks.old.items)
         (moment w (executing handler.new) processing.new
-        (A.Databases.members databases.new) (A.Databases.next databases.new) marks.new.items) went) }
+        (A.Databases.members databases.new) (A.Databases.next databases.new) marks.new.items)
+        went) }
     ensures fault { IfErr result (let w = ⟦<A as Worked>⟧.workings in
         FaultsRule w (S.stored store.now) (Rose (A.count handler.old.application)
         (A.count handler.new.application))
@@ -95,7 +98,8 @@ fn go_on_idle<A: Application + Drop, S: BlockStore<A::Block>>(
     take_first(handler, processing, databases, provider, store, marks)
 }
 
-/// A recovered proposal is to be built, behind what is to be done already. False where there is none.
+/// A recovered proposal is to be built, behind what is to be done already. False where there is
+/// none.
 fn collect<A: Application + Drop>(
     handler: &mut Handler<A>,
     processing: &mut ProcessingOf<A>,
@@ -144,7 +148,8 @@ pub fn go_on<A: Application + Drop, S: BlockStore<A::Block>>(
         (moment w (executing handler.old) processing.old
         (A.Databases.members databases.old) (A.Databases.next databases.old) marks.old.items)
         (moment w (executing handler.new) processing.new
-        (A.Databases.members databases.new) (A.Databases.next databases.new) marks.new.items) went) }
+        (A.Databases.members databases.new) (A.Databases.next databases.new) marks.new.items)
+        went) }
     ensures fault { IfErr result (let w = ⟦<A as Worked>⟧.workings in
         FaultsRule w (S.stored store.now) (Rose (A.count handler.old.application)
         (A.count handler.new.application))

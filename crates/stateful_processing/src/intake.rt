@@ -1,6 +1,8 @@
 //! How an event is taken in.
 
-ghost use Rattle.std.specs.Prelude.{◌≡◌, ◌≢◌, ◌<◌, ◌≤◌, ◌∷◌, ◌++◌, ◌⊎◌, [], ℕ, Bool, true, false, not, filter, Option, Some, None, List, OnOk, OnErr, IfOk, IfErr, IsTrue, ◌↔◌, Contains, option_and_then, IsSome};
+ghost use Rattle.std.specs.Prelude.{◌≡◌, ◌≢◌, ◌<◌, ◌≤◌, ◌∷◌, ◌++◌, ◌⊎◌, [], ℕ, Bool, true, false};
+ghost use Rattle.std.specs.Prelude.{not, filter, Option, Some, None, List, OnOk, OnErr, IfOk};
+ghost use Rattle.std.specs.Prelude.{IfErr, IsTrue, ◌↔◌, Contains, option_and_then, IsSome};
 ghost use Rattle.std.specs.Option.{ForSome};
 ghost use Rattle.stateful_types.specs.Causes.{Rose};
 ghost use Rattle.stateful_types.specs.Names.{Named};
@@ -9,7 +11,8 @@ ghost use Rattle.stateful_exec.specs.Starting.{Rises};
 ghost use Rattle.stateful_exec.specs.Built.{IsLiveBuild};
 ghost use Rattle.stateful_exec.specs.Finalizing.{IsHookLive};
 ghost use Rattle.stateful_processing.specs.Barriers.{awaiting};
-ghost use Rattle.stateful_processing.specs.Intake.{Counts, message_by, Cancels, TurnsJob, TakesIn, FaultsIntake};
+ghost use Rattle.stateful_processing.specs.Intake.{Counts, message_by, Cancels, TurnsJob, TakesIn};
+ghost use Rattle.stateful_processing.specs.Intake.{FaultsIntake};
 ghost use Rattle.stateful_processing.specs.Left.{KeepsStates};
 ghost use Rattle.stateful_processing.specs.Moments.{executing, moment};
 ghost use Rattle.stateful_processing.specs.Sound.{IsUp};
@@ -196,7 +199,8 @@ pub fn take_in<A: Application + Drop, S: BlockStore<A::Block>>(
         (moment w (executing handler.old) processing.old
         (A.Databases.members databases.old) (A.Databases.next databases.old) marks.old.items)
         (moment w (executing handler.new) processing.new
-        (A.Databases.members databases.new) (A.Databases.next databases.new) marks.new.items) event.now) }
+        (A.Databases.members databases.new) (A.Databases.next databases.new) marks.new.items)
+        event.now) }
     ensures fault { IfErr result (λ e. let w = ⟦<A as Worked>⟧.workings in
         FaultsIntake w (S.stored store.now)
         (record { run = A.Run.count; build = A.Build.count; hook = A.Hook.count })
@@ -204,7 +208,8 @@ pub fn take_in<A: Application + Drop, S: BlockStore<A::Block>>(
         (A.Databases.counted databases.old)
         (A.Databases.counted databases.new) (A.Databases.members databases.new)
         (moment w (executing handler.old) processing.old
-        (A.Databases.members databases.old) (A.Databases.next databases.old) marks.old.items) e event.now) }
+        (A.Databases.members databases.old) (A.Databases.next databases.old) marks.old.items) e
+        event.now) }
     ensures left { OnErr result (KeepsStates ⟦<A as Worked>⟧.workings
         (A.Databases.members databases.old) (A.Databases.members databases.new)) }
     ensures none_away { A.Databases.kind.NoneAway (A.Databases.members databases.old)

@@ -25,7 +25,8 @@ fn start_of(floor: &Floor) -> Height
     }
 }
 
-/// Opens the databases, on what a crash has left of them, at the store's block of the height that was processed last.
+/// Opens the databases, on what a crash has left of them, at the store's block of the height that
+/// was processed last.
 pub fn open<A: Application + Drop, S: BlockStore<A::Block>>(
     config: &<A::Databases as DatabaseSet>::Config,
     handler: &mut Handler<A>,

@@ -15,7 +15,8 @@ use std::alloc::Global;
 pub struct Finalizing<B, G> {
     pub ticket: u64,
     pub block: Digested<B>,
-    /// What the application read before the block was applied, from then on until it has observed the block.
+    /// What the application read before the block was applied, from then on until it has observed
+    /// the block.
     pub captured: Option<G>,
 }
 

@@ -1,6 +1,8 @@
 //! How what waits is taken.
 
-ghost use Rattle.std.specs.Prelude.{◌≡◌, ◌≢◌, ◌<◌, ◌≤◌, ◌∷◌, ◌++◌, ◌⊎◌, [], ℕ, Bool, true, false, Option, Some, None, List, OnOk, OnErr, IfOk, IfErr, IfSome, IsSome, Any, All};
+ghost use Rattle.std.specs.Prelude.{◌≡◌, ◌≢◌, ◌<◌, ◌≤◌, ◌∷◌, ◌++◌, ◌⊎◌, [], ℕ, Bool, true, false};
+ghost use Rattle.std.specs.Prelude.{Option, Some, None, List, OnOk, OnErr, IfOk, IfErr, IfSome};
+ghost use Rattle.std.specs.Prelude.{IsSome, Any, All};
 ghost use Rattle.stateful_types.specs.Causes.{Rose};
 ghost use Rattle.stateful_types.specs.Names.{Named};
 ghost use Rattle.stateful_exec.specs.Building.{FaultsPropose};
@@ -12,7 +14,8 @@ ghost use Rattle.stateful_processing.specs.Causes.{Via, FaultsMessage, FaultsRul
 ghost use Rattle.stateful_exec.specs.Moments as exec;
 ghost use Rattle.stateful_processing.specs.Moments.{executing, moment};
 ghost use Rattle.stateful_processing.specs.declared.tables.Processing.{Processing as Kept};
-ghost use Rattle.stateful_processing.specs.Rules.{Schedules, Builds, DoesMessage, IsCalm, IsCollected, Goes};
+ghost use Rattle.stateful_processing.specs.Rules.{Schedules, Builds, DoesMessage, IsCalm};
+ghost use Rattle.stateful_processing.specs.Rules.{IsCollected, Goes};
 ghost use Rattle.stateful_processing.specs.Sound.{AreHeld};
 ghost use Rattle.stateful_processing.specs.declared.message.Message.TheVariants as waits;
 
@@ -57,7 +60,8 @@ pub(crate) fn schedule<A: Application + Drop, S: BlockStore<A::Block>>(
     Ok(())
 }
 
-/// The build of a proposal begins, or is declined where its parent isn't known. No other build is live.
+/// The build of a proposal begins, or is declined where its parent isn't known. No other build is
+/// live.
 fn build<A: Application + Drop>(
     handler: &mut Handler<A>,
     databases: &mut A::Databases,
@@ -100,8 +104,8 @@ fn build<A: Application + Drop>(
     Ok(())
 }
 
-/// A finalized block that is no higher than the anchor: it is acknowledged where its height is durable, and else its receipt
-/// is held behind the others of its height.
+/// A finalized block that is no higher than the anchor: it is acknowledged where its height is
+/// durable, and else its receipt is held behind the others of its height.
 fn duplicate<A: Application + Drop>(
     handler: &Handler<A>,
     processing: &mut ProcessingOf<A>,
@@ -150,14 +154,16 @@ fn take_message<A: Application + Drop, S: BlockStore<A::Block>>(
         (moment w (executing handler.old) processing.old
         (A.Databases.members databases.old) (A.Databases.next databases.old) marks.old.items)
         (moment w (executing handler.new) processing.new
-        (A.Databases.members databases.new) (A.Databases.next databases.new) marks.new.items) message) }
+        (A.Databases.members databases.new) (A.Databases.next databases.new) marks.new.items)
+        message) }
     ensures fault { IfErr result (λ e. (e ≡ StepError.OutOfMemory) ⊎ (let w = ⟦<A as Worked>⟧.workings in
         FaultsMessage w (S.stored store.now) (Rose (A.count handler.old.application)
         (A.count handler.new.application))
         (A.Databases.counted databases.old)
         (A.Databases.counted databases.new) (A.Databases.members databases.new)
         (moment w (executing handler.old) processing.old
-        (A.Databases.members databases.old) (A.Databases.next databases.old) marks.old.items) message e)) }
+        (A.Databases.members databases.old) (A.Databases.next databases.old) marks.old.items)
+        message e)) }
     ensures members { A.Databases.members databases.new ≡ A.Databases.members databases.old }
     ensures none_away { A.Databases.kind.NoneAway (A.Databases.members databases.old)
         → A.Databases.kind.NoneAway (A.Databases.members databases.new) }
@@ -183,7 +189,8 @@ fn take_message<A: Application + Drop, S: BlockStore<A::Block>>(
     }
 }
 
-/// The first action is taken, or else the first message of the mailbox. False where there is neither.
+/// The first action is taken, or else the first message of the mailbox. False where there is
+/// neither.
 pub(crate) fn take_first<A: Application + Drop, S: BlockStore<A::Block>>(
     handler: &mut Handler<A>,
     processing: &mut ProcessingOf<A>,
@@ -202,7 +209,8 @@ pub(crate) fn take_first<A: Application + Drop, S: BlockStore<A::Block>>(
         (moment w (executing handler.old) processing.old
         (A.Databases.members databases.old) (A.Databases.next databases.old) marks.old.items)
         (moment w (executing handler.new) processing.new
-        (A.Databases.members databases.new) (A.Databases.next databases.new) marks.new.items) went) }
+        (A.Databases.members databases.new) (A.Databases.next databases.new) marks.new.items)
+        went) }
     ensures fault { IfErr result (let w = ⟦<A as Worked>⟧.workings in
         FaultsRule w (S.stored store.now) (Rose (A.count handler.old.application)
         (A.count handler.new.application))
@@ -237,8 +245,8 @@ pub(crate) fn take_first<A: Application + Drop, S: BlockStore<A::Block>>(
     Ok(true)
 }
 
-/// While a build goes on, the first message of the mailbox is scheduled where it is a verification, and else put behind the
-/// actions. False where there is none.
+/// While a build goes on, the first message of the mailbox is scheduled where it is a verification,
+/// and else put behind the actions. False where there is none.
 pub(crate) fn drain_first<A: Application + Drop, S: BlockStore<A::Block>>(
     handler: &mut Handler<A>,
     processing: &mut ProcessingOf<A>,
@@ -255,7 +263,8 @@ pub(crate) fn drain_first<A: Application + Drop, S: BlockStore<A::Block>>(
         (moment w (executing handler.old) processing.old
         (A.Databases.members databases.old) (A.Databases.next databases.old) marks.old.items)
         (moment w (executing handler.new) processing.new
-        (A.Databases.members databases.new) (A.Databases.next databases.new) marks.new.items) went) }
+        (A.Databases.members databases.new) (A.Databases.next databases.new) marks.new.items)
+        went) }
     ensures fault { IfErr result (let w = ⟦<A as Worked>⟧.workings in
         FaultsRule w (S.stored store.now) (Rose (A.count handler.old.application)
         (A.count handler.new.application))

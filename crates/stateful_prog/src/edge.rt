@@ -1,5 +1,5 @@
-//! The source and the sink of the system. They tell of the bytes what the reader and the writer tell of theirs, and those
-//! of the system tell nothing.
+//! The source and the sink of the system. They tell of the bytes what the reader and the writer
+//! tell of theirs, and those of the system tell nothing.
 
 ghost use Rattle.std.specs.Prelude.{◌≡◌};
 
@@ -69,7 +69,7 @@ impl<W: Write + Drop> Faulty for StdSink<W> {
 }
 
 impl<W: Write + Drop> Sink for StdSink<W> {
-    ghost held = { λ s. W.contents s.inner };
+    ghost written = { λ s. W.contents s.inner };
 
     fn write(&mut self, piece: &[u8]) -> Result<usize, SinkFault> {
         match self.inner.write(piece) {

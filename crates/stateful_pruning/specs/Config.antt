@@ -21,19 +21,23 @@ schedule_of config max_pending_acks offset = record {
 -- marshal retains at least as many blocks as QMDB, and the offset is below the interval
 abbrev pub IsConsistent : PruneConfig → ℕ → Type 0
 IsConsistent config offset =
-    (config.retained_qmdb_blocks ≤ config.retained_marshal_blocks) × (offset < non_zero_usize_get config.maintenance_interval)
+    (config.retained_qmdb_blocks ≤ config.retained_marshal_blocks)
+    × (offset < non_zero_usize_get config.maintenance_interval)
 
 -- marshal retains fewer blocks than QMDB, or the offset isn't below the interval
 abbrev pub IsInconsistent : PruneConfig → ℕ → Type 0
 IsInconsistent config offset =
-    (config.retained_marshal_blocks < config.retained_qmdb_blocks) ⊎ (non_zero_usize_get config.maintenance_interval ≤ offset)
+    (config.retained_marshal_blocks < config.retained_qmdb_blocks)
+    ⊎ (non_zero_usize_get config.maintenance_interval ≤ offset)
 
 -- no window passes the greatest `usize`
 abbrev pub FitsWindows : PruneConfig → ℕ → Type 0
 FitsWindows config max_pending_acks =
-    (window_size max_pending_acks config.retained_marshal_blocks < 2 ^ 64) × (window_size max_pending_acks config.retained_qmdb_blocks < 2 ^ 64)
+    (window_size max_pending_acks config.retained_marshal_blocks < 2 ^ 64)
+    × (window_size max_pending_acks config.retained_qmdb_blocks < 2 ^ 64)
 
 -- a window passes the greatest `usize`
 abbrev pub PassesWindows : PruneConfig → ℕ → Type 0
 PassesWindows config max_pending_acks =
-    (2 ^ 64 ≤ window_size max_pending_acks config.retained_marshal_blocks) ⊎ (2 ^ 64 ≤ window_size max_pending_acks config.retained_qmdb_blocks)
+    (2 ^ 64 ≤ window_size max_pending_acks config.retained_marshal_blocks)
+    ⊎ (2 ^ 64 ≤ window_size max_pending_acks config.retained_qmdb_blocks)

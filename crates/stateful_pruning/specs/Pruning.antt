@@ -8,8 +8,8 @@ pub record Recorded (T : Type 0) : Type 0 where
   pub kept : List (Entry T)
 
 module _ {T : Type 0} where
-  -- the offset is below the interval, the QMDB window has a block and isn't larger than the marshal window, and no more
-  -- entries are kept than the marshal window has
+  -- the offset is below the interval, the QMDB window has a block and isn't larger than the marshal
+  -- window, and no more entries are kept than the marshal window has
   pub record IsSound (p : Recorded T) : Type 0 where
     pub offset : p.schedule.offset < p.schedule.interval
     pub qmdb : 1 ≤ p.schedule.qmdb_window

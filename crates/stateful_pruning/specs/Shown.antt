@@ -8,7 +8,8 @@ use Rattle.stateful_pruning.specs.Pruning.{Recorded}
 
 -- its height is a number
 abbrev pub entry_of : {T : Type 0} → Fields T → Entry T
-entry_of fields = record { height = fields.height.0; targets = fields.targets; operations = fields.operations }
+entry_of fields =
+    record { height = fields.height.0; targets = fields.targets; operations = fields.operations }
 
 -- the fields as the schedule and the entries that are kept
 abbrev pub recorded : {T : Type 0} → Inside T → Recorded T

@@ -5,8 +5,8 @@ ghost use Rattle.std.specs.Prelude.{◌<◌, ◌≤◌, ◌↔◌, IsOk, IsErr};
 use std::num::NonZeroUsize;
 use thiserror::Error;
 
-/// How often a prune may be due, and what it retains. Blocks are counted beyond those whose acknowledgement may be
-/// pending and the newest one.
+/// How often a prune may be due, and what it retains. Blocks are counted beyond those whose
+/// acknowledgement may be pending and the newest one.
 #[derive(Clone, Copy, Debug, PartialEq, Eq)]
 pub struct PruneConfig {
     /// A prune may be due at one height of so many.

@@ -1,10 +1,12 @@
 //! The entries that were recorded, and the prune that is due by them.
 
-ghost use Rattle.std.specs.Prelude.{◌≡◌, ◌≢◌, ◌<◌, ◌≤◌, ◌↔◌, [], Option, length, IsSome, IsOk, IsErrOf, IfOk, IfSome, OnOk, OnErr};
+ghost use Rattle.std.specs.Prelude.{◌≡◌, ◌≢◌, ◌<◌, ◌≤◌, ◌↔◌, [], Option, length, IsSome, IsOk};
+ghost use Rattle.std.specs.Prelude.{IsErrOf, IfOk, IfSome, OnOk, OnErr};
 ghost use Rattle.std.specs.Option.{SomeIff};
 ghost use Rattle.std.specs.List.Sorted.{IsNonDecreasingBy};
 ghost use Rattle.stateful_pruning.specs.declared.pruning.PruningError.TheVariants as errors;
-ghost use Rattle.stateful_pruning.specs.Config.{schedule_of, window_size, IsConsistent, IsInconsistent, FitsWindows, PassesWindows};
+ghost use Rattle.stateful_pruning.specs.Config.{schedule_of, window_size, IsConsistent};
+ghost use Rattle.stateful_pruning.specs.Config.{IsInconsistent, FitsWindows, PassesWindows};
 ghost use Rattle.stateful_pruning.specs.Rule.{OnNewest, MayPrune, IsTarget, IsAnswer, KeepsWindows};
 ghost use Rattle.stateful_pruning.specs.Pruning.{IsSound, with_entry};
 ghost use Rattle.stateful_pruning.specs.Calls.{Extends, KeepsWindow, AnswersByAll};
@@ -23,7 +25,8 @@ use thiserror::Error;
 pub struct Prune<T> {
     /// Marshal drops its blocks below this height.
     pub marshal_height: Height,
-    /// The height that has to be durable before the databases are pruned. It is that of the block with these targets.
+    /// The height that has to be durable before the databases are pruned. It is that of the block
+    /// with these targets.
     pub barrier_height: Height,
     /// The databases are pruned to these targets.
     pub qmdb_target: T,
@@ -125,9 +128,9 @@ impl<T: Copy> Pruning<T> {
         })
     }
 
-    /// Records a finalized height with its targets and the number of operations up to there, and answers the prune that
-    /// is due by it. Heights come in ascending order, and an entry is newer than those recorded before it. It wants memory
-    /// only until a marshal window is recorded.
+    /// Records a finalized height with its targets and the number of operations up to there, and
+    /// answers the prune that is due by it. Heights come in ascending order, and an entry is newer
+    /// than those recorded before it. It wants memory only until a marshal window is recorded.
     pub fn observe(
         &mut self,
         height: Height,
@@ -196,8 +199,8 @@ impl<T: Copy> Pruning<T> {
         })
     }
 
-    // The newest entry to which the databases may be pruned where the marshal window is full and the newest entry has
-    // this number of operations.
+    // The newest entry to which the databases may be pruned where the marshal window is full and
+    // the newest entry has this number of operations.
     fn target(&self, operations: u64) -> Option<Entry<T>>
         requires full { length self.now.kept ≡ self.now.schedule.marshal_window }
         requires newest { OnNewest (λ newest. newest.operations ≡ operations) self.now.kept }
@@ -244,7 +247,8 @@ mod tests {
         })
     }
 
-    // The answers to heights with their targets and operations: the two heights and the targets of each prune.
+    // The answers to heights with their targets and operations: the two heights and the targets of
+    // each prune.
     fn answers(
         alloc: Global,
         pruning: &mut Pruning<char>,

@@ -16,7 +16,7 @@ use Rattle.stateful_history.proofs.Marks.{after-append}
 use Rattle.stateful_history.specs.Requests.{Proposal, IsLiveProposal}
 use Rattle.stateful_register.specs.Proposals.{live_proposal, TicketsCameNew}
 use Rattle.stateful_register.proofs.Proposals.{IsLiveProposal-found, live_proposal-new}
-use Rattle.stateful_register.specs.Live.{held, IsListOf}
+use Rattle.stateful_register.specs.Live.{entry, IsListOf}
 use Rattle.stateful_register.specs.Register.{RegisterStands}
 use Rattle.stateful_register.specs.declared.register.Register.{Register}
 use Rattle.stateful_register.proofs.Listed.{IsListOf-same}
@@ -155,17 +155,17 @@ module _ {B C I : Type 0} where
       not_both (is_some (live_ticket t p)) (live_proposal t p) (sym (all.each t) ∙ list_any-from_Contains nat_eq_equiv t others within) (live_proposal-new t p r new asks)
 
   others_are : (count : ℕ) (p : Past B C I) (r : Register) → RegisterStands count p r
-      → (t : ℕ) → is_some (held r.tickets t) && not (is_some (held r.proposals t)) ≡ is_some (live_ticket t p) && not (live_proposal t p)
+      → (t : ℕ) → is_some (entry r.tickets t) && not (is_some (entry r.proposals t)) ≡ is_some (live_ticket t p) && not (live_proposal t p)
   others_are count p r stands t =
-      ap (λ (live : Option Ticket). is_some live && not (is_some (held r.proposals t))) (stands.tickets t)
+      ap (λ (live : Option Ticket). is_some live && not (is_some (entry r.proposals t))) (stands.tickets t)
       ∙ ap (λ builds. is_some (live_ticket t p) && not builds) (stands.proposals t)
 
   -- the numbers that a register has as live are those that are live
   pub EndsAll-register : (count : ℕ) (p : Past B C I) (r : Register) (fetches jobs proposals others : List ℕ) → RegisterStands count p r
-      → IsListOf (λ f. is_some (held r.fetches f)) fetches
-      → IsListOf (λ j. is_some (held r.jobs j)) jobs
-      → IsListOf (λ t. is_some (held r.proposals t)) proposals
-      → IsListOf (λ t. is_some (held r.tickets t) && not (is_some (held r.proposals t))) others
+      → IsListOf (λ f. is_some (entry r.fetches f)) fetches
+      → IsListOf (λ j. is_some (entry r.jobs j)) jobs
+      → IsListOf (λ t. is_some (entry r.proposals t)) proposals
+      → IsListOf (λ t. is_some (entry r.tickets t) && not (is_some (entry r.proposals t))) others
       → EndsAll p (withdrawn fetches ++ cancelled jobs ++ declined proposals ++ dropped others)
   EndsAll-register count p r fetches jobs proposals others stands fs js ps os = record {
     fetches = fetches;
@@ -183,10 +183,10 @@ module _ {B C I : Type 0} where
 
 -- what a call has appended that may be refused in its last step
 pub appended_all : (B C I : Type 0) {T E : Type 0} (result : Result T E) (r : Register) (was first second third last : List (Mark B)) (fetches jobs proposals others : List ℕ)
-    → IsListOf (λ f. is_some (held r.fetches f)) fetches
-    → IsListOf (λ j. is_some (held r.jobs j)) jobs
-    → IsListOf (λ t. is_some (held r.proposals t)) proposals
-    → IsListOf (λ t. is_some (held r.tickets t) && not (is_some (held r.proposals t))) others
+    → IsListOf (λ f. is_some (entry r.fetches f)) fetches
+    → IsListOf (λ j. is_some (entry r.jobs j)) jobs
+    → IsListOf (λ t. is_some (entry r.proposals t)) proposals
+    → IsListOf (λ t. is_some (entry r.tickets t) && not (is_some (entry r.proposals t))) others
     → first ≡ was ++ withdrawn fetches → second ≡ first ++ cancelled jobs → third ≡ second ++ declined proposals
     → OnOk result (last ≡ third ++ dropped others)
     → OnOk result ((count : ℕ) (p : Past B C I) → RegisterStands count p r → (ends : List (Mark B)) × (last ≡ was ++ ends) × EndsAll p ends × LeavesNothing p ends)

@@ -1,13 +1,24 @@
 -- What events and marks do to the live work.
-use Rattle.std.specs.Prelude.{ℕ, ◌+◌, max, Bool, true, false, not, ◌==◌, ◌&&◌, ◌||◌, nat_lt, if◌then◌else◌, Option, Some, None, List, ◌∷◌, map}
+use Rattle.std.specs.Prelude.{ℕ, ◌+◌, max, Bool, true, false, not, ◌==◌, ◌&&◌, ◌||◌, nat_lt}
+use Rattle.std.specs.Prelude.{if◌then◌else◌, Option, Some, None, List, ◌∷◌, map}
 use Rattle.stateful_history.specs.declared.ticket.Ticket.{Ticket}
 use Rattle.stateful_history.specs.declared.ticket.Ticket.TheVariants.{Request, Receipt}
 use Rattle.stateful_history.specs.declared.event.Event.{Event}
-use Rattle.stateful_history.specs.declared.event.Event.TheVariants.{Verify, Prepare, Propose, Finalized, Subscribe, Cancel, Fetched, Flushed, Restart}
+use Rattle.stateful_history.specs.declared.event.Event.TheVariants.{Verify, Prepare, Propose}
+use Rattle.stateful_history.specs.declared.event.Event.TheVariants.{Finalized, Subscribe, Cancel}
+use Rattle.stateful_history.specs.declared.event.Event.TheVariants.{Fetched, Flushed, Restart}
 use Rattle.stateful_history.specs.declared.mark.Mark.{Mark}
-use Rattle.stateful_history.specs.declared.mark.Mark.TheVariants.{Asked, Withdrawn, Started, Ended, Built, Verdict, Answered, Declined, Databases, BarrierBegun, BarrierDone, Acknowledged, Dropped, Stopped}
+use Rattle.stateful_history.specs.declared.mark.Mark.TheVariants.{Asked, Withdrawn, Started, Ended}
+use Rattle.stateful_history.specs.declared.mark.Mark.TheVariants.{Built, Verdict, Answered}
+use Rattle.stateful_history.specs.declared.mark.Mark.TheVariants.{Declined, Databases, BarrierBegun}
+use Rattle.stateful_history.specs.declared.mark.Mark.TheVariants.{BarrierDone, Acknowledged}
+use Rattle.stateful_history.specs.declared.mark.Mark.TheVariants.{Dropped, Stopped}
 use Rattle.stateful_register.specs.declared.change.Change.{Change}
-use Rattle.stateful_register.specs.declared.change.Change.TheVariants.{Opens, Proposes, Closes, Asks, EndsFetch, StartsJob, EndsJob, BeginsBarrier, Flushes, EndsBarrier, Starts, Stops, Keeps}
+use Rattle.stateful_register.specs.declared.change.Change.TheVariants.{Opens, Proposes, Closes}
+use Rattle.stateful_register.specs.declared.change.Change.TheVariants.{Asks, EndsFetch, StartsJob}
+use Rattle.stateful_register.specs.declared.change.Change.TheVariants.{EndsJob, BeginsBarrier}
+use Rattle.stateful_register.specs.declared.change.Change.TheVariants.{Flushes, EndsBarrier, Starts}
+use Rattle.stateful_register.specs.declared.change.Change.TheVariants.{Stops, Keeps}
 
 abbrev pub change_by_event : {B C I : Type 0} → Event B C I → Change
 change_by_event (Verify t ancestry) = Opens t Request

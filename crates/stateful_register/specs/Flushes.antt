@@ -21,6 +21,10 @@ is_waiting f k i = waits_for (get nat_cmp f.barriers k) i
 abbrev pub WaitsAlike : Flushes → Flushes → Type 0
 WaitsAlike old new = (k i : ℕ) → is_waiting new k i ≡ is_waiting old k i
 
--- the databases that are waited for after these changes, one after another, where there are so many of them
+-- the databases that are waited for after these changes, one after another, where there are so many
+-- of them
 abbrev pub FlushesApply : ℕ → Flushes → Flushes → List Change → Type 0
-FlushesApply count old new changes = (k i : ℕ) → is_waiting new k i ≡ fold (λ was change. flush_after count change k i was) (is_waiting old k i) changes
+FlushesApply count old new changes =
+    (k i : ℕ)
+    → is_waiting new k i
+    ≡ fold (λ was change. flush_after count change k i was) (is_waiting old k i) changes

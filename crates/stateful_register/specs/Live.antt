@@ -14,8 +14,8 @@ module _ {V : Type 0} where
   value_of (Some value) = value
 
   -- the value that is live under a number
-  abbrev pub held : Live V → ℕ → Option V
-  held live k = value_of (get nat_cmp live.entries k)
+  abbrev pub entry : Live V → ℕ → Option V
+  entry live k = value_of (get nat_cmp live.entries k)
 
   -- a value can be put under this number without more memory
   abbrev pub HasRoom : Live V → ℕ → Type 0

@@ -2,7 +2,8 @@
 
 ghost use Rattle.std.specs.Prelude.{◌≡◌, IfOk};
 ghost use Rattle.std.specs.List.{list_any};
-ghost use Rattle.stateful_register.specs.Change.{change_by_event, change_by_mark, changes_of, begins_barrier};
+ghost use Rattle.stateful_register.specs.Change.{change_by_event, change_by_mark, changes_of};
+ghost use Rattle.stateful_register.specs.Change.{begins_barrier};
 
 use stateful_history::{Event, Mark, Ticket};
 use stateful_types::OutOfMemory;

@@ -2,9 +2,10 @@
 
 ghost use Rattle.std.specs.Prelude.{◌≡◌, ◌++◌, ◌&&◌, ℕ, not, is_some, List, IfOk, OnOk};
 ghost use Rattle.stateful_history.specs.Past.{Past};
-ghost use Rattle.stateful_register.specs.Live.{held, IsListOf};
+ghost use Rattle.stateful_register.specs.Live.{entry, IsListOf};
 ghost use Rattle.stateful_register.specs.Register.{RegisterStands};
-ghost use Rattle.stateful_register.specs.Ends.{EndsAll, LeavesNothing, withdrawn, cancelled, declined, dropped};
+ghost use Rattle.stateful_register.specs.Ends.{EndsAll, LeavesNothing, withdrawn, cancelled};
+ghost use Rattle.stateful_register.specs.Ends.{declined, dropped};
 
 use crate::register::Register;
 use stateful_history::{How, Mark};
@@ -56,8 +57,8 @@ fn drop_each<B: Drop>(tickets: &[u64], marks: &mut Vec<Mark<B>>) -> Result<(), O
 impl Register {
     /// The live tickets that don't ask to build, ascending.
     fn other_tickets(&self) -> Result<Vec<u64>, OutOfMemory>
-        ensures { IfOk result (λ others. IsListOf (λ t. is_some (held self.now.tickets t)
-            && not (is_some (held self.now.proposals t))) others.items) }
+        ensures { IfOk result (λ others. IsListOf (λ t. is_some (entry self.now.tickets t)
+            && not (is_some (entry self.now.proposals t))) others.items) }
     {
         let tickets = self.tickets.numbers(self.alloc)?;
         let mut others = Vec::new(self.alloc);
@@ -69,9 +70,10 @@ impl Register {
         Ok(others)
     }
 
-    /// Appends the marks by which all live work ends: each fetch is withdrawn, then each job cancelled, each request to
-    /// build declined and each other request or receipt dropped, those of one kind by ascending numbers. The only error
-    /// is want of memory, and behind it some of the marks may be there.
+    /// Appends the marks by which all live work ends: each fetch is withdrawn, then each job
+    /// cancelled, each request to build declined and each other request or receipt dropped, those
+    /// of one kind by ascending numbers. The only error is want of memory, and behind it some of
+    /// the marks may be there.
     pub fn end_all<B: Drop, C, I>(&self, marks: &mut Vec<Mark<B>>) -> Result<(), OutOfMemory>
         ensures { OnOk result ((count : ℕ) (p : Past B C I)
             → RegisterStands count p self.now

@@ -1,6 +1,7 @@
 //! The databases that barriers wait for.
 
-ghost use Rattle.std.specs.Prelude.{◌≡◌, ◌==◌, ◌&&◌, ◌∷◌, [], ℕ, not, true, false, nat_lt, if◌then◌else◌, IfOk, OnOk, OnErr};
+ghost use Rattle.std.specs.Prelude.{◌≡◌, ◌==◌, ◌&&◌, ◌∷◌, [], ℕ, not, true, false, nat_lt};
+ghost use Rattle.std.specs.Prelude.{if◌then◌else◌, IfOk, OnOk, OnErr};
 ghost use Rattle.std.specs.List.{list_any};
 ghost use Rattle.stateful_register.specs.Change.{begins_barrier};
 ghost use Rattle.stateful_register.specs.Flushes.{is_waiting, WaitsAlike, FlushesApply};
@@ -103,7 +104,8 @@ impl Flushes {
         Ok(())
     }
 
-    /// Takes in changes, one after another, with so many databases. Memory is wanted only where a barrier begins.
+    /// Takes in changes, one after another, with so many databases. Memory is wanted only where a
+    /// barrier begins.
     fn apply_each(&mut self, count: usize, changes: &[Change]) -> Result<(), OutOfMemory>
         ensures ok { OnOk result (FlushesApply count self.old self.new changes.now) }
         ensures err { OnErr result (list_any begins_barrier changes.now ≡ true) }
@@ -114,8 +116,8 @@ impl Flushes {
         Ok(())
     }
 
-    /// Takes in changes, one after another, with so many databases. An error leaves the barriers as they were: where one
-    /// begins, a copy is made.
+    /// Takes in changes, one after another, with so many databases. An error leaves the barriers as
+    /// they were: where one begins, a copy is made.
     pub(crate) fn record(&mut self, count: usize, changes: &[Change]) -> Result<(), OutOfMemory>
         ensures ok { OnOk result (FlushesApply count self.old self.new changes.now) }
         ensures err { OnErr result (WaitsAlike self.old self.new) }

@@ -3,9 +3,10 @@
 ghost use Rattle.std.specs.Prelude.{◌≡◌, ◌∷◌, [], ℕ, not, nat_lt, IfOk, OnOk, OnErr};
 ghost use Rattle.stateful_history.specs.Past.{Past, after_entry};
 ghost use Rattle.stateful_history.specs.Live.{is_request, names_live, may_come};
-ghost use Rattle.stateful_register.specs.Register.{RegisterStands, IsBlank, IsUnchanged, Applies, HasRoomFor, HasRoomForEach, above};
+ghost use Rattle.stateful_register.specs.Register.{RegisterStands, IsBlank, IsUnchanged, Applies};
+ghost use Rattle.stateful_register.specs.Register.{HasRoomFor, HasRoomForEach, above};
 ghost use Rattle.stateful_register.specs.Flushes.{FlushesApply};
-ghost use Rattle.stateful_register.specs.Live.{held};
+ghost use Rattle.stateful_register.specs.Live.{entry};
 ghost use Rattle.stateful_register.specs.declared.change.Change.{Change};
 
 use crate::change::{Change, changes_of};
@@ -15,9 +16,9 @@ use stateful_history::{Event, Mark, Ticket};
 use stateful_types::OutOfMemory;
 use std::alloc::Global;
 
-/// The live work of a machine: tickets with what they stand for, those of them that ask to build, jobs, fetches, and the
-/// databases that barriers wait for. Beside it the last ticket, above which a new one lies, and whether the machine is
-/// down.
+/// The live work of a machine: tickets with what they stand for, those of them that ask to build,
+/// jobs, fetches, and the databases that barriers wait for. Beside it the last ticket, above which
+/// a new one lies, and whether the machine is down.
 #[derive(Drop)]
 pub struct Register {
     pub(crate) tickets: Live<Ticket>,
@@ -47,8 +48,8 @@ impl Register {
         }
     }
 
-    /// Whether the event may come: a restart always, and another one where the machine isn't down and the event names
-    /// live work and a new ticket alone.
+    /// Whether the event may come: a restart always, and another one where the machine isn't down
+    /// and the event names live work and a new ticket alone.
     #[tactic(auto, using(crate::proofs::Changes::other_may_come))]
     pub fn allows<B, C, I>(&self, event: &Event<B, C, I>) -> bool
         ensures { (count : ℕ) (p : Past B C I)
@@ -98,7 +99,7 @@ impl Register {
 
     /// Whether the ticket stands for a live request.
     fn is_request(&self, ticket: u64) -> bool
-        ensures { result ≡ is_request (held self.now.tickets ticket) }
+        ensures { result ≡ is_request (entry self.now.tickets ticket) }
     {
         match self.tickets.get(ticket) {
             Some(Ticket::Request) => true,
@@ -194,7 +195,8 @@ impl Register {
         }
     }
 
-    /// Takes in changes for which there is room, one after another. What they do to flushes is left out.
+    /// Takes in changes for which there is room, one after another. What they do to flushes is left
+    /// out.
     fn apply_each(&mut self, changes: &[Change])
         requires { HasRoomForEach changes.now self.old }
         ensures applies { Applies self.old self.new changes.now }
@@ -205,7 +207,8 @@ impl Register {
         }
     }
 
-    /// Takes in changes, one after another, with so many databases. An error leaves the register as it was, with room.
+    /// Takes in changes, one after another, with so many databases. An error leaves the register as
+    /// it was, with room.
     fn take_in(&mut self, count: usize, changes: &[Change]) -> Result<(), OutOfMemory>
         ensures ok { OnOk result (Applies self.old self.new changes.now
             × FlushesApply count self.old.flushes self.new.flushes changes.now) }
@@ -217,8 +220,8 @@ impl Register {
         Ok(())
     }
 
-    /// Takes in an event and its marks, where there are so many databases. An error, which is want of memory alone,
-    /// leaves the register as it was.
+    /// Takes in an event and its marks, where there are so many databases. An error, which is want
+    /// of memory alone, leaves the register as it was.
     pub fn record<B, C, I>(
         &mut self,
         count: usize,
@@ -239,8 +242,8 @@ impl Register {
         taken
     }
 
-    /// A register that answers as this one, so it stands for the same pasts. It isn't an equal value, as `Share` has it:
-    /// maps with equal entries may differ in how they are laid out.
+    /// A register that answers as this one, so it stands for the same pasts. It isn't an equal
+    /// value, as `Share` has it: maps with equal entries may differ in how they are laid out.
     pub fn share(&self) -> Result<Register, OutOfMemory>
         ensures { IfOk result (IsUnchanged self.now) }
     {

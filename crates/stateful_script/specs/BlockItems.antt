@@ -7,9 +7,11 @@
 --     slow K                    the turns of its hook, up to 9
 --     wrong                     every root is 32 zero bytes
 --
--- There are at most 16 operations, and each of the others stands at most once. Where a build is asked for, an item is an
--- operation or an epoch.
-use Rattle.std.specs.Prelude.{ℕ, ◌==◌, Bool, ◌&&◌, true, false, List, [], ◌∷◌, Option, Some, None, option_and_then, option_map, unwrap_or, length, count_by, nat_le, zero, suc, if◌then◌else◌, codes}
+-- There are at most 16 operations, and each of the others stands at most once. Where a build is
+-- asked for, an item is an operation or an epoch.
+use Rattle.std.specs.Prelude.{ℕ, ◌==◌, Bool, ◌&&◌, true, false, List, [], ◌∷◌, Option, Some, None}
+use Rattle.std.specs.Prelude.{option_and_then, option_map, unwrap_or, length, count_by, nat_le}
+use Rattle.std.specs.Prelude.{zero, suc, if◌then◌else◌, codes}
 use Rattle.std.specs.List.{filter_map, list_all}
 use Rattle.std.specs.Str.{bytes_eq}
 use Rattle.stateful_bank.specs.declared.op.Op.{Op}
@@ -68,7 +70,8 @@ with_first item items = option_map (λ more. item ∷ more) items
 unfoldable pub items_within : ℕ → Fields → Option (List Item)
 items_within n [] = Some []
 items_within zero (word ∷ fields) = None
-items_within (suc n) (word ∷ fields) = option_and_then (λ found. with_first found.0 (items_within n found.1)) (item_by word fields)
+items_within (suc n) (word ∷ fields) =
+    option_and_then (λ found. with_first found.0 (items_within n found.1)) (item_by word fields)
 
 -- the items that all the fields spell: an item has at least one field
 unfoldable pub items_of : Fields → Option (List Item)
@@ -108,15 +111,26 @@ at_most_one [] = Some None
 at_most_one (x ∷ []) = Some (Some x)
 at_most_one (x ∷ y ∷ xs) = None
 
--- What items say together: the epoch and the turns of the hook are 0 where none says them. There is nothing where one
--- stands too often.
+-- What items say together: the epoch and the turns of the hook are 0 where none says them. There is
+-- nothing where one stands too often.
 unfoldable pub said_of : List Item → Option BlockItems
 said_of items = do
   height ← at_most_one (filter_map height_of items)
   epoch ← at_most_one (filter_map epoch_of items)
   slow ← at_most_one (filter_map turns_of items)
   if nat_le (count_by is_wrong items) 1 && nat_le (length (filter_map op_of items)) 16
-      then Some (record { ops = filter_map op_of items; height = height; epoch = unwrap_or epoch 0; slow = unwrap_or slow 0; wrong = count_by is_wrong items == 1 })
+      then Some
+      (record {
+        ops =
+            filter_map op_of items;
+        height =
+            height;
+        epoch =
+            unwrap_or epoch 0;
+        slow =
+            unwrap_or slow 0;
+        wrong = count_by is_wrong items == 1;
+      })
       else None
 
 -- the items that all the fields spell, where each may stand where a build is asked for

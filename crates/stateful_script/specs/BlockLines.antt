@@ -5,7 +5,8 @@
 --     propose NAME on PARENT view V ITEMS               a request to build the block
 --
 -- DECISION is `wait`, `vote` or `stage`. NAME is new, and PARENT was given before.
-use Rattle.std.specs.Prelude.{ℕ, ◌+◌, ◌^◌, List, Option, Some, None, option_map, nat_lt, if◌then◌else◌, codes}
+use Rattle.std.specs.Prelude.{ℕ, ◌+◌, ◌^◌, List, Option, Some, None, option_map, nat_lt}
+use Rattle.std.specs.Prelude.{if◌then◌else◌, codes}
 use Rattle.std.specs.Str.{bytes_eq}
 use Rattle.stateful_types.specs.declared.number.Height.{Height}
 use Rattle.stateful_types.specs.declared.outcome.Handoff.{Handoff}
@@ -34,7 +35,9 @@ head_at s fields = do
 -- one above the parent's height, up to the last value
 unfoldable pub next_height : List PlannedBlock → ℕ → Option Height
 next_height blocks parent =
-    if nat_lt (height_in blocks parent + 1) (2 ^ 64) then Some (record { 0 = height_in blocks parent + 1 }) else None
+    if nat_lt (height_in blocks parent + 1) (2 ^ 64) then Some
+    (record { 0 = height_in blocks parent + 1 })
+    else None
 
 -- the height that an item says, or one above the parent's
 unfoldable pub height_on : List PlannedBlock → ℕ → Option ℕ → Option Height

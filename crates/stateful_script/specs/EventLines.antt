@@ -13,7 +13,8 @@
 --     stop
 --     restart HEIGHT KEEP ..            with one number for each database
 --     restart none KEEP ..
-use Rattle.std.specs.Prelude.{ℕ, List, [], ◌∷◌, ◌++◌, Option, Some, None, option_map, zero, suc, if◌then◌else◌, codes}
+use Rattle.std.specs.Prelude.{ℕ, List, [], ◌∷◌, ◌++◌, Option, Some, None, option_map, zero, suc}
+use Rattle.std.specs.Prelude.{if◌then◌else◌, codes}
 use Rattle.std.specs.Str.{bytes_eq}
 use Rattle.stateful_types.specs.declared.number.Height.{Height}
 use Rattle.stateful_script.specs.Fields.{Fields, field_as, number, number_at, last_word, ◌>>=◌}
@@ -42,7 +43,8 @@ cancel_of fields = do
 
 -- a name that was given, or `none`
 unfoldable pub answer : Script → List ℕ → Option (Option ℕ)
-answer s field = if bytes_eq field (codes "none") then Some None else option_map (λ p. Some p) (place s field)
+answer s field =
+    if bytes_eq field (codes "none") then Some None else option_map (λ p. Some p) (place s field)
 
 unfoldable pub fetched_of : Script → Fields → Option (PlannedEvent × Fields)
 fetched_of s fields = do
@@ -65,7 +67,8 @@ flushed_of fields = do
 -- a height, or `none`
 unfoldable pub processed : List ℕ → Option (Option Height)
 processed field =
-    if bytes_eq field (codes "none") then Some None else option_map (λ n. Some (record { 0 = n })) (number field)
+    if bytes_eq field (codes "none") then Some None
+    else option_map (λ n. Some (record { 0 = n })) (number field)
 
 -- so many numbers
 unfoldable pub numbers_at : ℕ → Fields → Option (List ℕ × Fields)

@@ -1,9 +1,12 @@
 -- The fields of a line, and what a field may spell: a number, an account, a name.
 --
--- Fields are separated by one space. A number is decimal, without a leading zero, up to 18446744073709551615; an account
--- is a number up to 65535. A name is a letter a to z and up to 15 letters a to z or digits.
+-- Fields are separated by one space. A number is decimal, without a leading zero, up to
+-- 18446744073709551615; an account is a number up to 65535. A name is a letter a to z and up to 15
+-- letters a to z or digits.
 use Rattle.std.specs.Fmt.{decimal}
-use Rattle.std.specs.Prelude.{◌≡◌, ◌↔◌, ◌<◌, ◌≤◌, ℕ, ◌-◌, ◌^◌, ◌==◌, Bool, true, false, ◌&&◌, ◌||◌, not, List, [], ◌∷◌, length, Option, Some, None, option_and_then, nat_le, nat_lt, if◌then◌else◌, slice_index}
+use Rattle.std.specs.Prelude.{◌≡◌, ◌↔◌, ◌<◌, ◌≤◌, ℕ, ◌-◌, ◌^◌, ◌==◌, Bool, true, false, ◌&&◌, ◌||◌}
+use Rattle.std.specs.Prelude.{not, List, [], ◌∷◌, length, Option, Some, None, option_and_then}
+use Rattle.std.specs.Prelude.{nat_le, nat_lt, if◌then◌else◌, slice_index}
 use Rattle.std.specs.List.{list_all, slice_split}
 use Rattle.std.specs.Str.{bytes_eq}
 use Rattle.std.specs.Str.Parse.{digits_value}
@@ -33,11 +36,15 @@ after_word word fields = do
 
 -- decimal digits without a leading zero
 unfoldable pub is_numeral : List ℕ → Bool
-is_numeral field = nat_lt 0 (length field) && not (slice_index field 0 == 48 && nat_lt 1 (length field)) && list_all is_ascii_digit field
+is_numeral field =
+    nat_lt 0 (length field) && not
+    (slice_index field 0 == 48 && nat_lt 1 (length field)) && list_all is_ascii_digit field
 
 -- the number that a field spells, up to a greatest one
 unfoldable pub number_to : ℕ → List ℕ → Option ℕ
-number_to most field = if is_numeral field && nat_le (digits_value 10 field) most then Some (digits_value 10 field) else None
+number_to most field =
+    if is_numeral field && nat_le (digits_value 10 field) most then Some (digits_value 10 field)
+    else None
 
 abbrev pub number : List ℕ → Option ℕ
 number field = number_to (2 ^ 64 - 1) field
@@ -76,8 +83,13 @@ is_name_byte b = is_ascii_lowercase b || is_ascii_digit b
 
 -- a letter a to z, and up to 15 letters a to z or digits
 unfoldable pub is_name : List ℕ → Bool
-is_name field = nat_lt 0 (length field) && nat_le (length field) 16 && is_ascii_lowercase (slice_index field 0) && list_all is_name_byte field
+is_name field =
+    nat_lt 0 (length field) && nat_le (length field) 16 && is_ascii_lowercase
+    (slice_index field 0) && list_all is_name_byte field
 
 -- a field spells the number of which it is the decimal form, and no other
 abbrev pub NumberIsDecimal : Type 0
-NumberIsDecimal = (field : List ℕ) (most n : ℕ) → most < 2 ^ 64 → number_to most field ≡ Some n ↔ (field ≡ decimal n) × (n ≤ most)
+NumberIsDecimal =
+    (field : List ℕ) (most n : ℕ)
+    → most < 2 ^ 64
+    → number_to most field ≡ Some n ↔ (field ≡ decimal n) × (n ≤ most)

@@ -6,7 +6,8 @@
 --     prepare, propose, verify, turn ..                  add an event
 --
 -- Every line has only bytes below 128.
-use Rattle.std.specs.Prelude.{ℕ, ◌==◌, ◌&&◌, ◌||◌, List, [], ◌∷◌, ◌++◌, Option, Some, None, length, nat_lt, is_none, slice_index, if◌then◌else◌, codes}
+use Rattle.std.specs.Prelude.{ℕ, ◌==◌, ◌&&◌, ◌||◌, List, [], ◌∷◌, ◌++◌, Option, Some, None, length}
+use Rattle.std.specs.Prelude.{nat_lt, is_none, slice_index, if◌then◌else◌, codes}
 use Rattle.std.specs.List.{list_all}
 use Rattle.std.specs.Char.{is_ascii}
 use Rattle.std.specs.Str.{bytes_eq}
@@ -25,7 +26,8 @@ use Rattle.stateful_script.specs.declared.script.Script.{Script}
 
 -- a world line stands at most once, and before the first event line
 unfoldable pub with_world : Script → World → Option Script
-with_world s world = if is_none s.world && length s.events == 0 then Some (record s { world = Some world }) else None
+with_world s world =
+    if is_none s.world && length s.events == 0 then Some (record s { world = Some world }) else None
 
 -- lines name at most 1024 blocks
 unfoldable pub with_block : Script → List ℕ → PlannedBlock → Option Script
@@ -36,7 +38,8 @@ with_block s name block =
 
 -- there are at most 65536 event lines
 unfoldable pub with_event : Script → PlannedEvent → Option Script
-with_event s e = if nat_lt (length s.events) 65536 then Some (record s { events = s.events ++ e ∷ [] }) else None
+with_event s e =
+    if nat_lt (length s.events) 65536 then Some (record s { events = s.events ++ e ∷ [] }) else None
 
 -- the block of this head with these items
 unfoldable pub with_items : Script → Head → List Item → Option Script
@@ -103,5 +106,7 @@ line_of s fields = do
 unfoldable pub read_line : Script → List ℕ → Option Script
 read_line s line =
     if list_all is_ascii line
-    then (if length line == 0 || slice_index line 0 == 35 then Some s else line_of s (fields_of line))
+    then
+    (if length line == 0 || slice_index line 0 == 35 then Some s
+    else line_of s (fields_of line))
     else None

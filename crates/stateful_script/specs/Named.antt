@@ -1,5 +1,6 @@
 -- What a script has named so far: blocks by their names, and the databases by the world.
-use Rattle.std.specs.Prelude.{ℕ, Bool, ◌&&◌, not, List, [], ◌∷◌, Option, Some, None, zero, suc, slice_get, is_none, position, codes}
+use Rattle.std.specs.Prelude.{ℕ, Bool, ◌&&◌, not, List, [], ◌∷◌, Option, Some, None, zero, suc}
+use Rattle.std.specs.Prelude.{slice_get, is_none, position, codes}
 use Rattle.std.specs.Option.{option_map_or}
 use Rattle.std.specs.Str.{bytes_eq}
 use Rattle.stateful_script.specs.Fields.{Fields, is_name, field_as}
@@ -20,9 +21,12 @@ place s name = position (λ n. bytes_eq n name) s.names
 unfoldable pub block_at : Script → Fields → Option (ℕ × Fields)
 block_at s fields = field_as (place s) fields
 
--- a name that a line may give: it isn't named yet, and isn't one of the words that stand for no block
+-- a name that a line may give: it isn't named yet, and isn't one of the words that stand for no
+-- block
 unfoldable pub is_free : Script → List ℕ → Bool
-is_free s name = is_name name && is_none (place s name) && not (bytes_eq name (codes "none")) && not (bytes_eq name (codes "alone"))
+is_free s name =
+    is_name name && is_none (place s name) && not (bytes_eq name (codes "none")) && not
+    (bytes_eq name (codes "alone"))
 
 -- the height of the block that has the name at a place: genesis has 0
 abbrev pub height_in : List PlannedBlock → ℕ → ℕ

@@ -1,5 +1,6 @@
 -- A script, read line by line.
-use Rattle.std.specs.Prelude.{ℕ, ◌≡◌, ◌+◌, ◌==◌, List, [], ◌∷◌, Option, Some, None, Result, Ok, Err, length, if◌then◌else◌}
+use Rattle.std.specs.Prelude.{ℕ, ◌≡◌, ◌+◌, ◌==◌, List, [], ◌∷◌, Option, Some, None, Result, Ok, Err}
+use Rattle.std.specs.Prelude.{length, if◌then◌else◌}
 use Rattle.std.specs.List.{slice_split}
 use Rattle.stateful_script.specs.Named.{at_start}
 use Rattle.stateful_script.specs.Lines.{read_line}
@@ -15,7 +16,8 @@ at_line line (Some x) f = f x
 unfoldable pub read_from : Script → ℕ → List (List ℕ) → Result Script ℕ
 read_from s line [] = Err line
 read_from s line (last ∷ []) = if length last == 0 then Ok s else Err line
-read_from s line (text ∷ next ∷ more) = at_line line (read_line s text) (λ q. read_from q (line + 1) (next ∷ more))
+read_from s line (text ∷ next ∷ more) =
+    at_line line (read_line s text) (λ q. read_from q (line + 1) (next ∷ more))
 
 -- the script that bytes spell, or the number, from 1, of the first line that no rule reads
 unfoldable pub script_or_line : List ℕ → Result Script ℕ

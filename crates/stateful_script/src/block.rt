@@ -1,7 +1,8 @@
 //! The blocks that lines of a script name.
 
 ghost use Rattle.std.specs.Prelude.{◌≡◌, ◌+◌, ◌^◌, ◌<◌, Some, None, MatchOption};
-ghost use Rattle.stateful_script.specs.BlockLines.{new_name, head_at, next_height, height_on, planned_by, decision};
+ghost use Rattle.stateful_script.specs.BlockLines.{new_name, head_at, next_height, height_on};
+ghost use Rattle.stateful_script.specs.BlockLines.{planned_by, decision};
 ghost use Rattle.stateful_script.specs.Cursor.{fields_left};
 ghost use Rattle.stateful_script.specs.Fields.{field_as};
 ghost use Rattle.stateful_script.specs.Named.{height_in};
@@ -54,7 +55,8 @@ fn height_at(blocks: &[PlannedBlock], place: usize) -> Height
     }
 }
 
-/// The height of a block on this parent, as an item says it, or one above the parent's. None where no height is left.
+/// The height of a block on this parent, as an item says it, or one above the parent's. None where
+/// no height is left.
 #[tactic(auto, unfolding(crate::specs::BlockLines::height_on, crate::specs::BlockLines::next_height))]
 fn height_on(blocks: &[PlannedBlock], parent: usize, said: Option<u64>) -> Option<Height>
     ensures { result ≡ height_on blocks.now parent said }

@@ -1,6 +1,7 @@
 //! Texts cut at a byte, and the fields of a line one by one.
 
-ghost use Rattle.std.specs.Prelude.{◌≡◌, ◌==◌, ◌<◌, List, [], ◌∷◌, MatchOption, IfSome, position, length};
+ghost use Rattle.std.specs.Prelude.{◌≡◌, ◌==◌, ◌<◌, List, [], ◌∷◌, MatchOption, IfSome, position};
+ghost use Rattle.std.specs.Prelude.{length};
 ghost use Rattle.std.specs.List.{slice_split};
 ghost use Rattle.stateful_script.specs.Fields.{fields_of};
 ghost use Rattle.stateful_script.specs.Cursor.{fields_left};
@@ -16,7 +17,8 @@ fn place(text: &[u8], byte: u8) -> Option<usize>
 pub fn cut(text: &[u8], byte: u8) -> Option<(&[u8], &[u8])>
     ensures parts { MatchOption result
         (slice_split (λ b. b == byte) text.now ≡ text.now ∷ [])
-        (λ cut. slice_split (λ b. b == byte) text.now ≡ cut.0.now ∷ slice_split (λ b. b == byte) cut.1.now) }
+        (λ cut. slice_split (λ b. b == byte) text.now ≡ cut.0.now
+        ∷ slice_split (λ b. b == byte) cut.1.now) }
     ensures shorter { IfSome result (λ cut. length cut.1.now < length text.now) }
 {
     let end = place(text, byte)?;

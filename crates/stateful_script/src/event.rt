@@ -2,7 +2,9 @@
 
 ghost use Rattle.std.specs.Prelude.{◌≡◌, ℕ, Some, None, MatchOption};
 ghost use Rattle.stateful_script.specs.Cursor.{fields_left};
-ghost use Rattle.stateful_script.specs.EventLines.{verify_of, finalize_of, cancel_of, answer, fetched_of, turn_of, flushed_of, processed, numbers_at, restart_of, event_by};
+ghost use Rattle.stateful_script.specs.EventLines.{verify_of, finalize_of, cancel_of, answer};
+ghost use Rattle.stateful_script.specs.EventLines.{fetched_of, turn_of, flushed_of, processed};
+ghost use Rattle.stateful_script.specs.EventLines.{numbers_at, restart_of, event_by};
 ghost use Rattle.stateful_script.specs.Fields.{field_as};
 ghost use Rattle.stateful_script.specs.Named.{block_at};
 ghost use Rattle.stateful_script.specs.Refusal.{Leaves};

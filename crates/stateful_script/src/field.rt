@@ -1,9 +1,12 @@
 //! What a field may spell: a number, an account, a name.
 
-ghost use Rattle.std.specs.Prelude.{◌≡◌, ◌^◌, ◌-◌, ◌<◌, ◌≤◌, ◌==◌, ◌||◌, length, true, false, Some, None, MatchOption};
+ghost use Rattle.std.specs.Prelude.{◌≡◌, ◌^◌, ◌-◌, ◌<◌, ◌≤◌, ◌==◌, ◌||◌, length, true, false, Some};
+ghost use Rattle.std.specs.Prelude.{None, MatchOption};
 ghost use Rattle.std.specs.List.{list_all};
 ghost use Rattle.std.specs.Char.{is_ascii_digit, is_ascii_lowercase};
-ghost use Rattle.stateful_script.specs.Fields.{is_numeral, number_to, is_name_byte, is_name, number_at, account_at, turns_at, after_word, last_word};
+ghost use Rattle.stateful_script.specs.Fields.{is_numeral, number_to, is_name_byte, is_name};
+ghost use Rattle.stateful_script.specs.Fields.{number_at, account_at, turns_at, after_word};
+ghost use Rattle.stateful_script.specs.Fields.{last_word};
 ghost use Rattle.stateful_script.specs.Cursor.{fields_left};
 
 use crate::cursor::Cursor;

@@ -1,8 +1,12 @@
 //! The items of a line that names a block.
 
-ghost use Rattle.std.specs.Prelude.{◌≡◌, ◌==◌, ◌≤◌, ℕ, List, Some, None, MatchOption, IfOk, option_map, count_by, length};
+ghost use Rattle.std.specs.Prelude.{◌≡◌, ◌==◌, ◌≤◌, ℕ, List, Some, None, MatchOption, IfOk};
+ghost use Rattle.std.specs.Prelude.{option_map, count_by, length};
 ghost use Rattle.std.specs.List.{list_all, filter_map};
-ghost use Rattle.stateful_script.specs.BlockItems.{mint_at, move_at, height_at, epoch_at, slow_at, item_by, items_of, build_items_of, op_of, height_of, epoch_of, turns_of, is_wrong, is_for_builds, at_most_one, said_of};
+ghost use Rattle.stateful_script.specs.BlockItems.{mint_at, move_at, height_at, epoch_at, slow_at};
+ghost use Rattle.stateful_script.specs.BlockItems.{item_by, items_of, build_items_of, op_of};
+ghost use Rattle.stateful_script.specs.BlockItems.{height_of, epoch_of, turns_of, is_wrong};
+ghost use Rattle.stateful_script.specs.BlockItems.{is_for_builds, at_most_one, said_of};
 ghost use Rattle.stateful_script.specs.Cursor.{fields_left};
 ghost use Rattle.stateful_script.specs.Refusal.{Gives};
 

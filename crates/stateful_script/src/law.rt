@@ -8,7 +8,8 @@ pub fn number_is_decimal()
     ensures { NumberIsDecimal }
 {}
 
-/// A script is read whole: bytes are read exactly where they are lines with an LF behind each that rules read.
+/// A script is read whole: bytes are read exactly where they are lines with an LF behind each that
+/// rules read.
 pub fn whole_is_read()
     ensures { WholeIsRead }
 {}

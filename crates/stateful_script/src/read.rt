@@ -5,7 +5,10 @@ ghost use Rattle.std.specs.List.{list_all};
 ghost use Rattle.std.specs.Char.{is_ascii};
 ghost use Rattle.stateful_script.specs.Cursor.{fields_left};
 ghost use Rattle.stateful_script.specs.Named.{at_start, place, is_free, databases_in};
-ghost use Rattle.stateful_script.specs.Lines.{with_world, with_block, with_event, with_items, world_by, world_line, block_line, build_line, prepare_line, propose_line, event_line, line_by, read_line};
+ghost use Rattle.stateful_script.specs.Lines.{with_world, with_block, with_event, with_items};
+ghost use Rattle.stateful_script.specs.Lines.{world_by, world_line, block_line, build_line};
+ghost use Rattle.stateful_script.specs.Lines.{prepare_line, propose_line, event_line, line_by};
+ghost use Rattle.stateful_script.specs.Lines.{read_line};
 ghost use Rattle.stateful_script.specs.Refusal.{Becomes};
 ghost use Rattle.stateful_script.specs.Script.{script_or_line, Reads};
 ghost use Rattle.stateful_script.specs.Laws.{IsPlan};
@@ -254,8 +257,9 @@ impl Script {
 
 /// The script that bytes spell, of whatever length.
 ///
-/// `Line` names the first line that no rule reads, from 1, and comes exactly where there is one. The time grows with the
-/// bytes, and for each line that names a block with the number of names before it: a name is looked up by a look at each.
+/// `Line` names the first line that no rule reads, from 1, and comes exactly where there is one.
+/// The time grows with the bytes, and for each line that names a block with the number of names
+/// before it: a name is looked up by a look at each.
 #[tactic(auto, unfolding(crate::specs::Script::script_or_line))]
 pub fn read_script(alloc: Global, bytes: &[u8]) -> Result<Script, ScriptError>
     ensures exact { Reads result (script_or_line bytes.now) }

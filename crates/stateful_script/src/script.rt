@@ -51,8 +51,8 @@ pub enum PlannedEvent {
         block: usize,
         alone: bool,
     },
-    /// A request to build a block on this parent ahead of its proposal, and to hand it over in this way. The build would
-    /// give this block.
+    /// A request to build a block on this parent ahead of its proposal, and to hand it over in this
+    /// way. The build would give this block.
     Prepare {
         parent: usize,
         block: usize,
@@ -84,8 +84,8 @@ pub enum PlannedEvent {
     },
     /// The machine is to stop.
     Stop,
-    /// The machine is to start, with this height as the last processed one. Of each database a crash has left so many
-    /// checkpoints.
+    /// The machine is to start, with this height as the last processed one. Of each database a
+    /// crash has left so many checkpoints.
     Restart {
         processed: Option<Height>,
         keep: Items<usize>,

@@ -15,8 +15,8 @@ pub trait AttachableResolver<DB>: Sized {
         ensures err { OnErr result (self.new ≡ self.old) };
 }
 
-/// Resolvers to which a set of databases can be attached, each to its own: one resolver, or a pair of one and of further
-/// ones, as the databases are one, or a pair of one and of further ones.
+/// Resolvers to which a set of databases can be attached, each to its own: one resolver, or a pair
+/// of one and of further ones, as the databases are one, or a pair of one and of further ones.
 pub trait AttachableResolverSet<DBs>: Sized {
     ghost use Rattle.std.specs.Prelude.{OnOk, OnErr};
 

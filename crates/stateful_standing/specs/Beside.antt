@@ -1,4 +1,5 @@
--- What stays beside the tables: live runs go on turning, and the parents of queued proposals are known or lost.
+-- What stays beside the tables: live runs go on turning, and the parents of queued proposals are
+-- known or lost.
 use Rattle.std.specs.Prelude.{◌≡◌, ◌++◌, ℕ, List, Option}
 use Rattle.stateful_types.specs.Names.{Named}
 use Rattle.stateful_history.specs.Past.{Past, after}
@@ -9,7 +10,8 @@ use Rattle.stateful_exec.specs.declared.state.Tables.{Tables}
 use Rattle.stateful_standing.specs.Outstanding.{RunsGoOn}
 use Rattle.stateful_standing.specs.Reaching.{QueueReaches}
 
-module _ {B C I P R D H G U : Type 0} (w : Workings B C I P R D H G U) (stored : ℕ → Option (Named B)) (base : w.States) where
+module _ {B C I P R D H G U : Type 0} (w : Workings B C I P R D H G U)
+    (stored : ℕ → Option (Named B)) (base : w.States) where
   -- it is so at a place
   pub record StaysBeside (p : Past B C I) (v : Tables B C I R U) : Type 0 where
     pub runs : RunsGoOn w stored base p v.runs

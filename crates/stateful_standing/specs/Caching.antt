@@ -1,4 +1,5 @@
--- The cache stands for a past: what is known is what is cached, or, while a finalization goes on, what is cached and compatible.
+-- The cache stands for a past: what is known is what is cached, or, while a finalization goes on,
+-- what is cached and compatible.
 use Rattle.std.specs.Prelude.{◌≡◌, ◌≢◌, ◌↔◌, ◌⊎◌, ℕ, Option, List, [], ◌∷◌, All, Contains}
 use Rattle.stateful_types.specs.Names.{Named}
 use Rattle.stateful_types.specs.declared.anchor.Anchor.{Anchor}
@@ -17,12 +18,16 @@ use Rattle.stateful_standing.specs.Chains.{Chain}
 
 -- which blocks are known by the anchor, the cache and the pause
 abbrev pub IsKnownBy : {U : Type 0} → Pause → Anchor → List (Cached U) → Digest → Type 0
-IsKnownBy (Finalizing boundary) anchor cache d = (d ≡ boundary.digest) ⊎ (IsIn cache d × Contains boundary.compatible d)
+IsKnownBy (Finalizing boundary) anchor cache d =
+    (d ≡ boundary.digest) ⊎ (IsIn cache d × Contains boundary.compatible d)
 IsKnownBy Free anchor cache d = IsAtHand anchor cache d
 IsKnownBy Pruning anchor cache d = IsAtHand anchor cache d
 
-module _ {B C I P R D H G U : Type 0} (w : Workings B C I P R D H G U) (stored : ℕ → Option (Named B)) (p : Past B C I) (points : Digest → Point w) (next : w.Ids) (anchor : Anchor) where
-  -- the entry is of a block of the history, another one than the anchor, and its batch stands on that block's chain
+module _ {B C I P R D H G U : Type 0} (w : Workings B C I P R D H G U)
+    (stored : ℕ → Option (Named B)) (p : Past B C I) (points : Digest → Point w) (next : w.Ids)
+    (anchor : Anchor) where
+  -- the entry is of a block of the history, another one than the anchor, and its batch stands on
+  -- that block's chain
   pub record IsCached (e : Cached U) : Type 0 where
     pub block : Named B
     pub met : Met (setting w stored) p block
@@ -35,7 +40,8 @@ module _ {B C I P R D H G U : Type 0} (w : Workings B C I P R D H G U) (stored :
     pub drawn : w.kind.issued next (points e.digest ∷ below)
     pub shows : w.shows e.batch (points e.digest ∷ below)
 
-  -- each entry stands on its block's chain, behind its parent, and the known blocks are those that the cache and the pause tell
+  -- each entry stands on its block's chain, behind its parent, and the known blocks are those that
+  -- the cache and the pause tell
   pub record CacheStands (pause : Pause) (cache : List (Cached U)) : Type 0 where
     pub each : All IsCached cache
     pub in_order : InOrder anchor.digest [] cache

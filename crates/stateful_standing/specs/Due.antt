@@ -10,16 +10,19 @@ use Rattle.stateful_cache.specs.Cache.{IsIn}
 use Rattle.stateful_cache.specs.declared.cache.Cached.{Cached}
 use Rattle.stateful_exec.specs.declared.front.Front.{Front}
 use Rattle.stateful_exec.specs.declared.front.Stage.{Stage}
-use Rattle.stateful_exec.specs.declared.front.Stage.TheVariants.{Begun, Running, Ran, Advanced, Hooking}
+use Rattle.stateful_exec.specs.declared.front.Stage.TheVariants.{Begun, Running, Ran, Advanced}
+use Rattle.stateful_exec.specs.declared.front.Stage.TheVariants.{Hooking}
 
 module _ {B C I S T : Type 0} (s : Setting B S T) (p : Past B C I) where
-  -- no run of the block was started since its finalization began, and it has to run, unless it is cached
+  -- no run of the block was started since its finalization began, and it has to run, unless it is
+  -- cached
   pub record IsToRun {U : Type 0} (cache : List (Cached U)) (d : Digest) : Type 0 where
     pub unran : ran_finalized p ≡ false
     pub has_to : (IsIn cache d → ⊥) → HasToRun s p d
 
   module _ {R U H : Type 0} (cache : List (Cached U)) where
-    -- the block may have to run as long as nothing was run of it, and nothing else is begun once it is applied
+    -- the block may have to run as long as nothing was run of it, and nothing else is begun once it
+    -- is applied
     abbrev pub IsDueAt : Named B → Stage R U H → Type 0
     IsDueAt b Begun = IsToRun cache b.digest
     IsDueAt b (Running j run) = Unit {0}

@@ -1,5 +1,7 @@
--- What was gathered for a request: its block with those of its ancestors that came with it or were fetched.
-use Rattle.std.specs.Prelude.{◌≡◌, ℕ, ◌++◌, Option, None, Some, List, [], ◌∷◌, All, Any, IsSome, MatchOption, take}
+-- What was gathered for a request: its block with those of its ancestors that came with it or were
+-- fetched.
+use Rattle.std.specs.Prelude.{◌≡◌, ℕ, ◌++◌, Option, None, Some, List, [], ◌∷◌, All, Any, IsSome}
+use Rattle.std.specs.Prelude.{MatchOption, take}
 use Rattle.stateful_types.specs.Names.{Named}
 use Rattle.stateful_types.specs.declared.digest.Digest.{Digest}
 use Rattle.stateful_history.specs.Asked.{asked_digest}
@@ -36,13 +38,17 @@ last_of (x ∷ []) = Some x
 last_of (x ∷ y ∷ xs) = last_of (y ∷ xs)
 
 module _ {B C I S T : Type 0} (s : Setting B S T) (p : Past B C I) where
-  -- what was asked for the ticket, since something was applied or pruned, is the parent of one of these blocks
+  -- what was asked for the ticket, since something was applied or pruned, is the parent of one of
+  -- these blocks
   abbrev pub AsksParents : ℕ → List (Named B) → Type 0
   AsksParents t blocks = (d : Digest) → WasAsked t d p → Any (λ b. d ≡ parent_of s b) blocks
 
   -- and so it is for each request that fetches, with what was gathered for it
   abbrev pub AsksAlong : List (ℕ × Requested B C I) → Type 0
-  AsksAlong requests = All (λ e. (f : ℕ) → e.1.phase ≡ Fetching f → AsksParents e.0 (gathered e.1.request e.1.acquired)) requests
+  AsksAlong requests =
+      All
+      (λ e. (f : ℕ) → e.1.phase ≡ Fetching f → AsksParents e.0 (gathered e.1.request e.1.acquired))
+      requests
 
   -- nothing was asked for any ticket since something was applied or pruned
   abbrev pub AsksNothing : Type 0
@@ -52,11 +58,14 @@ module _ {B C I S T : Type 0} (s : Setting B S T) (p : Past B C I) where
   abbrev pub AsksForThese : List (ℕ × Requested B C I) → Type 0
   AsksForThese requests = (t : ℕ) (d : Digest) → WasAsked t d p → IsSome (at requests t)
 
-  -- What was gathered for a request is linked, where ancestries are and fetches were answered with the asked blocks; and the
-  -- block that is fetched for it is the parent of the last one.
+  -- What was gathered for a request is linked, where ancestries are and fetches were answered with
+  -- the asked blocks; and the block that is fetched for it is the parent of the last one.
   pub record IsGathered (r : Requested B C I) : Type 0 where
     pub linked : IsHonest s p → IsAnswered p → AreLinked s (gathered r.request r.acquired)
-    pub fetched : (f : ℕ) → r.phase ≡ Fetching f → MatchOption (last_of (gathered r.request r.acquired)) ⊥ (λ b. asked_digest f p ≡ Some (parent_of s b))
+    pub fetched : (f : ℕ)
+        → r.phase ≡ Fetching f
+        → MatchOption (last_of (gathered r.request r.acquired)) ⊥
+        (λ b. asked_digest f p ≡ Some (parent_of s b))
 
   -- so it is for each request
   abbrev pub GatheringsStand : List (ℕ × Requested B C I) → Type 0

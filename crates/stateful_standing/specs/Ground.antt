@@ -1,4 +1,5 @@
--- The ground of verdicts and reasons: the databases are where the applied blocks lead to, and the cache stands above them.
+-- The ground of verdicts and reasons: the databases are where the applied blocks lead to, and the
+-- cache stands above them.
 use Rattle.std.specs.Prelude.{◌≡◌, ◌≤◌, ℕ, Option, Some, List, All, Contains}
 use Rattle.stateful_types.specs.Names.{Named}
 use Rattle.stateful_types.specs.Anchor.{anchor_by}
@@ -21,30 +22,36 @@ use Rattle.stateful_standing.specs.Caching.{CacheStands}
 
 -- each cached block that goes on over the finalization is compatible with it
 abbrev pub IsClosed : {U : Type 0} → Boundary → List (Cached U) → Type 0
-IsClosed boundary cache = All (λ e. IsRetained boundary (step_in e) → Contains boundary.compatible e.digest) cache
+IsClosed boundary cache =
+    All (λ e. IsRetained boundary (step_in e) → Contains boundary.compatible e.digest) cache
 
 -- where a finalization goes on, that is so, and the anchor's block doesn't go on over it
 abbrev pub IsClosedBy : {U : Type 0} → Pause → Anchor → List (Cached U) → Type 0
-IsClosedBy (Finalizing boundary) anchor cache = IsClosed boundary cache × IsLater anchor.round boundary.round
+IsClosedBy (Finalizing boundary) anchor cache =
+    IsClosed boundary cache × IsLater anchor.round boundary.round
 IsClosedBy Free anchor cache = Unit {0}
 IsClosedBy Pruning anchor cache = Unit {0}
 
 -- The databases are where the applied blocks lead to, and there is an anchor and a tip.
-pub record IsFolded {B C I P R D H G U : Type 0} (w : Workings B C I P R D H G U) (stored : ℕ → Option (Named B)) (base : w.States) (p : Past B C I) (anchor tip : Anchor) (point : Point w) : Type 0 where
+pub record IsFolded {B C I P R D H G U : Type 0} (w : Workings B C I P R D H G U)
+    (stored : ℕ → Option (Named B)) (base : w.States) (p : Past B C I) (anchor tip : Anchor)
+    (point : Point w) : Type 0 where
   pub anchor_is : anchor_of w.header p ≡ Some anchor
   pub tip_is : tip_of w.header p ≡ Some tip
   pub folded : fold (setting w stored) (Some base) (applied p) ≡ Some point.1
 
-module _ {B C I P R D H G U : Type 0} (w : Workings B C I P R D H G U) (stored : ℕ → Option (Named B)) (p : Past B C I) where
+module _ {B C I P R D H G U : Type 0} (w : Workings B C I P R D H G U)
+    (stored : ℕ → Option (Named B)) (p : Past B C I) where
   -- the anchor is that of a block of the history
   pub record IsOfBlock (anchor : Anchor) : Type 0 where
     pub block : Named B
     pub met : Met (setting w stored) p block
     pub is : anchor ≡ anchor_by w.header block
 
-  -- A finalization goes on: its block is the tip, a child of the anchor, no lower than it and of a later round. It is
-  -- compatible, and so is each cached block that goes on over it.
-  pub record IsFinal (anchor : Anchor) (cache : List (Cached U)) (tip : Anchor) (boundary : Boundary) : Type 0 where
+  -- A finalization goes on: its block is the tip, a child of the anchor, no lower than it and of a
+  -- later round. It is compatible, and so is each cached block that goes on over it.
+  pub record IsFinal (anchor : Anchor) (cache : List (Cached U)) (tip : Anchor)
+      (boundary : Boundary) : Type 0 where
     pub block : Named B
     pub met : Met (setting w stored) p block
     pub tip_is : tip ≡ anchor_by w.header block
@@ -62,7 +69,9 @@ module _ {B C I P R D H G U : Type 0} (w : Workings B C I P R D H G U) (stored :
   IsTipBy Free anchor cache tip = tip ≡ anchor
   IsTipBy Pruning anchor cache tip = tip ≡ anchor
 
-module _ {B C I P R D H G U : Type 0} (w : Workings B C I P R D H G U) (stored : ℕ → Option (Named B)) (base : w.States) (p : Past B C I) (points : Digest → Point w) (point : Point w) (next : w.Ids) (tip : Anchor) where
+module _ {B C I P R D H G U : Type 0} (w : Workings B C I P R D H G U)
+    (stored : ℕ → Option (Named B)) (base : w.States) (p : Past B C I) (points : Digest → Point w)
+    (point : Point w) (next : w.Ids) (tip : Anchor) where
   -- the cache stands, names are true, the databases are where the applied blocks lead to, and so on
   pub record IsGround (pause : Pause) (anchor : Anchor) (cache : List (Cached U)) : Type 0 where
     pub stands : CacheStands w stored p points next anchor pause cache

@@ -15,8 +15,10 @@ module _ {B C I : Type 0} where
   abbrev pub IsUncancelled : Past B C I → Type 0
   IsUncancelled p = (t : ℕ) → IsLiveRequest t p → was_cancelled t p ≡ false
 
-module _ {B C I P R D H G U : Type 0} (w : Workings B C I P R D H G U) (stored : ℕ → Option (Named B)) where
-  -- A ticket is that of one event, no live request was cancelled, and a run that ended in vain is started again only for another request.
+module _ {B C I P R D H G U : Type 0} (w : Workings B C I P R D H G U)
+    (stored : ℕ → Option (Named B)) where
+  -- A ticket is that of one event, no live request was cancelled, and a run that ended in vain is
+  -- started again only for another request.
   pub record IsOrderly (p : Past B C I) : Type 0 where
     pub apart : TicketsApart p
     pub live : IsUncancelled p

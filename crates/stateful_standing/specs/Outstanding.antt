@@ -16,10 +16,16 @@ use Rattle.stateful_standing.specs.Setting.{setting}
 abbrev pub TicketsApart : {B C I : Type 0} → Past B C I → Type 0
 TicketsApart p = (t : ℕ) → proposed t p ≢ None → verified t p ≡ None
 
-module _ {B C I P R D H G U : Type 0} (w : Workings B C I P R D H G U) (stored : ℕ → Option (Named B)) (base : w.States) (p : Past B C I) where
+module _ {B C I P R D H G U : Type 0} (w : Workings B C I P R D H G U)
+    (stored : ℕ → Option (Named B)) (base : w.States) (p : Past B C I) where
   -- the run was turned less often than it takes turns on its parent's states, where that is told
   abbrev pub GoesOnTurning : ℕ → LiveRun B R → Type 0
-  GoesOnTurning j run = (t : w.States) → HasState (setting w stored) base p (parent_of (setting w stored) run.block) t → (n : ℕ) → w.works.run_cost finality.Candidate t run.block.block ≡ Some n → turns j p < n
+  GoesOnTurning j run =
+      (t : w.States)
+      → HasState (setting w stored) base p (parent_of (setting w stored) run.block) t
+      → (n : ℕ)
+      → w.works.run_cost finality.Candidate t run.block.block ≡ Some n
+      → turns j p < n
 
   -- so it is for each live run
   abbrev pub RunsGoOn : List (ℕ × LiveRun B R) → Type 0

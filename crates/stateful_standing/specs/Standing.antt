@@ -15,7 +15,8 @@ use Rattle.stateful_exec.specs.declared.request.Request.{Request}
 use Rattle.stateful_exec.specs.declared.state.Tables.{Tables}
 use Rattle.stateful_standing.specs.Setting.{setting}
 use Rattle.stateful_standing.specs.Caching.{CacheStands}
-use Rattle.stateful_standing.specs.Requesting.{brought_by, IsRequestOf, RequestsStand, AllAbstain, QueueStands}
+use Rattle.stateful_standing.specs.Requesting.{brought_by, IsRequestOf, RequestsStand, AllAbstain}
+use Rattle.stateful_standing.specs.Requesting.{QueueStands}
 use Rattle.stateful_standing.specs.Running.{RunsStand}
 
 -- the numbers that are drawn next are above all that were drawn
@@ -24,9 +25,12 @@ pub record NumbersStand {B C I : Type 0} (p : Past B C I) (next_job next_fetch :
   pub unturned : (j : ℕ) → next_job ≤ j → turns j p ≡ 0
   pub fetches : (f : ℕ) → asked_for f p ≢ None → f < next_fetch
 
-module _ {B C I P R D H G U : Type 0} (w : Workings B C I P R D H G U) (stored : ℕ → Option (Named B)) (p : Past B C I) where
-  -- The tables stand for the past, over the points of blocks: that of the anchor is where the databases are.
-  pub record TablesStand (points : Digest → Point w) (point : Point w) (next : w.Ids) (v : Tables B C I R U) : Type 0 where
+module _ {B C I P R D H G U : Type 0} (w : Workings B C I P R D H G U)
+    (stored : ℕ → Option (Named B)) (p : Past B C I) where
+  -- The tables stand for the past, over the points of blocks: that of the anchor is where the
+  -- databases are.
+  pub record TablesStand (points : Digest → Point w) (point : Point w) (next : w.Ids)
+      (v : Tables B C I R U) : Type 0 where
     pub at_anchor : points v.anchor.digest ≡ point
     pub cache : CacheStands w stored p points next v.anchor v.pause v.cache
     pub runs : RunsStand w stored p points next v.anchor v.cache v.runs
@@ -43,11 +47,14 @@ module _ {B C I P R D H G U : Type 0} (w : Workings B C I P R D H G U) (stored :
     pub asked : IsRequestOf w stored p t request
     pub brought : All (Met (setting w stored) p) (brought_by request)
 
--- From one moment to a later one some marks are made, and the tables stand for the past with them. Where each request that
--- waited abstained, each one that waits still does. No database moves.
-pub record StandsBehind {B C I P R D H G U : Type 0} (w : Workings B C I P R D H G U) (stored : ℕ → Option (Named B)) (p : Past B C I) (points : Digest → Point w) (point : Point w) (m now : Moment w) : Type 0 where
+-- From one moment to a later one some marks are made, and the tables stand for the past with them.
+-- Where each request that waited abstained, each one that waits still does. No database moves.
+pub record StandsBehind {B C I P R D H G U : Type 0} (w : Workings B C I P R D H G U)
+    (stored : ℕ → Option (Named B)) (p : Past B C I) (points : Digest → Point w) (point : Point w)
+    (m now : Moment w) : Type 0 where
   pub more : List (Mark B)
   pub marks_are : now.marks ≡ m.marks ++ more
   pub members_are : now.members ≡ m.members
   pub stands : TablesStand w stored (after p more) points point now.next now.state
-  pub waiting : AllAbstain w stored p m.state.requests → AllAbstain w stored (after p more) now.state.requests
+  pub waiting : AllAbstain w stored p m.state.requests
+      → AllAbstain w stored (after p more) now.state.requests

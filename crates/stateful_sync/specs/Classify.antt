@@ -11,7 +11,8 @@ use Rattle.stateful_sync.specs.declared.handover.Point.{Point}
 use Rattle.stateful_sync.specs.declared.handover.Handover.{Handover}
 use Rattle.stateful_sync.specs.declared.handover.Handover.TheVariants.{Covered, Reflected, Apply}
 use Rattle.stateful_plan.specs.declared.error.SyncError.{SyncError}
-use Rattle.stateful_plan.specs.declared.error.SyncError.TheVariants.{SkippedHeight, ConflictAtAnchor}
+use Rattle.stateful_plan.specs.declared.error.SyncError.TheVariants.{SkippedHeight}
+use Rattle.stateful_plan.specs.declared.error.SyncError.TheVariants.{ConflictAtAnchor}
 
 -- the anchor's place
 abbrev pub anchored : Anchor → Point
@@ -46,7 +47,8 @@ module _ {B : Type 0} (header : Header B) where
         → filter (λ other. height_at other == height_at one) sorted
         ≡ filter (λ other. height_at other == height_at one) given
 
-  -- why a block is refused behind a place: it is another one of the same height, or above the next height
+  -- why a block is refused behind a place: it is another one of the same height, or above the next
+  -- height
   pub data Refuses (last : Point) (b : Named B) : SyncError → Type 0 where
     conflicts : header.height b.block ≡ last.height.0
         → b.digest ≢ last.digest
@@ -58,10 +60,11 @@ module _ {B : Type 0} (header : Header B) where
   module _ (anchor : Anchor) where
     -- below the anchor it is covered, at the anchor reflected, and above it applied
     abbrev pub handover_at : ℕ × Named B → Handover B
-    handover_at retained = handover_by (nat_cmp (height_at retained) anchor.height.0) retained.0 retained.1
+    handover_at retained =
+        handover_by (nat_cmp (height_at retained) anchor.height.0) retained.0 retained.1
 
-    -- from the last place at or above the anchor over one block more: it is below the anchor, it is the block of that place
-    -- again, or it is of the next height
+    -- from the last place at or above the anchor over one block more: it is below the anchor, it is
+    -- the block of that place again, or it is of the next height
     pub data Passes (last : Point) (b : Named B) : Point → Type 0 where
       below : header.height b.block < anchor.height.0 → Passes last b last
       again : place_of b ≡ last → Passes last b last
@@ -70,7 +73,8 @@ module _ {B : Type 0} (header : Header B) where
     -- from a place over blocks, one after another, to a place
     abbrev pub Leads : Point → List (ℕ × Named B) → Point → Type 0
     Leads first [] last = last ≡ first
-    Leads first (one ∷ others) last = (next : Point) × Passes first one.1 next × Leads next others last
+    Leads first (one ∷ others) last =
+        (next : Point) × Passes first one.1 next × Leads next others last
 
     -- the first of these blocks over which no place behind the anchor leads is refused
     pub record RefusesAt (sorted : List (ℕ × Named B)) (error : SyncError) : Type 0 where
@@ -82,7 +86,8 @@ module _ {B : Type 0} (header : Header B) where
       pub leads : Leads (anchored anchor) front last
       pub cause : Refuses last one.1 error
 
-    -- the retained blocks by their heights lead on from the anchor, and these are what becomes of them
+    -- the retained blocks by their heights lead on from the anchor, and these are what becomes of
+    -- them
     pub record IsClassified (retained : List (ℕ × Named B))
         (handovers : List (Handover B)) : Type 0 where
       pub sorted : List (ℕ × Named B)
@@ -97,8 +102,9 @@ module _ {B : Type 0} (header : Header B) where
       pub order : IsByHeight retained sorted
       pub refused : RefusesAt sorted error
 
-    -- The retained blocks from the anchor on are of one chain, as far as heights and digests tell: those of the anchor's height are
-    -- its block, two of one height above it are the same, and up to each of them no height is missing.
+    -- The retained blocks from the anchor on are of one chain, as far as heights and digests tell:
+    -- those of the anchor's height are its block, two of one height above it are the same, and up
+    -- to each of them no height is missing.
     pub record IsConsistent (retained : List (ℕ × Named B)) : Type 0 where
       pub at_anchor : All (λ one. height_at one ≡ anchor.height.0
           → one.1.digest ≡ anchor.digest) retained

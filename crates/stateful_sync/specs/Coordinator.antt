@@ -1,17 +1,20 @@
 -- How a coordinator brings several databases to the targets of one block.
-use Rattle.std.specs.Prelude.{◌≡◌, ◌⊎◌, ℕ, ◌+◌, ◌<◌, ◌≤◌, true, false, Option, Some, None, unwrap_or, List, map, slice_get, slice_set, All}
+use Rattle.std.specs.Prelude.{◌≡◌, ◌⊎◌, ℕ, ◌+◌, ◌<◌, ◌≤◌, true, false, Option, Some, None}
+use Rattle.std.specs.Prelude.{unwrap_or, List, map, slice_get, slice_set, All}
 use Rattle.std.specs.List.{Any}
 use Rattle.stateful_types.specs.declared.anchor.Anchor.{Anchor}
-use Rattle.stateful_sync.specs.Assigned.{generation_of, is_reached, once_reached, once_marked, unless_reached, unless_assigned}
+use Rattle.stateful_sync.specs.Assigned.{generation_of, is_reached, once_reached, once_marked}
+use Rattle.stateful_sync.specs.Assigned.{unless_reached, unless_assigned}
 use Rattle.stateful_sync.specs.declared.tip.Tip.{Tip}
 use Rattle.stateful_sync.specs.declared.action.DbSyncState.{DbSyncState}
 use Rattle.stateful_sync.specs.declared.action.DbSyncState.TheVariants.{Seeking, Reached}
 use Rattle.stateful_sync.specs.declared.action.Generation.{Generation}
 use Rattle.stateful_sync.specs.declared.action.CoordinatorAction.{CoordinatorAction}
-use Rattle.stateful_sync.specs.declared.action.CoordinatorAction.TheVariants.{Wait, Dispatch, Converged}
+use Rattle.stateful_sync.specs.declared.action.CoordinatorAction.TheVariants.{Wait, Dispatch}
+use Rattle.stateful_sync.specs.declared.action.CoordinatorAction.TheVariants.{Converged}
 
--- what each database is assigned, by their numbers; the generation that was dispatched last; and the recorded tip that is to be
--- dispatched next, if there is one
+-- what each database is assigned, by their numbers; the generation that was dispatched last; and
+-- the recorded tip that is to be dispatched next, if there is one
 pub record Coordination (T : Type 0) : Type 0 where
   pub databases : List DbSyncState
   pub newest : Generation T
@@ -47,7 +50,8 @@ module _ {T : Type 0} where
   abbrev pub Seeks : Coordination T → ℕ → Type 0
   Seeks s index = (g : ℕ) × (slice_get s.databases index ≡ Some (Seeking g))
 
-  -- the newest generation is the greatest that a database is assigned, and the tip that is to be dispatched next is higher
+  -- the newest generation is the greatest that a database is assigned, and the tip that is to be
+  -- dispatched next is higher
   pub record IsInOrder (s : Coordination T) : Type 0 where
     pub greatest : Any (λ d. generation_of d ≡ s.newest.number) s.databases
     pub bounds : All (λ d. generation_of d ≤ s.newest.number) s.databases
@@ -60,7 +64,8 @@ module _ {T : Type 0} where
     pub was : slice_get s.databases index ≡ Some before
     pub is : next ≡ record s { databases = slice_set s.databases index (change before) }
 
-  -- a tip is dispatched next where it is above the tip that would be, or the last one that was; else it is ignored
+  -- a tip is dispatched next where it is above the tip that would be, or the last one that was;
+  -- else it is ignored
   pub data TakesTip (s : Coordination T) (tip : Tip T) : Coordination T → Type 0 where
     takes : height_of (latest s) < height_of tip → TakesTip s tip (record s { pending = Some tip })
     ignores : height_of tip ≤ height_of (latest s) → TakesTip s tip s
@@ -75,7 +80,8 @@ module _ {T : Type 0} where
 
   -- what is to be done next, and what is assigned then
   pub data Acts (s : Coordination T) : CoordinatorAction T → Coordination T → Type 0 where
-    -- all databases have reached one generation, and a tip is pending: it goes to all, as a new generation
+    -- all databases have reached one generation, and a tip is pending: it goes to all, as a new
+    -- generation
     goes_to_all : {g : ℕ} {tip : Tip T}
         → AllReached s g
         → s.pending ≡ Some tip
@@ -89,12 +95,14 @@ module _ {T : Type 0} where
         → AllReached s g
         → s.pending ≡ None
         → Acts s (converge s.newest) s
-    -- all have reached a generation, but not one and the same: the greatest goes again to those of lower ones
+    -- all have reached a generation, but not one and the same: the greatest goes again to those of
+    -- lower ones
     regroups : All (λ d. is_reached d ≡ true) s.databases
         → ((g : ℕ) → AllReached s g → ⊥)
         → Acts s (dispatch s.newest)
         (record s { databases = map (unless_assigned s.newest.number) s.databases })
-    -- a database is seeking, and a tip is pending: it goes, as a new generation, to those that are seeking
+    -- a database is seeking, and a tip is pending: it goes, as a new generation, to those that are
+    -- seeking
     goes_to_seeking : {tip : Tip T}
         → Any (λ d. is_reached d ≡ false) s.databases
         → s.pending ≡ Some tip
@@ -113,14 +121,18 @@ module _ {T : Type 0} where
   IsNewest (Dispatch number anchor targets) s = number ≡ s.newest.number
   IsNewest action s = Unit {0}
 
-  -- a tip is to go out as a new generation: it is pending, and all databases have reached one generation, or one is seeking
+  -- a tip is to go out as a new generation: it is pending, and all databases have reached one
+  -- generation, or one is seeking
   pub record NeedsNumber (s : Coordination T) : Type 0 where
     pub tip : Tip T
     pub pending : s.pending ≡ Some tip
     pub case : ((g : ℕ) × AllReached s g) ⊎ Any (λ d. is_reached d ≡ false) s.databases
 
   -- a call that keeps its conditions, with its answer and the state behind it
-  pub data Steps (s : Coordination T) : Call T → Option (CoordinatorAction T) → Coordination T → Type 0 where
+  pub data Steps (s : Coordination T) : Call T
+      → Option (CoordinatorAction T)
+      → Coordination T
+      → Type 0 where
     reached : {index g : ℕ} {next : Coordination T}
         → ChangesAt s index (once_reached g) next
         → Steps s (record_reached index g) None next

@@ -1,8 +1,11 @@
 -- What holds of a coordinator whatever calls come.
-use Rattle.std.specs.Prelude.{◌≡◌, ℕ, ◌<◌, ◌≤◌, Option, Some, None, List, [], ◌∷◌, ◌++◌, length, slice_get, All, Contains}
+use Rattle.std.specs.Prelude.{◌≡◌, ℕ, ◌<◌, ◌≤◌, Option, Some, None, List, [], ◌∷◌, ◌++◌, length}
+use Rattle.std.specs.Prelude.{slice_get, All, Contains}
 use Rattle.std.specs.List.{flat_map}
 use Rattle.stateful_types.specs.declared.anchor.Anchor.{Anchor}
-use Rattle.stateful_sync.specs.Coordinator.{Coordination, Call, record_reached, record_tip_update, mark_reached_same_target, height_of, tip_of, next_generation, AllReached, Steps}
+use Rattle.stateful_sync.specs.Coordinator.{Coordination, Call, record_reached, record_tip_update}
+use Rattle.stateful_sync.specs.Coordinator.{mark_reached_same_target, height_of, tip_of}
+use Rattle.stateful_sync.specs.Coordinator.{next_generation, AllReached, Steps}
 use Rattle.stateful_sync.specs.declared.tip.Tip.{Tip}
 use Rattle.stateful_sync.specs.declared.action.DbSyncState.TheVariants.{Seeking}
 use Rattle.stateful_sync.specs.declared.action.Generation.{Generation}
@@ -33,7 +36,8 @@ module _ {T : Type 0} where
 
   -- the generation that an answer dispatches
   abbrev pub dispatched : Option (CoordinatorAction T) → List (Generation T)
-  dispatched (Some (Dispatch number anchor targets)) = record { number = number; tip = tip_of anchor targets } ∷ []
+  dispatched (Some (Dispatch number anchor targets)) =
+      record { number = number; tip = tip_of anchor targets } ∷ []
   dispatched answer = []
 
   -- the tips that these calls recorded, and the generations that they dispatched
@@ -43,8 +47,8 @@ module _ {T : Type 0} where
   abbrev pub dispatches : List (Turn T) → List (Generation T)
   dispatches turns = flat_map (λ turn. dispatched turn.answer) turns
 
-  -- A dispatch behind another, where these tips were recorded before it: the same generation again; or the next one, of the
-  -- highest of these tips, which is above the one before.
+  -- A dispatch behind another, where these tips were recorded before it: the same generation again;
+  -- or the next one, of the highest of these tips, which is above the one before.
   pub data Follows (before : List (Tip T)) (last : Generation T) : Generation T → Type 0 where
     again : Follows before last last
     further : {tip : Tip T}
@@ -64,7 +68,8 @@ module _ {T : Type 0} (start : Generation T) where
   abbrev pub last_dispatch : List (Turn T) → Generation T
   last_dispatch turns = last_of start (dispatches turns)
 
-  -- a generation was given to the database of this number: it's that of the start, or it was dispatched to it
+  -- a generation was given to the database of this number: it's that of the start, or it was
+  -- dispatched to it
   pub data IsGiven (turns : List (Turn T)) (index g : ℕ) : Type 0 where
     at_start : g ≡ start.number → IsGiven turns index g
     by_dispatch : {before : List (Turn T)} {turn : Turn T} {tip : Tip T}
@@ -73,8 +78,8 @@ module _ {T : Type 0} (start : Generation T) where
         → slice_get turn.after.databases index ≡ Some (Seeking g)
         → IsGiven turns index g
 
-  -- A database has reached a generation: it was said to have, after that was given to it; or it had reached an earlier one,
-  -- and was said to have the same target in this one.
+  -- A database has reached a generation: it was said to have, after that was given to it; or it had
+  -- reached an earlier one, and was said to have the same target in this one.
   pub data HasReached (index : ℕ) : List (Turn T) → ℕ → Type 0 where
     by_itself : {turns before : List (Turn T)} {turn : Turn T} {g : ℕ}
         → StandsBehind turns before turn

@@ -1,5 +1,6 @@
 -- A mailbox that carries the newest update to a sync.
-use Rattle.std.specs.Prelude.{◌≡◌, ℕ, ◌<◌, max, Bool, true, false, ◌&&◌, Option, Some, None, unwrap_or, List, [], ◌∷◌, ◌++◌, length, slice_get, slice_set}
+use Rattle.std.specs.Prelude.{◌≡◌, ℕ, ◌<◌, max, Bool, true, false, ◌&&◌, Option, Some, None}
+use Rattle.std.specs.Prelude.{unwrap_or, List, [], ◌∷◌, ◌++◌, length, slice_get, slice_set}
 use Rattle.stateful_types.specs.declared.anchor.Anchor.{Anchor}
 use Rattle.stateful_types.specs.declared.outcome.Moved.{Moved}
 use Rattle.stateful_types.specs.declared.outcome.Moved.TheVariants.{Pending, Done}
@@ -7,7 +8,8 @@ use Rattle.stateful_sync.specs.declared.tip.Tip.{Tip}
 use Rattle.stateful_sync.specs.declared.tip.TipUpdate.{TipUpdate}
 use Rattle.stateful_sync.specs.declared.mailbox.Update.{Update}
 
--- the updates by their numbers, the number of the one that waits, and the anchor to which the databases have converged
+-- the updates by their numbers, the number of the one that waits, and the anchor to which the
+-- databases have converged
 pub record Mail (T : Type 0) : Type 0 where
   pub updates : List (Update T)
   pub waiting : Option ℕ
@@ -39,7 +41,8 @@ module _ {T : Type 0} where
   once_recorded update = record update { recorded = true }
 
   -- one update more, which alone waits
-  pub record Draws (s : Mail T) (anchor : Anchor) (targets : T) (ticket : ℕ) (next : Mail T) : Type 0 where
+  pub record Draws (s : Mail T) (anchor : Anchor) (targets : T) (ticket : ℕ)
+      (next : Mail T) : Type 0 where
     pub number : ticket ≡ length s.updates
     pub is : next ≡ record s {
       updates = s.updates ++ made anchor targets ∷ [];
@@ -55,7 +58,8 @@ module _ {T : Type 0} where
         → HandsOut s (Some (n, numbered n update.tip)) (record s { waiting = None })
 
   -- the update of this number changes so, and nothing else does
-  pub record ChangesAt (s : Mail T) (n : ℕ) (change : Update T → Update T) (next : Mail T) : Type 0 where
+  pub record ChangesAt (s : Mail T) (n : ℕ) (change : Update T → Update T)
+      (next : Mail T) : Type 0 where
     pub before : Update T
     pub was : slice_get s.updates n ≡ Some before
     pub is : next ≡ record s { updates = slice_set s.updates n (change before) }
@@ -71,7 +75,8 @@ module _ {T : Type 0} where
     records : {next : Mail T} → ChangesAt s n once_recorded next → Observes s n true next
     drops : Observes s n false (record s { waiting = Some (max (unwrap_or s.waiting n) n) })
 
-  -- what a ticket gives: None where its update was answered with nothing and recorded, else the anchor, where there is one
+  -- what a ticket gives: None where its update was answered with nothing and recorded, else the
+  -- anchor, where there is one
   pub data Polls (s : Mail T) (n : ℕ) : Moved (Option Anchor) → Type 0 where
     recorded : {update : Update T}
         → slice_get s.updates n ≡ Some update

@@ -1,10 +1,12 @@
 -- What holds of a mailbox of a sync whatever calls come.
-use Rattle.std.specs.Prelude.{◌≡◌, ℕ, ◌<◌, ◌≤◌, true, false, Option, Some, None, List, [], ◌∷◌, ◌++◌, length, slice_get, All, Contains}
+use Rattle.std.specs.Prelude.{◌≡◌, ℕ, ◌<◌, ◌≤◌, true, false, Option, Some, None, List, [], ◌∷◌}
+use Rattle.std.specs.Prelude.{◌++◌, length, slice_get, All, Contains}
 use Rattle.std.specs.List.{Any, flat_map}
 use Rattle.stateful_types.specs.declared.anchor.Anchor.{Anchor}
 use Rattle.stateful_types.specs.declared.outcome.Moved.{Moved}
 use Rattle.stateful_types.specs.declared.outcome.Moved.TheVariants.{Pending, Done}
-use Rattle.stateful_sync.specs.Mailbox.{Mail, numbered, Call, retarget, next, respond, observed, poll, Steps}
+use Rattle.stateful_sync.specs.Mailbox.{Mail, numbered, Call, retarget, next, respond, observed}
+use Rattle.stateful_sync.specs.Mailbox.{poll, Steps}
 use Rattle.stateful_sync.specs.declared.tip.Tip.{Tip}
 use Rattle.stateful_sync.specs.declared.tip.TipUpdate.{TipUpdate}
 
@@ -65,14 +67,17 @@ module _ {T : Type 0} where
     pub numbers : (before behind : List (Call T)) (anchor : Anchor) (targets : T) (ticket : ℕ)
         → calls ≡ before ++ retarget anchor targets ticket ∷ behind
         → ticket ≡ length (flat_map drawn before)
-    -- a ticket gives None exactly where its update was answered with nothing and recorded, and else the first anchor
+    -- a ticket gives None exactly where its update was answered with nothing and recorded, and else
+    -- the first anchor
     pub gives : (before behind : List (Call T)) (n : ℕ) (answer : Moved (Option Anchor))
         → calls ≡ before ++ poll n answer ∷ behind
         → Gives before n answer
     -- what is handed out under a number is what that ticket was drawn for
     pub same : (before behind : List (Call T)) (n : ℕ) (update : TipUpdate T)
         → calls ≡ before ++ next (Some (n, update)) ∷ behind
-        → (tip : Tip T) × (slice_get (flat_map drawn before) n ≡ Some tip) × (update ≡ numbered n tip)
+        → (tip : Tip T)
+        × (slice_get (flat_map drawn before) n ≡ Some tip)
+        × (update ≡ numbered n tip)
     -- behind an update that is to be sent, it or a newer one is handed out
     pub sent : (before between behind : List (Call T)) (call : Call T) (n : ℕ)
         (found : Option (ℕ × TipUpdate T))
@@ -80,10 +85,12 @@ module _ {T : Type 0} where
         → IsToBeSent n call
         → All (λ other. Takes other → ⊥) between
         → (m : ℕ) × (update : TipUpdate T) × (found ≡ Some (m, update)) × (n ≤ m)
-    -- behind a newer one that was made, an update is handed out only where it was dropped unread since
+    -- behind a newer one that was made, an update is handed out only where it was dropped unread
+    -- since
     pub replaced : (before between behind : List (Call T)) (anchor : Anchor) (targets : T) (m n : ℕ)
         (update : TipUpdate T)
-        → calls ≡ before ++ retarget anchor targets m ∷ (between ++ next (Some (n, update)) ∷ behind)
+        → calls ≡ before ++ retarget anchor targets m
+        ∷ (between ++ next (Some (n, update)) ∷ behind)
         → n < m
         → Any (λ call. call ≡ observed n false) between
     -- an update is handed out again only where it was dropped unread in between

@@ -1,7 +1,8 @@
 //! What a coordinator tracks of each database, and what it asks for.
 
 ghost use Rattle.std.specs.Prelude.{◌≡◌, ◌+◌, ◌-◌, ◌^◌, ◌<◌, ◌↔◌, IfOk, IsErr};
-ghost use Rattle.stateful_sync.specs.Assigned.{generation_of, is_reached, once_reached, once_marked, unless_reached, unless_assigned};
+ghost use Rattle.stateful_sync.specs.Assigned.{generation_of, is_reached, once_reached};
+ghost use Rattle.stateful_sync.specs.Assigned.{once_marked, unless_reached, unless_assigned};
 ghost use Rattle.stateful_sync.specs.Coordinator.{next_generation, dispatch, converge};
 
 use crate::tip::Tip;
@@ -96,7 +97,8 @@ pub(crate) struct Generation<T> {
 }
 
 impl<T: Copy> Generation<T> {
-    /// The next one, which goes to this tip. It is refused where its number would be the last that there is.
+    /// The next one, which goes to this tip. It is refused where its number would be the last that
+    /// there is.
     pub(crate) fn next(&self, tip: Tip<T>) -> Result<Generation<T>, Exhausted>
         requires { self.now.number < 2 ^ 64 - 1 }
         ensures next { IfOk result (λ next. next ≡ next_generation self.now tip) }

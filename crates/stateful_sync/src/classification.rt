@@ -1,8 +1,11 @@
-//! Blocks that were finalized during a sync, against the block that the databases have converged to.
+//! Blocks that were finalized during a sync, against the block that the databases have converged
+//! to.
 
 ghost use Rattle.std.specs.Prelude.{◌≡◌, ◌≢◌, ◌⊎◌, ◌<◌, ◌≤◌, map, IfOk, IfErr, OnOk, IsErrOf};
 ghost use Rattle.std.specs.List.Sorted.{IsPermutation, IsNonDecreasingBy};
-ghost use Rattle.stateful_sync.specs.Classify.{anchored, height_at, handover_at, retained_of, Passes, Leads, Refuses, RefusesAt, IsByHeight, IsClassified, IsRefusal, IsConsistent};
+ghost use Rattle.stateful_sync.specs.Classify.{anchored, height_at, handover_at, retained_of};
+ghost use Rattle.stateful_sync.specs.Classify.{Passes, Leads, Refuses, RefusesAt, IsByHeight};
+ghost use Rattle.stateful_sync.specs.Classify.{IsClassified, IsRefusal, IsConsistent};
 
 use crate::handover::{Handover, Point};
 use stateful_plan::SyncError;
@@ -10,13 +13,14 @@ use stateful_types::{Anchor, Block, Digested, Height};
 use std::alloc::Global;
 use std::cmp::Ordering;
 
-/// Says of each block that was finalized during a sync, with the ticket of its receipt, what becomes of it once the
-/// databases have converged to this anchor.
+/// Says of each block that was finalized during a sync, with the ticket of its receipt, what
+/// becomes of it once the databases have converged to this anchor.
 ///
-/// The blocks are taken by ascending heights, and equal heights in the order in which they were retained. Those below the
-/// anchor are covered, and the anchor's own is reflected. From the anchor on each one has to be the block before it again,
-/// or of the next height: `SkippedHeight` where it is above that, and `ConflictAtAnchor` where it is another block of the
-/// same height. The first that is neither is told.
+/// The blocks are taken by ascending heights, and equal heights in the order in which they were
+/// retained. Those below the anchor are covered, and the anchor's own is reflected. From the anchor
+/// on each one has to be the block before it again, or of the next height: `SkippedHeight` where it
+/// is above that, and `ConflictAtAnchor` where it is another block of the same height. The first
+/// that is neither is told.
 pub fn classify<B: Block + Drop>(
     alloc: Global,
     anchor: Anchor,

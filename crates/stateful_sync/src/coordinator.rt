@@ -1,8 +1,11 @@
 //! The coordinator of a sync of several databases.
 
-ghost use Rattle.std.specs.Prelude.{◌≡◌, ◌+◌, ◌-◌, ◌^◌, ◌<◌, ◌≤◌, ◌↔◌, length, map, replicate, None, Some, IsTrue, IfOk, OnErr, IsErr};
-ghost use Rattle.stateful_sync.specs.Assigned.{once_reached, once_marked, unless_reached, unless_assigned, StandAs};
-ghost use Rattle.stateful_sync.specs.Coordinator.{Seeks, IsInOrder, ChangesAt, TakesTip, Acts, IsNewest, NeedsNumber, tip_of};
+ghost use Rattle.std.specs.Prelude.{◌≡◌, ◌+◌, ◌-◌, ◌^◌, ◌<◌, ◌≤◌, ◌↔◌, length, map, replicate};
+ghost use Rattle.std.specs.Prelude.{None, Some, IsTrue, IfOk, OnErr, IsErr};
+ghost use Rattle.stateful_sync.specs.Assigned.{once_reached, once_marked, unless_reached};
+ghost use Rattle.stateful_sync.specs.Assigned.{unless_assigned, StandAs};
+ghost use Rattle.stateful_sync.specs.Coordinator.{Seeks, IsInOrder, ChangesAt, TakesTip, Acts};
+ghost use Rattle.stateful_sync.specs.Coordinator.{IsNewest, NeedsNumber, tip_of};
 ghost use Rattle.stateful_sync.specs.Laws.{KeepsLaws};
 ghost use Rattle.stateful_sync.specs.declared.action.DbSyncState.TheVariants as states;
 
@@ -13,13 +16,15 @@ use stateful_types::{Anchor, OutOfMemory};
 use std::alloc::Global;
 use std::marker::Model;
 
-/// Brings several databases to what one and the same block commits to, while later blocks are finalized.
+/// Brings several databases to what one and the same block commits to, while later blocks are
+/// finalized.
 ///
-/// Blocks are numbered as generations in the order in which they are dispatched. Each database is assigned a generation,
-/// and seeks it until it has reached it. A recorded tip is dispatched, as a new generation, to the databases that still
-/// seek. So those that have reached their generation aren't sent on before all have, and where all have reached
-/// different ones the greatest goes to the others. All have converged once they have reached one generation and no
-/// further tip is recorded.
+/// Blocks are numbered as generations in the order in which they are dispatched. Each database is
+/// assigned a generation, and seeks it until it has reached it. A recorded tip is dispatched, as a
+/// new generation, to the databases that still seek. So those that have reached their generation
+/// aren't sent on before all have, and where all have reached different ones the greatest goes to
+/// the others. All have converged once they have reached one generation and no further tip is
+/// recorded.
 ///
 /// At the start every database seeks generation 0. Whoever makes the coordinator starts them.
 #[derive(Drop)]
@@ -79,8 +84,8 @@ impl<T: Copy> CoordinatorState<T> {
         })
     }
 
-    /// The database of this number says that it has reached this generation. It counts where that is the one that it is
-    /// assigned, since the word may come late.
+    /// The database of this number says that it has reached this generation. It counts where that
+    /// is the one that it is assigned, since the word may come late.
     pub fn record_reached(&mut self, index: usize, generation: u64)
         requires { index < length self.old.databases }
         ensures reached { ChangesAt self.old index (once_reached generation) self.new }
@@ -90,8 +95,8 @@ impl<T: Copy> CoordinatorState<T> {
         self.databases[index] = self.databases[index].once_reached(generation);
     }
 
-    /// A further block was finalized, which is dispatched next. It counts where it is above the one that would be, or
-    /// else above the last one that was.
+    /// A further block was finalized, which is dispatched next. It counts where it is above the one
+    /// that would be, or else above the last one that was.
     pub fn record_tip_update(&mut self, anchor: Anchor, targets: T)
         ensures takes { TakesTip self.old (tip_of anchor targets) self.new }
         ensures count { length self.new.databases ≡ length self.old.databases }
@@ -103,8 +108,8 @@ impl<T: Copy> CoordinatorState<T> {
         }
     }
 
-    /// What is to be done next, and assigns what it dispatches. It is refused where the next generation would have the
-    /// last number that there is.
+    /// What is to be done next, and assigns what it dispatches. It is refused where the next
+    /// generation would have the last number that there is.
     pub fn next_action(&mut self) -> Result<CoordinatorAction<T>, Exhausted>
         ensures acts { IfOk result (λ action. Acts self.old action self.new) }
         ensures newest { IfOk result (λ action. IsNewest action self.new) }
@@ -145,8 +150,8 @@ impl<T: Copy> CoordinatorState<T> {
         !self.databases[index].is_reached()
     }
 
-    /// The database of this number has the same target in the newest generation as in the one that it has reached. It
-    /// counts where it has reached one.
+    /// The database of this number has the same target in the newest generation as in the one that
+    /// it has reached. It counts where it has reached one.
     pub fn mark_reached_same_target(&mut self, index: usize, generation: u64)
         requires database { index < length self.old.databases }
         requires newest { generation ≡ self.old.newest.number }

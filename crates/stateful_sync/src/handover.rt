@@ -9,7 +9,8 @@ pub enum Handover<B> {
     Covered { ticket: u64, block: Digested<B> },
     /// It is the anchor's block, so its effects are there.
     Reflected { ticket: u64, block: Digested<B> },
-    /// It is above the anchor, and is to be applied. Where several have the same block it is applied once.
+    /// It is above the anchor, and is to be applied. Where several have the same block it is
+    /// applied once.
     Apply { ticket: u64, block: Digested<B> },
 }
 

@@ -1,13 +1,14 @@
-//! What a sync of databases decides by itself: which targets they go for, when they have converged, and what becomes of
-//! the blocks that were finalized meanwhile.
+//! What a sync of databases decides by itself: which targets they go for, when they have converged,
+//! and what becomes of the blocks that were finalized meanwhile.
 //!
-//! A sync begins at a finalized block, and goes on while later ones are finalized. A [`CoordinatorState`] brings all
-//! databases to what one and the same block commits to. A [`Mailbox`] carries the newest finalized block to the sync,
-//! and tells each caller whether its block was recorded or the sync had ended by then. Once the databases have
-//! converged, [`classify`] says which of the retained blocks they already hold, and which are to be applied.
+//! A sync begins at a finalized block, and goes on while later ones are finalized. A
+//! [`CoordinatorState`] brings all databases to what one and the same block commits to. A
+//! [`Mailbox`] carries the newest finalized block to the sync, and tells each caller whether its
+//! block was recorded or the sync had ended by then. Once the databases have converged,
+//! [`classify`] says which of the retained blocks they already hold, and which are to be applied.
 //!
-//! What a node remembers of its sync, and from which block one starts, is `stateful_plan`'s. Its items are handed on, so that
-//! this crate is the one to import.
+//! What a node remembers of its sync, and from which block one starts, is `stateful_plan`'s. Its
+//! items are handed on, so that this crate is the one to import.
 #![tactic(auto)]
 
 mod action;

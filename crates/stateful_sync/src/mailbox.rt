@@ -1,7 +1,9 @@
 //! The mailbox of a sync.
 
-ghost use Rattle.std.specs.Prelude.{◌≡◌, ◌-◌, ◌^◌, ◌<◌, ◌↔◌, ◌&&◌, [], None, length, IfOk, OnErr, IsErrOf};
-ghost use Rattle.stateful_sync.specs.Mailbox.{Draws, HandsOut, Responds, Observes, Polls, once_answered, once_recorded};
+ghost use Rattle.std.specs.Prelude.{◌≡◌, ◌-◌, ◌^◌, ◌<◌, ◌↔◌, ◌&&◌, [], None, length, IfOk, OnErr};
+ghost use Rattle.std.specs.Prelude.{IsErrOf};
+ghost use Rattle.stateful_sync.specs.Mailbox.{Draws, HandsOut, Responds, Observes, Polls};
+ghost use Rattle.stateful_sync.specs.Mailbox.{once_answered, once_recorded};
 ghost use Rattle.stateful_sync.specs.MailboxLaws.{KeepsLaws};
 
 use crate::tip::{Tip, TipUpdate};
@@ -48,14 +50,15 @@ impl<T: Copy> Update<T> {
 
 /// Carries the newest finalized block to a sync, and tells each caller what became of its own.
 ///
-/// A caller draws a ticket for its block by `retarget`, and asks with it by `poll`. The sync takes the newest block by
-/// `next`. It answers with nothing, or with the anchor to which its databases have converged, by `respond`, and says by
-/// `observed` whether the block was recorded or dropped unread. A ticket gives None once its block was answered with
-/// nothing and recorded; until then it gives the anchor, once there is one.
+/// A caller draws a ticket for its block by `retarget`, and asks with it by `poll`. The sync takes
+/// the newest block by `next`. It answers with nothing, or with the anchor to which its databases
+/// have converged, by `respond`, and says by `observed` whether the block was recorded or dropped
+/// unread. A ticket gives None once its block was answered with nothing and recorded; until then it
+/// gives the anchor, once there is one.
 ///
-/// Only the newest block waits. Where one is replaced by a newer one, its ticket is pending until there is an anchor. One
-/// that was dropped unread waits again, unless a newer one does. Tickets are numbers of updates, from 0 on. An update is
-/// kept as long as the mailbox is.
+/// Only the newest block waits. Where one is replaced by a newer one, its ticket is pending until
+/// there is an anchor. One that was dropped unread waits again, unless a newer one does. Tickets
+/// are numbers of updates, from 0 on. An update is kept as long as the mailbox is.
 #[derive(Drop)]
 pub struct Mailbox<T> {
     updates: Vec<Update<T>>,
@@ -96,7 +99,8 @@ impl<T: Copy> Mailbox<T> {
         }
     }
 
-    /// A block was finalized that commits to these targets. Answers the ticket, which is also the update's number.
+    /// A block was finalized that commits to these targets. Answers the ticket, which is also the
+    /// update's number.
     pub fn retarget(&mut self, anchor: Anchor, targets: T) -> Result<u64, DrawError>
         ensures drawn { IfOk result (λ ticket. Draws self.old anchor targets ticket self.new) }
         ensures within { IfOk result (λ ticket. ticket < length self.new.updates) }
@@ -134,8 +138,8 @@ impl<T: Copy> Mailbox<T> {
         ))
     }
 
-    /// The sync answers an update with nothing, or with the anchor to which its databases have converged. The first anchor
-    /// counts.
+    /// The sync answers an update with nothing, or with the anchor to which its databases have
+    /// converged. The first anchor counts.
     pub fn respond(&mut self, number: u64, answer: Option<Anchor>)
         requires { number < length self.old.updates }
         ensures responds { Responds self.old number answer self.new }
@@ -165,8 +169,8 @@ impl<T: Copy> Mailbox<T> {
         }
     }
 
-    /// What became of the update of a ticket: None once it was answered with nothing and recorded, else the anchor, once
-    /// there is one.
+    /// What became of the update of a ticket: None once it was answered with nothing and recorded,
+    /// else the anchor, once there is one.
     pub fn poll(&mut self, ticket: u64) -> Moved<Option<Anchor>>
         requires { ticket < length self.old.updates }
         ensures polls { Polls self.old ticket result }

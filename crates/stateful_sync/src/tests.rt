@@ -196,8 +196,8 @@ fn block(alloc: Global, height: u64, number: u8) -> Result<Digested<Numbered>, O
     Digested::compute(alloc, Numbered { place, number })
 }
 
-/// What becomes of blocks of these heights and numbers, which were retained under ascending tickets, against that of
-/// height 2 and number 0: a letter, and the ticket.
+/// What becomes of blocks of these heights and numbers, which were retained under ascending
+/// tickets, against that of height 2 and number 0: a letter, and the ticket.
 fn classified(alloc: Global, blocks: &[(u64, u8)]) -> Result<Vec<(char, u64)>, SyncError> {
     let anchor = Anchor::from_block(&block(alloc, 2, 0)?);
     let mut retained = Vec::new(alloc);
@@ -241,7 +241,8 @@ fn blocks_are_classified_by_their_heights(rt: HostRuntime) -> Result<(), Fail> {
     Ok(())
 }
 
-/// A mailbox to which the block of height 7 was sent, with targets 9, and was answered with nothing.
+/// A mailbox to which the block of height 7 was sent, with targets 9, and was answered with
+/// nothing.
 fn sent(rt: &impl Abort, alloc: Global) -> Result<Mailbox<u64>, Fail>
     ensures { IfOk result (λ mailbox. 0 < length mailbox.updates) }
 {

@@ -16,7 +16,8 @@ pub(crate) struct Tip<T> {
 pub struct TipUpdate<T> {
     pub anchor: Anchor,
     pub targets: T,
-    /// The number under which a mailbox is told whether the update was recorded. None where nobody waits for it.
+    /// The number under which a mailbox is told whether the update was recorded. None where nobody
+    /// waits for it.
     pub observed: Option<u64>,
 }
 
@@ -32,7 +33,8 @@ impl<T: Copy> TipUpdate<T> {
         }
     }
 
-    /// Its parts, for whoever records it. Where there is a number, its mailbox is to be told that it was recorded.
+    /// Its parts, for whoever records it. Where there is a number, its mailbox is to be told that
+    /// it was recorded.
     pub fn record(self) -> (Anchor, T, Option<u64>)
         ensures { result ≡ (self.anchor, self.targets, self.observed) }
     {

@@ -1,5 +1,6 @@
 -- Values by number, as lists of numbers with their values.
-use Rattle.std.specs.Prelude.{ℕ, ◌==◌, not, Option, None, Some, option_map, List, [], ◌∷◌, filter, sum_by}
+use Rattle.std.specs.Prelude.{ℕ, ◌==◌, not, Option, None, Some, option_map, List, [], ◌∷◌, filter}
+use Rattle.std.specs.Prelude.{sum_by}
 use Rattle.std.specs.Option.{unwrap_or}
 use Rattle.std.specs.Ordering.{nat_cmp}
 use Rattle.std.specs.BTreeMap.{is_at, insert_entry}

@@ -1,6 +1,7 @@
 //! Values by number.
 
-ghost use Rattle.std.specs.Prelude.{◌≡◌, ◌+◌, ◌^◌, ◌<◌, ℕ, [], None, is_some, IsSome, OnOk, OnErr, length};
+ghost use Rattle.std.specs.Prelude.{◌≡◌, ◌+◌, ◌^◌, ◌<◌, ℕ, [], None, is_some, IsSome, OnOk, OnErr};
+ghost use Rattle.std.specs.Prelude.{length};
 ghost use Rattle.std.specs.Option.{option_copied};
 ghost use Rattle.stateful_table.specs.Table.{at, put, without, total, weight_of, first_of};
 
@@ -9,7 +10,8 @@ use std::alloc::Global;
 use std::collections::BTreeMap;
 use std::marker::Model;
 
-/// Values by number, which contracts see as the list of numbers with their values, by ascending numbers.
+/// Values by number, which contracts see as the list of numbers with their values, by ascending
+/// numbers.
 #[derive(Drop)]
 pub struct Table<V> {
     entries: BTreeMap<u64, V>,
@@ -84,8 +86,8 @@ impl<V: Drop> Table<V> {
         self.entries
     }
 
-    /// Puts a value at a number, in place of the one that was there. That takes memory only where there was none.
-    /// A value put there later leaves nothing of this one.
+    /// Puts a value at a number, in place of the one that was there. That takes memory only where
+    /// there was none. A value put there later leaves nothing of this one.
     pub fn put(&mut self, number: u64, value: V) -> Result<(), OutOfMemory>
         ensures ok { OnOk result (self.new ≡ put self.old number value) }
         ensures sums { OnOk result ((weigh : V → ℕ)

@@ -13,7 +13,8 @@ is_of digest label = bytes_eq label.digest.0 digest.0
 
 -- each digest has the place of its first label, where these labels are those from a place on
 abbrev pub IsIndexFrom : ℕ → List Label → BTreeMap Digest ℕ → Type 0
-IsIndexFrom place labels places = (d : Digest) → get digest_cmp places d ≡ position_from (is_of d) place labels
+IsIndexFrom place labels places =
+    (d : Digest) → get digest_cmp places d ≡ position_from (is_of d) place labels
 
 abbrev pub IsIndex : List Label → BTreeMap Digest ℕ → Type 0
 IsIndex labels places = IsIndexFrom 0 labels places

@@ -1,11 +1,19 @@
 -- What the lines of marks tell.
-use Rattle.std.specs.Prelude.{◌≡◌, ◌≢◌, ℕ, ◌^◌, ◌<◌, List, Option, Some, None, IfSome, All, Contains, slice_index}
+use Rattle.std.specs.Prelude.{◌≡◌, ◌≢◌, ℕ, ◌^◌, ◌<◌, List, Option, Some, None, IfSome, All}
+use Rattle.std.specs.Prelude.{Contains, slice_index}
 use Rattle.stateful_types.specs.Names.{Header, Named}
 use Rattle.stateful_types.specs.Anchor.{anchor_by}
 use Rattle.stateful_types.specs.declared.digest.Digest.{Digest}
 use Rattle.stateful_types.specs.declared.anchor.Anchor.{Anchor}
 use Rattle.stateful_history.specs.declared.mark.Mark.{Mark}
-use Rattle.stateful_history.specs.declared.mark.Mark.TheVariants.{Opened, Converged, Asked, Withdrawn, Started, Ended, Built, Verdict, Answered, Declined, Databases, Began, Applied, BarrierBegun, BarrierDone, Acknowledged, Dropped, Recorded, Dispatched, Pruned, Completed, Stopped}
+use Rattle.stateful_history.specs.declared.mark.Mark.TheVariants.{Opened, Converged, Asked}
+use Rattle.stateful_history.specs.declared.mark.Mark.TheVariants.{Withdrawn, Started, Ended, Built}
+use Rattle.stateful_history.specs.declared.mark.Mark.TheVariants.{Verdict, Answered, Declined}
+use Rattle.stateful_history.specs.declared.mark.Mark.TheVariants.{Databases, Began, Applied}
+use Rattle.stateful_history.specs.declared.mark.Mark.TheVariants.{BarrierBegun, BarrierDone}
+use Rattle.stateful_history.specs.declared.mark.Mark.TheVariants.{Acknowledged, Dropped, Recorded}
+use Rattle.stateful_history.specs.declared.mark.Mark.TheVariants.{Dispatched, Pruned, Completed}
+use Rattle.stateful_history.specs.declared.mark.Mark.TheVariants.{Stopped}
 use Rattle.stateful_text.specs.declared.shown.Label.{Label}
 
 -- a name without spaces and control bytes, that doesn't begin with a question mark
@@ -15,18 +23,24 @@ IsPlain name = All (λ byte. 32 < byte) name × (slice_index name 0 ≢ 63)
 -- labels that tell digests apart
 pub record TellsApart (labels : List Label) : Type 0 where
   pub plain : (label : Label) → Contains labels label → IsPlain label.name
-  pub apart : (x y : Label) → Contains labels x → Contains labels y → x.name ≡ y.name → x.digest ≡ y.digest
+  pub apart : (x y : Label)
+      → Contains labels x
+      → Contains labels y
+      → x.name ≡ y.name
+      → x.digest ≡ y.digest
 
 -- an anchor without its round
 abbrev pub without_round : Anchor → Anchor
-without_round anchor = record anchor { round = record { epoch = record { 0 = 0 }; view = record { 0 = 0 } } }
+without_round anchor =
+    record anchor { round = record { epoch = record { 0 = 0 }; view = record { 0 = 0 } } }
 
 -- a block by its digest alone
 abbrev pub by_digest : {B : Type 0} → Named B → Named (Option ℕ)
 by_digest block = record { digest = block.digest; block = None }
 
 module _ {B : Type 0} (height_of : B → ℕ) where
-  -- What a line tells of a mark: of anchors no round, of blocks their digests, and the height of one that was applied.
+  -- What a line tells of a mark: of anchors no round, of blocks their digests, and the height of
+  -- one that was applied.
   abbrev pub told : Mark B → Mark (Option ℕ)
   told (Opened anchor) = Opened (without_round anchor)
   told (Converged anchor) = Converged (without_round anchor)
@@ -40,7 +54,8 @@ module _ {B : Type 0} (height_of : B → ℕ) where
   told (Declined ticket) = Declined ticket
   told (Databases ticket) = Databases ticket
   told (Began ticket block) = Began ticket (by_digest block)
-  told (Applied block) = Applied (record { digest = block.digest; block = Some (height_of block.block) })
+  told (Applied block) =
+      Applied (record { digest = block.digest; block = Some (height_of block.block) })
   told (BarrierBegun barrier height) = BarrierBegun barrier height
   told (BarrierDone barrier height good) = BarrierDone barrier height good
   told (Acknowledged ticket height) = Acknowledged ticket height

@@ -16,7 +16,8 @@ module _ {B : Type 0} (height_of : B → ℕ) (labels : List Label) where
   module _ {C I : Type 0} where
     -- a number sign and the entry's number, and a line for each mark
     abbrev pub entry_lines : ℕ × Entry B C I → List ℕ
-    entry_lines (number, entry) = line (codes "#" ++ decimal number) [] ++ flat_map (mark_line height_of labels) entry.marks
+    entry_lines (number, entry) =
+        line (codes "#" ++ decimal number) [] ++ flat_map (mark_line height_of labels) entry.marks
 
     -- the lines of entries that are numbered from here on
     abbrev pub entries_from : ℕ → List (Entry B C I) → List ℕ
@@ -28,7 +29,9 @@ balance_text (account, balance) = decimal account ++ codes "=" ++ decimal balanc
 
 -- the line of a database, by its number
 abbrev pub database_line : ℕ × Shown → List ℕ
-database_line (number, Balances start end balances) = line (codes "database") (decimal number ∷ (decimal start ++ codes ".." ++ decimal end) ∷ map balance_text balances)
+database_line (number, Balances start end balances) =
+    line (codes "database")
+    (decimal number ∷ (decimal start ++ codes ".." ++ decimal end) ∷ map balance_text balances)
 database_line (number, Closed) = line (codes "database") (decimal number ∷ codes "closed" ∷ [])
 database_line (number, Lost) = line (codes "database") (decimal number ∷ codes "lost" ∷ [])
 database_line (number, Away) = line (codes "database") (decimal number ∷ codes "away" ∷ [])
@@ -46,11 +49,18 @@ abbrev pub end_line : Ending → List ℕ
 end_line WithLast = line (codes "done") []
 end_line (HaltedAt at name) = line (codes "halted") (decimal at ∷ name ∷ [])
 
--- The entries and then the databases by their numbers from 0 on, and how it ended. Lines name blocks by these labels,
--- and a line that has a block's height takes it from the block.
-abbrev pub transcript : {B C I : Type 0} → (B → ℕ) → List Label → List (Entry B C I) → List Shown → Ending → List ℕ
+-- The entries and then the databases by their numbers from 0 on, and how it ended. Lines name
+-- blocks by these labels, and a line that has a block's height takes it from the block.
+abbrev pub transcript : {B C I : Type 0}
+    → (B → ℕ)
+    → List Label
+    → List (Entry B C I)
+    → List Shown
+    → Ending
+    → List ℕ
 transcript height_of labels entries databases ending =
-    entries_from height_of labels 0 entries ++ flat_map database_line (enumerate_from 0 databases) ++ end_line ending
+    entries_from height_of labels 0 entries ++ flat_map database_line (enumerate_from 0 databases)
+    ++ end_line ending
 
 -- what is written where the program is called with other words
 abbrev pub usage_line : List ℕ

@@ -1,5 +1,5 @@
-//! The text of a history: a line for each mark, a line for each database, and how it ended. Also the lines that are
-//! written where there is no history.
+//! The text of a history: a line for each mark, a line for each database, and how it ended. Also
+//! the lines that are written where there is no history.
 #![tactic(auto)]
 
 mod label;

@@ -1,7 +1,8 @@
 //! The line of a mark.
 
 ghost use Rattle.std.specs.Prelude.{◌≡◌, ◌++◌, OnOk};
-ghost use Rattle.stateful_text.specs.Mark.{kind_word, how_word, decision_word, truth_word, done_word, mark_line};
+ghost use Rattle.stateful_text.specs.Mark.{kind_word, how_word, decision_word, truth_word};
+ghost use Rattle.stateful_text.specs.Mark.{done_word, mark_line};
 
 use crate::line::{Field, Lines};
 use stateful_history::{Decision, How, JobKind, Mark};

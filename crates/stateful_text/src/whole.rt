@@ -2,8 +2,10 @@
 
 ghost use Rattle.std.specs.Prelude.{◌≡◌, ◌++◌, ◌∷◌, IfOk, OnOk};
 ghost use Rattle.std.specs.List.{flat_map, enumerate_from};
-ghost use Rattle.stateful_text.specs.Transcript.{entry_lines, entries_from, balance_text, database_line};
-ghost use Rattle.stateful_text.specs.Transcript.{end_line, ending_of, transcript, usage_line, script_line};
+ghost use Rattle.stateful_text.specs.Transcript.{entry_lines, entries_from, balance_text};
+ghost use Rattle.stateful_text.specs.Transcript.{database_line};
+ghost use Rattle.stateful_text.specs.Transcript.{end_line, ending_of, transcript, usage_line};
+ghost use Rattle.stateful_text.specs.Transcript.{script_line};
 ghost use Rattle.stateful_text.specs.declared.shown.Shown.TheVariants.{Balances};
 
 use crate::label::Labels;

@@ -31,5 +31,7 @@ two_cases tag f other g = either (tagged tag f) (tagged other g)
 -- a format whose spellings begin with one of these bytes
 pub record IsTaggedBy {X : Type 0} (whole : Format X) (IsTag : ℕ → Type 0) : Type 0 where
   pub law : IsFormat whole
-  pub begins : (x : X) → whole.fits x → (tag : ℕ) × (rest : List ℕ) × IsTag tag × (whole.spelling x ≡ tag ∷ rest)
+  pub begins : (x : X)
+      → whole.fits x
+      → (tag : ℕ) × (rest : List ℕ) × IsTag tag × (whole.spelling x ≡ tag ∷ rest)
   pub bytes : (tag : ℕ) → IsTag tag → tag < 2 ^ 8

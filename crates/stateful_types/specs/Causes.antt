@@ -1,5 +1,6 @@
 -- Counts of faults, and what a failed call says of them.
-use Rattle.std.specs.Prelude.{ℕ, ◌+◌, ◌-◌, ◌^◌, ◌≤◌, ◌==◌, min, Bool, if◌then◌else◌, List, Result, OnErr}
+use Rattle.std.specs.Prelude.{ℕ, ◌+◌, ◌-◌, ◌^◌, ◌≤◌, ◌==◌, min, Bool, if◌then◌else◌, List, Result}
+use Rattle.std.specs.Prelude.{OnErr}
 use Rattle.std.specs.List.{list_any}
 
 -- one more, or the last number that there is

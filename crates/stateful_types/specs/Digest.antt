@@ -8,7 +8,9 @@ use Rattle.stateful_types.specs.declared.digest.Digest.{Digest}
 
 -- 32 bytes
 abbrev pub digest_format : Format Digest
-digest_format = record { fits = λ d. (bytes_format 32).fits d.0; spelling = λ d. (bytes_format 32).spelling d.0 }
+digest_format =
+    record
+    { fits = λ d. (bytes_format 32).fits d.0; spelling = λ d. (bytes_format 32).spelling d.0 }
 
 -- by their bytes, from the first on
 abbrev pub digest_cmp : Digest → Digest → Ordering

@@ -6,7 +6,12 @@ use Rattle.stateful_types.specs.Number.{u32_format}
 
 -- so many items, one behind the other
 abbrev pub exactly_format : {A : Type 0} → ℕ → Format A → Format (List A)
-exactly_format count item = record { fits = λ xs. (length xs ≡ count) × All item.fits xs; spelling = λ xs. flat_map item.spelling xs }
+exactly_format count item =
+    record {
+      fits =
+          λ xs. (length xs ≡ count) × All item.fits xs;
+      spelling = λ xs. flat_map item.spelling xs;
+    }
 
 -- how many items there are, and then the items
 abbrev pub items_format : {A : Type 0} → Format A → Format (List A)

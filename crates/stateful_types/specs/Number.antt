@@ -11,7 +11,9 @@ use Rattle.stateful_types.specs.declared.number.Location.{Location}
 
 -- so many bytes, as they are
 abbrev pub bytes_format : ℕ → Format (List ℕ)
-bytes_format n = record { fits = λ bytes. (length bytes ≡ n) × All (λ b. b < 2 ^ 8) bytes; spelling = λ bytes. bytes }
+bytes_format n =
+    record
+    { fits = λ bytes. (length bytes ≡ n) × All (λ b. b < 2 ^ 8) bytes; spelling = λ bytes. bytes }
 
 -- one byte
 abbrev pub u8_format : Format ℕ
@@ -27,7 +29,13 @@ u64_format = record { fits = λ n. n < 2 ^ 64; spelling = to_be_bytes w64 }
 
 -- eight bytes, which are not all 0
 abbrev pub nonzero_format : Format NonZeroU64
-nonzero_format = record { fits = λ n. u64_format.fits (non_zero_u64_get n); spelling = λ n. u64_format.spelling (non_zero_u64_get n) }
+nonzero_format =
+    record {
+      fits =
+          λ n. u64_format.fits (non_zero_u64_get n);
+      spelling =
+          λ n. u64_format.spelling (non_zero_u64_get n);
+    }
 
 abbrev pub height_format : Format Height
 height_format = record { fits = λ h. u64_format.fits h.0; spelling = λ h. u64_format.spelling h.0 }
@@ -39,4 +47,5 @@ abbrev pub view_format : Format View
 view_format = record { fits = λ v. u64_format.fits v.0; spelling = λ v. u64_format.spelling v.0 }
 
 abbrev pub location_format : Format Location
-location_format = record { fits = λ l. u64_format.fits l.0; spelling = λ l. u64_format.spelling l.0 }
+location_format =
+    record { fits = λ l. u64_format.fits l.0; spelling = λ l. u64_format.spelling l.0 }

@@ -17,7 +17,8 @@ response_fits op (Boundary before operation) = digest_format.fits before × op.f
 -- byte 0, the number of operations and each of them, or byte 1, the digest and the operation
 abbrev pub response_bytes : {Op : Type 0} → Format Op → Response Op → List ℕ
 response_bytes op (Operations operations) = 0 ∷ [] ++ (items_format op).spelling operations
-response_bytes op (Boundary before operation) = 1 ∷ [] ++ digest_format.spelling before ++ op.spelling operation
+response_bytes op (Boundary before operation) =
+    1 ∷ [] ++ digest_format.spelling before ++ op.spelling operation
 
 abbrev pub response_format : {Op : Type 0} → Format Op → Format (Response Op)
 response_format op = record { fits = response_fits op; spelling = response_bytes op }

@@ -6,7 +6,9 @@ use Rattle.stateful_types.specs.declared.round.Round.{Round}
 
 -- the second round comes after the first: by epoch, and then by view
 abbrev pub IsLater : Round → Round → Type 0
-IsLater first second = (first.epoch.0 < second.epoch.0) ⊎ ((first.epoch.0 ≡ second.epoch.0) × (first.view.0 < second.view.0))
+IsLater first second =
+    (first.epoch.0 < second.epoch.0)
+    ⊎ ((first.epoch.0 ≡ second.epoch.0) × (first.view.0 < second.view.0))
 
 -- the epoch, and then the view
 abbrev pub round_format : Format Round

@@ -1,5 +1,6 @@
 -- Certificates of votes: how long they are, and which hold.
-use Rattle.std.proofs.Common.{◌≡◌, ℕ, zero, suc, ◌+◌, ◌*◌, ◌<◌, ◌≤◌, List, [], ◌∷◌, length, refl, arith, add-one, length-append}
+use Rattle.std.proofs.Common.{◌≡◌, ℕ, zero, suc, ◌+◌, ◌*◌, ◌<◌, ◌≤◌, List, [], ◌∷◌, length, refl}
+use Rattle.std.proofs.Common.{arith, add-one, length-append}
 use Rattle.std.specs.Prelude.{slice_index}
 use Rattle.std.specs.List.{flat_map}
 use Rattle.std.specs.List.Sorted.{IsStrictlyIncreasing}
@@ -11,7 +12,8 @@ length-numbers [] = refl
 length-numbers (x ∷ xs) = simp length-append (omega (arith, length-numbers xs))
 
 -- four bytes for the number of signers, and four for each
-pub length-votes : (signers : List ℕ) → length (votes_format.spelling signers) ≡ 4 + 4 * length signers
+pub length-votes : (signers : List ℕ)
+    → length (votes_format.spelling signers) ≡ 4 + 4 * length signers
 length-votes signers = simp length-append (omega (arith, length-numbers signers))
 
 -- the k-th of ascending numbers is at least k
@@ -23,12 +25,19 @@ climbs xs up (suc k) lt =
     omega arith
 
 -- ascending numbers below n are at most n
-at_most : (n k : ℕ) (signers : List ℕ) → IsQuorum n signers → length signers ≡ k → length signers ≤ n
+at_most : (n k : ℕ) (signers : List ℕ)
+    → IsQuorum n signers
+    → length signers ≡ k
+    → length signers ≤ n
 at_most n zero signers quorum e = omega arith
 at_most n (suc k) signers quorum e =
     let last : k ≤ slice_index signers k = climbs signers quorum.ascending k (omega arith) in
     let below : slice_index signers k < n = quorum.known k 0 (omega arith) in
     omega arith
 
-pub votes_bounded : {n participants : ℕ} {signers : List ℕ} → IsQuorum n signers → n ≤ participants → length (votes_format.spelling signers) ≤ 4 + 4 * participants
-votes_bounded {n} {participants} {signers} quorum few = omega (arith, length-votes signers, at_most n (length signers) signers quorum refl)
+pub votes_bounded : {n participants : ℕ} {signers : List ℕ}
+    → IsQuorum n signers
+    → n ≤ participants
+    → length (votes_format.spelling signers) ≤ 4 + 4 * participants
+votes_bounded {n} {participants} {signers} quorum few =
+    omega (arith, length-votes signers, at_most n (length signers) signers quorum refl)

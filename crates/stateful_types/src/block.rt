@@ -44,7 +44,8 @@ pub trait Block {
         ensures { OnOk result (out.new.items ≡ out.old.items ++ header.bytes self.now) };
 }
 
-/// A shared block with its digest, the SHA-256 of its bytes. To a contract it is the block and the digest.
+/// A shared block with its digest, the SHA-256 of its bytes. To a contract it is the block and the
+/// digest.
 #[derive(Debug, Drop)]
 pub struct Digested<B> {
     digest: Digest,

@@ -1,5 +1,5 @@
-//! Reading values from the front of some bytes, and writing them behind others. All numbers have a fixed width, the
-//! highest byte first.
+//! Reading values from the front of some bytes, and writing them behind others. All numbers have a
+//! fixed width, the highest byte first.
 
 ghost use Rattle.std.specs.Prelude.{◌≡◌, drop, IsErrOf};
 ghost use Rattle.stateful_types.specs.Format.{Reads, Writes, end_of};
@@ -96,7 +96,8 @@ pub fn read_u64(input: &mut Bytes) -> Result<u64, CodecError>
     Ok(u64::from_be_bytes(read_array(input)?))
 }
 
-/// Whether nothing is left behind a whole value. Bytes that are left over are refused at the first of them.
+/// Whether nothing is left behind a whole value. Bytes that are left over are refused at the first
+/// of them.
 pub fn end_of(input: &Bytes) -> Result<(), CodecError>
     ensures { result ≡ end_of input.now }
 {

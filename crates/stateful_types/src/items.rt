@@ -1,6 +1,7 @@
 //! Lists, as contracts see them.
 
-ghost use Rattle.std.specs.Prelude.{◌≡◌, ◌++◌, ◌∷◌, [], ◌==◌, IfOk, IfErr, if◌then◌else◌, is_ok, length};
+ghost use Rattle.std.specs.Prelude.{◌≡◌, ◌++◌, ◌∷◌, [], ◌==◌, IfOk, IfErr, if◌then◌else◌, is_ok};
+ghost use Rattle.std.specs.Prelude.{length};
 
 use crate::share::{OutOfMemory, Share};
 use std::alloc::{AllocFailed, Global};

@@ -25,7 +25,7 @@ pub struct MemoryLatest<C> {
 }
 
 impl<C: Share> Latest<C> for MemoryLatest<C> {
-    ghost newest = { λ held. held.finalization };
+    ghost newest = { λ latest. latest.finalization };
 
     fn latest(&self) -> Result<Option<Finalization<C>>, OutOfMemory> {
         match &self.finalization {

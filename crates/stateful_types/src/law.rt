@@ -2,7 +2,8 @@
 
 ghost use Rattle.std.specs.Prelude.{◌≡◌};
 ghost use Rattle.stateful_types.specs.Format.{IsFormat};
-ghost use Rattle.stateful_types.specs.Number.{u8_format, u32_format, u64_format, height_format, location_format};
+ghost use Rattle.stateful_types.specs.Number.{u8_format, u32_format, u64_format, height_format};
+ghost use Rattle.stateful_types.specs.Number.{location_format};
 ghost use Rattle.stateful_types.specs.Digest.{digest_format};
 ghost use Rattle.stateful_types.specs.Round.{round_format};
 ghost use Rattle.stateful_types.specs.Vote.{votes_format};

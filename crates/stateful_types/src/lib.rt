@@ -1,6 +1,6 @@
-//! The plain types that every layer names: numbers, digests, blocks and their names, targets, counts of faults,
-//! finalizations and requests with their bytes, mailboxes of a bounded size, and the traits of the outside with their
-//! forms in memory.
+//! The plain types that every layer names: numbers, digests, blocks and their names, targets,
+//! counts of faults, finalizations and requests with their bytes, mailboxes of a bounded size, and
+//! the traits of the outside with their forms in memory.
 #![tactic(auto)]
 
 mod anchor;

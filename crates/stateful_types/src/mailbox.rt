@@ -1,15 +1,18 @@
 //! Mailboxes of a bounded size, behind which further messages wait by a policy.
 
-ghost use Rattle.std.specs.Prelude.{◌≡◌, ◌↔◌, ◌≤◌, ◌<◌, ◌∷◌, ◌++◌, [], List, IsTrue, IsNone, IsErr, IfOk, OnOk, OnErr, true, false, not, filter};
+ghost use Rattle.std.specs.Prelude.{◌≡◌, ◌↔◌, ◌≤◌, ◌<◌, ◌∷◌, ◌++◌, [], List, IsTrue, IsNone, IsErr};
+ghost use Rattle.std.specs.Prelude.{IfOk, OnOk, OnErr, true, false, not, filter};
 ghost use Rattle.std.specs.VecDeque.{deque_capacity, deque_len};
-ghost use Rattle.stateful_types.specs.Mailbox.{queues, HasRoom, IsBusy, IsFilled, HandsOut, Drops, KeepsOrder, messages};
+ghost use Rattle.stateful_types.specs.Mailbox.{queues, HasRoom, IsBusy, IsFilled, HandsOut, Drops};
+ghost use Rattle.stateful_types.specs.Mailbox.{KeepsOrder, messages};
 
 use crate::share::OutOfMemory;
 use std::alloc::Global;
 use std::collections::VecDeque;
 use std::marker::Model;
 
-/// What became of a message: it is ready, it waits behind a full mailbox, or the mailbox is closed and it was dropped.
+/// What became of a message: it is ready, it waits behind a full mailbox, or the mailbox is closed
+/// and it was dropped.
 #[derive(Clone, Copy, Debug, PartialEq, Eq)]
 pub enum Feedback {
     Ok,
@@ -31,7 +34,8 @@ pub trait Predicate<T> {
 
 /// Messages that wait behind a full mailbox.
 pub trait Overflow<T>: Sized {
-    ghost use Rattle.std.specs.Prelude.{◌≡◌, ◌↔◌, ◌++◌, List, [], IsTrue, IsNone, filter, option_to_list};
+    ghost use Rattle.std.specs.Prelude.{◌≡◌, ◌↔◌, ◌++◌, List, [], IsTrue, IsNone, filter};
+    ghost use Rattle.std.specs.Prelude.{option_to_list};
 
     /// Its messages in the order in which they are handed out.
     ghost items: { Self → List T };
@@ -120,8 +124,8 @@ impl<T: Policy + Drop> Bounded<T, T::Overflow> {
         requires { 1 ≤ capacity }
         ensures empty { IfOk result (λ mailbox. mailbox ≡ queues capacity [] [] false) }
 
-        // Whatever calls follow, messages are handed out in order, if they wait in order, and none is lost but those
-        // that were dropped.
+        // Whatever calls follow, messages are handed out in order, if they wait in order, and none
+        // is lost but those that were dropped.
         ensures order { IfOk result (λ mailbox. KeepsOrder T.kept mailbox) }
     {
         let ready = VecDeque::with_capacity(alloc, capacity)?;
@@ -160,8 +164,8 @@ impl<T: Policy + Drop> Bounded<T, T::Overflow> {
         Ok(Feedback::Backoff)
     }
 
-    /// Takes out the first message, and lets those that wait be ready as far as there is room. None exactly where
-    /// there is no message.
+    /// Takes out the first message, and lets those that wait be ready as far as there is room. None
+    /// exactly where there is no message.
     pub fn try_recv(&mut self) -> Option<T>
         ensures front { HandsOut self.old self.new result }
         ensures none { IsNone result ↔ (messages self.old ≡ []) }
@@ -172,8 +176,9 @@ impl<T: Policy + Drop> Bounded<T, T::Overflow> {
         Some(message)
     }
 
-    /// Keeps the messages in the overflow of which the predicate holds, in their order, and drops the others that wait
-    /// there, so that they take no room. Those that are ready stay, whatever they are.
+    /// Keeps the messages in the overflow of which the predicate holds, in their order, and drops
+    /// the others that wait there, so that they take no room. Those that are ready stay, whatever
+    /// they are.
     pub fn retain_waiting<P: Predicate<T>>(&mut self, live: &P)
         ensures kept { self.new.overflow ≡ filter (P.holds live.now) self.old.overflow }
         ensures dropped { Drops self.old self.new

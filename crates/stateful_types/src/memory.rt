@@ -1,6 +1,7 @@
 //! A source and a sink in memory, whose failing calls are listed by their numbers, from 0 on.
 
-ghost use Rattle.std.specs.Prelude.{◌≡◌, ◌↔◌, ◌<◌, ◌≤◌, [], length, drop, Some, IsTrue, IsErrOf, IfOk, is_err};
+ghost use Rattle.std.specs.Prelude.{◌≡◌, ◌↔◌, ◌<◌, ◌≤◌, [], length, drop, Some, IsTrue, IsErrOf};
+ghost use Rattle.std.specs.Prelude.{IfOk, is_err};
 ghost use Rattle.std.specs.Io.{ReadsAtMost};
 ghost use Rattle.std.specs.Io.KnownBytes.{ReadConsumes, WriteAppends};
 ghost use Rattle.stateful_types.specs.Causes.{Rose, HasCause, risen, risen_if, is_listed};
@@ -79,7 +80,7 @@ impl Source for MemorySource {
 /// A sink in memory. The calls whose numbers it lists fail.
 #[derive(Drop)]
 pub struct MemorySink {
-    held: Vec<u8>,
+    written: Vec<u8>,
     failing: Vec<u64>,
     calls: u64,
     faults: u64,
@@ -88,12 +89,12 @@ pub struct MemorySink {
 impl MemorySink {
     /// An empty sink, of which the calls of these numbers fail.
     pub fn new(alloc: Global, failing: Vec<u64>) -> Self
-        ensures held { ⟦<MemorySink as Sink>⟧.held result ≡ Some [] }
+        ensures written { ⟦<MemorySink as Sink>⟧.written result ≡ Some [] }
         ensures faults { ⟦<MemorySink as Faulty>⟧.count result ≡ 0 }
         ensures failing { (result.failing ≡ failing) × (result.calls ≡ 0) }
     {
         MemorySink {
-            held: Vec::new(alloc),
+            written: Vec::new(alloc),
             failing,
             calls: 0,
             faults: 0,
@@ -102,9 +103,9 @@ impl MemorySink {
 
     /// The bytes that were taken.
     pub fn written(&self) -> &[u8]
-        ensures { Some result.now ≡ ⟦<MemorySink as Sink>⟧.held self.now }
+        ensures { Some result.now ≡ ⟦<MemorySink as Sink>⟧.written self.now }
     {
-        self.held.as_slice()
+        self.written.as_slice()
     }
 }
 
@@ -117,17 +118,18 @@ impl Faulty for MemorySink {
 }
 
 impl Sink for MemorySink {
-    ghost held = { λ s. Some s.held.items };
+    ghost written = { λ s. Some s.written.items };
 
     fn write(&mut self, piece: &[u8]) -> Result<usize, SinkFault>
         ensures bound { IfOk result (λ n. n ≤ length piece.now) }
         ensures some { IfOk result (λ n. 0 < length piece.now → 0 < n) }
-        ensures bytes { WriteAppends (Some self.old.held.items) (Some self.new.held.items)
+        ensures bytes { WriteAppends (Some self.old.written.items) (Some self.new.written.items)
             result piece.now }
         ensures later { self.old.faults ≤ self.new.faults }
         ensures cause { IsErrOf result SinkFault.Failed → Rose self.old.faults self.new.faults }
 
-        // The listed calls fail so, and the count rises by one exactly there: want of memory leaves it.
+        // The listed calls fail so, and the count rises by one exactly there: want of memory leaves
+        // it.
         ensures failing { IsTrue (is_listed self.old.failing.items self.old.calls)
             ↔ IsErrOf result SinkFault.Failed }
         ensures count { self.new.faults
@@ -141,7 +143,7 @@ impl Sink for MemorySink {
             self.faults = self.faults.saturating_add(1);
             return Err(SinkFault::Failed);
         }
-        match self.held.extend_from_slice(piece) {
+        match self.written.extend_from_slice(piece) {
             Ok(()) => Ok(piece.len()),
             Err(_) => Err(SinkFault::OutOfMemory),
         }

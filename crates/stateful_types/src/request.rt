@@ -11,8 +11,8 @@ use crate::share::OutOfMemory;
 use bytes::Bytes;
 use std::num::NonZeroU64;
 
-/// What is asked of a database that has `size` operations. Requests are ordered by their kind, and then by their
-/// numbers.
+/// What is asked of a database that has `size` operations. Requests are ordered by their kind, and
+/// then by their numbers.
 #[derive(Clone, Copy, Debug, PartialEq, Eq, PartialOrd, Ord)]
 pub enum Request {
     /// At most `max_ops` operations, from `start` on.
@@ -52,7 +52,8 @@ impl Request {
         }
     }
 
-    /// Takes a request. A request for no operations is refused at the last byte of that 0. It takes no memory.
+    /// Takes a request. A request for no operations is refused at the last byte of that 0. It takes
+    /// no memory.
     pub fn read(input: &mut Bytes) -> Result<Request, CodecError>
         ensures reads { Reads request_format result input.old input.new }
         ensures memory { IsErrOf result CodecError.OutOfMemory → ⊥ }

@@ -24,7 +24,8 @@ pub enum Response<Op> {
 }
 
 impl<Op: Operation> Response<Op> {
-    /// Appends byte 0, the number of operations and each of them, or byte 1, the digest and the operation.
+    /// Appends byte 0, the number of operations and each of them, or byte 1, the digest and the
+    /// operation.
     pub fn write(&self, out: &mut Vec<u8>) -> Result<(), OutOfMemory>
         ensures { Writes (response_format Op.operations) self.now result
             out.old.items out.new.items }
@@ -42,8 +43,8 @@ impl<Op: Operation> Response<Op> {
         }
     }
 
-    /// Takes a response to this request. More operations than were asked for are refused at the last byte of their
-    /// number; a request for a boundary allows any number.
+    /// Takes a response to this request. More operations than were asked for are refused at the
+    /// last byte of their number; a request for a boundary allows any number.
     pub fn read(
         alloc: Global,
         input: &mut Bytes,

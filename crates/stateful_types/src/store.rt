@@ -1,6 +1,7 @@
 //! Finalized blocks by height.
 
-ghost use Rattle.std.specs.Prelude.{◌≡◌, ◌<◌, ℕ, IfOk, OnOk, OnErr, Option, Some, None, if◌then◌else◌, ◌==◌, nat_lt};
+ghost use Rattle.std.specs.Prelude.{◌≡◌, ◌<◌, ℕ, IfOk, OnOk, OnErr, Option, Some, None};
+ghost use Rattle.std.specs.Prelude.{if◌then◌else◌, ◌==◌, nat_lt};
 
 use crate::block::{Block, Digested};
 use crate::number::Height;

@@ -20,7 +20,8 @@ impl Operation for Update {
 
     ghost operations = { record {
       fits = λ update. u64_format.fits update.key × u64_format.fits update.value;
-      spelling = λ update. 1 ∷ [] ++ (u64_format.spelling update.key ++ u64_format.spelling update.value);
+      spelling =
+          λ update. 1 ∷ [] ++ (u64_format.spelling update.key ++ u64_format.spelling update.value);
     } };
 
     fn write(&self, out: &mut Vec<u8>) -> Result<(), OutOfMemory> {
@@ -41,7 +42,14 @@ impl Operation for Update {
     }
 
     ghost lawful = { Rest-whole _ (1 ∷ []) (both u64_format u64_format) (λ p. record { key = p.0; value = p.1 })
-        (record { fits = λ p fits. fits; spelled = λ p fits. refl; back = λ update bytes fits e. ((update.key, update.value), fits, refl) })
+        (record {
+          fits =
+              λ p fits. fits;
+          spelled =
+              λ p fits. refl;
+          back =
+              λ update bytes fits e. ((update.key, update.value), fits, refl);
+        })
         (λ update fits. (u64_format.spelling update.key ++ u64_format.spelling update.value, refl))
         (IsFormat-both u64_format u64_format u64_alone u64_alone) };
 }

@@ -15,7 +15,8 @@ use crate::share::OutOfMemory;
 use bytes::Bytes;
 use std::alloc::Global;
 
-/// A scheme in memory. Its certificates are lists of signers, by their numbers among the participants.
+/// A scheme in memory. Its certificates are lists of signers, by their numbers among the
+/// participants.
 #[derive(Debug, Drop)]
 pub struct VoteScheme {
     pub participants: Items<u64>,

@@ -36,10 +36,10 @@ module _ {B C I P R D H G U : Type 0} (w : Workings B C I P R D H G U)
       going : {taken : Moment w} → TakesIn w stored_now counts m taken event → made ≡ taken.marks
           → LeavesSettling taken new → LeavesPlay m new made
 
-    -- What such an event left, with the marks that it made where it was taken in, if it was. Whatever
-    -- past the machine stood for, where names are true with the event and these marks, and the store is
-    -- honest, each database that is here has its part of the fold over what was applied, and over
-    -- further blocks, if any.
+    -- What such an event left, with the marks that it made where it was taken in, if it was.
+    -- Whatever past the machine stood for, where names are true with the event and these marks, and
+    -- the store is honest, each database that is here has its part of the fold over what was
+    -- applied, and over further blocks, if any.
     pub record LeavesFurther (register : Register) (m : Moment w) (new : w.kind.Members)
         : Type 0 where
       pub made : List (Mark B)
@@ -53,7 +53,8 @@ module _ {B C I P R D H G U : Type 0} (w : Workings B C I P R D H G U)
           → HasHonestStore w.header stored (Came event ∷ p)
           → HoldsFurther (setting w stored) w.kind base p event new
 
-    -- The same behind a history that began with a new machine, of the states on which it is based at last.
+    -- The same behind a history that began with a new machine, of the states on which it is based
+    -- at last.
     pub record LeavesBehind (history : List (Entry B C I)) (m : Moment w) (new : w.kind.Members)
         : Type 0 where
       pub made : List (Mark B)

@@ -17,7 +17,8 @@ is_restart (Restart floor keep) = true
 is_restart event = false
 
 module _ {B C I P R D H G U : Type 0} (w : Workings B C I P R D H G U) where
-  -- no database is away, and as long as the machine hasn't failed, what the rules of the loop need holds
+  -- no database is away, and as long as the machine hasn't failed, what the rules of the loop need
+  -- holds
   pub record IsSafe (failed : Bool) (m : Moment w) : Type 0 where
     pub none_away : w.kind.NoneAway m.members
     pub sound : failed ≡ false → Sound w m
@@ -27,7 +28,10 @@ module _ {B C I P R D H G U : Type 0} (w : Workings B C I P R D H G U) where
     pub working : failed ≡ false
     pub blank : IsBlank register
     pub down : m.loop.up ≡ false
-    pub nothing : (m.loop.queue ≡ []) × (m.loop.actions ≡ []) × (m.loop.front ≡ None) × (m.loop.barriers ≡ [])
+    pub nothing : (m.loop.queue ≡ [])
+        × (m.loop.actions ≡ [])
+        × (m.loop.front ≡ None)
+        × (m.loop.barriers ≡ [])
     pub jobs : m.execution.state.next_job ≡ 0
     pub fetches : m.execution.state.next_fetch ≡ 0
     pub barriers : m.loop.next_barrier ≡ 0

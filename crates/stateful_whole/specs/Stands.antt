@@ -17,8 +17,9 @@ use Rattle.stateful_processing.specs.Rules.{Quiet}
 use Rattle.stateful_whole.specs.Machine.{numbered}
 
 module _ {B C I P R D H G U : Type 0} (w : Workings B C I P R D H G U) (p : Past B C I) where
-  -- What a restart needs, and what stands of a machine that has failed too: no mark waits to be answered, the numbers so far
-  -- are below the next ones, no database is away, and the ticket of a verification is that of no other event.
+  -- What a restart needs, and what stands of a machine that has failed too: no mark waits to be
+  -- answered, the numbers so far are below the next ones, no database is away, and the ticket of a
+  -- verification is that of no other event.
   pub record CanRestartAt (m : Moment w) : Type 0 where
     pub unmarked : m.marks ≡ []
     pub counted : IsCounted w p m
@@ -26,9 +27,10 @@ module _ {B C I P R D H G U : Type 0} (w : Workings B C I P R D H G U) (p : Past
 
 module _ {B C I P R D H G U : Type 0} (w : Workings B C I P R D H G U)
     (stored : ℕ → Option (Named B)) (base : w.States) (p : Past B C I) where
-  -- The machine is up where the past says so: then it stands for it, nothing can go on without another event, and all that is
-  -- live is in hand, and goes on; and where the world is trusted, what is kept for reasons of false verdicts and declines is
-  -- kept. Where it is down nothing is live. What is kept for marks to be in their places is kept.
+  -- The machine is up where the past says so: then it stands for it, nothing can go on without
+  -- another event, and all that is live is in hand, and goes on; and where the world is trusted,
+  -- what is kept for reasons of false verdicts and declines is kept. Where it is down nothing is
+  -- live. What is kept for marks to be in their places is kept.
   pub record StandsAt (m : Moment w) : Type 0 where
     pub restart : CanRestartAt w p m
     pub up_is : m.loop.up ≡ not (is_down p)
@@ -39,8 +41,8 @@ module _ {B C I P R D H G U : Type 0} (w : Workings B C I P R D H G U)
     pub past : PastKept w stored p
     pub places : m.loop.up ≡ true → PlacesKept w stored p m
 
-  -- The register stands for the past, and the machine may be restarted behind it, which keeps what a past keeps. As long as it
-  -- hasn't failed it stands for the past.
+  -- The register stands for the past, and the machine may be restarted behind it, which keeps what
+  -- a past keeps. As long as it hasn't failed it stands for the past.
   pub record Stands (failed : Bool) (register : Register) (m : Moment w) : Type 0 where
     pub registered : RegisterStands (numbered w.kind.count) p register
     pub restart : CanRestartAt w p m

@@ -41,11 +41,11 @@ module _ {B C I P R D H G U : Type 0} (w : Workings B C I P R D H G U)
     -- Behind an event and its marks the history is based on these states: what the databases hold,
     -- where it was opened, to which the store's block commits, and else those before. True verdicts
     -- among the marks are earned over them; false ones and declined proposals have their reasons,
-    -- where the world is trusted; those of barriers and acknowledgements keep their rules, and so do
-    -- those of openings and stops, of jobs, answers to builds, withdrawn fetches and finalizations;
-    -- each is in its place; and nothing was pruned. The databases hold what was applied. Each live
-    -- request and receipt waits for outstanding work, whatever the rule on prunes. The machine stands
-    -- for the past with the entry; where it is down nothing goes on.
+    -- where the world is trusted; those of barriers and acknowledgements keep their rules, and so
+    -- do those of openings and stops, of jobs, answers to builds, withdrawn fetches and
+    -- finalizations; each is in its place; and nothing was pruned. The databases hold what was
+    -- applied. Each live request and receipt waits for outstanding work, whatever the rule on
+    -- prunes. The machine stands for the past with the entry; where it is down nothing goes on.
     pub record StepBehind : Type 0 where
       pub base_behind : w.States
       pub base_is : base_behind ≡ base_after base now.marks (w.kind.point now.members)
@@ -54,7 +54,8 @@ module _ {B C I P R D H G U : Type 0} (w : Workings B C I P R D H G U)
           → EachMark (HasItsReason w stored base_behind event now.marks) (Came event ∷ p) now.marks
       pub said : EachMark (IsDurablySaid w) (Came event ∷ p) now.marks
       pub places : EachMark (IsInPlace w stored base_behind) (Came event ∷ p) now.marks
-      pub duly : EachMark (IsDulySaid w stored base_behind event now.marks) (Came event ∷ p) now.marks
+      pub duly : EachMark (IsDulySaid w stored base_behind event now.marks)
+          (Came event ∷ p) now.marks
       pub builds : EachNext BuildIsAnswered (Came event ∷ p) now.marks
       pub due : (rule : Option (PruneRule w.Targets))
           → EachMark (PrunedIsDue (setting w stored) rule) (Came event ∷ p) now.marks
@@ -79,8 +80,8 @@ module _ {B C I P R D H G U : Type 0} (w : Workings B C I P R D H G U)
       pub stands : Stands w stored behind.base_behind (after_entry p event now.marks) false register
           (record now { marks = [] })
 
-  -- Behind each of these entries it stands so, one after another, and over the states on which the history is based at last
-  -- this holds.
+  -- Behind each of these entries it stands so, one after another, and over the states on which the
+  -- history is based at last this holds.
   abbrev pub EachStands : (w.States → Type 0) → w.States → Past B C I → List (Entry B C I) → Type 0
   EachStands Last base p [] = Last base
   EachStands Last base p (entry ∷ entries) =
@@ -89,7 +90,8 @@ module _ {B C I P R D H G U : Type 0} (w : Workings B C I P R D H G U)
       × (b : StepBehind base p entry.event new)
       × EachStands Last b.base_behind (after_entry p entry.event entry.marks) entries
 
-  -- The machine stands for the past, with this register; and as long as it hasn't failed its databases hold what was applied.
+  -- The machine stands for the past, with this register; and as long as it hasn't failed its
+  -- databases hold what was applied.
   pub record StandsAndHolds (base : w.States) (p : Past B C I) (failed : Bool) (register : Register)
       (m : Moment w) : Type 0 where
     pub stands : Stands w stored base p failed register m

@@ -19,7 +19,8 @@ use Rattle.stateful_processing.specs.Rules.{Along, Quiet}
 use Rattle.stateful_whole.specs.Machine.{numbered}
 
 module _ {B C I : Type 0} (count : ℕ) (register : Register) where
-  -- behind an event with these marks all live work ends by further ones, whatever past the register stands for
+  -- behind an event with these marks all live work ends by further ones, whatever past the register
+  -- stands for
   abbrev pub EndsWork : Event B C I → (marks now : List (Mark B)) → Type 0
   EndsWork event marks now = (p : Past B C I) → RegisterStands (numbered count) p register
       → (ends : List (Mark B))
@@ -27,13 +28,15 @@ module _ {B C I : Type 0} (count : ℕ) (register : Register) where
       × EndsAll (after_entry p event marks) ends
       × LeavesNothing (after_entry p event marks) ends
 
-module _ {B C I P R D H G U : Type 0} (w : Workings B C I P R D H G U) (stored : ℕ → Option (Named B)) where
+module _ {B C I P R D H G U : Type 0} (w : Workings B C I P R D H G U)
+    (stored : ℕ → Option (Named B)) where
   -- one thing after another goes on, until nothing can without another event
   pub record Settles (provider : P) (m now : Moment w) : Type 0 where
     pub along : Along w stored provider m now
     pub quiet : Quiet w now
 
-  -- The machine isn't up any more: all live work ends, the last mark says that it has stopped, and nothing goes on.
+  -- The machine isn't up any more: all live work ends, the last mark says that it has stopped, and
+  -- nothing goes on.
   pub record Stops (register : Register) (event : Event B C I) (m now : Moment w) : Type 0 where
     pub down : m.loop.up ≡ false
     pub ends : List (Mark B)
@@ -49,7 +52,8 @@ module _ {B C I P R D H G U : Type 0} (w : Workings B C I P R D H G U) (stored :
     pub settles : Settles provider taken now
 
   -- A machine that isn't up any more behind that stops.
-  pub record Plays (provider : P) (counts : Counts R D H) (register : Register) (event : Event B C I)
+  pub record Plays (provider : P) (counts : Counts R D H) (register : Register)
+      (event : Event B C I)
       (m now : Moment w) : Type 0 where
     pub settled : Moment w
     pub advances : Advances provider counts event m settled

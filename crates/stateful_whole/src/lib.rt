@@ -1,2 +1,3 @@
-//! What the machine stands for between two events, and what one event does to a past. Definitions and their lemmas alone.
+//! What the machine stands for between two events, and what one event does to a past. Definitions
+//! and their lemmas alone.
 #![tactic(auto)]

@@ -110,7 +110,8 @@ fn on(
     }
 }
 
-/// What a row of the list of blocks says: the place of the parent, the name, the height and the view.
+/// What a row of the list of blocks says: the place of the parent, the name, the height and the
+/// view.
 type Place = (usize, u8, u64, u64);
 
 /// All blocks, in the order of their places.

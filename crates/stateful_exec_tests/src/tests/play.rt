@@ -240,7 +240,8 @@ impl Player {
         Ok(Ancestry { first, rest })
     }
 
-    /// The next ticket. It is given up before it is used, which changes nothing: so it is no request's.
+    /// The next ticket. It is given up before it is used, which changes nothing: so it is no
+    /// request's.
     fn ticket(&mut self, marks: &mut Vec<Mark<FakeBlock>>) -> Result<u64, OutOfMemory>
         ensures { IfOk result (λ ticket. at self.new.handler.state.requests ticket ≡ None) }
     {

@@ -1,6 +1,7 @@
 //! Batches over a compact database.
 
-ghost use Rattle.std.specs.Prelude.{◌≡◌, ◌==◌, ◌||◌, ◌++◌, ◌∷◌, [], ◌-◌, ◌^◌, ◌<◌, ◌≤◌, ◌↔◌, ℕ, List, Some, IfOk, IfErr, IsErrOf, false};
+ghost use Rattle.std.specs.Prelude.{◌≡◌, ◌==◌, ◌||◌, ◌++◌, ◌∷◌, [], ◌-◌, ◌^◌, ◌<◌, ◌≤◌, ◌↔◌, ℕ};
+ghost use Rattle.std.specs.Prelude.{List, Some, IfOk, IfErr, IsErrOf, false};
 ghost use Rattle.stateful_db.specs.Batch.{RefusesSeal};
 ghost use Rattle.stateful_db.specs.Chain.{has_id};
 ghost use Rattle.stateful_overlay.specs.Stack.{has_layer};
@@ -16,8 +17,9 @@ use stateful_log::{Bounds, Field};
 use stateful_overlay::{Layer, Layers};
 use stateful_types::{Digest, Location, OutOfMemory};
 
-/// A batch that may still change: its id, the layers below it, the floor of its parent, the location of its commit, the
-/// digest before the commit, the metadata of the commit, and the floor that was asked for.
+/// A batch that may still change: its id, the layers below it, the floor of its parent, the
+/// location of its commit, the digest before the commit, the metadata of the commit, and the floor
+/// that was asked for.
 #[derive(Drop)]
 pub struct KeylessUnjournaledUnmerkleized<V> {
     pub(crate) id: u64,
@@ -57,8 +59,9 @@ impl<V: Field> KeylessUnjournaledUnmerkleized<V> {
         }
     }
 
-    /// The batch with this inactivity floor for its commit. It is taken as the nearest location that isn't below the
-    /// parent's floor and not behind the commit. Where none is asked for, location 0 is.
+    /// The batch with this inactivity floor for its commit. It is taken as the nearest location
+    /// that isn't below the parent's floor and not behind the commit. Where none is asked for,
+    /// location 0 is.
     pub fn with_inactivity_floor(self, floor: Location) -> KeylessUnjournaledUnmerkleized<V>
         ensures changes { (ch : Changes V) (s : State V)
             → Holds V.fields.spelling self ch s
@@ -189,10 +192,7 @@ impl<V: Field> Unmerkleized for KeylessUnjournaledUnmerkleized<V> {
         if !stands {
             return Err(BatchError::StaleRead);
         }
-        match self.seal() {
-            Ok(batch) => Ok(batch),
-            Err(why) => Err(why),
-        }
+        self.seal()
     }
 }
 

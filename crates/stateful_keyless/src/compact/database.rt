@@ -52,17 +52,21 @@ impl<V: Drop> Faulty for CompactDb<V> {
 }
 
 impl<V: Field> ManagedDb for CompactDb<V> {
-    ghost use Rattle.std.specs.Prelude.{◌≡◌, ◌≢◌, ℕ, ◌+◌, ◌-◌, ◌^◌, ◌≤◌, ◌<◌, List, ◌∷◌, ◌++◌, [], IfOk, IfErr, IsErrAnd, Option, ◌↔◌, ◌⊎◌, Contains, length, refl};
+    ghost use Rattle.std.specs.Prelude.{◌≡◌, ◌≢◌, ℕ, ◌+◌, ◌-◌, ◌^◌, ◌≤◌, ◌<◌, List, ◌∷◌, ◌++◌, []};
+    ghost use Rattle.std.specs.Prelude.{IfOk, IfErr, IsErrAnd, Option, ◌↔◌, ◌⊎◌, Contains, length};
+    ghost use Rattle.std.specs.Prelude.{refl};
     ghost use Rattle.stateful_types.specs.Causes.{Rose};
     ghost use Rattle.stateful_db.specs.Targeted.{compact_target};
     ghost use Rattle.stateful_db.specs.Disk.{IsEither, IsCrash, place, applied, flushed, point};
-    ghost use Rattle.stateful_db.specs.Reopening.{Reopens, FailsToReopen, HasNone, KeepsDurable, pruned_to};
+    ghost use Rattle.stateful_db.specs.Reopening.{Reopens, FailsToReopen, HasNone, KeepsDurable};
+    ghost use Rattle.stateful_db.specs.Reopening.{pruned_to};
     ghost use Rattle.stateful_db.specs.Tokens.{without};
     ghost use Rattle.stateful_medium.specs.Called.{IsListed, Called};
     ghost use Rattle.stateful_keyless.specs.CompactSound.{sound_medium, sound_database};
     ghost use Rattle.stateful_keyless.specs.Compacted.{State, begun, initial, target_of};
     ghost use Rattle.stateful_keyless.specs.CompactShown.{DraftShows, SealShows};
-    ghost use Rattle.stateful_keyless.specs.CompactStored.{disk_of, next_of, calls_of, standing_of, next_here, calls_here};
+    ghost use Rattle.stateful_keyless.specs.CompactStored.{disk_of, next_of, calls_of, standing_of};
+    ghost use Rattle.stateful_keyless.specs.CompactStored.{next_here, calls_here};
 
     type State = CompactState<V>;
 
@@ -92,8 +96,8 @@ impl<V: Field> ManagedDb for CompactDb<V> {
 
     ghost next_of = { next_of };
 
-    /// Takes no memory. `Database` exactly where the call is listed as a failing one or no kept checkpoint has the
-    /// expected end.
+    /// Takes no memory. `Database` exactly where the call is listed as a failing one or no kept
+    /// checkpoint has the expected end.
     fn init(
         medium: CompactMedium<V>,
         _config: &(),
@@ -199,8 +203,9 @@ impl<V: Field> ManagedDb for CompactDb<V> {
         compact_target(&batch.state) == *target
     }
 
-    /// `Failed` exactly where the call is listed as a failing one. A failed apply leaves the checkpoints. A state that isn't
-    /// greater in size than the newest one, which is of no batch on it, is refused as if memory were wanting.
+    /// `Failed` exactly where the call is listed as a failing one. A failed apply leaves the
+    /// checkpoints. A state that isn't greater in size than the newest one, which is of no batch on
+    /// it, is refused as if memory were wanting.
     fn apply(
         self,
         batch: KeylessUnjournaledMerkleized<V>,
@@ -262,7 +267,8 @@ impl<V: Field> ManagedDb for CompactDb<V> {
         }
     }
 
-    /// Takes no memory. It fails exactly where the call is listed as a failing one, and leaves the durable place.
+    /// Takes no memory. It fails exactly where the call is listed as a failing one, and leaves the
+    /// durable place.
     fn flush(self, token: FlushToken) -> Result<CompactDb<V>, Broken<CompactMedium<V>>>
         requires { Contains (standing_of self).out token.place }
         ensures ok { IfOk result (λ db. standing_of db ≡ record (standing_of self) {
@@ -292,7 +298,8 @@ impl<V: Field> ManagedDb for CompactDb<V> {
         }
     }
 
-    /// Takes no memory. It fails exactly where the call is listed as a failing one, and leaves the checkpoints.
+    /// Takes no memory. It fails exactly where the call is listed as a failing one, and leaves the
+    /// checkpoints.
     fn prune(self, target: &CompactTarget) -> Result<CompactDb<V>, Broken<CompactMedium<V>>>
         requires idle { (standing_of self).out ≡ [] }
         requires kept { KeepsDurable target_of compact_target target.now (standing_of self).disk }

@@ -7,7 +7,8 @@ use stateful_medium::Medium;
 use stateful_types::Faulty;
 use std::alloc::Global;
 
-/// The kept checkpoints, and the next batch id. Of the calls of databases that are made on it, those that it lists fail.
+/// The kept checkpoints, and the next batch id. Of the calls of databases that are made on it,
+/// those that it lists fail.
 #[derive(Drop)]
 pub struct CompactMedium<V> {
     pub(crate) medium: Medium<Commit<V>>,
@@ -30,7 +31,8 @@ impl<V: Field> CompactMedium<V> {
     ghost use Rattle.stateful_keyless.specs.Compacted.{initial};
     ghost use Rattle.stateful_keyless.specs.CompactStored.{disk_of, next_of, calls_of};
 
-    /// A medium with one commit alone. The calls that are listed, by kind and by number from 0 on, fail.
+    /// A medium with one commit alone. The calls that are listed, by kind and by number from 0 on,
+    /// fail.
     pub fn empty(alloc: Global, failing: Vec<(DbCall, u64)>) -> CompactMedium<V>
         ensures disk { disk_of result
             ≡ record { older = []; newest = initial V.fields.spelling; pruned = 0; durable = 0 } }

@@ -1,6 +1,7 @@
 //! Checkpoints by their targets.
 
-ghost use Rattle.std.specs.Prelude.{◌≡◌, ◌≢◌, ◌⊎◌, ◌<◌, ◌≤◌, length, Some, IfOk, IfErr, IsErrAnd, ◌↔◌, IsTrue};
+ghost use Rattle.std.specs.Prelude.{◌≡◌, ◌≢◌, ◌⊎◌, ◌<◌, ◌≤◌, length, Some, IfOk, IfErr, IsErrAnd};
+ghost use Rattle.std.specs.Prelude.{◌↔◌, IsTrue};
 ghost use Rattle.stateful_types.specs.Causes.{Rose};
 ghost use Rattle.stateful_db.specs.Targeted.{compact_target};
 ghost use Rattle.stateful_db.specs.Disk.{all};
@@ -15,8 +16,9 @@ use stateful_db::{DbCall, InitError, Targeted};
 use stateful_medium::Medium;
 use stateful_types::CompactTarget;
 
-/// The number of the kept checkpoint of this target, or of the latest. This is a call of the kind `Init`; `Database`
-/// exactly where it is listed as a failing one, or no kept checkpoint has the expected end.
+/// The number of the kept checkpoint of this target, or of the latest. This is a call of the kind
+/// `Init`; `Database` exactly where it is listed as a failing one, or no kept checkpoint has the
+/// expected end.
 pub(crate) fn number_to_open<V: Drop>(
     medium: &mut Medium<Commit<V>>,
     expected: Option<CompactTarget>,
@@ -44,10 +46,7 @@ pub(crate) fn number_to_open<V: Drop>(
     }
     match expected {
         None => Ok(medium.latest()),
-        Some(expected) => match number_of(medium, expected) {
-            Ok(number) => Ok(number),
-            Err(why) => Err(why),
-        },
+        Some(expected) => number_of(medium, expected),
     }
 }
 

@@ -4,8 +4,8 @@ use super::medium::CompactMedium;
 use super::state::CompactState;
 use stateful_types::{CompactTarget, Faulty};
 
-/// A sync that isn't finished: the medium as it was before, the target that it leads to, and the state that was fetched
-/// for it, if one was.
+/// A sync that isn't finished: the medium as it was before, the target that it leads to, and the
+/// state that was fetched for it, if one was.
 #[derive(Drop)]
 pub struct CompactPass<V> {
     pub(crate) medium: CompactMedium<V>,

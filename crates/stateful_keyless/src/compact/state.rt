@@ -16,8 +16,8 @@ pub struct Commit<V> {
     pub floor: u64,
 }
 
-/// A checkpoint of a compact database: the digest behind all operations, with the range that ends behind them, and the
-/// latest operation.
+/// A checkpoint of a compact database: the digest behind all operations, with the range that ends
+/// behind them, and the latest operation.
 pub type CompactState<V> = Checkpoint<Commit<V>>;
 
 /// The checkpoint behind this commit, of so many operations.

@@ -4,7 +4,8 @@ ghost use Rattle.std.specs.Prelude.{◌≡◌, ◌≤◌, ◌↔◌, IfOk, IfErr
 ghost use Rattle.stateful_types.specs.Causes.{Rose};
 ghost use Rattle.stateful_db.specs.Disk.{applied};
 ghost use Rattle.stateful_medium.specs.Called.{IsListed, Called};
-ghost use Rattle.stateful_log.specs.Logs.{extended, disk_of, next_of, calls_of, standing_of, next_here, calls_here};
+ghost use Rattle.stateful_log.specs.Logs.{extended, disk_of, next_of, calls_of, standing_of};
+ghost use Rattle.stateful_log.specs.Logs.{next_here, calls_here};
 
 use super::batch::KeylessMerkleized;
 use crate::op::KeylessOp;

@@ -1,6 +1,7 @@
 //! Batches over a keyless database.
 
-ghost use Rattle.std.specs.Prelude.{◌≡◌, ◌==◌, ◌||◌, ◌++◌, ◌∷◌, [], ◌-◌, ◌^◌, ◌<◌, ◌≤◌, ◌↔◌, ℕ, List, Some, IfOk, IfErr, IsErrOf, false};
+ghost use Rattle.std.specs.Prelude.{◌≡◌, ◌==◌, ◌||◌, ◌++◌, ◌∷◌, [], ◌-◌, ◌^◌, ◌<◌, ◌≤◌, ◌↔◌, ℕ};
+ghost use Rattle.std.specs.Prelude.{List, Some, IfOk, IfErr, IsErrOf, false};
 ghost use Rattle.stateful_db.specs.Batch.{RefusesSeal};
 ghost use Rattle.stateful_db.specs.Chain.{has_id};
 ghost use Rattle.stateful_overlay.specs.Stack.{has_layer};
@@ -16,8 +17,8 @@ use stateful_log::Field;
 use stateful_overlay::{Layer, Layers};
 use stateful_types::{Digest, Location, OutOfMemory, Target};
 
-/// What a sealed batch changes: the location of its first operation, its operations, and the root and the range behind
-/// them.
+/// What a sealed batch changes: the location of its first operation, its operations, and the root
+/// and the range behind them.
 #[derive(Drop)]
 pub struct KeylessChanges<V> {
     pub(crate) from: u64,
@@ -25,8 +26,9 @@ pub struct KeylessChanges<V> {
     pub(crate) target: Target,
 }
 
-/// A batch that may still change: its id, the layers below it, the end and the floor of its parent's range, the appends
-/// so far with the digest behind them, the metadata of the commit, and the floor that was asked for.
+/// A batch that may still change: its id, the layers below it, the end and the floor of its
+/// parent's range, the appends so far with the digest behind them, the metadata of the commit, and
+/// the floor that was asked for.
 #[derive(Drop)]
 pub struct KeylessUnmerkleized<V> {
     pub(crate) id: u64,
@@ -67,8 +69,9 @@ impl<V: Field> KeylessUnmerkleized<V> {
         }
     }
 
-    /// The batch with this inactivity floor for its commit. It is taken as the nearest location that isn't below the
-    /// parent's floor and not behind the commit. Where none is asked for, location 0 is.
+    /// The batch with this inactivity floor for its commit. It is taken as the nearest location
+    /// that isn't below the parent's floor and not behind the commit. Where none is asked for,
+    /// location 0 is.
     pub fn with_inactivity_floor(self, floor: Location) -> KeylessUnmerkleized<V>
         ensures changes { (ch : Changes V) (s : State V)
             → Holds V.fields.spelling self ch s
@@ -186,10 +189,7 @@ impl<V: Field> Unmerkleized for KeylessUnmerkleized<V> {
         if !stands {
             return Err(BatchError::StaleRead);
         }
-        match self.seal() {
-            Ok(batch) => Ok(batch),
-            Err(why) => Err(why),
-        }
+        self.seal()
     }
 }
 

@@ -64,8 +64,8 @@ impl<V: Field> KeylessDb<V> {
     ghost use Rattle.stateful_keyless.specs.KeylessStored.{standing_of};
     ghost use Rattle.stateful_keyless.specs.Reads.{log_of, unread, value_at};
 
-    /// The value at a location, or the metadata of a commit there. `LocationOutOfBounds` exactly at or past the end, and
-    /// `BelowInactivityFloor` exactly below the floor.
+    /// The value at a location, or the metadata of a commit there. `LocationOutOfBounds` exactly at
+    /// or past the end, and `BelowInactivityFloor` exactly below the floor.
     pub fn get(&self, location: Location) -> Result<Option<V>, BatchError>
         ensures value { IfOk result (λ value.
             value ≡ value_at (log_of (standing_of self.now).disk.newest) location) }
@@ -102,16 +102,20 @@ impl<V: Drop> Faulty for KeylessDb<V> {
 }
 
 impl<V: Field> ManagedDb for KeylessDb<V> {
-    ghost use Rattle.std.specs.Prelude.{◌≡◌, ◌≢◌, ℕ, ◌+◌, ◌-◌, ◌^◌, ◌≤◌, ◌<◌, List, ◌∷◌, ◌++◌, [], IfOk, IfErr, IsErrAnd, Option, ◌↔◌, ◌⊎◌, Contains, length, refl};
+    ghost use Rattle.std.specs.Prelude.{◌≡◌, ◌≢◌, ℕ, ◌+◌, ◌-◌, ◌^◌, ◌≤◌, ◌<◌, List, ◌∷◌, ◌++◌, []};
+    ghost use Rattle.std.specs.Prelude.{IfOk, IfErr, IsErrAnd, Option, ◌↔◌, ◌⊎◌, Contains, length};
+    ghost use Rattle.std.specs.Prelude.{refl};
     ghost use Rattle.stateful_types.specs.Causes.{Rose};
     ghost use Rattle.stateful_db.specs.Disk.{IsEither, IsCrash, place, applied, flushed, point};
-    ghost use Rattle.stateful_db.specs.Reopening.{Reopens, FailsToReopen, HasNone, KeepsDurable, pruned_to};
+    ghost use Rattle.stateful_db.specs.Reopening.{Reopens, FailsToReopen, HasNone, KeepsDurable};
+    ghost use Rattle.stateful_db.specs.Reopening.{pruned_to};
     ghost use Rattle.stateful_db.specs.Tokens.{without};
     ghost use Rattle.stateful_medium.specs.Called.{IsListed, Called};
     ghost use Rattle.stateful_keyless.specs.KeylessSound.{sound_medium, sound_database, numbered};
     ghost use Rattle.stateful_keyless.specs.Keyless.{State, begun, initial, target_of};
     ghost use Rattle.stateful_keyless.specs.KeylessShown.{DraftShows, SealShows};
-    ghost use Rattle.stateful_keyless.specs.KeylessStored.{disk_of, next_of, calls_of, standing_of, next_here, calls_here};
+    ghost use Rattle.stateful_keyless.specs.KeylessStored.{disk_of, next_of, calls_of, standing_of};
+    ghost use Rattle.stateful_keyless.specs.KeylessStored.{next_here, calls_here};
 
     type State = KeylessState<V>;
 
@@ -141,8 +145,8 @@ impl<V: Field> ManagedDb for KeylessDb<V> {
 
     ghost next_of = { next_of };
 
-    /// Takes no memory. `Database` exactly where the call is listed as a failing one or no kept checkpoint has the
-    /// expected end.
+    /// Takes no memory. `Database` exactly where the call is listed as a failing one or no kept
+    /// checkpoint has the expected end.
     fn init(
         medium: KeylessMedium<V>,
         _config: &(),
@@ -247,8 +251,9 @@ impl<V: Field> ManagedDb for KeylessDb<V> {
         batch.target() == *target
     }
 
-    /// `Failed` exactly where the call is listed as a failing one. A failed apply leaves the checkpoints. A state that isn't
-    /// greater in size than the newest one, which is of no batch on it, is refused as if memory were wanting.
+    /// `Failed` exactly where the call is listed as a failing one. A failed apply leaves the
+    /// checkpoints. A state that isn't greater in size than the newest one, which is of no batch on
+    /// it, is refused as if memory were wanting.
     fn apply(self, batch: KeylessMerkleized<V>) -> Result<KeylessDb<V>, Broken<KeylessMedium<V>>>
         ensures ok { IfOk result (λ db. (p : ℕ × State V) (c : List (ℕ × State V))
             → SealShows batch (p ∷ point (standing_of self) ∷ c)
@@ -306,7 +311,8 @@ impl<V: Field> ManagedDb for KeylessDb<V> {
         }
     }
 
-    /// Takes no memory. It fails exactly where the call is listed as a failing one, and leaves the durable place.
+    /// Takes no memory. It fails exactly where the call is listed as a failing one, and leaves the
+    /// durable place.
     fn flush(self, token: FlushToken) -> Result<KeylessDb<V>, Broken<KeylessMedium<V>>>
         requires { Contains (standing_of self).out token.place }
         ensures ok { IfOk result (λ db. standing_of db ≡ record (standing_of self) {
@@ -336,7 +342,8 @@ impl<V: Field> ManagedDb for KeylessDb<V> {
         }
     }
 
-    /// Takes no memory. It fails exactly where the call is listed as a failing one, and leaves the checkpoints.
+    /// Takes no memory. It fails exactly where the call is listed as a failing one, and leaves the
+    /// checkpoints.
     fn prune(self, target: &Target) -> Result<KeylessDb<V>, Broken<KeylessMedium<V>>>
         requires idle { (standing_of self).out ≡ [] }
         requires kept { KeepsDurable target_of (λ t. t) target.now (standing_of self).disk }

@@ -6,7 +6,8 @@ use stateful_log::{Field, LogMedium};
 use stateful_types::{Digest, Faulty};
 use std::alloc::Global;
 
-/// The kept checkpoints, and the next batch id. Of the calls of databases that are made on it, those that it lists fail.
+/// The kept checkpoints, and the next batch id. Of the calls of databases that are made on it,
+/// those that it lists fail.
 #[derive(Drop)]
 pub struct KeylessMedium<V> {
     pub(crate) medium: LogMedium<KeylessOp<V>>,
@@ -29,7 +30,8 @@ impl<V: Field> KeylessMedium<V> {
     ghost use Rattle.stateful_keyless.specs.Keyless.{initial};
     ghost use Rattle.stateful_keyless.specs.KeylessStored.{disk_of, next_of, calls_of};
 
-    /// A medium with one commit alone. The calls that are listed, by kind and by number from 0 on, fail.
+    /// A medium with one commit alone. The calls that are listed, by kind and by number from 0 on,
+    /// fail.
     pub fn empty(alloc: Global, failing: Vec<(DbCall, u64)>) -> KeylessMedium<V>
         ensures disk { disk_of result
             ≡ record { older = []; newest = initial V.fields.spelling; pruned = 0; durable = 0 } }

@@ -4,8 +4,8 @@ use super::medium::KeylessMedium;
 use super::state::KeylessState;
 use stateful_types::{Faulty, Target};
 
-/// A sync that isn't finished: the medium as it was before, the target that it leads to, and the state that was fetched
-/// for it, if one was.
+/// A sync that isn't finished: the medium as it was before, the target that it leads to, and the
+/// state that was fetched for it, if one was.
 #[derive(Drop)]
 pub struct KeylessPass<V> {
     pub(crate) medium: KeylessMedium<V>,

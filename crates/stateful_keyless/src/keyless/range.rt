@@ -7,7 +7,8 @@ ghost use Rattle.stateful_keyless.specs.Reads.{out_of_order, unreadable, first_u
 use stateful_db::BatchError;
 use stateful_types::Location;
 
-/// `LocationOutOfOrder` exactly where a location isn't greater than the one before, with the first such.
+/// `LocationOutOfOrder` exactly where a location isn't greater than the one before, with the first
+/// such.
 fn check_order(locations: &[Location]) -> Result<(), BatchError>
     ensures ok { OnOk result (out_of_order locations.now ≡ None) }
     ensures err { IfErr result (λ why.
@@ -23,8 +24,8 @@ fn check_order(locations: &[Location]) -> Result<(), BatchError>
     Ok(())
 }
 
-/// `LocationOutOfBounds` exactly where a location is at or past the end, which is so many behind `from`, and else
-/// `BelowInactivityFloor` exactly where it is below the floor.
+/// `LocationOutOfBounds` exactly where a location is at or past the end, which is so many behind
+/// `from`, and else `BelowInactivityFloor` exactly where it is below the floor.
 fn check_range(floor: u64, from: u64, count: usize, location: Location) -> Result<(), BatchError>
     ensures ok { OnOk result (unreadable floor (from + count) location ≡ None) }
     ensures err { IfErr result (λ why. unreadable floor (from + count) location ≡ Some why) }
@@ -57,8 +58,8 @@ fn check_ranges(
     Ok(())
 }
 
-/// Why locations can't be read of a log with this floor, whose end is so many behind `from`: their order is looked at
-/// before their range.
+/// Why locations can't be read of a log with this floor, whose end is so many behind `from`: their
+/// order is looked at before their range.
 pub(crate) fn check(
     floor: u64,
     from: u64,

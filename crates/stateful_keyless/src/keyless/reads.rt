@@ -66,7 +66,8 @@ fn op_of<'a, V: Field>(
     ensures { let s = (standing_of db.now).disk.newest in
         s.target.start.0 ≤ at
         → option_copied result
-        ≡ op_over from own.now at (op_through layers.now at (slice_get s.kept (at - s.target.start.0))) }
+        ≡ op_over from own.now at
+        (op_through layers.now at (slice_get s.kept (at - s.target.start.0))) }
 {
     if from <= at {
         return op_at(from, own, at);

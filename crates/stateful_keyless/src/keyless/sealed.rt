@@ -1,6 +1,7 @@
 //! Reads of sealed batches.
 
-ghost use Rattle.std.specs.Prelude.{◌≡◌, ◌≤◌, ◌∷◌, [], ◌⊎◌, ◌↔◌, ℕ, List, Some, None, IfOk, IfErr, IsErrOf, OnOk, true, false, map};
+ghost use Rattle.std.specs.Prelude.{◌≡◌, ◌≤◌, ◌∷◌, [], ◌⊎◌, ◌↔◌, ℕ, List, Some, None, IfOk, IfErr};
+ghost use Rattle.std.specs.Prelude.{IsErrOf, OnOk, true, false, map};
 ghost use Rattle.stateful_db.specs.Chain.{has_id, IsPoint};
 ghost use Rattle.stateful_db.specs.Disk.{point};
 ghost use Rattle.stateful_keyless.specs.Keyless.{State};
@@ -72,9 +73,9 @@ impl<V: Field> KeylessMerkleized<V> {
         Ok(value)
     }
 
-    /// The value at a location, or the metadata of a commit there. `StaleRead` exactly where the database is at no state of
-    /// the batch's chain; else `LocationOutOfBounds` exactly at or past the end, and `BelowInactivityFloor` exactly below
-    /// its own floor.
+    /// The value at a location, or the metadata of a commit there. `StaleRead` exactly where the
+    /// database is at no state of the batch's chain; else `LocationOutOfBounds` exactly at or past
+    /// the end, and `BelowInactivityFloor` exactly below its own floor.
     pub fn get(&self, db: &KeylessDb<V>, location: Location) -> Result<Option<V>, BatchError>
         ensures value { IfOk result (λ value. (p : ℕ × State V) (c : List (ℕ × State V))
             → SealShows self.now (p ∷ c)
@@ -99,9 +100,9 @@ impl<V: Field> KeylessMerkleized<V> {
         Ok(value)
     }
 
-    /// The values at these locations, in their order. `StaleRead` exactly where the database is at no state of the batch's
-    /// chain; else `LocationOutOfOrder` exactly where a location isn't greater than the one before; else as `get` of the
-    /// first location that is refused.
+    /// The values at these locations, in their order. `StaleRead` exactly where the database is at
+    /// no state of the batch's chain; else `LocationOutOfOrder` exactly where a location isn't
+    /// greater than the one before; else as `get` of the first location that is refused.
     pub fn get_many(
         &self,
         db: &KeylessDb<V>,

@@ -1,6 +1,7 @@
 //! Reads of batches that may still change.
 
-ghost use Rattle.std.specs.Prelude.{◌≡◌, ◌≤◌, ◌∷◌, [], ◌⊎◌, ◌↔◌, ℕ, List, Some, None, IfOk, IfErr, IsErrOf, OnOk, true, false, map};
+ghost use Rattle.std.specs.Prelude.{◌≡◌, ◌≤◌, ◌∷◌, [], ◌⊎◌, ◌↔◌, ℕ, List, Some, None, IfOk, IfErr};
+ghost use Rattle.std.specs.Prelude.{IsErrOf, OnOk, true, false, map};
 ghost use Rattle.stateful_db.specs.Chain.{has_id, IsPoint};
 ghost use Rattle.stateful_db.specs.Disk.{point};
 ghost use Rattle.stateful_keyless.specs.Ops.{Changes};
@@ -34,7 +35,9 @@ impl<V: Field> KeylessUnmerkleized<V> {
             → DraftShows V.fields.spelling self.now (p ∷ q ∷ c)
             → Holds V.fields.spelling self.now ch q.1
             → (why ≡ BatchError.StaleRead)
-            ⊎ ((unread (log_over ch q.1) locations.now ≡ Some why) ⊎ (why ≡ BatchError.OutOfMemory))) }
+            ⊎
+            ((unread (log_over ch q.1) locations.now ≡ Some why)
+            ⊎ (why ≡ BatchError.OutOfMemory))) }
         ensures ok { OnOk result ((p q : ℕ × State V) (c : List (ℕ × State V)) (ch : Changes V)
             → DraftShows V.fields.spelling self.now (p ∷ q ∷ c)
             → Holds V.fields.spelling self.now ch q.1
@@ -48,7 +51,8 @@ impl<V: Field> KeylessUnmerkleized<V> {
         Ok(())
     }
 
-    /// The value at a location that isn't below the floor. A database that is at the state of its seal is refused.
+    /// The value at a location that isn't below the floor. A database that is at the state of its
+    /// seal is refused.
     fn value(&self, db: &KeylessDb<V>, location: Location) -> Result<Option<V>, OutOfMemory>
         ensures { IfOk result (λ value. (p q : ℕ × State V) (c : List (ℕ × State V)) (ch : Changes V)
             → DraftShows V.fields.spelling self.now (p ∷ q ∷ c)
@@ -66,9 +70,10 @@ impl<V: Field> KeylessUnmerkleized<V> {
         Ok(value)
     }
 
-    /// The value at a location, or the metadata of a commit there. Behind what its parent has stand the values that the
-    /// batch appended. `StaleRead` exactly where the database is at no state of the batch's chain; else
-    /// `LocationOutOfBounds` exactly at or past the end, and `BelowInactivityFloor` exactly below its parent's floor.
+    /// The value at a location, or the metadata of a commit there. Behind what its parent has stand
+    /// the values that the batch appended. `StaleRead` exactly where the database is at no state of
+    /// the batch's chain; else `LocationOutOfBounds` exactly at or past the end, and
+    /// `BelowInactivityFloor` exactly below its parent's floor.
     pub fn get(&self, db: &KeylessDb<V>, location: Location) -> Result<Option<V>, BatchError>
         ensures value { IfOk result (λ value. (p q : ℕ × State V) (c : List (ℕ × State V)) (ch : Changes V)
             → DraftShows V.fields.spelling self.now (p ∷ q ∷ c)
@@ -89,16 +94,18 @@ impl<V: Field> KeylessUnmerkleized<V> {
             → DraftShows V.fields.spelling self.now (p ∷ q ∷ c)
             → Holds V.fields.spelling self.now ch q.1
             → (why ≡ BatchError.StaleRead)
-            ⊎ ((unread (log_over ch q.1) (location ∷ []) ≡ Some why) ⊎ (why ≡ BatchError.OutOfMemory))) }
+            ⊎
+            ((unread (log_over ch q.1) (location ∷ []) ≡ Some why)
+            ⊎ (why ≡ BatchError.OutOfMemory))) }
     {
         self.check(db, &[location])?;
         let value = self.value(db, location)?;
         Ok(value)
     }
 
-    /// The values at these locations, in their order. `StaleRead` exactly where the database is at no state of the batch's
-    /// chain; else `LocationOutOfOrder` exactly where a location isn't greater than the one before; else as `get` of the
-    /// first location that is refused.
+    /// The values at these locations, in their order. `StaleRead` exactly where the database is at
+    /// no state of the batch's chain; else `LocationOutOfOrder` exactly where a location isn't
+    /// greater than the one before; else as `get` of the first location that is refused.
     pub fn get_many(
         &self,
         db: &KeylessDb<V>,
@@ -123,7 +130,9 @@ impl<V: Field> KeylessUnmerkleized<V> {
             → DraftShows V.fields.spelling self.now (p ∷ q ∷ c)
             → Holds V.fields.spelling self.now ch q.1
             → (why ≡ BatchError.StaleRead)
-            ⊎ ((unread (log_over ch q.1) locations.now ≡ Some why) ⊎ (why ≡ BatchError.OutOfMemory))) }
+            ⊎
+            ((unread (log_over ch q.1) locations.now ≡ Some why)
+            ⊎ (why ≡ BatchError.OutOfMemory))) }
     {
         self.check(db, locations)?;
         let mut values = Vec::new(db.log.allocator());

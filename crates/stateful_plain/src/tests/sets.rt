@@ -53,8 +53,8 @@ enum At {
     Away,
 }
 
-/// A database: where it is, how many of its checkpoints were pruned, the end of the newest one, the place of the last
-/// durable one, how many tokens are out, and how often it has failed.
+/// A database: where it is, how many of its checkpoints were pruned, the end of the newest one, the
+/// place of the last durable one, how many tokens are out, and how often it has failed.
 #[derive(Clone, Copy, Debug, PartialEq, Eq)]
 struct Row {
     at: At,
@@ -214,7 +214,8 @@ impl<R: Fixture> Fixture for (Held<Plain>, R) {
     }
 }
 
-/// Compares each database with the row of those before a number, of the one at it, or of those behind it.
+/// Compares each database with the row of those before a number, of the one at it, or of those
+/// behind it.
 fn check<S: Fixture>(
     rt: &impl Abort,
     alloc: Global,
@@ -272,7 +273,8 @@ fn flush<S: Fixture>(
     set.flush(database, token)
 }
 
-/// Opens closed databases at these targets, and prunes all older checkpoints. Why that failed, if it did.
+/// Opens closed databases at these targets, and prunes all older checkpoints. Why that failed, if
+/// it did.
 fn prune<S: Fixture>(set: &mut S, targets: &S::SyncTargets) -> Result<Option<SetError>, Fail>
     requires { S.kind.Openable (S.members set.old) }
 {
@@ -299,7 +301,8 @@ fn fault(index: usize, call: DbCall) -> SetError {
     SetError::DatabaseFault { index, call }
 }
 
-/// Those before one that doesn't open are closed again, each where it was opened. It is lost where it failed, and else closed.
+/// Those before one that doesn't open are closed again, each where it was opened. It is lost where
+/// it failed, and else closed.
 fn inits<S: Fixture>(rt: &impl Abort, alloc: Global, database: usize) -> Result<(), Fail> {
     let refused = Err(SetInit {
         index: database,
@@ -329,7 +332,8 @@ fn inits<S: Fixture>(rt: &impl Abort, alloc: Global, database: usize) -> Result<
     check(rt, alloc, &set, database, rows)
 }
 
-/// A database that holds another target than is expected of it stays closed, and those before it are closed again.
+/// A database that holds another target than is expected of it stays closed, and those before it
+/// are closed again.
 fn expects<S: Fixture>(rt: &impl Abort, alloc: Global, database: usize) -> Result<(), Fail> {
     let set: S = grown(rt, alloc, &[])?;
     let other = Target {
@@ -358,7 +362,8 @@ fn expects<S: Fixture>(rt: &impl Abort, alloc: Global, database: usize) -> Resul
     )
 }
 
-/// A set without the database that failed at an apply refuses what needs it, and an opening opens that one alone.
+/// A set without the database that failed at an apply refuses what needs it, and an opening opens
+/// that one alone.
 fn applies<S: Fixture>(rt: &impl Abort, alloc: Global, database: usize) -> Result<(), Fail> {
     let fails = [
         fails_at(database, DbCall::Apply, 0),
@@ -413,7 +418,8 @@ fn mismatches<S: Fixture>(rt: &impl Abort, alloc: Global, database: usize) -> Re
     Ok(())
 }
 
-/// A fork outlives its parent. Behind a database that was lost no batch is made or sealed, and it alone has counted.
+/// A fork outlives its parent. Behind a database that was lost no batch is made or sealed, and it
+/// alone has counted.
 fn forks<S: Fixture>(rt: &impl Abort, alloc: Global, database: usize) -> Result<(), Fail> {
     let mut set: S = opened(alloc, &[fails_at(database, DbCall::Apply, 1)])?;
     let batches = set.new_batches()?;
@@ -436,7 +442,8 @@ fn forks<S: Fixture>(rt: &impl Abort, alloc: Global, database: usize) -> Result<
     Ok(())
 }
 
-/// Tokens are out at those before the database that failed at a finalize. A flush is of one database alone.
+/// Tokens are out at those before the database that failed at a finalize. A flush is of one
+/// database alone.
 fn flushes<S: Fixture>(rt: &impl Abort, alloc: Global, database: usize) -> Result<(), Fail> {
     let mut set: S = grown(rt, alloc, &[fails_at(database, DbCall::Finalize, 0)])?;
     let failed = finalize(rt, alloc, &mut set).err();
@@ -483,7 +490,8 @@ fn prunes<S: Fixture>(rt: &impl Abort, alloc: Global, database: usize) -> Result
     check(rt, alloc, &set, database, rows)
 }
 
-/// Places count the pruned checkpoints, which aren't there any more. A database without a number keeps all others.
+/// Places count the pruned checkpoints, which aren't there any more. A database without a number
+/// keeps all others.
 fn pruned<S: Fixture>(rt: &impl Abort, alloc: Global) -> Result<(), Fail> {
     let set: S = grown(rt, alloc, &[])?;
     let targets = set.committed_targets()?;

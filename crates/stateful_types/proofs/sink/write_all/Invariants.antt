@@ -5,7 +5,7 @@ use Rattle.stateful_types.proofs.sink.write_all.Given as goal
 abbrev pub invariant-writing : goal.invariant-writing
 invariant-writing g l = record {
   within : l.at ≤ length l.text;
-  written : Appends (g.K.Sink.held l.fn.sink) (g.K.Sink.held l.sink) (take l.at l.text);
+  written : Appends (g.K.Sink.written l.fn.sink) (g.K.Sink.written l.sink) (take l.at l.text);
   later : g.K.Faulty.count l.fn.sink ≤ g.K.Faulty.count l.sink;
 }
 

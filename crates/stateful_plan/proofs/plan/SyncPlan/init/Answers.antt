@@ -10,7 +10,7 @@ use Rattle.stateful_plan.proofs.plan.SyncPlan.init.Goals as goal
 pub returns-clause-again : goal.returns-clause-again
 returns-clause-again g c =
     let certificate = g.S.Scheme.certificates in
-    let held = g.P.PlanStore.held c.args.store in
+    let held = g.P.PlanStore.stored c.args.store in
     let worth : IfSome held (λ value. IsWorth (state_format certificate) value (Ok c.match-loaded.state)) = search rules in
     one_kept (state_format certificate) (state_tags certificate g.met.S.Scheme.lawful).law held c.match-loaded.state worth
 
