@@ -108,7 +108,7 @@ module _ {B C I P R D H G U : Type 0} (w : Workings B C I P R D H G U) (laws : L
 
 module _ {B C I P R D H G U : Type 0} (w : Workings B C I P R D H G U) (laws : Laws w.kind) (stored : ℕ → Option (Named B))
     (counts : Counts R D H) (provider : P) (runs_cost : RunsTakeTurns w) (builds_cost : BuildsTakeTurns w) where
-  -- behind a history that began with a new machine
+  -- after a history that began with a new machine
   pub refused-outside : (failed : Bool) (register : Register) (first old : Moment w) (history : List (Entry B C I)) → IsNew w failed register first → first.marks ≡ []
       → w.kind.NoneAway first.members → Steps w stored provider counts [] first history old → (own : Register)
       → RegisterStands (numbered w.kind.count) (after_all [] history) own → (event : Event B C I) → is_restart event ≡ false → (start «end» : Tally)

@@ -6,3 +6,4 @@ pub mod OtherErrors
 pub mod ResultsOfCalls
 pub mod Reopening
 pub mod Lawfully
+pub mod Working

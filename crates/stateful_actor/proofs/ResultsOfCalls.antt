@@ -1,4 +1,4 @@
--- What holds behind calls by their results.
+-- What holds after calls by their results.
 use Rattle.std.proofs.Common.{◌≡◌, Result, Ok, Err, OnOk, OnErr, IfErr, IsErrAnd, MatchResult, sym, subst}
 
 -- what holds anyway

@@ -1,10 +1,13 @@
--- Events that were refused behind a history.
+-- Events that were refused after a history.
 use Rattle.std.specs.Prelude.{◌≡◌, ◌<◌, ◌^◌, ◌∷◌, ℕ, true, false, Option, List, []}
+use Rattle.stateful_types.specs.Causes.{Rose}
 use Rattle.stateful_types.specs.Names.{Named}
+use Rattle.stateful_types.specs.declared.floor.Floor.{Floor}
 use Rattle.stateful_history.specs.Met.{TrueNames}
 use Rattle.stateful_history.specs.Past.{Came, after_all}
 use Rattle.stateful_history.specs.declared.entry.Entry.{Entry}
 use Rattle.stateful_history.specs.declared.event.Event.{Event}
+use Rattle.stateful_history.specs.declared.event.Event.TheVariants.{Restart}
 use Rattle.stateful_exec.specs.Workings.{Workings}
 use Rattle.stateful_register.specs.Register.{RegisterStands}
 use Rattle.stateful_register.specs.declared.register.Register.{Register}
@@ -13,7 +16,8 @@ use Rattle.stateful_keeping.specs.Ways.{HasHonestStore}
 use Rattle.stateful_processing.specs.Intake.{Counts}
 use Rattle.stateful_processing.specs.Moments.{Moment}
 use Rattle.stateful_processing.specs.declared.error.StepError.{StepError}
-use Rattle.stateful_processing.specs.declared.error.StepError.TheVariants.{BadEvent}
+use Rattle.stateful_processing.specs.declared.error.StepError.TheVariants.{BadEvent, Failed}
+use Rattle.stateful_processing.specs.declared.error.StepError.TheVariants.{OutOfMemory}
 use Rattle.stateful_actor.specs.Faults.{Tally, HasNotFallen, IsCause}
 use Rattle.stateful_whole.specs.Left.{LeavesBehind}
 use Rattle.stateful_whole.specs.Machine.{numbered, is_restart}
@@ -21,6 +25,19 @@ use Rattle.stateful_whole.specs.Entering.{Steps}
 use Rattle.stateful_whole.specs.StepBehind.{EachStands}
 use Rattle.stateful_lawful.specs.Completeness.{ComesLawfully}
 use Rattle.stateful_lawful.specs.Outside.{IsOutside}
+use Rattle.stateful_lawful.specs.Restarting.{RestartsLawfully}
+
+module _ {B C I P R D H G U : Type 0} (w : Workings B C I P R D H G U)
+    (stored : ℕ → Option (Named B)) where
+  -- Where the event is a restart that finds what it needs, and no count of a database's faults
+  -- rose, it was refused for want of memory: of fewer than 2^64 databases.
+  abbrev pub RefusesRestart : (before now : ℕ → ℕ) → Event B C I → StepError → Moment w → Type 0
+  RefusesRestart before now event e old = (floor : Floor) (keep : List ℕ)
+      → event ≡ Restart floor keep
+      → RestartsLawfully w stored floor keep old.members
+      → w.kind.count < 2 ^ 64
+      → ((i : ℕ) → i < w.kind.count → Rose (before i) (now i) → ⊥)
+      → e ≡ OutOfMemory
 
 module _ {B C I P R D H G U : Type 0} (w : Workings B C I P R D H G U)
     (stored : ℕ → Option (Named B))
@@ -38,10 +55,11 @@ module _ {B C I P R D H G U : Type 0} (w : Workings B C I P R D H G U)
       → IsOutside e)
       base [] history
 
-  -- The event that was refused behind a history, and why: the machine before it, to which the
+  -- The event that was refused after a history, and why: the machine before it, to which the
   -- entries led from the first moment on, and the cause that it had. Counts have not fallen since
   -- the start. And what it left of the databases, unless it may not come, is a restart, or the
-  -- machine was down. A lawful event that is no restart has its reason outside.
+  -- machine was down. A lawful event has its reason outside, and it never is that the machine has
+  -- failed.
   pub record IsRefused (first : Moment w) (history : List (Entry B C I)) (event : Event B C I)
       (e : StepError)
       (m : w.kind.Members) (start «end» : Tally) : Type 0 where
@@ -55,3 +73,9 @@ module _ {B C I P R D H G U : Type 0} (w : Workings B C I P R D H G U)
     pub behind : (e ≡ BadEvent → ⊥) → is_restart event ≡ false → old.loop.up ≡ true
         → LeavesBehind w stored provider counts event history old m
     pub complete : is_restart event ≡ false → RefusesLawful history event e old
+    pub restarts : RefusesRestart before.databases «end».databases event e old
+    pub works : w.States
+        → TrueNames (setting w stored) (after_all [] history)
+        → HasHonestStore w.header stored (after_all [] history)
+        → e ≡ Failed
+        → ⊥

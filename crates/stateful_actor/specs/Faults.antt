@@ -80,8 +80,7 @@ module _ {B C I P R D H G U : Type 0} (w : Workings B C I P R D H G U)
     failed_before : e ≡ Failed → failed ≡ true → is_restart event ≡ false
         → IsCause counts failed register event start «end» new m e
     unlawful : e ≡ BadEvent
-        →
-        ((p : Past B C I)
+        → ((p : Past B C I)
         → RegisterStands (numbered w.kind.count) p register
         → m.loop.up ≡ not (is_down p)
         → may_come (numbered w.kind.count) p event ≡ false)

@@ -17,7 +17,7 @@ pub record Machine (A E L P K : Type 0) : Type 0 where
   pub failed : Bool
   pub faults : ℕ
 
--- one more behind an event in which the application or a job failed, up to the last number
+-- one more after an event in which the application or a job failed, up to the last number
 abbrev pub faults_after : {X : Type 0} → Result X StepError → ℕ → ℕ
 faults_after (Err Application) faults = min (faults + 1) (2 ^ 64 - 1)
 faults_after result faults = faults

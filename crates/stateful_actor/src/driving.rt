@@ -12,7 +12,7 @@ ghost use Rattle.stateful_standing.specs.Setting.{setting};
 ghost use Rattle.stateful_keeping.specs.Ways.{HasHonestStore};
 ghost use Rattle.stateful_processing.specs.Moments.{moment};
 ghost use Rattle.stateful_whole.specs.Entering.{Steps};
-ghost use Rattle.stateful_actor.specs.Driving.{IsRefused};
+ghost use Rattle.stateful_actor.specs.Driving.{IsRefused, RefusesRestart};
 ghost use Rattle.stateful_actor.specs.Faults.{tally, HasNotFallen, IsCause};
 ghost use Rattle.stateful_whole.specs.Left.{LeavesFurther};
 ghost use Rattle.stateful_whole.specs.Machine.{is_restart, IsSafe, IsNew, numbered};
@@ -101,6 +101,11 @@ fn enter<A: Application + Drop, S: BlockStore<A::Block>>(
         (A.Databases.members driven.new.databases)
         (moment w driven.old.stateful.execution driven.old.stateful.loop
         (A.Databases.members driven.old.databases) (A.Databases.next driven.old.databases) []) e) }
+    ensures restarts { IfErr result (λ e. let w = ⟦<A as Worked>⟧.workings in
+        RefusesRestart w (S.stored store.old) (A.Databases.counted driven.old.databases)
+        (A.Databases.counted driven.new.databases) event e
+        (moment w driven.old.stateful.execution driven.old.stateful.loop
+        (A.Databases.members driven.old.databases) (A.Databases.next driven.old.databases) [])) }
     ensures behind { IfErr result (λ e. (e ≡ StepError.BadEvent → ⊥)
         → is_restart event ≡ false
         → driven.old.stateful.loop.up ≡ true
@@ -161,7 +166,7 @@ pub fn drive<A: Application + Drop, S: BlockStore<A::Block>>(
         (A.Databases.members driven.databases) (A.Databases.next driven.databases) [])) }
 
     // Where names are true and the store is honest each entry keeps the rules, and at the end the
-    // machine stands for the history, and the databases hold what was applied. Behind a refusal it
+    // machine stands for the history, and the databases hold what was applied. After a refusal it
     // still stands for the events before, in what a restart needs; and behind BadEvent it hasn't
     // failed.
     ensures stands { IfOk result (λ driven. let w = ⟦<A as Worked>⟧.workings in

@@ -20,6 +20,7 @@ ghost use Rattle.stateful_processing.specs.Moments.{moment};
 ghost use Rattle.stateful_lawful.specs.Ahead.{IsAheadLawfully};
 ghost use Rattle.stateful_lawful.specs.Completeness.{ComesLawfully};
 ghost use Rattle.stateful_lawful.specs.Outside.{IsOutside};
+ghost use Rattle.stateful_lawful.specs.Restarting.{RestartsLawfully};
 ghost use Rattle.stateful_actor.specs.Faults.{tally, IsCause};
 ghost use Rattle.stateful_actor.specs.Machine.{faults_after};
 ghost use Rattle.stateful_whole.specs.Jobs.{EachJobGoesOn};
@@ -172,9 +173,9 @@ impl<A: Application + Drop> Stateful<A> {
             (A.Databases.next databases.new) []) }
         ensures works { OnOk result (self.new.failed ≡ false) }
 
-        // Why it was refused. Behind a refusal the register stands for what it stood for; behind
+        // Why it was refused. After a refusal the register stands for what it stood for; behind
         // BadEvent nothing has changed, and neither has it where a machine that has failed takes no
-        // restart; behind any other error the machine has failed.
+        // restart; after any other error the machine has failed.
         ensures cause { IfErr result (λ e. let w = ⟦<A as Worked>⟧.workings in
             IsCause w (S.stored store.old) self.old.provider
             (record { run = A.Run.count; build = A.Build.count; hook = A.Hook.count })
@@ -204,7 +205,19 @@ impl<A: Application + Drop> Stateful<A> {
             × IsErrOf result StepError.Failed }
         ensures fails { IfErr result (λ e. (e ≡ StepError.BadEvent → ⊥) → self.new.failed ≡ true) }
 
-        // Behind any other error than BadEvent, at an event that isn't a restart, of a machine that
+        // A machine that hadn't failed never answers `Failed`, where it stands for a past.
+        ensures working { IfErr result (λ e. let w = ⟦<A as Worked>⟧.workings in
+            (stored : ℕ → Option (Named A.Block))
+            (base : A.Databases.States)
+            (p : Past A.Block A.Context A.Input)
+            → Stands w stored base p self.old.failed self.old.register
+            (moment w self.old.execution self.old.loop (A.Databases.members databases.old)
+            (A.Databases.next databases.old) [])
+            → self.old.failed ≡ false
+            → e ≡ StepError.Failed
+            → ⊥) }
+
+        // After any other error than BadEvent, at an event that isn't a restart, of a machine that
         // hadn't failed, each database that is here has its part of the fold over what was applied,
         // and over further blocks, if any: the event may have applied some before its error.
         ensures behind { IfErr result (λ e. (e ≡ StepError.BadEvent → ⊥)
@@ -220,7 +233,7 @@ impl<A: Application + Drop> Stateful<A> {
 
         // What the media keep of the heights at which the databases can be opened again. Where the
         // machine and the media stood for a past, names are true with the entry, the store is
-        // honest and its targets rise, they keep it for the past with the entry. Behind a refusal
+        // honest and its targets rise, they keep it for the past with the entry. After a refusal
         // machine and media stand for the past as it was, with a restart that was tried.
         ensures media { IfOk result (λ marks. let w = ⟦<A as Worked>⟧.workings in
             (stored : ℕ → Option (Named A.Block))
@@ -274,7 +287,22 @@ impl<A: Application + Drop> Stateful<A> {
             (λ marks. OpensOn w marks.items (A.Databases.members databases.new) state)
             (λ e. e ≡ StepError.OutOfMemory) }
 
-        // Behind the event each live candidate run and each live build is wanted by a live request,
+        // A restart that finds the block that it opens in the store, and of each database a
+        // checkpoint at that block's targets, is refused for want of memory alone, where no count
+        // of a database's faults rises.
+        ensures restarts { IfErr result (λ e. let w = ⟦<A as Worked>⟧.workings in
+            (floor : Floor)
+            (keep : List ℕ)
+            → event ≡ Event.Restart floor keep
+            → RestartsLawfully w (S.stored store.old) floor keep (A.Databases.members databases.old)
+            → A.Databases.kind.count < 2 ^ 64
+            → ((i : ℕ)
+            → i < A.Databases.kind.count
+            → Rose (A.Databases.counted databases.old i) (A.Databases.counted databases.new i)
+            → ⊥)
+            → e ≡ StepError.OutOfMemory) }
+
+        // After the event each live candidate run and each live build is wanted by a live request,
         // and each live job was turned less often than it takes turns, where that is told.
         ensures jobs { IfOk result (λ marks. let w = ⟦<A as Worked>⟧.workings in
             (stored : ℕ → Option (Named A.Block))
@@ -293,7 +321,7 @@ impl<A: Application + Drop> Stateful<A> {
             (after_entry p event marks.items)) }
 
         // The finalized blocks that wait lead up to the highest one, as long as each event since
-        // the last restart was lawful: that stays so behind each event.
+        // the last restart was lawful: that stays so after each event.
         ensures ahead { IfOk result (λ marks. let w = ⟦<A as Worked>⟧.workings in
             (stored : ℕ → Option (Named A.Block))
             (base : A.Databases.States)

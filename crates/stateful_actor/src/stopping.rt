@@ -14,7 +14,7 @@ use stateful_processing::{ProcessingOf, StepError, clear};
 use stateful_register::Register;
 use stateful_types::OutOfMemory;
 
-/// Ends all that is live behind an event with its marks so far. The register stays as it is: it
+/// Ends all that is live after an event with its marks so far. The register stays as it is: it
 /// hasn't taken in the event yet.
 pub(crate) fn end_work<A: Application>(
     register: &Register,
@@ -30,7 +30,7 @@ pub(crate) fn end_work<A: Application>(
     Ok(())
 }
 
-/// Ends all that is live behind an event with its marks so far, marks that the machine has stopped,
+/// Ends all that is live after an event with its marks so far, marks that the machine has stopped,
 /// and drops what goes on.
 pub(crate) fn stop<A: Application + Drop>(
     handler: &mut Handler<A>,

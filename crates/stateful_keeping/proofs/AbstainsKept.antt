@@ -1,4 +1,4 @@
--- A verification that waits for nothing that was begun still does behind mild marks, and behind an event that is no restart.
+-- A verification that waits for nothing that was begun still does behind mild marks, and after an event that is no restart.
 use Rattle.std.proofs.Common.{inl, inr, ℕ, List, [], ◌∷◌, All, None, Some}
 use Rattle.std.proofs.lemmas.List.Elements.{All-head, All-tail}
 use Rattle.stateful_types.specs.Names.{Named}

@@ -1,4 +1,4 @@
--- A machine that is up stands behind rules of its loop, one after another.
+-- A machine that is up stands after rules of its loop, one after another.
 use Rattle.std.proofs.Common.{◌≡◌, ◌≢◌, ◌<◌, ◌++◌, ℕ, [], true, None, List, Option, sym, ap, ◌∙◌, subst, append_assoc, append-nil}
 use Rattle.std.proofs.lemmas.List.Elements.{All-nil, All-append}
 use Rattle.stateful_types.specs.Names.{Named}
@@ -45,7 +45,7 @@ module _ {B C I P R D H G U : Type 0} (w : Workings B C I P R D H G U) where
   rule_is_up stored provider m now (takes calm take does) = calm.0.0.0
 
 module _ {B C I P R D H G U : Type 0} (w : Workings B C I P R D H G U) (stored : ℕ → Option (Named B)) (base : w.States) where
-  -- what stands stands behind no mark
+  -- what stands stands after no mark
   pub up-same : (p : Past B C I) (m : Moment w) → IsUpAt w stored base p m → UpBehind w stored base p m m
   up-same p m h = record {
     more = [];
@@ -84,7 +84,7 @@ module _ {B C I P R D H G U : Type 0} (w : Workings B C I P R D H G U) (stored :
 
   module _ (laws : Laws w.kind) (p : Past B C I) (stored_now : ℕ → Option (Named B)) (stored_is : IsStoredNow stored p stored_now) (provider : P)
       (runs_cost : RunsTakeTurns w) (builds_cost : BuildsTakeTurns w) (stores : StoresFinalized w.header stored p) where
-    -- The machine stands behind rules, one after another.
+    -- The machine stands after rules, one after another.
     pub along-up : (m now : Moment w) → IsUpAt w stored base p m → Along w stored_now provider m now → UpBehind w stored base p m now
     along-up m _ h none = up-same p m h
     along-up m now h (further {mid = mid} along rule) =

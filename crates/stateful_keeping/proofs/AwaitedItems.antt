@@ -90,7 +90,7 @@ module _ {B C I : Type 0} (count : ℕ) where
   live_flush_barrier k i (item ∷ p) live = live_flush_barrier k i p live
 
   module _ (p : Past B C I) (barriers : List Active) (h : AwaitsEach count p barriers) where
-    -- behind calm items, and behind an applied block
+    -- behind calm items, and after an applied block
     pub AwaitsEach-calm : (x : Item B C I) → IsCalmItem x → AwaitsEach count (x ∷ p) barriers
     AwaitsEach-calm (Came (Restart floor keep)) calm = absurd calm
     AwaitsEach-calm (Came (Flushed k i answer)) calm = absurd calm
@@ -126,7 +126,7 @@ module _ {B C I : Type 0} (count : ℕ) where
             let t = tokens i (ltb-true i count both.1) in
             and_from (eqb new.number k) (is_some (open_at new.barrier i)) (eq-eqb new.number k (sym (eqb-true k new.number both.0))) (ap is_some t.1)
 
-  -- behind the end of the oldest
+  -- after the end of the oldest
   pub AwaitsEach-done : (p : Past B C I) (oldest : Active) (more : List Active) (height : Height) (good : Bool) → AwaitsEach count p (oldest ∷ more)
       → AwaitsEach count (Made (BarrierDone oldest.number height good) ∷ p) more
   AwaitsEach-done p oldest more height good h k i live =

@@ -1,4 +1,4 @@
--- The open barriers stand behind the end of the oldest, which was flushed.
+-- The open barriers stand after the end of the oldest, which was flushed.
 use Rattle.std.proofs.Common.{◌≡◌, ◌≤◌, ◌<◌, ◌-◌, ◌+◌, ◌∷◌, ◌==◌, not, ⊎_elim, ◌⊎◌, inl, inr, ℕ, zero, suc, true, List, [], length, Option, Some, None, refl, sym, ap, ◌∙◌, arith}
 use Rattle.std.specs.Prelude.{All, Any, slice_get}
 use Rattle.std.specs.List.{list_all}

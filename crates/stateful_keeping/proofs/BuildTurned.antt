@@ -1,4 +1,4 @@
--- Execution stands behind a turn of the live build.
+-- Execution stands after a turn of the live build.
 use Rattle.std.proofs.Common.{◌≡◌, ℕ, List, [], ◌∷◌, All, Option, None, Some, IsSome, refl, sym, ap, ◌∙◌, subst}
 use Rattle.std.proofs.lemmas.List.{append_cancel_left}
 use Rattle.stateful_types.specs.Names.{Named}
@@ -109,7 +109,7 @@ module _ {B C I P R D H G U : Type 0} (w : Workings B C I P R D H G U) (stored :
               (names s.more s.marks_are))
               e.points s.points m.next then.next m.execution.state then.state s.tables made.anchor (made.pause ∙ free.pause_is) free
 
-  -- Execution stands behind a turn of the live build, whatever it leads to.
+  -- Execution stands after a turn of the live build, whatever it leads to.
   pub Executes-turns_build : (count : D → ℕ) (j : ℕ) (now : Moment w) (then : exec.Moment w) (next : Option (Building B C D)) → Builds w j m
       → TurnsBuild w count (inner w m) m.execution.build j then next
       → now ≡ record (with_inner w m then) { execution = record m.execution { state = then.state; build = next } } → NamesBehind w stored base

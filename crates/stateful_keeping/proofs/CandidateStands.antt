@@ -1,4 +1,4 @@
--- The tables, the live build and the finalization stand behind a turn of a candidate run and what follows its end.
+-- The tables, the live build and the finalization stand after a turn of a candidate run and what follows its end.
 use Rattle.std.proofs.Common.{◌≡◌, ◌≢◌, ◌++◌, inl, inr, ℕ, List, [], ◌∷◌, All, Option, None, Some, IfSome, sym, ap, ◌∙◌, subst}
 use Rattle.std.proofs.lemmas.List.{append_cancel_left}
 use Rattle.std.proofs.lemmas.List.Elements.{All-weaker}
@@ -42,7 +42,7 @@ beside_mild Job Ticket mark off = tt
 
 module _ {B C I P R D H G U : Type 0} (w : Workings B C I P R D H G U) (laws : Laws w.kind) (stored : ℕ → Option (Named B)) (p : Past B C I)
     (points : Digest → Point w) (point : Point w) (m now : Moment w) (j : ℕ) where
-  -- What stands behind a turn of a candidate run, over some points: some mild marks are made, no database moves, and the anchor stays.
+  -- What stands after a turn of a candidate run, over some points: some mild marks are made, no database moves, and the anchor stays.
   pub record StandsStepped (build : Option (Building B C D)) (front : Option (Front B R U H)) : Type 0 where
     pub then : Digest → Point w
     pub more : List (Mark B)
@@ -143,7 +143,7 @@ module _ {B C I P R D H G U : Type 0} (w : Workings B C I P R D H G U) (laws : L
       fronts = fronts_now (Ended j how ∷ e.more) e.marks_are;
     }
 
-    -- They stand behind a turn of a candidate run, however execution is paused.
+    -- They stand after a turn of a candidate run, however execution is paused.
     pub StandsStepped-by : TrueNames (setting w stored) p → IsRoundOf w stored p m.state.anchor → w.kind.point m.members ≡ Some point
         → w.kind.issued m.next (point ∷ []) → IsPaused w stored p m → StandsStepped build front
     StandsStepped-by names round located drawn paused =

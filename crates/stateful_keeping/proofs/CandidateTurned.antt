@@ -1,4 +1,4 @@
--- Execution stays placed as it is behind a turn of a candidate run, and true verdicts that follow its end are earned.
+-- Execution stays placed as it is after a turn of a candidate run, and true verdicts that follow its end are earned.
 use Rattle.std.proofs.Common.{All, ◌≡◌, inl, inr, ℕ, [], ◌∷◌, Contains, Option, Some, Result, Ok, Err, MatchOption, sym, ap, ◌∙◌, subst}
 use Rattle.stateful_types.specs.Names.{Named}
 use Rattle.stateful_types.specs.Anchor.{anchor_by}
@@ -75,7 +75,7 @@ module _ {B C I P R D H G U : Type 0} (w : Workings B C I P R D H G U) (laws : L
           now settles.follow
       go running (Err fault) turns settles = absurd settles
 
-  -- What stands behind the turn, where execution is placed so before it: it is so placed again, and each mark keeps the rule.
+  -- What stands after the turn, where execution is placed so before it: it is so placed again, and each mark keeps the rule.
   pub record IsTurned (IsThere : Past B C I → (Digest → Point w) → w.Ids → Tables B C I R U → Type 0) : Type 0 where
     pub names : TrueNames (setting w stored) p
     pub round : IsRoundOf w stored p m.state.anchor

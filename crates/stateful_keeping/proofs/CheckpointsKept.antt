@@ -1,4 +1,4 @@
--- What the databases keep stands behind items that apply nothing, behind an apply, and behind an opening.
+-- What the databases keep stands behind items that apply nothing, after an apply, and after an opening.
 use Rattle.std.proofs.Common.{◌≡◌, ◌≤◌, ◌<◌, ◌+◌, ◌-◌, ◌++◌, ⊎_elim, inl, inr, ℕ, List, [], ◌∷◌, length, Option, Some, None, refl, ap, ◌∙◌, arith, length-append}
 use Rattle.std.proofs.lemmas.Bool.{cases_lt}
 use Rattle.stateful_types.specs.Anchor.{anchor_by}

@@ -1,4 +1,4 @@
--- The numbers so far are below the next ones where the machine is up, where live work ends or a barrier breaks, and behind a restart.
+-- The numbers so far are below the next ones where the machine is up, where live work ends or a barrier breaks, and after a restart.
 use Rattle.std.proofs.Common.{◌≡◌, ◌≤◌, ◌++◌, ◌∷◌, [], ℕ, false, List, All, Option, map, sym, subst, arith}
 use Rattle.std.proofs.lemmas.List.Elements.{All-nil, All-cons, All-head, All-tail, All-append}
 use Rattle.stateful_types.specs.Names.{Named}
@@ -60,7 +60,7 @@ module _ {B C I P R D H G U : Type 0} (w : Workings B C I P R D H G U) where
   }
 
   module _ (m : Moment w) where
-    -- behind a restart
+    -- after a restart
     pub IsCounted-restart : (p : Past B C I) (floor : Floor) (keep : List ℕ) → IsCounted w p m → IsCounted w (Came (Restart floor keep) ∷ p) m
     IsCounted-restart p floor keep c = record {
       numbers = record { jobs = c.numbers.jobs; unturned = c.numbers.unturned; fetches = c.numbers.fetches };
@@ -68,7 +68,7 @@ module _ {B C I P R D H G U : Type 0} (w : Workings B C I P R D H G U) where
       none_away = c.none_away;
     }
 
-    -- behind a mark by which live work ends
+    -- after a mark by which live work ends
     pub IsCounted-ending : (p : Past B C I) (mark : Mark B) → IsEnding mark → IsCounted w p m → IsCounted w (Made mark ∷ p) m
     IsCounted-ending p (Withdrawn f) is c = record {
       numbers = record { jobs = c.numbers.jobs; unturned = c.numbers.unturned; fetches = c.numbers.fetches };

@@ -1,4 +1,4 @@
--- Marks of jobs, answers to builds, withdrawn fetches and finalizations keep their rules behind a whole event, but for a restart.
+-- Marks of jobs, answers to builds, withdrawn fetches and finalizations keep their rules after a whole event, but for a restart.
 use Rattle.std.proofs.Common.{◌≡◌, ◌∷◌, ℕ, true, List, Option, refl, sym, ◌∙◌, subst}
 use Rattle.std.proofs.lemmas.List.{append_cancel_left}
 use Rattle.stateful_types.specs.Names.{Named}
@@ -37,7 +37,7 @@ use Rattle.stateful_keeping.proofs.WaysBeside.{StoresFinalized-after}
 module _ {B C I P R D H G U : Type 0} (w : Workings B C I P R D H G U) (laws : Laws w.kind) (stored : ℕ → Option (Named B)) (base : w.States)
     (event : Event B C I) (p : Past B C I) (stored_now : ℕ → Option (Named B)) (stored_is : IsStoredNow stored p stored_now) (provider : P)
     (runs_cost : RunsTakeTurns w) (builds_cost : BuildsTakeTurns w) (stores : StoresFinalized w.header stored p) where
-  -- All is said duly behind rules, one after another.
+  -- All is said duly after rules, one after another.
   pub duly-along : (m now : Moment w) → IsUpAt w stored base p m → PlacesKept w stored p m → Along w stored_now provider m now
       → DulyBehind w stored base event p m now
   duly-along m _ h k none = duly-none w stored base event p m m refl

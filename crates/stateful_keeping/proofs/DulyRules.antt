@@ -1,4 +1,4 @@
--- Marks of jobs, answers to builds, withdrawn fetches and finalizations keep their rules behind each rule of the loop.
+-- Marks of jobs, answers to builds, withdrawn fetches and finalizations keep their rules after each rule of the loop.
 use Rattle.std.proofs.Common.{◌≡◌, ◌≢◌, ◌++◌, ◌<◌, inl, inr, ℕ, true, map, List, [], ◌∷◌, All, Any, Option, None, refl, sym, ap, ◌∙◌, subst, arith}
 use Rattle.std.specs.List.{Contains, AllByRecursion}
 use Rattle.std.specs.List.Sorted.{IsStrictlySortedBy}
@@ -122,14 +122,14 @@ module _ {B C I P R D H G U : Type 0} (w : Workings B C I P R D H G U) (stored :
       does m now _ front stands e k (begins {t = t} {b = b} above r) =
           begun m now t b e (begins-in_order w stored base p m now e k front t b above stands.1 r) r
 
-      -- what is observed behind a finalized block makes no mark, or that of the hook's start
+      -- what is observed after a finalized block makes no mark, or that of the hook's start
       hooks : (m now : Moment w) (b : Named B) (left : Hooked H) (old new : Tables B C I R U) (marks : List (Mark B))
           (after : Option (Front B R U H)) (live : _) → HooksOn w b left old new m.marks marks after live → now.marks ≡ marks → Duly m now
       hooks m now b hooked.Done old new marks after live h is = duly-none w stored base event p m now (is ∙ h.1)
       hooks m now b (hooked.Pending left) old new marks after live h is = duly-one w stored base event p m now _ (is ∙ h.2) tt
 
       module _ (m now : Moment w) (h : IsUpAt w stored base p m) (k : PlacesKept w stored p m) where
-        -- Behind a rule all is said duly.
+        -- After a rule all is said duly.
         pub duly-rule : (provider : P) → Rule w stored_now provider m now → Duly m now
         duly-rule provider (collects up r) = duly-none w stored base event p m now (ap (λ (n : Moment w). n.marks) r.becomes)
         duly-rule provider (Rule.schedules {request = request} {rest = rest} collected building is verifies r) =

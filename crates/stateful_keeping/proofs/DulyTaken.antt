@@ -1,4 +1,4 @@
--- Marks of jobs, answers to builds, withdrawn fetches and finalizations keep their rules behind every event that is taken in, but for a
+-- Marks of jobs, answers to builds, withdrawn fetches and finalizations keep their rules after every event that is taken in, but for a
 -- restart.
 use Rattle.std.proofs.Common.{◌≡◌, ◌++◌, ◌∷◌, [], inl, inr, ℕ, List, Option, Some, None, refl, sym, ap, ◌∙◌, subst, append-nil}
 use Rattle.stateful_types.specs.Names.{Named}
@@ -104,7 +104,7 @@ module _ {B C I P R D H G U : Type 0} (w : Workings B C I P R D H G U) (stored :
         go (building {b = b} for_it same none one) = by_build b for_it (marks_are ∙ ap (λ (ms : List (Mark B)). m.marks ++ ms) one)
         go (asking none c_is same) = by_cancel c.state c.marks c_is marks_are
 
-  -- Behind an event all is said duly.
+  -- After an event all is said duly.
   pub duly-takes_in : (stored_now : ℕ → Option (Named B)) (counts : Counts R D H) (now : Moment w) (x : Event B C I) → (IsRestart x → ⊥)
       → TakesIn w stored_now counts m now x → DulyBehind w stored base x (Came x ∷ p) m now
   duly-takes_in stored_now counts now x on (enters is becomes) =

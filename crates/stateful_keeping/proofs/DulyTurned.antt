@@ -1,4 +1,4 @@
--- Marks of jobs and of answers to builds keep their rules behind a turn of a job.
+-- Marks of jobs and of answers to builds keep their rules after a turn of a job.
 use Rattle.std.proofs.Common.{◌≡◌, ◌≢◌, ◌++◌, ℕ, List, [], ◌∷◌, All, Option, None, Some, Result, Ok, Err, refl, sym, ap, ◌∙◌, subst, append_assoc}
 use Rattle.std.proofs.lemmas.List.Elements.{All-cons}
 use Rattle.stateful_types.specs.Names.{Named}

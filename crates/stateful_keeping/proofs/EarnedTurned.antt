@@ -180,7 +180,7 @@ module _ {B C I P R D H G U : Type 0} (w : Workings B C I P R D H G U) (stored :
     open_so (inl closed) = inl closed
     open_so (inr h) = inr (record { boundary = h.boundary; pause_is = h.pause_is; moved = h.moved })
 
-    -- the requests that waited for a run are to follow, behind the mark of its end
+    -- the requests that waited for a run are to follow, after the mark of its end
     pub AreToFollow-settled : AreToFollow w stored base rel.points point tip other_states b how (released_on j done.state.requests)
         (Made (Ended j how) ∷ Came (Turn j) ∷ p) (record done { state = released j done.state })
     AreToFollow-settled = record {

@@ -1,4 +1,4 @@
--- Behind a stop, and behind an event in which a barrier broke, the machine is down.
+-- After a stop, and after an event in which a barrier broke, the machine is down.
 use Rattle.std.proofs.Common.{◌≡◌, ◌++◌, ℕ, List, All, Option, sym, ap, ◌∙◌, subst, append_assoc}
 use Rattle.stateful_types.specs.Names.{Named}
 use Rattle.stateful_history.specs.Holding.{Holds}

@@ -1,4 +1,4 @@
--- Behind a restart the machine is up, whether it was up or down before.
+-- After a restart the machine is up, whether it was up or down before.
 use Rattle.std.proofs.Common.{◌++◌, ◌∷◌, [], ℕ, List, All, Option, sym, ap, ◌∙◌, subst, append_assoc}
 use Rattle.stateful_types.specs.Anchor.{anchor_by}
 use Rattle.stateful_types.specs.Names.{Named}

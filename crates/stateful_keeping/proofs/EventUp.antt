@@ -1,4 +1,4 @@
--- Behind a whole event, but for a restart, a machine that was up and at which nothing could go on stands, or it is down and its numbers stand.
+-- After a whole event, but for a restart, a machine that was up and at which nothing could go on stands, or it is down and its numbers stand.
 use Rattle.std.proofs.Common.{◌≡◌, ◌++◌, ◌∷◌, [], ℕ, true, List, Option, sym, ap, ◌∙◌, subst, append_assoc, append-nil}
 use Rattle.std.proofs.lemmas.List.Elements.{All-nil, All-append}
 use Rattle.stateful_types.specs.Names.{Named}
@@ -72,7 +72,7 @@ module _ {B C I P R D H G U : Type 0} (w : Workings B C I P R D H G U) (stored :
     numbers = t.stands.loop.barriers.numbers;
   }
 
-  -- what is kept of it behind the event
+  -- what is kept of it after the event
   pub event-behind : (now : Moment w) → UpBehind w stored base q m now → EventBehind w stored base q m now
   event-behind now u = record {
     more = u.more;

@@ -1,4 +1,4 @@
--- Execution stands behind the apply of a finalized block.
+-- Execution stands after the apply of a finalized block.
 use Rattle.std.proofs.Common.{◌≡◌, ◌++◌, inl, inr, ℕ, List, [], ◌∷◌, All, Option, Some, None, refl, sym, ap, ◌∙◌, subst}
 use Rattle.stateful_types.specs.Names.{Named}
 use Rattle.stateful_types.specs.Anchor.{anchor_by}
@@ -114,7 +114,7 @@ module _ {B C I P R D H G U : Type 0} (w : Workings B C I P R D H G U) (laws : L
     pub anchor_is : now.execution.state.anchor ≡ anchor_by w.header f.block
     pub begun : IsBegun w stored p point m.next m.execution.state.anchor f.block
 
-  -- It stands behind that mark, and what was at hand keeps its point.
+  -- It stands after that mark, and what was at hand keeps its point.
   pub record IsExecutedOver (e : Executes w stored base p m) (n : Moment w) : Type 0 where
     pub executes : Executes w stored base (Made (Applied f.block) ∷ p) n
     pub same : (d : Digest) → IsAtHand m.execution.state.anchor m.execution.state.cache d → executes.points d ≡ e.points d
@@ -246,7 +246,7 @@ module _ {B C I P R D H G U : Type 0} (w : Workings B C I P R D H G U) (laws : L
       begun = begun;
     }
 
-  -- Execution stands behind the apply of a finalized block that has states.
+  -- Execution stands after the apply of a finalized block that has states.
   pub Executes-applies : Executes w stored base p m → IsFinalizing w m f → HasStates w m f.block → IsAppliedBehind
   Executes-applies e front has =
       let h : IsOverBegun w stored base p m f.block e = over_begun w stored base p m f.block e has in

@@ -1,4 +1,4 @@
--- Execution stands behind the rules of barriers and of messages that it has no part in, and behind what is taken in beside it.
+-- Execution stands after the rules of barriers and of messages that it has no part in, and behind what is taken in beside it.
 use Rattle.std.proofs.Common.{◌≡◌, ◌≢◌, ◌<◌, ℕ, true, [], ◌∷◌, All, AllPairs, Option, None, refl, sym, ◌∙◌, subst}
 use Rattle.std.proofs.lemmas.List.{append-nil}
 use Rattle.std.proofs.lemmas.List.Elements.{All-filter}

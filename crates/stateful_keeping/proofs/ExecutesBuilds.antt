@@ -60,7 +60,7 @@ module _ {B C I P R D H G U : Type 0} (w : Workings B C I P R D H G U) (laws : L
             let some : IsSome (at v.queued t) = queued.0 in
             let off = rw none at some in cc
 
-    -- behind one mark that is mild, execution stands where its parts do
+    -- after one mark that is mild, execution stands where its parts do
     stands_with : (mark : Mark B) → IsMild mark → (next : w.Ids) (state : Tables B C I R U) (build : Option (Building B C D)) (now : Moment w)
         → IsLeft v state → w.kind.issued next (h.point ∷ [])
         → TablesStand w stored (Made mark ∷ p) h.points h.point next state → BuildStands w stored (Made mark ∷ p) h.points next state build

@@ -1,4 +1,4 @@
--- Execution stands behind the events that it doesn't take in.
+-- Execution stands after the events that it doesn't take in.
 use Rattle.std.proofs.Common.{◌≡◌, ◌≢◌, ◌≤◌, ◌<◌, ℕ, true, ◌∷◌, Option, None, Some, IfSome, refl, arith}
 use Rattle.std.proofs.lemmas.Bool.Decides.{nat_tests}
 use Rattle.stateful_types.specs.Names.{Named}
@@ -43,7 +43,7 @@ module _ {B C I P R D H G U : Type 0} (w : Workings B C I P R D H G U) (stored :
   module _ (m : Moment w) (h : Executes w stored base p m) (e : Event B C I) (anchor_same : anchor_of w.header (Came e ∷ p) ≡ anchor_of w.header p)
       (applied_same : applied (Came e ∷ p) ≡ applied p) (begun_same : begun (Came e ∷ p) ≡ begun p)
       (names : TrueNames (setting w stored) (Came e ∷ p)) where
-    -- behind an event of a new ticket
+    -- after an event of a new ticket
     came_under : (t : ℕ) → TellsOf (setting w stored) p (Came e) t → is_new t p ≡ true → Executes w stored base (Came e ∷ p) m
     came_under t tells fresh =
         Executes-tells w stored base p (Came e) anchor_same applied_same begun_same names m h t tells
@@ -53,7 +53,7 @@ module _ {B C I P R D H G U : Type 0} (w : Workings B C I P R D H G U) (stored :
     came_silently : IsSilent (setting w stored) p (Came e) → Executes w stored base (Came e ∷ p) m
     came_silently silent = Executes-silent w stored base p (Came e) anchor_same applied_same begun_same names m h silent
 
-  -- execution stands behind each event that it doesn't take in, where a new ticket is new
+  -- execution stands after each event that it doesn't take in, where a new ticket is new
   pub Executes-came : (m : Moment w) (e : Event B C I) (count : ℕ) → IsBesides e → names_live count p e ≡ true
       → TrueNames (setting w stored) (Came e ∷ p) → Executes w stored base p m → Executes w stored base (Came e ∷ p) m
   Executes-came m (Verify t ancestry) count is live names h =

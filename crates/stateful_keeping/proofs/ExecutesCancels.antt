@@ -1,4 +1,4 @@
--- Execution stands behind a cancel.
+-- Execution stands after a cancel.
 use Rattle.std.proofs.Common.{◌≡◌, ◌==◌, ◌⊎◌, ◌++◌, not, inl, inr, ℕ, List, [], ◌∷◌, All, Option, None, Some, IsSome, MatchOption, refl, sym, subst, arith}
 use Rattle.std.proofs.lemmas.List.Elements.{All-cons, All-head, All-nil, All-tail, All-weaker, All-filter}
 use Rattle.stateful_types.specs.Names.{Named}
@@ -115,7 +115,7 @@ module _ {B C I P R D H G U : Type 0} (w : Workings B C I P R D H G U) (stored :
       one x off = absurd off
 
   module _ (p : Past B C I) (t : ℕ) (m : Moment w) (h : Executes w stored base p m) where
-    -- behind a cancel each candidate run that is left goes on over the finalization
+    -- after a cancel each candidate run that is left goes on over the finalization
     over : (new : Tables B C I R U) (before last : Option (Building B C D)) (marks : List (Mark B))
         → GivesUp m.execution.state new before last t marks → RunsGoOver w.header m.execution.state → RunsGoOver w.header new
     over new before last marks (building for new_is last_is marks_is) h = rw new_is h
@@ -215,7 +215,7 @@ module _ {B C I P R D H G U : Type 0} (w : Workings B C I P R D H G U) (stored :
               (λ x. IsNoneTrue x) not_true c.marks g.given);
         })
 
-  -- execution stands behind a cancel
+  -- execution stands after a cancel
   pub Executes-cancels : (p : Past B C I) (t : ℕ) (m now : Moment w) → Executes w stored base p m → CancelsIn w t m now
       → ExecutesBehind w stored base (Came (Cancel t) ∷ p) m now
   Executes-cancels p t m now h c = cancelled p t m h now c

@@ -1,4 +1,4 @@
--- Execution stands behind the end of a finalization, where it resumes, and the ways of requests stay open.
+-- Execution stands after the end of a finalization, where it resumes, and the ways of requests stay open.
 use Rattle.std.proofs.Common.{◌≡◌, ◌++◌, ℕ, [], ◌∷◌, Option, None, refl, sym, ap, ◌∙◌, subst}
 use Rattle.stateful_types.specs.Names.{Named}
 use Rattle.stateful_types.specs.declared.anchor.Anchor.{Anchor}
@@ -128,7 +128,7 @@ module _ {B C I P R D H G U : Type 0} (w : Workings B C I P R D H G U) (laws : L
       (subst (λ (o : Option (Building B C D)). BuildStands w stored p e.points m.next m.execution.state o) finalizing.1 e.builds)
       finalizing.1 ways stored_is r
 
-  -- Where the ways are open, execution stands behind the end of a finalization whose block is the anchor.
+  -- Where the ways are open, execution stands after the end of a finalization whose block is the anchor.
   pub IsResumedBehind-ends : (f : Finalizing B G) → IsFinalizing w m f → m.execution.front ≡ front_at f.block Advanced
       → WaysStand w stored p m.execution.state.anchor m.execution.state
       → IsStoredNow stored p stored_now → Executes w stored base p m → EndsFinalization w stored_now f m now → IsResumedBehind
@@ -137,7 +137,7 @@ module _ {B C I P R D H G U : Type 0} (w : Workings B C I P R D H G U) (laws : L
       (λ (o : Option (Front B R U H)). IsPlaced w stored base p e.points e.point m.next m.execution.state o) at e.placed in
       ends f finalizing at (WaysStand-free w stored p m.execution.state.anchor m.execution.state moved.moved ways) stored_is e r
 
-  -- Where they are open without the pause, execution stands behind the end of a finalization whose block is the anchor.
+  -- Where they are open without the pause, execution stands after the end of a finalization whose block is the anchor.
   pub Executes-ends : (f : Finalizing B G) → IsFinalizing w m f → m.execution.front ≡ front_at f.block Advanced
       → WaysStand w stored p m.execution.state.anchor (record m.execution.state { pause = Free })
       → IsStoredNow stored p stored_now → Executes w stored base p m → EndsFinalization w stored_now f m now → ExecutesBehind w stored base p m now

@@ -1,4 +1,4 @@
--- Behind an opening execution stands, and nothing goes on.
+-- After an opening execution stands, and nothing goes on.
 use Rattle.std.proofs.Common.{◌≡◌, inl, inr, ℕ, Bool, true, false, nat_lt, if◌then◌else◌, List, [], ◌∷◌, Option, Some, None, refl, sym, ap, ◌∙◌, subst}
 use Rattle.std.proofs.lemmas.List.Elements.{All-nil}
 use Rattle.stateful_types.specs.Names.{Named}
@@ -109,7 +109,7 @@ module _ {B C I P R D H G U : Type 0} (w : Workings B C I P R D H G U) (stored s
       })
       (λ x y has_x has_y. names x y (before x has_x) (before y has_y)))
 
-  -- Where nothing was live, execution stands behind an opening, over the states that the databases hold.
+  -- Where nothing was live, execution stands after an opening, over the states that the databases hold.
   pub Executes-opens : Executes w stored o.opening.at.1 (Made (Opened (anchor_by w.header o.block)) ∷ p) now
   Executes-opens = record {
     points = points;

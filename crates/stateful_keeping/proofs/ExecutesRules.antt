@@ -1,4 +1,4 @@
--- Execution stands behind each rule of the loop.
+-- Execution stands after each rule of the loop.
 use Rattle.std.proofs.Common.{◌≡◌, ℕ, [], ◌∷◌, List, Option, Some, None, IsSome, false, ◌++◌, refl, sym, ap, ◌∙◌, subst}
 use Rattle.stateful_types.specs.Names.{Named}
 use Rattle.stateful_db.specs.Laws.{Laws}

@@ -1,4 +1,4 @@
--- Execution stands behind every event that is taken in, but for a restart.
+-- Execution stands after every event that is taken in, but for a restart.
 use Rattle.std.proofs.Common.{◌≡◌, ◌∷◌, ℕ, true, Option, Some}
 use Rattle.stateful_types.specs.Names.{Named}
 use Rattle.stateful_db.specs.Laws.{Laws}
@@ -34,7 +34,7 @@ message_besides e x is = tt
 module _ {B C I P R D H G U : Type 0} (w : Workings B C I P R D H G U) (laws : Laws w.kind) (stored : ℕ → Option (Named B)) (base : w.States)
     (p : Past B C I) (stored_now : ℕ → Option (Named B)) (stored_is : IsStoredNow stored p stored_now) (count : ℕ) (counts : Counts R D H)
     (m now : Moment w) (h : Executes w stored base p m) (kept : WaysKept w stored p m.execution.state) where
-  -- behind an event that names what is live, where names are true with the marks that it makes
+  -- after an event that names what is live, where names are true with the marks that it makes
   pub Executes-taken : (e : Event B C I) → (IsRestart e → ⊥) → names_live count p e ≡ true → NamesBehind w stored base (Came e ∷ p) m now
       → TakesIn w stored_now counts m now e → ExecutesBehind w stored base (Came e ∷ p) m now
   Executes-taken e on live names (enters {x = x} is becomes) =

@@ -1,4 +1,4 @@
--- Execution stands behind the marks that the loop makes beside it.
+-- Execution stands after the marks that the loop makes beside it.
 use Rattle.std.proofs.Common.{◌≡◌, ◌≢◌, ◌++◌, suc, ℕ, List, [], ◌∷◌, map, All, AllPairs, Option, None, Some, IfSome, refl, sym, ◌∙◌, arith, get_or}
 use Rattle.std.proofs.lemmas.List.Elements.{All-head, All-tail}
 use Rattle.stateful_types.specs.Names.{Named}

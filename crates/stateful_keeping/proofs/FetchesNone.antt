@@ -1,4 +1,4 @@
--- Where no request fetches, none does behind a turn of a candidate run; and where execution is paused, every fetch is given up.
+-- Where no request fetches, none does after a turn of a candidate run; and where execution is paused, every fetch is given up.
 use Rattle.std.proofs.Common.{◌≡◌, not, ℕ, List, [], ◌∷◌, get_or, Option, Result, Ok, Err}
 use Rattle.std.proofs.lemmas.List.Elements.{All-filter, All-map}
 use Rattle.stateful_types.specs.Names.{Named}
@@ -99,7 +99,7 @@ module _ {B C I P R D H G U : Type 0} (w : Workings B C I P R D H G U) where
       (record settles.done { state = released j settles.done.state }) now settles.follow
       (All-filter (λ (e : ℕ × Requested B C I). not (is_on j e.1.phase)) (λ e. (f : ℕ) → e.1.phase ≡ Fetching f → ⊥) settles.done.state.requests done)
 
-  -- behind a turn of a candidate run, and what its answer leads to, no request fetches that didn't
+  -- after a turn of a candidate run, and what its answer leads to, no request fetches that didn't
   pub FetchesNone-steps : (count : R → ℕ) (m now : Moment w) (j : ℕ) → Steps w count m j now → FetchesNone m.state.requests
       → FetchesNone now.state.requests
   FetchesNone-steps count m now j steps before = by steps.running steps.answer steps.turns steps.settles

@@ -252,7 +252,7 @@ module _ {B C I P R D H G U : Type 0} (w : Workings B C I P R D H G U) (laws : L
           → HasMovedAt w stored base points point tip_now laws.ids.issued_other b how p m
           → Waited w stored base points point tip_now laws.ids.issued_other b how p m r → Besides r → TrueNames (setting w stored) (after p more)
           → Follows w b how r m now → Stays p m → Stays (after p more) now) (last : Moment w) where
-        -- Behind the end of a run, once the anchor has moved on, the requests that waited for it make marks that keep the rule, and
+        -- After the end of a run, once the anchor has moved on, the requests that waited for it make marks that keep the rule, and
         -- what is to stay stays.
         pub follow-moved : IsReleased w stored q point j b done → HasMovedSo done.state
             → InTurn (Follows w b how) (released_on j done.state.requests) (record done { state = released j done.state }) last

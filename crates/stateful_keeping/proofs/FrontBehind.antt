@@ -1,4 +1,4 @@
--- Execution stands behind a rule of a finalization: what its tables and its front stand for, with where it is placed.
+-- Execution stands after a rule of a finalization: what its tables and its front stand for, with where it is placed.
 use Rattle.std.proofs.Common.{◌≡◌, ℕ, [], ◌∷◌, All, true, false, Option, None, Some, IsSome, refl, sym, ap, ◌∙◌, subst}
 use Rattle.stateful_types.specs.Names.{Named}
 use Rattle.stateful_types.specs.declared.digest.Digest.{Digest}

@@ -1,4 +1,4 @@
--- Execution stands behind a turn of the finalized block's run, and of its hook.
+-- Execution stands after a turn of the finalized block's run, and of its hook.
 use Rattle.std.proofs.Common.{◌≡◌, ℕ, List, ◌∷◌, Option, Result, Ok, Err, refl, sym, subst}
 use Rattle.stateful_types.specs.Names.{Named}
 use Rattle.stateful_types.specs.declared.outcome.Moved.{Moved}
@@ -107,14 +107,14 @@ module _ {B C I P R D H G U : Type 0} (w : Workings B C I P R D H G U) (stored :
         (λ o. IsPlaced w stored base (after q f.more) e.points e.point m.next m.execution.state o) now answer settles (λ r. after_it)
         (λ batch. after_it))
 
-    -- behind a turn of the finalized block's run, whatever it leads to
+    -- after a turn of the finalized block's run, whatever it leads to
     pub turns_final : (counts : Counts R D H) (b : Named B) (run : R) → IsFinalLive w m.execution.front j b run
         → StepsFinal w counts.run m.members m.execution.front j m.marks marks next → ExecutesBehind w stored base q m Turned
     turns_final counts b run live (turned {b = c} {run = r} {turned = now} {answer = answer} is_live had settles) =
         stepped counts.run c r now answer is_live had settles
     turns_final counts b run live (not_live off same is) = absurd (off b run live)
 
-  -- Execution stands behind a turn of the hook, whatever it leads to.
+  -- Execution stands after a turn of the hook, whatever it leads to.
   pub Executes-turns_hook : (counts : Counts R D H) (now : Moment w) → Hooks w j m
       → TurnsHook w counts.hook m.members m.execution.front j m.marks marks next
       → now ≡ record m { execution = record m.execution { front = next }; marks = marks } → NamesBehind w stored base

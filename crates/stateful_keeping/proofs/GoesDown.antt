@@ -61,7 +61,7 @@ module _ {B C I P R D H G U : Type 0} (w : Workings B C I P R D H G U) where
   pub IsDownAt-sound : (q : Past B C I) (m : Moment w) → IsDownAt w q m → Sound w m
   IsDownAt-sound q m h = record { none_away = h.counted.none_away; up = λ up. absurd (true≢false (sym up ∙ h.empty.up)) }
 
-  -- Where no number falls and nothing goes on at a later moment, as behind an opening that failed, it is down there too.
+  -- Where no number falls and nothing goes on at a later moment, as after an opening that failed, it is down there too.
   pub IsDownAt-rises : (q : Past B C I) (m now : Moment w) → Rises m.execution.state now.execution.state
       → m.loop.next_barrier ≤ now.loop.next_barrier → w.kind.NoneAway now.members → IsEmpty w now → IsDownAt w q m → IsDownAt w q now
   IsDownAt-rises q m now rises barriers away empty h = record {
@@ -72,14 +72,14 @@ module _ {B C I P R D H G U : Type 0} (w : Workings B C I P R D H G U) where
 
   module _ (p : Past B C I) (m now : Moment w) (counted : IsCounted w p m) (marks more : List (Mark B)) (ending : All IsEnding more)
       (cleared : IsCleared w (record m { marks = marks }) now) where
-    -- It is so behind a stop, whose marks end what was live.
+    -- It is so after a stop, whose marks end what was live.
     pub IsDownAt-stopped : NothingLive (after p more) → IsDownAt w (after p more) now
     IsDownAt-stopped nothing =
         let behind : IsCounted w (after p more) m = IsCounted-ends w m p more ending counted in
         IsDownAt-cleared (after p more) (record m { marks = marks }) now
         (record { numbers = behind.numbers; barriers = behind.barriers; none_away = behind.none_away }) nothing cleared
 
-    -- And so it is behind a restart, before the databases are opened.
+    -- And so it is after a restart, before the databases are opened.
     pub IsDownAt-restarts : (floor : Floor) (keep : List ℕ) → NothingLive (after (Came (Restart floor keep) ∷ p) more)
         → IsDownAt w (after (Came (Restart floor keep) ∷ p) more) now
     IsDownAt-restarts floor keep nothing =

@@ -1,4 +1,4 @@
--- Behind each rule of the loop live runs go on turning, and where nothing pauses each request that waits abstains.
+-- After each rule of the loop live runs go on turning, and where nothing pauses each request that waits abstains.
 use Rattle.std.proofs.Common.{◌≡◌, ◌≤◌, ◌<◌, inl, inr, ◌⊎◌, ℕ, List, [], ◌∷◌, map, All, Option, None, Some, get_or, refl, sym, ap, ◌∙◌, subst, arith}
 use Rattle.std.proofs.lemmas.List.{append_cancel_left}
 use Rattle.std.proofs.lemmas.List.Elements.{All-weaker}
@@ -87,7 +87,7 @@ module _ {B C I P R D H G U : Type 0} (w : Workings B C I P R D H G U) (stored :
     started-Goes costs q j b le turned t has n cost =
         subst (λ (i : ℕ). i < n) (sym (turned ∙ x.tables.numbers.unturned j le)) (costs finality.Candidate t b.block n cost)
 
-  -- behind the apply of a finalized block
+  -- after the apply of a finalized block
   module _ (laws : Laws w.kind) (p : Past B C I) (m now : Moment w) (f : Finalizes B G) (r : AppliesBlock w f m now) (x : Executes w stored base p m)
       (fin : IsFinalizing w m f) (has : HasStates w m f.block) where
     abbrev q : Past B C I
@@ -199,7 +199,7 @@ module _ {B C I P R D H G U : Type 0} (w : Workings B C I P R D H G U) (stored :
           let no : Finalizing o.paused.boundary ≡ Free = sym paused ∙ free in absurd (cc);
     }
 
-    -- So it is behind each rule.
+    -- So it is after each rule.
     pub goes-rule : GoesOnAt w stored base last now
     goes-rule = by (rule_carries w m.execution.state.next_job OfRun OfWaiting stored_now
         (λ j b le. started-Goes p m h.executes runs_cost last j b le (turned j)) m.execution.state.anchor

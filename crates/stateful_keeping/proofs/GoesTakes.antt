@@ -1,4 +1,4 @@
--- Behind each event that is taken in live runs go on turning, and where nothing pauses each request that waits abstains.
+-- After each event that is taken in live runs go on turning, and where nothing pauses each request that waits abstains.
 use Rattle.std.proofs.Common.{◌≡◌, ◌≢◌, ◌≤◌, ◌<◌, ◌+◌, ◌==◌, inl, inr, ◌⊎◌, option_map, ℕ, Bool, true, false, List, [], ◌∷◌, All, Option, None, Some, IfSome, get_or, refl, sym, ap, ◌∙◌, subst, arith}
 use Rattle.std.proofs.lemmas.Bool.{eqb-true, eq-eqb}
 use Rattle.std.proofs.lemmas.List.{append_cancel_left}
@@ -275,7 +275,7 @@ module _ {B C I P R D H G U : Type 0} (w : Workings B C I P R D H G U) (stored :
           (turned (event.Turn j) (λ no. no) takes t k ∙ turns-other p j k (λ same.
           let low = x.tables.numbers.jobs j (live-started j p live) in omega (arith, low, le, same)))
 
-  -- So it is behind each event that names what is live, but for a restart.
+  -- So it is after each event that names what is live, but for a restart.
   pub goes-takes_in : (count : ℕ) (e : Event B C I) → (IsRestart e → ⊥) → names_live count p e ≡ true → (takes : TakesIn w stored_now counts m now e)
       → (t : TakenBehind w stored base (Came e ∷ p) m now) → GoesOnAt w stored base (after (Came e ∷ p) t.more) now
   goes-takes_in count (event.Turn j) on live takes t = goes_turned j live takes t

@@ -1,4 +1,4 @@
--- Behind an opening all that is live is in hand, and goes on: nothing is.
+-- After an opening all that is live is in hand, and goes on: nothing is.
 use Rattle.std.proofs.Common.{◌≡◌, ℕ, List, Option, None, ap, ◌∙◌}
 use Rattle.std.proofs.lemmas.List.Elements.{All-nil}
 use Rattle.stateful_types.specs.Names.{Named}

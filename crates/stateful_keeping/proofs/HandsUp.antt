@@ -1,4 +1,4 @@
--- Behind a whole event, but for a restart, all that is live is in hand, and goes on.
+-- After a whole event, but for a restart, all that is live is in hand, and goes on.
 use Rattle.std.proofs.Common.{◌≡◌, ◌++◌, ◌∷◌, [], ℕ, true, List, Option, sym, ap, ◌∙◌, subst, append_assoc, append-nil}
 use Rattle.std.proofs.lemmas.List.{append_cancel_left}
 use Rattle.stateful_types.specs.Names.{Named}
@@ -43,7 +43,7 @@ module _ {B C I P R D H G U : Type 0} (w : Workings B C I P R D H G U) (stored :
   hands_at p m now more is b = subst (λ (ms : List (Mark B)). AllInHand w (after p ms) now × GoesOnAt w stored base (after p ms) now)
       (append_cancel_left m.marks b.more more (sym b.marks_are ∙ is)) (b.hands, b.goes)
 
-  -- behind no mark
+  -- after no mark
   pub hands_same : (p : Past B C I) (m : Moment w) → AllInHand w p m → GoesOnAt w stored base p m → HandsBehind w stored base p m m
   hands_same p m hands goes = record { more = []; marks_are = sym (append-nil m.marks); hands = hands; goes = goes }
 
@@ -59,7 +59,7 @@ module _ {B C I P R D H G U : Type 0} (w : Workings B C I P R D H G U) (stored :
 
   module _ (laws : Laws w.kind) (stored_now : ℕ → Option (Named B)) (provider : P) (runs_cost : RunsTakeTurns w)
       (builds_cost : BuildsTakeTurns w) where
-    -- behind a rule
+    -- after a rule
     pub hands-rule : (p : Past B C I) → IsStoredNow stored p stored_now → (m now : Moment w) → IsUpAt w stored base p m → AllInHand w p m
         → GoesOnAt w stored base p m → Rule w stored_now provider m now → UpBehind w stored base p m now → HandsBehind w stored base p m now
     hands-rule p stored_is m now h hands goes rule u = record {
@@ -70,7 +70,7 @@ module _ {B C I P R D H G U : Type 0} (w : Workings B C I P R D H G U) (stored :
     }
 
     module _ (p : Past B C I) (stored_is : IsStoredNow stored p stored_now) (stores : StoresFinalized w.header stored p) where
-      -- behind rules, one after another
+      -- after rules, one after another
       pub hands-along : (m now : Moment w) → IsUpAt w stored base p m → AllInHand w p m → GoesOnAt w stored base p m
           → Along w stored_now provider m now → HandsBehind w stored base p m now
       hands-along m _ h hands goes none = hands_same p m hands goes

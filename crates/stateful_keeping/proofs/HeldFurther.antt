@@ -1,4 +1,4 @@
--- What the databases hold behind an event that was refused: the fold over what was applied, and over blocks that it has applied.
+-- What the databases hold after an event that was refused: the fold over what was applied, and over blocks that it has applied.
 use Rattle.std.proofs.Common.{◌≡◌, ◌⊎◌, inl, inr, ℕ, true, List, [], ◌∷◌, ◌++◌, All, Option, Some, MatchOption, sym, ap, ◌∙◌, refl, subst, append_assoc, append-nil}
 use Rattle.std.proofs.lemmas.List.{append_cancel_left}
 use Rattle.std.proofs.lemmas.List.Elements.{All-nil, All-cons, All-weaker, All-append}
@@ -100,7 +100,7 @@ module _ {B C I P R D H G U : Type 0} (w : Workings B C I P R D H G U) (laws : L
           };
         }
 
-    -- behind a rule that could go and didn't
+    -- after a rule that could go and didn't
     pub holds-on : TicketsStand w stored q m → LeavesRule w m new → HoldsOn
     holds-on tickets (keeps same) = nothing (kept-fold new same i)
     holds-on tickets (applying {f = f} fin states left) = in_part tickets f fin states left

@@ -1,4 +1,4 @@
--- Behind each event that is taken in, but a restart, all that is live is in hand.
+-- After each event that is taken in, but a restart, all that is live is in hand.
 use Rattle.std.proofs.Common.{◌≡◌, ◌≢◌, ◌<◌, ◌+◌, ◌==◌, ◌++◌, ◌⊎◌, inl, inr, not, ℕ, Bool, true, false, cond, List, [], ◌∷◌, map, filter, Option, Some, None, IsSome, MatchOption, Result, Ok, Err, refl, sym, ap, ◌∙◌, subst, arith, ⊎_elim}
 use Rattle.std.proofs.lemmas.Bool.{eqb-true, eq-eqb}
 use Rattle.std.proofs.lemmas.List.{append-nil}
@@ -376,7 +376,7 @@ module _ {B C I P R D H G U : Type 0} (w : Workings B C I P R D H G U) (p : Past
           absurd (off (sym ticket_is ∙ own.ticket))
       build (asking none cancels same) u off is = built (rw same is)
 
-  -- Behind each event that is taken in, but a restart, all that is live is in hand.
+  -- After each event that is taken in, but a restart, all that is live is in hand.
   pub in_hand-takes_in : (stored_now : ℕ → Option (Named B)) (counts : Counts R D H) (e : Event B C I) (now : Moment w)
       → (IsRestart e → ⊥) → TakesIn w stored_now counts m now e → InHandBehind w (Came e ∷ p) m now
   in_hand-takes_in stored_now counts e now no_restart (intake.enters {x = x} is become) = in_hand-enters e x now is become

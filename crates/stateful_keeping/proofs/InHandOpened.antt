@@ -10,7 +10,7 @@ use Rattle.stateful_processing.specs.Moments.{Moment}
 use Rattle.stateful_keeping.specs.InHand.{IsPutOff, VerifiedApart, AllInHand, InHandBehind}
 
 module _ {B C I P R D H G U : Type 0} (w : Workings B C I P R D H G U) (p : Past B C I) where
-  -- where nothing is live, put off, held or finalized, as behind an opening
+  -- where nothing is live, put off, held or finalized, as after an opening
   pub in_hand-none : (m : Moment w) → ((t : ℕ) → live_ticket t p ≡ None) → m.loop.actions ≡ [] → m.loop.durability.held ≡ [] → m.loop.front ≡ None
       → AllInHand w p m
   in_hand-none m dead actions held front = record {
@@ -26,7 +26,7 @@ module _ {B C I P R D H G U : Type 0} (w : Workings B C I P R D H G U) (p : Past
       (append_cancel_left m.marks b.more more (sym b.marks_are ∙ is)) b.hands
 
 module _ {B C I : Type 0} where
-  -- before anything came, and behind marks, tickets are apart where they were
+  -- before anything came, and after marks, tickets are apart where they were
   pub VerifiedApart-none : VerifiedApart {B = B} {C = C} {I = I} []
   VerifiedApart-none = record { unproposed = λ t is. refl; unsubscribed = λ t is. refl; unfinalized = λ t is. refl }
 

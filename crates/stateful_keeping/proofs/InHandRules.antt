@@ -1,4 +1,4 @@
--- Behind each rule of the loop all that is live is in hand.
+-- After each rule of the loop all that is live is in hand.
 use Rattle.std.proofs.Common.{drop, zero, suc, ◌≡◌, ◌≢◌, ◌<◌, ◌+◌, ◌==◌, ◌++◌, ◌⊎◌, inl, inr, ℕ, Bool, true, false, List, [], ◌∷◌, map, All, Option, Some, None, IfSome, MatchOption, nat_le, nat_lt, refl, sym, ap, ◌∙◌, subst, arith}
 use Rattle.std.proofs.lemmas.Bool.{eqb-true, eq-eqb}
 use Rattle.std.proofs.lemmas.Bool.Decides.{nat_tests}

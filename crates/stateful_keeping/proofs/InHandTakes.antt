@@ -1,4 +1,4 @@
--- Behind what becomes of a message, and of a build, all that is live is in hand; and so it is behind each rule.
+-- Behind what becomes of a message, and of a build, all that is live is in hand; and so it is after each rule.
 use Rattle.std.proofs.Common.{◌≡◌, ◌≢◌, ◌<◌, ◌≤◌, ◌+◌, ◌==◌, ◌++◌, ◌⊎◌, inl, inr, ℕ, Bool, true, false, cond, List, [], ◌∷◌, map, Option, Some, None, IsSome, MatchOption, nat_le, nat_lt, refl, sym, ap, ◌∙◌, subst, arith}
 use Rattle.std.proofs.lemmas.Bool.{eqb-true, eq-eqb}
 use Rattle.std.proofs.lemmas.Bool.Decides.{nat_tests}
@@ -203,7 +203,7 @@ module _ {B C I P R D H G U : Type 0} (w : Workings B C I P R D H G U) (p : Past
   in_hand-does stored_now m now x front low h (rules.holds {t = t} {b = b} again later is) = in_hand-holds t b m now later h is
   in_hand-does stored_now m now x front low h (rules.begins {t = t} {b = b} high r) = in_hand-begins t b m now front (omega (arith, low, high)) h r
 
-  -- Behind each rule of a machine that is up all that is live is in hand.
+  -- After each rule of a machine that is up all that is live is in hand.
   pub in_hand-rule : (stored_now : ℕ → Option (Named B)) (provider : P) (m now : Moment w) → Sound w m → IsInOrder m.loop.durability → AllInHand w p m
       → Rule w stored_now provider m now → InHandBehind w p m now
   in_hand-rule stored_now provider m now sound order h (rules.collects {t = t} up c) = in_hand-collects w p t m now h c

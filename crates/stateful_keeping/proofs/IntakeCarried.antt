@@ -1,4 +1,4 @@
--- Behind each event that is taken in a live candidate run was live before, or its number was drawn since; and where nothing pauses a
+-- After each event that is taken in a live candidate run was live before, or its number was drawn since; and where nothing pauses a
 -- request that waits waited before, or it was found that it has to.
 use Rattle.std.proofs.Common.{◌≡◌, ◌≢◌, ◌≤◌, ◌+◌, ◌++◌, ◌⊎◌, inl, inr, ℕ, List, [], ◌∷◌, All, Option, None, Result, Ok, Err, refl, sym, ap, ◌∙◌, subst, append-nil, arith}
 use Rattle.std.proofs.lemmas.List.Elements.{All-nil, All-cons}
@@ -161,7 +161,7 @@ module _ {B C I P R D H G U : Type 0} (w : Workings B C I P R D H G U) (first : 
         by (Err fault) is = absurd is
 
   module _ (started : (j : ℕ) (b : Named B) → first ≤ j → OfRun j b) where
-    -- Behind a turn of a job, where the job of a live build or hook is that of no candidate run.
+    -- After a turn of a job, where the job of a live build or hook is that of no candidate run.
     pub turns_carry : (counts : Counts R D H) (m now : Moment w) (j : ℕ)
         → (Builds w j m ⊎ Hooks w j m → All (λ (e : ℕ × LiveRun B R). e.0 ≢ j) m.execution.state.runs) → TurnsJob w counts j m now
         → CarriesIn (OfTurned w first OfRun OfWaiting (inner w m) j) m now

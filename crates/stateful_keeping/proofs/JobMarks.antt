@@ -80,7 +80,7 @@ module _ {B C I P R D H G U : Type 0} (w : Workings B C I P R D H G U) (stored :
     names = names;
   }
 
-  -- and behind a turn and such marks
+  -- and after a turn and such marks
   pub IsGrown-turn : (j : ℕ) → TrueNames (setting w stored) (after (Came (Turn j) ∷ p) more)
       → IsGrown w stored base p (after (Came (Turn j) ∷ p) more) point
   IsGrown-turn j names = record {

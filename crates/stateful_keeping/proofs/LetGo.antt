@@ -34,7 +34,7 @@ use Rattle.stateful_keeping.proofs.PlacedBehind.{round_of_block}
 
 module _ {B C I P R D H G U : Type 0} (w : Workings B C I P R D H G U) (stored : ℕ → Option (Named B)) (base : w.States) (p : Past B C I)
     (point : Point w) (m : Moment w) (j : ℕ) (b : Named B) (how : How) (done : Moment w) where
-  -- Behind the end of a run the requests that waited for it are in hand, what is cached and goes on over a finalization is compatible
+  -- After the end of a run the requests that waited for it are in hand, what is cached and goes on over a finalization is compatible
   -- with it, or its block is the anchor; and the databases are where the applied blocks lead to.
   pub record IsLetGo : Type 0 where
     pub names : TrueNames (setting w stored) p

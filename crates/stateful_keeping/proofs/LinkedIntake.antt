@@ -1,4 +1,4 @@
--- What was gathered stays linked, and the parents of queued proposals known or lost, behind an event that is taken in.
+-- What was gathered stays linked, and the parents of queued proposals known or lost, after an event that is taken in.
 use Rattle.std.proofs.Common.{◌≡◌, ◌++◌, ◌∷◌, [], ℕ, true, List, Option, None, Result, Ok, Err, sym, ap, ◌∙◌, subst, append-nil}
 use Rattle.std.proofs.lemmas.List.Elements.{All-cons}
 use Rattle.stateful_types.specs.Names.{Named}
@@ -58,11 +58,11 @@ module _ {B C I P R D H G U : Type 0} (w : Workings B C I P R D H G U) (laws : L
     abbrev q : Past B C I
     q = Came e ∷ p
 
-    -- it is so behind the event
+    -- it is so after the event
     came : StaysLinked w stored base q v
     came = StaysLinked-on w stored base p (Came e) (came_still p e on) names v (queue-met w stored p v.queued v.recovered u.executes.tables.queue) h
 
-    -- and behind marks that open nothing, begin no finalization and ask for nothing, where requests and the queue are as they were
+    -- and after marks that open nothing, begin no finalization and ask for nothing, where requests and the queue are as they were
     marked : (marks : List (Mark B)) → AreStill w stored base q marks → now.marks ≡ m.marks ++ marks
         → now.execution.state.requests ≡ v.requests → now.execution.state.queued ≡ v.queued → TablesLinkedBehind w stored base q m now
     marked marks still is requests queued =
@@ -234,7 +234,7 @@ module _ {B C I P R D H G U : Type 0} (w : Workings B C I P R D H G U) (laws : L
     tables-turns (intake.run {then = then} {after = last} not_built not_hooked rule is) =
         run_turn then last rule (ap (λ (n : Moment w). n.marks) is) (ap (λ (n : Moment w). n.execution.state) is)
 
-  -- It stays so behind an event that is taken in, and is no restart.
+  -- It stays so after an event that is taken in, and is no restart.
   pub tables-takes_in : (stored_now : ℕ → Option (Named B)) (counts : Counts R D H) → m.loop.up ≡ true → (e : Event B C I) → (IsRestart e → ⊥)
       → IsTrusted w stored (Came e ∷ p) → TrueNames (setting w stored) (Came e ∷ p) → NamesBehind w stored base (Came e ∷ p) m now
       → TakesIn w stored_now counts m now e → TablesLinkedBehind w stored base (Came e ∷ p) m now

@@ -1,4 +1,4 @@
--- What was gathered stays linked, and the parents of queued proposals known or lost, behind the end of a run once the anchor has moved on.
+-- What was gathered stays linked, and the parents of queued proposals known or lost, after the end of a run once the anchor has moved on.
 use Rattle.std.proofs.Common.{◌≡◌, inr, ℕ, List, [], ◌∷◌, All, Option, Some, Ok, refl, sym, ◌∙◌, subst}
 use Rattle.std.proofs.lemmas.List.{append_assoc}
 use Rattle.std.proofs.lemmas.List.Elements.{All-head}
@@ -61,7 +61,7 @@ module _ {B C I P R D H G U : Type 0} (w : Workings B C I P R D H G U) (laws : L
     (drawn : w.kind.issued m.next (point ∷ [])) (f : HasMovedOn w stored base p points point m.next m.state)
     (ways : WaysStand w stored p m.state.anchor m.state) (honest : IsHonest (setting w stored) p) (answered : IsAnswered p)
     (h : StaysLinked w stored base p m.state) (j : ℕ) (b : Named B) (o : Option U) (how : How) where
-  -- It stays so behind the last turn of a run, and the requests that waited for it.
+  -- It stays so after the last turn of a run, and the requests that waited for it.
   pub StaysLinked-moved : (count : R → ℕ) (running : Tables B C I R U) → TurnsRun w count m.members j m.state running (Ok (Done o))
       → (done last : Moment w) → EndsRun w (record m { state = running }) j b o how done
       → InTurn (Follows w b how) (released_on j done.state.requests) (record done { state = released j done.state }) last

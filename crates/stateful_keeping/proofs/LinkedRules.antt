@@ -1,4 +1,4 @@
--- What was gathered stays linked, and the parents of queued proposals known or lost, behind each rule of the loop.
+-- What was gathered stays linked, and the parents of queued proposals known or lost, after each rule of the loop.
 use Rattle.std.proofs.Common.{◌≡◌, ◌<◌, ◌++◌, ◌∷◌, [], ℕ, Bool, List, Option, None, Some, All, map, refl, sym, ap, ◌∙◌, subst, append-nil, arith}
 use Rattle.std.proofs.lemmas.List.Elements.{All-nil, All-cons, All-head}
 use Rattle.stateful_types.specs.Names.{Named}
@@ -120,7 +120,7 @@ module _ {B C I P R D H G U : Type 0} (w : Workings B C I P R D H G U) (stored :
         (ap (λ (n : Moment w). n.marks) r.becomes) (ap (λ (n : Moment w). n.execution.state.requests) r.becomes)
         (ap (λ (n : Moment w). n.execution.state.queued) r.becomes)
 
-    -- what is observed behind a finalized block makes no mark, or that of the hook's start
+    -- what is observed after a finalized block makes no mark, or that of the hook's start
     observed : (b : Named B) (hook_left : Hooked H) (new : Tables B C I R U) (made : List (Mark B)) (after : Option (Front B R U H)) (live : Bool)
         → HooksOn w b hook_left m.execution.state new m.marks made after live → now.marks ≡ made → now.execution.state ≡ new → TablesLinkedBehind m now
     observed b hooked.Done new made after live hooks is state =
@@ -243,7 +243,7 @@ module _ {B C I P R D H G U : Type 0} (w : Workings B C I P R D H G U) (laws : L
   as_at : (mid : Moment w) → mid.execution ≡ m.execution → StaysLinked w stored base p mid.execution.state
   as_at mid same = subst (λ (x : Executing B C I R D H U). StaysLinked w stored base p x.state) (sym same) h
 
-  -- It stays so behind a rule of the loop, where the messages of the loop are linked.
+  -- It stays so after a rule of the loop, where the messages of the loop are linked.
   pub tables-rule : LoopIsLinked w stored m → (provider : P) → Rule w stored_now provider m now → TablesLinkedBehind w stored base p m now
   tables-rule loop provider (rule.collects up r) =
       tables-same w stored base p m now u.executes names h (ap (λ (n : Moment w). n.marks) r.becomes)

@@ -1,4 +1,4 @@
--- What was gathered stays linked, and the parents of queued proposals known or lost, behind a turn of a candidate run.
+-- What was gathered stays linked, and the parents of queued proposals known or lost, after a turn of a candidate run.
 use Rattle.std.proofs.Common.{◌≡◌, ℕ, inl, inr, [], ◌∷◌, Option, Some, None, Result, Ok, Err, refl, sym, subst}
 use Rattle.std.proofs.lemmas.List.{append-nil}
 use Rattle.stateful_types.specs.Names.{Named}
@@ -60,7 +60,7 @@ module _ {B C I P R D H G U : Type 0} (w : Workings B C I P R D H G U) (laws : L
   StaysLinked-turn = StaysLinked-on w stored base p (Came (Turn j)) tt came_names v (queue-met w stored p v.queued v.recovered e.tables.queue) h
 
   module _ (count : R → ℕ) (now : exec.Moment w) (turn : Steps w count (inner w m) j now) where
-    -- where it is so behind each end of a run
+    -- where it is so after each end of a run
     by_answer : ((o : Option U) (running : Tables B C I R U) → TurnsRun w count m.members j v running (Ok (Done o))
         → Settles w (record (inner w m) { state = running }) j o now → Behind now) → Behind now
     by_answer settled = go turn.running turn.answer turn.turns turn.settles
@@ -112,7 +112,7 @@ module _ {B C I P R D H G U : Type 0} (w : Workings B C I P R D H G U) (laws : L
         (WaysStand-tip w stored p v v.anchor f.ground.folded.tip_is kept) honest answered h j settles.block o settles.how count running turns
         settles.done now settles.ends settles.follow)
 
-    -- It stays so behind a turn of a candidate run, where the block of the finalization that goes on came as finalized.
+    -- It stays so after a turn of a candidate run, where the block of the finalization that goes on came as finalized.
     pub StaysLinked-run : ((b : Named B) (stage : Stage R U H) → m.execution.front ≡ front_at b stage → (t : ℕ) × (finalized_since t p ≡ Some b))
         → LinkedBehind w stored base (Came (Turn j) ∷ p) (inner w m) now
     StaysLinked-run came = go m.execution.front refl e.placed

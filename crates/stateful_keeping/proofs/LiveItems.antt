@@ -94,7 +94,7 @@ awaited_other m n answer k i (b ∷ bs) up some = by (awaits m n b) refl (λ res
         (awaited_at k i b (with_answer m n answer bs) there)
 
 module _ {B C I : Type 0} (count : ℕ) (p : Past B C I) (barriers : List Active) (h : AwaitsLive count p barriers) where
-  -- behind calm items, and behind an applied block
+  -- behind calm items, and after an applied block
   pub AwaitsLive-calm : (x : Item B C I) → IsCalmItem x → AwaitsLive count (x ∷ p) barriers
   AwaitsLive-calm (Came (Restart floor keep)) calm = absurd calm
   AwaitsLive-calm (Came (Flushed k i answer)) calm = absurd calm
@@ -135,7 +135,7 @@ module _ {B C I : Type 0} (count : ℕ) (p : Past B C I) (barriers : List Active
           let lt = within new.barrier i (and_parts (eqb new.number k) (is_some (open_at new.barrier i)) w).1 in
           and_from (k == new.number) (nat_lt i count) (eq-eqb k new.number (sym (own_number k i new w))) (lt-ltb i count (omega (arith, lt, as_many)))
 
--- behind the end of the oldest
+-- after the end of the oldest
 pub AwaitsLive-done : {B C I : Type 0} (count : ℕ) (p : Past B C I) (oldest : Active) (more : List Active) (height : Height)
     → Ascending (oldest ∷ more) → AwaitsLive count p (oldest ∷ more)
     → AwaitsLive count (Made (BarrierDone oldest.number height true) ∷ p) more

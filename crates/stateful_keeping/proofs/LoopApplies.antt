@@ -1,4 +1,4 @@
--- What the loop keeps stands behind an apply.
+-- What the loop keeps stands after an apply.
 use Rattle.std.proofs.Common.{◌≡◌, ◌+◌, ◌∷◌, [], ℕ, List, Option, Some, refl, sym, ap, subst, arith}
 use Rattle.stateful_types.specs.Anchor.{anchor_by}
 use Rattle.stateful_types.specs.Names.{Named}

@@ -1,4 +1,4 @@
--- Behind each rule of the loop a live candidate run was live before, or its number was drawn since; and where nothing pauses a
+-- After each rule of the loop a live candidate run was live before, or its number was drawn since; and where nothing pauses a
 -- request that waits waited before, or it was found that it has to.
 use Rattle.std.proofs.Common.{◌≡◌, ◌≤◌, ◌+◌, ◌++◌, ◌⊎◌, inl, inr, ℕ, true, false, List, [], ◌∷◌, map, All, Option, sym, ap, ◌∙◌, subst, append-nil, arith}
 use Rattle.std.proofs.lemmas.List.Elements.{All-nil, All-cons}
@@ -62,7 +62,7 @@ module _ {B C I P R D H G U : Type 0} (w : Workings B C I P R D H G U) (first : 
     pub freed : now.execution.state.pause ≡ Free
         → (m.execution.state.pause ≡ Free) ⊎ OfRequests w first OfRun OfWaiting now.execution.state.requests
 
-  -- so it is behind a rule; or the rule begins a finalization, or applies the block of one
+  -- so it is after a rule; or the rule begins a finalization, or applies the block of one
   pub data RuleCarries (m now : Moment w) : Type 0 where
     carried : CarriesAt m now → RuleCarries m now
     begun : BeginsAt w m now → RuleCarries m now
@@ -195,7 +195,7 @@ module _ {B C I P R D H G U : Type 0} (w : Workings B C I P R D H G U) (first : 
         inl (unmarked m now (ap (λ (n : Moment w). n.execution) is) (ap (λ (n : Moment w). n.marks) is))
     does m now x here (rules.begins {t = t} {b = b} high r) = inr (begins_finalization t b m now r)
 
-    -- So it is behind each rule.
+    -- So it is after each rule.
     pub rule_carries : (provider : P) (m now : Moment w) → m.execution.state.anchor ≡ anchor → Rule w stored_now provider m now → RuleCarries m now
     rule_carries provider m now here (rules.collects {t = t} up c) = carried
         (still m now [] (ap (λ (n : Moment w). n.marks) c.becomes ∙ sym (append-nil m.marks)) (All-nil (λ x. IsMild x))

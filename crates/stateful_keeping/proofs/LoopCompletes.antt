@@ -1,4 +1,4 @@
--- What the loop keeps stands behind the end of a barrier, and behind acknowledgements of durable heights.
+-- What the loop keeps stands after the end of a barrier, and behind acknowledgements of durable heights.
 use Rattle.std.proofs.Common.{◌≡◌, ◌≤◌, ◌<◌, ◌+◌, ◌-◌, ◌++◌, ◌∷◌, [], ℕ, List, All, length, map, drop, Option, Some, MatchOption, true, refl, sym, ap, subst, arith, nat_le}
 use Rattle.std.proofs.lemmas.Bool.{leb-true}
 use Rattle.std.proofs.lemmas.List.Elements.{All-head, All-tail, All-filter, filter_passes}

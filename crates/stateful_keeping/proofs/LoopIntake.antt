@@ -1,4 +1,4 @@
--- What the loop keeps stands behind every event that is taken in, but for a restart.
+-- What the loop keeps stands after every event that is taken in, but for a restart.
 use Rattle.std.proofs.Common.{◌≡◌, ◌∷◌, [], ℕ, Option, Some, refl, sym, ap, ◌∙◌}
 use Rattle.std.proofs.lemmas.List.{append-nil}
 use Rattle.stateful_types.specs.Names.{Named}

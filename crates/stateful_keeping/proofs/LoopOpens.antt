@@ -1,4 +1,4 @@
--- What the loop keeps stands behind an opening, and the databases hold what it says.
+-- What the loop keeps stands after an opening, and the databases hold what it says.
 use Rattle.std.proofs.Common.{◌≡◌, ◌∷◌, [], ℕ, List, Option, Some, MatchOption, sym, ap, ◌∙◌, subst, arith}
 use Rattle.std.proofs.lemmas.Bool.{false≢true}
 use Rattle.std.proofs.lemmas.List.Elements.{All-nil}

@@ -1,4 +1,4 @@
--- What the loop keeps stands behind the rules of execution, which say nothing of it, and where receipts are held.
+-- What the loop keeps stands after the rules of execution, which say nothing of it, and where receipts are held.
 use Rattle.std.proofs.Common.{◌≡◌, ℕ, Option, refl}
 use Rattle.stateful_types.specs.Names.{Named}
 use Rattle.stateful_durability.specs.Durability.{with_duplicate}

@@ -1,4 +1,4 @@
--- What the media keep is kept over rules, one after another, over whole events, and behind an event that was refused.
+-- What the media keep is kept over rules, one after another, over whole events, and after an event that was refused.
 use Rattle.std.proofs.Common.{◌≡◌, ◌<◌, ◌^◌, ◌++◌, ◌∷◌, [], ℕ, true, List, Option, sym, ap, ◌∙◌, subst, append_assoc, append-nil}
 use Rattle.std.proofs.lemmas.List.{append_cancel_left}
 use Rattle.stateful_types.specs.Names.{Named}
@@ -66,7 +66,7 @@ module _ {B C I P R D H G U : Type 0} (w : Workings B C I P R D H G U) (laws : L
         (subst (λ (r : Past B C I). MediaKept w stored r now.execution.state.anchor now.members) (sym (after-append p one.more two.more))
         (rule-media w laws stored base (after p one.more) mid now there stored_now provider rule two kept))
 
-  -- behind a rule that could go and didn't the databases keep their checkpoints
+  -- after a rule that could go and didn't the databases keep their checkpoints
   left-preserves : (p : Past B C I) (m : Moment w) (new : w.kind.Members) → Executes w stored base p m → w.kind.count < 2 ^ 64
       → LeavesRule w m new → Preserves w.kind m.members new
   left-preserves p m new e few (keeps same) = same.preserves few
@@ -104,7 +104,7 @@ module _ {B C I P R D H G U : Type 0} (w : Workings B C I P R D H G U) (laws : L
       kept_behind = along-media (after q taken.more) stored_now stored_mid provider runs_cost builds_cost stores_mid mid now taken.stands
           (taken-media w laws stored base p m mid up h event on taken k stored_now counts takes) along behind.more behind.marks_are
 
-      -- behind the event and rules, one after another, with whatever marks were made
+      -- after the event and rules, one after another, with whatever marks were made
       pub event-media : (more : List (Mark B)) → now.marks ≡ m.marks ++ more
           → MediaKept w stored (after q more) now.execution.state.anchor now.members
       event-media more are =
@@ -113,7 +113,7 @@ module _ {B C I P R D H G U : Type 0} (w : Workings B C I P R D H G U) (laws : L
           (subst (λ (r : Past B C I). MediaKept w stored r now.execution.state.anchor now.members)
           (sym (after-append q taken.more behind.more)) kept_behind)
 
-      -- and behind a rule that could go then and didn't, of what could be opened before the event
+      -- and after a rule that could go then and didn't, of what could be opened before the event
       pub left-media : (new : w.kind.Members) → w.kind.count < 2 ^ 64 → LeavesRule w now new → KeepsReopenable w stored p new
       left-media new few left =
           let r : Past B C I = after (after q taken.more) behind.more in

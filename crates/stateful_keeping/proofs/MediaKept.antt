@@ -1,4 +1,4 @@
--- What the media keep is kept by databases that keep their checkpoints, behind an apply, and at an opening.
+-- What the media keep is kept by databases that keep their checkpoints, after an apply, and at an opening.
 use Rattle.std.proofs.Common.{◌≡◌, ◌≤◌, ◌<◌, ◌+◌, ⊎_elim, ℕ, Option, Some, sym, ◌∙◌, subst, arith}
 use Rattle.std.proofs.lemmas.Bool.{cases_lt}
 use Rattle.stateful_types.specs.Anchor.{anchor_by}

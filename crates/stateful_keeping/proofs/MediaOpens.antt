@@ -22,7 +22,7 @@ use Rattle.stateful_processing.specs.Opening.{Opens, FailsToOpen, FaultsOpening}
 use Rattle.stateful_processing.specs.declared.error.StepError.{StepError}
 use Rattle.stateful_processing.specs.declared.error.StepError.TheVariants.{Database, TargetMismatch, MissingBlock, OutOfMemory}
 use Rattle.stateful_keeping.specs.Down.{IsEnding}
-use Rattle.stateful_keeping.specs.Media.{KeepsDurably, targets_of, TargetsRise, KeepsReopenable, MediaKept}
+use Rattle.stateful_keeping.specs.Media.{KeepsSome, KeepsDurably, targets_of, TargetsRise, KeepsReopenable, MediaKept}
 use Rattle.stateful_keeping.specs.Ways.{StoresHeights}
 use Rattle.stateful_keeping.proofs.ExecutesOpens.{handed}
 use Rattle.stateful_keeping.proofs.MediaKept.{KeepsHeights-opened}
@@ -88,7 +88,7 @@ module _ {B C I P R D H G U : Type 0} (w : Workings B C I P R D H G U) (laws : L
         tried_keeps crashed new block tried (laws.opening.kept_reopened crashed new (targets_of w stored block)
         (laws.opening.sound_crashed old crashed keep sound tried.is_crashed) reopened)
 
-  -- The databases weren't opened: they keep what can be opened again behind a restart that was tried.
+  -- The databases weren't opened: they keep what can be opened again after a restart that was tried.
   pub tried-media : (new : w.kind.Members) → w.kind.count < 2 ^ 64 → LeavesOpening w stored_now floor keep old new
       → KeepsReopenable w stored (Tried (record { 0 = reopened_height floor }) ∷ p) new
   tried-media new few left q i b (inl reached) is within = left_keeps q i b (inl reached.1) reached.0 is within new few left
@@ -136,7 +136,7 @@ module _ {B C I P R D H G U : Type 0} (w : Workings B C I P R D H G U) (laws : L
         (laws.opening.sound_crashed old o.crashed keep sound is_tried.is_crashed) o.reopened)
     opens_keeps q i b (inr none) is within = absurd none.0
 
-    -- The databases were opened, behind marks by which live work ends.
+    -- The databases were opened, after marks by which live work ends.
     pub opens-media : MediaKept w stored behind anchor now.members
     opens-media = record {
       reopenable = opens_keeps;
@@ -151,16 +151,16 @@ module _ {B C I P R D H G U : Type 0} (w : Workings B C I P R D H G U) (laws : L
     (keep : List ℕ) (old new : w.kind.Members) (sound : w.kind.Sound old) (block : Named B)
     (is_stored : stored_now (reopened_height floor) ≡ Some block) (few : w.kind.count < 2 ^ 64) (before now : ℕ → ℕ)
     (still : (i : ℕ) → i < w.kind.count → Rose (before i) (now i) → ⊥)
-    (k : (i : ℕ) → i < w.kind.count → KeepsDurably w.kind old (w.works.meaning.targets block.block) i) where
+    (k : (crashed : w.kind.Members) → w.kind.Crashed old keep crashed → (i : ℕ) → i < w.kind.count
+    → KeepsSome w.kind crashed (w.works.meaning.targets block.block) i) where
   abbrev targets : w.Targets
   targets = w.works.meaning.targets block.block
 
-  -- databases that keep the block's checkpoints aren't refused
+  -- databases that keep the block's checkpoints after the crash aren't refused
   unrefused : (i : ℕ) (why : InitError) (f : FailsToOpen w stored_now floor keep before now old new i why)
       → w.kind.Refuses f.crashed (Some (w.works.meaning.targets f.block.block)) i why → ⊥
   unrefused i why f refuses =
-      let at : KeepsDurably w.kind f.crashed targets i =
-      KeepsDurably-crashed w.kind laws targets i f.within old f.crashed keep f.is_crashed (k i f.within) in
+      let at : KeepsSome w.kind f.crashed targets i = k f.crashed f.is_crashed i f.within in
       let same : f.block ≡ block = one_stored (stored_now (reopened_height floor)) f.block block f.is_stored is_stored in
       laws.opening.not_refused f.crashed targets i at.place at.at.state why (laws.opening.sound_crashed old f.crashed keep sound f.is_crashed)
       f.within at.at.has (subst (λ (t : w.Targets). w.kind.Agrees t targets i) (sym at.at.targets) (laws.targets.agrees_same targets i))
@@ -176,8 +176,8 @@ module _ {B C I P R D H G U : Type 0} (w : Workings B C I P R D H G U) (laws : L
       go (inr (inl rose)) = still i f.within rose.1
       go (inr (inr refuses)) = unrefused i why f refuses
 
-  -- Where each database keeps the checkpoint of the block at the height that is to be opened, and no count of faults rises, nothing
-  -- but memory keeps them from being opened.
+  -- Where each database keeps after the crash a checkpoint of the block at the height that is to be opened, and no count of faults
+  -- rises, nothing but memory keeps them from being opened.
   pub refused-memory : (e : StepError) → FaultsOpening w stored_now floor keep before now old new e → e ≡ OutOfMemory
   refused-memory OutOfMemory fault = refl
   refused-memory (MissingBlock height) fault =

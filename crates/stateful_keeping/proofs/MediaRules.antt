@@ -1,4 +1,4 @@
--- What the media keep is kept behind each rule of the loop, and behind each event that is taken in.
+-- What the media keep is kept after each rule of the loop, and after each event that is taken in.
 use Rattle.std.proofs.Common.{◌≡◌, ◌≤◌, ◌⊎◌, ◌∷◌, [], inl, inr, ℕ, true, false, List, All, Option, Some, None, sym, ap, ◌∙◌, subst, arith}
 use Rattle.std.proofs.lemmas.List.{append_cancel_left}
 use Rattle.stateful_types.specs.Anchor.{anchor_by}
@@ -40,7 +40,7 @@ use Rattle.stateful_keeping.proofs.Reaching.{unopened-none, reached-came, openin
 use Rattle.stateful_keeping.proofs.RuleItems.{opening-after}
 
 module _ {B C I P R D H G U : Type 0} (w : Workings B C I P R D H G U) (stored : ℕ → Option (Named B)) where
-  -- What can be opened again behind marks that keep the rules could be before, or is durable now.
+  -- What can be opened again after marks that keep the rules could be before, or is durable now.
   module _ (base : w.States) (p : Past B C I) (more : List (Mark B)) (first : Anchor) (opened : opening p ≡ Some first)
       (of_rules : All IsOfRule more) (said : EachMark (IsDurablySaid w) p more) (old : w.kind.Members) (now : Moment w)
       (keeps : Preserves w.kind old now.members) (before : KeepsReopenable w stored p old)
@@ -91,7 +91,7 @@ module _ {B C I P R D H G U : Type 0} (w : Workings B C I P R D H G U) (laws : L
       (subst (λ (a : Anchor). KeepsHeights w stored (opening p) a now.members) anchor_is
       (subst (λ (x : w.kind.Members). KeepsHeights w stored (opening p) anchor x) new_is heights))
 
-  -- the machine is up behind the rule
+  -- the machine is up after the rule
   behind_up : now.loop.up ≡ true → Preserves w.kind m.members now.members → HeightsBehind
       → MediaKept w stored (after p b.more) now.execution.state.anchor now.members
   behind_up up_now keeps heights =
@@ -130,7 +130,7 @@ module _ {B C I P R D H G U : Type 0} (w : Workings B C I P R D H G U) (laws : L
         (KeepsHeights-applied w stored (opening p) m.execution.state.anchor laws m.members f.block a.point a.q a.located a.matches.targets
         (front-child w stored base p m h.executes f.block states).0 own k.heights))
 
-  -- what the media keep is kept behind a rule
+  -- what the media keep is kept after a rule
   pub rule-media : MediaKept w stored (after p b.more) now.execution.state.anchor now.members
   rule-media = of (rule-changes w stored_now provider m now rule)
     where
@@ -186,7 +186,7 @@ module _ {B C I P R D H G U : Type 0} (w : Workings B C I P R D H G U) (laws : L
         heights = heights;
       }
 
-  -- what the media keep is kept behind an event that is taken in
+  -- what the media keep is kept after an event that is taken in
   pub taken-media : (stored_now : ℕ → Option (Named B)) (counts : Counts R D H) → TakesIn w stored_now counts m mid e
       → MediaKept w stored (after q t.more) mid.execution.state.anchor mid.members
   taken-media stored_now counts takes = of (taken-changes w stored_now counts m mid e takes)

@@ -1,4 +1,4 @@
--- Names that are true behind marks are true before them, and whichever way the marks are told.
+-- Names that are true after marks are true before them, and whichever way the marks are told.
 use Rattle.std.proofs.Common.{◌≡◌, ◌++◌, ℕ, List, Option, sym, ◌∙◌, subst}
 use Rattle.std.proofs.lemmas.List.{append_cancel_left}
 use Rattle.stateful_types.specs.Names.{Named}

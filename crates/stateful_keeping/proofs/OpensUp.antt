@@ -1,4 +1,4 @@
--- A machine that is down is up behind an opening, and all stands.
+-- A machine that is down is up after an opening, and all stands.
 use Rattle.std.proofs.Common.{◌∷◌, ℕ, List, Option, ap}
 use Rattle.stateful_types.specs.Anchor.{anchor_by}
 use Rattle.stateful_types.specs.Names.{Named}

@@ -1,4 +1,4 @@
--- No request is parked behind requests that are served where none was, nor behind a pause's begin.
+-- No request is parked behind requests that are served where none was, nor after a pause's begin.
 use Rattle.std.proofs.Common.{◌≡◌, ℕ, get_or, true, is_none, List, Option, subst}
 use Rattle.std.proofs.lemmas.List.Elements.{filter_passes}
 use Rattle.stateful_types.specs.Names.{Named}

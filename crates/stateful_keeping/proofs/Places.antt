@@ -118,7 +118,7 @@ module _ {B C I P R D H G U : Type 0} (w : Workings B C I P R D H G U) (stored :
         absurd (All-at (λ (e : ℕ × Requested B C I). (g : ℕ) → e.1.phase ≡ Fetching g → ⊥) v.requests t r fetches.there
         (none_fetches x.block x.stage h) f fetches.fetching)
 
-    -- Nothing pauses still behind marks that neither open, finalize nor prune, where the tables stand with the same anchor, cache
+    -- Nothing pauses still after marks that neither open, finalize nor prune, where the tables stand with the same anchor, cache
     -- and pause.
     pub IsFree-mild : (more : List (Mark B)) → All (λ x. IsMild x) more → TrueNames (setting w stored) (after p more)
         → (ids : w.Ids) (u : Tables B C I R U) → IsLeft v u → TablesStand w stored (after p more) points point ids u

@@ -1,4 +1,4 @@
--- Marks are in their places behind a whole event, but for a restart: it is taken in, and rules go one after another.
+-- Marks are in their places after a whole event, but for a restart: it is taken in, and rules go one after another.
 use Rattle.std.proofs.Common.{◌≡◌, ◌++◌, ◌∷◌, [], ℕ, true, List, Option, sym, ap, ◌∙◌, subst, append_assoc, append-nil}
 use Rattle.std.proofs.lemmas.List.{append_cancel_left}
 use Rattle.stateful_types.specs.Names.{Named}
@@ -50,7 +50,7 @@ module _ {B C I P R D H G U : Type 0} (w : Workings B C I P R D H G U) (stored :
 
   module _ (laws : Laws w.kind) (p : Past B C I) (stored_now : ℕ → Option (Named B)) (stored_is : IsStoredNow stored p stored_now) (provider : P)
       (runs_cost : RunsTakeTurns w) (builds_cost : BuildsTakeTurns w) (stores : StoresFinalized w.header stored p) where
-    -- Marks are in their places behind rules, one after another.
+    -- Marks are in their places after rules, one after another.
     pub places-along : (m now : Moment w) → IsUpAt w stored base p m → PlacesKept w stored p m → Along w stored_now provider m now
         → PlacesBehind w stored base p m now
     places-along m _ h k none = places-none p m k

@@ -1,4 +1,4 @@
--- Marks are in their places behind a turn of the live build.
+-- Marks are in their places after a turn of the live build.
 use Rattle.std.proofs.Common.{◌≡◌, ◌≢◌, ◌++◌, ℕ, false, List, [], ◌∷◌, All, Option, None, Some, IfSome, refl, sym, ap, ◌∙◌, subst, append-nil}
 use Rattle.std.proofs.lemmas.Bool.{eq-eqb}
 use Rattle.std.proofs.lemmas.List.Elements.{All-nil, All-cons}
@@ -41,7 +41,7 @@ module _ {B C I P R D H G U : Type 0} (w : Workings B C I P R D H G U) (stored :
   abbrev given : Past B C I
   given = Came (Turn j) ∷ p
 
-  -- the moment behind the turn
+  -- the moment after the turn
   abbrev pub Built_at : exec.Moment w → Option (Building B C D) → Moment w
   Built_at then next = record (with_inner w m then) { execution = record m.execution { state = then.state; build = next } }
 

@@ -1,4 +1,4 @@
--- What a past keeps for marks to be in their places is kept behind events that name what is live.
+-- What a past keeps for marks to be in their places is kept after events that name what is live.
 use Rattle.std.proofs.Common.{◌≡◌, ◌≢◌, ◌<◌, ◌≤◌, ◌+◌, ◌==◌, if◌then◌else◌, max, ℕ, Bool, true, false, [], ◌∷◌, Option, None, Some, refl, sym, ◌∙◌, subst, arith}
 use Rattle.std.proofs.lemmas.Bool.{eqb-true}
 use Rattle.std.proofs.lemmas.Bool.Decides.{nat_tests}
@@ -97,7 +97,7 @@ module _ {B C I : Type 0} where
         go true same = subst (λ (n : ℕ). verified n p ≡ None) (sym (eqb-true t u same)) new-unverified
         go false other = apart t (λ none. some (rw other none))
 
-  -- tickets are those of one event each behind an event that names what is live
+  -- tickets are those of one event each after an event that names what is live
   pub apart-came : (count : ℕ) (p : Past B C I) (e : Event B C I) → names_live count p e ≡ true → TicketsApart p → TicketsApart (Came e ∷ p)
   apart-came count p (event.Verify u ancestry) live apart t some = apart_judged p u live t ancestry.first apart some
   apart-came count p (event.Prepare u context ancestry input) live apart t some = apart_asked p u live t _ apart some
@@ -112,7 +112,7 @@ module _ {B C I : Type 0} where
   subject-came count p (event.Propose u context ancestry input) live t b is = rw (fresh-other p u live t (subject_below t p b is)) is
   subject-came count p e live t b is = is
 
-  -- an earlier ticket that is live behind an event was so before
+  -- an earlier ticket that is live after an event was so before
   pub live-came : (count : ℕ) (p : Past B C I) (e : Event B C I) → (IsRestart e → ⊥) → names_live count p e ≡ true → (t : ℕ) (x : Ticket)
       → t < bound_of p
       → live_ticket t (Came e ∷ p) ≡ Some x → live_ticket t p ≡ Some x
@@ -132,11 +132,11 @@ module _ {B C I : Type 0} where
   bound-came p (event.Subscribe u) t l = above t u (bound_of p) l
   bound-came p e t l = l
 
-  -- what was asked behind an event was asked before
+  -- what was asked after an event was asked before
   pub asked-came : (p : Past B C I) (e : Event B C I) (t : ℕ) (d : Digest) → WasAsked t d (Came e ∷ p) → WasAsked t d p
   asked-came p e t d was = was
 
-  -- behind an event no handover goes on, where none did
+  -- after an event no handover goes on, where none did
   pub whole-came : (p : Past B C I) (e : Event B C I) → is_handing_over p ≡ false → is_handing_over (Came e ∷ p) ≡ false
   whole-came p (event.Restart floor keep) whole = refl
   whole-came p e whole = whole
@@ -150,7 +150,7 @@ module _ {B C I : Type 0} where
   unhooked-came p e on = refl
 
 module _ {B C I P R D H G U : Type 0} (w : Workings B C I P R D H G U) (stored : ℕ → Option (Named B)) where
-  -- A past stays in order behind an event that names what is live.
+  -- A past stays in order after an event that names what is live.
   pub past-came : (count : ℕ) (p : Past B C I) (e : Event B C I) → names_live count p e ≡ true → IsOrderlyPast w stored p
       → IsOrderlyPast w stored (Came e ∷ p)
   past-came count p e live h =

@@ -112,7 +112,7 @@ module _ {B C I P R D H G U : Type 0} (w : Workings B C I P R D H G U) (stored h
       (o.orderly.live e.0 (live-request w stored p e.0 e.1.request hand.asked)) now rule)
       es p m last ready turns
 
-  -- What stands behind a resume: marks in their places, and what was asked was so for requests of the table.
+  -- What stands after a resume: marks in their places, and what was asked was so for requests of the table.
   pub record IsResumedInPlace (p : Past B C I) (m now : Moment w) : Type 0 where
     pub more : List (Mark B)
     pub marks_are : now.marks ≡ m.marks ++ more

@@ -1,4 +1,4 @@
--- Marks are in their places behind events in which execution has no part, and behind cancels.
+-- Marks are in their places after events in which execution has no part, and behind cancels.
 use Rattle.std.proofs.Common.{◌≡◌, ◌≢◌, ◌++◌, ◌==◌, inl, ℕ, true, List, [], ◌∷◌, All, Option, Some, IfSome, refl, sym, ap, ◌∙◌, subst, append-nil}
 use Rattle.std.proofs.lemmas.Bool.{eq-eqb}
 use Rattle.std.proofs.lemmas.List.Elements.{All-nil, All-cons}
@@ -35,7 +35,7 @@ use Rattle.stateful_keeping.proofs.PlacesStill.{IsStill, IsHookless, asks-left, 
 
 module _ {B C I P R D H G U : Type 0} (w : Workings B C I P R D H G U) (stored : ℕ → Option (Named B)) (base : w.States) (p : Past B C I)
     (m : Moment w) where
-  -- What is kept is kept behind an event that names what is live, and is no restart.
+  -- What is kept is kept after an event that names what is live, and is no restart.
   pub kept-came : (count : ℕ) (e : Event B C I) → (IsRestart e → ⊥) → names_live count p e ≡ true → PlacesKept w stored p m
       → PlacesKept w stored (Came e ∷ p) m
   kept-came count e on live h = record {

@@ -1,4 +1,4 @@
--- What a past keeps for marks to be in their places is kept behind marks of rules and behind events.
+-- What a past keeps for marks to be in their places is kept after marks of rules and after events.
 use Rattle.std.proofs.Common.{◌≡◌, ◌++◌, ◌<◌, ◌==◌, if◌then◌else◌, inl, inr, ℕ, Bool, suc, true, false, List, [], ◌∷◌, All, Any, Option, None, Some, MatchOption, refl, sym, ◌∙◌, subst, arith}
 use Rattle.std.proofs.lemmas.List.Elements.{All-head, All-tail}
 use Rattle.stateful_types.specs.Names.{Named}
@@ -90,7 +90,7 @@ live_off t u x o is = go (t == u) is
     go false is = is
 
 module _ {B C I : Type 0} where
-  -- what was cancelled is gone behind marks
+  -- what was cancelled is gone after marks
   pub gone-after : (p : Past B C I) (more : List (Mark B)) → CancelledIsGone p → CancelledIsGone (after p more)
   gone-after p [] gone = gone
   gone-after p (m ∷ more) gone = gone-after (Made m ∷ p) more (gone-mark p m gone)
@@ -118,7 +118,7 @@ module _ {B C I : Type 0} where
   live_one t x p (mark.Dropped u) is = live_off t u x _ is
   live_one t x p m is = is
 
-  -- what is live behind marks was live before them
+  -- what is live after marks was live before them
   pub live-before : (t : ℕ) (x : Ticket) (p : Past B C I) (more : List (Mark B)) → live_ticket t (after p more) ≡ Some x → live_ticket t p ≡ Some x
   live-before t x p [] is = is
   live-before t x p (m ∷ more) is = live_one t x p m (live-before t x (Made m ∷ p) more is)
@@ -132,7 +132,7 @@ module _ {B C I : Type 0} where
   asked_one t d p (mark.Pruned marshal target) h was = absurd was
   asked_one t d p m h was = was
 
-  -- what was asked behind marks that ask for nothing was asked before
+  -- what was asked after marks that ask for nothing was asked before
   pub asked-before : (t : ℕ) (d : Digest) (p : Past B C I) (more : List (Mark B)) → All IsAskless more → WasAsked t d (after p more) → WasAsked t d p
   asked-before t d p [] h was = was
   asked-before t d p (m ∷ more) h was =
@@ -144,7 +144,7 @@ module _ {B C I P R D H G U : Type 0} (w : Workings B C I P R D H G U) (stored :
       → IsOrderly w stored p
   orderly-gone p gone apart again = record { apart = apart; live = λ t live. live-uncancelled p gone t _ live; again = again }
 
-  -- A past stays in order behind marks by which no run ends, but by cancels, and no handover begins.
+  -- A past stays in order after marks by which no run ends, but by cancels, and no handover begins.
   pub past-ends : (p : Past B C I) (more : List (Mark B)) → EachMark EndsNoRun p more → is_handing_over (after p more) ≡ is_handing_over p
       → IsOrderlyPast w stored p → IsOrderlyPast w stored (after p more)
   past-ends p more ends whole h = record {

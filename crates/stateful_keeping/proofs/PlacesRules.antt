@@ -1,4 +1,4 @@
--- Marks are in their places behind each rule of the loop.
+-- Marks are in their places after each rule of the loop.
 use Rattle.std.proofs.Common.{◌≡◌, ◌≢◌, ◌++◌, ◌<◌, ℕ, true, false, map, List, [], ◌∷◌, All, Option, None, Some, IsSome, refl, sym, ap, ◌∙◌, subst, append-nil, append_assoc}
 use Rattle.std.proofs.lemmas.List.{append_cancel_left}
 use Rattle.std.proofs.lemmas.List.Elements.{All-nil, All-cons, All-append}
@@ -189,7 +189,7 @@ module _ {B C I P R D H G U : Type 0} (w : Workings B C I P R D H G U) (laws : L
     opened : opening p ≢ None
     opened closed = let some = h.loop.keeping.opened in let both = sym closed ∙ some in cc
 
-    -- Behind a rule marks were made in their places, and what is kept for them is kept.
+    -- After a rule marks were made in their places, and what is kept for them is kept.
     pub places-rule : (provider : P) → Rule w stored_now provider m now → PlacesBehind w stored base p m now
     places-rule provider (collects {t = t} up r) = subst (λ (n : Moment w). PlacesBehind w stored base p m n) (sym r.becomes)
         (places-still w stored base p m _ [] (sym (append-nil m.marks)) tt (All-nil IsStill) refl refl refl refl refl refl k)

@@ -1,4 +1,4 @@
--- Marks are in their places behind the last turn of a candidate run: that of its end, and those of the requests that follow it.
+-- Marks are in their places after the last turn of a candidate run: that of its end, and those of the requests that follow it.
 use Rattle.std.proofs.Common.{◌≡◌, ◌≢◌, ◌++◌, ◌==◌, ℕ, Bool, true, false, List, [], ◌∷◌, All, Option, None, Some, IfSome, Ok, refl, sym, ap, ◌∙◌, subst}
 use Rattle.std.proofs.lemmas.Bool.{eq-eqb}
 use Rattle.std.proofs.lemmas.List.{append_assoc}
@@ -183,7 +183,7 @@ module _ {B C I P R D H G U : Type 0} (w : Workings B C I P R D H G U) (laws : L
   gone = let-go w stored base p e.point (inner w m) j settles.block settles.how settles.done e.points e.tables e.located count o running_now turns
       settles.ends m.execution.front e.placed
 
-  -- the tables behind the end of the run
+  -- the tables after the end of the run
   same_requests : settles.done.state.requests ≡ v.requests
   same_requests = ap (λ (n : exec.Moment w). n.state.requests) settles.ends.becomes ∙ ap (λ (x : Tables B C I R U). x.requests) turns.state
 

@@ -104,7 +104,7 @@ module _ {B C I : Type 0} where
       (All-head IsHookless m more each)
 
 module _ {B C I P R D H G U : Type 0} (w : Workings B C I P R D H G U) (stored : ℕ → Option (Named B)) where
-  -- What was asked stays so behind marks that ask for nothing, where no request comes to fetch, and what is outside of the tables
+  -- What was asked stays so after marks that ask for nothing, where no request comes to fetch, and what is outside of the tables
   -- was so before.
   pub asks-left : (p : Past B C I) (more : List (Mark B)) → All IsAskless more → (v u : Tables B C I R U) (build then : Option (Building B C D))
       (front next : Option (Front B R U H))
@@ -135,7 +135,7 @@ module _ {B C I P R D H G U : Type 0} (w : Workings B C I P R D H G U) (stored :
       }) nothing h
 
   module _ (base : w.States) (p : Past B C I) (m : Moment w) where
-    -- What is kept is put together behind marks of rules by which no run ends.
+    -- What is kept is put together after marks of rules by which no run ends.
     pub places-of : (now : Moment w) (more : List (Mark B)) → now.marks ≡ m.marks ++ more → EachMark (IsInPlace w stored base) p more
         → All IsOfRule more → EachMark EndsNoRun p more → IsOrderlyPast w stored p
         → IsDue (setting w stored) (after p more) now.execution.state.cache now.execution.front

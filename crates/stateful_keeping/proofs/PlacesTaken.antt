@@ -1,4 +1,4 @@
--- Marks are in their places behind every event that is taken in, but for a restart.
+-- Marks are in their places after every event that is taken in, but for a restart.
 use Rattle.std.proofs.Common.{◌≡◌, ◌∷◌, [], ℕ, true, Option, Ok, Err, Result, refl, sym, ap, ◌∙◌, subst, append-nil}
 use Rattle.std.proofs.lemmas.List.Elements.{All-nil}
 use Rattle.stateful_types.specs.Names.{Named}
@@ -79,7 +79,7 @@ module _ {B C I P R D H G U : Type 0} (w : Workings B C I P R D H G U) (laws : L
   job_turned j live kept
       (run {then = then} {after = next} unbuilt unhooked completes is) = run_turned j live kept then next unbuilt unhooked completes is
 
-  -- Behind an event that names what is live marks were made in their places, and what is kept for them is kept.
+  -- After an event that names what is live marks were made in their places, and what is kept for them is kept.
   pub places-takes_in : (e : Event B C I) → (IsRestart e → ⊥) → names_live w.kind.count p e ≡ true → NamesBehind w stored base (Came e ∷ p) m now
       → TakesIn w stored_now counts m now e → PlacesBehind w stored base (Came e ∷ p) m now
   places-takes_in e on live names (enters {x = x} is becomes) =

@@ -1,4 +1,4 @@
--- Marks are in their places behind turns of the live build, of the hook and of the finalized block's run.
+-- Marks are in their places after turns of the live build, of the hook and of the finalized block's run.
 use Rattle.std.proofs.Common.{◌≡◌, ◌++◌, inr, ℕ, List, [], ◌∷◌, All, Option, None, Some, Ok, Err, refl, sym, ap, ◌∙◌, subst, append-nil}
 use Rattle.std.proofs.lemmas.List.Elements.{All-nil, All-cons}
 use Rattle.stateful_types.specs.Names.{Named}
@@ -71,7 +71,7 @@ module _ {B C I P R D H G U : Type 0} (w : Workings B C I P R D H G U) (stored :
   running_kind : (b : Named B) (run : R) → m.execution.front ≡ front_at b (Running j run) → started_for j p ≡ Some (job_of job.Finalized b.digest)
   running_kind b run is = (fronts_at (front_at b (Running j run)) is).at_stage.1.job.is
 
-  -- They are behind a turn of the hook.
+  -- They are after a turn of the hook.
   pub places-hook : (count : H → ℕ) (marks : List (Mark B)) (front : Option (Front B R U H)) (b : Named B) (hook : H)
       → m.execution.front ≡ front_at b (Hooking j hook) → TurnsHook w count m.members m.execution.front j m.marks marks front
       → PlacesBehind w stored base given m (record m { execution = record m.execution { front = front }; marks = marks })
@@ -90,7 +90,7 @@ module _ {B C I P R D H G U : Type 0} (w : Workings B C I P R D H G U) (stored :
       (λ on. subst (λ (o : Option (Front B R U H)). HasMovedIn o) (sym is) tt)
   places-hook count marks front b hook is (hook_turned {answer = Err fault} live had settles) = absurd settles
 
-  -- They are behind a turn of the finalized block's run.
+  -- They are after a turn of the finalized block's run.
   pub places-final : (count : R → ℕ) (marks : List (Mark B)) (front : Option (Front B R U H)) (b : Named B) (run : R)
       → m.execution.front ≡ front_at b (Running j run) → StepsFinal w count m.members m.execution.front j m.marks marks front
       → PlacesBehind w stored base given m (record m { execution = record m.execution { front = front }; marks = marks })

@@ -122,7 +122,7 @@ module _ {B C I P R D H G U : Type 0} (w : Workings B C I P R D H G U) where
       (All-cons IsPlain _ r.withdrawn tt
       (subst (λ (marks : List (Mark B)). All IsPlain marks) (sym r.pauses.marks_are) (withdrawn_of r.pauses.fetches)))
 
-  -- what is observed behind a finalized block makes no mark, or that of the hook's start
+  -- what is observed after a finalized block makes no mark, or that of the hook's start
   hooks_made : (m now : Moment w) (b : Named B) (hook_left : Hooked H) (old new : Tables B C I R U) (marks : List (Mark B))
       (after : Option (Front B R U H)) (live : Bool)
       → HooksOn w b hook_left old new m.marks marks after live → now.marks ≡ marks → PlainBehind w m now

@@ -1,4 +1,4 @@
--- At which heights the databases can be opened again, behind marks and events.
+-- At which heights the databases can be opened again, after marks and events.
 use Rattle.std.proofs.Common.{◌≡◌, ◌≤◌, ◌⊎◌, inl, inr, ℕ, true, false, List, [], ◌∷◌, All, Option, Some, None, MatchOption, refl, ◌∙◌, subst, arith}
 use Rattle.std.proofs.lemmas.List.Elements.{All-head, All-tail}
 use Rattle.stateful_types.specs.declared.anchor.Anchor.{Anchor}
@@ -145,7 +145,7 @@ module _ {B C I P R D H G U : Type 0} (w : Workings B C I P R D H G U) where
   reached_mark q p (Acknowledged t height) first h said is (inr reached) = inl reached
   reached_mark q p mark first h said is reached = inl reached
 
-  -- behind marks of rules that keep the rules of barriers and of acknowledgements
+  -- after marks of rules that keep the rules of barriers and of acknowledgements
   pub reached-after : (q : ℕ) (p : Past B C I) (marks : List (Mark B)) (first : Anchor) → All IsOfRule marks → EachMark (IsDurablySaid w) p marks
       → opening p ≡ Some first → WasReached q (after p marks) → WasReached q p ⊎ ((first.height.0 ≤ q) × (q ≤ durable (after p marks)))
   reached-after q p [] first each said is reached = inl reached

@@ -1,4 +1,4 @@
--- False verdicts and declines have their reasons, and what is kept for reasons is kept: along the rules behind an event.
+-- False verdicts and declines have their reasons, and what is kept for reasons is kept: along the rules after an event.
 use Rattle.std.proofs.Common.{◌≡◌, ◌++◌, [], ℕ, List, Option, sym, ap, ◌∙◌, subst, append-nil}
 use Rattle.std.proofs.lemmas.List.{append_assoc, append_cancel_left}
 use Rattle.stateful_types.specs.Names.{Named}

@@ -1,4 +1,4 @@
--- False verdicts and declines have their reasons: those behind an event that is taken in.
+-- False verdicts and declines have their reasons: those after an event that is taken in.
 use Rattle.std.proofs.Common.{◌≡◌, ◌++◌, ◌∷◌, [], ℕ, true, List, Option, Some, None, IfSome, IsSome, Result, Ok, Err, All, refl, sym, ap, ◌∙◌, subst}
 use Rattle.std.proofs.lemmas.List.Elements.{All-nil}
 use Rattle.stateful_types.specs.Names.{Named}
@@ -195,7 +195,7 @@ module _ {B C I P R D H G U : Type 0} (w : Workings B C I P R D H G U) (laws : L
         hook_told w laws stored base (Turn j) marks (Came (Turn j) ∷ p) m now counts.hook j ms after r (ap (λ (n : Moment w). n.marks) e)
     reasons-turns (run {then = then} {after = after} not_built not_hooked r e) = reasons-run then after r (ap (λ (n : Moment w). n.marks) e)
 
-  -- Each false verdict and each decline behind an event that is taken in has its reason.
+  -- Each false verdict and each decline after an event that is taken in has its reason.
   pub reasons-takes_in : (e : Event B C I) → IsTrusted w stored (Came e ∷ p) → TrueNames (setting w stored) (Came e ∷ p)
       → TakesIn w stored_now counts m now e → ReasonsBehind w stored base e marks (Came e ∷ p) m now
   reasons-takes_in e trust names (enters x is) = none w laws stored base e marks (Came e ∷ p) m now (ap (λ (n : Moment w). n.marks) is)

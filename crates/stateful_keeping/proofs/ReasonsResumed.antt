@@ -109,7 +109,7 @@ module _ {B C I P R D H G U : Type 0} (w : Workings B C I P R D H G U) (stored h
         (after p ms) r.mid.state.pause r.mid.state.anchor r.mid.state.cache e) (unacquired_in r.mid.state.requests))
         (append_cancel_left m.marks gone.more more (sym gone.marks_are ∙ is)) may
 
-    -- each mark behind the end of a pause keeps the rule
+    -- each mark after the end of a pause keeps the rule
     pub resumed-reasons : KeepsBehind w Rule p m now
     resumed-reasons = resumes-reason w stored held base tip points point event marks other_states p m s g ways located drawn now r
         (λ first. resumed-may first.more first.marks_are)

@@ -66,7 +66,7 @@ module _ {B C I P R D H G U : Type 0} (w : Workings B C I P R D H G U) (laws : L
   abbrev Behind : Moment w → Moment w → Type 0
   Behind = ReasonsBehind w stored base event marks p
 
-  -- what is observed behind a finalized block makes no mark, or that of the hook's start
+  -- what is observed after a finalized block makes no mark, or that of the hook's start
   hooks_made : (m now : Moment w) (b : Named B) (hook_left : Hooked H) (old new : Tables B C I R U) (made : List (Mark B))
       (after : Option (Front B R U H)) (live : Bool) → HooksOn w b hook_left old new m.marks made after live → now.marks ≡ made → Behind m now
   hooks_made m now b hooked.Done old new made after live h is = reasons_none w stored base event marks p m now (is ∙ h.1)

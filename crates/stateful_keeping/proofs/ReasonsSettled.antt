@@ -1,4 +1,4 @@
--- False verdicts and declines have their reasons: those behind the end of a run once the anchor has moved on.
+-- False verdicts and declines have their reasons: those after the end of a run once the anchor has moved on.
 use Rattle.std.proofs.Common.{◌≡◌, ℕ, List, [], ◌∷◌, Option, Some, Ok, ◌∙◌, subst}
 use Rattle.std.proofs.lemmas.List.{append_assoc}
 use Rattle.stateful_types.specs.Names.{Named}
@@ -38,7 +38,7 @@ module _ {B C I P R D H G U : Type 0} (w : Workings B C I P R D H G U) (laws : L
   abbrev Kept : Past B C I → Mark B → Type 0
   Kept = HasItsReason w stored base event marks
 
-  -- Each mark behind the last turn of a run keeps the rule, once the anchor has moved on.
+  -- Each mark after the last turn of a run keeps the rule, once the anchor has moved on.
   pub settled-moved : (count : R → ℕ) (running : Tables B C I R U) → TurnsRun w count m.members j m.state running (Ok (Done o))
       → (done last : Moment w) → EndsRun w (record m { state = running }) j b o how done
       → InTurn (Follows w b how) (released_on j done.state.requests) (record done { state = released j done.state }) last

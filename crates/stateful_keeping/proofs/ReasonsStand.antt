@@ -91,7 +91,7 @@ module _ {B C I P R D H G U : Type 0} (w : Workings B C I P R D H G U) (laws : L
       (linked-takes_in w stored p stored_now counts m now e trust.honest (of_loop w stored base p m h) takes)
       (tables-takes_in w laws stored base p m now u (of_tables w stored base p m h) stored_now counts up e on trust names behind takes)
 
-  -- Behind an opening nothing waits.
+  -- After an opening nothing waits.
   pub reasons_stand-opens : (floor : Floor) (keep : List ℕ) (m now : Moment w) → m.loop.queue ≡ [] → m.loop.actions ≡ []
       → Opens w stored_now floor keep m now → ReasonsStand w stored p base now
   reasons_stand-opens floor keep m now queue actions o =

@@ -1,4 +1,4 @@
--- False verdicts and declines have their reasons: those behind a turn of a candidate run.
+-- False verdicts and declines have their reasons: those after a turn of a candidate run.
 use Rattle.std.proofs.Common.{◌≡◌, ℕ, ◌∷◌, List, Option, Some, None, Result, Ok, Err, refl, sym, ap, subst}
 use Rattle.stateful_types.specs.Names.{Named}
 use Rattle.stateful_types.specs.Anchor.{anchor_by}
@@ -100,7 +100,7 @@ module _ {B C I P R D H G U : Type 0} (w : Workings B C I P R D H G U) (laws : L
         (WaysStand-tip w stored p v v.anchor f.ground.folded.tip_is kept) j settles.block o settles.how count running turns settles.done now
         settles.ends settles.follow)
 
-    -- Each mark behind a turn of a candidate run keeps the rule, where the block of the finalization that goes on came as finalized.
+    -- Each mark after a turn of a candidate run keeps the rule, where the block of the finalization that goes on came as finalized.
     pub turned-reasons : ((b : Named B) (stage : Stage R U H) → m.execution.front ≡ front_at b stage → (t : ℕ) × (finalized_since t p ≡ Some b))
         → Behind now
     turned-reasons came = go m.execution.front refl e.placed

@@ -1,4 +1,4 @@
--- False verdicts and declines have their reasons, and what is kept for reasons is kept: behind a whole event, but for a restart.
+-- False verdicts and declines have their reasons, and what is kept for reasons is kept: after a whole event, but for a restart.
 use Rattle.std.proofs.Common.{◌≡◌, ◌∷◌, ℕ, true, List, Option, sym, ◌∙◌, subst}
 use Rattle.std.proofs.lemmas.List.{append_cancel_left}
 use Rattle.stateful_types.specs.Names.{Named}

@@ -58,7 +58,7 @@ module _ {B C I : Type 0} where
   pruned-ends p (mark ∷ marks) ending =
       pruned-ends (Made mark ∷ p) marks (All-tail IsEnding mark marks ending) ∙ prunes_none p mark (All-head IsEnding mark marks ending)
 
-  -- and the opening, which is none behind a restart
+  -- and the opening, which is none after a restart
   pub opening-ends : (p : Past B C I) (marks : List (Mark B)) → All IsEnding marks → opening (after p marks) ≡ opening p
   opening-ends p [] ending = refl
   opening-ends p (mark ∷ marks) ending =
@@ -81,7 +81,7 @@ module _ {B C I P R D H G U : Type 0} (w : Workings B C I P R D H G U) (laws : L
   stored_behind : IsStoredNow stored p stored_now → IsStoredNow stored q stored_now
   stored_behind is h = rw (pruned-ends (Came (Restart floor keep) ∷ p) more ending) (is h)
 
-  -- Whether the machine was up or down, it is up behind a restart, over the states that the databases hold.
+  -- Whether the machine was up or down, it is up after a restart, over the states that the databases hold.
   pub restarts-up : StoresHeights w.header stored → IsStoredNow stored p stored_now → TrueNames (setting w stored) p → NothingLive q
       → IsCleared w (record m { marks = marks }) mid → (o : Opens w stored_now floor keep mid now)
       → OpenedBehind w stored o.opening.at.1 q mid now (anchor_by w.header o.block)

@@ -1,4 +1,4 @@
--- Behind a resume true verdicts are earned, the ground is there, the ways stay open, no request is parked, and
+-- After a resume true verdicts are earned, the ground is there, the ways stay open, no request is parked, and
 -- each that waits abstains.
 use Rattle.std.proofs.Common.{◌≡◌, ◌≢◌, ◌++◌, ℕ, not, get_or, List, [], ◌∷◌, All, Option, Some, refl, sym, ap, ◌∙◌, subst}
 use Rattle.std.proofs.lemmas.List.{append_assoc, append_cancel_left}
@@ -58,7 +58,7 @@ use Rattle.stateful_keeping.proofs.ParksNone.{ParksNone-not_parked, ParksNone-ad
 
 module _ {B C I P R D H G U : Type 0} (w : Workings B C I P R D H G U) (stored held : ℕ → Option (Named B)) (base : w.States) (tip : Anchor)
     (points : Digest → Point w) (point : Point w) where
-  -- What stands behind a resume.
+  -- What stands after a resume.
   pub record IsEnded (p : Past B C I) (m now : Moment w) : Type 0 where
     pub more : List (Mark B)
     pub marks_are : now.marks ≡ m.marks ++ more
@@ -230,7 +230,7 @@ module _ {B C I P R D H G U : Type 0} (w : Workings B C I P R D H G U) (stored h
         marks_are : now.marks ≡ m.marks ++ (first.more ++ second.more)
         marks_are = second.marks_are ∙ ap (λ (ms : List (Mark B)). ms ++ second.more) first.marks_are ∙ append_assoc m.marks first.more second.more
 
-        -- what waits behind a resume was found to wait in it
+        -- what waits after a resume was found to wait in it
         abstain : AllAbstain w stored (after p (first.more ++ second.more)) now.state.requests
         abstain =
             let done : IsResumed w stored held points point other_states p m now = IsResumed-by w stored held points point other_states p m now s
@@ -241,7 +241,7 @@ module _ {B C I P R D H G U : Type 0} (w : Workings B C I P R D H G U) (stored h
             subst (λ (ms : List (Mark B)). AllAbstain w stored (after p ms) now.state.requests)
             (append_cancel_left m.marks done.behind.more (first.more ++ second.more) (sym done.behind.marks_are ∙ marks_are)) done.abstain
 
-        -- Where the tables stand without the pause and the ways are open, true verdicts are earned behind a resume.
+        -- Where the tables stand without the pause and the ways are open, true verdicts are earned after a resume.
         pub IsEnded-resumes : IsEnded p m now
         IsEnded-resumes = record {
           more = first.more ++ second.more;

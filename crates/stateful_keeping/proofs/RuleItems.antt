@@ -39,7 +39,7 @@ module _ {B C I : Type 0} where
   pruned_below-after p (mark ∷ marks) each =
       pruned_below-after (Made mark ∷ p) marks (All-tail IsOfRule mark marks each) ∙ pruned_one p mark (All-head IsOfRule mark marks each)
 
-  -- the store is the same behind marks of rules
+  -- the store is the same after marks of rules
   pub IsStoredNow-after : (stored : ℕ → Option (Named B)) (p : Past B C I) (stored_now : ℕ → Option (Named B)) → IsStoredNow stored p stored_now
       → (marks : List (Mark B)) → All IsOfRule marks → IsStoredNow stored (after p marks) stored_now
   IsStoredNow-after stored p stored_now is marks each h = rw (pruned_below-after p marks each) (is h)

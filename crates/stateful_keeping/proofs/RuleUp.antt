@@ -1,4 +1,4 @@
--- A machine that is up stands behind each rule of its loop.
+-- A machine that is up stands after each rule of its loop.
 use Rattle.std.proofs.Common.{◌≡◌, ◌++◌, ℕ, All, List, Option, MatchOption, sym, ◌∙◌, subst}
 use Rattle.std.proofs.lemmas.List.{append_cancel_left}
 use Rattle.stateful_types.specs.Names.{Named}
@@ -110,7 +110,7 @@ module _ {B C I P R D H G U : Type 0} (w : Workings B C I P R D H G U) (laws : L
       subst (λ (x : Point w). ShowsStates w stored f.block r.batch x) same
       (record { next = a.q; rest = a.rest; shows = a.shows; steps = a.matches.step })
 
-  -- The machine stands behind a rule, where the store has the finalized blocks that came, or none, at their heights.
+  -- The machine stands after a rule, where the store has the finalized blocks that came, or none, at their heights.
   pub rule-up : RunsTakeTurns w → BuildsTakeTurns w → StoresFinalized w.header stored p → Rule w stored_now provider m now
       → UpBehind w stored base p m now
   rule-up runs_cost builds_cost stores rule =

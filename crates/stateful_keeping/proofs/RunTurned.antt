@@ -1,4 +1,4 @@
--- Execution stands behind a turn of a run: of a candidate, or of the finalized block.
+-- Execution stands after a turn of a run: of a candidate, or of the finalized block.
 use Rattle.std.proofs.Common.{All, ◌≡◌, ℕ, ◌∷◌, true, false, Option, None, Some, IsSome, MatchOption, refl, sym, ap, ◌∙◌, subst}
 use Rattle.stateful_types.specs.Names.{Named}
 use Rattle.stateful_types.specs.declared.digest.Digest.{Digest}
@@ -76,7 +76,7 @@ module _ {B C I P R D H G U : Type 0} (w : Workings B C I P R D H G U) (laws : L
     off_ways : All (λ (r : Released B C I). KeepOff m.execution.state.anchor (steps r.path)) (released_on j m.execution.state.requests)
     off_ways = released-off w stored p kept.tip m.execution.state kept.ways j
 
-    -- the moment behind a turn of a candidate run
+    -- the moment after a turn of a candidate run
     abbrev Stepped : Moment w
     Stepped = record (with_inner w m then) { execution = record m.execution { state = then.state; front = m.execution.front } }
 
@@ -182,7 +182,7 @@ module _ {B C I P R D H G U : Type 0} (w : Workings B C I P R D H G U) (laws : L
         go (Some job) is = by_kind job.kind job.digest (record { live = live; is = is })
 
   module _ (live : live_job j p ≡ true) (kept : WaysKept w stored p m.execution.state) where
-    -- Execution stands behind a turn of a run, whatever it leads to.
+    -- Execution stands after a turn of a run, whatever it leads to.
     pub Executes-turns_run : (counts : Counts R D H) (now : Moment w) (then : exec.Moment w) (next : Option (Front B R U H)) → (Builds w j m → ⊥)
         → (Hooks w j m → ⊥) → Completes w counts.run (inner w m) m.execution.front j then next
         → now ≡ record (with_inner w m then) { execution = record m.execution { state = then.state; front = next } } → NamesBehind w stored base

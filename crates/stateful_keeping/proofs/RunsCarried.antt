@@ -1,4 +1,4 @@
--- Behind each rule of execution a live candidate run was live before, or its number was drawn since; and a request that waits waited
+-- After each rule of execution a live candidate run was live before, or its number was drawn since; and a request that waits waited
 -- before, or it was found that it has to.
 use Rattle.std.proofs.Common.{◌≡◌, ◌≢◌, ◌≤◌, ◌+◌, ◌++◌, not, ℕ, true, List, [], ◌∷◌, All, Option, Some, None, Result, Ok, Err, refl, sym, ap, ◌∙◌, subst, append_assoc, append-nil, arith}
 use Rattle.std.proofs.lemmas.List.Elements.{All-nil, All-cons, All-append, All-filter, All-weaker, filter_passes}
@@ -339,7 +339,7 @@ module _ {B C I P R D H G U : Type 0} (w : Workings B C I P R D H G U) (first : 
         anew = carries_in_turn anchor (AcquiresAnew w stored_now) (λ x n l at_anchor. carries_acquires n l x.0 (requested x.1.request) at_anchor)
             (unacquired_in r.mid.state.requests) (unsettled w r.mid) now (along.anchor_is ∙ here) r.anew
 
-        -- behind a resume
+        -- after a resume
         pub carries_resumes : Carries m now
         carries_resumes =
             carries_then (OfRuns m.state.runs) m r.mid now (carries_then (OfRuns m.state.runs) m (unparked w m) r.mid unparks along)

@@ -1,4 +1,4 @@
--- Each live candidate run goes on over a finalization, behind the begin of its own run, behind turns and cancels, and behind
+-- Each live candidate run goes on over a finalization, behind the begin of its own run, after turns and cancels, and behind
 -- requests that are served.
 use Rattle.std.proofs.Common.{◌≡◌, ◌≢◌, inl, inr, ℕ, List, [], ◌∷◌, All, Option, Result, Ok, Err, sym, subst}
 use Rattle.std.proofs.lemmas.List.Elements.{All-weaker}
@@ -98,7 +98,7 @@ module _ {B C I P R D H G U : Type 0} (w : Workings B C I P R D H G U) where
   follow_over b how [] m _ none h = h
   follow_over b how (r ∷ rs) m last (next {n = n} rule turns) h = follow_over b how rs n last turns (RunsGoOver-follows b how r m n rule h)
 
-  -- behind the end of a run
+  -- after the end of a run
   pub RunsGoOver-ends : (m now : Moment w) (j : ℕ) (b : Named B) (o : Option U) (how : How) → EndsRun w m j b o how now → RunsGoOver w.header m.state
       → RunsGoOver w.header now.state
   RunsGoOver-ends m now j b o how e h = rw e.becomes (All-without (GoesIn e.pause) m.state.runs j
@@ -119,13 +119,13 @@ module _ {B C I P R D H G U : Type 0} (w : Workings B C I P R D H G U) where
   settled_over m now j (Ok (Done o)) settles h = settles_over m now j o settles h
   settled_over m now j (Err fault) nothing h = absurd nothing
 
-  -- behind a turn of a candidate run, and what it leads to
+  -- after a turn of a candidate run, and what it leads to
   pub RunsGoOver-steps : (count : R → ℕ) (m now : Moment w) (j : ℕ) → Steps w count m j now → RunsGoOver w.header m.state
       → RunsGoOver w.header now.state
   RunsGoOver-steps count m now j s h =
       settled_over (record m { state = s.running }) now j s.answer s.settles (turned_over count m.members j m.state s.running s.answer s.turns h)
 
-  -- behind a cancel
+  -- after a cancel
   pub RunsGoOver-cancels : (old new : Tables B C I R U) (t : ℕ) (marks : List (Mark B)) → Cancels old new t marks → RunsGoOver w.header old
       → RunsGoOver w.header new
   RunsGoOver-cancels old new t marks (idle r there is_idle state made) h = rw state h

@@ -96,7 +96,7 @@ module _ {B C I S T : Type 0} (s : Setting B S T) (Ticket : ℕ → Type 0) wher
   live_mark p (Dropped u) aside t own = passed Ticket t u own aside _ _
   live_mark p mark aside t own = refl
 
-  -- behind a mark that ends none of theirs
+  -- after a mark that ends none of theirs
   pub SaysSame-mark : (p : Past B C I) (mark : Mark B) → IsAside Ticket mark → SaysSame p (Made mark ∷ p)
   SaysSame-mark p mark aside = record {
     met = λ b h. inr h;
@@ -107,7 +107,7 @@ module _ {B C I S T : Type 0} (s : Setting B S T) (Ticket : ℕ → Type 0) wher
     finalized = λ t own. refl;
   }
 
-  -- behind marks that end none of theirs
+  -- after marks that end none of theirs
   pub SaysSame-after : (p : Past B C I) (marks : List (Mark B)) → All (IsAside Ticket) marks → SaysSame p (after p marks)
   SaysSame-after p [] all = SaysSame-same p
   SaysSame-after p (mark ∷ marks) all =
@@ -141,7 +141,7 @@ module _ {B C I S T : Type 0} (s : Setting B S T) (Ticket : ℕ → Type 0) wher
   finalized_event p (Restart floor keep) off t own = absurd off
   finalized_event p e off t own = refl
 
-  -- behind an event that is of none of theirs
+  -- after an event that is of none of theirs
   pub SaysSame-event : (p : Past B C I) (e : Event B C I) → IsOff Ticket e → SaysSame p (Came e ∷ p)
   SaysSame-event p e off = record {
     met = λ b h. inr h;

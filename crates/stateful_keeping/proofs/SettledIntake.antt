@@ -1,4 +1,4 @@
--- Behind each event that is taken in, where nothing pauses, what each request needs was looked for.
+-- After each event that is taken in, where nothing pauses, what each request needs was looked for.
 use Rattle.std.proofs.Common.{◌≡◌, ℕ, List, Option, refl, sym, ap, ◌∙◌, subst}
 use Rattle.std.proofs.lemmas.List.Elements.{All-filter}
 use Rattle.stateful_types.specs.Names.{Header, Named}
@@ -30,7 +30,7 @@ use Rattle.stateful_keeping.proofs.SettledKept.{settling_fetched, settling_steps
 use Rattle.stateful_keeping.proofs.SettledRules.{IsSettledAt, settled_same}
 use Rattle.stateful_keeping.proofs.StepsLeave.{pause-steps}
 
--- where nothing pauses behind the end of a run, nothing did
+-- where nothing pauses after the end of a run, nothing did
 pub crossed_free : {B : Type 0} (header : Header B) (b : Named B) (old new : Pause) → Crosses header b old new → new ≡ Free → old ≡ Free
 crossed_free header b Free new crosses is = refl
 crossed_free header b Pruning new crosses is = let no : Pruning ≡ Free = sym crosses ∙ is in absurd (cc)
@@ -100,7 +100,7 @@ module _ {B C I P R D H G U : Type 0} (w : Workings B C I P R D H G U) where
         by (building own same gone marks) = subst (λ v. IsSettledAt w v) (sym same) h
         by (asking none cancels same) = settled_cancels t c.state c.marks cancels
 
-    -- Behind each event it is so, where it was so before.
+    -- After each event it is so, where it was so before.
     pub settled-takes_in : (stored_now : ℕ → Option (Named B)) (counts : Counts R D H) (e : Event B C I) (now : Moment w)
         → TakesIn w stored_now counts m now e
         → IsSettledAt w now.execution.state

@@ -1,4 +1,4 @@
--- Behind each rule of execution what each request needs was looked for, where it was so before.
+-- After each rule of execution what each request needs was looked for, where it was so before.
 use Rattle.std.proofs.Common.{◌≡◌, not, ℕ, true, List, [], ◌∷◌, Option, Result, Ok, Err, refl, sym, ap, ◌∙◌, subst}
 use Rattle.std.proofs.lemmas.List.Elements.{All-filter, All-weaker, filter_passes}
 use Rattle.stateful_types.specs.Names.{Named}
@@ -109,7 +109,7 @@ module _ {B C I P R D H G U : Type 0} (w : Workings B C I P R D H G U) where
       by (Ok (Done o)) settles = settling_settles (record m { state = steps.running }) now j o settles before
       by (Err fault) settles = absurd settles
 
-  -- behind a resume it is so, whatever was before
+  -- after a resume it is so, whatever was before
   pub settled_resumes : (stored_now : ℕ → Option (Named B)) (m now : Moment w) → Resumes w stored_now m now → NoneOpen now.state.requests
   settled_resumes stored_now m now r =
       settling_in_turn (AcquiresAnew w stored_now) (λ x n l. settling_acquires stored_now n l x.0 (requested x.1.request))

@@ -1,4 +1,4 @@
--- Behind each rule of the loop, where nothing pauses, what each request needs was looked for.
+-- After each rule of the loop, where nothing pauses, what each request needs was looked for.
 use Rattle.std.proofs.Common.{◌≡◌, ℕ, Option, sym, ap, ◌∙◌, subst}
 use Rattle.stateful_types.specs.Names.{Named}
 use Rattle.stateful_exec.specs.Finalizing.{HooksOn}
@@ -62,7 +62,7 @@ module _ {B C I P R D H G U : Type 0} (w : Workings B C I P R D H G U) where
       by (hooked.Pending hook) on =
           settled_same m.execution.state r.state (ap (λ (v : Tables B C I R U). v.requests) on.0) (ap (λ (v : Tables B C I R U). v.pause) on.0) h
 
-  -- Behind each rule it is so, where it was so before.
+  -- After each rule it is so, where it was so before.
   pub settled-rule : (stored_now : ℕ → Option (Named B)) (provider : P) (m now : Moment w) → IsSettledAt m.execution.state
       → Rule w stored_now provider m now
       → IsSettledAt now.execution.state

@@ -63,7 +63,7 @@ module _ {B C I S T : Type 0} (s : Setting B S T) where
       (record { met = λ c met. inr met; anchor = refl; blocks = refl })
       (keeps-mild (Made (Began t b) ∷ p) (map (λ f. Withdrawn f) fs) (withdrawn_mild fs))
 
-  -- behind an event, but a restart
+  -- after an event, but a restart
   pub keeps-came : (p : Past B C I) (e : Event B C I) → (IsRestart e → ⊥) → KeepsStates p (Came e ∷ p)
   keeps-came p (event.Restart floor keep) on = absurd (on tt)
   keeps-came p e on = record { met = λ b met. inr met; anchor = refl; blocks = refl }

@@ -1,4 +1,4 @@
--- Behind every event that is taken in by a machine that is up, but for a restart, all that stood stands.
+-- After every event that is taken in by a machine that is up, but for a restart, all that stood stands.
 use Rattle.std.proofs.Common.{◌≡◌, ◌&&◌, ◌∷◌, [], ℕ, Bool, true, false, not, List, Option, refl, sym, ◌∙◌, subst}
 use Rattle.std.proofs.lemmas.List.{append_cancel_left}
 use Rattle.stateful_types.specs.Names.{Named}
@@ -57,7 +57,7 @@ module _ {B C I P R D H G U : Type 0} (w : Workings B C I P R D H G U) where
 
 module _ {B C I P R D H G U : Type 0} (w : Workings B C I P R D H G U) (stored : ℕ → Option (Named B)) (base : w.States) (q : Past B C I)
     (m now : Moment w) where
-  -- What stands behind the event is put together of what stands of execution, of the loop, of what waits and of the ways.
+  -- What stands after the event is put together of what stands of execution, of the loop, of what waits and of the ways.
   pub TakenBehind-of : Sound w now → IsInOrder now.loop.durability → CapturedStands w now.loop.front → MarksBehind w m now → ExecutesBehind w stored base q m now
       → LoopBehind w stored base q m now → TicketsBehind w stored q m now → WaysBehind w stored q m now → TakenBehind w stored base q m now
   TakenBehind-of sound in_order captured made x l t k =

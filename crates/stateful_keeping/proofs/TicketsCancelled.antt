@@ -192,7 +192,7 @@ module _ {B C I P R D H G U : Type 0} (w : Workings B C I P R D H G U) (stored :
       })
       (still_apart m.execution.state state t marks recovered s.once)
 
-  -- behind the cancel what waits stands
+  -- after the cancel what waits stands
   pub cancels-tickets : (now : Moment w) → intake.Cancels w t m now → TicketsBehind w stored (Came (event.Cancel t) ∷ p) m now
   cancels-tickets now c = subst (λ (n : Moment w). TicketsBehind w stored (Came (event.Cancel t) ∷ p) m n) (sym c.becomes)
       (given_up c.state c.build c.marks c.gives_up)

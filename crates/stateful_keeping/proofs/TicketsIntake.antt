@@ -18,7 +18,7 @@ use Rattle.stateful_keeping.proofs.TicketsTurned.{fetched-tickets, turns-tickets
 module _ {B C I P R D H G U : Type 0} (w : Workings B C I P R D H G U) (stored : ℕ → Option (Named B)) (base : w.States) (p : Past B C I)
     (m : Moment w) (x : Executes w stored base p m)
     (s : TicketsStand w stored p m) (bare : m.execution.state.recovered ≡ []) where
-  -- behind an event that names what is live, where nothing was to be handed out
+  -- after an event that names what is live, where nothing was to be handed out
   pub takes_in-tickets : (stored_now : ℕ → Option (Named B)) (count : ℕ) (counts : Counts R D H) (e : Event B C I) (now : Moment w)
       → (IsRestart e → ⊥) → names_live count p e ≡ true → TakesIn w stored_now counts m now e → TicketsBehind w stored (Came e ∷ p) m now
   takes_in-tickets stored_now count counts e now no_restart names (enters {x = a} is become) =

@@ -1,4 +1,4 @@
--- Behind each rule of the loop what waits stands.
+-- After each rule of the loop what waits stands.
 use Rattle.std.proofs.Common.{◌≡◌, ℕ, [], Option, None, refl, sym, ap, ◌∙◌, subst}
 use Rattle.stateful_types.specs.Names.{Named}
 use Rattle.stateful_history.specs.Past.{Past}
@@ -38,7 +38,7 @@ module _ {B C I P R D H G U : Type 0} (w : Workings B C I P R D H G U) (stored s
     ground : IsGrounded w stored p m.execution.state m.execution.build
     ground = grounded w stored base p m x
 
-    -- behind a rule
+    -- after a rule
     pub rule-tickets : (provider : P) (now : Moment w) → Rule w stored_now provider m now → TicketsBehind w stored p m now
     rule-tickets provider now (rules.collects {t = t} up c) = collects-tickets w stored base p m x s t now c
     rule-tickets provider now (rules.schedules {request = request} {rest = rest} collected some is verification r) =

@@ -1,4 +1,4 @@
--- Where nothing waits, all that waits stands, as behind an opening.
+-- Where nothing waits, all that waits stands, as after an opening.
 use Rattle.std.proofs.Common.{◌≡◌, ℕ, List, [], Option, Some, None, IfSome, sym, ap, ◌∙◌, subst}
 use Rattle.std.proofs.lemmas.List.Elements.{All-nil}
 use Rattle.stateful_types.specs.Names.{Named}
@@ -27,7 +27,7 @@ module _ {B C I P R D H G U : Type 0} (w : Workings B C I P R D H G U) (stored :
     once = rw bare none_apart;
   }
 
-  -- behind an opening, where nothing waited before it
+  -- after an opening, where nothing waited before it
   pub opens-tickets : (kept : ℕ → Option (Named B)) (floor : Floor) (keep : List ℕ) (m now : Moment w) → m.loop.queue ≡ [] → m.loop.actions ≡ []
       → m.loop.front ≡ None
       → (o : Opens w kept floor keep m now) → TicketsStand w stored p now

@@ -1,4 +1,4 @@
--- What waits stands behind a turn of a job, an answer of a fetch, and what else serves none of it.
+-- What waits stands after a turn of a job, an answer of a fetch, and what else serves none of it.
 use Rattle.std.proofs.Common.{◌≡◌, ◌≢◌, ◌++◌, ℕ, false, List, [], ◌∷◌, All, Option, Some, None, IfSome, Result, Ok, Err, refl, sym, ap, ◌∙◌, subst}
 use Rattle.std.proofs.lemmas.List.{append-nil}
 use Rattle.std.proofs.lemmas.List.Elements.{All-nil, All-cons}

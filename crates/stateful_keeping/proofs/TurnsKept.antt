@@ -1,4 +1,4 @@
--- Execution stands behind a turn of a job, be it the live build, the hook or a run, and true verdicts are earned.
+-- Execution stands after a turn of a job, be it the live build, the hook or a run, and true verdicts are earned.
 use Rattle.std.proofs.Common.{◌≡◌, ℕ, ◌∷◌, true, Option}
 use Rattle.stateful_types.specs.Names.{Named}
 use Rattle.stateful_db.specs.Laws.{Laws}
@@ -16,7 +16,7 @@ use Rattle.stateful_keeping.proofs.RunTurned.{Executes-turns_run}
 
 module _ {B C I P R D H G U : Type 0} (w : Workings B C I P R D H G U) (laws : Laws w.kind) (stored : ℕ → Option (Named B)) (base : w.States)
     (p : Past B C I) (m : Moment w) (e : Executes w stored base p m) (kept : WaysKept w stored p m.execution.state) where
-  -- Execution stands behind a turn of a live job.
+  -- Execution stands after a turn of a live job.
   pub Executes-turns : (counts : Counts R D H) (j : ℕ) (now : Moment w) → live_job j p ≡ true → TurnsJob w counts j m now
       → NamesBehind w stored base (Came (Turn j) ∷ p) m now → ExecutesBehind w stored base (Came (Turn j) ∷ p) m now
   Executes-turns counts j now live (build {then = then} {after = next} builds turns is) names =

@@ -31,7 +31,7 @@ module _ {B C I : Type 0} where
       go true is = let no : None ≡ Some x = sym (gone t is).0 ∙ live in let never : ⊥ = cc in absurd never
       go false is = refl
 
-  -- behind a mark
+  -- after a mark
   pub gone-mark : (p : Past B C I) (mark : Mark B) → CancelledIsGone p → CancelledIsGone (Made mark ∷ p)
   gone-mark p (Verdict u answer) gone t is = let h = gone t is in (ended t u _ h.0, h.1)
   gone-mark p (Answered u decision b) gone t is = let h = gone t is in (ended t u _ h.0, h.1)
@@ -53,7 +53,7 @@ module _ {B C I : Type 0} where
   gone-first p is t cancelled = let no : was_cancelled {B = B} {C = C} {I = I} t [] ≡ true = subst (λ q. was_cancelled t q ≡ true) is cancelled in
       let never : ⊥ = cc in absurd never
 
-  -- behind an event that names what is live
+  -- after an event that names what is live
   pub gone-event : (count : ℕ) (p : Past B C I) (e : Event B C I) → names_live count p e ≡ true → CancelledIsGone p → CancelledIsGone (Came e ∷ p)
   gone-event count p (Verify u ancestry) names gone t is = came p u t _ names (gone t is)
   gone-event count p (Prepare u context ancestry input) names gone t is = came p u t _ names (gone t is)

@@ -106,7 +106,7 @@ module _ {B C I P R D H G U : Type 0} (w : Workings B C I P R D H G U) where
     unruled-follow b how rs m last rules = in_turn (Follows w b how)
         (λ r n now rule. served p n now r.ticket (follows-marks w p n now b how r rule)) rs m last rules
 
-    -- where execution goes on behind a pause
+    -- where execution goes on after a pause
     pub unruled-resumes : (stored_now : ℕ → Option (Named B)) (m now : Moment w) → Resumes w stored_now m now → UnruledBehind m now
     unruled-resumes stored_now m now r =
         let first : UnruledBehind (unparked w m) r.mid = in_turn (GoesAlong w)

@@ -107,7 +107,7 @@ module _ {B C I : Type 0} where
         go true same = let e = eqb-true t u same in let l = low some in absurd (omega (arith, e, l, above))
         go false other = rw other (before some)
 
-  -- Tickets are apart behind an event whose ticket, if it has one, is new.
+  -- Tickets are apart after an event whose ticket, if it has one, is new.
   pub VerifiedApart-came : (count : ℕ) (p : Past B C I) (e : Event B C I) → names_live count p e ≡ true → VerifiedApart p → VerifiedApart (Came e ∷ p)
   VerifiedApart-came count p (Verify u ancestry) fresh h = record {
     unproposed = λ t some. apart_verify p u fresh t ancestry.first None (proposed t p) (proposed_below t p) (h.unproposed t) some;

@@ -1,4 +1,4 @@
--- The ways of requests stay open behind a finalization's begin and the apply of its block, and without the pause then.
+-- The ways of requests stay open after a finalization's begin and the apply of its block, and without the pause then.
 use Rattle.std.proofs.Common.{◌≡◌, ◌≢◌, ◌<◌, ◌++◌, inl, ℕ, get_or, List, [], ◌∷◌, map, All, Option, Some, None, refl, sym, ap, ◌∙◌, subst, arith}
 use Rattle.std.proofs.lemmas.List.{append_cancel_left}
 use Rattle.std.proofs.lemmas.List.Elements.{All-map, All-weaker}
@@ -143,7 +143,7 @@ module _ {B C I P R D H G U : Type 0} (w : Workings B C I P R D H G U) (laws : L
           (λ x. x.1.block.digest ≢ f.block.digest) (λ x retained same. retained.other (same ∙ root)) old.runs retained)
           r.state.cache ways)
 
-    -- Where the store has the anchor's block at its height, or none, the ways stay open behind the apply of a finalized block.
+    -- Where the store has the anchor's block at its height, or none, the ways stay open after the apply of a finalized block.
     pub WaysStand-applies : HasStates w m f.block → ((d : Digest) → kept_at (setting w stored) p old.anchor.height.0 ≡ Some d → d ≡ old.anchor.digest)
         → WaysStand w stored p (anchor_by w.header f.block) old
         → (more : List (Mark B)) → now.marks ≡ m.marks ++ more → WaysStand w stored (after p more) now.execution.state.anchor now.execution.state

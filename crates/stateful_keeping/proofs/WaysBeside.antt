@@ -1,4 +1,4 @@
--- The ways of requests are kept behind events and marks that say nothing of what is final, where execution serves no request.
+-- The ways of requests are kept after events and marks that say nothing of what is final, where execution serves no request.
 use Rattle.std.proofs.Common.{◌≡◌, ◌++◌, ℕ, get_or, List, [], ◌∷◌, All, Option, None, Some, refl, sym, ap, ◌∙◌, subst}
 use Rattle.std.proofs.lemmas.List.{append-nil}
 use Rattle.std.proofs.lemmas.List.Elements.{All-nil, All-head, All-tail, All-weaker}
@@ -35,7 +35,7 @@ module _ {B C I : Type 0} (header : Header B) where
     pub tip : tip_of header q ≡ tip_of header p
     pub pruned : pruned_below q ≡ pruned_below p
 
-  -- so it is behind marks that neither open, finalize nor prune
+  -- so it is after marks that neither open, finalize nor prune
   pub IsSameChain-mild : (p : Past B C I) (marks : List (Mark B)) → All (λ x. IsMild x) marks → IsSameChain p (after p marks)
   IsSameChain-mild p [] mild = record { anchor = refl; tip = refl; pruned = refl }
   IsSameChain-mild p (mark ∷ marks) mild =
@@ -43,7 +43,7 @@ module _ {B C I : Type 0} (header : Header B) where
       let rest = IsSameChain-mild (Made mark ∷ p) marks (All-tail (λ x. IsMild x) mark marks mild) in
       record { anchor = rest.anchor ∙ one.anchor; tip = rest.tip ∙ one.tip; pruned = rest.pruned ∙ one.pruned }
 
-  -- and behind an event that is no restart
+  -- and after an event that is no restart
   pub IsSameChain-came : (p : Past B C I) (e : Event B C I) → (IsRestart e → ⊥) → IsSameChain p (Came e ∷ p)
   IsSameChain-came p (Restart floor keep) off = absurd (off tt)
   IsSameChain-came p e off = record { anchor = refl; tip = refl; pruned = refl }
@@ -122,7 +122,7 @@ module _ {B C I P R D H G U : Type 0} (w : Workings B C I P R D H G U) (stored :
     stores = λ anchor b is. h.stores anchor b (sym same.anchor ∙ is);
   }
 
-  -- they are kept behind an event that is no restart
+  -- they are kept after an event that is no restart
   pub WaysKept-came : (p : Past B C I) (e : Event B C I) → (IsRestart e → ⊥) → (v : Tables B C I R U) → WaysKept w stored p v
       → WaysKept w stored (Came e ∷ p) v
   WaysKept-came p e off v h = WaysKept-chain p (Came e ∷ p) (IsSameChain-came w.header p e off) v h

@@ -1,4 +1,4 @@
--- The ways of requests are kept behind the begin of a finalization, the apply of its block and its end, and behind an opening.
+-- The ways of requests are kept behind the begin of a finalization, the apply of its block and its end, and after an opening.
 use Rattle.std.proofs.Common.{◌≡◌, ◌<◌, ◌++◌, ℕ, Bool, true, false, nat_lt, if◌then◌else◌, List, [], ◌∷◌, All, Option, None, Some, option_map, refl, sym, ap, ◌∙◌, subst}
 use Rattle.std.proofs.lemmas.List.Elements.{All-nil}
 use Rattle.stateful_types.specs.Names.{Named}
@@ -89,7 +89,7 @@ module _ {B C I P R D H G U : Type 0} (w : Workings B C I P R D H G U) (laws : L
       let top : anchor_by w.header b ≡ anchor = cc in
       subst (λ (a : Anchor). c.digest ≡ a.digest) top (own c (subst (λ (a : Anchor). stored a.height.0 ≡ Some c) (sym top) there))
 
-  -- They are kept behind the apply of its block, where the store has that block, or none, at its height.
+  -- They are kept after the apply of its block, where the store has that block, or none, at its height.
   pub WaysBehind-applies : (f : loop.Finalizing B G) → HasStates w m f.block → StoresAs w.header stored f.block → AppliesBlock w f m now
       → WaysBehind w stored p m now
   WaysBehind-applies f has own r =
@@ -118,7 +118,7 @@ module _ {B C I P R D H G U : Type 0} (w : Workings B C I P R D H G U) (laws : L
   module _ (stored_now : ℕ → Option (Named B)) (f : loop.Finalizing B G) (finalizing : IsFinalizing w m f)
       (at : m.execution.front ≡ front_at f.block Advanced) (stored_is : IsStoredNow stored p stored_now)
       (r : EndsFinalization w stored_now f m now) where
-    -- Where the ways are kept, execution stands behind the end of a finalization, the ways are open, none is parked, and each
+    -- Where the ways are kept, execution stands after the end of a finalization, the ways are open, none is parked, and each
     -- request that waits abstains.
     pub IsResumedBehind-kept : IsResumedBehind w laws stored stored_now base p m now
     IsResumedBehind-kept =
@@ -127,7 +127,7 @@ module _ {B C I P R D H G U : Type 0} (w : Workings B C I P R D H G U) (laws : L
         IsResumedBehind-ends w laws stored stored_now base p m now f finalizing at
         (WaysStand-tip w stored p v v.anchor moved.ground.folded.tip_is kept) stored_is e r
 
-    -- so execution stands behind the end
+    -- so execution stands after the end
     pub Executes-ends-kept : ExecutesBehind w stored base p m now
     Executes-ends-kept = IsResumedBehind-kept.behind
 
@@ -153,7 +153,7 @@ module _ {B C I P R D H G U : Type 0} (w : Workings B C I P R D H G U) (laws : L
 
 module _ {B C I P R D H G U : Type 0} (w : Workings B C I P R D H G U) (stored : ℕ → Option (Named B)) (stored_now : ℕ → Option (Named B))
     (floor : Floor) (keep : List ℕ) (p : Past B C I) (m now : Moment w) where
-  -- Behind an opening no request is on its way, and the anchor is the store's block of its height.
+  -- After an opening no request is on its way, and the anchor is the store's block of its height.
   pub WaysKept-opens : StoresHeights w.header stored → IsStoredNow stored p stored_now → (o : Opens w stored_now floor keep m now)
       → WaysKept w stored (Made (Opened (anchor_by w.header o.block)) ∷ p) now.execution.state
   WaysKept-opens heights stored_is o = record {

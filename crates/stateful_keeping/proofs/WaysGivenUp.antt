@@ -1,4 +1,4 @@
--- The ways of requests are kept behind a cancel, and behind the rules on builds, on the run of a finalized block and on its hook.
+-- The ways of requests are kept after a cancel, and after the rules on builds, on the run of a finalized block and on its hook.
 use Rattle.std.proofs.Common.{◌≡◌, ◌==◌, not, ℕ, List, [], ◌∷◌, All, Bool, Option, refl, sym, ap, ◌∙◌, subst}
 use Rattle.std.proofs.lemmas.List.{append-nil}
 use Rattle.std.proofs.lemmas.List.Elements.{All-cons, All-filter, All-nil}
@@ -82,7 +82,7 @@ module _ {B C I P R D H G U : Type 0} (w : Workings B C I P R D H G U) (stored :
     given_up before last marks (asking off cancels same) = cancelled marks cancels
 
 module _ {B C I P R D H G U : Type 0} (w : Workings B C I P R D H G U) (stored : ℕ → Option (Named B)) (p : Past B C I) (m now : Moment w) where
-  -- The ways are kept behind a cancel.
+  -- The ways are kept after a cancel.
   pub WaysBehind-cancels : (t : ℕ) → WaysKept w stored p m.execution.state → intake.Cancels w t m now
       → WaysBehind w stored (Came (Cancel t) ∷ p) m now
   WaysBehind-cancels t kept c =
@@ -97,7 +97,7 @@ module _ {B C I P R D H G U : Type 0} (w : Workings B C I P R D H G U) (stored :
       subst (λ (n : Moment w). WaysBehind w stored p m n) (sym c.becomes)
       (WaysBehind-mild w stored p m _ [] none_mild (sym (append-nil m.marks)) (WaysKept-as w stored p m.execution.state _ refl refl refl refl kept))
 
-  -- behind a build that is started or declined
+  -- after a build that is started or declined
   pub WaysBehind-builds : (provider : P) (t : ℕ) → WaysKept w stored p m.execution.state → Builds w provider t m now → WaysBehind w stored p m now
   WaysBehind-builds provider t kept (starts s is) =
       subst (λ (n : Moment w). WaysBehind w stored p m n) (sym is)

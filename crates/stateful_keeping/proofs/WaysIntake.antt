@@ -1,4 +1,4 @@
--- The ways of requests are kept behind an event that is taken in.
+-- The ways of requests are kept after an event that is taken in.
 use Rattle.std.proofs.Common.{◌≡◌, ◌∷◌, ℕ, Option, ap}
 use Rattle.stateful_types.specs.Names.{Named}
 use Rattle.stateful_db.specs.Laws.{Laws}
@@ -24,7 +24,7 @@ module _ {B C I P R D H G U : Type 0} (w : Workings B C I P R D H G U) (laws : L
       → WaysBehind w stored (Came e ∷ p) m now
   still e off marks state = WaysBehind-still w stored (Came e ∷ p) m now marks state (WaysKept-came w stored p e off m.execution.state kept)
 
-  -- The ways are kept behind an event that is no restart, with which names are true.
+  -- The ways are kept after an event that is no restart, with which names are true.
   pub WaysBehind-takes_in : (stored_now : ℕ → Option (Named B)) (counts : Counts R D H) (e : Event B C I) → (IsRestart e → ⊥)
       → TrueNames (setting w stored) (Came e ∷ p) → TakesIn w stored_now counts m now e → WaysBehind w stored (Came e ∷ p) m now
   WaysBehind-takes_in stored_now counts e off names (intake.enters is becomes) =

@@ -1,4 +1,4 @@
--- The ways of requests are kept behind a turn of a job, be it the live build, the hook or a run.
+-- The ways of requests are kept after a turn of a job, be it the live build, the hook or a run.
 use Rattle.std.proofs.Common.{◌≡◌, ◌++◌, ℕ, List, [], ◌∷◌, All, Option, None, Some, Result, Ok, Err, refl, sym, ap, ◌∙◌, subst}
 use Rattle.std.proofs.lemmas.List.Elements.{All-cons, All-nil}
 use Rattle.stateful_types.specs.Names.{Named}
@@ -76,7 +76,7 @@ module _ {B C I P R D H G U : Type 0} (w : Workings B C I P R D H G U) (stored :
     built count then last (ends {b = b} {turned = moved} {given = handed} live had leads last_is) =
         ended (record b { build = moved }) handed then (free_building b live.live) leads
 
-    -- the ways are kept behind a turn of the live build
+    -- the ways are kept after a turn of the live build
     turned_build : (count : D → ℕ) (now : Moment w) (then : exec.Moment w) (last : Option (Building B C D))
         → TurnsBuild w count (inner w m) m.execution.build j then last
         → now ≡ record (with_inner w m then) { execution = record m.execution { state = then.state; build = last } } → WaysBehind w stored q m now
@@ -135,7 +135,7 @@ module _ {B C I P R D H G U : Type 0} (w : Workings B C I P R D H G U) (stored :
         final_by count now then.marks last steps (ap (λ (n : Moment w). n.marks) is)
         (ap (λ (n : Moment w). n.execution.state) is ∙ ap (λ (n : exec.Moment w). n.state) then_is)
 
-    -- The ways are kept behind a turn of a job.
+    -- The ways are kept after a turn of a job.
     pub WaysBehind-turns : (counts : Counts R D H) (now : Moment w) → TurnsJob w counts j m now → WaysBehind w stored (Came (Turn j) ∷ p) m now
     WaysBehind-turns counts now (intake.build {then = then} {after = last} builds turns is) = turned_build counts.build now then last turns is
     WaysBehind-turns counts now (intake.hook {marks = marks} {after = last} unbuilt hooks turns is) = turned_hook counts.hook now marks last turns is

@@ -1,4 +1,4 @@
--- The ways of requests are kept behind each rule of the loop.
+-- The ways of requests are kept after each rule of the loop.
 use Rattle.std.proofs.Common.{◌≡◌, ◌==◌, ◌++◌, ℕ, Bool, true, false, if◌then◌else◌, IfSome, Some, List, [], ◌∷◌, All, Option, None, refl, sym, ap, ◌∙◌, subst}
 use Rattle.std.proofs.lemmas.List.{append-nil}
 use Rattle.std.proofs.lemmas.List.Elements.{All-cons, All-map, All-nil}
@@ -51,7 +51,7 @@ module _ {B C I : Type 0} (header : Header B) (stored : ℕ → Option (Named B)
   stores-as (item ∷ p) t b stores is = stores-as p t b stores is
 
 module _ {B C I P R D H G U : Type 0} (w : Workings B C I P R D H G U) (stored : ℕ → Option (Named B)) (p : Past B C I) where
-  -- The ways are kept behind marks of the loop, where the tables stay.
+  -- The ways are kept after marks of the loop, where the tables stay.
   pub WaysBehind-beside : (m now : Moment w) (marks : List (Mark B)) → All (λ x. IsMild x) marks → now.marks ≡ m.marks ++ marks
       → now.execution ≡ m.execution → WaysKept w stored p m.execution.state → WaysBehind w stored p m now
   WaysBehind-beside m now marks mild is same kept = WaysBehind-mild w stored p m now marks mild is (rw same kept)
@@ -97,7 +97,7 @@ module _ {B C I P R D H G U : Type 0} (w : Workings B C I P R D H G U) (laws : L
     no_front : m.loop.up ≡ true → m.loop.front ≡ None → m.execution.front ≡ None
     no_front up none = subst (λ (o : Option (Finalizing B G)). FrontAgrees w m.loop.durability o m.execution.front) none (sound.up up).front
 
-    -- The ways are kept behind a rule of the loop, where the store has the finalized blocks that came, or none, at their heights.
+    -- The ways are kept after a rule of the loop, where the store has the finalized blocks that came, or none, at their heights.
     pub WaysBehind-rule : StoresFinalized w.header stored p → (provider : P) → Rule w stored_now provider m now → WaysBehind w stored p m now
     WaysBehind-rule stores provider (rules.collects {t = t} up c) = WaysBehind-collects w stored p m now t kept c
     WaysBehind-rule stores provider (rules.schedules {request = request} {rest = rest} collected some is verification r) =

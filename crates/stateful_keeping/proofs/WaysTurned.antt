@@ -1,4 +1,4 @@
--- The ways of requests stay open behind a turn of a candidate run, and behind all that follows its end.
+-- The ways of requests stay open after a turn of a candidate run, and behind all that follows its end.
 use Rattle.std.proofs.Common.{◌≡◌, ◌++◌, ℕ, not, get_or, List, [], ◌∷◌, All, Option, MatchOption, Result, length, ◌<◌, Ok, Err, refl, sym, ap, ◌∙◌, subst}
 use Rattle.std.proofs.lemmas.List.{append_assoc, append-nil}
 use Rattle.std.proofs.lemmas.List.Elements.{All-append, All-cons, All-filter, All-head, All-nil, All-tail, All-weaker}
@@ -40,7 +40,7 @@ use Rattle.stateful_standing.proofs.WaysKept.{WaysStand-follows}
 use Rattle.stateful_keeping.specs.Ways.{ParksNone}
 use Rattle.stateful_keeping.proofs.ParksNone.{ParksNone-follows}
 
--- execution isn't free of a pause behind the end of a run, unless it was before it
+-- execution isn't free of a pause after the end of a run, unless it was before it
 free_before : {B : Type 0} (header : Header B) (b : Named B) (old new : Pause) → Crosses header b old new → new ≡ Free → old ≡ Free
 free_before header b Free new crosses is = refl
 free_before header b Pruning new crosses is = sym crosses ∙ is
@@ -115,7 +115,7 @@ module _ {B C I P R D H G U : Type 0} (w : Workings B C I P R D H G U) (stored :
         crosses : Crosses w.header turns.live.block m.state.pause ends.pause
         crosses = crosses_so w stored p point m j b o how done turns.live turns.live_is turns.turned ends
 
-        -- the ways with the pause and the cache behind the end
+        -- the ways with the pause and the cache after the end
         open_now : All (λ (e : ℕ × Requested B C I). IsOnOpenWay w stored p tip ends.pause m.state.anchor ends.cache e.1.request e.1.phase) m.state.requests
         open_now =
             All-weaker (λ (e : ℕ × Requested B C I). IsOnOpenWay w stored p tip m.state.pause m.state.anchor m.state.cache e.1.request e.1.phase)
@@ -190,6 +190,6 @@ module _ {B C I P R D H G U : Type 0} (w : Workings B C I P R D H G U) (stored :
         (subst (λ (t : Tables B C I R U). EndsRun w (record m { state = t }) j settles.block o settles.how settles.done) turns.state settles.ends) settles.follow
     settled count running (Err fault) turns now nothing = absurd nothing
 
-    -- the ways stay open behind a turn of a candidate run, and all that follows its end
+    -- the ways stay open after a turn of a candidate run, and all that follows its end
     pub StaysOpen-steps : (count : R → ℕ) (now : exec.Moment w) → Steps w count m j now → StaysOpen m now
     StaysOpen-steps count now turn = settled count turn.running turn.answer turn.turns now turn.settles

@@ -1,4 +1,4 @@
--- What stands behind a rule of the loop of a machine that was up.
+-- What stands after a rule of the loop of a machine that was up.
 use Rattle.std.specs.Prelude.{◌≡◌, ◌≢◌, ◌<◌, ℕ, true, Option, None, List, ◌++◌, All}
 use Rattle.stateful_types.specs.Names.{Named}
 use Rattle.stateful_durability.specs.Durability.{IsInOrder}

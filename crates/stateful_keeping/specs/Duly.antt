@@ -32,8 +32,7 @@ module _ {B C I P R D H G U : Type 0} (w : Workings B C I P R D H G U)
       × AnsweredIsBuilt (setting w stored) (telling_of w.works) base p mark
       × EndsAsItsKind event p mark
       × CancelledHasCause (setting w stored) event all p mark
-      ×
-      ((rule : Option (PruneRule w.Targets))
+      × ((rule : Option (PruneRule w.Targets))
       → WithdrawnHasCause (setting w stored) rule event all p mark)
       × SyncsInPlace w.header p mark
 

@@ -1,4 +1,4 @@
--- The rules on marks of barriers and of acknowledgements, and what the loop keeps behind marks.
+-- The rules on marks of barriers and of acknowledgements, and what the loop keeps after marks.
 use Rattle.std.specs.Prelude.{◌≡◌, ℕ, Option, List, ◌++◌}
 use Rattle.stateful_types.specs.Names.{Named}
 use Rattle.stateful_history.specs.Barriers.{BarrierIsOver, GoodIsInOrder}

@@ -1,4 +1,4 @@
--- What stands behind a whole event: it is taken in by a machine that is up, and rules go until
+-- What stands after a whole event: it is taken in by a machine that is up, and rules go until
 -- nothing can go on; or it is a restart.
 use Rattle.std.specs.Prelude.{◌≡◌, ℕ, true, Option, List, ◌++◌, All}
 use Rattle.stateful_types.specs.Names.{Named}
@@ -18,9 +18,9 @@ module _ {B C I P R D H G U : Type 0} (w : Workings B C I P R D H G U)
     (stored : ℕ → Option (Named B)) (base : w.States) (q : Past B C I)
     (m now : Moment w) where
   -- From the moment before an event to the one behind all that goes on with it some marks of rules
-  -- are made behind that event. True verdicts among them are earned, and those of barriers and
+  -- are made after that event. True verdicts among them are earned, and those of barriers and
   -- acknowledgements keep their rules. The databases hold what was applied, and the numbers so far
-  -- are below the next ones, be the machine up or not, as behind a stop or a broken barrier. Where
+  -- are below the next ones, be the machine up or not, as after a stop or a broken barrier. Where
   -- it is up, it stands for the past with these marks.
   pub record EventBehind : Type 0 where
     pub more : List (Mark B)
@@ -32,7 +32,7 @@ module _ {B C I P R D H G U : Type 0} (w : Workings B C I P R D H G U)
     pub holds : Holds (setting w stored) w.kind base (after q more) now.members
     pub counted : IsCounted w (after q more) now
 
-  -- The event was a stop, or a barrier broke: behind the marks of the event and those of the stop
+  -- The event was a stop, or a barrier broke: after the marks of the event and those of the stop
   -- the machine is down. True verdicts among them are earned, barriers and acknowledgements keep
   -- their rules, and the databases hold what was applied.
   pub record StoppedBehind : Type 0 where
@@ -43,7 +43,7 @@ module _ {B C I P R D H G U : Type 0} (w : Workings B C I P R D H G U)
     pub holds : Holds (setting w stored) w.kind base (after q more) now.members
     pub down : IsDownAt w (after q more) now
 
-  -- The event was a restart: behind the marks by which all live work ends and that of the opening
+  -- The event was a restart: after the marks by which all live work ends and that of the opening
   -- the machine is up, and stands for the past with these marks.
   pub record RestartedBehind : Type 0 where
     pub more : List (Mark B)

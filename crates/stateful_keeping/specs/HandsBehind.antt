@@ -1,4 +1,4 @@
--- That all that is live is in hand, and goes on, behind marks that were made.
+-- That all that is live is in hand, and goes on, after marks that were made.
 use Rattle.std.specs.Prelude.{◌≡◌, ℕ, Option, List, ◌++◌}
 use Rattle.stateful_types.specs.Names.{Named}
 use Rattle.stateful_history.specs.Past.{Past, after}

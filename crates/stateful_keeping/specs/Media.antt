@@ -16,6 +16,11 @@ module _ {Ids S T : Type 0} (d : Databases Ids S T) (m : d.Members) (t : T) (i :
     pub has : d.HasAt m i place state
     pub targets : d.target_of state ≡ t
 
+  -- it keeps such a one at some place
+  pub record KeepsSome : Type 0 where
+    pub place : ℕ
+    pub at : KeepsAt place
+
   -- it keeps such a one at some place, and durably
   pub record KeepsDurably : Type 0 where
     pub place : ℕ

@@ -1,4 +1,4 @@
--- What stands behind an opening.
+-- What stands after an opening.
 use Rattle.std.specs.Prelude.{◌≡◌, ℕ, true, Option, ◌++◌, ◌∷◌, []}
 use Rattle.stateful_types.specs.Names.{Named}
 use Rattle.stateful_types.specs.declared.anchor.Anchor.{Anchor}

@@ -73,7 +73,7 @@ module _ {B C I P R D H G U : Type 0} (w : Workings B C I P R D H G U)
     pub marks_are : now.marks ≡ m.marks ++ more
     pub each : EachMark HasItsReason p more
 
-  -- Besides, what is kept for reasons is kept behind these marks.
+  -- Besides, what is kept for reasons is kept after these marks.
   pub record ReasonsUpBehind (p : Past B C I) (m now : Moment w) : Type 0 where
     pub more : List (Mark B)
     pub marks_are : now.marks ≡ m.marks ++ more

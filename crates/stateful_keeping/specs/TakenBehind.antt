@@ -1,4 +1,4 @@
--- What stands behind an event that is taken in while the machine is up.
+-- What stands after an event that is taken in while the machine is up.
 use Rattle.std.specs.Prelude.{◌≡◌, ℕ, Option, List, ◌++◌, All}
 use Rattle.stateful_types.specs.Names.{Named}
 use Rattle.stateful_history.specs.Joined.{TrueIsEarned}
@@ -15,7 +15,7 @@ module _ {B C I P R D H G U : Type 0} (w : Workings B C I P R D H G U)
     (stored : ℕ → Option (Named B)) (base : w.States) (q : Past B C I)
     (m now : Moment w) where
   -- From the moment before an event to the one at which it is taken in some marks of rules are made
-  -- behind that event; true verdicts among them are earned, and each keeps the rules of barriers
+  -- after that event; true verdicts among them are earned, and each keeps the rules of barriers
   -- and of acknowledgements. All stands with them as it does for a machine that is up, which it
   -- needn't be any more: a stop alone takes the machine down, and leaves the rest.
   pub record TakenBehind : Type 0 where

@@ -1,4 +1,4 @@
--- The finalized blocks that wait stay in their order: behind plain marks, behind a rule of the loop, and behind rules one after
+-- The finalized blocks that wait stay in their order: behind plain marks, after a rule of the loop, and after rules one after
 -- another.
 use Rattle.std.proofs.Common.{◌≡◌, ◌⊎◌, inl, inr, ◌++◌, ◌∷◌, [], ℕ, true, false, Option, Some, None, List, All, refl, sym, ap, ◌∙◌, subst, append_assoc, append-nil, true≢false}
 use Rattle.std.proofs.lemmas.List.{append_cancel_left}
@@ -99,7 +99,7 @@ module _ {B C I P R D H G U : Type 0} (w : Workings B C I P R D H G U) (stored :
     above-anchor b (inr ran) = subst (λ (f : Option (Front B R U H)). HeadIs (setting w stored) a.anchor a.now f a.waits.head a.waits.before) ran.1 a.waits.front
 
   module _ (q : Past B C I) (m now : Moment w) (h : IsUpAt w stored base q m) (a : IsAhead w stored base q m) where
-    -- behind the apply of the block in front
+    -- after the apply of the block in front
     ahead_applied : (f : Finalizing B G) → HasStates w m f.block → AppliesBlock w f m now → IsAhead w stored base (Made (Applied f.block) ∷ q) now
     ahead_applied f states r =
         let above = above-anchor q m h a f.block states in record {
@@ -125,7 +125,7 @@ module _ {B C I P R D H G U : Type 0} (w : Workings B C I P R D H G U) (stored :
           rounds = rounds-marked w.header w.round_of q (Applied f.block ∷ []) a.rounds;
         }
 
-    -- behind a rule, as long as the machine is up
+    -- after a rule, as long as the machine is up
     pub ahead-rule : (stored_now : ℕ → Option (Named B)) (provider : P) → Rule w stored_now provider m now → now.loop.up ≡ true
         → (more : List (Mark B)) → now.marks ≡ m.marks ++ more → IsAhead w stored base (after q more) now
     ahead-rule stored_now provider rule up more marks_are = of (rule_plain w stored_now provider m now rule)
@@ -154,7 +154,7 @@ module _ {B C I P R D H G U : Type 0} (w : Workings B C I P R D H G U) (stored :
 
   module _ (laws : Laws w.kind) (q : Past B C I) (stored_now : ℕ → Option (Named B)) (stored_is : IsStoredNow stored q stored_now) (provider : P)
       (runs_cost : RunsTakeTurns w) (builds_cost : BuildsTakeTurns w) (stores : StoresFinalized w.header stored q) where
-    -- behind rules, one after another, as long as the machine is up
+    -- after rules, one after another, as long as the machine is up
     pub ahead-along : (m now : Moment w) → IsUpAt w stored base q m → IsAhead w stored base q m → Along w stored_now provider m now
         → now.loop.up ≡ true → (more : List (Mark B)) → now.marks ≡ m.marks ++ more → IsAhead w stored base (after q more) now
     ahead-along m _ h a none up more is =

@@ -121,7 +121,7 @@ module _ {B C I P R D H G U : Type 0} (w : Workings B C I P R D H G U) (stored :
       rounds = λ t asks live. let found : None ≡ Some Request = sym (none-live.tickets t) ∙ live.live in cc;
     }
 
-    -- behind a restart nothing waits
+    -- after a restart nothing waits
     pub ahead-opened : IsAhead w stored base (after_entry p (Restart floor keep) now.marks) now
     ahead-opened =
         subst (λ (ms : List (Mark B)). IsAhead w stored base (after (Came (Restart floor keep) ∷ p) ms) now) (sym r.opens.marks)
@@ -157,7 +157,7 @@ module _ {B C I P R D H G U : Type 0} (w : Workings B C I P R D H G U) (laws : L
     pub opens_none : opens settled.marks ≡ false
     opens_none = ap (λ (ms : List (Mark B)). opens ms) (sym told) ∙ opens-none behind.more behind.of_rules
 
-    -- the finalized blocks that wait stay in their order behind a lawful event
+    -- the finalized blocks that wait stay in their order after a lawful event
     pub ahead-goes_on : IsAhead w stored base p m → IsLawful (setting w stored) (telling_of w.works) w.round_of base p (numbered w.kind.count) event
         → IsAhead w stored base (after_entry p event settled.marks) settled
     ahead-goes_on a lawful =

@@ -1,4 +1,4 @@
--- The finalized blocks that wait stay in their order behind a lawful event that is taken in.
+-- The finalized blocks that wait stay in their order after a lawful event that is taken in.
 use Rattle.std.proofs.Common.{◌≡◌, ◌≤◌, ◌<◌, ◌⊎◌, inl, inr, ◌+◌, ◌++◌, ◌∷◌, [], ℕ, nat_lt, Bool, true, false, if◌then◌else◌, Option, Some, None, List, All, refl, sym, ap, ◌∙◌, subst, append-nil, arith}
 use Rattle.std.proofs.lemmas.Bool.Decides.{nat_tests}
 use Rattle.std.proofs.lemmas.List.{append_cancel_left}

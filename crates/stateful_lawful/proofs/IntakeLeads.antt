@@ -116,7 +116,7 @@ module _ {B C I P R D H G U : Type 0} (w : Workings B C I P R D H G U) (stored :
     intake-leads _ none (restarts is) =
         LeadsAt-same w stored anchor at top last m now (ap (λ (n : Moment w). n.execution.front) is) (ap (λ (n : Moment w). finals_at w n) is) h
 
-    -- one more waits behind a finalization
+    -- one more waits after a finalization
     abbrev IsEntered : ℕ → Named B → Type 0
     IsEntered t b = (now.execution.front ≡ m.execution.front) × (finals_at w now ≡ finals_at w m ++ b ∷ [])
 

@@ -14,3 +14,4 @@ pub mod RulesRefused
 pub mod Completeness
 pub mod AheadSteps
 pub mod AheadHistory
+pub mod NeverFailed

@@ -50,7 +50,7 @@ module _ {B C I P R D H G U : Type 0} (w : Workings B C I P R D H G U) (stored :
   abbrev Leads : Moment w → Type 0
   Leads m = LeadsAt w stored anchor at top last m
 
-  -- behind a rule they do; or it has applied the block in front
+  -- after a rule they do; or it has applied the block in front
   pub data RuleLeads (m now : Moment w) : Type 0 where
     leads : Leads now → RuleLeads m now
     applied : {f : Finalizing B G} → IsFinalizing w m f → HasStates w m f.block → AppliesBlock w f m now → RuleLeads m now

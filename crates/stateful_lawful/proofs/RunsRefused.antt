@@ -45,7 +45,7 @@ use Rattle.stateful_standing.specs.Standing.{TablesStand}
 use Rattle.stateful_standing.proofs.EndedStands.{running}
 use Rattle.stateful_lawful.proofs.Serving.{IsOutsideOf, outside-is, AreHere, follow-outside}
 
-app-outside : (fault : AppFault) → IsOutsideOf (error_of_app fault)
+pub app-outside : (fault : AppFault) → IsOutsideOf (error_of_app fault)
 app-outside app.Failed = tt
 app-outside app.OutOfMemory = tt
 

@@ -70,7 +70,7 @@ module _ {B C I P R D H G U : Type 0} (w : Workings B C I P R D H G U) where
       let stays = follow_stays w b how s.served m s.mid s.turns in
       advance-outside rose s.mid (subst (λ (x : w.kind.Members). AreHere x) (sym stays.members) here) s.next.path e s.fault
 
-  -- what goes on behind a pause
+  -- what goes on after a pause
   pub resume-outside : (rose : Type 0) (stored : ℕ → Option (Named B)) (m : exec.Moment w) → AreHere m.members → (e : ExecError)
       → FaultsResume w rose stored m e → IsOutsideOf e
   resume-outside rose stored m here e (pausing.memory is) = outside-is e exec_error.OutOfMemory is tt

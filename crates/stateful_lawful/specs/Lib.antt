@@ -1,3 +1,4 @@
 pub mod Ahead
 pub mod Outside
 pub mod Completeness
+pub mod Restarting

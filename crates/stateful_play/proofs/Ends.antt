@@ -11,7 +11,7 @@ use Rattle.stateful_script.specs.declared.script.Script.{Script}
 use Rattle.stateful_text.specs.declared.shown.Label.{Label}
 use Rattle.stateful_play.specs.Shown.{text_of}
 use Rattle.stateful_play.specs.Play.{IsPlayOf}
-use Rattle.stateful_play.specs.Rows.{Known, HoldsPrefix, HoldsPart, Writes, AsksFor, IsLoaded, IsPlayed, IsHaltedAt, status_by}
+use Rattle.stateful_play.specs.Status.{Known, HoldsPrefix, HoldsPart, Writes, AsksFor, IsLoaded, IsPlayed, IsHaltedAt, status_by}
 
 -- nothing more is out
 pub nothing_out : (out : Known) (text : List ℕ) → HoldsPrefix out out text

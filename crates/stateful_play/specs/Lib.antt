@@ -4,4 +4,4 @@ pub mod Builds
 pub mod Store
 pub mod Shown
 pub mod Play
-pub mod Rows
+pub mod Status

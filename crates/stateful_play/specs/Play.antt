@@ -76,7 +76,7 @@ module _ (stored : ℕ → Option (Named BankBlock)) (entries : List (Entry Bank
     (machine : Machine) (d : Databases) where
   -- What holds at the end, over the states on which the history is based at last: where all events
   -- were taken in, the machine stands for them, and the database holds the fold over what was
-  -- applied. Behind a refusal the machine still stands for the events before, and so does the
+  -- applied. After a refusal the machine still stands for the events before, and so does the
   -- database where the machine hasn't failed.
   abbrev pub EndsWell : Option Halted → Whole → Type 0
   EndsWell None base =

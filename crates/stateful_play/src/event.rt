@@ -84,7 +84,7 @@ fn takes_ticket(event: &PlannedEvent) -> bool
     )
 }
 
-/// The next ticket behind an event.
+/// The next ticket after an event.
 fn ticket_after(ticket: u64, event: &PlannedEvent) -> u64
     requires { ticket < 2 ^ 64 - 1 }
     ensures { result ≡ ticket_after ticket event.now }

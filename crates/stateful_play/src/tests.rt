@@ -110,7 +110,7 @@ fn lines(alloc: Global, texts: &[&str]) -> Result<Vec<u8>, Fail> {
     Ok(lines)
 }
 
-/// A script's lines behind the blocks, what is written behind the opening, and the status.
+/// A script's lines behind the blocks, what is written after the opening, and the status.
 #[derive(Drop)]
 struct Row {
     script: &'static str,
@@ -418,7 +418,7 @@ fn plays_stops_and_restarts(rt: HostRuntime) -> Result<(), Fail> {
             text: "#1;asked 0 0 genesis;#2;withdrawn 0;dropped 0;opened 0 genesis;database 0 0..1;done;",
             status: Status::Done,
         },
-        // What was durable is there behind a restart, and numbers go on.
+        // What was durable is there after a restart, and numbers go on.
         Row {
             script: "finalize a;turn 0;flushed 0 0;restart 1 2;finalize b;turn 1;flushed 1 0;stop;",
             text: "#1;began 0 a;started 0 finalized a;#2;ended 0 kept;applied 1 a;barrier 0 1;#3;durable 0 1;acknowledged 0 1;#4;opened 1 a;#5;began 1 b;started 1 finalized b;#6;ended 1 kept;applied 2 b;barrier 1 2;#7;durable 1 2;acknowledged 1 2;#8;stopped;database 0 2..3 1=100 2=50;done;",

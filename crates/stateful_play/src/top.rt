@@ -9,9 +9,9 @@ ghost use Rattle.std.specs.Io.KnownBytes.{Appends};
 ghost use Rattle.stateful_types.specs.Causes.{Rose};
 ghost use Rattle.stateful_text.specs.Transcript.{usage_line, script_line};
 ghost use Rattle.stateful_play.specs.declared.play.Played.{Played};
-ghost use Rattle.stateful_play.specs.Rows.{asks_play, IsLoaded, IsUnread, Stops, IsPlayed, AsksFor};
-ghost use Rattle.stateful_play.specs.Rows.{HoldsPrefix, HoldsPart, IsHaltedAt, status_by, Writes};
-ghost use Rattle.stateful_play.specs.Rows.{IsOrCut, IsScript, IsRefused};
+ghost use Rattle.stateful_play.specs.Status.{asks_play, IsLoaded, IsUnread, Stops, IsPlayed, AsksFor};
+ghost use Rattle.stateful_play.specs.Status.{HoldsPrefix, HoldsPart, IsHaltedAt, status_by, Writes};
+ghost use Rattle.stateful_play.specs.Status.{IsOrCut, IsScript, IsRefused};
 ghost use Rattle.stateful_play.specs.Shown.{text_of};
 ghost use Rattle.stateful_script.specs.Laws.{IsPlan};
 

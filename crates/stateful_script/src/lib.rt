@@ -8,14 +8,11 @@
 //! - empty, or a comment, which begins with `#`;
 //! - `world plain`, at most once and before the first event line;
 //! - `block NAME on PARENT view V ITEMS`, which names a block. ITEMS are operations, at most 16 of
-//!   them, each
-//!   `mint ACCOUNT AMOUNT` or `move FROM TO AMOUNT`, and what else the block says (`height`,
-//!   `epoch`, `slow`, `wrong`), in any
-//!   order, or none. NAME isn't named yet, and is neither `none` nor `alone`. At most 1,024 blocks
-//!   are named by lines;
+//!   them, each `mint ACCOUNT AMOUNT` or `move FROM TO AMOUNT`, and what else the block says
+//!   (`height`, `epoch`, `slow`, `wrong`), in any order, or none. NAME isn't named yet, and is
+//!   neither `none` nor `alone`. At most 1,024 blocks are named by lines;
 //! - an event line, which begins with `verify`, `prepare`, `propose`, `finalize`, `subscribe`,
-//!   `cancel`, `fetched`, `turn`,
-//!   `flushed`, `stop` or `restart`. There are at most 65,536.
+//!   `cancel`, `fetched`, `turn`, `flushed`, `stop` or `restart`. There are at most 65,536.
 //!
 //! A name is given by a line before it is used. A line that no rule reads is refused by its number,
 //! from 1.

@@ -1,4 +1,4 @@
--- Requests that wait still abstain behind a pause and behind a cancel.
+-- Requests that wait still abstain after a pause and after a cancel.
 use Rattle.std.proofs.Common.{◌≡◌, ◌≤◌, ℕ, List, [], ◌∷◌, Option, Some, map}
 use Rattle.std.proofs.lemmas.List.Elements.{All-map, All-weaker}
 use Rattle.stateful_types.specs.Names.{Named}
@@ -36,7 +36,7 @@ module _ {B C I P R D H G U : Type 0} (w : Workings B C I P R D H G U) (stored :
   abstains-withdrawn t b p [] h = h
   abstains-withdrawn t b p (f ∷ fs) h = abstains-withdrawn t b (Made (Withdrawn f) ∷ p) fs h
 
-  -- behind a pause
+  -- after a pause
   pub AllAbstain-paused : (boundary : Option Boundary) (p : Past B C I) (old new : Tables B C I R U) (marks : List (Mark B)) → Pauses boundary old new marks → AllAbstain w stored p old.requests → AllAbstain w stored (after p marks) new.requests
   AllAbstain-paused boundary p old new marks pauses h = rw (pauses.state, pauses.marks_are)
       (All-map (λ (e : ℕ × Requested B C I). e.1.phase ≡ Waiting → Abstains (setting w stored) e.0 (after p (map (λ f. Withdrawn f) pauses.fetches)) (first_of e.1.request)) dropped old.requests
@@ -44,7 +44,7 @@ module _ {B C I P R D H G U : Type 0} (w : Workings B C I P R D H G U) (stored :
       (λ e. unfetched e.1.phase ≡ Waiting → Abstains (setting w stored) e.0 (after p (map (λ f. Withdrawn f) pauses.fetches)) (first_of e.1.request))
       (λ e abstains is. abstains-withdrawn e.0 (first_of e.1.request) p pauses.fetches (abstains (waits_before e.1.phase is))) old.requests h))
 
-  -- behind a pause for the finalization of a block that is no lower than the anchor, which is the tip
+  -- after a pause for the finalization of a block that is no lower than the anchor, which is the tip
   pub AllAbstain-finalizing : (p : Past B C I) (ticket : ℕ) (b : Named B) (boundary : Boundary) (old new : Tables B C I R U) (marks : List (Mark B)) → tip_of w.header p ≡ Some old.anchor → old.anchor.height.0 ≤ w.header.height b.block
       → Pauses (Some boundary) old new marks → AllAbstain w stored p old.requests → AllAbstain w stored (after p (Began ticket b ∷ marks)) new.requests
   AllAbstain-finalizing p ticket b boundary old new marks tip up pauses h = AllAbstain-paused (Some boundary) (Made (Began ticket b) ∷ p) old new marks pauses
@@ -55,7 +55,7 @@ module _ {B C I P R D H G U : Type 0} (w : Workings B C I P R D H G U) (stored :
   left : (p : Past B C I) (t : ℕ) (requests : List (ℕ × Requested B C I)) → AllAbstain w stored p requests → AllAbstain w stored p (without requests t)
   left p t requests h = All-without (λ (e : ℕ × Requested B C I). e.1.phase ≡ Waiting → Abstains (setting w stored) e.0 p (first_of e.1.request)) requests t (λ k d l ne. h k d l)
 
-  -- behind a cancel
+  -- after a cancel
   pub AllAbstain-cancels : (p : Past B C I) (t : ℕ) (old new : Tables B C I R U) (marks : List (Mark B)) → Cancels old new t marks → AllAbstain w stored p old.requests → AllAbstain w stored (after (Came (Cancel t) ∷ p) marks) new.requests
   AllAbstain-cancels p t old new marks (idle r there is_idle new_is marks_is) h = rw (new_is, marks_is) (left p t old.requests h)
   AllAbstain-cancels p t old new marks (withdraws r f fetches new_is marks_is) h = rw (new_is, marks_is) (left p t old.requests h)

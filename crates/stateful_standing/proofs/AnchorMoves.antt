@@ -1,4 +1,4 @@
--- The tables and the finalization stand behind the anchor's move, and the databases apply states to which the block leads.
+-- The tables and the finalization stand after the anchor's move, and the databases apply states to which the block leads.
 use Rattle.std.proofs.Common.{◌≡◌, ◌≢◌, inl, inr, ℕ, List, [], ◌∷◌, All, Option, Some, get_or, refl, sym, ap, ◌∙◌, subst}
 use Rattle.stateful_types.specs.Names.{Named}
 use Rattle.stateful_types.specs.Anchor.{anchor_by}
@@ -38,7 +38,7 @@ use Rattle.stateful_standing.proofs.AnchorStands.{TablesStand-applied}
 use Rattle.stateful_standing.proofs.MovedStands.{HasMovedSo}
 
 module _ {B C I P R D H G U : Type 0} (w : Workings B C I P R D H G U) (stored : ℕ → Option (Named B)) (p : Past B C I) (point : Point w) (next : w.Ids) (b : Named B) (new : Tables B C I R U) where
-  -- What stands behind the anchor's move to a finalized block, where its batch is applied: the batch shows a point with the
+  -- What stands after the anchor's move to a finalized block, where its batch is applied: the batch shows a point with the
   -- states to which the block leads from those of the databases, which match, and its ids were drawn; behind the block's mark
   -- the tables stand over that point.
   pub record IsApplied (batch : U) : Type 0 where
@@ -158,7 +158,7 @@ module _ {B C I P R D H G U : Type 0} (w : Workings B C I P R D H G U) (stored :
   applied_with (cached root) = IsApplied-cached w stored p points point next old s boundary paused names f b from.begun_is from.parent_is new.cache moves.cut retained batch root
   applied_with (ran {c = c} uncached is) = IsApplied-ran w stored p points point next old s boundary paused names f b from.begun_is from.parent_is new.cache moves.cut retained batch uncached (front_ran c is)
 
-  -- the tables stand behind the anchor's move, where its batch is applied
+  -- the tables stand after the anchor's move, where its batch is applied
   pub IsAppliedOver-moves : IsAppliedOver w stored p point next b new points old.anchor old.cache batch
   IsAppliedOver-moves = subst (λ (v : Tables B C I R U). IsAppliedOver w stored p point next b v points old.anchor old.cache batch) (sym moves.state)
       (applied_with moves.root)

@@ -1,4 +1,4 @@
--- The tables stand behind the anchor's move to the finalized block, once it is applied.
+-- The tables stand after the anchor's move to the finalized block, once it is applied.
 use Rattle.std.proofs.Common.{◌≡◌, inr, ℕ, List, ◌∷◌, All, Contains, Option, Some, get_or, refl, sym, ◌∙◌, subst}
 use Rattle.stateful_types.specs.Names.{Named}
 use Rattle.stateful_types.specs.Anchor.{anchor_by}

@@ -98,7 +98,7 @@ module _ {B C I P R D H G U : Type 0} (w : Workings B C I P R D H G U) (stored h
         })
         out (AllPairs-filter (λ (e f : ℕ × Requested B C I). e.0 ≢ f.0) (λ e. is_unacquired e.1.phase) m.state.requests (entries_apart m.state.requests s.requests.ascending)) rules
 
-  -- The tables stand behind a resume, and each request that waits abstains.
+  -- The tables stand after a resume, and each request that waits abstains.
   pub record IsResumed (p : Past B C I) (m now : Moment w) : Type 0 where
     pub behind : StandsBehind w stored p points point m now
     pub abstain : AllAbstain w stored (after p behind.more) now.state.requests
@@ -109,7 +109,7 @@ module _ {B C I P R D H G U : Type 0} (w : Workings B C I P R D H G U) (stored h
       let stays : not (is_unacquired (get_or (not_unacquired requests) k d).1.phase) ≡ true = filter_passes (λ (x : ℕ × Requested B C I). not (is_unacquired x.1.phase)) requests k d l in
       let no : not true ≡ true = subst (λ phase. not (is_unacquired phase) ≡ true) is stays in absurd (cc)
 
-  -- The tables stand behind a resume: where they stand without a pause, and what would have to wait in the middle of it waits for
+  -- The tables stand after a resume: where they stand without a pause, and what would have to wait in the middle of it waits for
   -- nothing that was begun.
   pub IsResumed-by : (p : Past B C I) (m now : Moment w) → TablesStand w stored p points point m.next (record m.state { pause = Free }) → TrueNames (setting w stored) p → w.kind.point m.members ≡ Some point → w.kind.issued m.next (point ∷ [])
       → (r : Resumes w held m now) → ((first : AreServed w stored points point p (unparked w m) r.mid) → All (MayWait (after p first.behind.more) (unsettled w r.mid)) (unacquired_in r.mid.state.requests))

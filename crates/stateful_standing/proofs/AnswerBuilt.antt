@@ -1,4 +1,4 @@
--- Marks behind the last turn of a build that gave a block: it was a live build, and its live proposal is answered with what it gave.
+-- Marks after the last turn of a build that gave a block: it was a live build, and its live proposal is answered with what it gave.
 use Rattle.std.proofs.Common.{◌≡◌, inl, inr, ℕ, List, [], ◌∷◌, Option, Some, Ok, MatchOption, refl, sym, subst}
 use Rattle.stateful_types.specs.Names.{Named}
 use Rattle.stateful_types.specs.declared.anchor.Anchor.{Anchor}
@@ -93,7 +93,7 @@ module _ {B C I P R D H G U : Type 0} (w : Workings B C I P R D H G U) (stored :
   )
 
   module _ (count : D → ℕ) (turned : D) (block : ProposedBlock B U) (now : Moment w) where
-    -- Each mark behind the last turn of a build that gave a block to vote on, or to stage, is such.
+    -- Each mark after the last turn of a build that gave a block to vote on, or to stage, is such.
     pub voted-answer : HasTurn w count m.members b.build turned (Ok (Done (handed.Vote block))) → Gives w (record b { build = turned }) m block decision.Vote now → KeepsBehind w IsAnswer given m now
     voted-answer turn gives =
         let hands = turn.ends (build_of (asked_by r) provider own (points r.parent.digest) below) n point builds located (in_chain w stored base p points point tip m g b r below chain) in

@@ -1,4 +1,4 @@
--- What stays beside the tables behind a cancel: live runs go on turning, and the parents of queued proposals are known or lost.
+-- What stays beside the tables after a cancel: live runs go on turning, and the parents of queued proposals are known or lost.
 use Rattle.std.proofs.Common.{◌⊎◌, inl, inr, ℕ, List, ◌∷◌, All, Option, get_or, refl}
 use Rattle.std.proofs.lemmas.List.Elements.{All-weaker}
 use Rattle.stateful_types.specs.Names.{Named}
@@ -55,7 +55,7 @@ module _ {B C I P R D H G U : Type 0} (w : Workings B C I P R D H G U) (stored :
   names_same : (q : Past B C I) → IsSamePast (setting w stored) given q → TrueNames (setting w stored) q
   names_same q same = λ x y has_x has_y. names x y ((same.met x).0 has_x) ((same.met y).0 has_y)
 
-  -- It stays so behind a cancel and its marks.
+  -- It stays so after a cancel and its marks.
   pub StaysBeside-cancelled : (new : Tables B C I R U) (marks : List (Mark B)) → Cancels old new t marks → Stays (after given marks) new
   StaysBeside-cancelled new marks (idle r there is_idle new_is marks_is) = rw (new_is, marks_is) (record { runs = beside_given.runs; queue = beside_given.queue })
   StaysBeside-cancelled new marks (withdraws r f fetches new_is marks_is) = rw (new_is, marks_is) (record {

@@ -1,4 +1,4 @@
--- What stays beside the tables behind an event that leaves the anchor, the tip and the jobs, and behind the answer of a fetch: live
+-- What stays beside the tables after an event that leaves the anchor, the tip and the jobs, and behind the answer of a fetch: live
 -- runs go on turning, and the parents of queued proposals are known or lost.
 use Rattle.std.proofs.Common.{◌≡◌, ◌≢◌, inl, inr, ℕ, List, [], ◌∷◌, Option, Some, refl, sym, All, get_or}
 use Rattle.std.proofs.lemmas.List.{append-nil}

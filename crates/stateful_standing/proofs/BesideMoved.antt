@@ -1,4 +1,4 @@
--- What stays beside the tables behind a turn that isn't the last, and behind the anchor's move: live runs go on turning, and the
+-- What stays beside the tables after a turn that isn't the last, and after the anchor's move: live runs go on turning, and the
 -- parents of queued proposals are known or lost.
 use Rattle.std.proofs.Common.{◌≡◌, inl, inr, ℕ, List, ◌∷◌, Option, Some, Ok, refl, sym, subst}
 use Rattle.stateful_types.specs.Names.{Named}
@@ -29,7 +29,7 @@ use Rattle.stateful_standing.proofs.RunsTurned.{RunsGoOn-turned}
 
 module _ {B C I P R D H G U : Type 0} (w : Workings B C I P R D H G U) (stored : ℕ → Option (Named B)) (base : w.States) (p : Past B C I) (points : Digest → Point w) (point : Point w) (tip : Anchor) (next : w.Ids) (old new : Tables B C I R U)
     (s : TablesStand w stored p points point next old) (g : IsGround w stored base p points point next tip old.pause old.anchor old.cache) (beside : StaysBeside w stored base p old) where
-  -- it stays so behind a turn of a run that isn't the last
+  -- it stays so after a turn of a run that isn't the last
   pub StaysBeside-turned : (m : w.kind.Members) → w.kind.point m ≡ Some point → (j : ℕ) (count : R → ℕ) → TurnsRun w count m j old new (Ok Pending) → StaysBeside w stored base (Came (Turn j) ∷ p) new
   StaysBeside-turned m located j count turn = record {
     runs = RunsGoOn-turned w stored base p points point tip next old new s g m located j count turn beside.runs;
@@ -40,7 +40,7 @@ module _ {B C I P R D H G U : Type 0} (w : Workings B C I P R D H G U) (stored :
       names : TrueNames (setting w stored) (Came (Turn j) ∷ p)
       names = λ x y has_x has_y. g.names x y (elim has_x [ inl none ↦ absurd none | inr one ↦ one ]) (elim has_y [ inl none ↦ absurd none | inr one ↦ one ])
 
-  -- It stays so behind the anchor's move, where blocks at hand before and behind it have the same states.
+  -- It stays so after the anchor's move, where blocks at hand before and behind it have the same states.
   pub StaysBeside-moved : (b : Named B) (now_points : Digest → Point w) (now_point : Point w) (ids : w.Ids) → TablesStand w stored (Made (Applied b) ∷ p) now_points now_point ids new → IsGround w stored base (Made (Applied b) ∷ p) now_points now_point ids tip new.pause new.anchor new.cache
       → new.runs ≡ old.runs → new.queued ≡ old.queued → ((d : Digest) → IsAtHand old.anchor old.cache d → IsAtHand new.anchor new.cache d → (now_points d).1 ≡ (points d).1) → StaysBeside w stored base (Made (Applied b) ∷ p) new
   StaysBeside-moved b now_points now_point ids stands h same_runs same_queue states = record {

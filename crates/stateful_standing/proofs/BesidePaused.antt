@@ -50,7 +50,7 @@ module _ {B C I P R D H G U : Type 0} (w : Workings B C I P R D H G U) (stored :
         queue = QueueReaches-on w stored base p (Made (Withdrawn f)) tt refl (names_withdrawn p f names) v.queued met h.queue;
       })
 
-  -- It stays so behind the marks of a pause.
+  -- It stays so after the marks of a pause.
   pub StaysBeside-paused : (o : Option Boundary) (p : Past B C I) → TrueNames (setting w stored) p → (old new : Tables B C I R U) (marks : List (Mark B)) → All (λ e. Met (setting w stored) p e.1.ancestry.first) old.queued → Pauses o old new marks → StaysBeside w stored base p old
       → StaysBeside w stored base (after p marks) new
   StaysBeside-paused o p names old new marks met pauses h =

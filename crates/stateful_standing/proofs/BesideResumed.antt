@@ -1,4 +1,4 @@
--- What stays beside the tables behind the requests that go on behind a pause: live runs go on turning, and the parents of queued
+-- What stays beside the tables behind the requests that go on after a pause: live runs go on turning, and the parents of queued
 -- proposals are known or lost.
 use Rattle.std.proofs.Common.{◌≡◌, ◌≢◌, ◌++◌, ℕ, not, List, [], ◌∷◌, All, Option, Some, refl, sym, ap, ◌∙◌, subst}
 use Rattle.std.proofs.lemmas.List.{append_assoc}
@@ -102,7 +102,7 @@ module _ {B C I P R D H G U : Type 0} (w : Workings B C I P R D H G U) (stored h
         let on : AreParked w stored held base tip points point Stop [] other_states (parked_in m.state.requests) p (unparked w m) = parked w stored held base tip points point Stop [] other_states p m s g ways located drawn in
         record { grounded = on.grounded; stays = record { runs = beside.runs; queue = beside.queue }; hands = on.hands; apart = on.apart; also = on.also }
 
-    -- It stays so behind a pause, where those that acquire anew what they need may do so.
+    -- It stays so after a pause, where those that acquire anew what they need may do so.
     pub StaysBeside-resumed : (now : Moment w) (r : Resumes w held m now)
         → ((more : List (Mark B)) → r.mid.marks ≡ m.marks ++ more → All (λ e. MayAcquire w stored held base tip (after p more) r.mid.state.pause r.mid.state.anchor r.mid.state.cache e) (unacquired_in r.mid.state.requests))
         → BesideBehind w stored base p m now

@@ -1,4 +1,4 @@
--- What stays beside the tables behind the end of a run, and behind the requests that waited for it: live runs go on turning, and
+-- What stays beside the tables after the end of a run, and behind the requests that waited for it: live runs go on turning, and
 -- the parents of queued proposals are known or lost.
 use Rattle.std.proofs.Common.{◌≡◌, ◌++◌, inr, ℕ, List, [], ◌∷◌, All, Option, Some, Ok, refl, sym, ◌∙◌, subst}
 use Rattle.std.proofs.lemmas.List.{append_assoc}
@@ -109,7 +109,7 @@ module _ {B C I P R D H G U : Type 0} (w : Workings B C I P R D H G U) (stored :
     names : TrueNames (setting w stored) q
     names x y has_x has_y = g.names x y (((IsSamePast-turned (setting w stored) p j how).met x).0 has_x) (((IsSamePast-turned (setting w stored) p j how).met y).0 has_y)
 
-    -- behind the end of the run
+    -- after the end of the run
     beside_ended : (turned : LiveRun B R) (v : Tables B C I R U) → v.runs ≡ without (put m.state.runs j turned) j → v.queued ≡ m.state.queued → StaysBeside w stored base q v
     beside_ended turned v runs_are queued_are = record {
       runs = subst (λ (rs : List (ℕ × LiveRun B R)). RunsGoOn w stored base q rs) (sym runs_are) (RunsGoOn-ended w stored base p j how turned m.state.runs beside.runs);
@@ -145,7 +145,7 @@ module _ {B C I P R D H G U : Type 0} (w : Workings B C I P R D H G U) (stored :
             stays = k.ready.stays;
           }
 
-    -- It stays so behind the last turn of a run, and the requests that waited for it.
+    -- It stays so after the last turn of a run, and the requests that waited for it.
     pub StaysBeside-settled : (count : R → ℕ) (had : Tables B C I R U) → TurnsRun w count m.members j m.state had (Ok (Done o)) → (done last : Moment w) → EndsRun w (record m { state = had }) j b o how done → IsReleased w stored q point j b done
         → InTurn (Follows w b how) (released_on j done.state.requests) (record done { state = released j done.state }) last → BesideBehind w stored base (Came (Turn j) ∷ p) m last
     StaysBeside-settled count had turns done last ends r follow =

@@ -1,4 +1,4 @@
--- The tables and the live build stand behind a turn of a build, whatever it leads to.
+-- The tables and the live build stand after a turn of a build, whatever it leads to.
 use Rattle.std.proofs.Common.{◌≡◌, ◌++◌, ◌==◌, not, ℕ, List, [], ◌∷◌, Option, Some, None, Ok, refl, sym, ap, ◌∙◌}
 use Rattle.stateful_types.specs.Names.{Named}
 use Rattle.stateful_types.specs.declared.digest.Digest.{Digest}
@@ -38,7 +38,7 @@ use Rattle.stateful_standing.proofs.BuildTurns.{build-IsPoint}
 use Rattle.stateful_standing.proofs.BuiltStands.{IsCachedBehind, IsCachedBehind-there, IsCachedBehind-added, leads-built}
 
 module _ {B C I P R D H G U : Type 0} (w : Workings B C I P R D H G U) (stored : ℕ → Option (Named B)) (p : Past B C I) (points : Digest → Point w) (point : Point w) (m : Moment w) (b : Building B C D) where
-  -- What stands behind a build that has ended with a block: the block is cached and known, it leads from its parent's states,
+  -- What stands after a build that has ended with a block: the block is cached and known, it leads from its parent's states,
   -- and its request is answered with it, as it was handed over; the tables stand over some points, and no build is live.
   pub record IsAnsweredWith (given : Handoff B) (decision : Decision) (now : Moment w) : Type 0 where
     pub block : Named B

@@ -1,4 +1,4 @@
--- The live build stands behind the rules that say nothing of it.
+-- The live build stands after the rules that say nothing of it.
 use Rattle.std.proofs.Common.{◌≡◌, ◌++◌, inl, inr, ℕ, List, [], ◌∷◌, All, Option, None, Some, IfSome, MatchOption, refl, sym, ◌∙◌, subst}
 use Rattle.std.proofs.lemmas.List.{append_cancel_left}
 use Rattle.std.proofs.lemmas.List.Elements.{All-head, All-tail}
@@ -101,14 +101,14 @@ module _ {B C I P R D H G U : Type 0} (w : Workings B C I P R D H G U) (stored :
         its None g e = tt
         its (Some b) g e = g.elsewhere b.ticket refl e
 
-    -- behind rules that say nothing of it the live build stands
+    -- after rules that say nothing of it the live build stands
     pub BuildStands-passes : (p : Past B C I) (m now : Moment w) (more : List (Mark B)) → now.marks ≡ m.marks ++ more → PassesBy w (IsItsJob build) (IsItsTicket build) m now
         → BuildStands w stored p points m.next m.state build → BuildStands w stored (after p more) points now.next now.state build
     BuildStands-passes p m now more is f h =
         let same : f.more ≡ more = append_cancel_left m.marks f.more more (sym f.marks_are ∙ is) in
         marks_beside now.next now.state p more (subst (λ l. All (λ x. IsBeside (IsItsJob build) (IsItsTicket build) x) l) same f.beside) (later_tables p m now f h)
 
-  -- behind the last turn of a run it stands over the points to which what was at hand has gone over
+  -- after the last turn of a run it stands over the points to which what was at hand has gone over
   pub BuildStands-settled : (point : Point w) (other_states : (n i : w.Ids) (x y : w.States) (c : List (Point w)) → w.kind.issued n ((i, x) ∷ c) → w.kind.issued n ((i, y) ∷ c)) (p : Past B C I) (points : Digest → Point w) (m last : Moment w) (j : ℕ) (how : How)
       (s : IsSettled w stored point other_states p points m last j how) (build : Option (Building B C D)) → (IsItsJob build j → ⊥) → PassesBy w (IsItsJob build) (IsItsTicket build) m last → BuildStands w stored p points m.next m.state build
       → BuildStands w stored (after (Made (Ended j how) ∷ Came (Turn j) ∷ p) s.more) s.points last.next last.state build

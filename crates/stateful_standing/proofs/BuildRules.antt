@@ -1,4 +1,4 @@
--- The tables and the live build stand behind each rule of a build.
+-- The tables and the live build stand after each rule of a build.
 use Rattle.std.proofs.Common.{◌≡◌, ◌++◌, inr, ℕ, List, [], ◌∷◌, Option, Some, None, MatchOption, Ok, refl, sym, ap, ◌∙◌, subst}
 use Rattle.std.proofs.lemmas.List.{append-nil}
 use Rattle.stateful_types.specs.Names.{Named}
@@ -51,7 +51,7 @@ IsRoundOf-named w stored p anchor top names met named b has is =
     ap (λ (c : Named _). w.header.round c.block) same ∙ sym (ap (λ (a : Anchor). a.round) named)
 
 module _ {B C I P R D H G U : Type 0} (w : Workings B C I P R D H G U) (stored : ℕ → Option (Named B)) (point : Point w) where
-  -- What stands behind a rule of a build, over a past that has the rule's event: some marks are made, no database moves, and the
+  -- What stands after a rule of a build, over a past that has the rule's event: some marks are made, no database moves, and the
   -- tables and the live build stand for the past with these marks, over some points; requests that wait abstain as they did.
   pub record StandsWithBuild (p : Past B C I) (m now : Moment w) (build : Option (Building B C D)) : Type 0 where
     pub points : Digest → Point w
@@ -91,7 +91,7 @@ module _ {B C I P R D H G U : Type 0} (w : Workings B C I P R D H G U) (stored :
       answered (IsAnsweredWith-gives w stored p points point m s plain tip located b h proposed (Stage proposed.block) (hands-stage w stored p points point m s plain tip located b h count turned proposed had) turned _ now gives true_names
       (IsRoundOf-named w stored (Made (Built b.job b.ticket gives.block) ∷ Came (Turn b.job) ∷ p) m.state.anchor top true_names (inr (inr top_met)) named))
 
-  -- the tables and the live build stand behind a turn of it, whatever it leads to, where no finalization goes on
+  -- the tables and the live build stand after a turn of it, whatever it leads to, where no finalization goes on
   pub StandsWithBuild-turns : (count : D → ℕ) (after_turn : Option (Building B C D)) → TurnsBuild w count m (Some b) b.job now after_turn → StandsWithBuild w stored point (Came (Turn b.job) ∷ p) m now after_turn
   StandsWithBuild-turns count _ (other none is same) = absurd (none b (record { live = refl; job = refl }))
   StandsWithBuild-turns count _ (goes_on {b = c} {turned = turned} live had is after_is) =
@@ -113,7 +113,7 @@ module _ {B C I P R D H G U : Type 0} (w : Workings B C I P R D H G U) (stored :
       rw after_is (ended count turned given (subst (λ (x : Building B C D). HasTurn w count m.members x.build turned (Ok (Done given))) (sym same) had) (subst (λ (x : Building B C D). EndsBuild w (record x { build = turned }) m given now) (sym same) gives))
 
 module _ {B C I P R D H G U : Type 0} (w : Workings B C I P R D H G U) (stored : ℕ → Option (Named B)) (p : Past B C I) (points : Digest → Point w) (point : Point w) (m : Moment w) (s : TablesStand w stored p points point m.next m.state) (t : ℕ) (new : Tables B C I R U) (marks : List (Mark B)) where
-  -- the live build of another request stands behind the cancel
+  -- the live build of another request stands after the cancel
   BuildStands-asking : (build : Option (Building B C D)) → ((b : Building B C D) → IsBuildFor build t b → ⊥) → Cancels m.state new t marks → BuildStands w stored p points m.next m.state build → BuildStands w stored (after (Came (Cancel t) ∷ p) marks) points m.next new build
   BuildStands-asking build off cancels h =
       BuildStands-passes w stored points build (Came (Cancel t) ∷ p) m (record m { state = new; marks = m.marks ++ marks }) marks refl
@@ -141,7 +141,7 @@ module _ {B C I P R D H G U : Type 0} (w : Workings B C I P R D H G U) (stored :
         builds = λ j d live. record { live = live.live; is = live.is };
       }
 
-  -- the tables and the live build stand behind a cancel
+  -- the tables and the live build stand after a cancel
   pub StandsWithBuild-gives_up : (before after_cancel : Option (Building B C D)) → BuildStands w stored p points m.next m.state before → GivesUp m.state new before after_cancel t marks
       → TablesStand w stored (after (Came (Cancel t) ∷ p) marks) points point m.next new × BuildStands w stored (after (Came (Cancel t) ∷ p) marks) points m.next new after_cancel
   StandsWithBuild-gives_up before after_cancel h (building {b = b} for new_is after_is marks_is) =

@@ -1,4 +1,4 @@
--- The tables and the live build stand behind a turn of a job, where the build goes on or isn't turned, and behind its end without
+-- The tables and the live build stand after a turn of a job, where the build goes on or isn't turned, and after its end without
 -- a block.
 use Rattle.std.proofs.Common.{◌+◌, ◌<◌, ◌≡◌, ◌≢◌, ◌⊎◌, inl, inr, ℕ, [], ◌∷◌, Option, Some, None, IfSome, Ok, refl, sym, ◌∙◌, subst}
 use Rattle.std.proofs.lemmas.Bool.{eq-eqb}
@@ -46,7 +46,7 @@ module _ {B C I P R D H G U : Type 0} (w : Workings B C I P R D H G U) (stored :
           let runs = All-at (λ (e : ℕ × LiveRun B R). IsRunning w stored p points next v.anchor v.cache e.0 e.1) v.runs j run there s.runs.each in
           absurd (other (one_kind kind Candidate d run.block.digest (sym is ∙ runs.job.is)))
 
-  -- the tables stand behind the turn of a job that was started for something else than a candidate
+  -- the tables stand after the turn of a job that was started for something else than a candidate
   pub TablesStand-turn_other : (j : ℕ) (kind : JobKind) (d : Digest) → started_for j p ≡ Some (job_of kind d) → kind ≢ Candidate → TablesStand w stored (Came (Turn j) ∷ p) points point next v
   TablesStand-turn_other j kind d is other = TablesStand-turn w stored p points point next v s j (no_candidate j kind d is other) (started_below p v.next_job v.next_fetch j (job_of kind d) s.numbers is)
 
@@ -68,7 +68,7 @@ module _ {B C I P R D H G U : Type 0} (w : Workings B C I P R D H G U) (stored :
     pub build-IsPoint : IsPoint point (points b.parent.digest ∷ building.below)
     build-IsPoint = subst (λ (x : Point w). IsPoint x (points b.parent.digest ∷ building.below)) s.at_anchor (Stacked-point w building.chain)
 
-    -- the live build stands behind a turn with which it goes on
+    -- the live build stands after a turn with which it goes on
     pub BuildStands-goes_on : (count : D → ℕ) (m : w.kind.Members) → w.kind.point m ≡ Some point → (turned : D) → HasTurn w count m b.build turned (Ok Pending) → BuildStands w stored (Came (Turn b.job) ∷ p) points next v (Some (record b { build = turned }))
     BuildStands-goes_on count m located turned had = record {
       each = record {
@@ -95,7 +95,7 @@ module _ {B C I P R D H G U : Type 0} (w : Workings B C I P R D H G U) (stored :
         costs count m located turned had n is = rw is at (had.costs
             (build_of (record { kind = b.kind; context = b.context; parent = b.parent.block; input = building.input }) building.provider building.own (points b.parent.digest) building.below) (turns b.job p) point building.builds located build-IsPoint)
 
-    -- no build is live behind the end of this one
+    -- no build is live after the end of this one
     pub BuildStands-over : (x : Item B C I) (how : How) → ((j : ℕ) (d : Digest) → IsLiveJob j Build d (x ∷ p) → IsLiveJob j Build d p) → BuildStands w stored (Made (Ended b.job how) ∷ x ∷ p) points next v None
     BuildStands-over x how before = record {
       each = tt;
@@ -103,7 +103,7 @@ module _ {B C I P R D H G U : Type 0} (w : Workings B C I P R D H G U) (stored :
       complete = λ j d live. let other = live-ended_other (x ∷ p) b.job how Build j d live in other.0 (sym (h.complete j d (before j d other.1)));
     }
 
-    -- the tables stand behind the end of the build, in whatever way but with a block
+    -- the tables stand after the end of the build, in whatever way but with a block
     pub TablesStand-over : (x : Item B C I) (how : How) → at v.runs b.job ≡ None → (how ≡ Nothing) ⊎ (how ≡ Cancelled) → TablesStand w stored (x ∷ p) points point next v → TablesStand w stored (Made (Ended b.job how) ∷ x ∷ p) points point next v
     TablesStand-over x how none is stands =
         TablesStand-spared w stored (x ∷ p) (Made (Ended b.job how)) points point next v
@@ -113,7 +113,7 @@ module _ {B C I P R D H G U : Type 0} (w : Workings B C I P R D H G U) (stored :
         kept_none (inl nothing) = rw nothing refl
         kept_none (inr cancelled) = rw cancelled refl
 
-    -- the tables stand behind a build that has ended without a block, and behind the decline of its request
+    -- the tables stand after a build that has ended without a block, and behind the decline of its request
     pub TablesStand-nothing : TablesStand w stored (after (Came (Turn b.job) ∷ p) (Ended b.job Nothing ∷ Declined b.ticket ∷ [])) points point next v
     TablesStand-nothing =
         TablesStand-told w stored (Made (Ended b.job Nothing) ∷ Came (Turn b.job) ∷ p) points point next v b.ticket
@@ -126,7 +126,7 @@ module _ {B C I P R D H G U : Type 0} (w : Workings B C I P R D H G U) (stored :
         let over = BuildStands-over (Came (Turn b.job)) Nothing (λ j d live. record { live = live.live; is = live.is }) in
         record { each = tt; elsewhere = tt; complete = λ j d live. over.complete j d (record { live = live.live; is = live.is }) }
 
-    -- the tables stand behind the cancel of the build's request
+    -- the tables stand after the cancel of the build's request
     pub TablesStand-given_up : TablesStand w stored (after (Came (Cancel b.ticket) ∷ p) (Ended b.job Cancelled ∷ [])) points point next v
     TablesStand-given_up =
         TablesStand-over (Came (Cancel b.ticket)) Cancelled (no_candidate b.job Build b.parent.digest building.job.is (λ is. cc)) (inr refl)

@@ -1,4 +1,4 @@
--- The tables stand behind a cancel.
+-- The tables stand after a cancel.
 use Rattle.std.proofs.Common.{◌≡◌, ◌≢◌, ◌==◌, not, ℕ, Bool, true, false, List, [], ◌∷◌, filter, All, Option, Some, None, IsSome, MatchOption, refl, sym, ap, ◌∙◌, subst}
 use Rattle.std.proofs.lemmas.Bool.{eqb-true, eqb-false}
 use Rattle.std.proofs.lemmas.List.Elements.{All-cons, All-head, All-tail, All-nil}

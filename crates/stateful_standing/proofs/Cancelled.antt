@@ -44,7 +44,7 @@ module _ {B C I P R D H G U : Type 0} (w : Workings B C I P R D H G U) (stored :
         go true is = subst (λ k. at old.queued k ≡ None) (sym (eqb-true u t is)) not_queued
         go false is = s.once u (subst (λ o. IsSome o) (at_other old.requests t u (λ e. let no : true ≡ false = sym (eq-eqb u t e) ∙ is in cc)) some)
 
-    -- behind the cancel of a request that fetches nothing, where each run that it waited for has another request
+    -- after the cancel of a request that fetches nothing, where each run that it waited for has another request
     pub TablesStand-left : ((f : ℕ) → r.phase ≡ Fetching f → ⊥) → ((j : ℕ) → is_on j r.phase ≡ true → tickets_on j (without old.requests t) ≢ [])
         → TablesStand w stored (Came (Cancel t) ∷ p) points point next (taken old t)
     TablesStand-left fetches_none joined = record {
@@ -57,7 +57,7 @@ module _ {B C I P R D H G U : Type 0} (w : Workings B C I P R D H G U) (stored :
       numbers = record { jobs = s.numbers.jobs; unturned = s.numbers.unturned; fetches = s.numbers.fetches };
     }
 
-    -- behind the cancel of an idle request
+    -- after the cancel of an idle request
     pub TablesStand-idle : IsIdle r.phase → TablesStand w stored (Came (Cancel t) ∷ p) points point next (taken old t)
     TablesStand-idle idle = TablesStand-left (λ f is. no_fetch r.phase f idle is) (λ j on. let no : true ≡ false = sym on ∙ no_run r.phase j idle in cc)
 
@@ -105,7 +105,7 @@ module _ {B C I P R D H G U : Type 0} (w : Workings B C I P R D H G U) (stored :
     withdrawn-LeavesFetch : (g : ℕ) → g ≢ f → LeavesFetch given (Made (Withdrawn f)) g
     withdrawn-LeavesFetch g ne = record { live = rw (differ g f (λ e. ne (sym e))) refl; asked = refl }
 
-    -- behind the cancel of a request whose fetch is withdrawn
+    -- after the cancel of a request whose fetch is withdrawn
     pub TablesStand-withdrawn : TablesStand w stored (Made (Withdrawn f) ∷ given) points point next (taken old t)
     TablesStand-withdrawn = record {
       at_anchor = s.at_anchor;

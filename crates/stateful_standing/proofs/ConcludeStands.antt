@@ -1,4 +1,4 @@
--- The tables stand behind the end of a request.
+-- The tables stand after the end of a request.
 use Rattle.std.proofs.Common.{◌≡◌, ◌≢◌, ◌==◌, ◌++◌, ℕ, Bool, true, false, [], ◌∷◌, Option, None, IsSome, get_or, refl, sym, ◌∙◌, subst}
 use Rattle.std.proofs.lemmas.Bool.{eqb-true, eqb-false}
 use Rattle.std.proofs.lemmas.List.Elements.{All-push, All-weaker}
@@ -106,7 +106,7 @@ module _ {B C I P R D H G U : Type 0} (w : Workings B C I P R D H G U) (stored :
       still u some true is = subst (λ k. IsSome (at (put old.queued t proposal) k)) (sym (eqb-true u t is)) (rw (put_here old.queued t proposal) refl)
       still u some false is = subst (λ o. IsSome o) (sym (put_other old.queued t u proposal (eqb-false u t is))) some
 
-  -- the tables stand behind the end of a request in hand
+  -- the tables stand after the end of a request in hand
   pub TablesStand-concludes : (request : Request B C I) (v : Verdicts) → IsInHand w stored p t request old → TablesStand w stored (after p (told t request v)) points point next (ended old t request v)
   TablesStand-concludes (Verify u ancestry) verdict.Valid hand = TablesStand-told (Made (Verdict t true)) (verdict-TellsOf (setting w stored) p t true) hand.absent hand.not_queued
   TablesStand-concludes (Verify u ancestry) verdict.Invalid hand = TablesStand-told (Made (Verdict t false)) (verdict-TellsOf (setting w stored) p t false) hand.absent hand.not_queued

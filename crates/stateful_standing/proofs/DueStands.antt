@@ -1,4 +1,4 @@
--- What is still to come of a finalization is so behind its rules, and behind requests and candidate runs.
+-- What is still to come of a finalization is so after its rules, and behind requests and candidate runs.
 use Rattle.std.proofs.Common.{◌≡◌, ◌≢◌, ◌++◌, inl, inr, ℕ, Bool, List, [], ◌∷◌, Option, Some, None, Result, Ok, Err, refl, sym, ap, ◌∙◌, subst}
 use Rattle.std.proofs.lemmas.List.{append_assoc, append_cancel_left, append-nil}
 use Rattle.std.proofs.lemmas.List.Elements.{All-head, All-tail}
@@ -71,7 +71,7 @@ module _ {B C I S T : Type 0} (s : Setting B S T) {U : Type 0} (d : Digest) wher
   IsToRun-ended p j how old new grows kept h = record { unran = h.unran; has_to = λ out. ((λ is. cc), h.has_to (λ a. out (grows d a))) }
 
 module _ {B C I S T : Type 0} (s : Setting B S T) (p : Past B C I) {R U H : Type 0} (cache : List (Cached U)) where
-  -- what is due is so behind an event that is no start
+  -- what is due is so after an event that is no start
   by_begun : (q : Past B C I) (new : List (Cached U)) → begun q ≡ begun p → ((d : Digest) → IsToRun s p cache d → IsToRun s q new d) → (front : Option (Front B R U H)) → IsDue s p cache front → IsDue s q new front
   by_begun q new same to None h = same ∙ h
   by_begun q new same to (Some f) h = at f.stage h
@@ -83,7 +83,7 @@ module _ {B C I S T : Type 0} (s : Setting B S T) (p : Past B C I) {R U H : Type
       at Advanced is = same ∙ is
       at (Hooking j hook) is = same ∙ is
 
-  -- behind an event that begins nothing
+  -- after an event that begins nothing
   pub IsDue-came : (event : Event B C I) → begun (Came event ∷ p) ≡ begun p → (front : Option (Front B R U H)) → IsDue s p cache front → IsDue s (Came event ∷ p) cache front
   IsDue-came event same = by_begun (Came event ∷ p) cache same (λ d. IsToRun-came s p d event cache)
 
@@ -91,7 +91,7 @@ module _ {B C I S T : Type 0} (s : Setting B S T) (p : Past B C I) {R U H : Type
   pub IsDue-quiet : (marks : List (Mark B)) → AreQuiet marks → (front : Option (Front B R U H)) → IsDue s p cache front → IsDue s (after p marks) cache front
   IsDue-quiet marks quiet = by_begun (after p marks) cache (begun-quiet s p marks quiet) (λ d. IsToRun-quiet s d p marks cache quiet)
 
-  -- and behind the end of a run, where its block is cached if it was kept
+  -- and after the end of a run, where its block is cached if it was kept
   pub IsDue-ended : (j : ℕ) (how : How) (new : List (Cached U)) → ((e : Digest) → IsIn cache e → IsIn new e) → ((d : Digest) → how ≡ Kept → started j p ≡ Some d → IsIn new d) → (front : Option (Front B R U H)) → IsDue s p cache front → IsDue s (Made (Ended j how) ∷ p) new front
   IsDue-ended j how new grows kept = by_begun (Made (Ended j how) ∷ p) new refl (λ d. IsToRun-ended s d p j how cache new grows (kept d))
 
@@ -163,12 +163,12 @@ module _ {B C I P R D H G U : Type 0} (w : Workings B C I P R D H G U) (stored :
         front (IsDue-came (setting w stored) p m.state.cache (Turn j) refl front due))))
     by running (Err fault) turns settles due more is = absurd settles
 
-    -- what is due is so behind a turn of a candidate run and what its answer leads to
+    -- what is due is so after a turn of a candidate run and what its answer leads to
     pub IsDue-steps : IsDue (setting w stored) p m.state.cache front → Steps w count m j now → (more : List (Mark B)) → now.marks ≡ m.marks ++ more → IsDue (setting w stored) (after (Came (Turn j) ∷ p) more) now.state.cache front
     IsDue-steps due steps more is = by steps.running steps.answer steps.turns steps.settles due more is
 
 module _ {B C I P R D H G U : Type 0} (w : Workings B C I P R D H G U) (stored : ℕ → Option (Named B)) (p : Past B C I) (m now : Moment w) (front : Option (Front B R U H)) where
-  -- what is due is so behind rules of requests
+  -- what is due is so after rules of requests
   pub IsDue-quietly : GoesQuietly w m now → IsDue (setting w stored) p m.state.cache front → (more : List (Mark B)) → now.marks ≡ m.marks ++ more → IsDue (setting w stored) (after p more) now.state.cache front
   IsDue-quietly g due more is =
       let same : more ≡ g.more = append_cancel_left m.marks more g.more (sym is ∙ g.marks_are) in
@@ -187,7 +187,7 @@ module _ {B C I P R D H G U : Type 0} (w : Workings B C I P R D H G U) (stored :
   IsDue-steps_final count m front j old new last b run is (turned {b = c} {turned = later} {answer = Err fault} live had settles) = absurd settles
   IsDue-steps_final count m front j old new last b run is (not_live off same is_front) = absurd (off b run (record { is = is }))
 
-  -- where nothing is begun, nothing is due behind an apply, of a hook, and where no finalization goes on
+  -- where nothing is begun, nothing is due after an apply, of a hook, and where no finalization goes on
   module _ (none : begun q ≡ None) where
     pub IsDue-moves : (b : Named B) (m : w.kind.Members) (old new : Tables B C I R U) (before last : Option (Front B R U H)) (batch : U) (captured : G) → Moves w b m old new before last batch captured → IsDue (setting w stored) q cache last
     IsDue-moves b m old new before last batch captured moves = subst (λ (o : Option (Front B R U H)). IsDue (setting w stored) q cache o) (sym moves.after_is) none

@@ -1,4 +1,4 @@
--- Each cached block that goes on over a finalization is compatible with it: from its beginning on, and behind the end of a run.
+-- Each cached block that goes on over a finalization is compatible with it: from its beginning on, and after the end of a run.
 use Rattle.std.proofs.Common.{◌≡◌, ◌≢◌, ◌⊎◌, inl, inr, ℕ, List, All, Contains, Option, refl, sym, ap, ◌∙◌, subst}
 use Rattle.std.proofs.lemmas.List.Elements.{All-push, All-weaker, All-contains, All-contains_itself}
 use Rattle.stateful_types.specs.Names.{Header, Named}

@@ -1,4 +1,4 @@
--- The tables stand behind the end of a run while a finalization goes on.
+-- The tables stand after the end of a run while a finalization goes on.
 use Rattle.std.proofs.Common.{◌≡◌, ◌↔◌, ◌<◌, length, inl, inr, ℕ, List, ◌∷◌, All, Contains, Option, Some, None, MatchOption, get_or, sym, ap, ◌∙◌, subst}
 use Rattle.std.proofs.lemmas.List.Elements.{Contains-get_or}
 use Rattle.stateful_types.specs.Names.{Named}
@@ -102,7 +102,7 @@ module _ {B C I P R D H G U : Type 0} (w : Workings B C I P R D H G U) (stored :
     tip_crossed (Some t) h = (h.0 ∙ sym c.of, h.1 ∙ sym c.round)
     tip_crossed None h = absurd h
 
-    -- the finalization goes on behind the end of a run over it
+    -- the finalization goes on after the end of a run over it
     pub Finalizes-crossed : (how : How) (cache : List (Cached U)) → All (λ e. IsRetained new (step_in e) → Contains new.compatible e.digest) cache → Finalizes w stored (Made (Ended j how) ∷ Came (Turn j) ∷ p) old.anchor cache new
     Finalizes-crossed how cache closed = record {
       tip = tip_crossed (tip_of w.header p) f.tip;
@@ -118,7 +118,7 @@ module _ {B C I P R D H G U : Type 0} (w : Workings B C I P R D H G U) (stored :
       closed = closed;
     }
 
-  -- the finalization goes on behind the end of another run
+  -- the finalization goes on after the end of another run
   pub Finalizes-same : (how : How) (cache : List (Cached U)) → All (λ e. IsRetained boundary (step_in e) → Contains boundary.compatible e.digest) cache → Finalizes w stored (Made (Ended j how) ∷ Came (Turn j) ∷ p) old.anchor cache boundary
   Finalizes-same how cache closed = record {
     tip = f.tip;

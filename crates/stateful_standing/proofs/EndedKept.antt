@@ -1,4 +1,4 @@
--- The tables stand behind the end of a run whose block is added to the cache.
+-- The tables stand after the end of a run whose block is added to the cache.
 use Rattle.std.proofs.Common.{◌≡◌, ◌≢◌, ◌⊎◌, ◌↔◌, ◌++◌, inl, inr, ℕ, true, List, [], ◌∷◌, Any, Option, Some, MatchOption, refl, sym, ◌∙◌, subst, get_or}
 use Rattle.std.proofs.lemmas.List.Elements.{All-push, Contains-append_left, Contains-push_cases}
 use Rattle.std.proofs.lemmas.List.Quantifiers.{Any-push}
@@ -122,7 +122,7 @@ module _ {B C I P R D H G U : Type 0} (w : Workings B C I P R D H G U) (stored :
     own_in : IsIn more live.block.digest
     own_in = Any-push (λ (c : Cached U). c.digest ≡ live.block.digest) old.cache entry refl
 
-    -- behind the end of a run that is kept, whose block comes last in the cache, where the known blocks are those of the pause
+    -- after the end of a run that is kept, whose block comes last in the cache, where the known blocks are those of the pause
     pub IsLeftBy-added : (pause : Pause) → ((d : Digest) → Known (setting w stored) q d ↔ IsKnownBy pause old.anchor more d) → IsLeftBy w stored p point next old j live Kept points more pause
     IsLeftBy-added pause knows =
         IsLeftBy-from w stored p points point next old s j live live_is Kept now moves more pause

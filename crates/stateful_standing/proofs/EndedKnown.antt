@@ -1,4 +1,4 @@
--- What is known behind the end of a run, and what its last turn says.
+-- What is known after the end of a run, and what its last turn says.
 use Rattle.std.proofs.Common.{◌≡◌, ◌⊎◌, ◌==◌, if◌then◌else◌, inl, inr, ℕ, [], ◌∷◌, Option, None, Some, Bool, true, false, refl, ap, option_map, arith}
 use Rattle.stateful_types.specs.Round.{IsLater}
 use Rattle.stateful_types.specs.declared.digest.Digest.{Digest}
@@ -65,7 +65,7 @@ module _ {B C I S T : Type 0} (s : Setting B S T) where
   Known-ended (kept m k l parent) j how = stays tt m (kept m k l parent) l l (Known-ended parent j how)
   Known-ended (stays o m k old l parent) j how = stays tt (inr m) (stays o m k old l parent) l l (Known-ended parent j how)
 
-  -- a known block stays known behind the end of a run
+  -- a known block stays known after the end of a run
   pub Known-turned : (p : Past B C I) (d : Digest) (j : ℕ) (how : How) → Known s p d → Known s (Made (Ended j how) ∷ Came (Turn j) ∷ p) d
   Known-turned p d j how k = Known-ended (Known-calm s k (Came (Turn j)) (turn-IsCalm p j)) j how
 

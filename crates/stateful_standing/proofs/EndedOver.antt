@@ -1,4 +1,4 @@
--- The tables stand behind the end of a run as it is told, while a finalization goes on.
+-- The tables stand after the end of a run as it is told, while a finalization goes on.
 use Rattle.std.proofs.Common.{◌≡◌, ◌≢◌, ◌⊎◌, ◌↔◌, ◌++◌, inl, inr, ℕ, true, List, [], ◌∷◌, Contains, Option, Some, None, MatchOption, refl, sym, ap, ◌∙◌, subst}
 use Rattle.std.proofs.lemmas.List.Elements.{All-push}
 use Rattle.std.proofs.lemmas.List.Quantifiers.{Any-push}
@@ -40,7 +40,7 @@ use Rattle.stateful_standing.proofs.EndedTold.{turned-at, cached_step}
 use Rattle.stateful_standing.proofs.EndedFinalizing.{Finalizes, own_compatible, crossed_known, closed_crossed, Finalizes-crossed, Finalizes-same}
 
 module _ {B C I P R D H G U : Type 0} (w : Workings B C I P R D H G U) (stored : ℕ → Option (Named B)) (p : Past B C I) (point : Point w) (next : w.Ids) (old : Tables B C I R U) (j : ℕ) (live : LiveRun B R) where
-  -- what stands behind the end of a run, and the finalization goes on
+  -- what stands after the end of a run, and the finalization goes on
   pub record IsLeftOver (points : Digest → Point w) (how : How) (cache : List (Cached U)) (pause : Pause) : Type 0 where
     pub boundary : Boundary
     pub pause_is : pause ≡ Finalizing boundary
@@ -114,7 +114,7 @@ module _ {B C I P R D H G U : Type 0} (w : Workings B C I P R D H G U) (stored :
         kept_off b (met_before w stored p point next old j live Kept b m) own_digest (past_round b (tip_of w.header p) f.tip l) (compatible_by _ (known_off parent)) (same_or_not b.digest boundary.digest)
     known_off (stays o m k before l parent) = (knows _).0 (Known-before (setting w stored) k (turn-IsCalm (setting w stored) p j))
 
-  -- behind the end of a run that is kept, of a block that was cached
+  -- after the end of a run that is kept, of a block that was cached
   IsLeftOver-there : IsIn old.cache live.block.digest → (pause : Pause) → Crosses w.header live.block (Finalizing boundary) pause → IsLeftOver w stored p point next old j live points Kept old.cache pause
   IsLeftOver-there a Free crosses = absurd crosses
   IsLeftOver-there a Pruning crosses = absurd crosses
@@ -218,14 +218,14 @@ module _ {B C I P R D H G U : Type 0} (w : Workings B C I P R D H G U) (stored :
             (All-push (λ (e : Cached U). IsRetained boundary (step_in e) → Contains boundary.compatible e.digest) old.cache entry f.closed (λ on. absurd (off on)));
       }
 
-    -- behind the end of a run that is kept, whose block is added to the cache
+    -- after the end of a run that is kept, whose block is added to the cache
     IsLeftOver-added : (pause : Pause) → Crosses w.header live.block (Finalizing boundary) pause → IsLeftOver w stored p point next old j live points Kept more pause
     IsLeftOver-added Free crosses = absurd crosses
     IsLeftOver-added Pruning crosses = absurd crosses
     IsLeftOver-added (Finalizing new) (inl over) = added_over new over.0 over.1
     IsLeftOver-added (Finalizing new) (inr same) = subst (λ b. IsLeftOver w stored p point next old j live points Kept more (Finalizing b)) (sym same.1) (added_off same.0)
 
-  -- behind the end of a run, however it is told, while a finalization goes on
+  -- after the end of a run, however it is told, while a finalization goes on
   pub IsLeftOver-told : (m : w.kind.Members) → w.kind.point m ≡ Some point → (turned : R) {o : Option U} {how : How} (cache : List (Cached U)) (pause : Pause) → Turns w m live.run turned (Done o)
       → IsTold w old.anchor live.block old.cache cache o how → Crosses w.header live.block (Finalizing boundary) pause → IsLeftOver w stored p point next old j live points how cache pause
   IsLeftOver-told m here turned cache pause t (rejected is) crosses = rw is (left_over Rejected (IsLeftBy-gone w stored p points point next old s j live live_is Rejected refl) pause crosses)

@@ -1,4 +1,4 @@
--- The requests behind the end of a run: those that waited for it are in hand, and the others stand.
+-- The requests after the end of a run: those that waited for it are in hand, and the others stand.
 use Rattle.std.proofs.Common.{◌≡◌, ◌≢◌, not, inr, ℕ, true, false, List, ◌∷◌, All, Option, Some, None, IsSome, MatchOption, get_or, refl, sym, ◌∙◌, subst}
 use Rattle.std.proofs.lemmas.Bool.{eq-eqb}
 use Rattle.std.proofs.lemmas.List.Elements.{All-filter, filter_passes}
@@ -60,7 +60,7 @@ module _ {B C I P R D H G U : Type 0} (w : Workings B C I P R D H G U) (stored :
   fetches_on f None h = h
   fetches_on f (Some r) h = let stays : not (is_on j r.phase) ≡ true = rw h refl in rw stays h
 
-  -- the others stand behind the end of the run
+  -- the others stand after the end of the run
   pub RequestsStand-turned : RequestsStand w stored ended (without runs j) (not_on j requests)
   RequestsStand-turned = record {
     ascending = sorted_filter (λ (e : ℕ × Requested B C I). not (is_on j e.1.phase)) requests h.ascending;
@@ -104,6 +104,6 @@ module _ {B C I P R D H G U : Type 0} (w : Workings B C I P R D H G U) (stored :
           unqueued = once e.0 (rw there refl);
         })
 
-  -- the queue stands behind the end of the run
+  -- the queue stands after the end of the run
   pub QueueStands-turned : (queued : List (ℕ × Proposal B C I)) (recovered : List ℕ) → QueueStands w stored p queued recovered → QueueStands w stored ended queued recovered
   QueueStands-turned queued recovered s = record { each = λ k d l. let e = s.each k d l in record { live = e.live; proposes = e.proposes }; ready = s.ready }

@@ -1,4 +1,4 @@
--- The tables stand behind the end of a run in its turn, by the rules of execution.
+-- The tables stand after the end of a run in its turn, by the rules of execution.
 use Rattle.std.proofs.Common.{◌≡◌, ◌≢◌, ◌<◌, ◌==◌, ℕ, Bool, true, false, List, [], ◌∷◌, All, AllPairs, Option, Some, Ok, refl, sym, ap, ◌∙◌, subst}
 use Rattle.std.specs.Ordering.{nat_cmp, match_ordering, MatchOrdering}
 use Rattle.std.specs.declared.cmp.Ordering.{Ordering}
@@ -55,7 +55,7 @@ plain_stays header b Pruning new plain crosses = crosses
 plain_stays header b (Finalizing boundary) new plain crosses = absurd plain
 
 module _ {B C I P R D H G U : Type 0} (w : Workings B C I P R D H G U) (stored : ℕ → Option (Named B)) where
-  -- What stands behind a past where the run of a job of this block has ended: the tables without the requests that waited for
+  -- What stands after a past where the run of a job of this block has ended: the tables without the requests that waited for
   -- it, and these are in hand, each of another ticket.
   pub record IsReleased (p : Past B C I) (point : Point w) (j : ℕ) (b : Named B) (m : Moment w) : Type 0 where
     pub points : Digest → Point w
@@ -95,7 +95,7 @@ module _ {B C I P R D H G U : Type 0} (w : Workings B C I P R D H G U) (stored :
         pub crosses_so : Crosses w.header live.block m.state.pause ends.pause
         crosses_so = subst (λ (c : Named B). Crosses w.header c m.state.pause ends.pause) (sym same_block) ends.crosses
 
-        -- what is left by the end of a run stands behind its rule
+        -- what is left by the end of a run stands after its rule
         IsReleasedFrom-left : (points : Digest → Point w) → IsLeftBy w stored p point m.next m.state j live how points ends.cache ends.pause → IsReleasedFrom p points m.state q point j b now
         IsReleasedFrom-left points stands =
             subst (λ (n : Moment w). IsReleasedFrom p points m.state q point j b n) (sym ends.becomes) (record {
@@ -112,7 +112,7 @@ module _ {B C I P R D H G U : Type 0} (w : Workings B C I P R D H G U) (stored :
         GoesOn-from points stands = subst (λ (n : Moment w). GoesOn q n) (sym ends.becomes) (record { boundary = stands.boundary; pause_is = stands.pause_is; goes_on = stands.goes_on })
 
     module _ (points : Digest → Point w) (s : TablesStand w stored p points point m.next m.state) (here : w.kind.point m.members ≡ Some point) (names : TrueNames (setting w stored) p) (round : IsRoundOf w stored p m.state.anchor) where
-      -- The tables stand behind the end of a run in its turn, where no finalization goes on, and the requests that waited for
+      -- The tables stand after the end of a run in its turn, where no finalization goes on, and the requests that waited for
       -- it are in hand.
       pub IsReleasedFrom-plain : IsPlain m.state.pause → tip_of w.header p ≡ Some m.state.anchor → (count : R → ℕ) (running : Tables B C I R U) → TurnsRun w count m.members j m.state running (Ok (Done o)) → EndsRun w (record m { state = running }) j b o how now
           → IsReleasedFrom p points m.state (Made (Ended j how) ∷ Came (Turn j) ∷ p) point j b now
@@ -123,7 +123,7 @@ module _ {B C I P R D H G U : Type 0} (w : Workings B C I P R D H G U) (stored :
           (sym (plain_stays w.header turns.live.block m.state.pause e.pause plain (crosses_so turns.live turns.live_is turns.turned e)))
           (IsLeftBy-told w stored p points point m.next m.state s j turns.live turns.live_is m.members here turns.turned names round plain tip e.cache turns.turns (told_so turns.live turns.live_is turns.turned e)))
 
-      -- The tables stand behind the end of a run in its turn, while a finalization goes on, and the requests that waited for
+      -- The tables stand after the end of a run in its turn, while a finalization goes on, and the requests that waited for
       -- it are in hand. The finalization goes on.
       pub IsReleasedFrom-over : GoesOn p m → (count : R → ℕ) (running : Tables B C I R U) → TurnsRun w count m.members j m.state running (Ok (Done o)) → EndsRun w (record m { state = running }) j b o how now
           → IsReleasedFrom p points m.state (Made (Ended j how) ∷ Came (Turn j) ∷ p) point j b now × GoesOn (Made (Ended j how) ∷ Came (Turn j) ∷ p) now

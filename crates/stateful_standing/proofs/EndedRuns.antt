@@ -82,7 +82,7 @@ module _ {B C I P R D H G U : Type 0} (w : Workings B C I P R D H G U) (stored :
       let other : (k == j) ≡ false = differ k j (λ e. ne (sym e)) in
       IsRunning-moved w stored p ended points now anchor cache moves next more grows k run (rw other refl) refl (rw other refl) h
 
-  -- the runs that are left stand behind the end of one
+  -- the runs that are left stand after the end of one
   pub RunsStand-turned : (runs : List (ℕ × LiveRun B R)) → RunsStand w stored p points next anchor cache runs → RunsStand w stored ended now next anchor more (without runs j)
   RunsStand-turned runs h = record {
     ascending = sorted_without runs j h.ascending;

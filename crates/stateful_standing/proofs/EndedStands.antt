@@ -1,4 +1,4 @@
--- The tables stand behind the end of a run: one that isn't kept, and one whose block was known.
+-- The tables stand after the end of a run: one that isn't kept, and one whose block was known.
 use Rattle.std.proofs.Common.{◌≡◌, ◌≢◌, ◌<◌, ◌≤◌, ◌↔◌, ◌+◌, ◌==◌, Bool, true, false, if◌then◌else◌, arith, length, get_or, inl, inr, ℕ, List, ◌∷◌, All, AllPairs, Option, Some, None, refl, sym, ◌∙◌, subst}
 use Rattle.std.proofs.lemmas.Bool.{eqb-true}
 use Rattle.std.proofs.lemmas.List.Elements.{Contains-get_or}
@@ -46,7 +46,7 @@ module _ {B C I P R D H G U : Type 0} (w : Workings B C I P R D H G U) (stored :
   abbrev pub ended : Past B C I
   ended = Made (Ended j how) ∷ Came (Turn j) ∷ p
 
-  -- What stands behind the end of the run of a job, with this cache and this pause: the tables over some points, to which what was
+  -- What stands after the end of the run of a job, with this cache and this pause: the tables over some points, to which what was
   -- at hand has gone over from these; and the requests that waited for it are in hand, each of another ticket.
   pub record IsLeftBy (before : Digest → Point w) (cache : List (Cached U)) (pause : Pause) : Type 0 where
     pub points : Digest → Point w
@@ -97,7 +97,7 @@ module _ {B C I P R D H G U : Type 0} (w : Workings B C I P R D H G U) (stored :
     runs-same : RunsStand w stored (ended w stored p point next old j live how) points next old.anchor old.cache (without old.runs j)
     runs-same = RunsStand-turned w stored p points points next old.anchor old.cache old.cache j how (Moves-turned w stored p j how points old.anchor old.cache) (λ d at_hand. at_hand) old.runs s.runs
 
-    -- behind the end of a run that isn't kept
+    -- after the end of a run that isn't kept
     pub IsLeftBy-gone : kept_by (Came (Turn j) ∷ p) (Made (Ended j how)) ≡ None → IsLeftBy w stored p point next old j live how points old.cache old.pause
     IsLeftBy-gone none =
         IsLeftBy-from points (Moves-turned w stored p j how points old.anchor old.cache) old.cache old.pause s.at_anchor
@@ -105,7 +105,7 @@ module _ {B C I P R D H G U : Type 0} (w : Workings B C I P R D H G U) (stored :
         (CacheStands-calm w stored p (Came (Turn j)) (turn-IsCalm (setting w stored) p j) points next old.anchor old.pause old.cache s.cache))
         runs-same
 
-  -- behind the end of a run that is kept and adds nothing, where nothing becomes known
+  -- after the end of a run that is kept and adds nothing, where nothing becomes known
   pub IsLeftBy-there : ((d : Digest) → Known (setting w stored) (ended w stored p point next old j live Kept) d → IsKnownBy old.pause old.anchor old.cache d) → IsLeftBy w stored p point next old j live Kept points old.cache old.pause
   IsLeftBy-there known = IsLeftBy-from Kept points (Moves-turned w stored p j Kept points old.anchor old.cache) old.cache old.pause s.at_anchor caches (runs-same Kept)
     where
@@ -116,7 +116,7 @@ module _ {B C I P R D H G U : Type 0} (w : Workings B C I P R D H G U) (stored :
         knows = λ d. (known d, λ b. Known-turned (setting w stored) p d j Kept ((s.cache.knows d).1 b));
       }
 
-  -- behind the end of a run that is kept, of a block that was known
+  -- after the end of a run that is kept, of a block that was known
   pub IsLeftBy-known : Known (setting w stored) p live.block.digest → IsLeftBy w stored p point next old j live Kept points old.cache old.pause
   IsLeftBy-known known = IsLeftBy-there (λ d k. (s.cache.knows d).0 (elim (Known-turned_before (setting w stored) p d live.block.digest j started-own k) [
     | inl e ↦ subst (λ (x : Digest). Known (setting w stored) p x) (sym e) known

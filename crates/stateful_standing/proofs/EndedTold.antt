@@ -1,4 +1,4 @@
--- The tables stand behind the end of a run as it is told, where no finalization goes on.
+-- The tables stand after the end of a run as it is told, where no finalization goes on.
 use Rattle.std.proofs.Common.{◌≡◌, ◌+◌, ◌↔◌, inr, ℕ, List, [], ◌∷◌, Any, Option, Some, refl, ap}
 use Rattle.stateful_types.specs.Names.{Named}
 use Rattle.stateful_types.specs.declared.anchor.Anchor.{Anchor}
@@ -70,7 +70,7 @@ module _ {B C I P R D H G U : Type 0} (w : Workings B C I P R D H G U) (stored :
     knows : (d : Digest) → Known (setting w stored) p d ↔ IsAtHand old.anchor old.cache d
     knows = known_at_hand old.anchor (λ d. Known (setting w stored) p d) old.pause plain old.cache s.cache.knows
 
-    -- behind the end of a run, however it is told, where no finalization goes on
+    -- after the end of a run, however it is told, where no finalization goes on
     pub IsLeftBy-told : {o : Option U} {how : How} (cache : List (Cached U)) → Turns w m live.run turned (Done o) → IsTold w old.anchor live.block old.cache cache o how → IsLeftBy w stored p point next old j live how points cache old.pause
     IsLeftBy-told cache t (rejected is) = rw is (IsLeftBy-gone w stored p points point next old s j live live_is Rejected refl)
     IsLeftBy-told cache t (mismatched differs is) = rw is (IsLeftBy-gone w stored p points point next old s j live live_is Mismatched refl)

@@ -53,7 +53,7 @@ module _ {B C I P R D H G U : Type 0} (w : Workings B C I P R D H G U) (stored :
     withdrawn q [] = refl
     withdrawn q (x ∷ fs) = withdrawn (Made (Withdrawn x) ∷ q) fs
 
-    -- it goes on behind the marks of a pause
+    -- it goes on after the marks of a pause
     pub Finalizes-paused : (marks : List (Mark B)) (old new : Tables B C I R U) (b : Option Boundary) → Pauses b old new marks → Finalizes w stored p anchor cache boundary → Finalizes w stored (after p marks) anchor cache boundary
     Finalizes-paused marks old new b pauses f = rw pauses.marks_are
         (Finalizes-later (after p (map (λ x. Withdrawn x) pauses.fetches)) (withdrawn p pauses.fetches) (Met-after (setting w stored) p (map (λ x. Withdrawn x) pauses.fetches)) anchor cache boundary f)

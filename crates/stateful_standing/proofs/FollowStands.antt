@@ -79,8 +79,8 @@ module _ {B C I P R D H G U : Type 0} (w : Workings B C I P R D H G U) (stored :
       (released_on job done.state.requests) r.in_hand)
       r.apart rules).behind
 
-  -- What stands behind the last turn of a run: the tables, over some points, to which what was at hand has gone over from these,
-  -- and behind the mark that it ended those of the requests that waited for it.
+  -- What stands after the last turn of a run: the tables, over some points, to which what was at hand has gone over from these,
+  -- and after the mark that it ended those of the requests that waited for it.
   pub record IsSettled (p : Past B C I) (before : Digest → Point w) (m last : Moment w) (j : ℕ) (how : How) : Type 0 where
     pub points : Digest → Point w
     pub moves : Moves w stored p (Made (Ended j how) ∷ Came (Turn j) ∷ p) before points m.state.anchor m.state.cache

@@ -65,11 +65,11 @@ module _ {B C I P R D H G U : Type 0} (w : Workings B C I P R D H G U) (stored :
     abbrev hooking : IsHooking w stored p point next b j hook
     hooking = f.at_stage.1
 
-    -- the tables stand behind a turn of the hook
+    -- the tables stand after a turn of the hook
     pub TablesStand-turns_hook : TablesStand w stored (Came (Turn j) ∷ p) points point next old
     TablesStand-turns_hook = TablesStand-turn_other w stored p points point next old s j Hook b.digest hooking.job.is (λ is. cc)
 
-    -- the finalization stands behind a turn with which its hook goes on
+    -- the finalization stands after a turn with which its hook goes on
     pub FrontStands-hook_goes_on : (count : H → ℕ) (m : w.kind.Members) → w.kind.point m ≡ Some point → HasHooked w count m hook turned (Ok Pending) → FrontStands w stored (Came (Turn j) ∷ p) point next old.anchor (front_at b (Hooking j turned))
     FrontStands-hook_goes_on count m located had = record {
       at_stage = (
@@ -89,7 +89,7 @@ module _ {B C I P R D H G U : Type 0} (w : Workings B C I P R D H G U) (stored :
         costs : (n : ℕ) → w.works.hook_cost b.block point.1 ≡ Some n → turns j p + 1 < n
         costs n is = rw is at (had.costs (hook_of (w.context_of b.block) b.block hooking.before point.1) (turns j p) point hooking.hooks located refl)
 
-    -- the tables stand behind the end of the hook
+    -- the tables stand after the end of the hook
     pub TablesStand-hooked : TablesStand w stored (Made (Ended j Hooked) ∷ Came (Turn j) ∷ p) points point next old
     TablesStand-hooked = TablesStand-spared w stored (Came (Turn j) ∷ p) (Made (Ended j Hooked)) points point next old
         (ended-Spares w stored (Came (Turn j) ∷ p) j Hooked (knows-calm w stored (Came (Turn j) ∷ p) (Made (Ended j Hooked)) (record { tip = refl; starts_none = tt; built = λ d was. was; kept = refl })) old

@@ -1,4 +1,4 @@
--- The finalization that goes on stands behind the rules that say nothing of it.
+-- The finalization that goes on stands after the rules that say nothing of it.
 use Rattle.std.proofs.Common.{◌≡◌, ◌⊎◌, ◌++◌, inl, inr, ℕ, List, [], ◌∷◌, All, Option, None, Some, IfSome, MatchOption, refl, sym, ◌∙◌, subst}
 use Rattle.std.proofs.lemmas.List.{append_cancel_left}
 use Rattle.std.proofs.lemmas.List.Elements.{All-head, All-tail}
@@ -68,7 +68,7 @@ module _ {B C I P R D H G U : Type 0} (w : Workings B C I P R D H G U) (stored :
       marks_beside (Made mark ∷ p) m marks (All-tail (λ x. IsBeside (IsFrontJob front) NoTicket x) mark marks beside)
       (FrontStands-spared w stored p (Made mark) point m.next m.next (λ c x. x) m.state.anchor front (spares p mark front (All-head (λ x. IsBeside (IsFrontJob front) NoTicket x) mark marks beside)) h)
 
-  -- behind rules that say nothing of it the finalization stands
+  -- after rules that say nothing of it the finalization stands
   pub FrontStands-passes : (p : Past B C I) (m now : Moment w) (more : List (Mark B)) → now.marks ≡ m.marks ++ more → PassesBy w (IsFrontJob front) NoTicket m now
       → FrontStands w stored p point m.next m.state.anchor front → FrontStands w stored (after p more) point now.next now.state.anchor front
   FrontStands-passes p m now more is f h =

@@ -1,4 +1,4 @@
--- The tables and the finalization stand behind each rule of its run and of its hook.
+-- The tables and the finalization stand after each rule of its run and of its hook.
 use Rattle.std.proofs.Common.{◌≡◌, ◌++◌, ℕ, Bool, List, [], ◌∷◌, Option, Some, Result, Ok, Err, sym, ap, ◌∙◌, subst}
 use Rattle.std.proofs.lemmas.List.{append-nil}
 use Rattle.stateful_types.specs.Names.{Named}
@@ -26,7 +26,7 @@ use Rattle.stateful_standing.proofs.FrontHooks.{TablesStand-hooks, FrontStands-h
 use Rattle.stateful_standing.proofs.FrontRuns.{TablesStand-runs_final, FrontStands-runs, TablesStand-turns_final, FrontStands-goes_on, TablesStand-ran, FrontStands-ran}
 
 module _ {B C I P R D H G U : Type 0} (w : Workings B C I P R D H G U) (stored : ℕ → Option (Named B)) (points : Digest → Point w) (point : Point w) where
-  -- What stands behind a rule of a finalization, over a past that has the rule's event: some marks are made, no database moves, and
+  -- What stands after a rule of a finalization, over a past that has the rule's event: some marks are made, no database moves, and
   -- the tables and the finalization stand for the past with these marks.
   pub record StandsWithFront (p : Past B C I) (m now : Moment w) (front : Option (Front B R U H)) : Type 0 where
     pub more : List (Mark B)
@@ -75,7 +75,7 @@ module _ {B C I P R D H G U : Type 0} (w : Workings B C I P R D H G U) (stored :
         (subst (λ o. FrontStands w stored (Made (Ended j how.Kept) ∷ Came (Turn j) ∷ p) point m.next m.state.anchor o) (sym is.3) (FrontStands-ran w stored p points point m.next m.state s b j run next_run f m.members located ended is.0 had.turns is.1))
     settled_final j b run next_run (Err fault) after_turn count f had is same = absurd is
 
-    -- behind a turn of it, whatever it leads to
+    -- after a turn of it, whatever it leads to
     pub StandsWithFront-steps : (count : R → ℕ) (front after_turn : Option (Front B R U H)) (j : ℕ) (b : Named B) (run : R) → IsFinalLive w front j b run → FrontStands w stored p point m.next m.state.anchor front
         → StepsFinal w count m.members front j m.marks now.marks after_turn → now ≡ record m { marks = now.marks } → StandsWithFront (Came (Turn j) ∷ p) m now after_turn
     StandsWithFront-steps count front after_turn j b run live f (turned {b = c} {run = r} {turned = next_run} {answer = answer} is_live had settles) same =
@@ -92,7 +92,7 @@ module _ {B C I P R D H G U : Type 0} (w : Workings B C I P R D H G U) (stored :
         (subst (λ o. FrontStands w stored (Made (Ended j how.Hooked) ∷ Came (Turn j) ∷ p) point m.next m.state.anchor o) (sym is.1) (FrontStands-hooked w stored p points point m.next m.state s b j hook next_hook f))
     settled_hook j b hook next_hook (Err fault) after_turn count f had is same = absurd is
 
-    -- behind a turn of the hook, whatever it leads to
+    -- after a turn of the hook, whatever it leads to
     pub StandsWithFront-hooks : (count : H → ℕ) (front after_turn : Option (Front B R U H)) (j : ℕ) (b : Named B) (hook : H) → IsHookLive w front j b hook → FrontStands w stored p point m.next m.state.anchor front
         → TurnsHook w count m.members front j m.marks now.marks after_turn → now ≡ record m { marks = now.marks } → StandsWithFront (Came (Turn j) ∷ p) m now after_turn
     StandsWithFront-hooks count front after_turn j b hook live f (hook_turned {b = c} {hook = h} {now = next_hook} {answer = answer} is_live had settles) same =

@@ -81,11 +81,11 @@ module _ {B C I P R D H G U : Type 0} (w : Workings B C I P R D H G U) (stored :
     abbrev final : IsRunFinal w stored p point next b j run
     final = f.at_stage.1
 
-    -- the tables stand behind a turn of the finalized block's run
+    -- the tables stand after a turn of the finalized block's run
     pub TablesStand-turns_final : TablesStand w stored (Came (Turn j) ∷ p) points point next old
     TablesStand-turns_final = TablesStand-turn_other w stored p points point next old s j Finalized b.digest final.job.is (λ is. cc)
 
-    -- the finalization stands behind a turn with which its run goes on
+    -- the finalization stands after a turn with which its run goes on
     pub FrontStands-goes_on : Turns w m run turned Pending → FrontStands w stored (Came (Turn j) ∷ p) point next old.anchor (front_at b (Running j turned))
     FrontStands-goes_on had = record {
       at_stage = (
@@ -107,7 +107,7 @@ module _ {B C I P R D H G U : Type 0} (w : Workings B C I P R D H G U) (stored :
         costs : Turns w m run turned Pending → (n : ℕ) → w.works.run_cost finality.Finalized point.1 b.block ≡ Some n → turns j p + 1 < n
         costs had n is = rw is at (had.costs (run_of finality.Finalized (w.context_of b.block) (record { first = b; rest = [] }) final.own point []) (turns j p) point final.runs located (inl refl))
 
-    -- the same blocks are known behind the end of the run, since its block is the tip
+    -- the same blocks are known after the end of the run, since its block is the tip
     knows_same : KnowsSame w stored (Came (Turn j) ∷ p) (Made (Ended j Kept))
     knows_same d = (to, λ k. Known-turned (setting w stored) p d j Kept (Known-before (setting w stored) k (turn-IsCalm (setting w stored) p j)))
       where
@@ -123,7 +123,7 @@ module _ {B C I P R D H G U : Type 0} (w : Workings B C I P R D H G U) (stored :
           | inr before ↦ Known-calm (setting w stored) before (Came (Turn j)) (turn-IsCalm (setting w stored) p j)
         ]
 
-    -- the tables stand behind the end of the finalized block's run
+    -- the tables stand after the end of the finalized block's run
     pub TablesStand-ran : TablesStand w stored (Made (Ended j Kept) ∷ Came (Turn j) ∷ p) points point next old
     TablesStand-ran = TablesStand-spared w stored (Came (Turn j) ∷ p) (Made (Ended j Kept)) points point next old
         (ended-Spares w stored (Came (Turn j) ∷ p) j Kept knows_same old (no_candidate w stored p points point next old s j Finalized b.digest final.job.is (λ is. cc))) TablesStand-turns_final

@@ -96,7 +96,7 @@ module _ {B C I S T : Type 0} (s : Setting B S T) where
   answered-after p (mark ∷ marks) h = answered-after (Made mark ∷ p) marks h
 
 module _ {B C I : Type 0} where
-  -- what a fetch is for stays behind a mark under a new number
+  -- what a fetch is for stays after a mark under a new number
   record LeavesAsked (f : ℕ) (p q : Past B C I) : Type 0 where
     ticket : asked_for f q ≡ asked_for f p
     digest : asked_digest f q ≡ asked_digest f p

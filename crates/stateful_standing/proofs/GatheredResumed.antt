@@ -1,4 +1,4 @@
--- What came with the requests that acquire anew what they need, behind a pause, is linked.
+-- What came with the requests that acquire anew what they need, after a pause, is linked.
 use Rattle.std.proofs.Common.{◌≡◌, ◌++◌, ℕ, List, [], ◌∷◌, All, Option, Some, get_or, is_none}
 use Rattle.std.proofs.lemmas.List.Elements.{All-filter, All-weaker}
 use Rattle.stateful_types.specs.Names.{Named}

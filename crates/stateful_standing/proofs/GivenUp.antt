@@ -1,4 +1,4 @@
--- The tables stand behind a cancel.
+-- The tables stand after a cancel.
 use Rattle.std.proofs.Common.{◌≡◌, ◌≢◌, ◌==◌, ℕ, Bool, true, false, List, [], ◌∷◌, All, Option, Some, IsSome, MatchOption, refl, sym, ap, ◌∙◌, subst}
 use Rattle.std.proofs.lemmas.Bool.{eqb-true, eq-eqb}
 use Rattle.std.proofs.lemmas.List.Elements.{All-weaker}
@@ -51,7 +51,7 @@ no_run (Executing k path) j idle = absurd idle
 no_run (Parked path) j idle = refl
 
 module _ {B C I P R D H G U : Type 0} (w : Workings B C I P R D H G U) (stored : ℕ → Option (Named B)) (p : Past B C I) (t : ℕ) (runs : List (ℕ × LiveRun B R)) (requests : List (ℕ × Requested B C I)) (h : RequestsStand w stored p runs requests) where
-  -- each other request stands behind the cancel
+  -- each other request stands after the cancel
   pub others-cancelled : All (λ e. e.0 ≢ t → IsStanding w stored (Came (Cancel t) ∷ p) runs e.0 e.1) requests
   others-cancelled = All-weaker (λ (e : ℕ × Requested B C I). IsStanding w stored p runs e.0 e.1) (λ e. e.0 ≢ t → IsStanding w stored (Came (Cancel t) ∷ p) runs e.0 e.1)
       (λ e s ne. IsStanding-calm w stored p (Came (Cancel t)) runs e.0 e.1 (cancel-LeavesTicket p t e.0 ne) (λ f is. cancel-LeavesFetch p t f) s) requests h.each
@@ -67,7 +67,7 @@ module _ {B C I P R D H G U : Type 0} (w : Workings B C I P R D H G U) (stored :
             absurd (not_own here)
         go false is has = subst (λ o. MatchOption o ⊥ (λ (q : Requested B C I). q.phase ≡ Fetching f)) (sym (at_other requests t u (λ e. let no : true ≡ false = sym (eq-eqb u t e) ∙ is in cc))) has
 
-    -- The requests stand behind a cancel of this one, which fetches nothing, where each run that it waited for has another
+    -- The requests stand after a cancel of this one, which fetches nothing, where each run that it waited for has another
     -- request.
     pub RequestsStand-left : ((f : ℕ) → r.phase ≡ Fetching f → ⊥) → ((j : ℕ) → is_on j r.phase ≡ true → tickets_on j (without requests t) ≢ [])
         → RequestsStand w stored (Came (Cancel t) ∷ p) runs (without requests t)

@@ -1,4 +1,4 @@
--- Behind an opening the ground of reasons is there, and what stays beside the tables does so: nothing goes on.
+-- After an opening the ground of reasons is there, and what stays beside the tables does so: nothing goes on.
 use Rattle.std.proofs.Common.{◌≡◌, ◌⊎◌, ℕ, List, [], All, Option, Some, refl, sym, ap, ◌∙◌, subst}
 use Rattle.std.proofs.lemmas.List.Elements.{All-nil}
 use Rattle.stateful_types.specs.Names.{Named}

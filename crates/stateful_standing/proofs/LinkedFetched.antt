@@ -1,4 +1,4 @@
--- What was gathered stays linked, and the parents of queued proposals known or lost, behind the answer of a fetch, behind a cancel
+-- What was gathered stays linked, and the parents of queued proposals known or lost, behind the answer of a fetch, after a cancel
 -- and where a pause begins.
 use Rattle.std.proofs.Common.{◌≡◌, ◌⊎◌, inl, inr, ℕ, List, [], ◌∷◌, All, Option, get_or, refl, sym, subst}
 use Rattle.std.proofs.lemmas.List.{append-nil}
@@ -144,7 +144,7 @@ module _ {B C I P R D H G U : Type 0} (w : Workings B C I P R D H G U) (stored :
         → TrueNames (setting w stored) (Made mark ∷ gone)
     names_with mark back x y has_x has_y = names x y (back x has_x) (back y has_y)
 
-    -- It stays so behind a cancel and its marks.
+    -- It stays so after a cancel and its marks.
     pub StaysLinked-cancelled : (marks : List (Mark B)) → Cancels old new t marks → StaysLinked w stored base (after gone marks) new
     StaysLinked-cancelled marks (idle r there is_idle new_is marks_is) = rw (new_is, marks_is) left_gone
     StaysLinked-cancelled marks (withdraws r f fetches new_is marks_is) = rw (new_is, marks_is)
@@ -168,7 +168,7 @@ module _ {B C I P R D H G U : Type 0} (w : Workings B C I P R D H G U) (stored :
   unfetched_none (Executing j path) f is = cc
   unfetched_none (Parked path) f is = cc
 
-  -- It stays so where a pause begins, behind the marks by which fetches are withdrawn.
+  -- It stays so where a pause begins, after the marks by which fetches are withdrawn.
   pub StaysLinked-paused : (o : Option Boundary) (p : Past B C I) (old new : Tables B C I R U) (marks : List (Mark B)) → TrueNames (setting w stored) (after p marks)
       → QueueIsMet w stored base p old.queued → Pauses o old new marks → StaysLinked w stored base p old → StaysLinked w stored base (after p marks) new
   StaysLinked-paused o p old new marks names met pauses h =

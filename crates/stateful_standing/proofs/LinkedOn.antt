@@ -97,7 +97,7 @@ module _ {B C I P R D H G U : Type 0} (w : Workings B C I P R D H G U) (stored :
     reaches = QueueReaches-on w stored base p x (starts_one p x still) (tip_one p w.header x still) names v.queued met h.reaches;
   }
 
-  -- and behind marks of which each is such a one
+  -- and after marks of which each is such a one
   pub StaysLinked-marks : (marks : List (Mark B)) (p : Past B C I) → All (λ m. IsStill {C = C} {I = I} (Made m)) marks
       → TrueNames (setting w stored) (after p marks) → (v : Tables B C I R U) → QueueIsMet p v.queued → StaysLinked p v
       → StaysLinked (after p marks) v

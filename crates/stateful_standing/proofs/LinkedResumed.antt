@@ -1,4 +1,4 @@
--- What was gathered stays linked, and the parents of queued proposals known or lost, behind the requests that go on behind a pause.
+-- What was gathered stays linked, and the parents of queued proposals known or lost, behind the requests that go on after a pause.
 use Rattle.std.proofs.Common.{◌≡◌, ◌≢◌, ◌++◌, ℕ, not, get_or, is_none, List, [], ◌∷◌, All, Option, Some, refl, sym, ap, ◌∙◌, subst}
 use Rattle.std.proofs.lemmas.List.{append_assoc}
 use Rattle.std.proofs.lemmas.List.Elements.{All-nil, All-filter}
@@ -136,7 +136,7 @@ module _ {B C I P R D H G U : Type 0} (w : Workings B C I P R D H G U) (stored h
             let e = get_or m.state.requests k d in
             AreLinked-brought (setting w stored) e.1.request e.1.acquired ((h.gatherings k d l).linked honest answered))
 
-    -- It stays so behind a pause, where those that acquire anew what they need may do so.
+    -- It stays so after a pause, where those that acquire anew what they need may do so.
     pub StaysLinked-resumed : (now : Moment w) (r : Resumes w held m now)
         → ((more : List (Mark B)) → r.mid.marks ≡ m.marks ++ more
         → All (λ e. MayAcquire w stored held base tip (after p more) r.mid.state.pause r.mid.state.anchor r.mid.state.cache e) (unacquired_in r.mid.state.requests))

@@ -47,7 +47,7 @@ module _ {B C I S T : Type 0} (s : Setting B S T) where
   brings_none p t (Started j Candidate d) is b brought = brought
   brings_none p t mark is b brought = absurd is
 
-  -- names that are true are so behind the marks of a request that is served
+  -- names that are true are so after the marks of a request that is served
   pub names-served : (marks : List (Mark B)) (p : Past B C I) (t : ℕ) → AreServedBy t p marks → TrueNames s p → TrueNames s (after p marks)
   names-served [] p t are names = names
   names-served (mark ∷ marks) p t are names = names-served marks (Made mark ∷ p) t are.1 (λ x y has_x has_y. names x y (before x has_x) (before y has_y))

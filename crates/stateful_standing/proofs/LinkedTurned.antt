@@ -1,4 +1,4 @@
--- What was gathered stays linked, and the parents of queued proposals known or lost, behind the end of a run and the requests that
+-- What was gathered stays linked, and the parents of queued proposals known or lost, after the end of a run and the requests that
 -- waited for it.
 use Rattle.std.proofs.Common.{◌≡◌, ◌++◌, ℕ, not, get_or, List, [], ◌∷◌, All, Option, Some, Ok, refl, ◌∙◌, subst}
 use Rattle.std.proofs.lemmas.List.{append_assoc}
@@ -73,7 +73,7 @@ module _ {B C I P R D H G U : Type 0} (w : Workings B C I P R D H G U) (stored :
     names-turned x y has_x has_y = names x y (((IsSamePast-turned (setting w stored) p j how).met x).0 has_x)
         (((IsSamePast-turned (setting w stored) p j how).met y).0 has_y)
 
-    -- it is so behind the end of a run, without the requests that waited for it
+    -- it is so after the end of a run, without the requests that waited for it
     pub StaysLinked-ended : (v left : Tables B C I R U) (points : Digest → Point w) (point : Point w) (next : w.Ids)
         → TablesStand w stored p points point next v → StaysLinked w stored base p v → left.requests ≡ v.requests → left.queued ≡ v.queued
         → StaysLinked w stored base ended_past (released j left)
@@ -176,7 +176,7 @@ module _ {B C I P R D H G U : Type 0} (w : Workings B C I P R D H G U) (stored :
             stays = k.ready.stays;
           }
 
-    -- It stays so behind the last turn of a run, and the requests that waited for it.
+    -- It stays so after the last turn of a run, and the requests that waited for it.
     pub StaysLinked-settled : (count : R → ℕ) (had : Tables B C I R U) → TurnsRun w count m.members j m.state had (Ok (Done o)) → (done last : Moment w)
         → EndsRun w (record m { state = had }) j b o how done → IsReleased w stored q point j b done
         → InTurn (Follows w b how) (released_on j done.state.requests) (record done { state = released j done.state }) last

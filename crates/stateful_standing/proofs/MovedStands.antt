@@ -1,4 +1,4 @@
--- The tables stand between the anchor's move and the resume: as without the pause, and behind the end of a run.
+-- The tables stand between the anchor's move and the resume: as without the pause, and after the end of a run.
 use Rattle.std.proofs.Common.{◌≡◌, ◌↔◌, inl, inr, ℕ, List, ◌∷◌, All, Contains, Option, Some, Ok, refl, sym, ap, ◌∙◌, subst}
 use Rattle.std.proofs.lemmas.List.Elements.{All-push, All-weaker}
 use Rattle.stateful_types.specs.Names.{Named}
@@ -161,7 +161,7 @@ module _ {B C I P R D H G U : Type 0} (w : Workings B C I P R D H G U) (stored :
       (subst (λ (v : Tables B C I R U). IsTold w v.anchor b v.cache ends.cache o how) turns.state ends.told) ends.pause
       (subst (λ (x : Pause). Crosses w.header b x ends.pause) (ap (λ (v : Tables B C I R U). v.pause) turns.state ∙ h.pause_is) ends.crosses)
 
-  -- the anchor has moved behind the end of the run too
+  -- the anchor has moved after the end of the run too
   pub HasMoved-ended : HasMovedSo now.state
   HasMoved-ended = subst (λ (n : Moment w). HasMovedSo n.state) (sym ends.becomes) (record {
     boundary = moved_after.0;
@@ -169,7 +169,7 @@ module _ {B C I P R D H G U : Type 0} (w : Workings B C I P R D H G U) (stored :
     moved = subst (λ (v : Tables B C I R U). HasMoved v.anchor ends.cache moved_after.0) (sym turns.state) moved_after.2;
   })
 
-  -- The tables stand behind the end of a run in its turn, once the anchor has moved, and the requests that waited for it are in
+  -- The tables stand after the end of a run in its turn, once the anchor has moved, and the requests that waited for it are in
   -- hand.
   pub IsReleasedFrom-moved : IsReleasedFrom w stored p points m.state (Made (Ended j how) ∷ Came (Turn j) ∷ p) point j b now
   IsReleasedFrom-moved =

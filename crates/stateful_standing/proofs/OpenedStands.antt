@@ -1,4 +1,4 @@
--- The tables stand behind an opening, where nothing goes on.
+-- The tables stand after an opening, where nothing goes on.
 use Rattle.std.proofs.Common.{◌≡◌, ◌↔◌, inl, inr, ℕ, true, [], ◌∷◌, Option, Some, None, refl, sym, ◌∙◌, subst, arith}
 use Rattle.std.proofs.Common.{nat_cmp}
 use Rattle.std.specs.List.Sorted.{IsStrictlySortedBy}
@@ -53,7 +53,7 @@ pub record IsOpening {B C I S T : Type 0} (s : Setting B S T) (p : Past B C I) (
   pub kept : kept_by p x ≡ None
 
 module _ {B C I S T : Type 0} (s : Setting B S T) (p : Past B C I) (x : Item B C I) (anchor : Anchor) (opening : IsOpening s p x anchor) where
-  -- behind an opening its block alone is known
+  -- after an opening its block alone is known
   only_tip : {d : Digest} → Known s (x ∷ p) d → d ≡ anchor.digest
   only_tip (is_tip {tip = tip} e) = let same : Some tip ≡ Some anchor = sym e ∙ opening.tip in let digests : tip.digest ≡ anchor.digest = cc in digests
   only_tip (kept {b = b} m k l parent) = let no : None ≡ Some b.digest = sym opening.kept ∙ k in absurd (cc)
@@ -72,7 +72,7 @@ module _ {B C I P R D H G U : Type 0} (w : Workings B C I P R D H G U) (stored :
     ]),
   )
 
-  -- the tables stand behind an opening, over the point of the databases alone
+  -- the tables stand after an opening, over the point of the databases alone
   pub TablesStand-opened : NumbersStand (x ∷ p) v.next_job v.next_fetch → TablesStand w stored (x ∷ p) (λ d. point) point next v
   TablesStand-opened numbers = record {
     at_anchor = refl;

@@ -1,4 +1,4 @@
--- The tables stand behind a pause for a finalization.
+-- The tables stand after a pause for a finalization.
 use Rattle.std.proofs.Common.{◌≡◌, ◌≤◌, ◌<◌, ◌==◌, inl, inr, ℕ, Bool, true, false, List, ◌∷◌, Option, Some, None, MatchOption, refl, subst, arith}
 use borrow.Author.Tests.{lt-ltb}
 use Rattle.std.proofs.lemmas.List.Elements.{All-weaker}
@@ -121,7 +121,7 @@ module _ {B C I P R D H G U : Type 0} (w : Workings B C I P R D H G U) (stored :
     wanted = old.wanted;
   }
 
-  -- The tables stand behind a pause for the finalization of a block, where the anchor is the tip.
+  -- The tables stand after a pause for the finalization of a block, where the anchor is the tip.
   pub TablesStand-finalizing : (points : Digest → Point w) (point : Point w) (next : w.Ids) (old new : Tables B C I R U) (marks : List (Mark B)) (boundary : Boundary) → old.pause ≡ Free
       → IsOverTip (setting w stored) p old.anchor b → IsBoundaryOf w.header b old.cache boundary
       → TablesStand w stored p points point next old → Pauses (Some boundary) old new marks → TablesStand w stored (after p (Began ticket b ∷ marks)) points point next new

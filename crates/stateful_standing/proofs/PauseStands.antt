@@ -1,4 +1,4 @@
--- The tables stand behind a pause.
+-- The tables stand after a pause.
 use Rattle.std.proofs.Common.{◌≡◌, ◌≢◌, ◌==◌, not, ℕ, zero, suc, Bool, true, false, List, [], ◌∷◌, map, Any, Contains, Option, Some, None, IsSome, MatchOption, option_map, refl, sym, ◌∙◌, subst, arith}
 use Rattle.std.specs.Ordering.{nat_cmp}
 use Rattle.std.specs.List.Sorted.{IsStrictlySortedBy}
@@ -41,7 +41,7 @@ abbrev gone : {B : Type 0} → List ℕ → List (Mark B)
 gone fetches = map (λ f. Withdrawn f) fetches
 
 module _ {B C I : Type 0} where
-  -- a fetch that is live behind the marks was live, and isn't one of theirs
+  -- a fetch that is live after the marks was live, and isn't one of theirs
   live_before : (f : ℕ) (p : Past B C I) (fs : List ℕ) → live_fetch f (after p (gone fs)) ≡ true → (live_fetch f p ≡ true) × (Contains fs f → ⊥)
   live_before f p [] live = (live, λ c. absurd (omega (arith, c.1)))
   live_before f p (g ∷ fs) live =
@@ -86,7 +86,7 @@ module _ {B C I P R D H G U : Type 0} (w : Workings B C I P R D H G U) (stored :
         runs-gone runs (Made (Withdrawn g) ∷ p) fs (RunsStand-calm w stored p (Made (Withdrawn g)) (withdrawn-IsCalm (setting w stored) p g) points next anchor cache (λ j. record { live = refl; started = refl; turns = refl }) runs h)
 
   module _ (runs : List (ℕ × LiveRun B R)) where
-    -- a request that fetches nothing stands behind the marks
+    -- a request that fetches nothing stands after the marks
     standing-gone : (t : ℕ) (r : Requested B C I) → ((f : ℕ) → r.phase ≡ Fetching f → ⊥) → (p : Past B C I) (fs : List ℕ) → IsStanding w stored p runs t r → IsStanding w stored (after p (gone fs)) runs t r
     standing-gone t r not p [] h = h
     standing-gone t r not p (g ∷ fs) h =
@@ -104,7 +104,7 @@ module _ {B C I P R D H G U : Type 0} (w : Workings B C I P R D H G U) (stored :
         phase (Executing j path) h = h
         phase (Parked path) h = h
 
-    -- the requests stand behind the marks of all live fetches
+    -- the requests stand after the marks of all live fetches
     RequestsStand-gone : (p : Past B C I) (fs : List ℕ) (requests : List (ℕ × Requested B C I)) → ((f : ℕ) → Any (λ (e : ℕ × Requested B C I). e.1.phase ≡ Fetching f) requests → Contains fs f)
         → RequestsStand w stored p runs requests → RequestsStand w stored (after p (gone fs)) runs (map dropped requests)
     RequestsStand-gone p fs requests among h = record {
@@ -118,7 +118,7 @@ module _ {B C I P R D H G U : Type 0} (w : Workings B C I P R D H G U) (stored :
       wanted = λ j live none. h.wanted j live (sym (tickets_dropped j requests) ∙ none);
     }
 
-  -- The tables stand behind a pause, where they stand before its marks with that pause.
+  -- The tables stand after a pause, where they stand before its marks with that pause.
   pub TablesStand-paused : (boundary : Option Boundary) (p : Past B C I) (points : Digest → Point w) (point : Point w) (next : w.Ids) (old new : Tables B C I R U) (marks : List (Mark B))
       → TablesStand w stored p points point next (record old { pause = pause_for boundary }) → Pauses boundary old new marks → TablesStand w stored (after p marks) points point next new
   TablesStand-paused boundary p points point next old new marks s pauses = rw (pauses.state, pauses.marks_are) (record {
@@ -135,7 +135,7 @@ module _ {B C I P R D H G U : Type 0} (w : Workings B C I P R D H G U) (stored :
       still None some = some
       still (Some r) some = some
 
-  -- the tables stand behind a pause for a prune
+  -- the tables stand after a pause for a prune
   pub TablesStand-pruning : (p : Past B C I) (points : Digest → Point w) (point : Point w) (next : w.Ids) (old new : Tables B C I R U) (marks : List (Mark B)) → old.pause ≡ Free
       → TablesStand w stored p points point next old → Pauses None old new marks → TablesStand w stored (after p marks) points point next new
   TablesStand-pruning p points point next old new marks free s pauses = TablesStand-paused None p points point next old new marks (record {

@@ -1,4 +1,4 @@
--- How execution is paused stays so behind what leaves the anchor, the cache and the pause, and behind a turn of a run.
+-- How execution is paused stays so behind what leaves the anchor, the cache and the pause, and after a turn of a run.
 use Rattle.std.proofs.Common.{◌≡◌, ◌++◌, ℕ, List, [], ◌∷◌, All, Option, Some, Result, Ok, Err, inr, refl, sym, ap, ◌∙◌, subst}
 use Rattle.std.proofs.lemmas.List.{append_assoc, append-nil, append_cancel_left}
 use Rattle.std.proofs.lemmas.List.Elements.{All-head, All-tail, All-nil, All-append}
@@ -32,7 +32,7 @@ use Rattle.stateful_standing.proofs.FinalizesBegins.{Finalizes-later}
 use Rattle.stateful_standing.proofs.MovedStands.{HasMoved-ended}
 use Rattle.stateful_standing.proofs.StepsStand.{IsPaused, plain, goes, has_moved}
 
--- the tip stays behind marks that begin and open nothing
+-- the tip stays after marks that begin and open nothing
 pub tip-mild : {B C I : Type 0} (header : _) (p : Past B C I) (marks : List (Mark B)) → All (λ m. IsMild m) marks → tip_of header (after p marks) ≡ tip_of header p
 tip-mild header p [] mild = refl
 tip-mild header p (mark ∷ marks) mild = tip-mild header (Made mark ∷ p) marks (All-tail (λ m. IsMild m) mark marks mild) ∙ (as_before header p mark (All-head (λ m. IsMild m) mark marks mild)).tip
@@ -65,7 +65,7 @@ module _ {B C I P R D H G U : Type 0} (w : Workings B C I P R D H G U) where
 
     module _ (p : Past B C I) (points : Digest → Point w) (point : Point w) (m : Moment w) (s : TablesStand w stored p points point m.next m.state) (names : TrueNames (setting w stored) p) (round : IsRoundOf w stored p m.state.anchor)
         (located : w.kind.point m.members ≡ Some point) (count : R → ℕ) (j : ℕ) (now : Moment w) where
-      -- behind the end of the run
+      -- after the end of the run
       ended_so : (o : Option U) (running : Tables B C I R U) → TurnsRun w count m.members j m.state running (Ok (Done o)) → (settles : Settles w (record m { state = running }) j o now) → IsPaused w stored p m
           → IsPaused w stored (Made (Ended j settles.how) ∷ Came (Turn j) ∷ p) settles.done
       ended_so o running turns settles (plain free tip) =
@@ -97,6 +97,6 @@ module _ {B C I P R D H G U : Type 0} (w : Workings B C I P R D H G U) where
           (IsPaused-left q q settles.done mid refl (λ b h. h) (record { anchor = refl; cache = refl; pause = refl }) (ended_so o running turns settles paused)))
       by running (Err fault) turns settles paused more is = absurd settles
 
-      -- execution is paused as it was, behind a turn of a candidate run and what its answer leads to
+      -- execution is paused as it was, after a turn of a candidate run and what its answer leads to
       pub IsPaused-steps : IsPaused w stored p m → Steps w count m j now → (more : List (Mark B)) → now.marks ≡ m.marks ++ more → IsPaused w stored (after (Came (Turn j) ∷ p) more) now
       IsPaused-steps paused steps more is = by steps.running steps.answer steps.turns steps.settles paused more is

@@ -1,4 +1,4 @@
--- Marks stand in their places: those of all requests that go on behind a pause.
+-- Marks stand in their places: those of all requests that go on after a pause.
 use Rattle.std.proofs.Common.{◌≡◌, ◌++◌, ℕ, List, [], ◌∷◌, Option, IsSome}
 use Rattle.std.proofs.lemmas.List.Elements.{All-nil}
 use Rattle.stateful_types.specs.Names.{Named}

@@ -1,4 +1,4 @@
--- Marks stand in their places: the rule of what goes on behind a pause.
+-- Marks stand in their places: the rule of what goes on after a pause.
 use Rattle.std.proofs.Common.{◌≡◌, ◌≢◌, ℕ, not, List, [], ◌∷◌, All, Option, Some, refl, is_none}
 use Rattle.std.proofs.lemmas.List.Elements.{All-filter}
 use Rattle.std.proofs.lemmas.List.Kept.{AllPairs-filter}
@@ -57,7 +57,7 @@ module _ {B C I P R D H G U : Type 0} (w : Workings B C I P R D H G U) (stored s
         also = on.also;
       }
 
-  -- Each mark that is made behind a pause stands in its place, where those that acquire anew what they need may do so.
+  -- Each mark that is made after a pause stands in its place, where those that acquire anew what they need may do so.
   pub resumes-in_place : (now : Moment w) (r : Resumes w stored_now m now)
       → ((first : KeepsReady w Rule (GoesAlong w) (AreParkedOn w stored stored_now base tip points point other_states) [] p (unparked w m) r.mid) → All (λ e. MayAcquire w stored stored_now base tip (after p first.more) r.mid.state.pause r.mid.state.anchor r.mid.state.cache e) (unacquired_in r.mid.state.requests))
       → KeepsReady w Rule (AcquiresAnew w stored_now) Anew [] p m now

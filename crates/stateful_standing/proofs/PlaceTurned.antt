@@ -106,7 +106,7 @@ module _ {B C I P R D H G U : Type 0} (w : Workings B C I P R D H G U) (stored :
           KeepsReady-then w (IsInPlace w stored base) (Follows w b how) (AreLeft w stored base rel.points point tip other_states b how Orderly) [] (Came (Turn j) ∷ p) m Start last (Ended j how ∷ []) refl ((tt, tt, tt, tt, tt), tt)
           (follow_from (released_on j m.state.requests) refl last start rules)
 
-  -- What stands behind the last turn of a run: each mark from its end on is in its place, and a run that ended in vain is started
+  -- What stands after the last turn of a run: each mark from its end on is in its place, and a run that ended in vain is started
   -- again only for another request.
   pub record IsPlaced (last : Moment w) : Type 0 where
     pub more : List (Mark B)

@@ -40,7 +40,7 @@ module _ {B C I P R D H G U : Type 0} (w : Workings B C I P R D H G U) (stored :
   pub queue-met : (p : Past B C I) (queued : List (ℕ × Proposal B C I)) (recovered : List ℕ) → QueueStands w stored p queued recovered → All (λ e. Met (setting w stored) p e.1.ancestry.first) queued
   queue-met p queued recovered q = λ k d l. proposed-met (setting w stored) p _ _ (q.each k d l).proposes
 
-  -- they are known or lost behind the marks of a request that is served
+  -- they are known or lost after the marks of a request that is served
   pub QueueReaches-served : (base : w.States) (p : Past B C I) (t : ℕ) (marks : List (Mark B)) → AreServedBy t p marks → TrueNames (setting w stored) (after p marks) → (queued : List (ℕ × Proposal B C I)) → All (λ e. Met (setting w stored) p e.1.ancestry.first) queued
       → QueueReaches w stored base p queued → QueueReaches w stored base (after p marks) queued
   QueueReaches-served base p t [] are names queued met all = all

@@ -68,7 +68,7 @@ module _ {B C I P R D H G U : Type 0} (w : Workings B C I P R D H G U) (stored :
           declines = none;
         })))))
 
-    -- Each mark behind the last turn of a build that gave no block keeps the rule on reasons.
+    -- Each mark after the last turn of a build that gave no block keeps the rule on reasons.
     pub built-reason : (count : D → ℕ) (turned : D) → HasTurn w count m.members b.build turned (Ok (Done handed.Wait)) → (now : Moment w) → EndsBuild w (record b { build = turned }) m handed.Wait now → KeepsBehind w (HasItsReason w stored base event all) given m now
     built-reason count turned turn now ends =
         rw ends (record { more = _; marks_are = refl; each = ((tt, tt), ((tt, nothing-built (turn.ends (build_of (asked_by r) provider own (points r.parent.digest) below) n point builds located (in_chain w stored base p points point tip m g b r below chain))), tt)) })

@@ -65,7 +65,7 @@ module _ {B C I P R D H G U : Type 0} (w : Workings B C I P R D H G U) (stored :
   given_up_late Pruning anchor cache g b off unknown parent late = absurd off
   given_up_late (Finalizing boundary) anchor cache g b off unknown parent late = unretained_late w stored base p points point next tip boundary anchor cache g b unknown parent off.1 late
 
-  -- a block that is neither cached nor held isn't known behind its run
+  -- a block that is neither cached nor held isn't known after its run
   failed_unknown : (pause : Pause) (anchor : Anchor) (cache : List (Cached U)) → IsGround w stored base p points point next tip pause anchor cache → (b : Named B) (how : How) → HasEnded w stored base p anchor cache b how → b.digest ≢ anchor.digest → (IsHeld pause b how → ⊥) → (IsIn cache b.digest → ⊥) → IsUnknown (setting w stored) p b.digest
   failed_unknown Free anchor cache g b how ended other not_held out known = elim ((g.stands.knows b.digest).0 known) [ inl own ↦ other own | inr any ↦ out any ]
   failed_unknown Pruning anchor cache g b how ended other not_held out known = elim ((g.stands.knows b.digest).0 known) [ inl own ↦ other own | inr any ↦ out any ]

@@ -1,4 +1,4 @@
--- False verdicts and declines have their reasons: those of all requests that go on behind a pause.
+-- False verdicts and declines have their reasons: those of all requests that go on after a pause.
 use Rattle.std.proofs.Common.{◌≡◌, ℕ, List, [], ◌∷◌, Option}
 use Rattle.std.proofs.lemmas.List.Elements.{All-weaker, All-nil}
 use Rattle.stateful_types.specs.Names.{Named}

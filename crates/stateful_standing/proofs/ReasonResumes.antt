@@ -1,4 +1,4 @@
--- False verdicts and declines have their reasons: the rule of what goes on behind a pause.
+-- False verdicts and declines have their reasons: the rule of what goes on after a pause.
 use Rattle.std.proofs.Common.{◌≡◌, ◌≢◌, ℕ, not, List, [], ◌∷◌, All, Option, Some, get_or, refl, subst, is_none}
 use Rattle.std.proofs.lemmas.List.Elements.{All-filter}
 use Rattle.std.proofs.lemmas.List.Kept.{AllPairs-filter}
@@ -55,7 +55,7 @@ module _ {B C I P R D H G U : Type 0} (w : Workings B C I P R D H G U) (stored h
         open_parked = All-parked (λ x. IsOnOpenWay w stored p tip Free m.state.anchor m.state.cache x.request (Parked x.path)) m.state.requests (λ k d l path is.
             subst (λ (phase : Phase B). IsOnOpenWay w stored p tip Free m.state.anchor m.state.cache (get_or m.state.requests k d).1.request phase) is (ways k d l))
 
-    -- Each mark that is made behind a pause keeps the rule, where those that acquire anew what they need may do so.
+    -- Each mark that is made after a pause keeps the rule, where those that acquire anew what they need may do so.
     pub resumes-reason : (now : Moment w) (r : Resumes w held m now)
         → ((first : KeepsReady w Rule (GoesAlong w) (AreParked w stored held base tip points point event marks other_states) [] p (unparked w m) r.mid) → All (λ e. MayAcquire w stored held base tip (after p first.more) r.mid.state.pause r.mid.state.anchor r.mid.state.cache e) (unacquired_in r.mid.state.requests))
         → KeepsBehind w Rule p m now

@@ -1,4 +1,4 @@
--- False verdicts and declines have their reasons: those behind the last turn of a run.
+-- False verdicts and declines have their reasons: those after the last turn of a run.
 use Rattle.std.proofs.Common.{◌≡◌, inl, inr, ℕ, List, ◌∷◌, Contains, Option, refl, sym, ap, ◌∙◌, subst}
 use Rattle.stateful_types.specs.Names.{Named}
 use Rattle.stateful_types.specs.declared.anchor.Anchor.{Anchor}
@@ -35,7 +35,7 @@ module _ {B C I S T : Type 0} (s : _) (p : Past B C I) (j : ℕ) (how : How) whe
       back b (inr (inr met)) = met
 
 module _ {B C I P R D H G U : Type 0} (w : Workings B C I P R D H G U) (stored : ℕ → Option (Named B)) (b : Named B) (anchor : Anchor) where
-  -- what is cached stays so behind the end of a run
+  -- what is cached stays so after the end of a run
   taken_in : (d : Digest) (batch : U) (old new : List (Cached U)) (how : How) → Takes w.header anchor b batch old new how → IsIn old d → IsIn new d
   taken_in d batch old new how (there any is) in_old = rw is in_old
   taken_in d batch old new how (added out above here is) in_old = rw is (Any-more (λ (e : Cached U). e.digest ≡ d) old _ in_old)

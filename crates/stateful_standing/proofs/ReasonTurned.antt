@@ -134,7 +134,7 @@ module _ {B C I P R D H G U : Type 0} (w : Workings B C I P R D H G U) (stored :
             each = ((tt, tt), k.each);
           }
 
-  -- Each mark behind the last turn of a run keeps the rule: that of its end, and those of the requests that waited for it.
+  -- Each mark after the last turn of a run keeps the rule: that of its end, and those of the requests that waited for it.
   pub settled-reason : (event : Event B C I) (marks : List (Mark B)) (other_states : (n i : w.Ids) (x y : w.States) (c : List (Point w)) → w.kind.issued n ((i, x) ∷ c) → w.kind.issued n ((i, y) ∷ c))
       → (count : R → ℕ) (had : Tables B C I R U) → TurnsRun w count m.members j m.state had (Ok (Done o)) → (done last : Moment w) → EndsRun w (record m { state = had }) j b o how done → IsReleased w stored q point j b done
       → InTurn (Follows w b how) (released_on j done.state.requests) (record done { state = released j done.state }) last → KeepsBehind w (HasItsReason w stored base event marks) (Came (Turn j) ∷ p) m last

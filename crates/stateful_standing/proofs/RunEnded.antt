@@ -1,4 +1,4 @@
--- The tables stand behind the cancel of the last request that waited for a run, which ends.
+-- The tables stand after the cancel of the last request that waited for a run, which ends.
 use Rattle.std.proofs.Common.{rules, ◌≡◌, ◌≢◌, ◌==◌, not, ℕ, true, false, List, [], ◌∷◌, All, Option, Some, None, IsSome, MatchOption, get_or, refl, sym, ap, ◌∙◌, subst}
 use Rattle.std.proofs.lemmas.Bool.{eq-eqb}
 use Rattle.std.proofs.lemmas.List.Kept.{AllPairs-filter}
@@ -47,7 +47,7 @@ module _ {B C I P R D H G U : Type 0} (w : Workings B C I P R D H G U) (stored :
   ended-LeavesJob : (j k : ℕ) → k ≢ j → LeavesJob p (Made (Ended j Cancelled)) k
   ended-LeavesJob j k ne = record { live = rw (differ k j (λ e. ne (sym e))) refl; started = refl; turns = refl }
 
-  -- the other runs stand behind the end of one
+  -- the other runs stand after the end of one
   pub RunsStand-ended : (points : Digest → Point w) (next : w.Ids) (anchor : Anchor) (cache : List (Cached U)) (j : ℕ) (runs : List (ℕ × LiveRun B R)) → RunsStand w stored p points next anchor cache runs
       → RunsStand w stored (Made (Ended j Cancelled) ∷ p) points next anchor cache (without runs j)
   RunsStand-ended points next anchor cache j runs h = record {
@@ -95,7 +95,7 @@ module _ {B C I P R D H G U : Type 0} (w : Workings B C I P R D H G U) (stored :
       none_is None is some = search rules
       none_is (Some v) is some = cc
 
-  -- behind the cancel of the last request that waited for a run
+  -- after the cancel of the last request that waited for a run
   pub TablesStand-ended : TablesStand w stored (ended ∷ given) points point next (record (taken old t) { runs = without old.runs j })
   TablesStand-ended = record {
     at_anchor = s.at_anchor;

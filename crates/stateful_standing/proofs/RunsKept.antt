@@ -1,4 +1,4 @@
--- Live runs go on turning behind requests that are served, behind runs that are taken out, and behind the anchor's move.
+-- Live runs go on turning behind requests that are served, after runs that are taken out, and after the anchor's move.
 use Rattle.std.proofs.Common.{◌≡◌, ◌≢◌, ◌<◌, ℕ, List, [], ◌∷◌, All, Option, Some, get_or, refl, sym, ap, ◌∙◌, subst, arith}
 use Rattle.std.proofs.lemmas.List.Elements.{All-weaker}
 use Rattle.stateful_types.specs.Names.{Named}
@@ -103,7 +103,7 @@ module _ {B C I P R D H G U : Type 0} (w : Workings B C I P R D H G U) (stored :
       (All-weaker (λ (e : ℕ × LiveRun B R). GoesOnTurning w stored base p e.0 e.1) (λ e. e.0 ≢ j → GoesOnTurning w stored base q e.0 e.1)
       (λ e goes other. GoesOnTurning-same w stored base p q same e.0 e.1 (turned e.0 other) goes) live on)
 
-  -- and behind its last turn
+  -- and after its last turn
   pub RunsGoOn-ended : (j : ℕ) (how : How) (turned : LiveRun B R) (live : List (ℕ × LiveRun B R)) → RunsGoOn w stored base p live → RunsGoOn w stored base (Made (Ended j how) ∷ Came (Turn j) ∷ p) (without (put live j turned) j)
   RunsGoOn-ended j how turned live on =
       All-without (λ (e : ℕ × LiveRun B R). GoesOnTurning w stored base q e.0 e.1) (put live j turned) j
@@ -115,7 +115,7 @@ module _ {B C I P R D H G U : Type 0} (w : Workings B C I P R D H G U) (stored :
       q : Past B C I
       q = Made (Ended j how) ∷ Came (Turn j) ∷ p
 
-  -- Behind the anchor's move each run goes on whose parent is at hand before and behind it, with the same states.
+  -- After the anchor's move each run goes on whose parent is at hand before and behind it, with the same states.
   module _ (points now_points : Digest → Point w) (point now_point : Point w) (next ids : w.Ids) (tip now_tip anchor moved_to : Anchor) (pause after_it : Pause) (cache kept : List (Cached U)) (q : Past B C I)
       (g : IsGround w stored base p points point next tip pause anchor cache) (h : IsGround w stored base q now_points now_point ids now_tip after_it moved_to kept) where
     pub GoesOnTurning-moved : (j : ℕ) (run : LiveRun B R) → turns j q ≡ turns j p → IsRunning w stored p points next anchor cache j run → IsRunning w stored q now_points ids moved_to kept j run

@@ -118,7 +118,7 @@ module _ {B C I P R D H G U : Type 0} (w : Workings B C I P R D H G U) (stored :
             let more : turns j p + 1 < n = own_on e.1.block (g.names e.1.block live.block r.met own.met digest) t has n cost in
             rw same (subst (λ (k : ℕ). turns k p + 1 < n) (sym number) more)
 
-    -- Behind a turn that isn't the last the runs go on turning.
+    -- After a turn that isn't the last the runs go on turning.
     pub RunsGoOn-turned : RunsGoOn w stored base p old.runs → RunsGoOn w stored base given new.runs
     RunsGoOn-turned h =
         subst (λ (v : Tables B C I R U). RunsGoOn w stored base given v.runs) (sym turn.state) (All-put (λ (e : ℕ × LiveRun B R). GoesOnTurning w stored base given e.0 e.1) old.runs j (record live { run = turn.turned })

@@ -46,7 +46,7 @@ module _ {B C I : Type 0} (p : Past B C I) where
       go true is = let same : Some (job_of kind d) ≡ Some (job_of other e) = rw is at live.is in absurd (ne (one_kind kind other d e same))
       go false is = record { live = rw is at live.live; is = rw is at live.is }
 
-  -- the live jobs behind the end of one
+  -- the live jobs after the end of one
   pub live-ended_other : (j : ℕ) (how : How) (kind : JobKind) (k : ℕ) (d : Digest) → IsLiveJob k kind d (Made (Ended j how) ∷ p) → (k ≢ j) × IsLiveJob k kind d p
   live-ended_other j how kind k d live = (not_same k j (and_left (not (k == j)) (live_job k p) live.live), record { live = and_right (not (k == j)) (live_job k p) live.live; is = live.is })
 

@@ -64,12 +64,12 @@ module _ {B C I S T : Type 0} (s : Setting B S T) where
         let here : EndsOn s (Made mark ∷ p) d (Made mark) = subst (λ (o : Option ℕ). MatchOption o ⊥ (λ u. StandsOn s (Made mark ∷ p) u d)) (sym ends) (StandsOn-longer s p (Made mark) t d refl stands) in
         (zero, x, omega arith, refl, subst (λ (y : Item B C I). EndsOn s (Made mark ∷ p) d y) (sym first) here)
 
-  -- so it is behind the marks of a request that is served
+  -- so it is after the marks of a request that is served
   pub MayRunAgain-served : (p : Past B C I) (t : ℕ) (marks : List (Mark B)) → AreServedBy t p marks → (d : Digest) → MayRunAgain s p d → MayRunAgain s (after p marks) d
   MayRunAgain-served p t [] are d again = again
   MayRunAgain-served p t (mark ∷ marks) are d again = MayRunAgain-served (Made mark ∷ p) t marks are.1 d (MayRunAgain-mark p mark d (λ j how e. ends_none t mark are.0 j how e) again)
 
-  -- behind the end of a run, as long as it isn't the run's block, or that is known
+  -- after the end of a run, as long as it isn't the run's block, or that is known
   pub MayRunAgain-turned : (p : Past B C I) (j : ℕ) (how : How) (b : Digest) → started_for j p ≡ Some (job_of Candidate b) → ((d : Digest) → MayRunAgain s p d)
       → (d : Digest) → (d ≢ b) ⊎ Known s (Made (Ended j how) ∷ Came (Turn j) ∷ p) b → MayRunAgain s (Made (Ended j how) ∷ Came (Turn j) ∷ p) d
   MayRunAgain-turned p j how b started again d may [] q i other is spent = absurd (go may)

@@ -1,4 +1,4 @@
--- The tables stand behind a run that is started.
+-- The tables stand after a run that is started.
 use Rattle.std.proofs.Common.{◌≡◌, ◌≢◌, ◌==◌, ◌<◌, ℕ, suc, Bool, true, false, List, [], ◌∷◌, All, AllPairs, Option, Some, None, IsSome, get_or, inr, refl, sym, ◌∙◌, subst, arith}
 use Rattle.std.specs.Ordering.{nat_cmp, match_ordering, MatchOrdering}
 use Rattle.std.specs.declared.cmp.Ordering.{Ordering}

@@ -1,4 +1,4 @@
--- The tables stand behind a turn of a candidate run, and what its answer leads to.
+-- The tables stand after a turn of a candidate run, and what its answer leads to.
 use Rattle.std.proofs.Common.{◌≡◌, ℕ, List, [], ◌∷◌, Option, Some, Result, Ok, Err, refl, sym, ap}
 use Rattle.std.proofs.lemmas.List.{append-nil}
 use Rattle.stateful_types.specs.Names.{Named}
@@ -32,7 +32,7 @@ pub data IsPaused {B C I P R D H G U : Type 0} (w : Workings B C I P R D H G U) 
 
 module _ {B C I P R D H G U : Type 0} (w : Workings B C I P R D H G U) (stored : ℕ → Option (Named B)) (point : Point w)
     (other_states : (n i : w.Ids) (x y : w.States) (c : List (Point w)) → w.kind.issued n ((i, x) ∷ c) → w.kind.issued n ((i, y) ∷ c)) where
-  -- What stands behind a turn of a candidate run: where it goes on, the tables over the same points; where it has ended, the
+  -- What stands after a turn of a candidate run: where it goes on, the tables over the same points; where it has ended, the
   -- tables behind what follows.
   pub data IsStepped (p : Past B C I) (points : Digest → Point w) (m : Moment w) (j : ℕ) (now : Moment w) : Type 0 where
     goes_on : StandsBehind w stored (Came (Turn j) ∷ p) points point m now → IsStepped p points m j now
@@ -40,7 +40,7 @@ module _ {B C I P R D H G U : Type 0} (w : Workings B C I P R D H G U) (stored :
 
   module _ (p : Past B C I) (points : Digest → Point w) (m : Moment w) (s : TablesStand w stored p points point m.next m.state) (names : TrueNames (setting w stored) p) (round : IsRoundOf w stored p m.state.anchor)
       (located : w.kind.point m.members ≡ Some point) (drawn : w.kind.issued m.next (point ∷ [])) (count : R → ℕ) (j : ℕ) (now : Moment w) where
-    -- behind a run that goes on
+    -- after a run that goes on
     pub StandsBehind-turned : (running : Tables B C I R U) → TurnsRun w count m.members j m.state running (Ok Pending) → now ≡ record m { state = running } → StandsBehind w stored (Came (Turn j) ∷ p) points point m now
     StandsBehind-turned running turns is =
         let stands : TablesStand w stored (Came (Turn j) ∷ p) points point m.next running = rw turns.state (TablesStand-goes_on w stored p points point m.next m.state s j turns.live turns.live_is m.members located turns.turned turns.turns) in
@@ -60,6 +60,6 @@ module _ {B C I P R D H G U : Type 0} (w : Workings B C I P R D H G U) (stored :
         (IsReleasedFrom-moved w stored p point m j settles.block o settles.how settles.done points s located names round tip moved count running turns settles.ends) settles.ends.becomes (ap (λ (v : Tables B C I R U). v.requests) turns.state) settles.follow)
     stepped paused running (Err fault) turns settles = absurd settles
 
-    -- the tables stand behind a turn of a candidate run
+    -- the tables stand after a turn of a candidate run
     pub IsStepped-by : IsPaused w stored p m → Steps w count m j now → IsStepped p points m j now
     IsStepped-by paused steps = stepped paused steps.running steps.answer steps.turns steps.settles

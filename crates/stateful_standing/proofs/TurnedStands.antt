@@ -1,4 +1,4 @@
--- The tables stand behind a turn: of a job that is no candidate's, and of a run that goes on.
+-- The tables stand after a turn: of a job that is no candidate's, and of a run that goes on.
 use Rattle.std.proofs.Common.{◌≡◌, ◌≢◌, ◌+◌, ◌<◌, ◌==◌, not, ℕ, Bool, true, false, List, [], ◌∷◌, Option, Some, None, MatchOption, get_or, inr, refl, sym, arith}
 use Rattle.std.proofs.lemmas.Bool.{eq-eqb}
 use Rattle.stateful_types.specs.Names.{Named}
@@ -89,7 +89,7 @@ module _ {B C I P R D H G U : Type 0} (w : Workings B C I P R D H G U) (stored :
   abbrev past : Past B C I
   past = Came (Turn j) ∷ p
 
-  -- the tables stand behind a turn of a job that is no candidate's
+  -- the tables stand after a turn of a job that is no candidate's
   pub TablesStand-turn : at old.runs j ≡ None → j < old.next_job → TablesStand w stored (Came (Turn j) ∷ p) points point next old
   TablesStand-turn none drawn = TablesStand-spared w stored p (Came (Turn j)) points point next old (turn-Spares w stored p j old none drawn) s
 
@@ -137,7 +137,7 @@ module _ {B C I P R D H G U : Type 0} (w : Workings B C I P R D H G U) (stored :
       complete = λ k d job. some_put old.runs j now k (s.runs.complete k d (record { live = job.live; is = job.is }));
     }
 
-    -- the tables stand behind a turn of a run that goes on
+    -- the tables stand after a turn of a run that goes on
     pub TablesStand-goes_on : TablesStand w stored (Came (Turn j) ∷ p) points point next (record old { runs = put old.runs j (record live { run = turned }) })
     TablesStand-goes_on = record {
       at_anchor = s.at_anchor;

@@ -7,7 +7,7 @@ use Rattle.stateful_history.specs.declared.mark.Mark.{Mark}
 use Rattle.stateful_history.specs.declared.mark.Mark.TheVariants.{Opened, Converged, Asked, Withdrawn, Started, Ended, Built, Verdict, Answered, Declined, Databases, Began, Applied, BarrierBegun, BarrierDone, Acknowledged, Dropped, Recorded, Dispatched, Pruned, Completed, Stopped}
 use Rattle.stateful_text.specs.declared.shown.Label.{Label}
 use Rattle.stateful_text.specs.Mark.{mark_line}
-use Rattle.stateful_text.specs.Told.{TellsApart, told, Fits, named, NamesTruly}
+use Rattle.stateful_text.specs.MarkMeaning.{TellsApart, told, Fits, named, NamesTruly}
 use Rattle.stateful_text.proofs.Words.{words_of, rest_of}
 use Rattle.stateful_text.proofs.Reading.{mark_of_words, read}
 

@@ -8,7 +8,7 @@ use Rattle.std.specs.BTreeMap.{BTreeMap, get, Updates}
 use Rattle.std.proofs.lemmas.Map.Text.{is_eq-slice_cmp}
 use Rattle.stateful_types.specs.declared.digest.Digest.{Digest}
 use Rattle.stateful_types.specs.Digest.{digest_cmp}
-use Rattle.stateful_text.specs.Index.{is_of, IsIndexFrom}
+use Rattle.stateful_text.specs.LabelIndex.{is_of, IsIndexFrom}
 use Rattle.stateful_text.specs.declared.shown.Label.{Label}
 
 -- the labels with one more in front

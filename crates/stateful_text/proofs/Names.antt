@@ -8,7 +8,7 @@ use Rattle.std.proofs.lemmas.Slice.Eq.{bytes_eq-Decides}
 use Rattle.stateful_types.specs.declared.digest.Digest.{Digest}
 use Rattle.stateful_text.specs.declared.shown.Label.{Label}
 use Rattle.stateful_text.specs.Line.{name_or_hex, name_of}
-use Rattle.stateful_text.specs.Told.{TellsApart}
+use Rattle.stateful_text.specs.MarkMeaning.{TellsApart}
 use Rattle.stateful_text.proofs.Words.{is_plain, is_plain-from_all}
 use Rattle.stateful_text.proofs.Spelled.{bytes_of, bytes_of-hex_of, is_plain-hex_of}
 

@@ -19,7 +19,7 @@ use Rattle.stateful_history.specs.declared.mark.Mark.TheVariants.{Opened, Conver
 use Rattle.stateful_text.specs.declared.shown.Label.{Label}
 use Rattle.stateful_text.specs.Line.{line, name_of}
 use Rattle.stateful_text.specs.Mark.{kind_word, how_word, decision_word, truth_word, asker_word, mark_line}
-use Rattle.stateful_text.specs.Told.{TellsApart, told, Fits}
+use Rattle.stateful_text.specs.MarkMeaning.{TellsApart, told, Fits}
 use Rattle.stateful_text.proofs.Words.{is_plain, ArePlain, words_of, words_of-line, rest_of, rest_of-line}
 use Rattle.stateful_text.proofs.Spelled.{number_of, number_of-decimal, is_plain-decimal, first_of_decimal}
 use Rattle.stateful_text.proofs.Names.{digest_of, digest_of-name_of, is_plain-name_of}

@@ -1,5 +1,5 @@
 pub mod Line
-pub mod Index
+pub mod LabelIndex
 pub mod Mark
 pub mod Transcript
-pub mod Told
+pub mod MarkMeaning

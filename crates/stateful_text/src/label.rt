@@ -19,7 +19,7 @@ pub struct Labels<'a> {
 
 impl<'a> Model for Labels<'a> {
     ghost use Rattle.std.specs.Prelude.{List};
-    ghost use Rattle.stateful_text.specs.Index.{IsIndex};
+    ghost use Rattle.stateful_text.specs.LabelIndex.{IsIndex};
     ghost use Rattle.stateful_text.specs.declared.shown.Label.{Label};
 
     ghost Value = { List Label };

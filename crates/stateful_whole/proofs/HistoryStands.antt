@@ -39,6 +39,12 @@ module _ {B C I P R D H G U : Type 0} (w : Workings B C I P R D H G U) (stored :
   EachStands-last Last Next leads base p (entry ∷ entries) (new, marks_are, b, rest) =
       (new, marks_are, b, EachStands-last Last Next leads b.base_behind (after_entry p entry.event entry.marks) entries rest)
 
+  -- and what doesn't speak of the states on which it is based holds
+  pub EachStands-constant : (X : Type 0) (base : w.States) (p : Past B C I) (entries : List (Entry B C I)) → EachStands w stored (λ last. X) base p entries → X
+  EachStands-constant X base p [] x = x
+  EachStands-constant X base p (entry ∷ entries) (new, marks_are, b, rest) =
+      EachStands-constant X b.base_behind (after_entry p entry.event entry.marks) entries rest
+
 -- Names are true with the whole history, and the store is honest.
 pub history-stands : {B C I P R D H G U : Type 0} (w : Workings B C I P R D H G U) (laws : Laws w.kind) (stored : ℕ → Option (Named B))
     (counts : Counts R D H) (provider : P) → RunsTakeTurns w → BuildsTakeTurns w

@@ -1,4 +1,4 @@
--- What the databases hold behind an event that was refused, whatever past the machine stood for.
+-- What the databases hold after an event that was refused, whatever past the machine stood for.
 use Rattle.std.proofs.Common.{◌≡◌, ◌⊎◌, ◌++◌, ◌∷◌, [], inl, inr, ℕ, true, false, List, Option, refl, sym, ap, ◌∙◌}
 use Rattle.stateful_types.specs.Names.{Named}
 use Rattle.stateful_db.specs.Laws.{Laws}

@@ -1,4 +1,4 @@
--- The media stand behind an event that was refused; and a restart at a height at which the databases can be opened again opens them.
+-- The media stand after an event that was refused; and a restart at a height at which the databases can be opened again opens them.
 use Rattle.std.proofs.Common.{◌≡◌, ◌<◌, ◌^◌, ◌⊎◌, ◌++◌, ◌∷◌, [], inl, inr, ℕ, Bool, true, false, List, Option, Some, refl, sym, ap, ◌∙◌, subst, true≢false}
 use Rattle.stateful_types.specs.Anchor.{anchor_by}
 use Rattle.stateful_types.specs.Causes.{Rose}
@@ -24,7 +24,7 @@ use Rattle.stateful_standing.specs.Storing.{IsStoredNow}
 use Rattle.stateful_keeping.specs.Media.{TargetsRise, KeepsReopenable}
 use Rattle.stateful_keeping.specs.Ways.{HasHonestStore}
 use Rattle.stateful_keeping.proofs.MediaAlong.{left-media, kept-media}
-use Rattle.stateful_keeping.proofs.MediaOpens.{tried-media, refused-memory}
+use Rattle.stateful_keeping.proofs.MediaOpens.{KeepsDurably-crashed, tried-media, refused-memory}
 use Rattle.stateful_keeping.proofs.NamesBehind.{NamesBehind-marks}
 use Rattle.stateful_keeping.proofs.TakenIn.{may_come-live}
 use Rattle.stateful_processing.specs.Intake.{Counts}
@@ -150,7 +150,10 @@ module _ {B C I P R D H G U : Type 0} (w : Workings B C I P R D H G U) (laws : L
       → FaultsOpening w stored_now floor keep before now m.members new e → e ≡ OutOfMemory
   reopens-memory sound few before now rises new e fault =
       refused-memory w laws stored_now floor keep m.members new sound block is_stored few before now rises
-      (λ i within. k.reopenable (reopened_height floor) i block can finds.stored within) e fault
+      (λ crashed is i within.
+      let durably = KeepsDurably-crashed w.kind laws (w.works.meaning.targets block.block) i within m.members crashed keep is
+      (k.reopenable (reopened_height floor) i block can finds.stored within) in
+      record { place = durably.place; at = durably.at }) e fault
 
   -- and opens the databases on the fold's states
   pub reopens-on : TargetsName w → (register : Register) (now : Moment w)

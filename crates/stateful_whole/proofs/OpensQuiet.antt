@@ -1,4 +1,4 @@
--- Behind an opening nothing can go on without another event.
+-- After an opening nothing can go on without another event.
 use Rattle.std.proofs.Common.{◌≡◌, ◌<◌, ℕ, [], List, Option, Some, None, IsSome, inl, inr, sym, ap, ◌∙◌, subst, arith}
 use Rattle.std.proofs.lemmas.Bool.{false≢true}
 use Rattle.stateful_types.specs.Names.{Named}

@@ -1,4 +1,4 @@
--- What stands behind an event other than a restart: it is taken in, what can go on does, and a machine that isn't up any more stops.
+-- What stands after an event other than a restart: it is taken in, what can go on does, and a machine that isn't up any more stops.
 use Rattle.std.proofs.Common.{◌≡◌, ◌≢◌, ◌⊎◌, ◌++◌, ◌∷◌, [], inl, inr, ℕ, true, false, not, List, All, Option, sym, ap, ◌∙◌, subst, append_assoc, true≢false}
 use Rattle.std.specs.List.{Contains}
 use Rattle.std.proofs.lemmas.List.{append_cancel_left}
@@ -95,7 +95,7 @@ module _ {B C I P R D H G U : Type 0} (w : Workings B C I P R D H G U) (laws : L
       (names_live-more (numbered w.kind.count) w.kind.count (numbered_le w.kind.count) p event
       (may_come-live (numbered w.kind.count) p event on may_come_is)) names stores a.takes a.settles.along
 
-  -- where the world is trusted with all marks of the entry, those that were made behind the event have their reasons
+  -- where the world is trusted with all marks of the entry, those that were made after the event have their reasons
   reasons_behind : (marks : List (Mark B)) → NamesBehind w stored base q m settled → (b : EventBehind w stored base q m settled)
       → IsTrusted w stored (after q b.more) → ReasonsUpBehind w stored base event marks q m settled
   reasons_behind marks names b trust =
@@ -124,7 +124,7 @@ module _ {B C I P R D H G U : Type 0} (w : Workings B C I P R D H G U) (laws : L
   names_live_is : names_live (numbered w.kind.count) p event ≡ true
   names_live_is = may_come-live (numbered w.kind.count) p event on may_come_is
 
-  -- tickets are apart behind it, and behind marks
+  -- tickets are apart behind it, and after marks
   apart : (more : List (Mark B)) → VerifiedApart (after q more)
   apart more = VerifiedApart-marks q more (VerifiedApart-came (numbered w.kind.count) p event names_live_is s.restart.apart)
 
@@ -146,7 +146,7 @@ module _ {B C I P R D H G U : Type 0} (w : Workings B C I P R D H G U) (laws : L
   more_are : (more : List (Mark B)) (last : Moment w) → last.marks ≡ m.marks ++ more → more ≡ last.marks
   more_are more last is = sym (is ∙ ap (λ (ms : List (Mark B)). ms ++ more) s.restart.unmarked)
 
-  -- it isn't behind a stop
+  -- it isn't after a stop
   still_up : settled.loop.up ≡ true → event ≡ Stop → ⊥
   still_up still stop = no_rule (subst (λ (e : Event B C I). TakesIn w stored_now counts m a.taken e) stop a.takes)
     where
@@ -291,7 +291,7 @@ module _ {B C I P R D H G U : Type 0} (w : Workings B C I P R D H G U) (laws : L
         stopped_or_broke (inr broke) = inr (BrokeBefore-after (after q b.more) over
             (subst (λ (ms : List (Mark B)). BrokeBefore (after q ms)) (sym first_are) broke))
 
-    -- what is kept behind the marks of the event, and each mark by which live work ends names live work
+    -- what is kept after the marks of the event, and each mark by which live work ends names live work
     kept_first : PastKept w stored (after q b.more)
     kept_first = subst (λ (ms : List (Mark B)). PastKept w stored (after q ms))
         (more_are l.more settled l.marks_are ∙ sym (more_are b.more settled b.marks_are)) (past-kept w stored (after q l.more) settled l.kept)

@@ -1,4 +1,4 @@
--- What the databases hold behind a history, and an event that was refused behind it.
+-- What the databases hold after a history, and an event that was refused behind it.
 use Rattle.std.proofs.Common.{◌≡◌, ◌∷◌, [], ℕ, Bool, false, List, Option, subst}
 use Rattle.stateful_types.specs.Names.{Named}
 use Rattle.stateful_db.specs.Laws.{Laws}
@@ -41,7 +41,7 @@ module _ {B C I P R D H G U : Type 0} (w : Workings B C I P R D H G U) (laws : L
     (failed : Bool) (register : Register) (first last : Moment w) (history : List (Entry B C I))
     (blank : IsNew w failed register first) (unmarked : first.marks ≡ []) (away : w.kind.NoneAway first.members)
     (steps : Steps w stored provider counts [] first history last) where
-  -- what an event left behind any past is what it left behind this history
+  -- what an event left after any past is what it left after this history
   pub leaves-behind : (now : Register) → RegisterStands (numbered w.kind.count) (after_all [] history) now
       → (event : Event B C I) (new : w.kind.Members) → LeavesFurther w stored provider counts event now last new
       → LeavesBehind w stored provider counts event history last new

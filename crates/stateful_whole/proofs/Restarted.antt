@@ -1,4 +1,4 @@
--- What stands behind a restart.
+-- What stands after a restart.
 use Rattle.std.proofs.Common.{◌≡◌, ◌++◌, ◌∷◌, [], inl, inr, ℕ, Bool, true, false, not, if◌then◌else◌, nat_lt, List, All, Option, Some, None, refl, sym, ap, ◌∙◌, subst, true≢false}
 use Rattle.std.proofs.lemmas.List.Elements.{All-push}
 use Rattle.stateful_types.specs.Anchor.{anchor_by}
@@ -114,7 +114,7 @@ module _ {B C I P R D H G U : Type 0} (w : Workings B C I P R D H G U) (laws : L
     each_restart Rule ends_over opens_here =
         subst (λ (ms : List (Mark B)). EachMark Rule q ms) (sym all_are) (EachMark-push Rule q over (Opened anchor) ends_over opens_here)
 
-    -- what is kept behind the restart, and each mark by which live work ends names live work
+    -- what is kept after the restart, and each mark by which live work ends names live work
     kept_first : PastKept w stored q
     kept_first = past-kept-came w stored (numbered w.kind.count) p event refl held
 

@@ -1,4 +1,4 @@
--- Put together: what stands behind an event and some marks is what stands behind the step that made them.
+-- Put together: what stands after an event and some marks is what stands behind the step that made them.
 use Rattle.std.proofs.Common.{◌≡◌, ◌∷◌, [], ℕ, Bool, true, false, not, ◌&&◌, if◌then◌else◌, List, All, Option, Some, refl, sym, ap, ◌∙◌, subst}
 use Rattle.stateful_types.specs.Names.{Named}
 use Rattle.stateful_history.specs.Canonical.{pruned_below}
@@ -69,7 +69,7 @@ module _ {B C I P R D H G U : Type 0} (w : Workings B C I P R D H G U) (stored :
   q = Came event ∷ p
 
   module _ (next : w.States) (marks : List (Mark B)) where
-    -- What stands behind the event and these marks.
+    -- What stands after the event and these marks.
     pub record PartsStand : Type 0 where
       pub base_is : next ≡ base_after base marks (w.kind.point now.members)
       pub earned : EachMark (TrueIsEarned (setting w stored) next) (Came event ∷ p) marks

@@ -65,7 +65,7 @@ module _ {B C I P R D H G U : Type 0} (w : Workings B C I P R D H G U) (stored :
     at = λ works. absurd (true≢false (sym fails ∙ works));
   }
 
--- what stands for the past stands for it behind a refusal
+-- what stands for the past stands for it after a refusal
 pub Stands-refused : {B C I P R D H G U : Type 0} (w : Workings B C I P R D H G U) (stored : ℕ → Option (Named B)) (base : w.States) (p : Past B C I)
     (event : Event B C I) (failed : Bool) (register : Register) (m : Moment w) → failed ≡ true → Stands w stored base p failed register m
     → Stands w stored base (behind_refusal event p) failed register m

@@ -48,7 +48,7 @@ module _ {B C I : Type 0} where
 
   module _ (make : ℕ → Mark B) (Live : ℕ → Past B C I → Type 0) (names : (q : Past B C I) (n : ℕ) → Live n q → NamesWork q (make n))
       (stays : (q : Past B C I) (n k : ℕ) → (k == n) ≡ false → Live k q → Live k (Made (make n) ∷ q)) where
-    -- what is live is so behind the marks of others
+    -- what is live is so after the marks of others
     live_each : (q : Past B C I) (ns : List ℕ) → AllPairs (λ x y. x < y) ns → All (λ n. Live n q) ns → EachMark NamesWork q (map make ns)
     live_each q [] apart live = tt
     live_each q (n ∷ ns) apart live = (

@@ -71,7 +71,7 @@ module _ {B C I P R D H G U : Type 0} (w : Workings B C I P R D H G U) (stored :
   work-in_place base p (m ∷ marks) gone each =
       (one_in_place base p gone m each.0, work-in_place base (Made m ∷ p) marks (gone-mark p m gone) each.1)
 
-  -- and what a past keeps is kept behind them, and behind the mark of a stop
+  -- and what a past keeps is kept behind them, and after the mark of a stop
   pub past-work : (p : Past B C I) (marks : List (Mark B)) → EachMark NamesWork p marks → PastKept w stored p → PastKept w stored (after p marks)
   past-work p marks each h = past-kept-ends w stored p marks (end_no_run p marks each) (ask_nothing p marks each) (still_whole p marks each) h
 

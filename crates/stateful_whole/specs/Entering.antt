@@ -16,7 +16,7 @@ use Rattle.stateful_whole.specs.Steps.{IsStep}
 module _ {B C I P R D H G U : Type 0} (w : Workings B C I P R D H G U)
     (stored : ℕ → Option (Named B))
     (provider : P) (counts : Counts R D H) where
-  -- From one moment behind a past on, the entries were taken in one after another: each event may
+  -- From one moment after a past on, the entries were taken in one after another: each event may
   -- come behind those before it, its entry has the marks of its step, and the register stood for
   -- those before it. And so on to the moment behind the last one.
   abbrev pub Steps : Past B C I → Moment w → List (Entry B C I) → Moment w → Type 0

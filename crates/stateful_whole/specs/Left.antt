@@ -53,7 +53,7 @@ module _ {B C I P R D H G U : Type 0} (w : Workings B C I P R D H G U)
           → HasHonestStore w.header stored (Came event ∷ p)
           → HoldsFurther (setting w stored) w.kind base p event new
 
-    -- The same behind a history that began with a new machine, of the states on which it is based
+    -- The same after a history that began with a new machine, of the states on which it is based
     -- at last.
     pub record LeavesBehind (history : List (Entry B C I)) (m : Moment w) (new : w.kind.Members)
         : Type 0 where

@@ -1,4 +1,4 @@
--- What the media stand for between two events, and behind an event that was refused.
+-- What the media stand for between two events, and after an event that was refused.
 use Rattle.std.specs.Prelude.{◌≡◌, ◌⊎◌, ◌<◌, ◌^◌, ◌∷◌, [], ℕ, Bool, true, false, Option, Some, List}
 use Rattle.stateful_types.specs.Names.{Named}
 use Rattle.stateful_history.specs.Met.{TrueNames}
@@ -21,14 +21,14 @@ use Rattle.stateful_whole.specs.Left.{LeavesPlay}
 use Rattle.stateful_whole.specs.Stands.{Stands}
 
 module _ {B C I : Type 0} where
-  -- the past behind an event that was refused: where it was a restart, one was tried at its height
+  -- the past after an event that was refused: where it was a restart, one was tried at its height
   abbrev pub behind_refusal : Event B C I → Past B C I → Past B C I
   behind_refusal (Restart floor keep) p = Tried (record { 0 = reopened_height floor }) ∷ p
   behind_refusal event p = p
 
 module _ {B C I P R D H G U : Type 0} (w : Workings B C I P R D H G U) where
   module _ (stored : ℕ → Option (Named B)) where
-    -- The media keep each height at which the databases can be opened again behind this past. While
+    -- The media keep each height at which the databases can be opened again after this past. While
     -- the machine is up, and hasn't failed, they keep those too that were applied and aren't
     -- durable yet.
     pub record MediaStand (p : Past B C I) (failed : Bool) (m : Moment w) : Type 0 where
@@ -69,7 +69,7 @@ module _ {B C I P R D H G U : Type 0} (w : Workings B C I P R D H G U) where
   LeavesRestart stored_now event old new = Unit {0}
 
   -- What an event that was refused left, with the marks that its intake made, if it made any.
-  -- Whatever past the machine and the media stood for, they stand for it behind the refusal, where
+  -- Whatever past the machine and the media stood for, they stand for it after the refusal, where
   -- names are true with the event and these marks, the store is honest and its targets rise, and
   -- databases are fewer than 2^64.
   pub record LeavesMedia (stored_now : ℕ → Option (Named B)) (provider : P) (counts : Counts R D H)

@@ -38,7 +38,7 @@ module _ {B C I P R D H G U : Type 0} (w : Workings B C I P R D H G U)
   IsCommittedTo base mark = Unit {0}
 
   module _ (base : w.States) (p : Past B C I) (event : Event B C I) (now : Moment w) where
-    -- Behind an event and its marks the history is based on these states: what the databases hold,
+    -- After an event and its marks the history is based on these states: what the databases hold,
     -- where it was opened, to which the store's block commits, and else those before. True verdicts
     -- among the marks are earned over them; false ones and declined proposals have their reasons,
     -- where the world is trusted; those of barriers and acknowledgements keep their rules, and so

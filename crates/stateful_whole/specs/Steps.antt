@@ -19,7 +19,7 @@ use Rattle.stateful_processing.specs.Rules.{Along, Quiet}
 use Rattle.stateful_whole.specs.Machine.{numbered}
 
 module _ {B C I : Type 0} (count : ℕ) (register : Register) where
-  -- behind an event with these marks all live work ends by further ones, whatever past the register
+  -- after an event with these marks all live work ends by further ones, whatever past the register
   -- stands for
   abbrev pub EndsWork : Event B C I → (marks now : List (Mark B)) → Type 0
   EndsWork event marks now = (p : Past B C I) → RegisterStands (numbered count) p register

@@ -5,11 +5,12 @@ use Rattle.stateful_exec.specs.Workings.{workings}
 use Rattle.stateful_register.proofs.Entries.{RegisterStands-none}
 use Rattle.stateful_processing.specs.Moments.{moment}
 use Rattle.stateful_whole.specs.Stands.{Stands}
-use Rattle.stateful_whole.proofs.HistoryStands.{history-registered, history-leaves}
+use Rattle.stateful_whole.proofs.HistoryStands.{EachStands-constant, history-registered, history-leaves}
 use Rattle.stateful_whole.proofs.RefusedBehind.{leaves-behind}
 use Rattle.stateful_actor.specs.Faults.{tally}
 use Rattle.stateful_actor.proofs.Adding.{event_at, events-push, Steps-push}
 use Rattle.stateful_actor.proofs.Lawfully.{refused-outside}
+use Rattle.stateful_actor.proofs.Working.{never, cause-not_failed}
 use Rattle.stateful_actor.proofs.Counts.{HasNotFallen-itself, HasNotFallen-further}
 use Rattle.stateful_actor.proofs.driving.drive.Goals as goal
 
@@ -86,6 +87,18 @@ returns-in-Err-clause-refused g c =
             (λ f states b n is. takes.runs f states b n is) (λ asked states n is. takes.builds asked states n is)
             _ _ _ _ was.history.items c.requires.new refl c.requires.none_away i.steps was.stateful.register i.registered c.in-Some.event other
             _ _ _ _ (rw (i.store, i.provider) at c.in-Err.ensures.cause) few base names honest;
+        restarts = rw i.store at c.in-Err.ensures.restarts;
+        works = λ base names honest failed.
+            let takes = g.met.A.Application.takes_turns in
+            EachStands-constant w (g.S.BlockStore.stored c.args.store.now) _ base [] was.history.items
+            (history-leaves w g.met.A.Databases.DatabaseSet.laws (g.S.BlockStore.stored c.args.store.now) _ c.args.stateful.provider
+            (λ f states b n is. takes.runs f states b n is) (λ asked states n is. takes.builds asked states n is)
+            _ _ _ _ was.history.items c.requires.new refl c.requires.none_away i.steps names honest base
+            false was.stateful.register i.registered _
+            (λ last s. never _ (cause-not_failed w g.met.A.Databases.DatabaseSet.laws (g.S.BlockStore.stored c.args.store.now)
+            (g.S.BlockStore.stored c.args.store.now) _ c.args.stateful.provider last (after_all [] was.history.items) c.in-Some.event _
+            (s.stands.at refl) (i.safe.sound i.working) was.stateful.register i.registered _ _ _ _
+            (rw (i.store, i.provider) at c.in-Err.ensures.cause)) failed));
       }),
     )
 

@@ -3,6 +3,7 @@ use Rattle.stateful_history.specs.Past.{after_all}
 use Rattle.stateful_exec.specs.Workings.{workings}
 use Rattle.stateful_processing.proofs.Handing.{converted, err_holds}
 use Rattle.stateful_processing.specs.Moments.{moment}
+use Rattle.stateful_processing.specs.declared.error.StepError.TheVariants.{OutOfMemory}
 use Rattle.stateful_whole.specs.Stands.{StandsAsWell}
 use Rattle.stateful_whole.proofs.LeftFurther.{unmoved-further}
 use Rattle.stateful_actor.proofs.Adding.{registered-longer}
@@ -62,3 +63,20 @@ pub returns-in_err-marks-clause-calm : goal.returns-in_err-marks-clause-calm
 returns-in_err-marks-clause-calm g c =
     err_holds c.from_residual-in_err-marks.result
     (λ working. (only_bad c.in_err-marks.field-0.0 _ _ c.in_err-marks.ensures.fails (λ is. c.in_err-marks.ensures.unchanged (ap Err is)) working).1)
+
+pub returns-in_err-reserve-clause-restarts : goal.returns-in_err-reserve-clause-restarts
+returns-in_err-reserve-clause-restarts g c =
+    converted _ c.from_residual.result OutOfMemory c.from_residual.ensures.1 (λ floor keep is finds few rises. refl)
+
+pub returns-in_err-kept-clause-restarts : goal.returns-in_err-kept-clause-restarts
+returns-in_err-kept-clause-restarts g c =
+    converted _ c.from_residual-in_err-kept.result OutOfMemory c.from_residual-in_err-kept.ensures.1 (λ floor keep is finds few rises. refl)
+
+pub returns-in_err-marks-clause-restarts : goal.returns-in_err-marks-clause-restarts
+returns-in_err-marks-clause-restarts g c =
+    converted _ c.from_residual-in_err-marks.result c.in_err-marks.field-0.0 c.from_residual-in_err-marks.ensures.1
+    (λ floor keep is finds few rises. c.in_err-marks.ensures.restarts floor keep is finds few rises)
+
+pub returns-in_err-push-clause-restarts : goal.returns-in_err-push-clause-restarts
+returns-in_err-push-clause-restarts g c =
+    converted _ c.from_residual-in_err-push.result OutOfMemory c.from_residual-in_err-push.ensures.1 (λ floor keep is finds few rises. refl)

@@ -15,6 +15,7 @@ use Rattle.stateful_actor.specs.Faults.{fault}
 use Rattle.stateful_actor.proofs.Arms.{refused_at_once}
 use Rattle.stateful_actor.proofs.Lawfully.{step-ahead, step-jobs, admit-lawful, cause-outside}
 use Rattle.stateful_actor.proofs.Reopening.{reopens-refused, reopens-done}
+use Rattle.stateful_actor.proofs.Working.{never, cause-not_failed, restart-memory}
 use Rattle.stateful_actor.proofs.ResultsOfCalls.{on_err, if_err, in_ok, in_err, of_err, match_err}
 use Rattle.stateful_actor.proofs.stateful.Stateful.step.Goals as goal
 
@@ -264,3 +265,46 @@ returns-in_err-record-clause-complete g c =
     rw (← c.self.view_is)
     (converted _ c.from_residual-in_err-record.result OutOfMemory c.from_residual-in_err-record.ensures.1
     (λ stored base p s stored_is honest ahead lawful working other few. tt))
+
+pub returns-in_err-admit-clause-working : goal.returns-in_err-admit-clause-working
+returns-in_err-admit-clause-working g c =
+    rw (← c.self.view_is)
+    (converted _ c.from_residual.result c.in_err-admit.field-0.0 c.from_residual.ensures.1
+    (λ stored base p s works is. true≢false (sym (c.in_err-admit.ensures.failed is).0 ∙ works)))
+
+pub returns-in-Err-clause-working : goal.returns-in-Err-clause-working
+returns-in-Err-clause-working g c =
+    let D = g.A.Databases.DatabaseSet in
+    let w = workings g.A.Block.Block.header g.A.Block.Block.context_of g.A.Context.Rounded.round_of g.A.Application.works D.kind D.shows in
+    let faulted = rw c.new-marks.ensures.items at (of_err _ _ _ c.in-Err.is c.act-acted.ensures.fault) in
+    let safe = rw c.self.view_is at c.requires in
+    rw (← c.self.view_is)
+    (λ stored base p s works is.
+    never _ (cause-not_failed w g.met.A.Databases.DatabaseSet.laws stored (g.S.BlockStore.stored c.args.store.now) _ _ base p c.args.event _
+    (s.at works) (safe.sound works) _ s.registered _ _ _ _
+    (fault (λ q stands. c.in_ok-admit.ensures.yes q stands) faulted)) is)
+
+pub returns-in_err-record-clause-working : goal.returns-in_err-record-clause-working
+returns-in_err-record-clause-working g c =
+    rw (← c.self.view_is)
+    (converted _ c.from_residual-in_err-record.result OutOfMemory c.from_residual-in_err-record.ensures.1
+    (λ stored base p s works is. cc))
+
+pub returns-in_err-admit-clause-restarts : goal.returns-in_err-admit-clause-restarts
+returns-in_err-admit-clause-restarts g c =
+    if_err c.from_residual.result _ (λ e floor keep is finds few rises.
+    absurd (true≢false (sym (ap is_restart is) ∙ c.in_err-admit.ensures.other)))
+
+pub returns-in-Err-clause-restarts : goal.returns-in-Err-clause-restarts
+returns-in-Err-clause-restarts g c =
+    let D = g.A.Databases.DatabaseSet in
+    let w = workings g.A.Block.Block.header g.A.Block.Block.context_of g.A.Context.Rounded.round_of g.A.Application.works D.kind D.shows in
+    let faulted = rw c.new-marks.ensures.items at (of_err _ _ _ c.in-Err.is c.act-acted.ensures.fault) in
+    λ floor keep is finds few rises.
+    restart-memory w g.met.A.Databases.DatabaseSet.laws (g.S.BlockStore.stored c.args.store.now) _ _ c.args.event floor keep _ _ _ _ _ is finds
+    (g.met.A.Databases.DatabaseSet.sound c.args.databases.now) few rises faulted
+
+pub returns-in_err-record-clause-restarts : goal.returns-in_err-record-clause-restarts
+returns-in_err-record-clause-restarts g c =
+    converted _ c.from_residual-in_err-record.result OutOfMemory c.from_residual-in_err-record.ensures.1
+    (λ floor keep is finds few rises. refl)

@@ -1,7 +1,7 @@
 use Rattle.std.proofs.Common.{◌≡◌, ◌∙◌, ℕ, List, None, ◌<◌, length, slice_get, sym, subst, arith}
 use Rattle.std.specs.List.{find}
 use Rattle.std.specs.Option.{option_copied}
-use Rattle.stateful_text.specs.Index.{is_of}
+use Rattle.stateful_text.specs.LabelIndex.{is_of}
 use Rattle.stateful_text.specs.declared.shown.Label.{Label}
 use Rattle.stateful_text.proofs.Index.{IsFound-at, find-none, copied-get}
 use Rattle.stateful_text.proofs.label.Labels.first.Goals as goal

@@ -1,5 +1,5 @@
 use Rattle.std.proofs.Common.{◌≡◌, ◌<◌, ◌+◌, ◌-◌, ℕ, suc, List, length, get_or, drop, sym, subst, arith}
-use Rattle.stateful_text.specs.Index.{IsIndexFrom}
+use Rattle.stateful_text.specs.LabelIndex.{IsIndexFrom}
 use Rattle.stateful_text.specs.declared.shown.Label.{Label}
 use Rattle.stateful_text.proofs.Index.{IsIndex-front, drop-cons}
 use Rattle.stateful_text.proofs.label.Labels.new.Goals as goal

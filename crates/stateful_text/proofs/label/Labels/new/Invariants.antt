@@ -1,5 +1,5 @@
 use Rattle.std.proofs.Common.{drop}
-use Rattle.stateful_text.specs.Index.{IsIndexFrom}
+use Rattle.stateful_text.specs.LabelIndex.{IsIndexFrom}
 use Rattle.stateful_text.proofs.label.Labels.new.Given as goal
 
 abbrev pub invariant-loop-place : goal.invariant-loop-place

@@ -1,4 +1,4 @@
--- The rows of a run: each status, and what it says of the words, the bytes and the faults.
+-- The statuses of a run, and what each says of the words, the bytes and the faults.
 use Rattle.std.specs.Prelude.{ℕ, ◌≡◌, ◌<◌, ◌≤◌, ◌⊎◌, ◌*◌, ◌==◌, ◌&&◌, Bool, true, false, List, []}
 use Rattle.std.specs.Prelude.{String, string_bytes, Option, Some, None, Ok, Err, IfSome, length}
 use Rattle.std.specs.Prelude.{take, codes}
@@ -84,8 +84,7 @@ IsHaltedAt (Some halted) at = halted.at ≡ at
 abbrev pub HoldsPart : Known → Known → Bool → Known → Known → Type 0
 HoldsPart left left_after play out out_after =
     Appends out out_after []
-    ⊎
-    ((p : Option Played)
+    ⊎ ((p : Option Played)
     × (text : List ℕ)
     × AsksFor left left_after play p text
     × HoldsPrefix out out_after text)
