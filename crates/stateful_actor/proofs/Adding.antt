@@ -68,3 +68,10 @@ pub registered-longer : {B C I : Type 0} (count : ℕ) (history longer : List (E
 registered-longer {B} {C} {I} count history longer entry register is stands =
     subst (λ (p : Past B C I). RegisterStands count p register)
     (sym (ap (λ (h : List (Entry B C I)). after_all [] h) is ∙ after_all-push [] history entry)) stands
+
+-- the past of a history an entry longer
+pub longer-past : {B C I : Type 0} (history longer : List (Entry B C I)) (event : Event B C I) (marks : List (Mark B))
+    → longer ≡ history ++ record { event = event; marks = marks } ∷ []
+    → after_all [] longer ≡ after_entry (after_all [] history) event marks
+longer-past {B} {C} {I} history longer event marks is =
+    ap (λ (h : List (Entry B C I)). after_all [] h) is ∙ after_all-push [] history (record { event = event; marks = marks })

@@ -7,3 +7,4 @@ pub mod ResultsOfCalls
 pub mod Reopening
 pub mod Lawfully
 pub mod Working
+pub mod MediaLonger

@@ -9,6 +9,8 @@ ghost use Rattle.stateful_history.specs.declared.mark.Mark.{Mark as Marked};
 ghost use Rattle.stateful_history.specs.Live.{may_come};
 ghost use Rattle.stateful_register.specs.Register.{RegisterStands};
 ghost use Rattle.stateful_standing.specs.Setting.{setting};
+ghost use Rattle.stateful_standing.specs.Storing.{IsStoredNow};
+ghost use Rattle.stateful_keeping.specs.Media.{TargetsRise};
 ghost use Rattle.stateful_keeping.specs.Ways.{HasHonestStore};
 ghost use Rattle.stateful_processing.specs.Moments.{moment};
 ghost use Rattle.stateful_whole.specs.Entering.{Steps};
@@ -16,6 +18,7 @@ ghost use Rattle.stateful_actor.specs.Driving.{IsRefused, RefusesRestart};
 ghost use Rattle.stateful_actor.specs.Faults.{tally, HasNotFallen, IsCause};
 ghost use Rattle.stateful_whole.specs.Left.{LeavesFurther};
 ghost use Rattle.stateful_whole.specs.Machine.{is_restart, IsSafe, IsNew, numbered};
+ghost use Rattle.stateful_whole.specs.Media.{MediaStand, StandsOnMedia};
 ghost use Rattle.stateful_whole.specs.Stands.{StandsAsWell};
 ghost use Rattle.stateful_whole.specs.StepBehind.{EachStands, StandsAndHolds};
 ghost use Rattle.stateful_whole.specs.Steps.{IsStep};
@@ -77,6 +80,21 @@ fn enter<A: Application + Drop, S: BlockStore<A::Block>>(
         ≡ true)
         × RegisterStands (numbered A.Databases.kind.count) (after_all [] driven.new.history.items)
         driven.new.stateful.register) }
+    ensures media { OnOk result (let w = ⟦<A as Worked>⟧.workings in
+        (base : A.Databases.States)
+        → StandsOnMedia w (S.stored store.old) base (after_all [] driven.old.history.items)
+        driven.old.stateful.failed driven.old.stateful.register
+        (moment w driven.old.stateful.execution driven.old.stateful.loop
+        (A.Databases.members driven.old.databases) (A.Databases.next driven.old.databases) [])
+        → IsStoredNow (S.stored store.old) (after_all [] driven.old.history.items)
+        (S.stored store.old)
+        → TrueNames (setting w (S.stored store.old)) (after_all [] driven.new.history.items)
+        → HasHonestStore A.Block.header (S.stored store.old)
+        (after_all [] driven.new.history.items)
+        → TargetsRise w (S.stored store.old)
+        → MediaStand w (S.stored store.old) (after_all [] driven.new.history.items) false
+        (moment w driven.new.stateful.execution driven.new.stateful.loop
+        (A.Databases.members driven.new.databases) (A.Databases.next driven.new.databases) [])) }
     ensures err { OnErr result (driven.new.history.items ≡ driven.old.history.items) }
     ensures still { OnErr result (let w = ⟦<A as Worked>⟧.workings in
         StandsAsWell w driven.old.stateful.failed driven.old.stateful.register
@@ -191,6 +209,21 @@ pub fn drive<A: Application + Drop, S: BlockStore<A::Block>>(
         (moment w halt.driven.stateful.execution halt.driven.stateful.loop
         (A.Databases.members halt.driven.databases) (A.Databases.next halt.driven.databases) []))
         base [] halt.driven.history.items) }
+
+    // At the end the media keep what can be opened again after the history, where they stood for
+    // the start, names are true, the store is honest and its targets rise.
+    ensures media { IfOk result (λ driven. let w = ⟦<A as Worked>⟧.workings in
+        A.Databases.States
+        → MediaStand w (S.stored store.old) [] stateful.failed
+        (moment w stateful.execution stateful.loop
+        (A.Databases.members databases) (A.Databases.next databases) [])
+        → TrueNames (setting w (S.stored store.old)) (after_all [] driven.history.items)
+        → HasHonestStore A.Block.header (S.stored store.old) (after_all [] driven.history.items)
+        → TargetsRise w (S.stored store.old)
+        → MediaStand w (S.stored store.old) (after_all [] driven.history.items)
+        driven.stateful.failed
+        (moment w driven.stateful.execution driven.stateful.loop
+        (A.Databases.members driven.databases) (A.Databases.next driven.databases) [])) }
 
     // The machine works at the end, and its register stands for the history; it may be called again
     // with these databases.

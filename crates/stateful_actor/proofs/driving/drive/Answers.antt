@@ -8,8 +8,9 @@ use Rattle.stateful_whole.specs.Stands.{Stands}
 use Rattle.stateful_whole.proofs.HistoryStands.{EachStands-constant, history-registered, history-leaves}
 use Rattle.stateful_whole.proofs.RefusedBehind.{leaves-behind}
 use Rattle.stateful_actor.specs.Faults.{tally}
-use Rattle.stateful_actor.proofs.Adding.{event_at, events-push, Steps-push}
+use Rattle.stateful_actor.proofs.Adding.{event_at, events-push, longer-past, Steps-push}
 use Rattle.stateful_actor.proofs.Lawfully.{refused-outside}
+use Rattle.stateful_actor.proofs.MediaLonger.{media-longer}
 use Rattle.stateful_actor.proofs.Working.{never, cause-not_failed}
 use Rattle.stateful_actor.proofs.Counts.{HasNotFallen-itself, HasNotFallen-further}
 use Rattle.stateful_actor.proofs.driving.drive.Goals as goal
@@ -24,6 +25,7 @@ loop-event-init g c = record {
     none_away = c.requires.none_away;
     sound = λ works. record { none_away = c.requires.none_away; up = λ up. let down = c.requires.new.down in absurd cc };
   };
+  media = λ base start names honest rise. rw c.new.ensures.items start;
   store = refl;
   provider = refl;
   working = c.requires.new.working;
@@ -51,6 +53,16 @@ loop-event-preserved g c =
           (D.next now.databases) adds.0) i.steps registers.0 i.registered stepped);
       registered = registers.1;
       safe = c.in-Ok.ensures.safe;
+      media = λ base start names honest rise.
+          let takes = g.met.A.Application.takes_turns in
+          let stored = g.S.BlockStore.stored c.args.store.now in
+          rw c.in-Ok.ensures.works (media-longer w g.met.A.Databases.DatabaseSet.laws stored _ c.args.stateful.provider
+          (λ f states b n is. takes.runs f states b n is) (λ asked states n is. takes.builds asked states n is) rise
+          _ _ _ _ was.history.items c.requires.new refl c.requires.none_away i.steps was.stateful.register i.registered
+          c.in-Some.event adds.0 _ _ (longer-past was.history.items _ c.in-Some.event adds.0 adds.1)
+          (λ names_before honest_before. rw (← i.working) (i.media base start names_before honest_before rise))
+          (λ b stands stored_is named honest_now rising. (rw (i.store, i.working) at c.in-Ok.ensures.media) b stands stored_is named honest_now rising)
+          base names honest);
       store = c.in-Ok.ensures.same.0 ∙ i.store;
       provider = c.in-Ok.ensures.same.1 ∙ i.provider;
       working = c.in-Ok.ensures.works;
@@ -135,3 +147,6 @@ returns-in-Err-clause-still_stands g c =
           (moment w was.stateful.execution was.stateful.loop (D.members was.databases) (D.next was.databases) [])) (sym i.working) s.stands);
       holds = λ works. rw (c.in-Err.ensures.calm works) (s.holds refl);
     }))
+
+pub returns-clause-media : goal.returns-clause-media
+returns-clause-media g c = c.loop-event.invariant.media

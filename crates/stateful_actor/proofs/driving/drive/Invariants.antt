@@ -1,11 +1,16 @@
 use Rattle.std.proofs.Common.{◌≡◌, ◌++◌, false, [], map}
+use Rattle.stateful_history.specs.Met.{TrueNames}
 use Rattle.stateful_history.specs.Past.{after_all}
+use Rattle.stateful_standing.specs.Setting.{setting}
+use Rattle.stateful_keeping.specs.Media.{TargetsRise}
+use Rattle.stateful_keeping.specs.Ways.{HasHonestStore}
 use Rattle.stateful_register.specs.Register.{RegisterStands}
 use Rattle.stateful_exec.specs.Workings.{workings}
 use Rattle.stateful_processing.specs.Moments.{moment}
 use Rattle.stateful_whole.specs.Entering.{Steps}
 use Rattle.stateful_actor.specs.Faults.{tally, HasNotFallen}
 use Rattle.stateful_whole.specs.Machine.{IsSafe, numbered}
+use Rattle.stateful_whole.specs.Media.{MediaStand}
 use Rattle.stateful_actor.proofs.driving.drive.Given as goal
 
 abbrev pub invariant-loop-event : goal.invariant-loop-event
@@ -22,6 +27,14 @@ invariant-loop-event g l =
           (moment w l.driven.stateful.execution l.driven.stateful.loop (D.members l.driven.databases) (D.next l.driven.databases) []);
       registered : RegisterStands (numbered D.kind.count) (after_all [] l.driven.history.items) l.driven.stateful.register;
       safe : IsSafe w l.driven.stateful.failed
+          (moment w l.driven.stateful.execution l.driven.stateful.loop (D.members l.driven.databases) (D.next l.driven.databases) []);
+      media : w.States
+          → MediaStand w (g.S.BlockStore.stored l.fn.store) [] l.fn.stateful.failed
+          (moment w l.fn.stateful.execution l.fn.stateful.loop (D.members l.fn.databases) (D.next l.fn.databases) [])
+          → TrueNames (setting w (g.S.BlockStore.stored l.fn.store)) (after_all [] l.driven.history.items)
+          → HasHonestStore g.A.Block.Block.header (g.S.BlockStore.stored l.fn.store) (after_all [] l.driven.history.items)
+          → TargetsRise w (g.S.BlockStore.stored l.fn.store)
+          → MediaStand w (g.S.BlockStore.stored l.fn.store) (after_all [] l.driven.history.items) l.driven.stateful.failed
           (moment w l.driven.stateful.execution l.driven.stateful.loop (D.members l.driven.databases) (D.next l.driven.databases) []);
       store : l.store ≡ l.fn.store;
       provider : l.driven.stateful.provider ≡ l.fn.stateful.provider;
