@@ -91,12 +91,13 @@ module _ {B C I P R D H G U : Type 0} (w : Workings B C I P R D H G U) (laws : L
   cause-not_failed start last new e (unlawful is never) = known-not_failed e error.BadEvent is tt
   cause-not_failed start last new e (fault may f) = step-not_failed start last new e (may p registered) f
 
--- a restart that finds what it needs, where no count of faults of a database rises
-pub restart-memory : {B C I P R D H G U : Type 0} (w : Workings B C I P R D H G U) (laws : Laws w.kind) (stored_now : ℕ → Option (Named B))
-    (counts : Counts R D H) (provider : P) (v : Event B C I) (floor : Floor) (keep : List ℕ) (m : Moment w) (start «end» : Tally) (new : w.kind.Members)
-    (e : StepError) → v ≡ Restart floor keep → RestartsLawfully w stored_now floor keep m.members → w.kind.Sound m.members → w.kind.count < 2 ^ 64
-    → ((i : ℕ) → i < w.kind.count → Rose (start.databases i) («end».databases i) → ⊥)
-    → FaultsStep w stored_now provider counts start «end» new m v e → e ≡ error.OutOfMemory
-restart-memory w laws stored_now counts provider v floor keep m start last new e is finds sound few rises f =
-    refused-memory w laws stored_now floor keep m.members new sound finds.block finds.is_stored few start.databases last.databases rises finds.keeps e
-    (subst (λ (x : Event _ _ _). FaultsStep w stored_now provider counts start last new m x e) is f)
+module _ {B C I P R D H G U : Type 0} (w : Workings B C I P R D H G U) (laws : Laws w.kind) (stored_now : ℕ → Option (Named B))
+    (counts : Counts R D H) (provider : P) where
+  -- a restart that finds what it needs, where no count of faults of a database rises
+  pub restart-memory : (v : Event B C I) (floor : Floor) (keep : List ℕ) (m : Moment w) (start «end» : Tally) (new : w.kind.Members)
+      (e : StepError) → v ≡ Restart floor keep → RestartsLawfully w stored_now floor keep m.members → w.kind.Sound m.members → w.kind.count < 2 ^ 64
+      → ((i : ℕ) → i < w.kind.count → Rose (start.databases i) («end».databases i) → ⊥)
+      → FaultsStep w stored_now provider counts start «end» new m v e → e ≡ error.OutOfMemory
+  restart-memory v floor keep m start last new e is finds sound few rises f =
+      refused-memory w laws stored_now floor keep m.members new sound finds.block finds.is_stored few start.databases last.databases rises finds.keeps e
+      (subst (λ (x : Event B C I). FaultsStep w stored_now provider counts start last new m x e) is f)

@@ -39,7 +39,8 @@ use Rattle.stateful_processing.specs.Errors.{error_of_exec}
 use Rattle.stateful_processing.specs.Intake.{Counts, FaultsIntake, TakesIn}
 use Rattle.stateful_processing.specs.Intake as intake
 use Rattle.stateful_processing.specs.Moments.{Moment, inner}
-use Rattle.stateful_processing.specs.Rules.{Along, none, further, Takes, of_action, of_message}
+use Rattle.stateful_processing.specs.Rules.{Along, Takes, of_action, of_message}
+use Rattle.stateful_processing.specs.Rules as loop_rule
 use Rattle.stateful_processing.specs.Sound.{Sound}
 use Rattle.stateful_processing.specs.declared.barriers.Active.{Active}
 use Rattle.stateful_processing.specs.declared.error.StepError.{StepError}
@@ -186,7 +187,7 @@ module _ {B C I P R D H G U : Type 0} (w : Workings B C I P R D H G U) where
 
     module _ (m : Moment w) (sound : Sound w m) where
       here : m.loop.up ≡ true → AreHere w m.members
-      here up none = let found = (sound.up up).here in cc
+      here up none = let found : Some ((sound.up up).point) ≡ None = sym ((sound.up up).here) ∙ none in cc
 
       -- a rule that could go
       pub rule-not_failed : (e : StepError) → FaultsRule w stored rose before now new m e → IsNotFailed e
@@ -237,8 +238,8 @@ module _ {B C I P R D H G U : Type 0} (w : Workings B C I P R D H G U) where
   -- where an event was taken in, and rules went, one after another, and then one that could go didn't
   module _ (laws : Laws w.kind) (stored : ℕ → Option (Named B)) (provider : P) where
     along-sound : (m reached : Moment w) → Along w stored provider m reached → Sound w m → Sound w reached
-    along-sound m _ none s = s
-    along-sound m now (further {mid = mid} along r) s = rule_sound w laws stored provider mid now r (along-sound m mid along s)
+    along-sound m _ loop_rule.none s = s
+    along-sound m now (loop_rule.further {mid = mid} along r) s = rule_sound w laws stored provider mid now r (along-sound m mid along s)
 
     pub going-not_failed : (counts : Counts R D H) (m mid reached : Moment w) (v : Event B C I) → Sound w m → m.loop.up ≡ true
         → TakesIn w stored counts m mid v → Along w stored provider mid reached

@@ -60,7 +60,7 @@ loop-event-preserved g c =
           (λ f states b n is. takes.runs f states b n is) (λ asked states n is. takes.builds asked states n is) rise
           _ _ _ _ was.history.items c.requires.new refl c.requires.none_away i.steps was.stateful.register i.registered
           c.in-Some.event adds.0 _ _ (longer-past was.history.items _ c.in-Some.event adds.0 adds.1)
-          (λ names_before honest_before. rw (← i.working) (i.media base start names_before honest_before rise))
+          (λ names_before honest_before. rw i.working at (i.media base start names_before honest_before rise))
           (λ b stands stored_is named honest_now rising. (rw (i.store, i.working) at c.in-Ok.ensures.media) b stands stored_is named honest_now rising)
           base names honest);
       store = c.in-Ok.ensures.same.0 ∙ i.store;

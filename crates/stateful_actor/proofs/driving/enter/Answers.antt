@@ -1,13 +1,9 @@
-use Rattle.std.proofs.Common.{rules, ◌≡◌, [], Err, false, ◌∙◌, refl, sym, subst, ap}
-use Rattle.stateful_history.specs.Met.{TrueNames}
+use Rattle.std.proofs.Common.{rules, ◌≡◌, [], Err, ◌∙◌, refl, ap}
 use Rattle.stateful_history.specs.Past.{after_all}
-use Rattle.stateful_standing.specs.Setting.{setting}
-use Rattle.stateful_keeping.specs.Ways.{HasHonestStore}
 use Rattle.stateful_exec.specs.Workings.{workings}
 use Rattle.stateful_processing.proofs.Handing.{converted, err_holds}
 use Rattle.stateful_processing.specs.Moments.{moment}
 use Rattle.stateful_processing.specs.declared.error.StepError.TheVariants.{OutOfMemory}
-use Rattle.stateful_whole.specs.Media.{MediaStand}
 use Rattle.stateful_whole.specs.Stands.{StandsAsWell}
 use Rattle.stateful_whole.proofs.LeftFurther.{unmoved-further}
 use Rattle.stateful_actor.proofs.Adding.{registered-longer, longer-past}
@@ -87,15 +83,11 @@ returns-in_err-push-clause-restarts g c =
 
 pub returns-clause-media : goal.returns-clause-media
 returns-clause-media g c = λ base stands stored_is names honest rise.
-    let D = g.A.Databases.DatabaseSet in
-    let w = workings g.A.Block.Block.header g.A.Block.Block.context_of g.A.Context.Rounded.round_of g.A.Application.works D.kind D.shows in
     let stored = g.S.BlockStore.stored c.args.store.now in
     let event : c.in_ok-kept.kept ≡ c.args.event = search rules in
     let marks : c.from_vec.result ≡ c.in_ok-marks.marks.items = search rules in
     let longer = longer-past c.args.driven.now.history.items _ c.in_ok-kept.kept c.from_vec.result
     (c.in_ok-push.ensures.items ∙ rw c.in_ok-reserve.ensures.items refl) in
     let whole = rw (event, marks) at longer in
-    subst (λ q. MediaStand w stored q false _) (sym whole)
-    (c.in_ok-marks.ensures.media stored base (after_all [] c.args.driven.now.history.items) stands stored_is
-    (subst (λ q. TrueNames (setting w stored) q) whole names)
-    (subst (λ q. HasHonestStore g.A.Block.Block.header stored q) whole honest) rise)
+    rw whole (c.in_ok-marks.ensures.media stored base (after_all [] c.args.driven.now.history.items) stands stored_is
+    (rw whole at names) (rw whole at honest) rise)

@@ -277,7 +277,7 @@ returns-in-Err-clause-working g c =
     let D = g.A.Databases.DatabaseSet in
     let w = workings g.A.Block.Block.header g.A.Block.Block.context_of g.A.Context.Rounded.round_of g.A.Application.works D.kind D.shows in
     let faulted = rw c.new-marks.ensures.items at (of_err _ _ _ c.in-Err.is c.act-acted.ensures.fault) in
-    let safe = rw c.self.view_is at c.requires in
+    let safe = rw (← c.self.view_is) at c.requires in
     rw (← c.self.view_is)
     (λ stored base p s works is.
     never _ (cause-not_failed w g.met.A.Databases.DatabaseSet.laws stored (g.S.BlockStore.stored c.args.store.now) _ _ base p c.args.event _
