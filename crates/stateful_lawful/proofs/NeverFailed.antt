@@ -1,6 +1,6 @@
 -- A machine that hasn't failed never answers that it has: while it is up its databases are here, and an open barrier awaits the
 -- answer of each flush that may come.
-use Rattle.std.proofs.Common.{◌≡◌, inl, inr, [], ℕ, true, Option, Some, None, refl, sym, ap, ◌∙◌, subst}
+use Rattle.std.proofs.Common.{◌≡◌, inl, inr, [], ℕ, true, List, Option, Some, None, refl, sym, ap, ◌∙◌, subst}
 use Rattle.std.specs.Prelude.{IsSome, MatchOption, Result, Ok, Err}
 use Rattle.stateful_types.specs.Names.{Named}
 use Rattle.stateful_types.specs.declared.outcome.Handoff.{Handoff}
@@ -10,7 +10,7 @@ use Rattle.stateful_types.specs.declared.outcome.Moved.TheVariants.{Pending, Don
 use Rattle.stateful_types.specs.declared.anchor.Anchor.{Anchor}
 use Rattle.stateful_db.specs.Laws.{Laws}
 use Rattle.stateful_db.specs.declared.barrier.Flushed.{Flushed}
-use Rattle.stateful_db.specs.Works.{ProposedBlock}
+use Rattle.stateful_db.specs.declared.application.ProposedBlock.{ProposedBlock}
 use Rattle.stateful_db.specs.declared.application.AppFault.{AppFault}
 use Rattle.stateful_cache.specs.declared.cache.Cached.{Cached}
 use Rattle.stateful_table.specs.Table.{at}
