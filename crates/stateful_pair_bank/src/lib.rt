@@ -1,0 +1,11 @@
+//! The bank over two databases: balances by account, and behind them the amount of each operation.
+#![tactic(auto)]
+
+mod amounts;
+mod balances;
+mod pair;
+
+pub use pair::Pair;
+
+#[cfg(test)]
+mod tests;
