@@ -6,6 +6,3 @@ mod balances;
 mod pair;
 
 pub use pair::Pair;
-
-#[cfg(test)]
-mod tests;
