@@ -1,0 +1,49 @@
+-- Operations on a batch, as operations on what it changes.
+use Rattle.std.proofs.Common.{◌≡◌, ℕ, List, ◌∷◌, Option, Some, None, MatchOption, option_map, inr, refl, sym, ◌∙◌, subst}
+use Rattle.stateful_bank.specs.declared.op.Op.{Op}
+use Rattle.stateful_bank.specs.Accounts.{Becomes, do_op}
+use Rattle.stateful_bank.proofs.Following.{Follows, do_op-seen}
+use Rattle.stateful_bank_world.specs.Rules.{Rules, book_on}
+use Rattle.stateful_bank_world.specs.Draft.{IsAmong, Place, draft_book, StandsAt}
+
+-- a point of a chain is one of any longer chain
+pub among_behind : {P : Type 0} (place : Option P) (p : P) (c : List P) → IsAmong place c → IsAmong place (p ∷ c)
+among_behind place p c at = record { point = at.point; is = at.is; among = inr at.among }
+
+-- a place with these changes
+abbrev pub place_of : {Ids States Targets : Type 0} (w : Rules States Targets) → w.Changes → Ids → Ids × States → List (Ids × States) → Place Ids w
+place_of w changes own parent below = record { changes = changes; own = own; parent = parent; below = below }
+
+-- a batch that holds them stands there
+pub stands : {U Ids States Targets : Type 0} (w : Rules States Targets) (Holds : U → w.Changes → Ids → Ids × States → List (Ids × States) → Type 0) (changes : w.Changes) (own : Ids) (parent : Ids × States) (below : List (Ids × States)) (at : Option (Ids × States)) (batch : U) → Holds batch changes own parent below → IsAmong at (parent ∷ below) → StandsAt Ids w Holds at batch (place_of w changes own parent below)
+stands w Holds changes own parent below at batch holds among = record { holds = holds; among = among }
+
+module _ {U Ids States Targets : Type 0} (w : Rules States Targets) (Holds : U → w.Changes → Ids → Ids × States → List (Ids × States) → Type 0) (s : Place Ids w) where
+  -- the place with these changes
+  abbrev with_changes : w.Changes → Place Ids w
+  with_changes changes = record s { changes = changes }
+
+  follows : Follows (book_on w s.parent.1) (draft_book Ids w) with_changes
+  follows = record { balance = λ changes account. refl; with_balance = λ changes account balance. refl }
+
+  -- an operation does to a place what it does to the changes
+  same : (op : Op) → do_op (draft_book Ids w) s op ≡ option_map with_changes (do_op (book_on w s.parent.1) s.changes op)
+  same op = do_op-seen (book_on w s.parent.1) (draft_book Ids w) with_changes follows s.changes op
+
+  module _ (at : Option (Ids × States)) where
+    -- a batch that stands behind an operation holds what the operation makes of the changes
+    pub held_behind : (batch : U) (op : Op) → MatchOption (do_op (draft_book Ids w) s op) ⊥ (StandsAt Ids w Holds at batch) → MatchOption (do_op (book_on w s.parent.1) s.changes op) ⊥ (λ changes. Holds batch changes s.own s.parent s.below)
+    held_behind batch op stands =
+        held (do_op (book_on w s.parent.1) s.changes op) (subst (λ o. MatchOption o ⊥ (StandsAt Ids w Holds at batch)) (same op) stands)
+      where
+        held : (o : Option w.Changes) → MatchOption (option_map with_changes o) ⊥ (StandsAt Ids w Holds at batch) → MatchOption o ⊥ (λ changes. Holds batch changes s.own s.parent s.below)
+        held None none = absurd none
+        held (Some changes) behind = behind.holds
+
+  -- an operation that is refused at a place is refused by the changes
+  pub refused_behind : (op : Op) → do_op (draft_book Ids w) s op ≡ None → do_op (book_on w s.parent.1) s.changes op ≡ None
+  refused_behind op none = refused (do_op (book_on w s.parent.1) s.changes op) (sym (same op) ∙ none)
+    where
+      refused : (o : Option w.Changes) → option_map with_changes o ≡ None → o ≡ None
+      refused None e = refl
+      refused (Some changes) e = absurd cc

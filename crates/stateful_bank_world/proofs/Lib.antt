@@ -1,0 +1,5 @@
+pub mod Drafting
+pub mod Outcomes
+pub mod Turning
+pub mod Running
+pub mod Building

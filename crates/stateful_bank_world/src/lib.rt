@@ -1,0 +1,16 @@
+//! The bank over the databases of a world.
+#![tactic(auto)]
+
+mod bank;
+mod build;
+mod draft;
+mod hook;
+mod progress;
+mod run;
+mod world;
+
+pub use bank::Bank;
+pub use build::BankBuild;
+pub use hook::BankHook;
+pub use run::BankRun;
+pub use world::{Drafted, Sealed, World};

@@ -1,0 +1,4 @@
+pub mod Writing
+pub mod Balancing
+pub mod Appending
+pub mod Pairing

@@ -1,0 +1,28 @@
+-- Amounts in a keyless database, and what batches append there.
+use Rattle.std.specs.Prelude.{◌≡◌, ℕ, List, [], ◌∷◌, Some, map}
+use Rattle.stateful_types.specs.Number.{u64_format}
+use Rattle.stateful_bank.specs.declared.op.Op.{Op}
+use Rattle.stateful_bank.specs.Op.{amount_of}
+use Rattle.stateful_keyless.specs.Ops.{Changes}
+use Rattle.stateful_keyless.specs.Keyless as keyless
+use Rattle.stateful_keyless.specs.declared.keyless.batch.KeylessUnmerkleized.{KeylessUnmerkleized}
+use Rattle.stateful_keyless.specs.KeylessShown.{DraftShows}
+
+-- what a batch changes on this state: each operation's amount is appended, and the commit has the
+-- height, and the location of the batch's first operation as its floor
+abbrev pub appended : keyless.State ℕ → List Op → ℕ → Changes ℕ
+appended s ops height =
+    record { values = map amount_of ops; metadata = Some height; floor = keyless.size_of s }
+
+-- the state behind it
+abbrev pub amounts_after : keyless.State ℕ → List Op → ℕ → keyless.State ℕ
+amounts_after s ops height = keyless.sealed u64_format.spelling (appended s ops height) s
+
+-- a batch of this id changes nothing yet, over a chain whose first point is its parent
+abbrev pub HoldsNothing : KeylessUnmerkleized ℕ
+    → ℕ
+    → ℕ × keyless.State ℕ
+    → List (ℕ × keyless.State ℕ)
+    → Type 0
+HoldsNothing u i p c =
+    DraftShows u64_format.spelling u ((i, keyless.begun u64_format.spelling p.1) ∷ p ∷ c)

@@ -1,0 +1,3 @@
+pub mod Balances
+pub mod Amounts
+pub mod Pair

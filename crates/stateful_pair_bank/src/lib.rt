@@ -1,0 +1,8 @@
+//! The bank over two databases: balances by account, and behind them the amount of each operation.
+#![tactic(auto)]
+
+mod amounts;
+mod balances;
+mod pair;
+
+pub use pair::Pair;

@@ -1,0 +1,100 @@
+//! The databases of the pair.
+
+ghost use Rattle.std.specs.Prelude.{◌≡◌};
+ghost use Rattle.stateful_pair_bank.specs.Pair.{two_targets};
+
+use crate::amounts::complete_amounts;
+use crate::balances::{balance, complete_balances, set_balance};
+use stateful_any::{AnyDb, AnyMerkleized, AnyUnmerkleized};
+use stateful_bank::Op;
+use stateful_bank_world::World;
+use stateful_db::{Held, ManagedDb};
+use stateful_keyless::{KeylessDb, KeylessMerkleized, KeylessUnmerkleized};
+use stateful_types::{Height, Items, OutOfMemory, Target};
+use std::alloc::Global;
+
+/// Balances in a database of keys, and behind it the amounts of all operations in a keyless one.
+/// There is no value of it.
+#[derive(Drop)]
+pub enum Pair {}
+
+/// The databases of the pair.
+type Databases = (Held<AnyDb<u64, u64>>, Held<KeylessDb<u64>>);
+
+/// A batch over the pair that may still change.
+type Drafted = (AnyUnmerkleized<u64, u64>, KeylessUnmerkleized<u64>);
+
+/// A sealed batch over the pair.
+type Sealed = (AnyMerkleized<u64, u64>, KeylessMerkleized<u64>);
+
+impl World for Pair {
+    ghost use Rattle.stateful_pair_bank.specs.Pair.{pair_rules, HoldsPair};
+
+    type Databases = Databases;
+
+    ghost rules = { pair_rules };
+
+    ghost holds = { HoldsPair };
+
+    fn begin(batch: Drafted) -> Drafted {
+        batch
+    }
+
+    fn balance(
+        batch: &Drafted,
+        databases: &Databases,
+        account: u16,
+    ) -> Result<Option<u64>, OutOfMemory> {
+        Ok(balance(&batch.0, &databases.0, account)?)
+    }
+
+    fn set_balance(batch: Drafted, account: u16, balance: u64) -> Result<Drafted, OutOfMemory> {
+        let (balances, amounts) = batch;
+        let balances = set_balance(balances, account, balance)?;
+        Ok((balances, amounts))
+    }
+
+    fn complete(
+        batch: Drafted,
+        databases: &Databases,
+        ops: &[Op],
+        height: Height,
+    ) -> Result<Option<Drafted>, OutOfMemory> {
+        let (balances, amounts) = batch;
+        match complete_amounts(amounts, &databases.1, ops, height)? {
+            Some(amounts) => Ok(Some((complete_balances(balances, height), amounts))),
+            None => Ok(None),
+        }
+    }
+
+    fn batch_targets(batch: &Sealed) -> (Target, Target) {
+        let balances = AnyDb::batch_target(&batch.0);
+        let amounts = KeylessDb::batch_target(&batch.1);
+        (balances, amounts)
+    }
+
+    fn listed(alloc: Global, targets: &(Target, Target)) -> Result<Items<Target>, OutOfMemory> {
+        let mut list = Items::new(alloc);
+        list.push(targets.0)?;
+        list.push(targets.1)?;
+        Ok(list)
+    }
+
+    fn committed(targets: &[Target]) -> (Target, Target) {
+        two_of(targets)
+    }
+}
+
+/// The targets of a block for the two databases. A block of another number of targets commits to
+/// the empty states.
+fn two_of(targets: &[Target]) -> (Target, Target)
+    ensures { result ≡ two_targets targets.now }
+{
+    match targets {
+        [balances, amounts] => (*balances, *amounts),
+        _ => (
+            AnyDb::<u64, u64>::initial_sync_target(),
+            KeylessDb::<u64>::initial_sync_target(),
+        ),
+    }
+}
