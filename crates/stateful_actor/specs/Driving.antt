@@ -73,7 +73,7 @@ module _ {B C I P R D H G U : Type 0} (w : Workings B C I P R D H G U)
     pub behind : (e ≡ BadEvent → ⊥) → is_restart event ≡ false → old.loop.up ≡ true
         → LeavesBehind w stored provider counts event history old m
     pub complete : is_restart event ≡ false → RefusesLawful history event e old
-    pub restarts : RefusesRestart before.databases «end».databases event e old
+    pub restarts : RefusesRestart w stored before.databases «end».databases event e old
     pub works : w.States
         → TrueNames (setting w stored) (after_all [] history)
         → HasHonestStore w.header stored (after_all [] history)

@@ -1,5 +1,11 @@
 use Rattle.std.proofs.Common.{[], Bool, false, refl, sym, ◌∙◌, subst}
+use Rattle.stateful_history.specs.Met.{TrueNames}
 use Rattle.stateful_history.specs.Past.{after_all}
+use Rattle.stateful_standing.specs.Setting.{setting}
+use Rattle.stateful_standing.specs.Storing.{IsStoredNow}
+use Rattle.stateful_keeping.specs.Media.{TargetsRise}
+use Rattle.stateful_keeping.specs.Ways.{HasHonestStore}
+use Rattle.stateful_whole.specs.Media.{MediaStand, StandsOnMedia}
 use Rattle.stateful_cache.proofs.Cutting.{one_over, none_over}
 use Rattle.stateful_exec.specs.Workings.{workings}
 use Rattle.stateful_register.proofs.Entries.{RegisterStands-none}
@@ -56,12 +62,27 @@ loop-event-preserved g c =
       media = λ base start names honest rise.
           let takes = g.met.A.Application.takes_turns in
           let stored = g.S.BlockStore.stored c.args.store.now in
-          rw c.in-Ok.ensures.works (media-longer w g.met.A.Databases.DatabaseSet.laws stored _ c.args.stateful.provider
+          let old = moment w was.stateful.execution was.stateful.loop (D.members was.databases) (D.next was.databases) [] in
+          let new = moment w now.stateful.execution now.stateful.loop (D.members now.databases) (D.next now.databases) [] in
+          let before = after_all [] was.history.items in
+          let behind = after_all [] now.history.items in
+          let further = subst (λ s. (b : w.States)
+          → StandsOnMedia w (g.S.BlockStore.stored s) b before was.stateful.failed was.stateful.register old
+          → IsStoredNow (g.S.BlockStore.stored s) before (g.S.BlockStore.stored s)
+          → TrueNames (setting w (g.S.BlockStore.stored s)) behind
+          → HasHonestStore g.A.Block.Block.header (g.S.BlockStore.stored s) behind
+          → TargetsRise w (g.S.BlockStore.stored s)
+          → MediaStand w (g.S.BlockStore.stored s) behind false new) i.store c.in-Ok.ensures.media in
+          subst (λ (failed : Bool). MediaStand w stored behind failed new) (sym c.in-Ok.ensures.works)
+          (media-longer w g.met.A.Databases.DatabaseSet.laws stored _ c.args.stateful.provider
           (λ f states b n is. takes.runs f states b n is) (λ asked states n is. takes.builds asked states n is) rise
-          _ _ _ _ was.history.items c.requires.new refl c.requires.none_away i.steps was.stateful.register i.registered
-          c.in-Some.event adds.0 _ _ (longer-past was.history.items _ c.in-Some.event adds.0 adds.1)
-          (λ names_before honest_before. rw i.working at (i.media base start names_before honest_before rise))
-          (λ b stands stored_is named honest_now rising. (rw (i.store, i.working) at c.in-Ok.ensures.media) b stands stored_is named honest_now rising)
+          _ _ _ old was.history.items c.requires.new refl c.requires.none_away i.steps was.stateful.register i.registered
+          c.in-Some.event adds.0 new behind (longer-past was.history.items now.history.items c.in-Some.event adds.0 adds.1)
+          (λ names_before honest_before.
+          subst (λ (failed : Bool). MediaStand w stored before failed old) i.working (i.media base start names_before honest_before rise))
+          (λ b stands stored_is named honest_now rising.
+          further b (subst (λ (failed : Bool). StandsOnMedia w stored b before failed was.stateful.register old) (sym i.working) stands)
+          stored_is named honest_now rising)
           base names honest);
       store = c.in-Ok.ensures.same.0 ∙ i.store;
       provider = c.in-Ok.ensures.same.1 ∙ i.provider;
