@@ -1,0 +1,10 @@
+//! What scripts print.
+
+mod building;
+mod cancelling;
+mod finalizing;
+mod forks;
+mod refusing;
+mod shown;
+mod stopping;
+mod verifying;
