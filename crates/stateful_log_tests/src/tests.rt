@@ -1,4 +1,5 @@
 //! Roots and ranges of logs, by the reference's program, and reads of them.
 
+mod any;
 mod compact;
 mod keyless;
