@@ -41,7 +41,7 @@ fn all_play(words: &[String]) -> bool
 }
 
 /// Whether the words are the one word `play`.
-#[tactic(auto, unfolding(crate::specs::Rows::asks_play))]
+#[tactic(auto, unfolding(crate::specs::Status::asks_play))]
 fn asks_play(words: &[String]) -> bool
     ensures { result ≡ asks_play words.now }
 {
