@@ -9,6 +9,7 @@
 
 mod acting;
 mod driving;
+mod law;
 mod playing;
 mod restarting;
 mod settling;
@@ -17,6 +18,7 @@ mod step;
 mod stopping;
 
 pub use driving::{Driven, Halt, Halted, drive};
+pub use law::forks_are_as_deep_as_their_paths;
 pub use stateful::{Config, NewError, Stateful};
 pub use stateful_db::{
     AppFault, Application, DatabaseSet, Held, Hooked, Input, ManagedDb, Merkleized, ProposedBlock,

@@ -14,6 +14,3 @@ pub use balances::apply_ops;
 pub use block::{BankBlock, MAX_OPS};
 pub use op::{Op, is_acceptable};
 pub use proposal::{Proposal, one_is_given};
-
-#[cfg(test)]
-mod tests;

@@ -74,7 +74,7 @@ module _ {U M Ids States Targets : Type 0} (w : Rules States Targets) (Holds : U
         finish_full ended = record {
           after = states_of b p shows.changes;
           leads = rw shows.after;
-          is_full = subst Full same_behind (ended shows.changes b.own b.at b.below shows.held at);
+          is_full = subst Full same_behind (ended shows.changes b.own b.at b.below shows.holds at);
         }
 
         -- where it is sealed, the block's states are below that end
@@ -82,12 +82,12 @@ module _ {U M Ids States Targets : Type 0} (w : Rules States Targets) (Holds : U
         finish_room below = record {
           after = states_of b p shows.changes;
           leads = rw shows.after;
-          has_room = λ full. below shows.changes b.own b.at b.below shows.held at (subst Full (sym same_behind) full);
+          has_room = λ full. below shows.changes b.own b.at b.below shows.holds at (subst Full (sym same_behind) full);
         }
 
       module _ (sealed : Option M) (seals : (changes : w.Changes) (i : Ids) (q : Ids × States) (c : List (Ids × States)) → Holds batch changes i q c → IsAmong place (q ∷ c) → IsSomeAnd sealed (λ m. Sealed m ((i, w.sealed q.1 changes ops height) ∷ q ∷ c))) where
         seal_shows : IsSomeAnd sealed (λ m. Sealed m (build_chain b (states_of b p shows.changes)))
-        seal_shows = subst (λ s. IsSomeAnd sealed (λ m. Sealed m (build_chain b s))) same_behind (seals shows.changes b.own b.at b.below shows.held at)
+        seal_shows = subst (λ s. IsSomeAnd sealed (λ m. Sealed m (build_chain b s))) same_behind (seals shows.changes b.own b.at b.below shows.holds at)
 
         -- the batch isn't stale
         pub is_sealed : sealed ≡ None → ⊥

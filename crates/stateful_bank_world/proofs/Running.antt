@@ -79,7 +79,7 @@ module _ {U Ids States Targets : Type 0} (w : Rules States Targets) (Holds : U �
     pub complete_outcome : {M : Type 0} (Sealed : M → List (Ids × States) → Type 0) (sealed : Option M) (Left : Type 0) → (IsRejected run.finality ops → ⊥) → ((changes : w.Changes) (i : Ids) (p : Ids × States) (c : List (Ids × States)) → Holds batch changes i p c → IsAmong place (p ∷ c) → IsSomeAnd sealed (λ m. Sealed m ((i, w.sealed p.1 changes ops height) ∷ p ∷ c))) → Ends (Done sealed) (outcome (bank_meaning w) r.finality r.at.1 (block_of r)) (λ m s. Sealed m (run_chain r s)) Left
     complete_outcome {M} Sealed sealed Left good seals =
         let fine : IsRejected r.finality (block_of r).ops → ⊥ = rw (is.finality_is, ops_of) at good in
-        let shown : IsSomeAnd sealed (λ m. Sealed m (run_chain r behind)) = subst (λ s. IsSomeAnd sealed (λ m. Sealed m (run_chain r s))) same_behind (seals shows.changes r.own r.at r.below shows.held at) in
+        let shown : IsSomeAnd sealed (λ m. Sealed m (run_chain r behind)) = subst (λ s. IsSomeAnd sealed (λ m. Sealed m (run_chain r s))) same_behind (seals shows.changes r.own r.at r.below shows.holds at) in
         subst (λ o. Ends (Done sealed) o (λ m s. Sealed m (run_chain r s)) Left) (sym (outcome_allowed w r.at.1 (block_of r) r.finality shows.changes fine shows.after)) (ends sealed shown)
       where
         ends : (sealed : Option M) → IsSomeAnd sealed (λ m. Sealed m (run_chain r behind)) → Ends (Done sealed) (Some behind) (λ m s. Sealed m (run_chain r s)) Left
@@ -92,7 +92,7 @@ module _ {U Ids States Targets : Type 0} (w : Rules States Targets) (Holds : U �
       complete_full ended = record {
         after = behind;
         leads = leads;
-        is_full = subst Full same_behind (ended shows.changes r.own r.at r.below shows.held at);
+        is_full = subst Full same_behind (ended shows.changes r.own r.at r.below shows.holds at);
       }
 
       -- where it is sealed, the block's states are below that end
@@ -100,5 +100,5 @@ module _ {U Ids States Targets : Type 0} (w : Rules States Targets) (Holds : U �
       complete_room below = record {
         after = behind;
         leads = leads;
-        has_room = λ full. below shows.changes r.own r.at r.below shows.held at (subst Full (sym same_behind) full);
+        has_room = λ full. below shows.changes r.own r.at r.below shows.holds at (subst Full (sym same_behind) full);
       }

@@ -23,7 +23,7 @@ module _ {U Ids States Targets : Type 0} (w : Rules States Targets) (Holds : U �
 
   module _ (progress : Progress U) (ops : List Op) (i : Ids) (p : Ids × States) (c : List (Ids × States)) (is : HasDone w Holds progress ops i p c) where
     becomes : (after : Option U) → IsNext after progress.batch ops progress.done i p c → Becomes (λ u now. Holds u now i p c) after (do_ops (book_on w p.1) is.shows.changes (take 1 (drop progress.done ops)))
-    becomes after next = next is.shows.changes is.shows.held
+    becomes after next = next is.shows.changes is.shows.holds
 
     least : progress.done + 1 ≤ turns_of w p.1 ops
     least = turns_least p.1 is.shows.changes ops progress.done is.within is.shows.after
@@ -46,7 +46,7 @@ module _ {U Ids States Targets : Type 0} (w : Rules States Targets) (Holds : U �
     further after next more =
         let left = allowed after (do_ops (book_on w p.1) is.shows.changes (take 1 (drop progress.done ops))) (becomes (Some after) next) in
         let done = do_ops-next (book_on w p.1) (w.none p.1) is.shows.changes ops progress.done is.shows.after ∙ left.1 in
-        (record { within = omega arith; shows = record { changes = left.0; after = done; held = left.2 } }, refl, turns_more (book_on w p.1) (w.none p.1) left.0 ops progress.done done more)
+        (record { within = omega arith; shows = record { changes = left.0; after = done; holds = left.2 } }, refl, turns_more (book_on w p.1) (w.none p.1) left.0 ops progress.done done more)
 
     pub complete : (after : U) → IsNext (Some after) progress.batch ops progress.done i p c → length ops ≤ progress.done + 1 → Advances w Holds (Complete after) progress.done ops i p c
     complete after next last =
@@ -54,7 +54,7 @@ module _ {U Ids States Targets : Type 0} (w : Rules States Targets) (Holds : U �
           record {
             changes = left.0;
             after = do_ops-last (book_on w p.1) (w.none p.1) is.shows.changes ops progress.done is.shows.after last ∙ left.1;
-            held = left.2;
+            holds = left.2;
           },
           omega (arith, least, turns_last (book_on w p.1) (w.none p.1) is.shows.changes ops progress.done is.shows.after within last),
         )

@@ -13,7 +13,7 @@ module _ {U Ids States Targets : Type 0} (w : Rules States Targets)
       (c : List (Ids × States)) : Type 0 where
     pub changes : w.Changes
     pub after : changes_of w p.1 ops ≡ Some changes
-    pub held : Holds batch changes own p c
+    pub holds : Holds batch changes own p c
 
   -- so many of these operations are done, and there are others, or there are none at all
   pub record HasDone (progress : Progress U) (ops : List Op) (own : Ids) (p : Ids × States)

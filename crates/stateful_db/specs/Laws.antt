@@ -171,8 +171,7 @@ module _ {Ids States Targets : Type 0} (d : Databases Ids States Targets) where
     pub prunable_from : (m : d.Members) (t : Targets)
         → d.Sound m
         → d.Idle m
-        →
-        ((i : ℕ)
+        → ((i : ℕ)
         → i < d.count
         → (k : ℕ)
         × (s : States)

@@ -572,8 +572,7 @@ module _ {S T : Type 0} (target_of : S → T) (targeted : T → Target) where
   pub lost_pruning : (m n : Member S) (t : T)
       → IsPrunable target_of targeted m t
       → IsLostPruning target_of targeted m t n
-      →
-      ((k : ℕ) (s : S)
+      → ((k : ℕ) (s : S)
       → member_first (member_pruned target_of targeted m t) ≤ k
       → MemberHasAt m k s
       → MemberHasAt n k s)

@@ -412,17 +412,3 @@ pub trait DatabaseSet: Sized {
     /// Each database's checkpoints are in order.
     ghost sound: { (s : Self) → kind.Sound (members s) };
 }
-
-#[cfg(test)]
-mod tests {
-    use super::*;
-    use std::test::Fail;
-
-    #[test]
-    fn an_error_prints_the_name_of_its_variant(rt: HostRuntime) -> Result<(), Fail> {
-        let call = DbCall::Apply;
-        let text = SetError::DatabaseFault { index: 3, call }.to_string(rt.alloc())?;
-        assert_eq!(rt; text.as_str(), "DatabaseFault");
-        Ok(())
-    }
-}

@@ -12,6 +12,6 @@ module _ {B : Type 0} (header : Header B) (pause : Pause) (b : Named B) (how : H
   pub IsFate-same : (f : Fate) → IsFate header pause known b how f → IsFate header pause same b how f
   IsFate-same fate.Invalid (inl given_up) = inl given_up
   IsFate-same fate.Invalid (inr is) = inr (is.0, λ k. is.1 (both.1 k))
-  IsFate-same fate.Parked (inl held) = inl held
+  IsFate-same fate.Parked (inl awaits) = inl awaits
   IsFate-same fate.Parked (inr is) = inr (is.0, both.0 is.1)
   IsFate-same fate.GoesOn is = (is.0, is.1, is.2, both.0 is.3)

@@ -121,17 +121,21 @@ IsGivenUp header (Finalizing boundary) b =
 IsGivenUp header pause b = ⊥
 
 -- the block is being finalized, and this run of it wasn't kept
-abbrev pub IsHeld : {B : Type 0} → Pause → Named B → How → Type 0
-IsHeld (Finalizing boundary) b how = (b.digest ≡ boundary.digest) × (how ≢ Kept)
-IsHeld pause b how = ⊥
+abbrev pub AwaitsBoundary : {B : Type 0} → Pause → Named B → How → Type 0
+AwaitsBoundary (Finalizing boundary) b how = (b.digest ≡ boundary.digest) × (how ≢ Kept)
+AwaitsBoundary pause b how = ⊥
 
 -- what becomes of a request that waited for the run of a block, where the block is known or not
 abbrev pub IsFate : {B : Type 0} → Header B → Pause → Type 0 → Named B → How → Fate → Type 0
 IsFate header pause known b how fate.Invalid =
-    IsGivenUp header pause b ⊎ ((IsHeld pause b how → ⊥) × (known → ⊥))
-IsFate header pause known b how fate.Parked = IsHeld pause b how ⊎ ((pause ≡ Pruning) × known)
+    IsGivenUp header pause b ⊎ ((AwaitsBoundary pause b how → ⊥) × (known → ⊥))
+IsFate header pause known b how fate.Parked =
+    AwaitsBoundary pause b how ⊎ ((pause ≡ Pruning) × known)
 IsFate header pause known b how fate.GoesOn =
-    (IsGivenUp header pause b → ⊥) × (IsHeld pause b how → ⊥) × (pause ≢ Pruning) × known
+    (IsGivenUp header pause b → ⊥)
+    × (AwaitsBoundary pause b how → ⊥)
+    × (pause ≢ Pruning)
+    × known
 
 -- the requests that wait for the run of a job are taken out of their table
 abbrev pub released : {B C I R U : Type 0} → ℕ → Tables B C I R U → Tables B C I R U
@@ -213,16 +217,16 @@ module _ {B C I P R D H G U : Type 0} (w : Workings B C I P R D H G U) where
     given_up : IsGivenUp w.header m.state.pause b
         → Concludes w m r.ticket (requested r.request) Invalid now
         → Follows b how r m now
-    held : IsHeld m.state.pause b how
+    at_boundary : AwaitsBoundary m.state.pause b how
         → Becomes w m (moved m.state r.ticket (requested r.request) (Parked r.path)) [] now
         → Follows b how r m now
-    failed : (IsHeld m.state.pause b how → ⊥) → (IsIn m.state.cache b.digest → ⊥)
+    failed : (AwaitsBoundary m.state.pause b how → ⊥) → (IsIn m.state.cache b.digest → ⊥)
         → Concludes w m r.ticket (requested r.request) Invalid now → Follows b how r m now
     parked : m.state.pause ≡ Pruning → IsIn m.state.cache b.digest
         → Becomes w m (moved m.state r.ticket (requested r.request) (Parked r.path)) [] now
         → Follows b how r m now
     goes_on : (IsGivenUp w.header m.state.pause b → ⊥)
-        → (IsHeld m.state.pause b how → ⊥)
+        → (AwaitsBoundary m.state.pause b how → ⊥)
         → m.state.pause ≢ Pruning
         → IsIn m.state.cache b.digest
         → Advances w m r.ticket (requested r.request) r.path now → Follows b how r m now

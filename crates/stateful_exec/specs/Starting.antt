@@ -26,8 +26,7 @@ module _ {B C I P R D H G U : Type 0} (w : Workings B C I P R D H G U) where
   pub data IsOver (anchor : Digest) (cache : List (Cached U)) (m : w.kind.Members) (old new : w.Ids)
       (Has : Point w → List (Point w) → Type 0) (parent : Digest) : Type 0 where
     databases : parent ≡ anchor
-        →
-        ((p : Point w)
+        → ((p : Point w)
         → w.kind.point m ≡ Some p
         → w.kind.issued old (p ∷ [])
         → Has p [] × w.kind.issued new ((old, w.kind.begun p.1) ∷ p ∷ []))
@@ -36,8 +35,7 @@ module _ {B C I P R D H G U : Type 0} (w : Workings B C I P R D H G U) where
         → parent ≢ anchor
         → Contains cache e
         → e.digest ≡ parent
-        →
-        ((p q : Point w) (above older : List (Point w))
+        → ((p q : Point w) (above older : List (Point w))
         → w.kind.point m ≡ Some p
         → w.shows e.batch (q ∷ above ++ p ∷ older)
         → w.kind.issued old (q ∷ above ++ p ∷ older)

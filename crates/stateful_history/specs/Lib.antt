@@ -32,3 +32,4 @@ pub mod Refusals
 pub mod Restarts
 pub mod Lawful
 pub mod Promises
+pub mod Shared

@@ -7,6 +7,7 @@ use Rattle.stateful_history.specs.Barriers.{begun_over}
 use Rattle.stateful_history.specs.Holding.{Holds}
 use Rattle.stateful_history.specs.Joined.{TrueIsEarned}
 use Rattle.stateful_history.specs.Past.{Past, after}
+use Rattle.stateful_history.specs.Honest.{StoresFinalized}
 use Rattle.stateful_history.specs.declared.mark.Mark.{Mark}
 use Rattle.stateful_history.proofs.Marks.{after-append, EachMark-append}
 use Rattle.stateful_exec.specs.Workings.{Workings}
@@ -22,7 +23,6 @@ use Rattle.stateful_keeping.specs.Execution.{Executes}
 use Rattle.stateful_keeping.specs.RuleMarks.{IsOfRule}
 use Rattle.stateful_keeping.specs.Stands.{IsUpAt}
 use Rattle.stateful_keeping.specs.Tickets.{TicketsStand}
-use Rattle.stateful_keeping.specs.Ways.{StoresFinalized}
 use Rattle.stateful_keeping.proofs.RuleItems.{IsStoredNow-after}
 use Rattle.stateful_keeping.proofs.RuleUp.{holds_at, rule-up}
 use Rattle.stateful_keeping.proofs.WaysBeside.{StoresFinalized-after}

@@ -12,6 +12,7 @@ use Rattle.stateful_history.specs.Finalizations.{IsChildOf, finalized_since}
 use Rattle.stateful_history.specs.Past.{Past, Came, Made, after}
 use Rattle.stateful_history.specs.Refusals.{Climbs, WasFinalized}
 use Rattle.stateful_history.specs.Requests.{IsLiveReceipt}
+use Rattle.stateful_history.specs.Honest.{StoresFinalized}
 use Rattle.stateful_history.specs.declared.event.Event.TheVariants.{Finalized, Restart}
 use Rattle.stateful_history.specs.declared.mark.Mark.{Mark}
 use Rattle.stateful_history.specs.declared.mark.Mark.TheVariants.{Opened, Converged, Applied, BarrierDone}
@@ -27,7 +28,6 @@ use Rattle.stateful_keeping.specs.Behind.{UpBehind}
 use Rattle.stateful_keeping.specs.Execution.{Executes}
 use Rattle.stateful_keeping.specs.Stands.{IsUpAt}
 use Rattle.stateful_keeping.specs.Tickets.{TicketsStand}
-use Rattle.stateful_keeping.specs.Ways.{StoresFinalized}
 use Rattle.stateful_keeping.proofs.AlongUp.{rule_is_up, along-up}
 use Rattle.stateful_keeping.proofs.AnchorStands.{Executes-anchor}
 use Rattle.stateful_keeping.proofs.ExecutesApplies.{over_begun}

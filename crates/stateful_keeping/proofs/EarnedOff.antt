@@ -17,7 +17,7 @@ use Rattle.stateful_cache.specs.Cache.{IsIn, IsAtHand}
 use Rattle.stateful_cache.specs.declared.cache.Cached.{Cached}
 use Rattle.stateful_cache.proofs.Digests.{same, same_digest, same_itself, finds}
 use Rattle.stateful_exec.specs.Boundary.{Boundary, step_by, IsRetained}
-use Rattle.stateful_exec.specs.Ending.{step_in, IsGivenUp, Follows, given_up, held, failed, parked, goes_on}
+use Rattle.stateful_exec.specs.Ending.{step_in, IsGivenUp, Follows, given_up, at_boundary, failed, parked, goes_on}
 use Rattle.stateful_exec.specs.Moments.{Moment}
 use Rattle.stateful_exec.specs.Path.{Path}
 use Rattle.stateful_exec.specs.Rules.{GoesOn, IsPassed, first_or, requested, Advances, arrives, leaves, joins, starts, misses}
@@ -141,7 +141,7 @@ module _ {B C I P R D H G U : Type 0} (w : Workings B C I P R D H G U) (stored :
       → EarnsBehind w stored base p m now
   follows-off b how r now met is asked way off (given_up out concludes) =
       concludes-invalid w stored base p points point m s r.ticket (requested r.request) asked now concludes
-  follows-off b how r now met is asked way off (held out becomes) = rw becomes (record { more = []; marks_are = refl; each = tt })
+  follows-off b how r now met is asked way off (at_boundary out becomes) = rw becomes (record { more = []; marks_are = refl; each = tt })
   follows-off b how r now met is asked way off (failed not_held out concludes) =
       concludes-invalid w stored base p points point m s r.ticket (requested r.request) asked now concludes
   follows-off b how r now met is asked way off (parked pruning any becomes) = rw becomes (record { more = []; marks_are = refl; each = tt })

@@ -13,7 +13,7 @@ use Rattle.stateful_history.specs.declared.mark.How.{How}
 use Rattle.stateful_history.specs.declared.mark.Mark.{Mark}
 use Rattle.stateful_history.specs.declared.mark.Mark.TheVariants.{Ended}
 use Rattle.stateful_cache.specs.Cache.{IsAtHand}
-use Rattle.stateful_exec.specs.Ending.{InTurn, released, Follows, given_up, held, failed, parked, goes_on}
+use Rattle.stateful_exec.specs.Ending.{InTurn, released, Follows, given_up, at_boundary, failed, parked, goes_on}
 use Rattle.stateful_exec.specs.Moments.{Moment, Becomes}
 use Rattle.stateful_exec.specs.Phase.{released_on, not_on}
 use Rattle.stateful_exec.specs.Rules.{requested}
@@ -58,7 +58,7 @@ module _ {B C I P R D H G U : Type 0} (w : Workings B C I P R D H G U) (stored :
       → EarnsBehind w stored base p m now
   follows_moved p m now r ready folded h on is (given_up off concludes) =
       concludes-invalid w stored base p points point m ready.stands r.ticket (requested r.request) on.hand.asked now concludes
-  follows_moved p m now r ready folded h on is (held off becomes) = rw becomes (record { more = []; marks_are = refl; each = tt })
+  follows_moved p m now r ready folded h on is (at_boundary off becomes) = rw becomes (record { more = []; marks_are = refl; each = tt })
   follows_moved p m now r ready folded h on is (failed off out concludes) =
       concludes-invalid w stored base p points point m ready.stands r.ticket (requested r.request) on.hand.asked now concludes
   follows_moved p m now r ready folded h on is (parked pruning any becomes) = rw becomes (record { more = []; marks_are = refl; each = tt })

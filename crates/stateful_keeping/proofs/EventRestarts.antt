@@ -8,6 +8,7 @@ use Rattle.stateful_history.specs.Joined.{TrueIsEarned}
 use Rattle.stateful_history.specs.Met.{TrueNames}
 use Rattle.stateful_history.specs.Past.{Past, Came, after}
 use Rattle.stateful_history.specs.Stops.{NothingLive}
+use Rattle.stateful_history.specs.Honest.{StoresHeights}
 use Rattle.stateful_history.specs.declared.event.Event.TheVariants.{Restart}
 use Rattle.stateful_history.specs.declared.mark.Mark.{Mark}
 use Rattle.stateful_history.specs.declared.mark.Mark.TheVariants.{Opened}
@@ -23,7 +24,6 @@ use Rattle.stateful_keeping.specs.Durability.{IsDurablySaid}
 use Rattle.stateful_keeping.specs.EventBehind.{RestartedBehind}
 use Rattle.stateful_keeping.specs.OpenedBehind.{OpenedBehind}
 use Rattle.stateful_keeping.specs.Stands.{IsUpAt}
-use Rattle.stateful_keeping.specs.Ways.{StoresHeights}
 use Rattle.stateful_keeping.proofs.EndingMarks.{earned-ends, said-ends}
 use Rattle.stateful_keeping.proofs.Restarting.{restarts-up}
 use Rattle.stateful_keeping.proofs.RuleUp.{holds_at}

@@ -8,7 +8,7 @@ use Rattle.stateful_db.specs.declared.application.AppFault.{AppFault}
 use Rattle.stateful_history.specs.declared.mark.How.{How}
 use Rattle.stateful_history.specs.declared.mark.Mark.{Mark}
 use Rattle.stateful_exec.specs.Boundary.{Boundary}
-use Rattle.stateful_exec.specs.Ending.{InTurn, none, next, released, TurnsRun, Follows, given_up, held, failed, parked, goes_on, Settles, SettlesBy, Steps}
+use Rattle.stateful_exec.specs.Ending.{InTurn, none, next, released, TurnsRun, Follows, given_up, at_boundary, failed, parked, goes_on, Settles, SettlesBy, Steps}
 use Rattle.stateful_exec.specs.Moments.{Moment}
 use Rattle.stateful_exec.specs.Path.{Path}
 use Rattle.stateful_exec.specs.Pausing.{Pauses}
@@ -73,7 +73,7 @@ module _ {B C I P R D H G U : Type 0} (w : Workings B C I P R D H G U) where
       → FetchesNone now.state.requests
   FetchesNone-follows b how r m now (given_up off concludes) before =
       FetchesNone-concludes m now r.ticket (requested r.request) Invalid concludes before
-  FetchesNone-follows b how r m now (held off becomes) before =
+  FetchesNone-follows b how r m now (at_boundary off becomes) before =
       rw becomes (FetchesNone-moved m.state r.ticket (requested r.request) (Parked r.path) (λ f is. cc) before)
   FetchesNone-follows b how r m now (failed off out concludes) before =
       FetchesNone-concludes m now r.ticket (requested r.request) Invalid concludes before

@@ -15,7 +15,7 @@ use Rattle.stateful_history.specs.declared.mark.Mark.TheVariants as mark
 use Rattle.stateful_history.proofs.Marks.{after-append}
 use Rattle.stateful_table.specs.Table.{at, put}
 use Rattle.stateful_table.proofs.Tables.{is_at_number, at-put, at-without}
-use Rattle.stateful_exec.specs.Ending.{InTurn, none as in_none, next as in_next, released, Settles, SettlesBy, Steps, TurnsRun, Follows, given_up, held, failed, parked, goes_on}
+use Rattle.stateful_exec.specs.Ending.{InTurn, none as in_none, next as in_next, released, Settles, SettlesBy, Steps, TurnsRun, Follows, given_up, at_boundary, failed, parked, goes_on}
 use Rattle.stateful_exec.specs.Fetching.{IsFetched, found, waits as awaits, declines, dead, serving, with_block}
 use Rattle.stateful_exec.specs.Moments.{Moment, Becomes}
 use Rattle.stateful_exec.specs.Path.{Path}
@@ -185,7 +185,7 @@ module _ {B C I P R D H G U : Type 0} (w : Workings B C I P R D H G U) where
   -- one that follows the end of the run that it waited for
   pub hands_follows : (b : Named B) (how : How) (r : Released B C I) (m now : Moment w) → Follows w b how r m now → HandsOn (r.ticket ∷ []) m now
   hands_follows b how r m now (given_up up c) = hands_concludes m now r.ticket (requested r.request) Invalid c
-  hands_follows b how r m now (held is becomes) = hands_becomes m now r.ticket (requested r.request) _ becomes
+  hands_follows b how r m now (at_boundary is becomes) = hands_becomes m now r.ticket (requested r.request) _ becomes
   hands_follows b how r m now (failed not_held off c) = hands_concludes m now r.ticket (requested r.request) Invalid c
   hands_follows b how r m now (parked pause there becomes) = hands_becomes m now r.ticket (requested r.request) _ becomes
   hands_follows b how r m now (goes_on up not_held pause there rule) = hands_advances m now r.ticket (requested r.request) r.path rule

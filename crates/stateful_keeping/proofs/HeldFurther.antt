@@ -12,6 +12,7 @@ use Rattle.stateful_history.specs.Past.{Past, Came, after}
 use Rattle.stateful_history.specs.Refusals.{Climbs, WasFinalized, AreFurther, HoldsFurther}
 use Rattle.stateful_history.specs.States.{fold}
 use Rattle.stateful_history.specs.Stops.{IsRestart}
+use Rattle.stateful_history.specs.Honest.{StoresFinalized}
 use Rattle.stateful_history.specs.declared.event.Event.{Event}
 use Rattle.stateful_history.specs.declared.event.Event.TheVariants.{Restart}
 use Rattle.stateful_history.specs.declared.mark.Mark.{Mark}
@@ -31,7 +32,6 @@ use Rattle.stateful_keeping.specs.Execution.{Executes, NamesBehind}
 use Rattle.stateful_keeping.specs.Stands.{IsUpAt}
 use Rattle.stateful_keeping.specs.TakenBehind.{TakenBehind}
 use Rattle.stateful_keeping.specs.Tickets.{TicketsStand}
-use Rattle.stateful_keeping.specs.Ways.{StoresFinalized}
 use Rattle.stateful_keeping.proofs.AlongUp.{along-up}
 use Rattle.stateful_keeping.proofs.AnchorStands.{Executes-anchor, Executes-folded}
 use Rattle.stateful_keeping.proofs.AppliedFurther.{top_of, Climbs-append, GrowsBy, GrowsBy-plain, GrowsBy-then, along-grows, front-child, front-finalized}

@@ -7,6 +7,7 @@ use Rattle.stateful_db.specs.Laws.{Laws}
 use Rattle.stateful_history.specs.Live.{names_live}
 use Rattle.stateful_history.specs.Past.{Past, Came, after}
 use Rattle.stateful_history.specs.Stops.{IsRestart}
+use Rattle.stateful_history.specs.Honest.{StoresFinalized}
 use Rattle.stateful_history.specs.declared.event.Event.{Event}
 use Rattle.stateful_history.specs.declared.mark.Mark.{Mark}
 use Rattle.stateful_history.proofs.Marks.{after-append}
@@ -24,7 +25,6 @@ use Rattle.stateful_keeping.specs.Execution.{Executes, NamesBehind}
 use Rattle.stateful_keeping.specs.Media.{KeepsReopenable, MediaKept}
 use Rattle.stateful_keeping.specs.Stands.{IsUpAt}
 use Rattle.stateful_keeping.specs.TakenBehind.{TakenBehind}
-use Rattle.stateful_keeping.specs.Ways.{StoresFinalized}
 use Rattle.stateful_keeping.proofs.AlongUp.{along-up, rule_is_up}
 use Rattle.stateful_keeping.proofs.ExecutesApplies.{over_begun}
 use Rattle.stateful_keeping.proofs.MediaKept.{KeepsReopenable-preserved}

@@ -11,6 +11,7 @@ use Rattle.stateful_db.specs.declared.database.InitError.{InitError}
 use Rattle.stateful_db.specs.declared.database.InitError.TheVariants as init
 use Rattle.stateful_history.specs.Past.{Past, Came, Made, Tried, after}
 use Rattle.stateful_history.specs.Restarts.{reopened_height, WasReached, CanReopen}
+use Rattle.stateful_history.specs.Honest.{StoresHeights}
 use Rattle.stateful_history.specs.declared.event.Event.TheVariants.{Restart}
 use Rattle.stateful_history.specs.declared.mark.Mark.{Mark}
 use Rattle.stateful_history.specs.declared.mark.Mark.TheVariants.{Opened}
@@ -23,7 +24,6 @@ use Rattle.stateful_processing.specs.declared.error.StepError.{StepError}
 use Rattle.stateful_processing.specs.declared.error.StepError.TheVariants.{Database, TargetMismatch, MissingBlock, OutOfMemory}
 use Rattle.stateful_keeping.specs.Down.{IsEnding}
 use Rattle.stateful_keeping.specs.Media.{KeepsSome, KeepsDurably, targets_of, TargetsRise, KeepsReopenable, MediaKept}
-use Rattle.stateful_keeping.specs.Ways.{StoresHeights}
 use Rattle.stateful_keeping.proofs.ExecutesOpens.{handed}
 use Rattle.stateful_keeping.proofs.MediaKept.{KeepsHeights-opened}
 use Rattle.stateful_keeping.proofs.Reaching.{reached-ends}

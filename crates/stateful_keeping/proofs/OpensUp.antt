@@ -6,6 +6,7 @@ use Rattle.stateful_types.specs.declared.floor.Floor.{Floor}
 use Rattle.stateful_db.specs.Laws.{Laws}
 use Rattle.stateful_history.specs.Met.{TrueNames}
 use Rattle.stateful_history.specs.Past.{Past, Made}
+use Rattle.stateful_history.specs.Honest.{StoresHeights}
 use Rattle.stateful_history.specs.declared.mark.Mark.TheVariants.{Opened}
 use Rattle.stateful_exec.specs.Workings.{Workings}
 use Rattle.stateful_standing.specs.Setting.{setting}
@@ -13,7 +14,6 @@ use Rattle.stateful_standing.specs.Storing.{IsStoredNow}
 use Rattle.stateful_keeping.specs.Down.{IsDownAt}
 use Rattle.stateful_keeping.specs.OpenedBehind.{OpenedBehind}
 use Rattle.stateful_keeping.specs.Stands.{IsUpAt}
-use Rattle.stateful_keeping.specs.Ways.{StoresHeights}
 use Rattle.stateful_keeping.proofs.CapturedKept.{opens-captured}
 use Rattle.stateful_keeping.proofs.BarriersDown.{NoneLive}
 use Rattle.stateful_keeping.proofs.ExecutesOpens.{Executes-opens}

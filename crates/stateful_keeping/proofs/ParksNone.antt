@@ -4,7 +4,7 @@ use Rattle.std.proofs.lemmas.List.Elements.{filter_passes}
 use Rattle.stateful_types.specs.Names.{Named}
 use Rattle.stateful_history.specs.declared.mark.How.{How}
 use Rattle.stateful_table.specs.Table.{put}
-use Rattle.stateful_exec.specs.Ending.{Follows, given_up, held, failed, parked, goes_on}
+use Rattle.stateful_exec.specs.Ending.{Follows, given_up, at_boundary, failed, parked, goes_on}
 use Rattle.stateful_exec.specs.Moments.{Moment}
 use Rattle.stateful_exec.specs.Path.{Path}
 use Rattle.stateful_exec.specs.Phase.{parked_path, not_parked}
@@ -71,7 +71,7 @@ module _ {B C I P R D H G U : Type 0} (w : Workings B C I P R D H G U) (m now : 
   pub ParksNone-follows : m.state.pause ≡ Free → (b : Named B) (how : How) (r : Released B C I) → Follows w b how r m now
       → ParksNone now.state.requests
   ParksNone-follows free b how r (given_up out concludes) = ParksNone-concludes r.ticket (requested r.request) verdict.Invalid concludes
-  ParksNone-follows free b how r (held is becomes) = absurd (rw free at is)
+  ParksNone-follows free b how r (at_boundary is becomes) = absurd (rw free at is)
   ParksNone-follows free b how r (failed not_held out concludes) = ParksNone-concludes r.ticket (requested r.request) verdict.Invalid concludes
   ParksNone-follows free b how r (parked pruning any becomes) = absurd (cc)
   ParksNone-follows free b how r (goes_on kept not_held other any advances) = ParksNone-advances r.ticket (requested r.request) r.path advances

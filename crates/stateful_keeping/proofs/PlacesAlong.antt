@@ -6,6 +6,7 @@ use Rattle.stateful_db.specs.Laws.{Laws}
 use Rattle.stateful_history.specs.Live.{names_live}
 use Rattle.stateful_history.specs.Past.{Past, Came, EachMark, after}
 use Rattle.stateful_history.specs.Stops.{IsRestart}
+use Rattle.stateful_history.specs.Honest.{StoresFinalized}
 use Rattle.stateful_history.specs.declared.event.Event.{Event}
 use Rattle.stateful_history.specs.declared.mark.Mark.{Mark}
 use Rattle.stateful_history.proofs.Marks.{after-append, EachMark-append}
@@ -21,7 +22,6 @@ use Rattle.stateful_keeping.specs.Execution.{NamesBehind}
 use Rattle.stateful_keeping.specs.Places.{IsInPlace, PlacesKept, PlacesBehind}
 use Rattle.stateful_keeping.specs.Stands.{IsUpAt}
 use Rattle.stateful_keeping.specs.TakenBehind.{TakenBehind}
-use Rattle.stateful_keeping.specs.Ways.{StoresFinalized}
 use Rattle.stateful_keeping.proofs.AlongUp.{rule_is_up, along-up}
 use Rattle.stateful_keeping.proofs.EventUp.{names-taken}
 use Rattle.stateful_keeping.proofs.MarksOfRules.{taken_in_marks}

@@ -13,7 +13,7 @@ use Rattle.stateful_history.specs.Runs.{MayRun, MayRunAgain}
 use Rattle.stateful_history.specs.declared.mark.How.{How}
 use Rattle.stateful_history.specs.declared.mark.Mark.{Mark}
 use Rattle.stateful_cache.specs.Cache.{IsIn, IsAtHand}
-use Rattle.stateful_exec.specs.Ending.{IsGivenUp, IsHeld, Follows, given_up, held, failed, parked, goes_on}
+use Rattle.stateful_exec.specs.Ending.{IsGivenUp, AwaitsBoundary, Follows, given_up, at_boundary, failed, parked, goes_on}
 use Rattle.stateful_exec.specs.Moments.{Moment}
 use Rattle.stateful_exec.specs.Path.{Path}
 use Rattle.stateful_exec.specs.Rules.{GoesOn, IsPassed, Reaches, RunsNone, Knows, first_or, told, requested, Concludes, Advances, arrives, leaves, joins, starts, misses}
@@ -157,7 +157,7 @@ module _ {B C I P R D H G U : Type 0} (w : Workings B C I P R D H G U) (stored :
     uncancelled : was_cancelled r.ticket p ≡ false
     uncancelled = o.live r.ticket (live-request w stored p r.ticket r.request on.hand.asked)
 
-    -- the block is known, where a request goes on, is parked or is held
+    -- the block is known, where a request goes on, is parked or awaits the boundary
     goes_known : (IsGivenUp w.header m.state.pause b → ⊥) → IsIn m.state.cache b.digest → Known (setting w stored) p b.digest
     goes_known kept any = go free_way
       where
@@ -166,11 +166,11 @@ module _ {B C I P R D H G U : Type 0} (w : Workings B C I P R D H G U) (stored :
             closed kept
         go (inr moved) = known_at moved b.digest (inr any)
 
-    held_known : (pause : Pause) → CacheStands w stored p points m.next m.state.anchor pause m.state.cache → IsHeld pause b how
+    boundary_known : (pause : Pause) → CacheStands w stored p points m.next m.state.anchor pause m.state.cache → AwaitsBoundary pause b how
         → Known (setting w stored) p b.digest
-    held_known Free s is = absurd is
-    held_known Pruning s is = absurd is
-    held_known (Finalizing boundary) s is = (s.knows b.digest).1 (inl is.0)
+    boundary_known Free s is = absurd is
+    boundary_known Pruning s is = absurd is
+    boundary_known (Finalizing boundary) s is = (s.knows b.digest).1 (inl is.0)
 
     parked_known : (pause : Pause) → CacheStands w stored p points m.next m.state.anchor pause m.state.cache → pause ≡ Pruning
         → IsIn m.state.cache b.digest → Known (setting w stored) p b.digest
@@ -182,7 +182,7 @@ module _ {B C I P R D H G U : Type 0} (w : Workings B C I P R D H G U) (stored :
     pub follows-in_place : Follows w b how r m now → KeepsBehind w (IsInPlace w stored base) p m now
     follows-in_place (given_up out concludes) =
         concludes-in_place w stored base p m r.ticket (requested r.request) verdict.Invalid now on.hand.asked uncancelled concludes
-    follows-in_place (held is becomes) = rw becomes (record { more = []; marks_are = refl; each = tt })
+    follows-in_place (at_boundary is becomes) = rw becomes (record { more = []; marks_are = refl; each = tt })
     follows-in_place (failed not_held out concludes) =
         concludes-in_place w stored base p m r.ticket (requested r.request) verdict.Invalid now on.hand.asked uncancelled concludes
     follows-in_place (parked pruning any becomes) = rw becomes (record { more = []; marks_are = refl; each = tt })
@@ -240,7 +240,7 @@ module _ {B C I P R D H G U : Type 0} (w : Workings B C I P R D H G U) (stored :
         where
           go : Follows w b how r m now → IsOrderly w stored q
           go (given_up out concludes) = from_ended concludes
-          go (held is becomes) = from_known (held_known m.state.pause ready.stands.cache is)
+          go (at_boundary is becomes) = from_known (boundary_known m.state.pause ready.stands.cache is)
           go (failed not_held out concludes) = from_ended concludes
           go (parked pruning any becomes) = from_known (parked_known m.state.pause ready.stands.cache pruning any)
           go (goes_on kept not_held other any advances) = from_known (goes_known kept any)

@@ -17,7 +17,7 @@ use Rattle.stateful_history.specs.declared.mark.JobKind.TheVariants.{Candidate}
 use Rattle.stateful_history.specs.declared.mark.Mark.{Mark}
 use Rattle.stateful_history.specs.declared.mark.Mark.TheVariants.{Started, Verdict, Declined}
 use Rattle.stateful_table.specs.Table.{at, put}
-use Rattle.stateful_exec.specs.Ending.{Follows, given_up, held, failed, parked, goes_on}
+use Rattle.stateful_exec.specs.Ending.{Follows, given_up, at_boundary, failed, parked, goes_on}
 use Rattle.stateful_exec.specs.Moments.{Moment}
 use Rattle.stateful_exec.specs.Path.{Path}
 use Rattle.stateful_exec.specs.Phase.{is_on, path_on, not_on, released_on}
@@ -107,7 +107,7 @@ module _ {B C I P R D H G U : Type 0} (w : Workings B C I P R D H G U) (p : Past
   -- the marks of a request that follows the end of a run are such
   pub follows-following : (b : Named B) (how : How) (r : Released B C I) → Follows w b how r m now → FollowsMarks
   follows-following b how r (given_up out concludes) = concluded r.ticket (requested r.request) verdict.Invalid concludes
-  follows-following b how r (held is becomes) = none_told (ap (λ (n : Moment w). n.marks) becomes)
+  follows-following b how r (at_boundary is becomes) = none_told (ap (λ (n : Moment w). n.marks) becomes)
   follows-following b how r (failed not_held out concludes) = concluded r.ticket (requested r.request) verdict.Invalid concludes
   follows-following b how r (parked pruning any becomes) = none_told (ap (λ (n : Moment w). n.marks) becomes)
   follows-following b how r (goes_on kept not_held other any advances) = went_along r.ticket (requested r.request) r.path advances
@@ -126,7 +126,7 @@ module _ {B C I P R D H G U : Type 0} (w : Workings B C I P R D H G U) (b : Name
   -- who is in the table stays there, behind one that follows the end of a run
   there_follows : Follows w b how r m now → (u : ℕ) → IsSome (at m.state.requests u) → IsSome (at now.state.requests u)
   there_follows (given_up out concludes) u some = ended_there concludes u some
-  there_follows (held is becomes) u some = rw becomes (put_some m.state.requests r.ticket u _ some)
+  there_follows (at_boundary is becomes) u some = rw becomes (put_some m.state.requests r.ticket u _ some)
   there_follows (failed not_held out concludes) u some = ended_there concludes u some
   there_follows (parked pruning any becomes) u some = rw becomes (put_some m.state.requests r.ticket u _ some)
   there_follows (goes_on kept not_held other any advances) u some =
@@ -135,7 +135,7 @@ module _ {B C I P R D H G U : Type 0} (w : Workings B C I P R D H G U) (b : Name
   -- and what is queued stays queued
   queued_follows : Follows w b how r m now → (u : ℕ) → IsSome (at m.state.queued u) → IsSome (at now.state.queued u)
   queued_follows (given_up out concludes) u some = queued-concludes w m now r.ticket (requested r.request) verdict.Invalid concludes u some
-  queued_follows (held is becomes) u some = rw becomes some
+  queued_follows (at_boundary is becomes) u some = rw becomes some
   queued_follows (failed not_held out concludes) u some = queued-concludes w m now r.ticket (requested r.request) verdict.Invalid concludes u some
   queued_follows (parked pruning any becomes) u some = rw becomes some
   queued_follows (goes_on kept not_held other any advances) u some =
@@ -151,7 +151,7 @@ module _ {B C I P R D H G U : Type 0} (w : Workings B C I P R D H G U) (b : Name
     own_follows : Follows w b how r m now → IsLiveRequest r.ticket (after p more) → IsElsewhere now.state r.ticket → ⊥
     own_follows (given_up gone concludes) live out =
         own-concludes w m now r.ticket p more marks_are (requested r.request) verdict.Invalid concludes live out
-    own_follows (held is becomes) live out = parked_there _ (ap (λ (n : Moment w). n.state.requests) becomes) out
+    own_follows (at_boundary is becomes) live out = parked_there _ (ap (λ (n : Moment w). n.state.requests) becomes) out
     own_follows (failed not_held gone concludes) live out =
         own-concludes w m now r.ticket p more marks_are (requested r.request) verdict.Invalid concludes live out
     own_follows (parked pruning any becomes) live out = parked_there _ (ap (λ (n : Moment w). n.state.requests) becomes) out

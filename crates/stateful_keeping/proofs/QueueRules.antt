@@ -9,7 +9,7 @@ use Rattle.stateful_types.specs.declared.outcome.Moved.TheVariants.{Pending, Don
 use Rattle.stateful_db.specs.declared.application.AppFault.{AppFault}
 use Rattle.stateful_history.specs.declared.mark.How.{How}
 use Rattle.stateful_table.specs.Table.{at, put}
-use Rattle.stateful_exec.specs.Ending.{released, TurnsRun, Follows, given_up, held, failed, parked, goes_on, Settles, SettlesBy, Steps}
+use Rattle.stateful_exec.specs.Ending.{released, TurnsRun, Follows, given_up, at_boundary, failed, parked, goes_on, Settles, SettlesBy, Steps}
 use Rattle.stateful_exec.specs.Fetching.{Fetches, serving, with_block, IsFetched, found, waits as awaits, declines, dead}
 use Rattle.stateful_exec.specs.Moments.{Moment}
 use Rattle.stateful_exec.specs.Path.{Path}
@@ -72,7 +72,7 @@ module _ {B C I P R D H G U : Type 0} (w : Workings B C I P R D H G U) where
   pub grows_follows : (b : Named B) (how : How) (r : Released B C I) (m now : Moment w) → IsElsewhere m.state r.ticket → Follows w b how r m now
       → GrowsBy r.ticket m now
   grows_follows b how r m now hand (given_up up c) = grows_concludes w m now r.ticket (requested r.request) Invalid hand c
-  grows_follows b how r m now hand (held is becomes) = grows_put w m now r.ticket (requested r.request) _ hand becomes
+  grows_follows b how r m now hand (at_boundary is becomes) = grows_put w m now r.ticket (requested r.request) _ hand becomes
   grows_follows b how r m now hand (failed not_held off c) = grows_concludes w m now r.ticket (requested r.request) Invalid hand c
   grows_follows b how r m now hand (parked pause there becomes) = grows_put w m now r.ticket (requested r.request) _ hand becomes
   grows_follows b how r m now hand (goes_on up not_held pause there rule) = grows_advances m now r.ticket (requested r.request) r.path hand rule

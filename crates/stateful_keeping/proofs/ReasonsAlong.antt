@@ -4,6 +4,7 @@ use Rattle.std.proofs.lemmas.List.{append_assoc, append_cancel_left}
 use Rattle.stateful_types.specs.Names.{Named}
 use Rattle.stateful_db.specs.Laws.{Laws}
 use Rattle.stateful_history.specs.Past.{Past, after}
+use Rattle.stateful_history.specs.Honest.{StoresFinalized}
 use Rattle.stateful_history.specs.declared.event.Event.{Event}
 use Rattle.stateful_history.specs.declared.mark.Mark.{Mark}
 use Rattle.stateful_history.proofs.Marks.{after-append, EachMark-append}
@@ -16,7 +17,6 @@ use Rattle.stateful_processing.specs.Rules.{Along, none, further}
 use Rattle.stateful_keeping.specs.Behind.{UpBehind}
 use Rattle.stateful_keeping.specs.Reasons.{IsTrusted, ReasonsStand, HasItsReason, ReasonsBehind, ReasonsUpBehind}
 use Rattle.stateful_keeping.specs.Stands.{IsUpAt}
-use Rattle.stateful_keeping.specs.Ways.{StoresFinalized}
 use Rattle.stateful_keeping.proofs.AlongUp.{rule_is_up, along-up}
 use Rattle.stateful_keeping.proofs.ExecutesKept.{Executes-names}
 use Rattle.stateful_keeping.proofs.NamesBehind.{NamesBehind-marks}

@@ -16,7 +16,7 @@ use Rattle.stateful_history.specs.declared.mark.How.TheVariants.{Missed}
 use Rattle.stateful_history.specs.declared.mark.Mark.{Mark}
 use Rattle.stateful_cache.specs.Cache.{IsIn, IsAtHand}
 use Rattle.stateful_exec.specs.Boundary.{Boundary, IsRetained, step_by}
-use Rattle.stateful_exec.specs.Ending.{IsGivenUp, Follows, given_up, held, failed, parked, goes_on}
+use Rattle.stateful_exec.specs.Ending.{IsGivenUp, Follows, given_up, at_boundary, failed, parked, goes_on}
 use Rattle.stateful_exec.specs.Moments.{Moment, moment}
 use Rattle.stateful_exec.specs.Path.{Path}
 use Rattle.stateful_exec.specs.Rules.{GoesOn, IsPassed, Reaches, requested, ended, told, Concludes, Advances, arrives, leaves, joins, starts, misses}
@@ -183,7 +183,7 @@ module _ {B C I P R D H G U : Type 0} (w : Workings B C I P R D H G U) (stored :
           (uncached b (subst (λ (x : Named B). Met (setting w stored) p x) h.leads
           (All-last (Met (setting w stored) p) r.path.blocks r.path.parent h.way.met)) off_anchor h.ended.parent
           (given_up_by v.pause moved.pause_is out)) concludes
-      follows-moved now (held out becomes) = rw becomes (record { more = []; marks_are = refl; each = tt })
+      follows-moved now (at_boundary out becomes) = rw becomes (record { more = []; marks_are = refl; each = tt })
       follows-moved now (failed not_held out concludes) = ends_badly b how r asked h now out concludes
       follows-moved now (parked pruning any becomes) = rw becomes (record { more = []; marks_are = refl; each = tt })
       follows-moved now (goes_on kept not_held other any advances) = along any now advances

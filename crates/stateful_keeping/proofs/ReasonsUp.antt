@@ -7,6 +7,7 @@ use Rattle.stateful_history.specs.Live.{names_live}
 use Rattle.stateful_history.specs.Met.{TrueNames}
 use Rattle.stateful_history.specs.Past.{Past, Came, after}
 use Rattle.stateful_history.specs.Stops.{IsRestart}
+use Rattle.stateful_history.specs.Honest.{StoresFinalized}
 use Rattle.stateful_history.specs.declared.event.Event.{Event}
 use Rattle.stateful_history.specs.declared.mark.Mark.{Mark}
 use Rattle.stateful_exec.specs.Workings.{Workings}
@@ -22,7 +23,6 @@ use Rattle.stateful_keeping.specs.Reasons.{IsTrusted, ReasonsStand, ReasonsUpBeh
 use Rattle.stateful_keeping.specs.RuleMarks.{MarksBehind}
 use Rattle.stateful_keeping.specs.Stands.{IsUpAt}
 use Rattle.stateful_keeping.specs.TakenBehind.{TakenBehind}
-use Rattle.stateful_keeping.specs.Ways.{StoresFinalized}
 use Rattle.stateful_keeping.proofs.EventUp.{along_marks, names-taken}
 use Rattle.stateful_keeping.proofs.ExecutesKept.{Executes-names}
 use Rattle.stateful_keeping.proofs.MarksOfRules.{taken_in_marks}

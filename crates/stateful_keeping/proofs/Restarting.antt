@@ -11,6 +11,7 @@ use Rattle.stateful_history.specs.Opening.{opening}
 use Rattle.stateful_history.specs.Past.{Past, Came, Made, after}
 use Rattle.stateful_history.specs.Setting.{Setting}
 use Rattle.stateful_history.specs.Stops.{NothingLive}
+use Rattle.stateful_history.specs.Honest.{StoresHeights}
 use Rattle.stateful_history.specs.declared.event.Event.TheVariants.{Restart}
 use Rattle.stateful_history.specs.declared.mark.Mark.{Mark}
 use Rattle.stateful_history.specs.declared.mark.Mark.TheVariants.{Withdrawn, Ended, Declined, Dropped, Stopped}
@@ -19,7 +20,6 @@ use Rattle.stateful_standing.specs.Setting.{setting}
 use Rattle.stateful_standing.specs.Storing.{IsStoredNow}
 use Rattle.stateful_keeping.specs.Down.{IsEnding, IsCounted}
 use Rattle.stateful_keeping.specs.OpenedBehind.{OpenedBehind}
-use Rattle.stateful_keeping.specs.Ways.{StoresHeights}
 use Rattle.stateful_keeping.proofs.ExecutesKept.{names-on}
 use Rattle.stateful_keeping.proofs.GoesDown.{IsDownAt-restarts}
 use Rattle.stateful_keeping.proofs.OpensUp.{opens-up}

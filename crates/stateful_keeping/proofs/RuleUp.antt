@@ -8,6 +8,7 @@ use Rattle.stateful_durability.specs.Durability.{IsInOrder}
 use Rattle.stateful_history.specs.Holding.{HoldsSince, Holds}
 use Rattle.stateful_history.specs.Joined.{TrueIsEarned}
 use Rattle.stateful_history.specs.Past.{Past, EachMark, after}
+use Rattle.stateful_history.specs.Honest.{StoresFinalized}
 use Rattle.stateful_history.specs.declared.mark.Mark.{Mark}
 use Rattle.stateful_exec.specs.Workings.{Workings, Point}
 use Rattle.stateful_standing.specs.Building.{BuildsTakeTurns}
@@ -25,7 +26,7 @@ use Rattle.stateful_keeping.specs.Execution.{Executes, ExecutesBehind}
 use Rattle.stateful_keeping.specs.RuleMarks.{IsOfRule, MarksBehind}
 use Rattle.stateful_keeping.specs.Stands.{CapturedStands, IsUpAt}
 use Rattle.stateful_keeping.specs.Tickets.{TicketsBehind}
-use Rattle.stateful_keeping.specs.Ways.{StoresFinalized, WaysKept, WaysBehind}
+use Rattle.stateful_keeping.specs.Ways.{WaysKept, WaysBehind}
 use Rattle.stateful_keeping.proofs.CapturedKept.{rule-captured}
 use Rattle.stateful_keeping.proofs.AnchorStands.{Executes-anchor, Executes-folded}
 use Rattle.stateful_keeping.proofs.ExecutesApplies.{Executes-applies}

@@ -15,7 +15,7 @@ use Rattle.stateful_history.specs.declared.mark.Mark.TheVariants.{Ended}
 use Rattle.stateful_cache.specs.declared.cache.Cached.{Cached}
 use Rattle.stateful_table.specs.Table.{at, put, without}
 use Rattle.stateful_exec.specs.Built.{GivesUp, building, asking}
-use Rattle.stateful_exec.specs.Ending.{InTurn, none as in_none, next as in_next, released, Turns, TurnsRun, Settles, SettlesBy, Steps, Follows, given_up, held, failed, parked, goes_on}
+use Rattle.stateful_exec.specs.Ending.{InTurn, none as in_none, next as in_next, released, Turns, TurnsRun, Settles, SettlesBy, Steps, Follows, given_up, at_boundary, failed, parked, goes_on}
 use Rattle.stateful_exec.specs.Fetching.{Fetches, IsFetched, found, waits as awaits, declines, dead, serving, with_block, Cancels, idle, withdraws, leaves as leaves_run, ends as ends_run, unqueued}
 use Rattle.stateful_exec.specs.Moments.{Moment, Becomes}
 use Rattle.stateful_exec.specs.Path.{Path}
@@ -166,7 +166,7 @@ module _ {B C I P R D H G U : Type 0} (w : Workings B C I P R D H G U) (first : 
     -- one that follows the end of the run that it waited for
     pub carries_follows : (b : Named B) (how : How) (r : Released B C I) (m now : Moment w) → Follows w b how r m now → Carries m now
     carries_follows b how r m now (given_up up c) = carries_concludes m now r.ticket (requested r.request) Invalid c
-    carries_follows b how r m now (held is becomes) = moves m now r.ticket (requested r.request) (Parked r.path) (λ e. absurd (cc)) becomes
+    carries_follows b how r m now (at_boundary is becomes) = moves m now r.ticket (requested r.request) (Parked r.path) (λ e. absurd (cc)) becomes
     carries_follows b how r m now (failed not_held off c) = carries_concludes m now r.ticket (requested r.request) Invalid c
     carries_follows b how r m now (parked pause there becomes) =
         moves m now r.ticket (requested r.request) (Parked r.path) (λ e. absurd (cc)) becomes

@@ -9,7 +9,7 @@ use Rattle.stateful_db.specs.declared.application.AppFault.{AppFault}
 use Rattle.stateful_history.specs.declared.mark.How.{How}
 use Rattle.stateful_history.specs.declared.mark.Mark.{Mark}
 use Rattle.stateful_exec.specs.Boundary.{Boundary, step_by, IsRetained}
-use Rattle.stateful_exec.specs.Ending.{InTurn, none, next, Crosses, EndsRun, TurnsRun, Follows, given_up, held, failed, parked, goes_on, Settles, SettlesBy, Steps}
+use Rattle.stateful_exec.specs.Ending.{InTurn, none, next, Crosses, EndsRun, TurnsRun, Follows, given_up, at_boundary, failed, parked, goes_on, Settles, SettlesBy, Steps}
 use Rattle.stateful_exec.specs.Fetching.{Cancels, idle, withdraws, leaves, ends, unqueued}
 use Rattle.stateful_exec.specs.Finalizing.{RunsFinal}
 use Rattle.stateful_exec.specs.Moments.{Moment}
@@ -88,7 +88,7 @@ module _ {B C I P R D H G U : Type 0} (w : Workings B C I P R D H G U) where
   pub RunsGoOver-follows : (b : Named B) (how : How) (r : Released B C I) (m now : Moment w) → Follows w b how r m now → RunsGoOver w.header m.state
       → RunsGoOver w.header now.state
   RunsGoOver-follows b how r m now (given_up out concludes) h = concludes_over m now r.ticket (requested r.request) verdict.Invalid concludes h
-  RunsGoOver-follows b how r m now (held is becomes) h = rw becomes h
+  RunsGoOver-follows b how r m now (at_boundary is becomes) h = rw becomes h
   RunsGoOver-follows b how r m now (failed not_held out concludes) h = concludes_over m now r.ticket (requested r.request) verdict.Invalid concludes h
   RunsGoOver-follows b how r m now (parked pruning any becomes) h = rw becomes h
   RunsGoOver-follows b how r m now (goes_on kept not_held other any advances) h =

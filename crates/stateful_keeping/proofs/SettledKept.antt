@@ -7,7 +7,7 @@ use Rattle.stateful_types.specs.declared.outcome.Moved.TheVariants.{Pending, Don
 use Rattle.stateful_db.specs.declared.application.AppFault.{AppFault}
 use Rattle.stateful_history.specs.declared.mark.How.{How}
 use Rattle.stateful_table.specs.Table.{put}
-use Rattle.stateful_exec.specs.Ending.{InTurn, none as in_none, next as in_next, released, Settles, SettlesBy, Steps, Follows, given_up, held, failed, parked, goes_on}
+use Rattle.stateful_exec.specs.Ending.{InTurn, none as in_none, next as in_next, released, Settles, SettlesBy, Steps, Follows, given_up, at_boundary, failed, parked, goes_on}
 use Rattle.stateful_exec.specs.Fetching.{IsFetched, found, waits as awaits, declines, dead, serving, with_block}
 use Rattle.stateful_exec.specs.Moments.{Moment, Becomes}
 use Rattle.stateful_exec.specs.Path.{Path}
@@ -76,7 +76,7 @@ module _ {B C I P R D H G U : Type 0} (w : Workings B C I P R D H G U) where
   -- one that follows the end of the run that it waited for
   pub settling_follows : (b : Named B) (how : How) (r : Released B C I) (m now : Moment w) → Follows w b how r m now → Settling m now
   settling_follows b how r m now (given_up up c) = settling_concludes m now r.ticket (requested r.request) Invalid c
-  settling_follows b how r m now (held is becomes) = settling_becomes m now r.ticket (requested r.request) (Parked r.path) (λ e. cc) becomes
+  settling_follows b how r m now (at_boundary is becomes) = settling_becomes m now r.ticket (requested r.request) (Parked r.path) (λ e. cc) becomes
   settling_follows b how r m now (failed not_held off c) = settling_concludes m now r.ticket (requested r.request) Invalid c
   settling_follows b how r m now (parked pause there becomes) =
       settling_becomes m now r.ticket (requested r.request) (Parked r.path) (λ e. cc) becomes

@@ -9,6 +9,7 @@ use Rattle.stateful_history.specs.Canonical.{canonical, canonical_by, pruned_bel
 use Rattle.stateful_history.specs.Past.{Past, Came, Made, after}
 use Rattle.stateful_history.specs.Setting.{Setting}
 use Rattle.stateful_history.specs.Stops.{IsRestart}
+use Rattle.stateful_history.specs.Honest.{StoresFinalized}
 use Rattle.stateful_history.specs.declared.event.Event.{Event}
 use Rattle.stateful_history.specs.declared.event.Event.TheVariants.{Restart}
 use Rattle.stateful_history.specs.declared.mark.Mark.{Mark}
@@ -26,7 +27,7 @@ use Rattle.stateful_standing.specs.Setting.{setting}
 use Rattle.stateful_standing.specs.Ways.{IsUnsettled, IsOnOpenWay, WaysStand}
 use Rattle.stateful_standing.proofs.EarnedCarried.{IsMild, as_before}
 use Rattle.stateful_processing.specs.Moments.{Moment}
-use Rattle.stateful_keeping.specs.Ways.{ParksNone, StoresFinalized, WaysKept, WaysBehind}
+use Rattle.stateful_keeping.specs.Ways.{ParksNone, WaysKept, WaysBehind}
 
 module _ {B C I : Type 0} (header : Header B) where
   -- the anchor and the tip are the same, and nothing more was pruned

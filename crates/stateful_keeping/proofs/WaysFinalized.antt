@@ -11,6 +11,7 @@ use Rattle.stateful_history.specs.Anchors.{anchor_of}
 use Rattle.stateful_history.specs.Canonical.{kept_at, pruned_below}
 use Rattle.stateful_history.specs.Past.{Past, Made, after}
 use Rattle.stateful_history.specs.Restarts.{reopened_height}
+use Rattle.stateful_history.specs.Honest.{StoresHeights, StoresAs}
 use Rattle.stateful_history.specs.declared.mark.Mark.{Mark}
 use Rattle.stateful_history.specs.declared.mark.Mark.TheVariants.{Opened, Began, Applied}
 use Rattle.stateful_exec.specs.Finalizing.{front_at}
@@ -31,7 +32,7 @@ use Rattle.stateful_processing.specs.Opening.{Opens}
 use Rattle.stateful_processing.specs.Rules.{IsFinalizing, HasStates, BeginsFinalization, AppliesBlock, EndsFinalization}
 use Rattle.stateful_processing.specs.declared.tables.Finalizing as loop
 use Rattle.stateful_keeping.specs.Execution.{IsFree, HasMovedOn, IsPlaced, Executes, ExecutesBehind}
-use Rattle.stateful_keeping.specs.Ways.{ParksNone, StoresHeights, StoresAs, StoresAnchor, WaysKept, WaysBehind}
+use Rattle.stateful_keeping.specs.Ways.{ParksNone, StoresAnchor, WaysKept, WaysBehind}
 use Rattle.stateful_keeping.proofs.ExecutesApplies.{IsOverBegun, over_begun}
 use Rattle.stateful_keeping.proofs.ExecutesBegins.{IsSamePast-withdrawn}
 use Rattle.stateful_keeping.proofs.ExecutesEnds.{IsResumedBehind, IsResumedBehind-ends}

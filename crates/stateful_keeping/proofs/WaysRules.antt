@@ -8,6 +8,7 @@ use Rattle.stateful_durability.specs.Durability.{receipts_up_to}
 use Rattle.stateful_history.specs.Finalizations.{finalized_since}
 use Rattle.stateful_history.specs.Past.{Past, Came}
 use Rattle.stateful_history.specs.Requests.{IsLiveReceipt}
+use Rattle.stateful_history.specs.Honest.{StoresAs, StoresFinalized}
 use Rattle.stateful_history.specs.declared.event.Event.TheVariants.{Finalized, Restart}
 use Rattle.stateful_history.specs.declared.mark.Mark.{Mark}
 use Rattle.stateful_history.specs.declared.mark.Mark.TheVariants.{BarrierBegun, BarrierDone, Databases}
@@ -25,7 +26,7 @@ use Rattle.stateful_processing.specs.declared.message.Message.TheVariants as mes
 use Rattle.stateful_processing.specs.declared.tables.Finalizing.{Finalizing}
 use Rattle.stateful_keeping.specs.Execution.{Executes}
 use Rattle.stateful_keeping.specs.Tickets.{MessageStands, TicketsStand}
-use Rattle.stateful_keeping.specs.Ways.{StoresAs, StoresFinalized, WaysKept, WaysBehind}
+use Rattle.stateful_keeping.specs.Ways.{WaysKept, WaysBehind}
 use Rattle.stateful_keeping.proofs.ExecutesKept.{Executes-same}
 use Rattle.stateful_keeping.proofs.TicketsTaken.{IsTaken, message_taken, takes-taken, takes-execution, takes-front}
 use Rattle.stateful_keeping.proofs.MarksOfRules.{takes-marks}

@@ -1,10 +1,9 @@
 -- The ways of requests, as they are kept while the machine is up.
-use Rattle.std.specs.Prelude.{◌≡◌, ℕ, Option, Some, List, [], ◌∷◌, ◌++◌, All}
-use Rattle.stateful_types.specs.Names.{Header, Named}
+use Rattle.std.specs.Prelude.{◌≡◌, ℕ, Option, Some, List, ◌++◌, All}
+use Rattle.stateful_types.specs.Names.{Named}
 use Rattle.stateful_types.specs.declared.anchor.Anchor.{Anchor}
 use Rattle.stateful_history.specs.Anchors.{anchor_of, tip_of}
-use Rattle.stateful_history.specs.Past.{Past, Came, after}
-use Rattle.stateful_history.specs.declared.event.Event.TheVariants.{Finalized}
+use Rattle.stateful_history.specs.Past.{Past, after}
 use Rattle.stateful_history.specs.declared.mark.Mark.{Mark}
 use Rattle.stateful_exec.specs.Path.{Path}
 use Rattle.stateful_exec.specs.Workings.{Workings}
@@ -18,27 +17,6 @@ use Rattle.stateful_processing.specs.Moments.{Moment}
 -- no request is parked
 abbrev pub ParksNone : {B C I : Type 0} → List (ℕ × Requested B C I) → Type 0
 ParksNone {B} requests = All (λ e. (path : Path B) → e.1.phase ≡ Parked path → ⊥) requests
-
-module _ {B : Type 0} (header : Header B) (stored : ℕ → Option (Named B)) where
-  -- what the store has at a height is a block of that height
-  abbrev pub StoresHeights : Type 0
-  StoresHeights = (n : ℕ) (b : Named B) → stored n ≡ Some b → header.height b.block ≡ n
-
-  -- where the store has a block of this one's height, it has this one
-  abbrev pub StoresAs : Named B → Type 0
-  StoresAs b = (c : Named B) → stored (header.height b.block) ≡ Some c → c.digest ≡ b.digest
-
-  -- so it is with each block that came as finalized
-  abbrev pub StoresFinalized : {C I : Type 0} → Past B C I → Type 0
-  StoresFinalized [] = Unit {0}
-  StoresFinalized (Came (Finalized t b) ∷ p) = StoresAs b × StoresFinalized p
-  StoresFinalized (item ∷ p) = StoresFinalized p
-
-  -- The store is honest: what it has at a height is a block of that height, and the one that came
-  -- as finalized, if one came.
-  pub record HasHonestStore {C I : Type 0} (p : Past B C I) : Type 0 where
-    pub heights : StoresHeights
-    pub finalized : StoresFinalized p
 
 module _ {B C I P R D H G U : Type 0} (w : Workings B C I P R D H G U)
     (stored : ℕ → Option (Named B)) (p : Past B C I) where

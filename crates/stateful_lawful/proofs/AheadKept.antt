@@ -12,6 +12,7 @@ use Rattle.stateful_history.specs.Lawful.{highest}
 use Rattle.stateful_history.specs.Opening.{opening}
 use Rattle.stateful_history.specs.Past.{Past, Came, Made, after}
 use Rattle.stateful_history.specs.States.{fold}
+use Rattle.stateful_history.specs.Honest.{StoresFinalized}
 use Rattle.stateful_history.specs.declared.mark.Mark.{Mark}
 use Rattle.stateful_history.specs.declared.mark.Mark.TheVariants.{Opened, Converged, Applied}
 use Rattle.stateful_history.proofs.Marks.{after-append}
@@ -29,7 +30,6 @@ use Rattle.stateful_processing.specs.Sound.{IsUp, FrontAgrees}
 use Rattle.stateful_processing.specs.declared.tables.Finalizing.{Finalizing}
 use Rattle.stateful_keeping.specs.Behind.{UpBehind}
 use Rattle.stateful_keeping.specs.Stands.{IsUpAt}
-use Rattle.stateful_keeping.specs.Ways.{StoresFinalized}
 use Rattle.stateful_keeping.proofs.AlongUp.{rule_is_up, along-up}
 use Rattle.stateful_keeping.proofs.AnchorStands.{Executes-anchor}
 use Rattle.stateful_keeping.proofs.AppliedFurther.{was_finalized-before, GrowsBy-plain}

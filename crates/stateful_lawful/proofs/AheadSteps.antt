@@ -14,6 +14,7 @@ use Rattle.stateful_history.specs.Past.{Past, Came, Made, EachMark, after, after
 use Rattle.stateful_history.specs.Refusals.{WasFinalized}
 use Rattle.stateful_history.specs.Stops.{IsRestart, NothingLive, StartsClean}
 use Rattle.stateful_history.specs.Telling.{telling_of}
+use Rattle.stateful_history.specs.Honest.{StoresHeights, StoresFinalized}
 use Rattle.stateful_history.specs.declared.entry.Entry.{Entry}
 use Rattle.stateful_history.specs.declared.event.Event.{Event}
 use Rattle.stateful_history.specs.declared.event.Event.TheVariants.{Restart}
@@ -36,7 +37,6 @@ use Rattle.stateful_keeping.specs.EventBehind.{EventBehind}
 use Rattle.stateful_keeping.specs.Execution.{NamesBehind}
 use Rattle.stateful_keeping.specs.Stands.{IsUpAt}
 use Rattle.stateful_keeping.specs.TakenBehind.{TakenBehind}
-use Rattle.stateful_keeping.specs.Ways.{StoresHeights, StoresFinalized}
 use Rattle.stateful_keeping.proofs.AlongUp.{along-up}
 use Rattle.stateful_keeping.proofs.AppliedFurther.{was_finalized-before}
 use Rattle.stateful_keeping.proofs.EventUp.{names-taken, event-up}

@@ -10,6 +10,7 @@ use Rattle.stateful_history.specs.Met.{TrueNames}
 use Rattle.stateful_history.specs.Past.{Past, Came, after}
 use Rattle.stateful_history.specs.Stops.{IsRestart}
 use Rattle.stateful_history.specs.Telling.{telling_of}
+use Rattle.stateful_history.specs.Honest.{StoresFinalized}
 use Rattle.stateful_history.specs.declared.event.Event.{Event}
 use Rattle.stateful_history.specs.declared.event.Event.TheVariants as event
 use Rattle.stateful_exec.specs.Built.{IsLiveBuild, FaultsTurn}
@@ -37,7 +38,6 @@ use Rattle.stateful_keeping.specs.Behind.{UpBehind}
 use Rattle.stateful_keeping.specs.Execution.{IsPlaced, IsFree, NamesBehind}
 use Rattle.stateful_keeping.specs.Stands.{IsUpAt}
 use Rattle.stateful_keeping.specs.TakenBehind.{TakenBehind}
-use Rattle.stateful_keeping.specs.Ways.{StoresFinalized}
 use Rattle.stateful_keeping.proofs.AlongUp.{along-up}
 use Rattle.stateful_keeping.proofs.AnchorStands.{Executes-folded}
 use Rattle.stateful_keeping.proofs.RuleItems.{IsStoredNow-after}

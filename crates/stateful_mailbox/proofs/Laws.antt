@@ -27,7 +27,7 @@ use Rattle.stateful_mailbox.proofs.Stepping.{event_as, stepped, hands_tickets, a
 use Rattle.stateful_mailbox.proofs.Fates.{or_else, end_told, EndsAs}
 use Rattle.stateful_mailbox.proofs.Following.{is_cancel, Means, cancel, hands, other, meaning, Fits, taken_fits, fits, Keeps, one_kept, all_kept, ended_more}
 use Rattle.stateful_mailbox.proofs.Replying.{calls_end}
-use Rattle.stateful_mailbox.proofs.Staying.{is_early, is_settled, isnt_queued, is_queued_or_cancelled, is_handed_or_due, Passing, early_kept, settled_kept, not_queued_kept, call_passes, IsThere, queued_held, handed_held, due_held, IsQuiet, call_stays}
+use Rattle.stateful_mailbox.proofs.Staying.{is_early, is_settled, isnt_queued, is_queued_or_cancelled, is_handed_or_due, Passing, early_kept, settled_kept, not_queued_kept, call_passes, IsThere, queued_stable, handed_stable, due_stable, IsQuiet, call_stays}
 
 all_of : {X : Type 0} (P : X → Type 0) → ((x : X) → P x) → (xs : List X) → All P xs
 all_of P every [] = All-nil P
@@ -293,13 +293,13 @@ module _ {B C I : Type 0} where
       let earlier = all_parts (IsQuiet t kind) one two quiet.0 in
       let q = run_split one (calls.taken (Some event) ∷ (two ++ calls.cancelled t ∷ (three ++ calls.taken found ∷ behind))) after last runs in
       let drawn = keeps_so t (λ s. s ≡ Some (ticket_of kind Queued)) InQueue after (λ s is. (Queued, is, refl)) (asked_kept m after ask t sound step) in
-      let queued = all_kept t InQueue (IsQuiet t kind) (λ call s fine fit there. call_stays t kind is_queued_or_cancelled queued_held call s fine fit there) one after q.0 earlier.0 q.1 drawn in
+      let queued = all_kept t InQueue (IsQuiet t kind) (λ call s fine fit there. call_stays t kind is_queued_or_cancelled queued_stable call s fine fit there) one after q.0 earlier.0 q.1 drawn in
       let handed = one_kept t InQueue HandedOut q.0 q.2.0 (calls.taken (Some event)) (λ s fit there. hand s fit there) q.2.1 queued in
       let r = run_split two (calls.cancelled t ∷ (three ++ calls.taken found ∷ behind)) q.2.0 last q.2.2 in
-      let still = all_kept t HandedOut (IsQuiet t kind) (λ call s fine fit there. call_stays t kind is_handed_or_due handed_held call s fine fit there) two q.2.0 r.0 earlier.1 r.1 handed in
+      let still = all_kept t HandedOut (IsQuiet t kind) (λ call s fine fit there. call_stays t kind is_handed_or_due handed_stable call s fine fit there) two q.2.0 r.0 earlier.1 r.1 handed in
       let due = one_kept t HandedOut ToTell r.0 r.2.0 (calls.cancelled t) (λ s fit there. cancel_due kind (t == t) s request (eq-eqb t t refl) there) r.2.1 still in
       let p = run_split three (calls.taken found ∷ behind) r.2.0 last r.2.2 in
-      let last_due = all_kept t ToTell (IsQuiet t kind) (λ call s fine fit there. call_stays t kind stands_due due_held call s fine fit there) three r.2.0 p.0 quiet.1 p.1 due in
+      let last_due = all_kept t ToTell (IsQuiet t kind) (λ call s fine fit there. call_stays t kind stands_due due_stable call s fine fit there) three r.2.0 p.0 quiet.1 p.1 due in
       let least = due_least p.0.next_ticket p.0.tickets t last_due.sound (subst (StandsAs stands_due) (sym last_due.holds.1) last_due.holds.2) in
       (least.0, takes_due least.0 p.0 p.2.0 found (taken_step_of p.0 p.2.0 found p.2.1) least.1, least.2)
     where

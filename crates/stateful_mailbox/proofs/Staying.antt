@@ -169,13 +169,13 @@ module _ {B : Type 0} where
   IsThere kind test s = (standing : Standing B) × (s ≡ Some (ticket_of kind standing)) × (test standing ≡ true)
 
   -- a test that a ticket keeps which isn't ended, unless something of it is taken out
-  pub record IsHeld (test : Standing B → Bool) : Type 0 where
+  pub record IsStable (test : Standing B → Bool) : Type 0 where
     pub live : (standing : Standing B) → test standing ≡ true → end_of standing ≡ None
     pub cancelled : test Queued ≡ true → test Cancelled ≡ true
     pub due : test Handed ≡ true → test Due ≡ true
 
-  pub queued_held : IsHeld is_queued_or_cancelled
-  queued_held = record { live = live; cancelled = λ is. refl; due = λ is. absurd (cc) }
+  pub queued_stable : IsStable is_queued_or_cancelled
+  queued_stable = record { live = live; cancelled = λ is. refl; due = λ is. absurd (cc) }
     where
       live : (standing : Standing B) → is_queued_or_cancelled standing ≡ true → end_of standing ≡ None
       live (Ended o) is = absurd (cc)
@@ -184,8 +184,8 @@ module _ {B : Type 0} where
       live Due is = refl
       live Cancelled is = refl
 
-  pub handed_held : IsHeld is_handed_or_due
-  handed_held = record { live = live; cancelled = λ is. absurd (cc); due = λ is. refl }
+  pub handed_stable : IsStable is_handed_or_due
+  handed_stable = record { live = live; cancelled = λ is. absurd (cc); due = λ is. refl }
     where
       live : (standing : Standing B) → is_handed_or_due standing ≡ true → end_of standing ≡ None
       live (Ended o) is = absurd (cc)
@@ -194,8 +194,8 @@ module _ {B : Type 0} where
       live Due is = refl
       live Cancelled is = refl
 
-  pub due_held : IsHeld stands_due
-  due_held = record { live = live; cancelled = λ is. absurd (cc); due = λ is. refl }
+  pub due_stable : IsStable stands_due
+  due_stable = record { live = live; cancelled = λ is. absurd (cc); due = λ is. refl }
     where
       live : (standing : Standing B) → stands_due standing ≡ true → end_of standing ≡ None
       live (Ended o) is = absurd (cc)
@@ -204,29 +204,29 @@ module _ {B : Type 0} where
       live Due is = refl
       live Cancelled is = refl
 
-  module _ (t : ℕ) (kind : Kind) (test : Standing B → Bool) (held : IsHeld test) where
+  module _ (t : ℕ) (kind : Kind) (test : Standing B → Bool) (stable : IsStable test) where
     cancel_stays : (b : Bool) (s : Option (Ticket B)) → IsThere kind test s → IsThere kind test (changed cancelling b s)
     cancel_stays false s there = there
     cancel_stays true s (standing, is, passes) = subst (λ (w : Option (Ticket B)). IsThere kind test (or_same (cancelling w) w)) (sym is) (go (is_request kind) standing passes)
       where
         go : (r : Bool) (standing : Standing B) → test standing ≡ true → IsThere kind test (or_same (cond r (cancelling_from kind standing) None) (Some (ticket_of kind standing)))
         go false standing passes = (standing, refl, passes)
-        go true Queued passes = (Cancelled, refl, held.cancelled passes)
-        go true Handed passes = (Due, refl, held.due passes)
+        go true Queued passes = (Cancelled, refl, stable.cancelled passes)
+        go true Handed passes = (Due, refl, stable.due passes)
         go true Due passes = (Due, refl, passes)
         go true Cancelled passes = (Cancelled, refl, passes)
         go true (Ended o) passes = (Ended o, refl, passes)
 
     poll_stays : (b : Bool) (s : Option (Ticket B)) → IsThere kind test s → IsThere kind test (cond b (polled_out s) s)
     poll_stays false s there = there
-    poll_stays true s (standing, is, passes) = (standing, ap (λ w. cond (is_some w) None s) (ap end_seen is ∙ held.live standing passes) ∙ is, passes)
+    poll_stays true s (standing, is, passes) = (standing, ap (λ w. cond (is_some w) None s) (ap end_seen is ∙ stable.live standing passes) ∙ is, passes)
 
 module _ {B C I : Type 0} (t : ℕ) (kind : Kind) where
   -- a call that takes nothing of it out and tells of no mark that ends it
   abbrev pub IsQuiet : Call B C I → Type 0
   IsQuiet call = (TakesOut t call → ⊥) × (end_told t kind (marks_of call) ≡ None)
 
-module _ {B C I : Type 0} (t : ℕ) (kind : Kind) (test : Standing B → Bool) (held : IsHeld test) where
+module _ {B C I : Type 0} (t : ℕ) (kind : Kind) (test : Standing B → Bool) (stable : IsStable test) where
   event_stays : (event : Event B C I) (s : Option (Ticket B)) → (ticket_in event ≡ Some t → ⊥) → IsThere kind test s → IsThere kind test (event_as t event s)
   event_stays event s never there = go (meaning t event)
     where
@@ -241,8 +241,8 @@ module _ {B C I : Type 0} (t : ℕ) (kind : Kind) (test : Standing B → Bool) (
 
   pub call_stays : (call : Call B C I) (s : Option (Ticket B)) → IsQuiet t kind call → Fits t call s → IsThere kind test s → IsThere kind test (moved_as t call s)
   call_stays (calls.asked ask u) s quiet fit there = subst (λ b. IsThere kind test (cond b (Some (ticket_of (kind_of ask) Queued)) s)) (sym fit) there
-  call_stays (calls.cancelled u) s quiet fit there = cancel_stays t kind test held (u == t) s there
+  call_stays (calls.cancelled u) s quiet fit there = cancel_stays t kind test stable (u == t) s there
   call_stays (calls.taken None) s quiet fit there = there
   call_stays (calls.taken (Some event)) s quiet fit there = event_stays event s quiet.0 there
   call_stays (calls.told marks) s quiet fit (standing, is, passes) = (standing, ap (λ w. fold (noted_as t) w (filter_map note_of marks)) is ∙ quiet_marks t kind marks standing quiet.1, passes)
-  call_stays (calls.polled_for u answer) s quiet fit there = poll_stays t kind test held (u == t) s there
+  call_stays (calls.polled_for u answer) s quiet fit there = poll_stays t kind test stable (u == t) s there

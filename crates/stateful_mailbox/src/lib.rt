@@ -14,6 +14,3 @@ mod tickets;
 
 pub use mailbox::Mailbox;
 pub use reply::{Reply, Stopped};
-
-#[cfg(test)]
-mod tests;

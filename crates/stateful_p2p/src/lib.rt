@@ -35,6 +35,3 @@ pub use limits::{max_payload_size, no_payload_is_longer};
 pub use mailbox::Mailbox;
 pub use stateful_types::{Request, Response};
 pub use subscriber::Subscriber;
-
-#[cfg(test)]
-mod tests;

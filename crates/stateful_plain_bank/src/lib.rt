@@ -14,6 +14,3 @@ pub use build::BankBuild;
 pub use hook::BankHook;
 pub use run::BankRun;
 pub use state::step;
-
-#[cfg(test)]
-mod tests;

@@ -24,6 +24,3 @@ pub use opening::open_set;
 pub use plan::{Start, SyncPlan};
 pub use state::{SyncState, no_state_begins_another};
 pub use store::{MemoryPlanStore, PlanCall, PlanStore, StoreFault};
-
-#[cfg(test)]
-mod tests;

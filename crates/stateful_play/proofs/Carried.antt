@@ -10,11 +10,11 @@ use Rattle.stateful_bank.specs.declared.block.BankBlock.{BankBlock}
 use Rattle.stateful_plain.specs.Whole.{initial}
 use Rattle.stateful_history.specs.Met.{TrueNames}
 use Rattle.stateful_history.specs.Past.{after_all}
+use Rattle.stateful_history.specs.Honest.{HasHonestStore}
 use Rattle.stateful_history.specs.declared.entry.Entry.{Entry}
 use Rattle.stateful_register.specs.declared.register.Register.{Register}
 use Rattle.stateful_standing.specs.Setting.{setting}
 use Rattle.stateful_processing.specs.Moments.{Moment}
-use Rattle.stateful_keeping.specs.Ways.{HasHonestStore}
 use Rattle.stateful_whole.specs.Machine.{IsNew}
 use Rattle.stateful_whole.specs.StepBehind.{EachStands}
 use Rattle.stateful_actor.specs.declared.driving.Halted.{Halted}

@@ -3,10 +3,10 @@ use Rattle.std.proofs.Common.{◌≡◌, ℕ, ◌==◌, inl, inr, List, [], ◌�
 use Rattle.std.proofs.lemmas.Bool.{cases_Bool, eqb-true}
 use Rattle.std.proofs.lemmas.Option.{none-some, same_Some}
 use Rattle.stateful_types.specs.Names.{Named}
+use Rattle.stateful_history.specs.Honest.{StoresHeights}
 use Rattle.stateful_bank.specs.BankBlock.{block_header}
 use Rattle.stateful_bank.specs.declared.block.BankBlock.{BankBlock}
 use Rattle.stateful_script.specs.declared.script.PlannedEvent.{PlannedEvent}
-use Rattle.stateful_keeping.specs.Ways.{StoresHeights}
 use Rattle.stateful_play.specs.declared.plan.Planned.{Planned}
 use Rattle.stateful_play.specs.Plan.{genesis}
 use Rattle.stateful_play.specs.Store.{at_height, finalized, store_of}

@@ -19,7 +19,7 @@ use Rattle.stateful_plain_bank.specs.declared.build.BankBuild.{BankBuild}
 use Rattle.stateful_plain_bank.specs.declared.hook.BankHook.{BankHook}
 use Rattle.stateful_plain_bank.specs.declared.run.BankRun.{BankRun}
 use Rattle.stateful_history.specs.Past.{after_all}
-use Rattle.stateful_history.specs.Honest.{IsHonest}
+use Rattle.stateful_history.specs.Honest.{IsHonest, StoresFinalized}
 use Rattle.stateful_history.specs.Met.{TrueNames}
 use Rattle.stateful_history.specs.declared.entry.Entry.{Entry}
 use Rattle.stateful_exec.specs.Workings.{Workings, workings}
@@ -28,7 +28,6 @@ use Rattle.stateful_standing.specs.Setting.{setting}
 use Rattle.stateful_processing.specs.Intake.{Counts}
 use Rattle.stateful_processing.specs.Moments.{Moment, moment}
 use Rattle.stateful_processing.specs.declared.error.StepError.TheVariants.{OutOfMemory, BadEvent}
-use Rattle.stateful_keeping.specs.Ways.{StoresFinalized}
 use Rattle.stateful_whole.specs.Entering.{Steps}
 use Rattle.stateful_whole.specs.Machine.{IsNew}
 use Rattle.stateful_whole.specs.StepBehind.{EachStands, StandsAndHolds}

@@ -14,6 +14,3 @@ pub use play::{Databases, History, Machine, Played};
 pub use stateful_script::World;
 pub use status::{Outcome, Status};
 pub use top::run;
-
-#[cfg(test)]
-mod tests;

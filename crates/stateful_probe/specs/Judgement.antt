@@ -33,7 +33,7 @@ module _ {S K C : Type 0} (u : Setup S K C) where
 
   -- a finalization of an epoch that counts, in bytes of a peer that takes part, where it is known
   -- who does
-  pub record IsHeld (peer : K) (bytes : List ℕ) (f : Finalization C) : Type 0 where
+  pub record IsCounting (peer : K) (bytes : List ℕ) (f : Finalization C) : Type 0 where
     pub whole : IsWhole u bytes f
     pub scheme : S
     pub counts : Counts u f.round.epoch scheme
@@ -43,7 +43,7 @@ module _ {S K C : Type 0} (u : Setup S K C) where
   abbrev pub IsDecodedAs : K → List ℕ → Decoded C → Type 0
   IsDecodedAs peer bytes decoded.Ignored = IsRequest bytes ⊎ IsForeign u bytes
   IsDecodedAs peer bytes decoded.AtFault = IsAtFault u peer bytes
-  IsDecodedAs peer bytes (decoded.Whole f) = IsHeld peer bytes f
+  IsDecodedAs peer bytes (decoded.Whole f) = IsCounting peer bytes f
 
   -- what a reader of them answered
   abbrev pub IsReadAs : K → List ℕ → Result (Decoded C) CodecError → Type 0

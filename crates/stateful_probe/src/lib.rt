@@ -31,6 +31,3 @@ pub use mailbox::Mailbox;
 pub use probe::{Config, Probe};
 pub use sample::Sample;
 pub use wire::{Message, Tag};
-
-#[cfg(test)]
-mod tests;

@@ -43,7 +43,7 @@ module _ {B C I P R D H G U : Type 0} (w : Workings B C I P R D H G U) where
 
   follows_stays : (b : Named B) (how : How) (r : Released B C I) (m now : exec.Moment w) → Follows w b how r m now → Stays w m now
   follows_stays b how r m now (ending.given_up given concludes) = concluded w m r.ticket (requested r.request) Invalid now concludes
-  follows_stays b how r m now (ending.held held e) = becomes w m _ m.next _ now e refl
+  follows_stays b how r m now (ending.at_boundary at e) = becomes w m _ m.next _ now e refl
   follows_stays b how r m now (ending.failed free unknown concludes) = concluded w m r.ticket (requested r.request) Invalid now concludes
   follows_stays b how r m now (ending.parked pruning known e) = becomes w m _ m.next _ now e refl
   follows_stays b how r m now (ending.goes_on kept free unpruned known a) = Advances-stays w m r.ticket (requested r.request) r.path now a

@@ -28,8 +28,6 @@ mod law;
 mod name;
 mod read;
 mod script;
-#[cfg(test)]
-mod tests;
 
 pub use field::number;
 pub use law::{first_is_named, last_is_ended, number_is_decimal, plans_are_kept, whole_is_read};

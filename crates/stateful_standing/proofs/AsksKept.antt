@@ -10,7 +10,7 @@ use Rattle.stateful_history.specs.declared.mark.How.{How}
 use Rattle.stateful_history.specs.declared.mark.Mark.{Mark}
 use Rattle.stateful_history.specs.declared.mark.Mark.TheVariants.{Asked}
 use Rattle.stateful_table.specs.Table.{at, put}
-use Rattle.stateful_exec.specs.Ending.{Follows, given_up, held, failed, parked, goes_on}
+use Rattle.stateful_exec.specs.Ending.{Follows, given_up, at_boundary, failed, parked, goes_on}
 use Rattle.stateful_exec.specs.Moments.{Moment}
 use Rattle.stateful_exec.specs.Path.{Path}
 use Rattle.stateful_exec.specs.Rules.{told, ended, requested, Needs, Concludes, Advances, arrives, leaves, joins, starts, misses, Acquires, valid, invalid, asks, waits, runs}
@@ -79,7 +79,7 @@ module _ {B C I P R D H G U : Type 0} (w : Workings B C I P R D H G U) (stored :
 pub AsksAlong-follows : {B C I P R D H G U : Type 0} (w : Workings B C I P R D H G U) (stored : ℕ → Option (Named B)) (p : Past B C I) (m now : Moment w) (b : Named B) (how : How) (r : Released B C I) → at m.state.requests r.ticket ≡ None → (more : List (Mark B)) → AreServedBy r.ticket p more
     → now.marks ≡ m.marks ++ more → AsksAlong (setting w stored) p m.state.requests → Follows w b how r m now → AsksAlong (setting w stored) (after p more) now.state.requests
 AsksAlong-follows w stored p m now b how r absent more are is h (given_up out concludes) = concludes-asks w stored p m now r.ticket absent more are is h (requested r.request) verdict.Invalid concludes
-AsksAlong-follows w stored p m now b how r absent more are is h (held hold becomes) = rw becomes (put_asks w stored p m now r.ticket absent more are is h (requested r.request) (Parked r.path) (λ f e. cc))
+AsksAlong-follows w stored p m now b how r absent more are is h (at_boundary hold becomes) = rw becomes (put_asks w stored p m now r.ticket absent more are is h (requested r.request) (Parked r.path) (λ f e. cc))
 AsksAlong-follows w stored p m now b how r absent more are is h (failed not_held out concludes) = concludes-asks w stored p m now r.ticket absent more are is h (requested r.request) verdict.Invalid concludes
 AsksAlong-follows w stored p m now b how r absent more are is h (parked pruning any becomes) = rw becomes (put_asks w stored p m now r.ticket absent more are is h (requested r.request) (Parked r.path) (λ f e. cc))
 AsksAlong-follows w stored p m now b how r absent more are is h (goes_on kept not_held other any advances) = AsksAlong-advances w stored p m now r.ticket absent more are is h (requested r.request) r.path advances

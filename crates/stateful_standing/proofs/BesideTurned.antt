@@ -17,7 +17,7 @@ use Rattle.stateful_history.specs.declared.mark.Mark.TheVariants.{Ended}
 use Rattle.stateful_history.proofs.Marks.{TrueNames-before_marks}
 use Rattle.stateful_cache.specs.Cache.{IsAtHand}
 use Rattle.stateful_table.specs.Table.{at, put, without}
-use Rattle.stateful_exec.specs.Ending.{released, Turns, EndsRun, TurnsRun, InTurn, Follows, given_up, held, failed, parked, goes_on}
+use Rattle.stateful_exec.specs.Ending.{released, Turns, EndsRun, TurnsRun, InTurn, Follows, given_up, at_boundary, failed, parked, goes_on}
 use Rattle.stateful_exec.specs.Moments.{Moment, moment}
 use Rattle.stateful_exec.specs.Phase.{released_on}
 use Rattle.stateful_exec.specs.Rules.{requested}
@@ -56,7 +56,7 @@ module _ {B C I P R D H G U : Type 0} (w : Workings B C I P R D H G U) (stored :
   -- the parents of queued proposals are known or lost behind a request that follows the end of a run
   pub QueueReaches-follows : (b : Named B) (how : How) → HasWaited w stored base tip b how p m.state.pause m.state.anchor m.state.cache r → Follows w b how r m now → QueueReaches w stored base (after p more) now.state.queued
   QueueReaches-follows b how h (given_up out concludes) = concludes_invalid w stored base p m now s.queue r.ticket more marks_are are names reaches (requested r.request) concludes
-  QueueReaches-follows b how h (held out becomes) = rw becomes (same_queue w stored base p m now s.queue r.ticket more marks_are are names reaches)
+  QueueReaches-follows b how h (at_boundary out becomes) = rw becomes (same_queue w stored base p m now s.queue r.ticket more marks_are are names reaches)
   QueueReaches-follows b how h (failed not_held out concludes) = concludes_invalid w stored base p m now s.queue r.ticket more marks_are are names reaches (requested r.request) concludes
   QueueReaches-follows b how h (parked pruning any becomes) = rw becomes (same_queue w stored base p m now s.queue r.ticket more marks_are are names reaches)
   QueueReaches-follows b how h (goes_on kept not_held other any advances) =

@@ -12,7 +12,7 @@ use Rattle.stateful_cache.specs.Cache.{IsIn}
 use Rattle.stateful_cache.specs.declared.cache.Cached.{Cached}
 use Rattle.stateful_cache.proofs.Digests.{same, same_digest, same_itself, finds}
 use Rattle.stateful_exec.specs.Boundary.{Boundary}
-use Rattle.stateful_exec.specs.Ending.{IsGivenUp, Follows, given_up, held, failed, parked, goes_on}
+use Rattle.stateful_exec.specs.Ending.{IsGivenUp, Follows, given_up, at_boundary, failed, parked, goes_on}
 use Rattle.stateful_exec.specs.Moments.{Moment}
 use Rattle.stateful_exec.specs.Path.{Path}
 use Rattle.stateful_exec.specs.Rules.{requested, Advances}
@@ -66,7 +66,7 @@ module _ {B C I P R D H G U : Type 0} (w : Workings B C I P R D H G U) (stored :
     -- each mark of a request that follows the end of the run that it waited for keeps the rule
     pub follows-Earned : (b : Named B) (how : How) (r : Released B C I) (now : Moment w) → Met (setting w stored) p b → r.path.parent ≡ b → IsRequestOf w stored p r.ticket r.request → IsWayOf w stored p r.request r.path → Follows w b how r m now → EarnsBehind w stored base p m now
     follows-Earned b how r now met is asked way (given_up off concludes) = concludes-invalid w stored base p points point m s r.ticket (requested r.request) asked now concludes
-    follows-Earned b how r now met is asked way (held off becomes) = rw becomes (record { more = []; marks_are = refl; each = tt })
+    follows-Earned b how r now met is asked way (at_boundary off becomes) = rw becomes (record { more = []; marks_are = refl; each = tt })
     follows-Earned b how r now met is asked way (failed off out concludes) = concludes-invalid w stored base p points point m s r.ticket (requested r.request) asked now concludes
     follows-Earned b how r now met is asked way (parked pruning any becomes) = rw becomes (record { more = []; marks_are = refl; each = tt })
     follows-Earned b how r now met is asked way (goes_on kept not_held other any advances) =

@@ -4,7 +4,7 @@ use Rattle.std.proofs.lemmas.List.Elements.{All-nil, All-cons}
 use Rattle.stateful_types.specs.Names.{Named}
 use Rattle.stateful_history.specs.declared.mark.How.{How}
 use Rattle.stateful_history.specs.declared.mark.Mark.{Mark}
-use Rattle.stateful_exec.specs.Ending.{Follows, given_up, held, failed, parked, goes_on}
+use Rattle.stateful_exec.specs.Ending.{Follows, given_up, at_boundary, failed, parked, goes_on}
 use Rattle.stateful_exec.specs.Moments.{Moment}
 use Rattle.stateful_exec.specs.Path.{Path}
 use Rattle.stateful_exec.specs.Rules.{told, ended, requested, Concludes, Advances, arrives, leaves, joins, starts, misses, Acquires, valid, invalid, asks, waits, runs}
@@ -74,7 +74,7 @@ module _ {B C I P R D H G U : Type 0} (w : Workings B C I P R D H G U) where
   -- and one that follows the end of the run that it waited for
   pub LeavesBehind-follows : (b : Named B) (how : How) (r : Released B C I) (m now : Moment w) → Follows w b how r m now → LeavesBehind m now
   LeavesBehind-follows b how r m now (given_up off concludes) = LeavesBehind-concludes m now r.ticket (requested r.request) verdict.Invalid concludes
-  LeavesBehind-follows b how r m now (held off becomes) = rw becomes (record { more = []; marks_are = refl; mild = All-nil (λ x. IsMild x); left = record { anchor = refl; cache = refl; pause = refl } })
+  LeavesBehind-follows b how r m now (at_boundary off becomes) = rw becomes (record { more = []; marks_are = refl; mild = All-nil (λ x. IsMild x); left = record { anchor = refl; cache = refl; pause = refl } })
   LeavesBehind-follows b how r m now (failed off out concludes) = LeavesBehind-concludes m now r.ticket (requested r.request) verdict.Invalid concludes
   LeavesBehind-follows b how r m now (parked pruning any becomes) = rw becomes (record { more = []; marks_are = refl; mild = All-nil (λ x. IsMild x); left = record { anchor = refl; cache = refl; pause = refl } })
   LeavesBehind-follows b how r m now (goes_on kept not_held other any advances) = LeavesBehind-advances m now r.ticket (requested r.request) r.path advances

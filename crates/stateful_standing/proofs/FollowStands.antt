@@ -15,7 +15,7 @@ use Rattle.stateful_history.specs.declared.event.Event.TheVariants.{Turn}
 use Rattle.stateful_history.specs.declared.mark.Mark.{Mark}
 use Rattle.stateful_history.specs.declared.mark.Mark.TheVariants.{Ended}
 use Rattle.stateful_exec.specs.declared.state.Tables.{Tables}
-use Rattle.stateful_exec.specs.Ending.{InTurn, released, Follows, given_up, held, failed, parked, goes_on}
+use Rattle.stateful_exec.specs.Ending.{InTurn, released, Follows, given_up, at_boundary, failed, parked, goes_on}
 use Rattle.stateful_exec.specs.Moments.{Moment, Becomes}
 use Rattle.stateful_exec.specs.Path.{Path}
 use Rattle.stateful_exec.specs.Phase.{is_on, released_on, not_on}
@@ -56,7 +56,7 @@ module _ {B C I P R D H G U : Type 0} (w : Workings B C I P R D H G U) (stored :
   pub Serves-follows : (b : Named B) (how : How) (p : Past B C I) (m now : Moment w) (r : Released B C I) → IsReady w stored points point p m → IsOnWay w stored points point ticket_of request_of path_of p m r
       → Follows w b how r m now → Serves w stored p points point m r.ticket now
   Serves-follows b how p m now r ready on (given_up up concludes) = Serves-concludes w stored p points point m ready.stands r.ticket (requested r.request) on.hand _ now concludes
-  Serves-follows b how p m now r ready on (held is becomes) =
+  Serves-follows b how p m now r ready on (at_boundary is becomes) =
       Serves-put w stored p points point m ready.stands r.ticket (requested r.request) on.hand (Parked r.path) now (All-nil (Met (setting w stored) p)) on.way (λ is. absurd (cc)) becomes
   Serves-follows b how p m now r ready on (failed not_held off concludes) = Serves-concludes w stored p points point m ready.stands r.ticket (requested r.request) on.hand _ now concludes
   Serves-follows b how p m now r ready on (parked pause there becomes) =

@@ -15,7 +15,7 @@ use Rattle.stateful_history.specs.declared.mark.JobKind.TheVariants.{Candidate}
 use Rattle.stateful_history.specs.declared.mark.Mark.{Mark}
 use Rattle.stateful_history.specs.declared.mark.Mark.TheVariants.{Asked, Started, Verdict, Declined}
 use Rattle.stateful_table.specs.Table.{put}
-use Rattle.stateful_exec.specs.Ending.{Follows, given_up, held, failed, parked, goes_on}
+use Rattle.stateful_exec.specs.Ending.{Follows, given_up, at_boundary, failed, parked, goes_on}
 use Rattle.stateful_exec.specs.Moments.{Moment}
 use Rattle.stateful_exec.specs.Path.{Path}
 use Rattle.stateful_exec.specs.Rules.{told, ended, requested, Needs, Concludes, Advances, arrives, leaves, joins, starts, misses, Acquires, valid, invalid, asks, waits, runs}
@@ -221,7 +221,7 @@ module _ {B C I P R D H G U : Type 0} (w : Workings B C I P R D H G U) (stored :
   -- a request that follows the end of the run that it waited for begins what it begins under a new number
   pub follows-new : Follows w b how x m now → KeepsBehind w NumberIsNew p m now
   follows-new (given_up out concludes) = concludes-new w stored p points point m now s x.ticket (requested x.request) verdict.Invalid concludes
-  follows-new (held is becomes) = rw becomes (record { more = []; marks_are = refl; each = tt })
+  follows-new (at_boundary is becomes) = rw becomes (record { more = []; marks_are = refl; each = tt })
   follows-new (failed not_held out concludes) = concludes-new w stored p points point m now s x.ticket (requested x.request) verdict.Invalid concludes
   follows-new (parked pruning any becomes) = rw becomes (record { more = []; marks_are = refl; each = tt })
   follows-new (goes_on kept not_held other any advances) = advances-new w stored p points point m now s x.ticket (requested x.request) x.path advances
@@ -232,7 +232,7 @@ module _ {B C I P R D H G U : Type 0} (w : Workings B C I P R D H G U) (stored :
       → Follows w b how x m now → GatheringsStand (setting w stored) (after p more) now.state.requests
   GatheringsStand-follows more is are new h linked (given_up out concludes) =
       GatheringsStand-concludes w stored p points point m now s x.ticket more is are new h (requested x.request) (λ honest answered. linked) verdict.Invalid concludes
-  GatheringsStand-follows more is are new h linked (held out becomes) =
+  GatheringsStand-follows more is are new h linked (at_boundary out becomes) =
       GatheringsStand-moved w stored p points point m now s x.ticket more is are new h (requested x.request) (λ honest answered. linked)
       (Parked x.path) (λ f e. cc) (ap (λ (n : Moment w). n.state.requests) becomes)
   GatheringsStand-follows more is are new h linked (failed not_held out concludes) =

@@ -157,3 +157,4 @@ pub mod LinkedFetched
 pub mod LinkedBegan
 pub mod NeverStale
 pub mod NotTaken
+pub mod ForkDepth

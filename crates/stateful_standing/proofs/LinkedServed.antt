@@ -13,7 +13,7 @@ use Rattle.stateful_history.specs.declared.mark.JobKind.TheVariants.{Candidate}
 use Rattle.stateful_history.specs.declared.mark.Mark.{Mark}
 use Rattle.stateful_history.specs.declared.mark.Mark.TheVariants.{Asked, Started, Verdict, Declined}
 use Rattle.stateful_cache.specs.Cache.{IsIn, IsAtHand}
-use Rattle.stateful_exec.specs.Ending.{IsGivenUp, Follows, given_up, held, failed, parked, goes_on}
+use Rattle.stateful_exec.specs.Ending.{IsGivenUp, Follows, given_up, at_boundary, failed, parked, goes_on}
 use Rattle.stateful_exec.specs.Moments.{Moment}
 use Rattle.stateful_exec.specs.Path.{Path}
 use Rattle.stateful_exec.specs.Rules.{IsPassed, requested, Concludes, Advances, Acquires}
@@ -140,7 +140,7 @@ module _ {B C I P R D H G U : Type 0} (w : Workings B C I P R D H G U) (stored :
         reaches_by : Follows w b how x m now → QueueReaches w stored base (after p more) now.state.queued
         reaches_by (given_up out concludes) =
             concludes_invalid w stored base p m now s.queue x.ticket more marks_are are names h.reaches (requested x.request) concludes
-        reaches_by (held out becomes) = rw becomes (same_queue w stored base p m now s.queue x.ticket more marks_are are names h.reaches)
+        reaches_by (at_boundary out becomes) = rw becomes (same_queue w stored base p m now s.queue x.ticket more marks_are are names h.reaches)
         reaches_by (failed not_held out concludes) =
             concludes_invalid w stored base p m now s.queue x.ticket more marks_are are names h.reaches (requested x.request) concludes
         reaches_by (parked pruning any becomes) = rw becomes (same_queue w stored base p m now s.queue x.ticket more marks_are are names h.reaches)

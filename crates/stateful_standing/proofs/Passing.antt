@@ -9,7 +9,7 @@ use Rattle.stateful_history.specs.declared.mark.JobKind.TheVariants.{Candidate}
 use Rattle.stateful_history.specs.declared.mark.Mark.{Mark}
 use Rattle.stateful_history.specs.declared.mark.Mark.TheVariants.{Asked, Withdrawn, Started, Ended, Verdict, Declined}
 use Rattle.stateful_cache.specs.Cache.{IsIn}
-use Rattle.stateful_exec.specs.Ending.{InTurn, none, next, Follows, given_up, held, failed, parked, goes_on}
+use Rattle.stateful_exec.specs.Ending.{InTurn, none, next, Follows, given_up, at_boundary, failed, parked, goes_on}
 use Rattle.stateful_exec.specs.Moments.{Moment, Becomes}
 use Rattle.stateful_exec.specs.Path.{Path}
 use Rattle.stateful_exec.specs.Rules.{moved, requested, told, ended, Concludes, Launches, Advances, arrives, leaves, joins, starts, misses, Acquires, valid, invalid, asks, waits, runs}
@@ -172,7 +172,7 @@ module _ {B C I P R D H G U : Type 0} (w : Workings B C I P R D H G U) (Job Tick
   -- one that follows the end of the run that it waited for
   pub PassesBy-follows : (b : Named B) (how : How) (r : Released B C I) (m now : Moment w) → AreDrawn m → (Ticket r.ticket → ⊥) → Follows w b how r m now → PassesBy m now
   PassesBy-follows b how r m now drawn other (given_up up concludes) = PassesBy-concludes m now r.ticket (requested r.request) Invalid other concludes
-  PassesBy-follows b how r m now drawn other (held is becomes) = PassesBy-put m now r.ticket (requested r.request) _ other becomes
+  PassesBy-follows b how r m now drawn other (at_boundary is becomes) = PassesBy-put m now r.ticket (requested r.request) _ other becomes
   PassesBy-follows b how r m now drawn other (failed not_held off concludes) = PassesBy-concludes m now r.ticket (requested r.request) Invalid other concludes
   PassesBy-follows b how r m now drawn other (parked pause there becomes) = PassesBy-put m now r.ticket (requested r.request) _ other becomes
   PassesBy-follows b how r m now drawn other (goes_on up not_held pause there advances) = PassesBy-advances m now r.ticket (requested r.request) r.path drawn other advances

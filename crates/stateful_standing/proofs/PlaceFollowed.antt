@@ -12,7 +12,7 @@ use Rattle.stateful_history.specs.Runs.{MayRunAgain}
 use Rattle.stateful_history.specs.declared.mark.How.{How}
 use Rattle.stateful_history.specs.declared.mark.Mark.{Mark}
 use Rattle.stateful_cache.specs.Cache.{IsIn, IsAtHand}
-use Rattle.stateful_exec.specs.Ending.{InTurn, next, IsGivenUp, IsHeld, Follows, given_up, held, failed, parked, goes_on}
+use Rattle.stateful_exec.specs.Ending.{InTurn, next, IsGivenUp, AwaitsBoundary, Follows, given_up, at_boundary, failed, parked, goes_on}
 use Rattle.stateful_exec.specs.Moments.{Moment}
 use Rattle.stateful_exec.specs.Rules.{told, requested, Concludes}
 use Rattle.stateful_exec.specs.Workings.{Workings, Point}
@@ -60,16 +60,16 @@ module _ {B C I P R D H G U : Type 0} (w : Workings B C I P R D H G U) (stored :
     met : Met (setting w stored) p b
     met = subst (λ (x : Named B). Met (setting w stored) p x) h.leads (All-last (Met (setting w stored) p) r.path.blocks r.path.parent h.way.met)
 
-    -- the block is known, where a request goes on, is parked or is held
+    -- the block is known, where a request goes on, is parked or awaits the boundary
     kept-known : (IsGivenUp w.header m.state.pause b → ⊥) → IsIn m.state.cache b.digest → Known (setting w stored) p b.digest
     kept-known kept any =
         kept-Known w stored p g.ground.names points m.next m.state.anchor m.state.cache (round_of_top w stored base p points point m.next tip m.state.pause m.state.anchor m.state.cache g.ground) b met any m.state.pause g.ground.stands
         (closed_by w stored base p points point m.next tip m.state.pause m.state.anchor m.state.cache g.ground) kept
 
-    held-known : (pause : Pause) → IsGround w stored base p points point m.next tip pause m.state.anchor m.state.cache → IsHeld pause b how → Known (setting w stored) p b.digest
-    held-known Free k is = absurd is
-    held-known Pruning k is = absurd is
-    held-known (Finalizing boundary) k is = (k.stands.knows b.digest).1 (inl is.0)
+    boundary-known : (pause : Pause) → IsGround w stored base p points point m.next tip pause m.state.anchor m.state.cache → AwaitsBoundary pause b how → Known (setting w stored) p b.digest
+    boundary-known Free k is = absurd is
+    boundary-known Pruning k is = absurd is
+    boundary-known (Finalizing boundary) k is = (k.stands.knows b.digest).1 (inl is.0)
 
     pruning-known : (pause : Pause) → IsGround w stored base p points point m.next tip pause m.state.anchor m.state.cache → pause ≡ Pruning → IsIn m.state.cache b.digest → Known (setting w stored) p b.digest
     pruning-known Free k is any = (k.stands.knows b.digest).1 (inr any)
@@ -79,7 +79,7 @@ module _ {B C I P R D H G U : Type 0} (w : Workings B C I P R D H G U) (stored :
     -- its marks stand in their places
     follows-in_place : IsOrderlyBut w stored b p → Follows w b how r m now → KeepsBehind w (IsInPlace w stored base) p m now
     follows-in_place o (given_up out concludes) = concludes-in_place w stored base p m r.ticket (requested r.request) verdict.Invalid now hand.asked (o.live r.ticket (live-request w stored p r.ticket r.request hand.asked)) concludes
-    follows-in_place o (held is becomes) = rw becomes (record { more = []; marks_are = refl; each = tt })
+    follows-in_place o (at_boundary is becomes) = rw becomes (record { more = []; marks_are = refl; each = tt })
     follows-in_place o (failed not_held out concludes) = concludes-in_place w stored base p m r.ticket (requested r.request) verdict.Invalid now hand.asked (o.live r.ticket (live-request w stored p r.ticket r.request hand.asked)) concludes
     follows-in_place o (parked pruning any becomes) = rw becomes (record { more = []; marks_are = refl; each = tt })
     follows-in_place o (goes_on kept not_held other any advances) =
@@ -130,7 +130,7 @@ module _ {B C I P R D H G U : Type 0} (w : Workings B C I P R D H G U) (stored :
       -- behind the first of them the block may be run again, too
       orderly-first : Follows w b how r m now → IsOrderly w stored q
       orderly-first (given_up out concludes) = from-ended (given_up out concludes) concludes
-      orderly-first (held is becomes) = from-known (held is becomes) (held-known m.state.pause g.ground is)
+      orderly-first (at_boundary is becomes) = from-known (at_boundary is becomes) (boundary-known m.state.pause g.ground is)
       orderly-first (failed not_held out concludes) = from-ended (failed not_held out concludes) concludes
       orderly-first (parked pruning any becomes) = from-known (parked pruning any becomes) (pruning-known m.state.pause g.ground pruning any)
       orderly-first (goes_on kept not_held other any advances) = from-known (goes_on kept not_held other any advances) (kept-known kept any)

@@ -13,7 +13,7 @@ use Rattle.stateful_history.specs.declared.mark.How.TheVariants.{Kept}
 use Rattle.stateful_history.specs.declared.mark.JobKind.TheVariants.{Finalized, Hook}
 use Rattle.stateful_history.specs.declared.mark.Mark.{Mark}
 use Rattle.stateful_history.specs.declared.mark.Mark.TheVariants.{Opened, Converged, Withdrawn, Started, Ended, Built, Began, Applied}
-use Rattle.stateful_exec.specs.Ending.{InTurn, none, next, Follows, given_up, held, failed, parked, goes_on}
+use Rattle.stateful_exec.specs.Ending.{InTurn, none, next, Follows, given_up, at_boundary, failed, parked, goes_on}
 use Rattle.stateful_exec.specs.Moments.{Moment}
 use Rattle.stateful_exec.specs.Path.{Path}
 use Rattle.stateful_exec.specs.Fetching.{serving, with_block, IsFetched, found, waits as awaits, declines, dead, Cancels, idle, withdraws, leaves as lets, ends, unqueued}
@@ -114,7 +114,7 @@ module _ {B C I P R D H G U : Type 0} (w : Workings B C I P R D H G U) where
 
   follows : (b : Named B) (how : How) (r : Released B C I) (m now : Moment w) → Follows w b how r m now → Quietly m now
   follows b how r m now (given_up up c) = concludes m now r.ticket (requested r.request) Invalid c
-  follows b how r m now (held is becomes) = none_made m now (ap (λ (n : Moment w). n.marks) becomes ∙ append-nil m.marks)
+  follows b how r m now (at_boundary is becomes) = none_made m now (ap (λ (n : Moment w). n.marks) becomes ∙ append-nil m.marks)
   follows b how r m now (failed not_held off c) = concludes m now r.ticket (requested r.request) Invalid c
   follows b how r m now (parked pause there becomes) = none_made m now (ap (λ (n : Moment w). n.marks) becomes ∙ append-nil m.marks)
   follows b how r m now (goes_on up not_held pause there rule) = advances m now r.ticket (requested r.request) r.path rule

@@ -17,7 +17,7 @@ use Rattle.stateful_history.specs.declared.mark.How.{How}
 use Rattle.stateful_history.specs.declared.mark.Mark.{Mark}
 use Rattle.stateful_cache.specs.Cache.{IsIn, IsAtHand}
 use Rattle.stateful_cache.specs.declared.cache.Cached.{Cached}
-use Rattle.stateful_exec.specs.Ending.{IsGivenUp, IsHeld, Follows, given_up, held, failed, parked, goes_on}
+use Rattle.stateful_exec.specs.Ending.{IsGivenUp, AwaitsBoundary, Follows, given_up, at_boundary, failed, parked, goes_on}
 use Rattle.stateful_exec.specs.Moments.{Moment}
 use Rattle.stateful_exec.specs.Rules.{requested, Concludes}
 use Rattle.stateful_exec.specs.declared.request.Verdict.TheVariants as verdict
@@ -66,7 +66,7 @@ module _ {B C I P R D H G U : Type 0} (w : Workings B C I P R D H G U) (stored :
   given_up_late (Finalizing boundary) anchor cache g b off unknown parent late = unretained_late w stored base p points point next tip boundary anchor cache g b unknown parent off.1 late
 
   -- a block that is neither cached nor held isn't known after its run
-  failed_unknown : (pause : Pause) (anchor : Anchor) (cache : List (Cached U)) → IsGround w stored base p points point next tip pause anchor cache → (b : Named B) (how : How) → HasEnded w stored base p anchor cache b how → b.digest ≢ anchor.digest → (IsHeld pause b how → ⊥) → (IsIn cache b.digest → ⊥) → IsUnknown (setting w stored) p b.digest
+  failed_unknown : (pause : Pause) (anchor : Anchor) (cache : List (Cached U)) → IsGround w stored base p points point next tip pause anchor cache → (b : Named B) (how : How) → HasEnded w stored base p anchor cache b how → b.digest ≢ anchor.digest → (AwaitsBoundary pause b how → ⊥) → (IsIn cache b.digest → ⊥) → IsUnknown (setting w stored) p b.digest
   failed_unknown Free anchor cache g b how ended other not_held out known = elim ((g.stands.knows b.digest).0 known) [ inl own ↦ other own | inr any ↦ out any ]
   failed_unknown Pruning anchor cache g b how ended other not_held out known = elim ((g.stands.knows b.digest).0 known) [ inl own ↦ other own | inr any ↦ out any ]
   failed_unknown (Finalizing boundary) anchor cache g b how ended other not_held out known = elim ((g.stands.knows b.digest).0 known) [ inl own ↦ not_held (own, λ kept. out (ended.kept kept)) | inr both ↦ out both.0 ]
@@ -117,7 +117,7 @@ module _ {B C I P R D H G U : Type 0} (w : Workings B C I P R D H G U) (stored :
   follows-reason now (given_up out concludes) =
       let unknown : IsUnknown (setting w stored) p b.digest = given_up_unknown w stored base p points point next tip m.state.pause m.state.anchor m.state.cache g b met out in
       ends_stuck now unknown (λ parent. (state_of_parent.0, state_of_parent.1, inr (inr (inr (given_up_late w stored base p points point next tip m.state.pause m.state.anchor m.state.cache g b out unknown parent))))) concludes
-  follows-reason now (held out becomes) = rw becomes (record { more = []; marks_are = refl; each = tt })
+  follows-reason now (at_boundary out becomes) = rw becomes (record { more = []; marks_are = refl; each = tt })
   follows-reason now (failed not_held out concludes) =
       ends_stuck now (failed_unknown w stored base p points point next tip m.state.pause m.state.anchor m.state.cache g b how ended off_anchor not_held out) (λ parent. bad_by out) concludes
   follows-reason now (parked pruning any becomes) = rw becomes (record { more = []; marks_are = refl; each = tt })

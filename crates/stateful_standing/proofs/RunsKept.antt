@@ -16,7 +16,7 @@ use Rattle.stateful_history.specs.declared.mark.Mark.TheVariants.{Ended}
 use Rattle.stateful_cache.specs.Cache.{IsAtHand}
 use Rattle.stateful_cache.specs.declared.cache.Cached.{Cached}
 use Rattle.stateful_table.specs.Table.{put, without}
-use Rattle.stateful_exec.specs.Ending.{Follows, given_up, held, failed, parked, goes_on}
+use Rattle.stateful_exec.specs.Ending.{Follows, given_up, at_boundary, failed, parked, goes_on}
 use Rattle.stateful_exec.specs.Moments.{Moment}
 use Rattle.stateful_exec.specs.Path.{Path}
 use Rattle.stateful_exec.specs.Rules.{ended, requested, Concludes, Advances, arrives, leaves, joins, starts, misses, Acquires, valid, invalid, asks, waits, runs}
@@ -90,7 +90,7 @@ module _ {B C I P R D H G U : Type 0} (w : Workings B C I P R D H G U) (stored :
   -- and behind one that follows the end of a run
   pub RunsGoOn-follows : (b : Named B) (how : How) (r : Released B C I) → Follows w b how r m now → RunsGoOn w stored base (after p more) now.state.runs
   RunsGoOn-follows b how r (given_up out concludes) = concluded w stored base p m now r.ticket more same numbers costs on (requested r.request) verdict.Invalid concludes
-  RunsGoOn-follows b how r (held out becomes) = rw becomes (same_runs w stored base p m now r.ticket more same numbers costs on)
+  RunsGoOn-follows b how r (at_boundary out becomes) = rw becomes (same_runs w stored base p m now r.ticket more same numbers costs on)
   RunsGoOn-follows b how r (failed not_held out concludes) = concluded w stored base p m now r.ticket more same numbers costs on (requested r.request) verdict.Invalid concludes
   RunsGoOn-follows b how r (parked pruning any becomes) = rw becomes (same_runs w stored base p m now r.ticket more same numbers costs on)
   RunsGoOn-follows b how r (goes_on kept not_held other any advances) = RunsGoOn-advances w stored base p m now r.ticket more same numbers costs on (requested r.request) r.path advances

@@ -15,7 +15,7 @@ use Rattle.stateful_history.specs.declared.mark.How.{How}
 use Rattle.stateful_history.specs.declared.mark.JobKind.TheVariants.{Candidate}
 use Rattle.stateful_history.specs.declared.mark.Mark.{Mark}
 use Rattle.stateful_history.specs.declared.mark.Mark.TheVariants.{Asked, Started, Verdict, Declined}
-use Rattle.stateful_exec.specs.Ending.{Follows, given_up, held, failed, parked, goes_on}
+use Rattle.stateful_exec.specs.Ending.{Follows, given_up, at_boundary, failed, parked, goes_on}
 use Rattle.stateful_exec.specs.Moments.{Moment}
 use Rattle.stateful_exec.specs.Path.{Path}
 use Rattle.stateful_exec.specs.Rules.{told, requested, Concludes, Advances, arrives, leaves, joins, starts, misses, Acquires, valid, invalid, asks, waits, runs}
@@ -128,7 +128,7 @@ module _ {B C I P R D H G U : Type 0} (w : Workings B C I P R D H G U) (p : Past
 -- and where it follows the end of the run that it waited for
 pub follows-marks : {B C I P R D H G U : Type 0} (w : Workings B C I P R D H G U) (p : Past B C I) (m now : Moment w) (b : Named B) (how : How) (r : Released B C I) → Follows w b how r m now → ServesMarks w p m now r.ticket
 follows-marks w p m now b how r (given_up out concludes) = concludes-marks w p m now r.ticket (requested r.request) verdict.Invalid concludes
-follows-marks w p m now b how r (held is becomes) = rw becomes (record { more = []; marks_are = refl; each = tt })
+follows-marks w p m now b how r (at_boundary is becomes) = rw becomes (record { more = []; marks_are = refl; each = tt })
 follows-marks w p m now b how r (failed not_held out concludes) = concludes-marks w p m now r.ticket (requested r.request) verdict.Invalid concludes
 follows-marks w p m now b how r (parked pruning any becomes) = rw becomes (record { more = []; marks_are = refl; each = tt })
 follows-marks w p m now b how r (goes_on kept not_held other any advances) = advances-marks w p m now r.ticket (requested r.request) r.path advances

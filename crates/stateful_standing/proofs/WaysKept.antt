@@ -10,7 +10,7 @@ use Rattle.stateful_history.specs.declared.mark.How.{How}
 use Rattle.stateful_cache.specs.Cache.{IsIn}
 use Rattle.stateful_cache.specs.declared.cache.Cached.{Cached}
 use Rattle.stateful_table.specs.Table.{put}
-use Rattle.stateful_exec.specs.Ending.{IsHeld, Follows, given_up, held, failed, parked, goes_on}
+use Rattle.stateful_exec.specs.Ending.{AwaitsBoundary, Follows, given_up, at_boundary, failed, parked, goes_on}
 use Rattle.stateful_exec.specs.Moments.{Moment}
 use Rattle.stateful_exec.specs.Path.{Path}
 use Rattle.stateful_exec.specs.Rules.{ended, requested, Concludes, Reaches, Advances, arrives, leaves, joins, starts, misses}
@@ -88,7 +88,7 @@ module _ {B C I P R D H G U : Type 0} (w : Workings B C I P R D H G U) (stored :
           rw (launches.state, launches.starts.state) (put_ways t r (Executing m.state.next_job (record { blocks = left; parent = b })) (left_off left b c reaches, IsUnsettled-same r.request (loose (some_left left b c reaches))))
       WaysStand-advances (misses reaches on unknown unrun unknown_parent concludes) = WaysStand-concludes t r verdict.Invalid concludes
 
-    held_on : (pause : Pause) (anchor : Anchor) (cache : List (Cached U)) (b : Named B) (how : How) → IsHeld pause b how → IsParkedOn pause anchor cache b.digest
+    held_on : (pause : Pause) (anchor : Anchor) (cache : List (Cached U)) (b : Named B) (how : How) → AwaitsBoundary pause b how → IsParkedOn pause anchor cache b.digest
     held_on Free anchor cache b how is = absurd is
     held_on Pruning anchor cache b how is = absurd is
     held_on (Finalizing boundary) anchor cache b how is = is.0
@@ -101,7 +101,7 @@ module _ {B C I P R D H G U : Type 0} (w : Workings B C I P R D H G U) (stored :
     -- one that follows the end of the run that it waited for
     pub WaysStand-follows : (b : Named B) (how : How) (r : Released B C I) → r.path.parent ≡ b → KeepOff m.state.anchor (steps r.path) → IsUnsettled w stored p tip r.request → Follows w b how r m now → WaysStand w stored q tip now.state
     WaysStand-follows b how r leads off loose (given_up out concludes) = WaysStand-concludes r.ticket (requested r.request) verdict.Invalid concludes
-    WaysStand-follows b how r leads off loose (held is becomes) =
+    WaysStand-follows b how r leads off loose (at_boundary is becomes) =
         rw becomes (put_ways r.ticket (requested r.request) (Parked r.path) (
           subst (λ (x : Named B). IsParkedOn m.state.pause m.state.anchor m.state.cache x.digest) (sym leads) (held_on m.state.pause m.state.anchor m.state.cache b how is),
           All-front (λ x. x.digest ≢ m.state.anchor.digest) r.path.blocks (r.path.parent ∷ []) off,

@@ -7,6 +7,7 @@ pub mod Fronting
 pub mod Due
 pub mod Requesting
 pub mod Standing
+pub mod Depth
 pub mod Gathering
 pub mod Ways
 pub mod Outstanding

@@ -28,6 +28,3 @@ pub use stateful_plan::{
     SyncError, SyncPlan, SyncState, no_state_begins_another, open_set, resolve, resolve_fetched,
 };
 pub use tip::TipUpdate;
-
-#[cfg(test)]
-mod tests;

@@ -10,6 +10,3 @@ mod whole;
 
 pub use shown::{End, Label, Shown};
 pub use whole::{script_line, transcript, usage_line};
-
-#[cfg(test)]
-mod tests;

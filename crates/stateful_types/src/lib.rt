@@ -56,6 +56,3 @@ pub use source::{ReadError, Source, read_all};
 pub use store::{BlockStore, MemoryStore};
 pub use target::{CompactTarget, Target};
 pub use vote::VoteScheme;
-
-#[cfg(test)]
-mod tests;

@@ -7,6 +7,7 @@ use Rattle.stateful_history.specs.Met.{TrueNames}
 use Rattle.stateful_history.specs.Past.{Past, Came, after_entry}
 use Rattle.stateful_history.specs.Refusals.{HoldsFurther}
 use Rattle.stateful_history.specs.Stops.{IsRestart}
+use Rattle.stateful_history.specs.Honest.{HasHonestStore}
 use Rattle.stateful_history.specs.declared.event.Event.{Event}
 use Rattle.stateful_history.specs.declared.event.Event.TheVariants.{Restart}
 use Rattle.stateful_history.specs.declared.mark.Mark.{Mark}
@@ -17,7 +18,6 @@ use Rattle.stateful_standing.specs.Building.{BuildsTakeTurns}
 use Rattle.stateful_standing.specs.Fronting.{RunsTakeTurns}
 use Rattle.stateful_standing.specs.Setting.{setting}
 use Rattle.stateful_standing.specs.Storing.{IsStoredNow}
-use Rattle.stateful_keeping.specs.Ways.{HasHonestStore}
 use Rattle.stateful_keeping.proofs.HeldFurther.{further-kept, further-left}
 use Rattle.stateful_keeping.proofs.NamesBehind.{NamesBehind-marks}
 use Rattle.stateful_keeping.proofs.TakenIn.{may_come-live}

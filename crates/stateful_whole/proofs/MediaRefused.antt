@@ -11,6 +11,7 @@ use Rattle.stateful_history.specs.Opening.{opens}
 use Rattle.stateful_history.specs.Past.{Past, Came, Tried, after_entry}
 use Rattle.stateful_history.specs.Restarts.{reopened_height, CanReopen, Finds}
 use Rattle.stateful_history.specs.Stops.{IsRestart}
+use Rattle.stateful_history.specs.Honest.{HasHonestStore}
 use Rattle.stateful_history.specs.declared.event.Event.{Event}
 use Rattle.stateful_history.specs.declared.event.Event.TheVariants.{Restart}
 use Rattle.stateful_history.specs.declared.mark.Mark.{Mark}
@@ -22,7 +23,6 @@ use Rattle.stateful_standing.specs.Fronting.{RunsTakeTurns}
 use Rattle.stateful_standing.specs.Setting.{setting}
 use Rattle.stateful_standing.specs.Storing.{IsStoredNow}
 use Rattle.stateful_keeping.specs.Media.{TargetsRise, KeepsReopenable}
-use Rattle.stateful_keeping.specs.Ways.{HasHonestStore}
 use Rattle.stateful_keeping.proofs.MediaAlong.{left-media, kept-media}
 use Rattle.stateful_keeping.proofs.MediaOpens.{KeepsDurably-crashed, tried-media, refused-memory}
 use Rattle.stateful_keeping.proofs.NamesBehind.{NamesBehind-marks}

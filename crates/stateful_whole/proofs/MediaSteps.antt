@@ -10,6 +10,7 @@ use Rattle.stateful_history.specs.Met.{TrueNames}
 use Rattle.stateful_history.specs.Past.{Past, Came, Made, after, after_entry}
 use Rattle.stateful_history.specs.Restarts.{CanReopen}
 use Rattle.stateful_history.specs.Stops.{IsRestart}
+use Rattle.stateful_history.specs.Honest.{StoresHeights, StoresFinalized}
 use Rattle.stateful_history.specs.declared.event.Event.{Event}
 use Rattle.stateful_history.specs.declared.event.Event.TheVariants.{Restart}
 use Rattle.stateful_history.specs.declared.mark.Mark.{Mark}
@@ -26,7 +27,6 @@ use Rattle.stateful_standing.specs.Storing.{IsStoredNow}
 use Rattle.stateful_keeping.specs.Down.{IsEnding}
 use Rattle.stateful_keeping.specs.Execution.{NamesBehind}
 use Rattle.stateful_keeping.specs.Media.{TargetsRise, KeepsReopenable, KeepsHeights, MediaKept}
-use Rattle.stateful_keeping.specs.Ways.{StoresHeights, StoresFinalized}
 use Rattle.stateful_keeping.proofs.Counting.{ends_stopped}
 use Rattle.stateful_keeping.proofs.EventUp.{names-taken}
 use Rattle.stateful_keeping.proofs.MarksOfRules.{taken_in_marks}

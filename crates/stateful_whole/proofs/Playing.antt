@@ -14,6 +14,7 @@ use Rattle.stateful_history.specs.Prunes.{PrunedIsDue}
 use Rattle.stateful_history.specs.Restarts.{OpenedIsStored}
 use Rattle.stateful_history.specs.Runs.{BuildIsAnswered}
 use Rattle.stateful_history.specs.Stops.{IsRestart, NothingLive, BrokeBefore, StopsClean, StartsClean}
+use Rattle.stateful_history.specs.Honest.{StoresFinalized}
 use Rattle.stateful_history.specs.declared.event.Event.{Event}
 use Rattle.stateful_history.specs.declared.event.Event.TheVariants.{Stop}
 use Rattle.stateful_history.specs.declared.mark.Mark.{Mark}
@@ -35,7 +36,6 @@ use Rattle.stateful_keeping.specs.Reasons.{IsTrusted, ReasonsStand, HasItsReason
 use Rattle.stateful_keeping.specs.Places.{IsInPlace, PastKept, PlacesKept, PlacesBehind}
 use Rattle.stateful_keeping.specs.HandsBehind.{HandsBehind}
 use Rattle.stateful_keeping.specs.InHand.{VerifiedApart}
-use Rattle.stateful_keeping.specs.Ways.{StoresFinalized}
 use Rattle.stateful_keeping.proofs.Counting.{ends_stopped}
 use Rattle.stateful_keeping.proofs.DulyAlong.{duly-up}
 use Rattle.stateful_keeping.proofs.EventDown.{event-down}

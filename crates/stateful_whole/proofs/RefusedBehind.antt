@@ -4,6 +4,7 @@ use Rattle.stateful_types.specs.Names.{Named}
 use Rattle.stateful_db.specs.Laws.{Laws}
 use Rattle.stateful_history.specs.Past.{Past, Came, after_entry, after_all}
 use Rattle.stateful_history.specs.Refusals.{HoldsFurther}
+use Rattle.stateful_history.specs.Honest.{HasHonestStore}
 use Rattle.stateful_history.specs.declared.entry.Entry.{Entry}
 use Rattle.stateful_history.specs.declared.event.Event.{Event}
 use Rattle.stateful_history.specs.declared.mark.Mark.{Mark}
@@ -15,7 +16,6 @@ use Rattle.stateful_standing.specs.Building.{BuildsTakeTurns}
 use Rattle.stateful_standing.specs.Fronting.{RunsTakeTurns}
 use Rattle.stateful_standing.specs.Setting.{setting}
 use Rattle.stateful_standing.specs.Storing.{IsStoredNow}
-use Rattle.stateful_keeping.specs.Ways.{HasHonestStore}
 use Rattle.stateful_processing.specs.Intake.{Counts}
 use Rattle.stateful_processing.specs.Moments.{Moment}
 use Rattle.stateful_whole.specs.Entering.{Steps}

@@ -14,6 +14,7 @@ use Rattle.stateful_history.specs.Past.{Past, Came, Made, EachMark, after, after
 use Rattle.stateful_history.specs.Prunes.{PrunedIsDue}
 use Rattle.stateful_history.specs.Restarts.{reopened_height, OpenedIsStored}
 use Rattle.stateful_history.specs.Stops.{EndsStopped, NothingLive, StopsClean, StartsClean}
+use Rattle.stateful_history.specs.Honest.{StoresHeights}
 use Rattle.stateful_history.specs.declared.event.Event.{Event}
 use Rattle.stateful_history.specs.declared.event.Event.TheVariants.{Restart}
 use Rattle.stateful_history.specs.declared.mark.Mark.{Mark}
@@ -30,7 +31,6 @@ use Rattle.stateful_keeping.specs.Duly.{IsDulySaid}
 use Rattle.stateful_keeping.specs.EventBehind.{RestartedBehind}
 use Rattle.stateful_keeping.specs.Reasons.{HasItsReason}
 use Rattle.stateful_keeping.specs.Places.{IsInPlace, PastKept, PlacesKept}
-use Rattle.stateful_keeping.specs.Ways.{StoresHeights}
 use Rattle.stateful_keeping.proofs.EventRestarts.{event-restarts}
 use Rattle.stateful_keeping.proofs.GoesDown.{IsEmpty-cleared}
 use Rattle.stateful_keeping.proofs.Counting.{IsCounted-up}

@@ -5,6 +5,7 @@ use Rattle.stateful_db.specs.Laws.{Laws}
 use Rattle.stateful_history.specs.Holding.{Holds}
 use Rattle.stateful_history.specs.Met.{TrueNames}
 use Rattle.stateful_history.specs.Past.{Came, Past, after_entry, after_all}
+use Rattle.stateful_history.specs.Honest.{StoresHeights, StoresFinalized}
 use Rattle.stateful_history.specs.declared.entry.Entry.{Entry}
 use Rattle.stateful_history.specs.declared.mark.Mark.{Mark}
 use Rattle.stateful_history.proofs.Marks.{TrueNames-before_all}
@@ -15,7 +16,6 @@ use Rattle.stateful_standing.specs.Building.{BuildsTakeTurns}
 use Rattle.stateful_standing.specs.Fronting.{RunsTakeTurns}
 use Rattle.stateful_standing.specs.Setting.{setting}
 use Rattle.stateful_standing.specs.Storing.{IsStoredNow}
-use Rattle.stateful_keeping.specs.Ways.{StoresHeights, StoresFinalized}
 use Rattle.stateful_keeping.proofs.PlacesPast.{past-kept-first}
 use Rattle.stateful_keeping.proofs.InHandOpened.{VerifiedApart-none}
 use Rattle.stateful_processing.specs.Intake.{Counts}

@@ -2,10 +2,10 @@
 use Rattle.std.proofs.Common.{◌∷◌, [], ℕ, List, Option}
 use Rattle.stateful_types.specs.Names.{Header, Named}
 use Rattle.stateful_history.specs.Past.{Past, Item, Came, Made, after, after_entry, after_all}
+use Rattle.stateful_history.specs.Honest.{StoresFinalized}
 use Rattle.stateful_history.specs.declared.entry.Entry.{Entry}
 use Rattle.stateful_history.specs.declared.event.Event.TheVariants.{Finalized}
 use Rattle.stateful_history.specs.declared.mark.Mark.{Mark}
-use Rattle.stateful_keeping.specs.Ways.{StoresFinalized}
 
 module _ {B C I : Type 0} (header : Header B) (stored : ℕ → Option (Named B)) where
   pub StoresFinalized-before_item : (item : Item B C I) (p : Past B C I) → StoresFinalized header stored (item ∷ p) → StoresFinalized header stored p

@@ -4,6 +4,7 @@ use Rattle.stateful_types.specs.Names.{Named}
 use Rattle.stateful_history.specs.Met.{TrueNames}
 use Rattle.stateful_history.specs.Past.{Past, Came, after_entry, after_all}
 use Rattle.stateful_history.specs.Refusals.{HoldsFurther}
+use Rattle.stateful_history.specs.Honest.{HasHonestStore}
 use Rattle.stateful_history.specs.declared.entry.Entry.{Entry}
 use Rattle.stateful_history.specs.declared.event.Event.{Event}
 use Rattle.stateful_history.specs.declared.mark.Mark.{Mark}
@@ -11,7 +12,6 @@ use Rattle.stateful_exec.specs.Workings.{Workings}
 use Rattle.stateful_register.specs.declared.register.Register.{Register}
 use Rattle.stateful_standing.specs.Setting.{setting}
 use Rattle.stateful_standing.specs.Storing.{IsStoredNow}
-use Rattle.stateful_keeping.specs.Ways.{HasHonestStore}
 use Rattle.stateful_processing.specs.Intake.{Counts, TakesIn}
 use Rattle.stateful_processing.specs.Left.{KeepsStates, LeavesRule}
 use Rattle.stateful_processing.specs.Moments.{Moment}

@@ -5,6 +5,7 @@ use Rattle.stateful_history.specs.Met.{TrueNames}
 use Rattle.stateful_history.specs.Opening.{opening, base_after}
 use Rattle.stateful_history.specs.Past.{Past, Came, Tried, after_entry}
 use Rattle.stateful_history.specs.Restarts.{reopened_height}
+use Rattle.stateful_history.specs.Honest.{HasHonestStore}
 use Rattle.stateful_history.specs.declared.event.Event.{Event}
 use Rattle.stateful_history.specs.declared.event.Event.TheVariants.{Restart}
 use Rattle.stateful_history.specs.declared.mark.Mark.{Mark}
@@ -13,7 +14,6 @@ use Rattle.stateful_register.specs.declared.register.Register.{Register}
 use Rattle.stateful_standing.specs.Setting.{setting}
 use Rattle.stateful_standing.specs.Storing.{IsStoredNow}
 use Rattle.stateful_keeping.specs.Media.{KeepsDurably, TargetsRise, KeepsReopenable, KeepsHeights}
-use Rattle.stateful_keeping.specs.Ways.{HasHonestStore}
 use Rattle.stateful_processing.specs.Intake.{Counts}
 use Rattle.stateful_processing.specs.Left.{LeavesOpening}
 use Rattle.stateful_processing.specs.Moments.{Moment}

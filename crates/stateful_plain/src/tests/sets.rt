@@ -2,11 +2,10 @@
 
 ghost use Rattle.std.specs.Prelude.{◌≡◌, IsTrue};
 
-use super::EMPTY;
 use crate::{Plain, PlainMedium};
 use stateful_db::{
-    Barrier, BatchError, DatabaseSet, DbCall, FlushToken, Held, InitError, SetError, SetInit,
-    Tokens,
+    Barrier, BatchError, DatabaseSet, DbCall, FlushToken, Held, InitError, ManagedDb, SetError,
+    SetInit, Tokens,
 };
 use stateful_types::{Digest, Faulty, Location, Target};
 use std::alloc::{AllocError, Global};
@@ -337,7 +336,7 @@ fn inits<S: Fixture>(rt: &impl Abort, alloc: Global, database: usize) -> Result<
 fn expects<S: Fixture>(rt: &impl Abort, alloc: Global, database: usize) -> Result<(), Fail> {
     let set: S = grown(rt, alloc, &[])?;
     let other = Target {
-        root: EMPTY.root,
+        root: Plain::initial_sync_target().root,
         ..SECOND
     };
     let mut expected = set.committed_targets()?;
@@ -405,7 +404,7 @@ fn mismatches<S: Fixture>(rt: &impl Abort, alloc: Global, database: usize) -> Re
     let targets = set.committed_targets()?;
     assert_eq!(rt;
         S::mismatch(&sealed, &targets),
-        Some((database, EMPTY, SECOND))
+        Some((database, Plain::initial_sync_target(), SECOND))
     );
     assert!(rt; !S::matches_sync_targets(&sealed, &targets));
     let ends = (S::count() as u64).saturating_add(database as u64);

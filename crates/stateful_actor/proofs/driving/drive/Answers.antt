@@ -1,10 +1,10 @@
 use Rattle.std.proofs.Common.{[], Bool, false, refl, sym, ◌∙◌, subst}
 use Rattle.stateful_history.specs.Met.{TrueNames}
 use Rattle.stateful_history.specs.Past.{after_all}
+use Rattle.stateful_history.specs.Honest.{HasHonestStore}
 use Rattle.stateful_standing.specs.Setting.{setting}
 use Rattle.stateful_standing.specs.Storing.{IsStoredNow}
 use Rattle.stateful_keeping.specs.Media.{TargetsRise}
-use Rattle.stateful_keeping.specs.Ways.{HasHonestStore}
 use Rattle.stateful_whole.specs.Media.{MediaStand, StandsOnMedia}
 use Rattle.stateful_cache.proofs.Cutting.{one_over, none_over}
 use Rattle.stateful_exec.specs.Workings.{workings}
