@@ -1,4 +1,15 @@
 //! The plan: what a node remembers of its sync, over a store of one value.
+//!
+//! A node loads its plan at each start. The first one has no state. A floor may be set, and later
+//! ones in its place, as long as no sync is done. A completion ends that: from then on floors are
+//! ignored, and only a completion that isn't lower may follow. So the node never syncs again.
+//!
+//! Each change is written to `store` first, and `state` takes it only after that. Where the store
+//! fails or memory runs out, both are as before, and the call may be made again. What a later
+//! `init` loads is what was accepted last.
+//!
+//! `specs/Plan.antt` says what each call does, and `NeverFallsBack` of `specs/Laws.antt` what holds
+//! over all of them. The rules stand in docs/RULES.md, "The plan of a sync".
 
 ghost use Rattle.std.specs.Prelude.{◌≡◌, ◌↔◌, ◌≤◌, ◌⊎◌, ℕ, Option, None, IsErrOf, IsSome, IsTrue};
 ghost use Rattle.std.specs.Prelude.{IsFalse, IfOk, IfErr, IfSome, OnOk, OnErr};

@@ -1,4 +1,15 @@
 //! The entries that were recorded, and the prune that is due by them.
+//!
+//! Each finalized height is one call of `observe`, by ascending heights. It puts an entry into
+//! `entries`, where the oldest leaves once a marshal window is full. Then it looks whether a prune
+//! is due, and to which entry. Memory is wanted only until the window is full.
+//!
+//! A prune that is answered is the caller's to carry out. Before the databases are pruned
+//! `barrier_height` has to be durable. Nothing is kept of the answer here, and the next height is
+//! judged by the entries alone.
+//!
+//! `specs/Rule.antt` says when a prune is due, and `specs/Calls.antt` that each answer is the
+//! rule's over all entries that were recorded.
 
 ghost use Rattle.std.specs.Prelude.{◌≡◌, ◌≢◌, ◌<◌, ◌≤◌, ◌↔◌, [], Option, length, IsSome, IsOk};
 ghost use Rattle.std.specs.Prelude.{IsErrOf, IfOk, IfSome, OnOk, OnErr};
