@@ -246,14 +246,14 @@ impl Durability {
         Some((receipt.ticket, receipt.height))
     }
 
-    // The height that the newest open barrier covers, or else the durable one.
+    /// The height that the newest open barrier covers, or else the durable one.
     fn covered_by_barriers(&self) -> Height
         ensures { result.0 ≡ covered_by_barriers self.now }
     {
         self.newer.or(self.oldest).unwrap_or(self.durable)
     }
 
-    // How many receipts are of heights up to this one. They stand in front.
+    /// How many receipts are of heights up to this one. They stand in front.
     fn count_up_to(&self, height: Height) -> usize
         ensures count { result ≡ length (receipts_up_to height.0 self.now.held) }
         ensures front { self.now.held

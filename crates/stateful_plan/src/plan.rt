@@ -224,7 +224,7 @@ impl<P: PlanStore + Drop, S: Scheme> SyncPlan<P, S> {
         store
     }
 
-    // Whether a floor changes nothing.
+    /// Whether a floor changes nothing.
     fn ignores(&self, finalization: &Finalization<S::Certificate>) -> bool
         ensures ignored { IsTrue result ↔ IsIgnored self.now.state finalization.now }
         ensures new { IsFalse result → IsNew self.now.state finalization.now }
@@ -242,7 +242,7 @@ impl<P: PlanStore + Drop, S: Scheme> SyncPlan<P, S> {
         }
     }
 
-    // Whether a completion may be recorded.
+    /// Whether a completion may be recorded.
     fn check_completion(&self, height: Height, digest: Digest) -> Result<(), PlanError>
         ensures backward { (recorded given : Height)
             → IsErrOf result (PlanError.CompletedBackward recorded given)
@@ -284,7 +284,7 @@ impl<P: PlanStore + Drop, S: Scheme> SyncPlan<P, S> {
         Ok(())
     }
 
-    // Keeps a state in the store, and takes it then.
+    /// Keeps a state in the store, and takes it then.
     fn accept(&mut self, state: SyncState<S>) -> Result<(), PlanError>
         ensures ok { OnOk result (self.new.state ≡ Some state) }
         ensures err { OnErr result ((self.new.state ≡ self.old.state)
