@@ -4,7 +4,7 @@
 //! A walk isn't kept. With each answer of a fetch `prepare` walks anew, through all blocks that
 //! were acquired for the request so far. Meanwhile blocks may have become known, so the walk may
 //! end earlier than before. After a pause what was acquired is dropped, and the walk begins with
-//! nothing.
+//! the request alone.
 //!
 //! Where it comes to a known block, the path above that is `Ready`. Where it lacks a block, that is
 //! the one to `Ask` for. Where the blocks don't fit, the request is `Invalid`. A verification is
