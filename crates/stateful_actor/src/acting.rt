@@ -1,4 +1,11 @@
-//! What an event does: a restart opens, and behind another event goes on what can.
+//! What an event does: a restart opens, and after another event goes on what can.
+//!
+//! A restart ends all work and opens the databases (`restarting.rt`). Nothing goes on then, since
+//! nothing waits. Every other event is taken in, and one thing after another goes on until nothing
+//! can (`playing.rt`). Either way the marks are appended in the order in which things are done.
+//!
+//! The register is read here and never changed: an event that fails in the middle isn't in it.
+//! `IsStep` of `stateful_whole/specs/Steps.antt` says what is done.
 
 ghost use Rattle.std.specs.Prelude.{◌≡◌, ◌≤◌, [], ℕ, true, false, List, OnOk, OnErr, IfErr};
 ghost use Rattle.stateful_exec.specs.Starting.{Rises};

@@ -1,4 +1,16 @@
 //! A whole list of events.
+//!
+//! `drive` takes a new machine and its databases, and steps through the events. Each event that was
+//! taken in is an entry of the history, with its marks. The room for the entry is taken before the
+//! step, so an event that was done is never left out for want of memory.
+//!
+//! The first event that is refused ends the list. `Halt` hands back the machine, the databases and
+//! the history of the events before, with the place of that event and its error. After `BadEvent` a
+//! caller may go on with `step` as if that event hadn't come. After any other error a restart comes
+//! next.
+//!
+//! `Steps` of `stateful_whole/specs/Entering.antt` says what a history is, and `IsRefused` of
+//! `specs/Driving.antt` why it ends. docs/RULES.md says it in words, "One event".
 
 ghost use Rattle.std.specs.Prelude.{◌≡◌, ◌<◌, ◌≤◌, ◌++◌, ◌∷◌, [], ℕ, List, Option, true, false};
 ghost use Rattle.std.specs.Prelude.{IfOk, IfErr, OnOk, OnErr, IsErrOf, length, map, take};

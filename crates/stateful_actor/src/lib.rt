@@ -1,10 +1,10 @@
 //! The machine between consensus and a set of databases: it takes events and makes marks.
 //!
 //! One event is one call of `Stateful::step`. The event is taken in, and then one thing after
-//! another goes on until nothing can without another event. A machine that isn't up any more behind
+//! another goes on until nothing can without another event. A machine that isn't up any more after
 //! that ends all that is live; a restart does so first, and then opens the databases. The register
-//! of live work says which events may come; it is brought up to date from the event and its marks
-//! at the end of each event that was taken in, and by nothing else.
+//! of live work says which events may come. It is brought up to date at the end of each event that
+//! was taken in, from the event and its marks, and by nothing else.
 #![tactic(auto)]
 
 mod acting;

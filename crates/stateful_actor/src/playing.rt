@@ -1,4 +1,11 @@
 //! An event other than a restart.
+//!
+//! The event is taken in, and then goes on what can (`advance`). Both may end `up`: a stop does so
+//! as it is taken in, and a barrier that breaks while things go on. Nothing goes on from there.
+//! Then `play` ends all work and marks that the machine has stopped (`stopping.rt`).
+//!
+//! So a stop is told after all that the event has done, and its marks are the last ones of the
+//! entry. `Plays` and `Advances` of `stateful_whole/specs/Steps.antt` say what is done.
 
 ghost use Rattle.std.specs.Prelude.{◌≡◌, ◌≤◌, [], ℕ, List, OnOk, OnErr, IfErr};
 ghost use Rattle.stateful_exec.specs.Starting.{Rises};

@@ -1,4 +1,15 @@
 //! A restart.
+//!
+//! First all work ends that was live after the last event that was taken in: its marks are made
+//! while the register still has it. Then execution and the loop are cleared, and the databases are
+//! opened (`opening.rt` of `stateful_processing`). The mark `Opened` is the last one.
+//!
+//! It is done alike whether the machine is up, down or has failed. Numbers of jobs, fetches and
+//! barriers go on from where they stood, so none is used twice. Where the opening is refused no
+//! mark is answered, and the machine takes a restart alone.
+//!
+//! `Restarts` of `stateful_whole/specs/Steps.antt` says what is done, and docs/RULES.md has it in
+//! words, "Stops and restarts".
 
 ghost use Rattle.std.specs.Prelude.{◌≡◌, ◌≤◌, ◌⊎◌, [], ℕ, OnOk, OnErr, IfErr};
 ghost use Rattle.stateful_exec.specs.Starting.{Rises};

@@ -1,4 +1,18 @@
 //! One event.
+//!
+//! 1. `admit` takes the event on or refuses it. It only reads, so after `Failed` and `BadEvent`
+//!    nothing has changed.
+//! 2. `failed` is set, so an error from here on leaves a machine that has failed.
+//! 3. `act` does the event, and lets go on what can. It makes the marks, in their order.
+//! 4. `faults` counts the event where the application or a job has failed in it.
+//! 5. The register takes in the event with all its marks, `failed` is taken back, and the marks are
+//!    the answer.
+//!
+//! An event that is refused after it was taken on has no marks and isn't in the register, though
+//! databases may have changed. A restart ends what is live by the register.
+//!
+//! `IsStep` of `stateful_whole/specs/Steps.antt` says what an event does, `IsCause` of
+//! `specs/Faults.antt` why it is refused, and docs/RULES.md both in words, "One event".
 
 ghost use Rattle.std.specs.Prelude.{◌≡◌, ◌≤◌, ◌<◌, ◌^◌, ◌⊎◌, ◌∷◌, [], ℕ, List, Option, Some, true};
 ghost use Rattle.std.specs.Prelude.{false, not, MatchResult, IfOk, IfErr, OnOk, OnErr, IsErrOf};

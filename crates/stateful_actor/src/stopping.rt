@@ -1,4 +1,12 @@
 //! How the machine stops.
+//!
+//! The work that ends is what is live after the event and the marks that it has made so far. The
+//! register hasn't taken these in yet, so a copy of it does, and tells the marks that end the rest
+//! (`end_work`). The mark `Stopped` follows, and execution and the loop are cleared.
+//!
+//! The register itself takes in all these marks at the end of the event, and is empty then. A
+//! stopped machine refuses every event but a restart. `EndsWork` and `Stops` of
+//! `stateful_whole/specs/Steps.antt` say what is done.
 
 ghost use Rattle.std.specs.Prelude.{◌≡◌, ◌≤◌, ◌++◌, ◌∷◌, [], ℕ, OnOk, IfErr, List};
 ghost use Rattle.stateful_history.specs.declared.mark.Mark.{Mark as Marked};

@@ -1,4 +1,12 @@
 //! Barriers: what has to be flushed before a height is durable, and how that went.
+//!
+//! A set makes a barrier when it starts persisting, with one token for each database. Each database
+//! then answers once, in any order, and `durable` takes the answer in. `poll` says `Durable` once
+//! all answers are there and good, and `Interrupted` as soon as one isn't. Until then it is
+//! pending, however long that is.
+//!
+//! The barrier keeps the tokens with their answers and does nothing else. Whoever holds it flushes
+//! the databases and decides what an end means. `specs/Barrier.antt` says what each call does.
 
 ghost use Rattle.std.specs.Prelude.{◌≡◌, ℕ, List, IfOk, Some, map};
 ghost use Rattle.stateful_db.specs.Barrier.{unanswered, open_at, answered, Polled};

@@ -1,4 +1,16 @@
 //! One database, wherever it is.
+//!
+//! A database that isn't open is its medium alone: `Closed`. `init` opens it, and it is `Here`. A
+//! change that fails hands back the medium, and the database is `Lost` with it. `crash` closes it
+//! again, with what a crash leaves of the checkpoints. Opening takes a closed or a lost one, and
+//! every other change needs one that is here.
+//!
+//! A change takes the database by value. So it is `Away` inside a call, and no call returns with it
+//! away but `take`, whose caller puts a set back.
+//!
+//! An opening that fails leaves it lost where its count of faults rose or memory ran out, and else
+//! closed. `specs/Member.antt` says how a database stands, `specs/Single.antt` what each call makes
+//! of it, and `specs/Reopening.antt` how it opens.
 
 ghost use Rattle.std.specs.Prelude.{◌≡◌, ℕ, List, ◌∷◌, [], IfOk, IfErr, OnOk, OnErr, IsErrOf};
 ghost use Rattle.std.specs.Prelude.{IsTrue, ◌↔◌, Some, ◌<◌, ◌≤◌, ◌+◌, ◌-◌, ◌^◌, ◌++◌, min};

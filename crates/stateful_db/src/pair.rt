@@ -1,4 +1,15 @@
 //! One database before a set of others.
+//!
+//! A change is made on the first database and then on the others, and stops at the first failure.
+//! New batches, forks and `apply` look before whether all are here. So none of them changes the
+//! first database only to find that another is lost.
+//!
+//! Where an opening fails at a later database, the first is closed again if this call has opened
+//! it. Other failures aren't taken back: the machine has failed then, and takes a restart alone.
+//!
+//! Databases are numbered from 0. The first has the number 0, and a number of the others is one
+//! higher here than in their own set (`behind`). `specs/Pair.antt` says what such a set means, by
+//! what its parts mean.
 
 ghost use Rattle.std.specs.Prelude.{◌≡◌, ℕ, ◌^◌, ◌<◌, ◌≤◌, OnOk, OnErr, IfErr, Some};
 ghost use Rattle.stateful_db.specs.Databases.{IsOpening};

@@ -1,4 +1,12 @@
 //! The tokens of a database that are out.
+//!
+//! A token is out from where the database starts to persist its checkpoints until its flush was
+//! good. It is known by its place, which is that of the newest checkpoint at the time. There is
+//! room for two, since two barriers may be open.
+//!
+//! Usually the older comes in first. Where the newer does, the older stays out. Without a good
+//! flush a token stays out until the database is opened anew. `specs/Tokens.antt` says what is out,
+//! and `specs/TokensShown.antt` how the fields show it.
 
 ghost use Rattle.std.specs.Prelude.{◌≡◌, ℕ, ◌<◌, ◌≤◌, ◌↔◌, ◌++◌, ◌∷◌, [], length, IsTrue};
 ghost use Rattle.stateful_db.specs.Tokens.{without};

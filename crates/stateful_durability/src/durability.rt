@@ -1,4 +1,16 @@
 //! The durable height, the open barriers and the receipts that wait.
+//!
+//! A height goes through the fields one after another. `applied` is raised to it once its block was
+//! applied. A barrier that begins over it stands in `oldest`, or in `newer` beside an older one.
+//! Where that barrier was good `durable` is raised to its height, and else it only leaves. `newer`
+//! moves up then, since barriers complete in the order in which they began.
+//!
+//! Receipts stand in `held` by ascending heights, those of one height in the order in which they
+//! came. `record` appends one, and `record_duplicate` puts one after the others of its height.
+//! `released` takes the front one while its height is durable, so acknowledgements ascend too.
+//!
+//! `specs/Durability.antt` says what each call does. `specs/Calls.antt` says over all calls that a
+//! receipt is held until it is released, and `specs/Shown.antt` how the fields show that.
 
 ghost use Rattle.std.specs.Prelude.{◌≡◌, ◌≢◌, ◌<◌, ◌≤◌, ◌↔◌, ◌⊎◌, [], ◌∷◌, ◌++◌, length, take};
 ghost use Rattle.std.specs.Prelude.{slice_get, IsTrue, IfSome, IfNone, OnSome, OnOk, OnErr};
@@ -234,14 +246,14 @@ impl Durability {
         Some((receipt.ticket, receipt.height))
     }
 
-    // The height that the newest open barrier covers, or else the durable one.
+    /// The height that the newest open barrier covers, or else the durable one.
     fn covered_by_barriers(&self) -> Height
         ensures { result.0 ≡ covered_by_barriers self.now }
     {
         self.newer.or(self.oldest).unwrap_or(self.durable)
     }
 
-    // How many receipts are of heights up to this one. They stand in front.
+    /// How many receipts are of heights up to this one. They stand in front.
     fn count_up_to(&self, height: Height) -> usize
         ensures count { result ≡ length (receipts_up_to height.0 self.now.held) }
         ensures front { self.now.held

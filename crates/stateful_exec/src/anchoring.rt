@@ -1,4 +1,16 @@
 //! The anchor moves to a finalized block, and the application observes it.
+//!
+//! In `advance_to` the cache is cut to the block's descendants of later rounds, the block is the
+//! anchor, and the application reads the states before it. The batch is handed out with what was
+//! read. Between this call and `observe` the caller applies the batch to the databases, so until
+//! then the anchor is ahead of them.
+//!
+//! `observe` hands what was read to the application, with the databases after the block. It may
+//! leave a hook, which is a job of its own: `Stage::Hooking`. Each turn of that job goes to the
+//! hook (`turn_hook`), until it is done: `Stage::Advanced` again.
+//!
+//! `Moves`, `Observes` and `TurnsHook` of `specs/Finalizing.antt` have the rules, and docs/RULES.md
+//! says them in words, "The anchor's move" and "A hook".
 
 ghost use Rattle.std.specs.Prelude.{◌≡◌, ◌≢◌, ◌≤◌, ◌⊎◌, true, false, All, Some, None, OnOk, IfOk};
 ghost use Rattle.std.specs.Prelude.{IfErr, IfSome, IfNone, IsErrOf, OnErr};

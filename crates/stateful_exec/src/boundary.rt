@@ -1,4 +1,16 @@
 //! How runs cross a finalization: which end before it, which go on, and which are given up.
+//!
+//! A boundary is taken when a finalization begins, and is kept in the pause until the finalization
+//! is over. `compatible` has the digests of blocks whose states stay valid: the finalized one, and
+//! its cached descendants of later rounds. A run of a later block on one of these goes on meanwhile
+//! (`Retain`). Where it ends its block is compatible too (`completed`), so the next one above it
+//! may follow.
+//!
+//! A run of the finalized block itself is awaited, since its batch is what is applied (`Join`).
+//! Each other run is awaited too, and its requests are invalid then (`Reject`).
+//!
+//! `IsRetained` of `specs/Boundary.antt` and `IsBoundaryOf` of `specs/Finalizing.antt` have the
+//! rules; docs/RULES.md says them in words, "A pause".
 
 ghost use Rattle.std.specs.Prelude.{◌≡◌, ◌≢◌, ◌↔◌, true, IsTrue, IfOk, OnOk, OnErr};
 ghost use Rattle.stateful_types.specs.Round.{IsLater};

@@ -1,4 +1,16 @@
 //! Turns of builds, and the blocks that they give.
+//!
+//! Each turn of the live build's job goes to the application (`turn_build`). Until it is done the
+//! build is put back. Then it has left, and what it gives is looked at: nothing is a decline, and a
+//! block has to be what was asked for. A good one is cached before it is answered, so whoever
+//! verifies it next finds it known.
+//!
+//! A cancel of its request ends the build at once (`give_up`), and no answer is made. A block that
+//! isn't what was asked for, or that the cache doesn't take, is an error of the machine and no
+//! decline.
+//!
+//! `specs/Built.antt` has the rules (`TurnsBuild`, `IsOther`, `GivesUp`), and docs/RULES.md says
+//! them in words, "Builds and cancels".
 
 ghost use Rattle.std.specs.Prelude.{◌≡◌, ◌++◌, ◌∷◌, [], List, OnOk, IfOk, IfErr, IfSome, IfNone};
 ghost use Rattle.stateful_exec.specs.Built.{decided, IsOther, IsAskedFor, IsBuilt, FaultsKeep};

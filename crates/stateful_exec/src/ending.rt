@@ -1,4 +1,16 @@
 //! Ends of candidate runs, and the requests that waited for them.
+//!
+//! A turn of a job is a turn of its run (`turn`), and while that isn't done nothing else happens.
+//! At its end, within the same event, the run leaves its table, and how it ended is marked
+//! (`end_run`). A good one gives its batch to the cache. While a finalization goes on, a block that
+//! goes on over it counts as compatible from there on.
+//!
+//! After that all requests that waited for this run are released, and follow one after another, by
+//! ascending tickets (`follow_each`). What one of them starts, the next may join. A request never
+//! waits for a run that has ended.
+//!
+//! `specs/Ending.antt` has the rules (`IsTold`, `Follows`, `InTurn`), and docs/RULES.md says them
+//! in words, "The end of a run" and "After a run".
 
 ghost use Rattle.std.specs.Prelude.{◌≡◌, ◌≤◌, ℕ, IsSome, OnOk, IfOk, IfErr, IsErrOf};
 ghost use Rattle.stateful_types.specs.Causes.{Rose};

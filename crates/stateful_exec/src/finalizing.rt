@@ -1,4 +1,16 @@
 //! Finalizations: which blocks may be final next, runs of them, and how the anchor moves to one.
+//!
+//! One finalization goes on at a time, in `Execution::front`, and its `Stage` says how far it has
+//! come. `begin` tests the block against the anchor: `Begun`. A block that isn't cached is run
+//! (`run_finalized`): `Running`, until a turn ends the run: `Ran`. Then the anchor moves and the
+//! hook follows (`anchoring.rt`). The caller drops the front at the end (`drop_root`).
+//!
+//! It is the caller that pauses execution after the begin, and starts or applies nothing until no
+//! run is awaited. A finalized run that gives no states, or others than the block commits to, is an
+//! error: finality can't be taken back.
+//!
+//! `specs/Finalizing.antt` has the rules (`MayBegin`, `RunsFinal`, `StepsFinal`), and docs/RULES.md
+//! says them in words, "A finalization, from its begin to what goes on after it".
 
 ghost use Rattle.std.specs.Prelude.{◌≡◌, ◌<◌, ◌≤◌, ◌++◌, ◌∷◌, [], ℕ, true, false, OnOk, OnErr};
 ghost use Rattle.std.specs.Prelude.{IfOk, IfErr, IfSome, IfNone, IsErrOf};

@@ -1,4 +1,13 @@
 //! Replay paths: the blocks that have to be run for a request.
+//!
+//! A path is built from the top. That of a verification begins with its block and the parent, that
+//! of a proposal with the parent alone. `step_to` adds an ancestor while the walk goes down to a
+//! known block. Then it is used up from the bottom: `next` is the block to run, on `parent`, and
+//! `advance` makes it the parent of the one above it.
+//!
+//! So `blocks` stands newest first, and shrinks from its end. While a request waits for a run its
+//! path has the blocks above that run's, and while it is parked all that are left. After the walk a
+//! path never grows. `specs/Path.antt` says which ancestors it has.
 
 ghost use Rattle.std.specs.Prelude.{◌≡◌, ◌≢◌, ◌++◌, ◌∷◌, [], OnOk, IfOk, IfSome, IfNone};
 ghost use Rattle.std.specs.Option.{option_copied};

@@ -1,4 +1,15 @@
 //! Pauses for a finalization or a prune: fetches are given up, and runs are awaited.
+//!
+//! A pause lasts from `pause` to `resume`. It withdraws all fetches at once, and their requests go
+//! back to `Phase::Open`. It stops no run: whoever has paused asks `awaited` how many live runs
+//! still have to end, and goes on at none. Before a prune that is each run, before a finalization
+//! each that doesn't go on over it.
+//!
+//! As these runs end, their requests become invalid, are parked, or go on, and `Pause::fate` says
+//! which. `Tables::pause` keeps what the pause is for, with the boundary of a finalization.
+//!
+//! `Pauses` and `AwaitsRuns` of `specs/Pausing.antt` have the rules, and docs/RULES.md says them in
+//! words, "A pause".
 
 ghost use Rattle.std.specs.Prelude.{◌≡◌, ◌↔◌, ◌++◌, map, IsTrue, List, None, OnOk, IfOk, IfErr};
 ghost use Rattle.std.specs.BTreeSet.{keys};

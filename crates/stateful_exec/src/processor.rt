@@ -1,4 +1,18 @@
 //! An application with the states of blocks that aren't final yet.
+//!
+//! A finalization is led by the caller, one call after another:
+//!
+//! 1. `redelivered` tells that the block is above the anchor. `begin` begins, and with `boundary`
+//!    the caller pauses execution (`pause` of a handler).
+//! 2. Once no run is awaited, a block that isn't cached is run: `run_finalized`, and turns of its
+//!    job.
+//! 3. `advance` hands out the batch, and the caller applies it to the databases.
+//! 4. `hook` lets the application observe the states, and `turn_hook` turns what it leaves.
+//! 5. `drop_root` ends it, and `resume` of a handler goes on with what was paused.
+//!
+//! What goes on stands in `front`, and the live build in `build` (`propose`, `turn_build`). The
+//! contracts say of each call what it does to both. That the calls come in this order is the loop's
+//! to see to (`finalizing.rt` of `stateful_processing`).
 
 ghost use Rattle.std.specs.Prelude.{◌≡◌, ◌↔◌, ◌<◌, ◌≤◌, ◌++◌, ◌∷◌, ◌⊎◌, [], ℕ, true, false, None};
 ghost use Rattle.std.specs.Prelude.{OnOk, OnErr, IfOk, IfErr, IsErrOf, IsTrue};

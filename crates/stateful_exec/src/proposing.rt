@@ -1,4 +1,15 @@
 //! Builds are started.
+//!
+//! A proposal comes into `queued` when its parent is known, and waits there for its turn. `propose`
+//! takes it out. Meanwhile a finalization may have dropped the parent from the cache, so it is
+//! looked for again, and where it is gone the proposal is declined. Else a job is drawn and the
+//! application starts a build on batches over the parent's states.
+//!
+//! The build is kept in `Execution::build`, and goes on by turns of its job (`built.rt`). There is
+//! room for one: the caller starts none while one is live.
+//!
+//! `Proposes` and `Unqueues` of `specs/Building.antt` have the rules, and docs/RULES.md says them
+//! in words, "A build".
 
 ghost use Rattle.std.specs.Prelude.{◌≡◌, ◌≢◌, ◌⊎◌, ◌≤◌, ◌+◌, ◌∷◌, ℕ, List, None, OnOk, OnErr, IfOk};
 ghost use Rattle.std.specs.Prelude.{IfErr, IfSome, IsErrOf};

@@ -1,4 +1,14 @@
-//! What goes on behind a pause.
+//! What goes on after a pause.
+//!
+//! First the parked requests are taken out, and the pause is over. Each goes along its path, by
+//! ascending tickets. Then those that are `Open` or `Waiting` are taken out. Each acquires anew
+//! what it needs, from the start, by ascending tickets.
+//!
+//! So what was fetched before the pause is dropped, and found again by the walk or asked for again.
+//! Requests that wait for a run stay as they are: its end takes them up.
+//!
+//! `Resumes` of `specs/Pausing.antt` has the rule, and docs/RULES.md says it in words, "After a
+//! pause".
 
 ghost use Rattle.std.specs.Prelude.{◌≡◌, ◌≤◌, ℕ, OnOk, IfErr, IsErrOf};
 ghost use Rattle.stateful_types.specs.Causes.{Rose};

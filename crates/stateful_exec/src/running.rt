@@ -1,4 +1,18 @@
 //! Requests on their way: what they need, and the runs that are started for them.
+//!
+//! `acquire` begins or goes on with a request: it finds what the request needs, and asks for a
+//! block, lets it wait, ends it, or sends it along its path. `advance` passes known blocks, up to
+//! the first that isn't. Where that has a live run the request joins it, so no block has two
+//! candidate runs at once. Else `launch` starts a run on the parent's states, under the next number
+//! of a job.
+//!
+//! Then the request waits in `Phase::Executing` for the end of that run, which takes it up again
+//! (`ending.rt`). While a finalization goes on, a request ends whose next block doesn't go on over
+//! it.
+//!
+//! Each call has the request out of its table, and puts it back with its new phase, or ends it.
+//! `Acquires` and `Advances` of `specs/Rules.antt` have the rules; docs/RULES.md says them in
+//! words, "Requests and the runs that they share".
 
 ghost use Rattle.std.specs.Prelude.{◌≡◌, ◌≢◌, ◌≤◌, ◌++◌, ◌∷◌, [], ℕ, List, Some, None, OnOk, IfOk};
 ghost use Rattle.std.specs.Prelude.{IfErr, IsErrOf};

@@ -1,4 +1,16 @@
 //! Answers of fetches, cancels, and proposals whose parents are known.
+//!
+//! A fetch is known by its number alone. `take_fetching` finds the request that waits for it, and
+//! takes that out of its table until it was served. A number for which no request waits changes
+//! nothing: its request was cancelled, or a pause has withdrawn the fetch.
+//!
+//! A cancel takes a request out for good (`cancel`). Its fetch is withdrawn. The run that it waited
+//! for goes on as long as another request waits for it, and else ends at once. A build that is
+//! queued leaves the queue. Blocks that were cached stay.
+//!
+//! A proposal whose parent became known waits in `queued`, and its ticket in `recovered` until
+//! `ready` hands it out, in the order in which parents became known. `specs/Fetching.antt` has the
+//! rules (`IsFetched`, `Cancels`).
 
 ghost use Rattle.std.specs.Prelude.{◌≡◌, ◌≢◌, ◌⊎◌, ◌++◌, ◌∷◌, [], ℕ, List, Some, None, IsSome};
 ghost use Rattle.std.specs.Prelude.{OnOk, OnErr, IfOk, IfErr, IfSome, IfNone, All, MatchOption};

@@ -1,4 +1,16 @@
 //! What execution keeps of live runs and requests.
+//!
+//! The `Phase` of a request says what it waits for, and what ends that:
+//!
+//! - `Open`: a pause has withdrawn its fetch, and the next resume finds anew what it needs;
+//! - `Fetching`: for a block, until the fetch is answered or a pause withdraws it;
+//! - `Waiting`: a verification that lacks a block which isn't to be had, until the next resume;
+//! - `Executing`: for a run, until that has ended;
+//! - `Parked`: its blocks wait for the next resume, since its run ended under a pause, or it was
+//!   set out by hand.
+//!
+//! A cancel ends each of these. A request that is served just now is in no table and has no phase.
+//! `specs/Phase.antt` says which requests wait for what.
 
 ghost use Rattle.std.specs.Prelude.{◌≡◌, ◌↔◌, ℕ, IsTrue, IfSome, IfNone};
 ghost use Rattle.stateful_exec.specs.Phase.{is_on, is_unacquired};

@@ -1,5 +1,17 @@
 //! What a request needs before its blocks can be run: walks from its first unknown block through
 //! its ancestors, to one that is known.
+//!
+//! A walk isn't kept. With each answer of a fetch `prepare` walks anew, through all blocks that
+//! were acquired for the request so far. Meanwhile blocks may have become known, so the walk may
+//! end earlier than before. After a pause what was acquired is dropped, and the walk begins with
+//! the request alone.
+//!
+//! Where it comes to a known block, the path above that is `Ready`. Where it lacks a block, that is
+//! the one to `Ask` for. Where the blocks don't fit, the request is `Invalid`. A verification is
+//! judged first without a walk (`judge` of `stateful_cache`), and may have to wait for the store.
+//!
+//! `IsPrepared` and `Walks` of `specs/Walk.antt` have the rules, and docs/RULES.md says them in
+//! words, "What a request needs".
 
 ghost use Rattle.std.specs.Prelude.{◌≡◌, ◌≢◌, ◌↔◌, ◌++◌, ◌∷◌, [], IfOk, IsTrue, take};
 ghost use Rattle.stateful_exec.specs.Path.{IsOneAbove};

@@ -1,4 +1,18 @@
 //! The mailbox.
+//!
+//! A call that asks draws `next_ticket`, notes it in `tickets`, and puts its message into `queue`.
+//! Whoever drives the machine takes the next event by `take`, does it, and tells the marks of each
+//! entry by `answer`. A mark that answers what the ticket's call asked for, or drops it, ends the
+//! ticket. `poll` is pending until then, hands the end out once, and is pending again.
+//!
+//! A request that is cancelled before its message was handed out is never handed out. One that is
+//! cancelled later is told to the machine by the next `take`, before any message.
+//!
+//! The mark that the machine has stopped ends each ticket drawn so far that hasn't ended. Messages
+//! of such tickets aren't handed out any more.
+//!
+//! `specs/Mail.antt` says what each call does, and `specs/Laws.antt` what holds whatever calls
+//! come; docs/RULES.md has the rules, "The mailbox of the machine".
 
 ghost use Rattle.std.specs.Prelude.{◌≡◌, ◌-◌, ◌^◌, ◌≤◌, ◌↔◌, [], false, IfOk, OnOk, OnErr, IsErrOf};
 ghost use Rattle.stateful_mailbox.specs.declared.message.Ask.TheVariants as asks;

@@ -1,4 +1,14 @@
 //! What marks tell of tickets.
+//!
+//! Marks are taken in two passes: first all are read into notes, and then each note ends its
+//! ticket. Only the first pass takes memory, so where that runs out no ticket has ended.
+//!
+//! Whether an answer ends a ticket hangs on the call that drew it (`outcome`). A verdict ends a
+//! verification alone, a block that was built a request to build, and so on. `Dropped` ends each
+//! kind, as a stop does (`gone`): verifications and subscriptions are refused, and the others get
+//! an answer that says so.
+//!
+//! `specs/Replies.antt` says which note a mark is, and which outcome an answer.
 
 ghost use Rattle.std.specs.Prelude.{◌≡◌, IfOk};
 ghost use Rattle.std.specs.List.{filter_map};

@@ -1,4 +1,15 @@
 //! How the tickets of a mailbox stand.
+//!
+//! A ticket is `Queued` from its draw on, `Handed` once its message was handed out, and `Ended`
+//! once a mark has ended it. A cancel makes a queued one `Cancelled`. One that was handed out is
+//! `Due` until the machine was told, and `Cancelled` then. A mark can end a cancelled ticket too,
+//! and a stop does.
+//!
+//! A stop walks through no tickets. It sets `stopped` to the next ticket, and those below it count
+//! as ended without an answer, unless a mark ended them before.
+//!
+//! An end is handed out by taking its entry out of `entries`. So the table has only tickets whose
+//! end wasn't handed out yet. `specs/Tickets.antt` says what each call makes of it.
 
 ghost use Rattle.std.specs.Prelude.{◌≡◌, IsSome, OnOk, OnErr};
 ghost use Rattle.stateful_table.specs.Table.{at, put, without};

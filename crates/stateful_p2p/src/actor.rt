@@ -1,4 +1,18 @@
 //! The resolver, one event at a time.
+//!
+//! A request goes this way. Whoever syncs draws a ticket in the mailbox, and `Message` takes its
+//! request in: `Fetch` is put out. What a peer answers comes as `Deliver`, and each free subscriber
+//! of the key gets a candidate of it: `Candidate`. It polls the candidate, judges it, and the
+//! verdict comes as `Judge`. A good one ends the ticket: `Forget`. After a bad one the ticket waits
+//! for the next delivery. Once no verdict on a delivery is awaited, `Feedback` or `Unjudged` tells
+//! what became of it.
+//!
+//! Each event first forgets the tickets that were cancelled since the last one (`retire`), and then
+//! does its own task. What peers ask is apart from all that: `Produce` is answered at once.
+//!
+//! A refusal other than `BadEvent` sets `failed`, and from then on every event is refused. `Steps`
+//! of `specs/Resolving.antt` puts the rules together, and `specs/Laws.antt` has what holds whatever
+//! events come. The rules stand in docs/RULES.md, "The resolver".
 
 ghost use Rattle.std.specs.Prelude.{◌≡◌, ◌≢◌, ◌≤◌, ◌^◌, ◌-◌, ◌++◌, ◌↔◌, ℕ, List, true, false};
 ghost use Rattle.std.specs.Prelude.{IsTrue, IsNone, IfOk, OnOk, IfErr, IfSome, IsErrOf};

@@ -1,4 +1,18 @@
 //! Deliveries: who judges them, and what becomes of them.
+//!
+//! `deliver` offers a delivery to each subscriber of its key that has nothing to judge. Each such
+//! ticket is noted in `unjudged` with the delivery, and the delivery in `deliveries` with how many
+//! verdicts it awaits. So a ticket judges one delivery at a time, and passes over those that come
+//! meanwhile.
+//!
+//! Then each of these tickets gives its verdict (`judge`), or leaves or is cancelled without one
+//! (`forget`). Either way it is free again, and its delivery awaits one verdict less (`release`).
+//! At the last one the delivery is settled and let go. The verdict of the lowest ticket that gave
+//! one tells of it, and where none did it is unjudged.
+//!
+//! There is no time limit: a delivery is settled once all tickets that were offered it have spoken
+//! or left. `specs/Fanout.antt` has the rules (`Delivers`, `Releases`, `Retires`), and
+//! docs/RULES.md says them in words, "The resolver".
 
 ghost use Rattle.std.specs.Prelude.{◌≡◌, ◌≢◌, ◌^◌, ◌-◌, ◌<◌, ◌≤◌, ◌++◌, ◌∷◌, [], ℕ, List, true};
 ghost use Rattle.std.specs.Prelude.{map, filter, IfOk, OnOk, option_to_list};

@@ -1,4 +1,15 @@
 //! What a network's engine hands to a resolver, on its way.
+//!
+//! The engine hands deliveries and productions over, each under the next number of its kind, and
+//! whoever drives the resolver takes them out as events. The number of a delivery comes back with
+//! `Feedback` or `Unjudged`, that of a production with `Served` or `Unserved`.
+//!
+//! Where `queue` is full, deliveries wait and productions are dropped at once. `Backoff` tells the
+//! engine of either, so a production that got it is never answered. `cancel` says that nobody
+//! awaits the feedback on a delivery any more. One that waits behind the ready messages is dropped
+//! then; a ready one is handed out all the same.
+//!
+//! `specs/Handling.antt` says what each call does.
 
 ghost use Rattle.std.specs.Prelude.{◌≡◌, ◌+◌, ◌-◌, ◌^◌, ◌≤◌, ◌↔◌, ◌∷◌, [], false, IsNone, IfOk};
 ghost use Rattle.std.specs.Prelude.{OnOk, OnErr, IsErrOf, filter};

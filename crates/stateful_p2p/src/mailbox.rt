@@ -1,4 +1,16 @@
 //! The mailbox of a resolver: what is asked of it, and what comes back.
+//!
+//! `serve` draws a ticket, which is live from then on, and its request waits in `queue` until the
+//! resolver takes it. Candidates come back into `candidates`, where a newer one takes the place of
+//! one that wasn't polled. `poll` takes the candidate out; whoever polls judges it, and tells the
+//! resolver the verdict. A good verdict ends the ticket.
+//!
+//! `cancel` lets a ticket go at once. Its request is dropped where it waits behind the ready ones.
+//! The resolver hears of it by `take_cancelled` at its next event, by ascending tickets. `serve`
+//! takes the room for that, so a cancel needs no memory and can't fail.
+//!
+//! A ticket that was let go before any candidate is kept in mind in `tickets`, so that each later
+//! `poll` says so. `specs/Inbox.antt` says what each call does.
 
 ghost use Rattle.std.specs.Prelude.{◌≡◌, ◌≢◌, ◌+◌, ◌-◌, ◌^◌, ◌≤◌, ◌↔◌, ◌∷◌, ◌++◌, [], ℕ, Option};
 ghost use Rattle.std.specs.Prelude.{Some, None, true, false, IsNone, IsTrue, IsErr, IfOk, OnOk};

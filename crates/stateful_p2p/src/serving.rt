@@ -1,4 +1,11 @@
 //! Productions: what peers ask, answered from the database that is attached.
+//!
+//! A production is asked and answered in one event. The database is taken out of `state.database`
+//! for its call and put back, whatever it answers; a key that asks for too much isn't handed to it.
+//! Nothing is kept of a production but `next_serve`, below which no number may come again.
+//!
+//! The database is the one of the last `AttachDatabase` that was taken in. `Produces` and `Answers`
+//! of `specs/Resolving.antt` have the rules, and docs/RULES.md says them in words, "The resolver".
 
 ghost use Rattle.std.specs.Prelude.{◌≡◌, ◌^◌, ◌-◌, ◌<◌, ◌++◌, ◌⊎◌, List, IfOk, OnOk};
 ghost use Rattle.stateful_p2p.specs.Resolving.{setup, asks_too_many, Produces, Answers};

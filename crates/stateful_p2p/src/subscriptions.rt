@@ -1,4 +1,15 @@
 //! Which keys are fetched, and for whom.
+//!
+//! A ticket is subscribed to its key from where its request was taken in until it is forgotten: by
+//! a good verdict, by a departure or by a cancel. A bad verdict leaves it subscribed, and so does a
+//! delivery that it wasn't free to judge.
+//!
+//! `keys` has the key of each ticket, and `index` the tickets of each key. Both are changed in one
+//! call, and the first is taken back where there is no memory for the second. So a delivery finds
+//! its subscribers by one look-up.
+//!
+//! `specs/Subscribing.antt` says who is subscribed, and the invariant of `Subscriptions` that both
+//! tables say the same.
 
 ghost use Rattle.std.specs.Prelude.{◌≡◌, [], OnOk};
 ghost use Rattle.std.specs.Option.{option_copied};

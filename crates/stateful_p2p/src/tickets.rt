@@ -1,4 +1,11 @@
 //! How the tickets of a mailbox stand.
+//!
+//! A ticket is `Open` from its draw on, and `Answered` once a first candidate came. Where it ends
+//! `Open` it is `Dropped` and stays so for ever. Where it ends `Answered` its entry goes, since
+//! whoever asked has had a candidate.
+//!
+//! A ticket ends where it is cancelled or leaves, and where a candidate is judged good.
+//! `specs/Tickets.antt` says what each call makes of the table.
 
 ghost use Rattle.std.specs.Prelude.{◌≡◌, ◌+◌, ◌≤◌, ◌^◌, ◌<◌, [], None, true, if◌then◌else◌, OnOk};
 ghost use Rattle.std.specs.Prelude.{OnErr, length};

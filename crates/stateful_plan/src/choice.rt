@@ -1,4 +1,13 @@
 //! From which block a sync starts.
+//!
+//! It takes one call or two. `resolve` looks into the block store, and gives the block or the
+//! digest of one to fetch. In the second case the caller fetches it from peers, and hands the
+//! answer to `resolve_fetched`. A fetched block counts only where the store has processed no higher
+//! one.
+//!
+//! Both calls are given the `Floor` that the block store reports. Nothing is kept between them.
+//! `Resolves` and `ResolvesFetched` of `specs/Choice.antt` have the rules, and docs/RULES.md says
+//! them in words, "The plan of a sync".
 
 ghost use Rattle.std.specs.Prelude.{◌≡◌, ◌↔◌, ◌≢◌, ◌+◌, ◌<◌, ◌^◌, Err, Option, Result, IsTrue};
 ghost use Rattle.std.specs.Prelude.{IfOk, MatchOption};

@@ -1,8 +1,8 @@
-//! What a node remembers of its sync, where a sync starts, and how databases are opened behind one.
+//! What a node remembers of its sync, where a sync starts, and how databases are opened after one.
 //!
 //! A node that begins late asks peers for the databases of a finalized block, its floor. The plan
-//! keeps that floor until the sync is done, over all restarts, and then the height and the digest
-//! of the block at which it was done: from then on the node never syncs from peers again.
+//! keeps that floor over all restarts, until the sync is done. Then it keeps the height and the
+//! digest of the block at which it was done, and the node never syncs from peers again.
 //! [`SyncPlan`] is that memory over a store of one value. A floor never moves to an earlier round,
 //! and a completion never to a lower height.
 //!

@@ -1,4 +1,13 @@
 //! How databases are opened that no sync is to fill.
+//!
+//! First the block is found and compared with the recorded completion. Up to there no database is
+//! called. Then the databases are opened in their order at the block's targets, and where one
+//! doesn't open, those before it are closed again.
+//!
+//! After a success the caller records the completion with the anchor's height and digest
+//! (`set_completed`). After a refusal it may call again: a database that isn't open is closed or
+//! lost, and opening takes both. `Opens` of `specs/Opening.antt` has the rules, and docs/RULES.md
+//! says them in words, "The plan of a sync".
 
 ghost use Rattle.std.specs.Prelude.{◌≡◌, ◌<◌, ◌≤◌, ◌^◌, ℕ, Some, IsErrOf, OnOk, OnErr};
 ghost use Rattle.stateful_types.specs.Names.{Named};

@@ -1,4 +1,15 @@
 //! The plan: what a node remembers of its sync, over a store of one value.
+//!
+//! A node loads its plan at each start. The first one has no state. A floor may be set, and later
+//! ones in its place, as long as no sync is done. A completion ends that: from then on floors are
+//! ignored, and only a completion that isn't lower may follow. So the node never syncs again.
+//!
+//! Each change is written to `store` first, and `state` takes it only after that. Where the store
+//! fails or memory runs out, both are as before, and the call may be made again. What a later
+//! `init` loads is what was accepted last.
+//!
+//! `specs/Plan.antt` says what each call does, and `NeverFallsBack` of `specs/Laws.antt` what holds
+//! over all of them. The rules stand in docs/RULES.md, "The plan of a sync".
 
 ghost use Rattle.std.specs.Prelude.{◌≡◌, ◌↔◌, ◌≤◌, ◌⊎◌, ℕ, Option, None, IsErrOf, IsSome, IsTrue};
 ghost use Rattle.std.specs.Prelude.{IsFalse, IfOk, IfErr, IfSome, OnOk, OnErr};
@@ -213,7 +224,7 @@ impl<P: PlanStore + Drop, S: Scheme> SyncPlan<P, S> {
         store
     }
 
-    // Whether a floor changes nothing.
+    /// Whether a floor changes nothing.
     fn ignores(&self, finalization: &Finalization<S::Certificate>) -> bool
         ensures ignored { IsTrue result ↔ IsIgnored self.now.state finalization.now }
         ensures new { IsFalse result → IsNew self.now.state finalization.now }
@@ -231,7 +242,7 @@ impl<P: PlanStore + Drop, S: Scheme> SyncPlan<P, S> {
         }
     }
 
-    // Whether a completion may be recorded.
+    /// Whether a completion may be recorded.
     fn check_completion(&self, height: Height, digest: Digest) -> Result<(), PlanError>
         ensures backward { (recorded given : Height)
             → IsErrOf result (PlanError.CompletedBackward recorded given)
@@ -273,7 +284,7 @@ impl<P: PlanStore + Drop, S: Scheme> SyncPlan<P, S> {
         Ok(())
     }
 
-    // Keeps a state in the store, and takes it then.
+    /// Keeps a state in the store, and takes it then.
     fn accept(&mut self, state: SyncState<S>) -> Result<(), PlanError>
         ensures ok { OnOk result (self.new.state ≡ Some state) }
         ensures err { OnErr result ((self.new.state ≡ self.old.state)

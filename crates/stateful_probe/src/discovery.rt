@@ -1,4 +1,16 @@
 //! Discovery: the participants are asked, and the floor is selected from their replies.
+//!
+//! A round begins with the first subscription that has to wait: the participants of the lowest
+//! epoch are asked, and earlier replies are dropped. `Retry` begins it again while someone waits.
+//!
+//! Of each peer the first good reply counts (`receive`). It is kept in `state.sample`, and what
+//! isn't a good reply may block its peer. Once more replies are kept than participants may be
+//! faulty, the highest is the floor. All in `state.subscribers` are handed it at once, and wait no
+//! longer.
+//!
+//! The floor stays from then on: further replies are dropped unread, and later subscriptions are
+//! answered with it. Where all that waited have left before, a good reply drops the others, and the
+//! next subscription begins a round anew. `Steps` of `specs/Probe.antt` has the rules.
 
 ghost use Rattle.std.specs.Prelude.{◌≡◌, ◌<◌, ◌-◌, ◌^◌, ◌++◌, List, [], false, Option, Some};
 ghost use Rattle.std.specs.Prelude.{is_some, OnOk, length};

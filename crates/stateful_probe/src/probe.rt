@@ -1,4 +1,17 @@
 //! The probe, one event at a time.
+//!
+//! `step` refuses an event, or does it and answers what is to be done. The probe itself sends
+//! nothing and knows no time. The caller sends what it is told to, hands in what peers answer, and
+//! says `Retry` when too little came.
+//!
+//! Each message of a peer is taken by one of two phases, and `State::is_serving` tells by which.
+//! While the node isn't attached, or someone waits for a floor, it is discovery (`discovery.rt`).
+//! Else it is service (`service.rt`), and stays so: who subscribes then is answered or closed at
+//! once, so nobody waits again.
+//!
+//! A refusal other than `BadEvent` sets `failed`, and from then on every event is refused.
+//! `specs/Probe.antt` has a constructor for each rule, and `specs/Laws.antt` what holds whatever
+//! events come. The rules stand in docs/RULES.md, "The probe".
 
 ghost use Rattle.std.specs.Prelude.{◌≡◌, ◌≢◌, ◌^◌, ◌<◌, ◌↔◌, All, length, true, false, IfOk, OnOk};
 ghost use Rattle.std.specs.Prelude.{IfErr, IsErrOf};

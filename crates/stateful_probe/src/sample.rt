@@ -1,4 +1,15 @@
 //! Samples of a committee's replies.
+//!
+//! For each reply the caller asks `awaits`, verifies the reply, and calls `record`; a second one of
+//! the same peer changes nothing. Then it calls `select`, which selects the floor as soon as enough
+//! replies can be judged. It answers the floor in that call alone, and `floor` tells it from then
+//! on. `reset` drops all replies and the floor.
+//!
+//! `replies` goes by ascending keys. So of equal rounds the reply of the least key is selected, in
+//! whatever order they came. The closure of `select` says which replies can be judged. It is called
+//! only where more replies are recorded than participants may be faulty.
+//!
+//! `Selects` of `specs/Sample.antt` says which reply is selected, and when.
 
 ghost use Rattle.std.specs.Prelude.{◌≡◌, ◌+◌, ◌≤◌, ◌⊎◌, ◌∷◌, [], None, Some, Bool, IfOk, OnOk};
 ghost use Rattle.std.specs.Prelude.{OnErr, IsSome, IfSome, ◌↔◌, length, filter};

@@ -1,4 +1,11 @@
 //! Service: peers that ask are sent the node's latest finalization.
+//!
+//! It begins once the node is attached and nobody waits, and goes on until the probe is stopped.
+//! Each message is answered by itself, and nothing is kept between two of them. The finalization is
+//! read anew at each request, so a peer gets the newest one.
+//!
+//! A response that comes late is dropped, since nobody waits for it. `specs/Service.antt` says
+//! which bytes a response is, and `Steps` of `specs/Probe.antt` which rule applies.
 
 ghost use Rattle.std.specs.Prelude.{◌≡◌, [], true, IfOk, OnOk};
 ghost use Rattle.stateful_probe.specs.Setup.{setup};

@@ -1,4 +1,18 @@
 //! How barriers begin, are flushed and complete.
+//!
+//! 1. `begin_barrier`: each database starts persisting all that is applied, and gives a token. The
+//!    barrier has the next number and the height that was applied last. The mark `BarrierBegun`
+//!    asks for a flush of each database.
+//! 2. `flushed`, one event for each database: a good answer makes durable what the token covers,
+//!    and the barrier notes it. There is no time limit.
+//! 3. `complete_barrier`, once all answers of the oldest barrier are good: its height is durable,
+//!    and the receipts up to it are acknowledged (`release`).
+//!
+//! A second barrier may begin meanwhile, over what was applied since. Open barriers stand in
+//! `barriers` with their tokens, and in `durability` with their heights.
+//!
+//! `specs/Rules.antt` and `specs/Intake.antt` have the rules; docs/RULES.md says them in words,
+//! "Barriers and receipts".
 
 ghost use Rattle.std.specs.Prelude.{◌≡◌, ◌≢◌, ◌<◌, ◌≤◌, ◌∷◌, ◌++◌, [], ℕ, Some, None, OnOk, OnErr};
 ghost use Rattle.std.specs.Prelude.{IfErr, IsSome, Contains, length, option_and_then, slice_get};

@@ -1,4 +1,15 @@
 //! The open barriers.
+//!
+//! A barrier is open from its begin (`push`) until it is over (`pop`). Each database answers to it
+//! once: `token` finds what it is to flush, and `answer` takes in how that went. The databases of
+//! two barriers may answer in any order.
+//!
+//! A barrier that was flushed is over only as the oldest, so heights become durable in their order.
+//! One with an interrupted flush is told wherever it stands (`broken`). It isn't taken out: the
+//! machine stops then, and a stop drops both.
+//!
+//! `oldest` and `newer` hold at most two, and the loop begins no third (`Needed`).
+//! `specs/Barriers.antt` says what each call makes of the list.
 
 ghost use Rattle.std.specs.Prelude.{◌≡◌, ◌<◌, ◌∷◌, ◌++◌, [], drop, option_map, option_and_then};
 ghost use Rattle.std.specs.Prelude.{length, IsSome};

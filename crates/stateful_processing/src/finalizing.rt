@@ -1,4 +1,17 @@
 //! A finalization, from its begin to the end of its hook.
+//!
+//! It stands in `processing.front` with its ticket and its block, and the stage of execution says
+//! how far it has come (`Reached`). It begins with a pause of execution, and waits until no run is
+//! awaited. Then the block is run where it isn't cached, and the turns of that run are waited for.
+//! Its batch is applied then, and `captured` has what was read before.
+//!
+//! Now a barrier begins over the block where one is needed. After that the application observes the
+//! states and is handed `captured`, and a hook that it leaves is waited for. At the end the receipt
+//! is held until the height is durable, and what was paused goes on. While a turn is waited for
+//! nothing else goes on, but for what events do.
+//!
+//! `specs/Rules.antt` has the rules (`BeginsFinalization`, `AppliesBlock`, `EndsFinalization`);
+//! docs/RULES.md says them in words, "A finalization".
 
 ghost use Rattle.std.specs.Prelude.{◌≡◌, ◌≢◌, ◌<◌, ◌≤◌, ◌∷◌, ◌++◌, ◌⊎◌, [], ℕ, Bool, true, false};
 ghost use Rattle.std.specs.Prelude.{Option, Some, None, List, OnOk, OnErr, IfOk, IfErr, All};

@@ -1,4 +1,16 @@
 //! How an event is taken in.
+//!
+//! Each event but a restart comes through `take_in` once, before anything goes on by itself. What
+//! asks for something enters the mailbox as a message, even where nothing else waits. A cancel
+//! takes its request out wherever it is: out of the mailbox, the actions and execution. The answer
+//! of a fetch, a turn and the answer of a flush go at once to what they name. A stop only ends
+//! `up`. All that follows is done by `go_on`, one thing after another.
+//!
+//! That the event names live work was tested before (`admit` of `stateful_actor`), so an error here
+//! is a fault, and never `BadEvent`.
+//!
+//! `TakesIn` of `specs/Intake.antt` has a constructor for each kind, and docs/RULES.md says them in
+//! words, "How an event is taken in".
 
 ghost use Rattle.std.specs.Prelude.{◌≡◌, ◌≢◌, ◌<◌, ◌≤◌, ◌∷◌, ◌++◌, ◌⊎◌, [], ℕ, Bool, true, false};
 ghost use Rattle.std.specs.Prelude.{not, filter, Option, Some, None, List, OnOk, OnErr, IfOk};

@@ -1,4 +1,16 @@
-//! How the databases are opened behind a crash.
+//! How the databases are opened after a crash.
+//!
+//! A restart opens as if the process had crashed, also where it hadn't. First each database loses
+//! what a crash would lose. Then the store's block of the height that was processed last is looked
+//! up. Each database is opened at that block's targets, and drops what lies beyond. Only then is
+//! anything else changed: the block is the anchor, its height is applied and durable, and the
+//! machine is up.
+//!
+//! Where a step is refused the machine stays down, and the databases stay as that step has left
+//! them: closed, lost, or opened and closed again. A further restart may open them.
+//!
+//! `Opens` of `specs/Opening.antt` has the steps, and docs/RULES.md says them in words, "Stops and
+//! restarts".
 
 ghost use Rattle.std.specs.Prelude.{◌≡◌, ◌≢◌, ◌≤◌, [], ℕ, OnOk, OnErr, IfErr, None};
 ghost use Rattle.stateful_exec.specs.Starting.{Rises};

@@ -1,4 +1,12 @@
 //! Queues of what waits.
+//!
+//! What comes first is taken first. A request that is cancelled leaves at once, wherever it stands
+//! (`give_up`). It takes no room from then on, and whoever takes things out needn't ask whether
+//! they are still wanted. A finalized block is never given up, since its receipt can't be
+//! cancelled.
+//!
+//! Each kind of thing says by `Asks` whether it is of the request of a ticket. Contracts see a
+//! queue as a list, so its laws are those of lists.
 
 ghost use Rattle.std.specs.Prelude.{◌≡◌, ◌∷◌, ◌++◌, [], not, filter, IfSome, IfNone, OnOk, OnErr};
 

@@ -1,4 +1,17 @@
 //! How what waits is taken.
+//!
+//! Two queues wait: `actions`, and after it the mailbox `queue`. Where no build is live and no
+//! finalization is in front, `take_first` takes the first action, or else the first message, and
+//! does it whole. A request acquires what it needs, a subscription is answered, and a finalized
+//! block begins its finalization or is a duplicate. An action that is a build begins, or is
+//! declined.
+//!
+//! While a build is live nothing is taken but by `drain_first`. A verification is scheduled at
+//! once, so no vote waits for a build. Any other message goes to the end of `actions`, where it
+//! keeps its order, and stands before all that comes later.
+//!
+//! `Takes`, `DoesMessage` and `Builds` of `specs/Rules.antt` have the rules; docs/RULES.md says
+//! them in words, "What goes on without another event".
 
 ghost use Rattle.std.specs.Prelude.{◌≡◌, ◌≢◌, ◌<◌, ◌≤◌, ◌∷◌, ◌++◌, ◌⊎◌, [], ℕ, Bool, true, false};
 ghost use Rattle.std.specs.Prelude.{Option, Some, None, List, OnOk, OnErr, IfOk, IfErr, IfSome};

@@ -15,8 +15,7 @@
 //! - the height is congruent to the offset modulo the interval,
 //! - a full marshal window was observed since the start, and
 //! - an entry of the marshal window is old enough: it isn't newer than the oldest one of the QMDB
-//!   window, and it has at
-//!   least `retained_qmdb_operations` operations fewer than the newest entry.
+//!   window, and it has at least `retained_qmdb_operations` operations fewer than the newest entry.
 //!
 //! Then marshal is pruned to the oldest height of its window, and the databases to the targets of
 //! the newest entry that is old enough. Its height has to be durable first, so that a crash doesn't

@@ -1,4 +1,15 @@
 //! The entries that were recorded, and the prune that is due by them.
+//!
+//! Each finalized height is one call of `observe`, by ascending heights. It puts an entry into
+//! `entries`, where the oldest leaves once a marshal window is full. Then it looks whether a prune
+//! is due, and to which entry. Memory is wanted only until the window is full.
+//!
+//! A prune that is answered is the caller's to carry out. Before the databases are pruned
+//! `barrier_height` has to be durable. Nothing is kept of the answer here, and the next height is
+//! judged by the entries alone.
+//!
+//! `specs/Rule.antt` says when a prune is due, and `specs/Calls.antt` that each answer is the
+//! rule's over all entries that were recorded.
 
 ghost use Rattle.std.specs.Prelude.{◌≡◌, ◌≢◌, ◌<◌, ◌≤◌, ◌↔◌, [], Option, length, IsSome, IsOk};
 ghost use Rattle.std.specs.Prelude.{IsErrOf, IfOk, IfSome, OnOk, OnErr};
@@ -163,7 +174,7 @@ impl<T: Copy> Pruning<T> {
         Ok(self.due())
     }
 
-    // Records an entry, and keeps the last marshal window.
+    /// Records an entry, and keeps the last marshal window.
     fn record(&mut self, entry: Entry<T>) -> Result<(), OutOfMemory>
         ensures recorded { OnOk result (self.new ≡ with_entry self.old (entry_of entry)) }
         ensures refused { OnErr result (self.new ≡ self.old) }
@@ -179,7 +190,7 @@ impl<T: Copy> Pruning<T> {
         Ok(())
     }
 
-    // The prune that is due by the entries that are kept.
+    /// The prune that is due by the entries that are kept.
     fn due(&self) -> Option<Prune<T>>
         ensures { IsAnswer self.now.schedule self.now.kept result }
     {
@@ -199,8 +210,8 @@ impl<T: Copy> Pruning<T> {
         })
     }
 
-    // The newest entry to which the databases may be pruned where the marshal window is full and
-    // the newest entry has this number of operations.
+    /// The newest entry to which the databases may be pruned where the marshal window is full and
+    /// the newest entry has this number of operations.
     fn target(&self, operations: u64) -> Option<Entry<T>>
         requires full { length self.now.kept ≡ self.now.schedule.marshal_window }
         requires newest { OnNewest (λ newest. newest.operations ≡ operations) self.now.kept }
@@ -220,7 +231,7 @@ impl<T: Copy> Pruning<T> {
     }
 }
 
-// The size of a window. None exactly where it passes `usize::MAX`.
+/// The size of a window. None exactly where it passes `usize::MAX`.
 fn window_size(max_pending_acks: usize, retained: usize) -> Option<usize>
     ensures { SomeIff result (window_size max_pending_acks retained ≤ usize.MAX)
         (window_size max_pending_acks retained) }

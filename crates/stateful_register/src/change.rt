@@ -1,4 +1,18 @@
 //! What events and marks do to the live work.
+//!
+//! An entry is an event with its marks. First the event changes the live work, and then each mark
+//! does, in the order in which the marks were made. `changes_of` lists these changes.
+//!
+//! What goes on is opened by one change and closed by a later one:
+//!
+//! - a ticket by the event that brings it, and by a cancel or the mark that answers or drops it;
+//! - a fetch by `Asked`, and by its answer or `Withdrawn`;
+//! - a job by `Started`, and by `Ended` or `Built`;
+//! - a barrier by `BarrierBegun`, and by `BarrierDone`; between them each `Flushed` takes one
+//!   database out.
+//!
+//! A start and a stop of the machine end all barriers. `specs/Change.antt` says what each event and
+//! each mark changes.
 
 ghost use Rattle.std.specs.Prelude.{◌≡◌, IfOk};
 ghost use Rattle.std.specs.List.{list_any};

@@ -1,4 +1,15 @@
 //! How all live work ends.
+//!
+//! At a stop and at a restart `end_all` appends the marks that end what is still live. Each fetch
+//! is withdrawn. Then each job is cancelled, each request to build declined, and each other ticket
+//! dropped. Those of one kind go by ascending numbers.
+//!
+//! The register that is asked has taken in the event with its marks so far, and it stays as it is.
+//! The marks that are appended here are recorded later, with the whole entry. Barriers need no
+//! mark: the stop or the restart itself ends them.
+//!
+//! `EndsAll` of `specs/Ends.antt` says which marks these are, and `LeavesNothing` that nothing is
+//! live after them.
 
 ghost use Rattle.std.specs.Prelude.{◌≡◌, ◌++◌, ◌&&◌, ℕ, not, is_some, List, IfOk, OnOk};
 ghost use Rattle.stateful_history.specs.Past.{Past};

@@ -1,4 +1,16 @@
 //! What is live, and which events may come.
+//!
+//! The machine asks `allows` before it takes an event in. A restart may always come. Another event
+//! may come while the register isn't `down`, and where what it names is live: a request, a fetch, a
+//! job, or a database that a barrier awaits. A ticket that it brings has to be above `last`.
+//!
+//! After an event that was taken in, `record` is called once, with the event and all its marks. It
+//! lists what they change (`change.rt`), makes room for each change, and only then applies them in
+//! their order. So want of memory leaves the register as it was. Room that isn't used is given back
+//! at the end. A refused event is never recorded.
+//!
+//! `RegisterStands` of `specs/Register.antt` says for which past a register stands, and `may_come`
+//! of `stateful_history/specs/Live.antt` which events may come after it.
 
 ghost use Rattle.std.specs.Prelude.{◌≡◌, ◌∷◌, [], ℕ, not, nat_lt, IfOk, OnOk, OnErr};
 ghost use Rattle.stateful_history.specs.Past.{Past, after_entry};

@@ -1,5 +1,17 @@
 //! Blocks that were finalized during a sync, against the block that the databases have converged
 //! to.
+//!
+//! Blocks that are finalized while a sync goes on are retained, each with the ticket of its
+//! receipt. Once the databases have converged, `classify` is called with all of them. It walks from
+//! the anchor upwards, and `last` keeps how far the chain has come. All are handed over, or none
+//! is.
+//!
+//! What is covered or reflected is in the databases already, and the rest is to be applied by
+//! ascending heights. A gap, or another block at the same height, means that the blocks aren't one
+//! chain, and it is refused.
+//!
+//! `IsClassified` and `IsRefusal` of `specs/Classify.antt` have the rules, and docs/RULES.md says
+//! them in words, "A sync".
 
 ghost use Rattle.std.specs.Prelude.{◌≡◌, ◌≢◌, ◌⊎◌, ◌<◌, ◌≤◌, map, IfOk, IfErr, OnOk, IsErrOf};
 ghost use Rattle.std.specs.List.Sorted.{IsPermutation, IsNonDecreasingBy};

@@ -1,4 +1,17 @@
 //! The coordinator of a sync of several databases.
+//!
+//! Whoever runs a sync starts all databases at the first block, and makes a coordinator for it.
+//! Then it tells it what happens: `record_reached` where a database has got to its generation, and
+//! `record_tip_update` where a later block is finalized. After each it asks `next_action`.
+//!
+//! A dispatch names a generation and its targets. They go to each database that `should_dispatch`
+//! names. One that has reached its own, and has the same target in this one, is marked by
+//! `mark_reached_same_target`. `Wait` means that nothing is to be done before the next report, and
+//! `Converged` that all have what one block commits to.
+//!
+//! `databases` has the generation of each, `newest` the last one that was dispatched, and `pending`
+//! the tip that comes next. `Acts` of `specs/Coordinator.antt` has the cases, and `specs/Laws.antt`
+//! what holds over all calls. In words they stand in docs/RULES.md, "A sync".
 
 ghost use Rattle.std.specs.Prelude.{◌≡◌, ◌+◌, ◌-◌, ◌^◌, ◌<◌, ◌≤◌, ◌↔◌, length, map, replicate};
 ghost use Rattle.std.specs.Prelude.{None, Some, IsTrue, IfOk, OnErr, IsErr};

@@ -1,4 +1,16 @@
 //! The mailbox of a sync.
+//!
+//! An update goes this way. `retarget` notes it in `updates`, and it is the one that is `waiting`,
+//! in place of any other. The sync takes it by `next`, and says two things of it in either order:
+//! `respond` gives an answer, and `observed` whether it was recorded. One that was dropped unread
+//! waits again, unless a newer one does.
+//!
+//! A ticket is polled until it is done. It gives None once its update was answered with nothing and
+//! recorded. Else it gives `artifact`, once there is one: the anchor to which the databases have
+//! converged. An update that was replaced before it was taken waits for that.
+//!
+//! `specs/Mailbox.antt` says what each call does, and `specs/MailboxLaws.antt` what holds over all
+//! of them.
 
 ghost use Rattle.std.specs.Prelude.{◌≡◌, ◌-◌, ◌^◌, ◌<◌, ◌↔◌, ◌&&◌, [], None, length, IfOk, OnErr};
 ghost use Rattle.std.specs.Prelude.{IsErrOf};
