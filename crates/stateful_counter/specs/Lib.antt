@@ -1,2 +1,0 @@
-pub mod CounterBlock
-pub mod Works
