@@ -18,11 +18,11 @@ use std::alloc::Global;
 /// `rules` says. They are given a `Draft`, which has the entries of the state on which the block
 /// stands. Each clause is about all entries that the draft may hold (`Holds`), and follows from the
 /// clauses of `get` and `put`: with the values that were read, the entries that are left are those
-/// of `rules`. Often nothing has to be proved by hand.
+/// of `rules`. What the check doesn't find by itself is an answer of a few lines that puts these
+/// clauses together.
 ///
 /// A candidate that isn't acceptable is rejected; a finalized block is run all the same. A build
-/// gives a block only where it is acceptable and leads to entries, so every node runs what a leader
-/// has built to the same end.
+/// gives a block only where it is acceptable and leads to entries.
 pub trait OneTurn: Sized {
     ghost use Rattle.std.specs.Prelude.{◌≡◌, IfOk};
     ghost use Rattle.stateful_one_turn.specs.Rules.{Rules, Entries};
