@@ -186,8 +186,8 @@ returns-in-Err-clause-still_media g c =
     let new = moment w now.stateful.execution now.stateful.loop (D.members now.databases) (D.next now.databases) [] in
     let tried = rw (i.store, i.provider) at c.in-Err.ensures.tried in
     let kept = subst (λ (failed : Bool). KeepsMedia w stored c.args.stateful.provider
-        (record { run = g.A.Run.Faulty.count; build = g.A.Build.Faulty.count; hook = g.A.Hook.Faulty.count })
-        c.in-Some.event failed was.stateful.register old now.stateful.failed new) i.working tried in (
+    (record { run = g.A.Run.Faulty.count; build = g.A.Build.Faulty.count; hook = g.A.Hook.Faulty.count })
+    c.in-Some.event failed was.stateful.register old now.stateful.failed new) i.working tried in (
       c.in-Some.event,
       c.next.new.self.rest.items,
       rw c.in-Err.ensures.err (event_at c.loop-event.yielded _ _ _ _ _ i.all c.in-Some.ensures.steps.0 i.events),
