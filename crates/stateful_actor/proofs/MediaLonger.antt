@@ -1,5 +1,5 @@
 -- The media stand for a history an entry longer, and after an event that was refused.
-use Rattle.std.proofs.Common.{◌≡◌, ◌<◌, ◌^◌, ◌∷◌, [], ℕ, Bool, false, List, Option, subst}
+use Rattle.std.proofs.Common.{◌≡◌, ◌<◌, ◌^◌, ◌∷◌, [], ℕ, Bool, false, List, Option, sym, subst}
 use Rattle.stateful_types.specs.Names.{Named}
 use Rattle.stateful_db.specs.Laws.{Laws}
 use Rattle.stateful_history.specs.Met.{TrueNames}
@@ -26,7 +26,7 @@ use Rattle.stateful_whole.proofs.HistoryStands.{IsStoredNow-new, EachStands-last
 use Rattle.stateful_whole.proofs.StepsStand.{StandsAt-new}
 use Rattle.stateful_whole.proofs.StoresBefore.{StoresFinalized-before_all, StoresFinalized-before_item}
 use Rattle.stateful_lawful.proofs.AheadHistory.{ahead-new, StandsAhead, steps-ahead}
-use Rattle.stateful_actor.specs.Driving.{KeepsMedia}
+use Rattle.stateful_actor.specs.Driving.{KeepsMedia, KeepsMediaAfter}
 
 module _ {B C I P R D H G U : Type 0} (w : Workings B C I P R D H G U) (laws : Laws w.kind) (stored : ℕ → Option (Named B))
     (counts : Counts R D H) (provider : P) (runs_cost : RunsTakeTurns w) (builds_cost : BuildsTakeTurns w) (rise : TargetsRise w stored) where
@@ -101,4 +101,35 @@ module _ {B C I P R D H G U : Type 0} (w : Workings B C I P R D H G U) (laws : L
       honest_before = record {
         heights = honest.heights;
         finalized = StoresFinalized-before_item w.header stored (Came event) (after_all [] history) honest.finalized;
+      }
+
+module _ {B C I P R D H G U : Type 0} (w : Workings B C I P R D H G U) (laws : Laws w.kind) (stored : ℕ → Option (Named B))
+    (counts : Counts R D H) (provider : P) (runs_cost : RunsTakeTurns w) (builds_cost : BuildsTakeTurns w) where
+  -- what an event that was refused left of the media after a history that began with a new machine
+  pub keeps-after : (failed : Bool) (register : Register) (first old : Moment w) (history : List (Entry B C I)) → IsNew w failed register first
+      → first.marks ≡ [] → w.kind.NoneAway first.members → Steps w stored provider counts [] first history old
+      → (own : Register) → RegisterStands (numbered w.kind.count) (after_all [] history) own
+      → (event : Event B C I) (was_failed now_failed : Bool) (now : Moment w) → was_failed ≡ false
+      → KeepsMedia w stored provider counts event was_failed own old now_failed now
+      → (w.States → MediaStand w stored [] failed first → TrueNames (setting w stored) (after_all [] history)
+      → HasHonestStore w.header stored (after_all [] history) → TargetsRise w stored → MediaStand w stored (after_all [] history) was_failed old)
+      → KeepsMediaAfter w stored provider counts event failed first history now_failed now
+  keeps-after failed register first old history is_new unmarked away steps own registered event was_failed now_failed now works tried before =
+      subst (λ (x : Bool). KeepsMedia w stored provider counts event x own old now_failed now
+      → (w.States → MediaStand w stored [] failed first → TrueNames (setting w stored) (after_all [] history)
+      → HasHonestStore w.header stored (after_all [] history) → TargetsRise w stored → MediaStand w stored (after_all [] history) x old)
+      → KeepsMediaAfter w stored provider counts event failed first history now_failed now) (sym works) working tried before
+    where
+      working : KeepsMedia w stored provider counts event false own old now_failed now
+          → (w.States → MediaStand w stored [] failed first → TrueNames (setting w stored) (after_all [] history)
+          → HasHonestStore w.header stored (after_all [] history) → TargetsRise w stored → MediaStand w stored (after_all [] history) false old)
+          → KeepsMediaAfter w stored provider counts event failed first history now_failed now
+      working kept stood = record {
+        made = kept.made;
+        old = old;
+        steps = steps;
+        left = kept.left;
+        media = λ base start names honest rise few.
+            media-refused w laws stored counts provider runs_cost builds_cost rise failed register first old history is_new unmarked away steps own registered
+            event now_failed now kept (λ names_before honest_before. stood base start names_before honest_before rise) base names honest few;
       }

@@ -13,11 +13,10 @@ use Rattle.stateful_processing.specs.Moments.{moment}
 use Rattle.stateful_whole.specs.Stands.{Stands}
 use Rattle.stateful_whole.proofs.HistoryStands.{EachStands-constant, history-registered, history-leaves}
 use Rattle.stateful_whole.proofs.RefusedBehind.{leaves-behind}
-use Rattle.stateful_actor.specs.Driving.{KeepsMedia}
 use Rattle.stateful_actor.specs.Faults.{tally}
 use Rattle.stateful_actor.proofs.Adding.{event_at, events-push, longer-past, Steps-push}
 use Rattle.stateful_actor.proofs.Lawfully.{refused-outside}
-use Rattle.stateful_actor.proofs.MediaLonger.{media-longer, media-refused}
+use Rattle.stateful_actor.proofs.MediaLonger.{media-longer, keeps-after}
 use Rattle.stateful_actor.proofs.Working.{never, cause-not_failed}
 use Rattle.stateful_actor.proofs.Counts.{HasNotFallen-itself, HasNotFallen-further}
 use Rattle.stateful_actor.proofs.driving.drive.Goals as goal
@@ -178,31 +177,18 @@ returns-in-Err-clause-still_media g c =
     let D = g.A.Databases.DatabaseSet in
     let w = workings g.A.Block.Block.header g.A.Block.Block.context_of g.A.Context.Rounded.round_of g.A.Application.works D.kind D.shows in
     let takes = g.met.A.Application.takes_turns in
-    let stored = g.S.BlockStore.stored c.args.store.now in
     let i = c.loop-event.invariant in
     let was = c.loop-event.driven in
-    let now = c.enter.new.driven in
-    let old = moment w was.stateful.execution was.stateful.loop (D.members was.databases) (D.next was.databases) [] in
-    let new = moment w now.stateful.execution now.stateful.loop (D.members now.databases) (D.next now.databases) [] in
-    let tried = rw (i.store, i.provider) at c.in-Err.ensures.tried in
-    let kept = subst (λ (failed : Bool). KeepsMedia w stored c.args.stateful.provider
-    (record { run = g.A.Run.Faulty.count; build = g.A.Build.Faulty.count; hook = g.A.Hook.Faulty.count })
-    c.in-Some.event failed was.stateful.register old now.stateful.failed new) i.working tried in (
+    let now = c.enter.new.driven in (
       c.in-Some.event,
       c.next.new.self.rest.items,
       rw c.in-Err.ensures.err (event_at c.loop-event.yielded _ _ _ _ _ i.all c.in-Some.ensures.steps.0 i.events),
-      rw c.in-Err.ensures.err (record {
-        made = kept.made;
-        old = old;
-        steps = i.steps;
-        left = kept.left;
-        media = λ base start names honest rise few.
-            media-refused w g.met.A.Databases.DatabaseSet.laws stored _ c.args.stateful.provider
-            (λ f states b n is. takes.runs f states b n is) (λ asked states n is. takes.builds asked states n is) rise
-            _ _ _ old was.history.items c.requires.new refl c.requires.none_away i.steps was.stateful.register i.registered
-            c.in-Some.event now.stateful.failed new kept
-            (λ names_before honest_before.
-            subst (λ (failed : Bool). MediaStand w stored (after_all [] was.history.items) failed old) i.working (i.media base start names_before honest_before rise))
-            base names honest few;
-      }),
+      rw c.in-Err.ensures.err
+          (keeps-after w g.met.A.Databases.DatabaseSet.laws (g.S.BlockStore.stored c.args.store.now) _ c.args.stateful.provider
+          (λ f states b n is. takes.runs f states b n is) (λ asked states n is. takes.builds asked states n is)
+          _ _ _ (moment w was.stateful.execution was.stateful.loop (D.members was.databases) (D.next was.databases) [])
+          was.history.items c.requires.new refl c.requires.none_away i.steps was.stateful.register i.registered
+          c.in-Some.event was.stateful.failed now.stateful.failed
+          (moment w now.stateful.execution now.stateful.loop (D.members now.databases) (D.next now.databases) [])
+          i.working (rw (i.store, i.provider) at c.in-Err.ensures.tried) i.media),
     )
