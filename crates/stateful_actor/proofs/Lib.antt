@@ -7,4 +7,5 @@ pub mod ResultsOfCalls
 pub mod Reopening
 pub mod Lawfully
 pub mod Working
+pub mod MediaKept
 pub mod MediaLonger

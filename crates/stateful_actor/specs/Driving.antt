@@ -1,26 +1,30 @@
 -- Events that were refused after a history.
-use Rattle.std.specs.Prelude.{◌≡◌, ◌<◌, ◌^◌, ◌∷◌, ℕ, true, false, Option, List, []}
+use Rattle.std.specs.Prelude.{◌≡◌, ◌<◌, ◌⊎◌, ◌^◌, ◌∷◌, ℕ, Bool, true, false, Option, List, []}
 use Rattle.stateful_types.specs.Causes.{Rose}
 use Rattle.stateful_types.specs.Names.{Named}
 use Rattle.stateful_types.specs.declared.floor.Floor.{Floor}
 use Rattle.stateful_history.specs.Met.{TrueNames}
-use Rattle.stateful_history.specs.Past.{Came, after_all}
+use Rattle.stateful_history.specs.Past.{Past, Came, after_entry, after_all}
 use Rattle.stateful_history.specs.Honest.{HasHonestStore}
 use Rattle.stateful_history.specs.declared.entry.Entry.{Entry}
 use Rattle.stateful_history.specs.declared.event.Event.{Event}
 use Rattle.stateful_history.specs.declared.event.Event.TheVariants.{Restart}
+use Rattle.stateful_history.specs.declared.mark.Mark.{Mark}
 use Rattle.stateful_exec.specs.Workings.{Workings}
 use Rattle.stateful_register.specs.Register.{RegisterStands}
 use Rattle.stateful_register.specs.declared.register.Register.{Register}
 use Rattle.stateful_standing.specs.Setting.{setting}
+use Rattle.stateful_standing.specs.Storing.{IsStoredNow}
+use Rattle.stateful_keeping.specs.Media.{TargetsRise}
 use Rattle.stateful_processing.specs.Intake.{Counts}
 use Rattle.stateful_processing.specs.Moments.{Moment}
 use Rattle.stateful_processing.specs.declared.error.StepError.{StepError}
 use Rattle.stateful_processing.specs.declared.error.StepError.TheVariants.{BadEvent, Failed}
 use Rattle.stateful_processing.specs.declared.error.StepError.TheVariants.{OutOfMemory}
 use Rattle.stateful_actor.specs.Faults.{Tally, HasNotFallen, IsCause}
-use Rattle.stateful_whole.specs.Left.{LeavesBehind}
+use Rattle.stateful_whole.specs.Left.{LeavesPlay, LeavesBehind}
 use Rattle.stateful_whole.specs.Machine.{numbered, is_restart}
+use Rattle.stateful_whole.specs.Media.{behind_refusal, MediaStand, StandsOnMedia}
 use Rattle.stateful_whole.specs.Entering.{Steps}
 use Rattle.stateful_whole.specs.StepBehind.{EachStands}
 use Rattle.stateful_lawful.specs.Completeness.{ComesLawfully}
@@ -79,3 +83,40 @@ module _ {B C I P R D H G U : Type 0} (w : Workings B C I P R D H G U)
         → HasHonestStore w.header stored (after_all [] history)
         → e ≡ Failed
         → ⊥
+
+module _ {B C I P R D H G U : Type 0} (w : Workings B C I P R D H G U)
+    (stored : ℕ → Option (Named B))
+    (provider : P) (counts : Counts R D H) (event : Event B C I) where
+  -- What an event that was refused left of the media, with the marks that its intake made, if it
+  -- made any. Where machine and media stood for a past, names are true with the event and these
+  -- marks, the store is honest, its targets rise, and databases are fewer than 2^64, the media
+  -- stand for that past, with a restart that was tried.
+  pub record KeepsMedia (failed : Bool) (register : Register) (m : Moment w) (now_failed : Bool)
+      (now : Moment w) : Type 0 where
+    pub made : List (Mark B)
+    pub left : (made ≡ []) ⊎ LeavesPlay w stored provider counts event m now.members made
+    pub media : (base : w.States)
+        (p : Past B C I)
+        → StandsOnMedia w stored base p failed register m
+        → IsStoredNow stored p stored
+        → TrueNames (setting w stored) (after_entry p event made)
+        → HasHonestStore w.header stored (Came event ∷ p)
+        → TargetsRise w stored
+        → w.kind.count < 2 ^ 64
+        → MediaStand w stored (behind_refusal event p) now_failed now
+
+  -- The same after a history that began with a new machine, where the media stood for the start.
+  pub record KeepsMediaAfter (first_failed : Bool) (first : Moment w)
+      (history : List (Entry B C I))
+      (now_failed : Bool) (now : Moment w) : Type 0 where
+    pub made : List (Mark B)
+    pub old : Moment w
+    pub steps : Steps w stored provider counts [] first history old
+    pub left : (made ≡ []) ⊎ LeavesPlay w stored provider counts event old now.members made
+    pub media : w.States
+        → MediaStand w stored [] first_failed first
+        → TrueNames (setting w stored) (after_entry (after_all [] history) event made)
+        → HasHonestStore w.header stored (Came event ∷ after_all [] history)
+        → TargetsRise w stored
+        → w.kind.count < 2 ^ 64
+        → MediaStand w stored (behind_refusal event (after_all [] history)) now_failed now

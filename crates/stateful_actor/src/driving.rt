@@ -27,6 +27,7 @@ ghost use Rattle.stateful_keeping.specs.Media.{TargetsRise};
 ghost use Rattle.stateful_processing.specs.Moments.{moment};
 ghost use Rattle.stateful_whole.specs.Entering.{Steps};
 ghost use Rattle.stateful_actor.specs.Driving.{IsRefused, RefusesRestart};
+ghost use Rattle.stateful_actor.specs.Driving.{KeepsMedia, KeepsMediaAfter};
 ghost use Rattle.stateful_actor.specs.Faults.{tally, HasNotFallen, IsCause};
 ghost use Rattle.stateful_whole.specs.Left.{LeavesFurther};
 ghost use Rattle.stateful_whole.specs.Machine.{is_restart, IsSafe, IsNew, numbered};
@@ -105,6 +106,15 @@ fn enter<A: Application + Drop, S: BlockStore<A::Block>>(
         (after_all [] driven.new.history.items)
         → TargetsRise w (S.stored store.old)
         → MediaStand w (S.stored store.old) (after_all [] driven.new.history.items) false
+        (moment w driven.new.stateful.execution driven.new.stateful.loop
+        (A.Databases.members driven.new.databases) (A.Databases.next driven.new.databases) [])) }
+    ensures tried { OnErr result (let w = ⟦<A as Worked>⟧.workings in
+        KeepsMedia w (S.stored store.old) driven.old.stateful.provider
+        (record { run = A.Run.count; build = A.Build.count; hook = A.Hook.count }) event
+        driven.old.stateful.failed driven.old.stateful.register
+        (moment w driven.old.stateful.execution driven.old.stateful.loop
+        (A.Databases.members driven.old.databases) (A.Databases.next driven.old.databases) [])
+        driven.new.stateful.failed
         (moment w driven.new.stateful.execution driven.new.stateful.loop
         (A.Databases.members driven.new.databases) (A.Databases.next driven.new.databases) [])) }
     ensures err { OnErr result (driven.new.history.items ≡ driven.old.history.items) }
@@ -236,6 +246,22 @@ pub fn drive<A: Application + Drop, S: BlockStore<A::Block>>(
         driven.stateful.failed
         (moment w driven.stateful.execution driven.stateful.loop
         (A.Databases.members driven.databases) (A.Databases.next driven.databases) [])) }
+
+    // After a refusal they keep it as well, where names are true with the refused event too and the
+    // store is honest with it: for the history before it, with a restart that was tried.
+    ensures still_media { IfErr result (λ halt. let w = ⟦<A as Worked>⟧.workings in
+        (event : Happening A.Block A.Context A.Input)
+        × (rest : List (Happening A.Block A.Context A.Input))
+        × (events.items ≡ map (λ entry. entry.event) halt.driven.history.items ++ event ∷ rest)
+        × KeepsMediaAfter w (S.stored store.old) stateful.provider
+        (record { run = A.Run.count; build = A.Build.count; hook = A.Hook.count }) event
+        stateful.failed
+        (moment w stateful.execution stateful.loop
+        (A.Databases.members databases) (A.Databases.next databases) [])
+        halt.driven.history.items halt.driven.stateful.failed
+        (moment w halt.driven.stateful.execution halt.driven.stateful.loop
+        (A.Databases.members halt.driven.databases)
+        (A.Databases.next halt.driven.databases) [])) }
 
     // The machine works at the end, and its register stands for the history; it may be called again
     // with these databases.

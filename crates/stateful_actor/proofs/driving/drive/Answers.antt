@@ -16,7 +16,7 @@ use Rattle.stateful_whole.proofs.RefusedBehind.{leaves-behind}
 use Rattle.stateful_actor.specs.Faults.{tally}
 use Rattle.stateful_actor.proofs.Adding.{event_at, events-push, longer-past, Steps-push}
 use Rattle.stateful_actor.proofs.Lawfully.{refused-outside}
-use Rattle.stateful_actor.proofs.MediaLonger.{media-longer}
+use Rattle.stateful_actor.proofs.MediaLonger.{media-longer, keeps-after}
 use Rattle.stateful_actor.proofs.Working.{never, cause-not_failed}
 use Rattle.stateful_actor.proofs.Counts.{HasNotFallen-itself, HasNotFallen-further}
 use Rattle.stateful_actor.proofs.driving.drive.Goals as goal
@@ -171,3 +171,24 @@ returns-in-Err-clause-still_stands g c =
 
 pub returns-clause-media : goal.returns-clause-media
 returns-clause-media g c = c.loop-event.invariant.media
+
+pub returns-in-Err-clause-still_media : goal.returns-in-Err-clause-still_media
+returns-in-Err-clause-still_media g c =
+    let D = g.A.Databases.DatabaseSet in
+    let w = workings g.A.Block.Block.header g.A.Block.Block.context_of g.A.Context.Rounded.round_of g.A.Application.works D.kind D.shows in
+    let takes = g.met.A.Application.takes_turns in
+    let i = c.loop-event.invariant in
+    let was = c.loop-event.driven in
+    let now = c.enter.new.driven in (
+      c.in-Some.event,
+      c.next.new.self.rest.items,
+      rw c.in-Err.ensures.err (event_at c.loop-event.yielded _ _ _ _ _ i.all c.in-Some.ensures.steps.0 i.events),
+      rw c.in-Err.ensures.err
+          (keeps-after w g.met.A.Databases.DatabaseSet.laws (g.S.BlockStore.stored c.args.store.now) _ c.args.stateful.provider
+          (λ f states b n is. takes.runs f states b n is) (λ asked states n is. takes.builds asked states n is)
+          _ _ _ (moment w was.stateful.execution was.stateful.loop (D.members was.databases) (D.next was.databases) [])
+          was.history.items c.requires.new refl c.requires.none_away i.steps was.stateful.register i.registered
+          c.in-Some.event was.stateful.failed now.stateful.failed
+          (moment w now.stateful.execution now.stateful.loop (D.members now.databases) (D.next now.databases) [])
+          i.working (rw (i.store, i.provider) at c.in-Err.ensures.tried) i.media),
+    )

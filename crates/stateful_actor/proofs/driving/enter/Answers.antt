@@ -7,6 +7,7 @@ use Rattle.stateful_processing.specs.declared.error.StepError.TheVariants.{OutOf
 use Rattle.stateful_whole.specs.Stands.{StandsAsWell}
 use Rattle.stateful_whole.proofs.LeftFurther.{unmoved-further}
 use Rattle.stateful_actor.proofs.Adding.{registered-longer, longer-past}
+use Rattle.stateful_actor.proofs.MediaKept.{keeps-unchanged, keeps-left}
 use Rattle.stateful_actor.proofs.OtherErrors.{only_bad}
 use Rattle.stateful_actor.proofs.ResultsOfCalls.{on_err, if_err}
 use Rattle.stateful_actor.proofs.driving.enter.Goals as goal
@@ -91,3 +92,25 @@ returns-clause-media g c = λ base stands stored_is names honest rise.
     let whole = rw (event, marks) at longer in
     rw whole (c.in_ok-marks.ensures.media stored base (after_all [] c.args.driven.now.history.items) stands stored_is
     (rw whole at names) (rw whole at honest) rise)
+
+pub returns-in_err-reserve-clause-tried : goal.returns-in_err-reserve-clause-tried
+returns-in_err-reserve-clause-tried g c =
+    let D = g.A.Databases.DatabaseSet in
+    let w = workings g.A.Block.Block.header g.A.Block.Block.context_of g.A.Context.Rounded.round_of g.A.Application.works D.kind D.shows in
+    let was = c.args.driven.now.stateful in
+    let old = moment w was.execution was.loop (D.members c.args.driven.now.databases) (D.next c.args.driven.now.databases) [] in
+    on_err _ (keeps-unchanged w (g.S.BlockStore.stored c.args.store.now) was.provider _ c.args.event was.failed was.register old)
+
+pub returns-in_err-kept-clause-tried : goal.returns-in_err-kept-clause-tried
+returns-in_err-kept-clause-tried g c =
+    let D = g.A.Databases.DatabaseSet in
+    let w = workings g.A.Block.Block.header g.A.Block.Block.context_of g.A.Context.Rounded.round_of g.A.Application.works D.kind D.shows in
+    let was = c.args.driven.now.stateful in
+    let old = moment w was.execution was.loop (D.members c.args.driven.now.databases) (D.next c.args.driven.now.databases) [] in
+    on_err _ (keeps-unchanged w (g.S.BlockStore.stored c.args.store.now) was.provider _ c.args.event was.failed was.register old)
+
+pub returns-in_err-marks-clause-tried : goal.returns-in_err-marks-clause-tried
+returns-in_err-marks-clause-tried g c =
+    let D = g.A.Databases.DatabaseSet in
+    let w = workings g.A.Block.Block.header g.A.Block.Block.context_of g.A.Context.Rounded.round_of g.A.Application.works D.kind D.shows in
+    on_err _ (keeps-left w (g.S.BlockStore.stored c.args.store.now) _ _ c.args.event _ _ _ _ _ _ c.in_err-marks.ensures.tried)
