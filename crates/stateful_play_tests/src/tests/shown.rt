@@ -11,6 +11,13 @@ use std::process::Abort;
 use std::str;
 use std::test::Fail;
 
+/// How a run ended, and whether something was played.
+#[derive(Clone, Copy, Debug, PartialEq, Eq)]
+pub(super) struct Ended {
+    pub(super) status: Status,
+    pub(super) is_played: bool,
+}
+
 /// A script under a name, and what it prints.
 #[derive(Drop)]
 pub(super) struct Row<'a> {
@@ -46,6 +53,13 @@ fn add_lines(lines: &mut String, text: &str) -> Result<(), Fail> {
     Ok(())
 }
 
+fn ended_by(outcome: Outcome) -> Ended {
+    Ended {
+        status: outcome.status,
+        is_played: outcome.played.is_some(),
+    }
+}
+
 /// Runs these words on a script, where these calls of the source and of the sink fail: what came
 /// of it, and what was printed.
 pub(super) fn played(
@@ -54,15 +68,15 @@ pub(super) fn played(
     script: &[u8],
     reads: &[u64],
     writes: &[u64],
-) -> Result<(Outcome, Vec<u8>), Fail> {
+) -> Result<(Ended, Vec<u8>), Fail> {
     let mut given = Vec::new(alloc);
     for word in words {
         given.push(String::from_str(alloc, word)?)?;
     }
     let mut source = MemorySource::new(script.to_vec(alloc)?, reads.to_vec(alloc)?);
     let mut sink = MemorySink::new(alloc, writes.to_vec(alloc)?);
-    let outcome = run(alloc, given.as_slice(), &mut source, &mut sink);
-    Ok((outcome, sink.written().to_vec(alloc)?))
+    let ended = ended_by(run(alloc, given.as_slice(), &mut source, &mut sink));
+    Ok((ended, sink.written().to_vec(alloc)?))
 }
 
 /// How a play ends whose last line is this one.
@@ -82,15 +96,11 @@ fn status_by(line: &str) -> Option<Status> {
 /// What a script prints. It ends as its last line says, and is played unless a line of it is
 /// refused.
 pub(super) fn print_of(rt: &(impl Abort + AllocGlobal), script: &str) -> Result<String, Fail> {
-    let (outcome, printed) = played(rt.alloc(), &["play"], script.as_bytes(), &[], &[])?;
+    let (ended, printed) = played(rt.alloc(), &["play"], script.as_bytes(), &[], &[])?;
     let text = str::from_utf8(printed.as_slice())?;
     let last = text.lines().last().ok_or("some line")?;
-    assert_eq!(rt; Some(outcome.status), status_by(last), "{last}");
-    assert_eq!(rt;
-        outcome.played.is_none(),
-        last.starts_with("script "),
-        "{last}"
-    );
+    assert_eq!(rt; Some(ended.status), status_by(last), "{last}");
+    assert_eq!(rt; ended.is_played, !last.starts_with("script "), "{last}");
     Ok(String::from_str(rt.alloc(), text)?)
 }
 

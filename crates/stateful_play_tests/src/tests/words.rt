@@ -1,7 +1,7 @@
 //! Other words than `play`, calls of the source and of the sink that fail, and scripts that are
 //! too long.
 
-use super::shown::played;
+use super::shown::{Ended, played};
 use stateful_play::Status;
 use std::process::Abort;
 use std::test::Fail;
@@ -15,9 +15,22 @@ struct Call<'a> {
     words: &'a [&'a str],
     reads: &'a [u64],
     writes: &'a [u64],
-    status: Status,
-    is_played: bool,
+    ended: Ended,
     text: &'a [u8],
+}
+
+fn without_play(status: Status) -> Ended {
+    Ended {
+        status,
+        is_played: false,
+    }
+}
+
+fn after_play(status: Status) -> Ended {
+    Ended {
+        status,
+        is_played: true,
+    }
 }
 
 /// Words that ask for nothing that the program does.
@@ -27,8 +40,7 @@ fn other<'a>(name: &'a str, words: &'a [&'a str]) -> Call<'a> {
         words,
         reads: &[],
         writes: &[],
-        status: Status::Usage,
-        is_played: false,
+        ended: without_play(Status::Usage),
         text: b"usage: stateful_prog play | make N\n",
     }
 }
@@ -36,9 +48,8 @@ fn other<'a>(name: &'a str, words: &'a [&'a str]) -> Call<'a> {
 /// Each call ends as it says.
 fn ends_so(rt: &(impl Abort + AllocGlobal), calls: &[Call<'_>]) -> Result<(), Fail> {
     for call in calls {
-        let (outcome, text) = played(rt.alloc(), call.words, SCRIPT, call.reads, call.writes)?;
-        assert_eq!(rt; outcome.status, call.status, "{}", call.name);
-        assert_eq!(rt; outcome.played.is_some(), call.is_played, "{}", call.name);
+        let (ended, text) = played(rt.alloc(), call.words, SCRIPT, call.reads, call.writes)?;
+        assert_eq!(rt; ended, call.ended, "{}", call.name);
         assert_eq!(rt; text.as_slice(), call.text, "{}", call.name);
     }
     Ok(())
@@ -56,8 +67,7 @@ fn calls_end_by_their_words_and_faults(rt: HostRuntime) -> Result<(), Fail> {
             words: &["play"],
             reads: &[],
             writes: &[],
-            status: Status::Done,
-            is_played: true,
+            ended: after_play(Status::Done),
             text: b"#0\nopened 0 genesis\n#1\nverdict 0 true\ndatabase 0 0..1\ndone\n",
         },
         Call {
@@ -65,8 +75,7 @@ fn calls_end_by_their_words_and_faults(rt: HostRuntime) -> Result<(), Fail> {
             words: &["play"],
             reads: &[1],
             writes: &[],
-            status: Status::ReadFault,
-            is_played: false,
+            ended: without_play(Status::ReadFault),
             text: b"",
         },
         Call {
@@ -74,8 +83,7 @@ fn calls_end_by_their_words_and_faults(rt: HostRuntime) -> Result<(), Fail> {
             words: &["play"],
             reads: &[],
             writes: &[0],
-            status: Status::WriteFault,
-            is_played: true,
+            ended: after_play(Status::WriteFault),
             text: b"",
         },
     ];
@@ -85,9 +93,8 @@ fn calls_end_by_their_words_and_faults(rt: HostRuntime) -> Result<(), Fail> {
 #[test]
 fn long_scripts_are_refused_at_line_0(rt: HostRuntime) -> Result<(), Fail> {
     let script = vec![in rt.alloc(); b'\n'; 16 * 1024 * 1024 + 1]?;
-    let (outcome, text) = played(rt.alloc(), &["play"], script.as_slice(), &[], &[])?;
-    assert_eq!(rt; outcome.status, Status::Script { line: 0 });
-    assert!(rt; outcome.played.is_none());
+    let (ended, text) = played(rt.alloc(), &["play"], script.as_slice(), &[], &[])?;
+    assert_eq!(rt; ended, without_play(Status::Script { line: 0 }));
     assert_eq!(rt; text.as_slice(), b"script 0\n".as_slice());
     Ok(())
 }
