@@ -262,7 +262,7 @@ module _ {B C I P R D H G U : Type 0} (w : Workings B C I P R D H G U) (stored :
             subst (λ (o : Option (Finalizing B G)). FrontAgrees w m.loop.durability o m.execution.front) some is_up.front in
             let no = sym is ∙ agrees.1 in absurd (cc)
 
-    -- where a ticket is found, where nothing is in the mailbox or in front
+    -- a ticket that is found is in one of these, where nothing is in the mailbox or in front
     pub waits_where : (t : ℕ) → IsFound w m t → m.loop.queue ≡ [] → m.loop.front ≡ None → (Q : Type 0)
         → (0 < times t (map ticket_under m.loop.actions) → Q) → (0 < times t (map (λ (receipt : ℕ × ℕ). receipt.1) m.loop.durability.held) → Q)
         → (IsSome (at tables.requests t) → Q) → (MatchOption m.execution.build ⊥ (λ b. b.ticket ≡ t) → Q) → Q

@@ -43,6 +43,7 @@ use Rattle.stateful_keeping.proofs.SharedTaken.{shared-cancels}
 use Rattle.stateful_keeping.proofs.TakenIn.{takes_in-up}
 use Rattle.stateful_keeping.proofs.WaysBeside.{StoresFinalized-after}
 
+-- the event is a cancel
 abbrev pub IsCancel : {B C I : Type 0} → Event B C I → Type 0
 IsCancel (Cancel t) = Unit {0}
 IsCancel event = ⊥
@@ -77,6 +78,7 @@ module _ {B C I P R D H G U : Type 0} (w : Workings B C I P R D H G U) (laws : L
   abbrev plain : Event B C I
   plain = Progress 0
 
+  -- where the machine stops in an entry of that one, so it does in one of the cancel
   stops : (all : List (Mark B)) → IsStopped plain all → IsStopped cancel all
   stops all (inl is) = cc
   stops all (inr (inl restart)) = absurd restart
