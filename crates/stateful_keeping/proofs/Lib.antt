@@ -173,6 +173,9 @@ pub mod DulyRules
 pub mod DulyTurned
 pub mod DulyTaken
 pub mod DulyAlong
+pub mod WaitsExecuting
+pub mod SharedTaken
+pub mod SharedAlong
 pub mod Reaching
 pub mod MediaChanges
 pub mod MediaKept

@@ -63,7 +63,7 @@ use Rattle.stateful_keeping.proofs.Times.{times}
 use Rattle.stateful_keeping.proofs.Waiting.{times-waiting}
 
 -- where one of a list is of this ticket, it holds of it
-found_in : {X : Type 0} (f : X → ℕ) (P : X → Type 0) (Q : Type 0) (t : ℕ) → ((x : X) → f x ≡ t → P x → Q) → (xs : List X) → All P xs
+pub found_in : {X : Type 0} (f : X → ℕ) (P : X → Type 0) (Q : Type 0) (t : ℕ) → ((x : X) → f x ≡ t → P x → Q) → (xs : List X) → All P xs
     → 0 < times t (map f xs) → Q
 found_in f P Q t each [] all some = absurd (omega (arith, some))
 found_in f P Q t each (x ∷ xs) all some = by (f x == t) refl some (λ left. found_in f P Q t each xs (All-tail P x xs all) left)
@@ -73,7 +73,7 @@ found_in f P Q t each (x ∷ xs) all some = by (f x == t) refl some (λ left. fo
     by false is more rest = let left : 0 < 0 + times t (map f xs) = rw is at more in rest (omega (arith, left))
 
 -- where it isn't impossible to be none, there is none
-empty : {X : Type 0} (xs : List X) → (xs ≢ [] → ⊥) → xs ≡ []
+pub empty : {X : Type 0} (xs : List X) → (xs ≢ [] → ⊥) → xs ≡ []
 empty [] not = refl
 empty (x ∷ xs) not = absurd (not (λ e. cc))
 
@@ -81,7 +81,7 @@ nothing : {X : Type 0} (o : Option X) → (o ≢ None → ⊥) → o ≡ None
 nothing None not = refl
 nothing (Some x) not = absurd (not (λ e. cc))
 
-some_is : {X : Type 0} (o : Option X) → IsSome o → (x : X) × (o ≡ Some x)
+pub some_is : {X : Type 0} (o : Option X) → IsSome o → (x : X) × (o ≡ Some x)
 some_is None some = absurd (false≢true some)
 some_is (Some x) some = (x, refl)
 
@@ -159,7 +159,7 @@ module _ {B C I P R D H G U : Type 0} (w : Workings B C I P R D H G U) (stored :
     none_recovered t some = let no : 0 < times t [] = subst (λ (us : List ℕ). 0 < times t us) collected.1 some in omega (arith, no)
 
     -- nothing pauses where no finalization goes on
-    free_at : m.execution.front ≡ None → IsFree w stored base p e.points e.point m.next tables
+    pub free_at : m.execution.front ≡ None → IsFree w stored base p e.points e.point m.next tables
     free_at is = subst (λ (front : Option (Front B R U H)). IsPlaced w stored base p e.points e.point m.next tables front) is e.placed
 
     phase_settled : (phase : Phase B) → (phase ≡ Open → ⊥) → ((path : _) → phase ≡ Parked path → ⊥) → IsSettled phase
@@ -241,7 +241,7 @@ module _ {B C I P R D H G U : Type 0} (w : Workings B C I P R D H G U) (stored :
         apart.unproposed u (λ is. let no = sym live.proposes ∙ is in cc)
 
     -- nothing of a verification waits in the loop, but in the mailbox
-    actions_apart : (t : ℕ) → 0 < times t (map ticket_under m.loop.actions) → verified t p ≡ None
+    pub actions_apart : (t : ℕ) → 0 < times t (map ticket_under m.loop.actions) → verified t p ≡ None
     actions_apart t some = found_in ticket_under (λ a. ActionStands w stored p tables m.execution.build a × IsPutOff a) (verified t p ≡ None) t
         (λ a is both. subst (λ u. verified u p ≡ None) is (action_apart a both.0 both.1))
         m.loop.actions (λ k d within. (h.tickets.actions k d within, hands.put_off k d within)) some
@@ -251,7 +251,8 @@ module _ {B C I P R D H G U : Type 0} (w : Workings B C I P R D H G U) (stored :
         (λ receipt is r. subst (λ u. verified u p ≡ None) is (apart.unfinalized receipt.1 (λ no. let never = sym r.finalized ∙ no in cc)))
         m.loop.durability.held h.tickets.held some
 
-    none_in_front : m.execution.front ≡ None → m.loop.front ≡ None
+    -- no finalization goes on in the loop where none does in execution
+    pub none_in_front : m.execution.front ≡ None → m.loop.front ≡ None
     none_in_front is = by m.loop.front refl
       where
         by : (o : Option (Finalizing B G)) → m.loop.front ≡ o → m.loop.front ≡ None
@@ -261,7 +262,8 @@ module _ {B C I P R D H G U : Type 0} (w : Workings B C I P R D H G U) (stored :
             subst (λ (o : Option (Finalizing B G)). FrontAgrees w m.loop.durability o m.execution.front) some is_up.front in
             let no = sym is ∙ agrees.1 in absurd (cc)
 
-    waits_where : (t : ℕ) → IsFound w m t → m.loop.queue ≡ [] → m.loop.front ≡ None → (Q : Type 0)
+    -- a ticket that is found is in one of these, where nothing is in the mailbox or in front
+    pub waits_where : (t : ℕ) → IsFound w m t → m.loop.queue ≡ [] → m.loop.front ≡ None → (Q : Type 0)
         → (0 < times t (map ticket_under m.loop.actions) → Q) → (0 < times t (map (λ (receipt : ℕ × ℕ). receipt.1) m.loop.durability.held) → Q)
         → (IsSome (at tables.requests t) → Q) → (MatchOption m.execution.build ⊥ (λ b. b.ticket ≡ t) → Q) → Q
     waits_where t (requested some) queue front Q action held table build = table some

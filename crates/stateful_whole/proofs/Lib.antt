@@ -26,3 +26,4 @@ pub mod WorkDuly
 pub mod EntryRules
 pub mod WantedRuns
 pub mod JobsGoOn
+pub mod SharedRuns
