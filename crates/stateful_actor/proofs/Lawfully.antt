@@ -6,10 +6,7 @@ use Rattle.stateful_db.specs.Laws.{Laws}
 use Rattle.stateful_history.specs.Live.{may_come, names_live}
 use Rattle.stateful_history.specs.Met.{TrueNames}
 use Rattle.stateful_history.specs.Opening.{is_down, base_after}
-use Rattle.stateful_history.specs.Past.{Past, Came, EachMark, after_entry, after_all}
-use Rattle.stateful_history.specs.Prunes.{PruneRule}
-use Rattle.stateful_history.specs.Runs.{RunsAreWanted}
-use Rattle.stateful_history.specs.Shared.{SharedRunGoesOn}
+use Rattle.stateful_history.specs.Past.{Past, Came, after_entry, after_all}
 use Rattle.stateful_history.specs.Stops.{IsRestart}
 use Rattle.stateful_history.specs.Honest.{StoresFinalized, HasHonestStore}
 use Rattle.stateful_history.specs.declared.entry.Entry.{Entry}
@@ -29,14 +26,10 @@ use Rattle.stateful_processing.specs.Moments.{Moment}
 use Rattle.stateful_processing.specs.declared.error.StepError.{StepError}
 use Rattle.stateful_processing.specs.declared.error.StepError.TheVariants.{OutOfMemory, Failed, BadEvent}
 use Rattle.stateful_whole.specs.Entering.{Steps}
-use Rattle.stateful_whole.specs.Jobs.{EachJobGoesOn}
 use Rattle.stateful_whole.specs.Machine.{numbered, is_restart, IsNew}
 use Rattle.stateful_whole.specs.Stands.{StandsAt, Stands}
 use Rattle.stateful_whole.specs.Steps.{IsStep}
 use Rattle.stateful_whole.specs.StepBehind.{StepBehind, EachStands}
-use Rattle.stateful_whole.proofs.JobsGoOn.{jobs-go_on}
-use Rattle.stateful_whole.proofs.SharedRuns.{shared-runs}
-use Rattle.stateful_whole.proofs.WantedRuns.{runs-wanted}
 use Rattle.stateful_whole.proofs.LiveFlushes.{numbered_le, names_live-more}
 use Rattle.stateful_whole.proofs.HistoryStands.{IsStoredNow-new, EachStands-last}
 use Rattle.stateful_whole.proofs.StepsStand.{StandsAt-new}
@@ -150,21 +143,6 @@ module _ {B C I P R D H G U : Type 0} (w : Workings B C I P R D H G U) (laws : L
       subst (λ (x : w.States). IsAheadLawfully w stored x (after_entry p event now.marks) (record now { marks = [] })) behind.base_is
       (ahead-step w laws stored stored_now counts provider runs_cost builds_cost base p stored_is event register m now may stores
       (λ other. s.at (works other)) step names behind ahead)
-
-  -- behind a step each live run and build is wanted, and each live job goes on
-  pub step-jobs : RunsAreWanted (setting w stored) (after_entry p event now.marks)
-      × EachJobGoesOn w stored (base_after base now.marks (w.kind.point now.members)) (after_entry p event now.marks)
-  step-jobs = (
-    runs-wanted w stored behind.base_behind (after_entry p event now.marks) (record now { marks = [] }) behind.stands,
-    subst (λ (x : w.States). EachJobGoesOn w stored x (after_entry p event now.marks)) behind.base_is
-        (jobs-go_on w stored behind.base_behind (after_entry p event now.marks) (record now { marks = [] }) behind.stands),
-  )
-
-  -- in a step no run is cancelled for which another live request waits, unless the machine stops or starts
-  pub step-shared : (rule : Option (PruneRule w.Targets)) → EachMark (SharedRunGoesOn (setting w stored) rule event now.marks) (Came event ∷ p) now.marks
-  step-shared rule =
-      shared-runs w laws stored stored_now counts provider runs_cost builds_cost base p stored_is rule event register m now
-      (λ other. s.at (works other)) may step names stores behind
 
 -- a machine that hasn't failed takes a lawful event on
 pub admit-lawful : {B C I P R D H G U : Type 0} (w : Workings B C I P R D H G U) (stored : ℕ → Option (Named B)) (base : w.States) (p : Past B C I)

@@ -21,11 +21,8 @@ ghost use Rattle.stateful_types.specs.Names.{Named};
 ghost use Rattle.stateful_history.specs.Live.{may_come};
 ghost use Rattle.stateful_history.specs.Met.{TrueNames};
 ghost use Rattle.stateful_history.specs.Opening.{is_down, base_after};
-ghost use Rattle.stateful_history.specs.Past.{Past, Came, EachMark, after_entry};
-ghost use Rattle.stateful_history.specs.Prunes.{PruneRule};
+ghost use Rattle.stateful_history.specs.Past.{Past, Came, after_entry};
 ghost use Rattle.stateful_history.specs.Restarts.{reopened_height, CanReopen, Finds};
-ghost use Rattle.stateful_history.specs.Runs.{RunsAreWanted};
-ghost use Rattle.stateful_history.specs.Shared.{SharedRunGoesOn};
 ghost use Rattle.stateful_history.specs.Honest.{HasHonestStore};
 ghost use Rattle.stateful_exec.specs.Starting.{Rises};
 ghost use Rattle.stateful_register.specs.Register.{RegisterStands};
@@ -39,7 +36,6 @@ ghost use Rattle.stateful_lawful.specs.Outside.{IsOutside};
 ghost use Rattle.stateful_lawful.specs.Restarting.{RestartsLawfully};
 ghost use Rattle.stateful_actor.specs.Faults.{tally, IsCause};
 ghost use Rattle.stateful_actor.specs.Machine.{faults_after};
-ghost use Rattle.stateful_whole.specs.Jobs.{EachJobGoesOn};
 ghost use Rattle.stateful_whole.specs.Left.{LeavesFurther};
 ghost use Rattle.stateful_whole.specs.Machine.{IsSafe, numbered, is_restart};
 ghost use Rattle.stateful_whole.specs.Media.{MediaStand, StandsOnMedia, TargetsName, OpensOn};
@@ -170,7 +166,7 @@ impl<A: Application + Drop> Stateful<A> {
 
         // Whatever past the machine stood for, it stands for that with the entry added, where names
         // are true with it and the store is honest. True verdicts are earned, only durable heights
-        // are acknowledged, and the databases hold what was applied.
+        // are acknowledged, the databases hold what was applied, and all that is unanswered waits.
         ensures stands { IfOk result (λ marks. let w = ⟦<A as Worked>⟧.workings in
             (stored : ℕ → Option (Named A.Block))
             (base : A.Databases.States)
@@ -317,41 +313,6 @@ impl<A: Application + Drop> Stateful<A> {
             → Rose (A.Databases.counted databases.old i) (A.Databases.counted databases.new i)
             → ⊥)
             → e ≡ StepError.OutOfMemory) }
-
-        // After the event each live candidate run and each live build is wanted by a live request,
-        // and each live job was turned less often than it takes turns, where that is told.
-        ensures jobs { IfOk result (λ marks. let w = ⟦<A as Worked>⟧.workings in
-            (stored : ℕ → Option (Named A.Block))
-            (base : A.Databases.States)
-            (p : Past A.Block A.Context A.Input)
-            → Stands w stored base p self.old.failed self.old.register
-            (moment w self.old.execution self.old.loop (A.Databases.members databases.old)
-            (A.Databases.next databases.old) [])
-            → IsStoredNow stored p (S.stored store.old)
-            → TrueNames (setting w stored) (after_entry p event marks.items)
-            → HasHonestStore A.Block.header stored (after_entry p event marks.items)
-            → RunsAreWanted (setting w stored) (after_entry p event marks.items)
-            × EachJobGoesOn w stored
-            (base_after base marks.items
-            (A.Databases.kind.point (A.Databases.members databases.new)))
-            (after_entry p event marks.items)) }
-
-        // No run is cancelled for which another live request waits, unless the machine stops or
-        // starts, whatever the rule on prunes.
-        ensures shared { IfOk result (λ marks. let w = ⟦<A as Worked>⟧.workings in
-            (stored : ℕ → Option (Named A.Block))
-            (base : A.Databases.States)
-            (p : Past A.Block A.Context A.Input)
-            (rule : Option (PruneRule A.Databases.SyncTargets))
-            → Stands w stored base p self.old.failed self.old.register
-            (moment w self.old.execution self.old.loop (A.Databases.members databases.old)
-            (A.Databases.next databases.old) [])
-            → IsStoredNow stored p (S.stored store.old)
-            → TrueNames (setting w stored) (after_entry p event marks.items)
-            → HasHonestStore A.Block.header stored (after_entry p event marks.items)
-            → EachMark (SharedRunGoesOn (setting w stored) rule event marks.items)
-            (Came event ∷ p)
-            marks.items) }
 
         // The finalized blocks that wait lead up to the highest one, as long as each event since
         // the last restart was lawful: that stays so after each event.

@@ -28,7 +28,6 @@ use Rattle.stateful_keeping.specs.Reasons.{IsTrusted, HasItsReason}
 use Rattle.stateful_keeping.proofs.Trusted.{IsTrusted-before_all}
 use Rattle.stateful_processing.specs.Moments.{Moment}
 use Rattle.stateful_whole.specs.StepBehind.{StepBehind, EachStands}
-use Rattle.stateful_whole.proofs.WantedRuns.{runs-wanted}
 
 -- a rule that another one gives
 EachMark-weaker : {B C I : Type 0} (P Q : Past B C I → Mark B → Type 0) → ((q : Past B C I) (mark : Mark B) → P q mark → Q q mark)
@@ -104,7 +103,7 @@ module _ {B C I P R D H G U : Type 0} (w : Workings B C I P R D H G U) (stored :
       → KeepsEnds (setting w stored) (telling_of w.works) w.kind.count rule b.base_behind (after_entry p event now.marks)
   keeps-ends never = record {
     waits = b.waits rule;
-    runs_are_wanted = runs-wanted w stored b.base_behind (after_entry p event now.marks) (record now { marks = [] }) b.stands;
+    runs_are_wanted = b.wanted;
     prunes_wait = λ pending. absurd (never pending);
   }
 

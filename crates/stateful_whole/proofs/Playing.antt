@@ -13,6 +13,7 @@ use Rattle.stateful_history.specs.Past.{Past, Came, Made, EachMark, EachNext, af
 use Rattle.stateful_history.specs.Prunes.{PrunedIsDue}
 use Rattle.stateful_history.specs.Restarts.{OpenedIsStored}
 use Rattle.stateful_history.specs.Runs.{BuildIsAnswered}
+use Rattle.stateful_history.specs.Shared.{SharedRunGoesOn}
 use Rattle.stateful_history.specs.Stops.{IsRestart, NothingLive, BrokeBefore, StopsClean, StartsClean}
 use Rattle.stateful_history.specs.Honest.{StoresFinalized}
 use Rattle.stateful_history.specs.declared.event.Event.{Event}
@@ -63,6 +64,7 @@ use Rattle.stateful_whole.specs.StepBehind.{IsCommittedTo, StepBehind}
 use Rattle.stateful_whole.proofs.LiveFlushes.{numbered_le, names_live-more}
 use Rattle.stateful_whole.proofs.ReasonsEnd.{HasItsReason-ends}
 use Rattle.stateful_whole.proofs.StartRules.{IsCommittedTo-rules, IsCommittedTo-ends, PrunedIsDue-rules, PrunedIsDue-ends, PrunedIsDue-stopped, EndsStopped-unbroken, BrokeBefore-after, StartsClean-rules, StartsClean-ends, StopsClean-rules, StopsClean-ends, OpenedIsStored-rules, OpenedIsStored-ends, OpenedIsStored-stopped}
+use Rattle.stateful_whole.proofs.SharedRuns.{shared-stopped, shared-advances}
 use Rattle.stateful_whole.proofs.StaysUp.{Broke, along-stays, takes_in-stays}
 use Rattle.stateful_whole.proofs.Stepping.{may_come-up, is_down-came, base-same, StepBehind-of}
 use Rattle.stateful_whole.proofs.Unbroken.{IsUnbroken, UnbrokenBehind, taken_in_unbroken, along_unbroken}
@@ -182,16 +184,21 @@ module _ {B C I P R D H G U : Type 0} (w : Workings B C I P R D H G U) (laws : L
       (append_cancel_left m.marks (first.more ++ then.more) b.more (sym both ∙ b.marks_are))
       (All-append IsUnbroken first.more then.more first.each then.each) in
       let no_stop : event ≢ Stop = λ stop. still_up still stop in
+      let all : b.more ≡ settled.marks = more_are b.more settled b.marks_are in
+      let duly : EachMark (IsDulySaid w stored base event b.more) q b.more =
+      subst (λ (ms : List (Mark B)). EachMark (IsDulySaid w stored base event ms) q ms) same_duly (y.each y.more (All-contains_itself y.more)) in
       StepBehind-of w stored base p event settled base b.more (more_are b.more settled b.marks_are) (record {
         base_is = base-same base b.more (w.kind.point settled.members) none_opens;
         earned = b.earned;
         reasons = λ trust. (reasons_of b.more b (reasons_behind b.more names_there b trust)).0;
         said = b.said;
         in_place = subst (λ (ms : List (Mark B)). EachMark (IsInPlace w stored base) q ms) same l.each;
-        duly = subst (λ (ms : List (Mark B)). EachMark (IsDulySaid w stored base event ms) q ms) same_duly
-            (y.each y.more (All-contains_itself y.more));
+        duly = duly;
         builds = subst (λ (ms : List (Mark B)). EachNext BuildIsAnswered q ms) same_duly y.answered;
         due = λ rule. PrunedIsDue-rules (setting w stored) rule q b.more b.of_rules;
+        shared = λ rule. subst (λ (ms : List (Mark B)). EachMark (SharedRunGoesOn (setting w stored) rule event ms) q ms) (sym all)
+            (shared-advances w laws stored stored_now counts provider runs_cost builds_cost base p stored_is rule event m settled s may_come_is a names
+            stores (subst (λ (ms : List (Mark B)). EachMark (IsDulySaid w stored base event ms) q ms) all duly));
         opened = OpenedIsStored-rules (setting w stored) event q b.more b.of_rules;
         committed = IsCommittedTo-rules w stored base b.more b.of_rules;
         clean_start = StartsClean-rules q b.more b.of_rules;
@@ -344,6 +351,7 @@ module _ {B C I P R D H G U : Type 0} (w : Workings B C I P R D H G U) (laws : L
       due = λ rule. each_down (PrunedIsDue (setting w stored) rule) (PrunedIsDue-rules (setting w stored) rule q b.more b.of_rules)
           (PrunedIsDue-ends (setting w stored) rule (after q b.more) over ends_work)
           (PrunedIsDue-stopped (setting w stored) rule (after (after q b.more) over));
+      shared = λ rule. shared-stopped w stored rule event down.more (inr (inr has_stopped)) q down.more;
       opened = each_down (OpenedIsStored (setting w stored) event) (OpenedIsStored-rules (setting w stored) event q b.more b.of_rules)
           (OpenedIsStored-ends (setting w stored) event (after q b.more) over ends_work)
           (OpenedIsStored-stopped (setting w stored) event (after (after q b.more) over));

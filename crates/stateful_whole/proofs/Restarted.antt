@@ -52,6 +52,7 @@ use Rattle.stateful_whole.specs.Stands.{CanRestartAt}
 use Rattle.stateful_whole.specs.StepBehind.{IsCommittedTo, StepBehind}
 use Rattle.stateful_whole.proofs.OpensQuiet.{opens-quiet}
 use Rattle.stateful_whole.proofs.ReasonsEnd.{HasItsReason-ends}
+use Rattle.stateful_whole.proofs.SharedRuns.{shared-stopped}
 use Rattle.stateful_whole.proofs.StartRules.{IsCommittedTo-ends, PrunedIsDue-ends, PrunedIsDue-opened, EndsStopped-restart, StartsClean-ends, StopsClean-ends, OpenedIsStored-ends}
 use Rattle.stateful_whole.proofs.Stepping.{base-opened, StepBehind-of}
 use Rattle.stateful_whole.proofs.WorkEnds.{IsWorkEnd, EndsAll-ends, IsWorkEnd-ending, is_down-ends, opens-opened}
@@ -156,6 +157,7 @@ module _ {B C I P R D H G U : Type 0} (w : Workings B C I P R D H G U) (laws : L
           (All-push IsUnbuilt over (Opened anchor) (work-unbuilt q over named) tt));
       due = λ rule. each_restart (PrunedIsDue (setting w stored) rule) (PrunedIsDue-ends (setting w stored) rule q over ends_work)
           (PrunedIsDue-opened (setting w stored) rule (after q over) anchor);
+      shared = λ rule. shared-stopped w stored rule event b.more (inr (inl tt)) q b.more;
       opened = each_restart (OpenedIsStored (setting w stored) event) (OpenedIsStored-ends (setting w stored) event q over ends_work) at_stored;
       committed = subst (λ (ms : List (Mark B)). All (IsCommittedTo w stored o.opening.at.1) ms) (sym all_are)
           (All-push (IsCommittedTo w stored o.opening.at.1) over (Opened anchor) (IsCommittedTo-ends w stored o.opening.at.1 over ends_work)

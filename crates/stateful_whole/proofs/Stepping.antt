@@ -10,6 +10,7 @@ use Rattle.stateful_history.specs.Past.{Past, Came, EachMark, EachNext, after, a
 use Rattle.stateful_history.specs.Prunes.{PruneRule, PrunedIsDue}
 use Rattle.stateful_history.specs.Restarts.{OpenedIsStored}
 use Rattle.stateful_history.specs.Runs.{BuildIsAnswered}
+use Rattle.stateful_history.specs.Shared.{SharedRunGoesOn}
 use Rattle.stateful_history.specs.Stops.{IsRestart, NothingLive, StopsClean, StartsClean, EndsStopped}
 use Rattle.stateful_history.specs.Telling.{telling_of}
 use Rattle.stateful_history.specs.Waiting.{AllWait}
@@ -30,7 +31,10 @@ use Rattle.stateful_keeping.proofs.PlacesScheduled.{kept-same}
 use Rattle.stateful_keeping.proofs.QuietWaits.{quiet-waits}
 use Rattle.stateful_processing.specs.Moments.{Moment}
 use Rattle.stateful_processing.specs.Rules.{Quiet}
+use Rattle.stateful_whole.specs.Stands.{StandsAt}
 use Rattle.stateful_whole.specs.StepBehind.{IsCommittedTo, StepBehind}
+use Rattle.stateful_whole.proofs.JobsGoOn.{jobs-go_on}
+use Rattle.stateful_whole.proofs.WantedRuns.{runs-wanted}
 use Rattle.stateful_whole.proofs.Unmarked.{Quiet-marks, IsCounted-marks, AllInHand-marks, GoesOnAt-marks, IsUpAt-marks}
 
 first_of : (a b : Bool) → (a && b) ≡ true → a ≡ true
@@ -79,6 +83,7 @@ module _ {B C I P R D H G U : Type 0} (w : Workings B C I P R D H G U) (stored :
       pub duly : EachMark (IsDulySaid w stored next event marks) (Came event ∷ p) marks
       pub builds : EachNext BuildIsAnswered (Came event ∷ p) marks
       pub due : (rule : Option (PruneRule w.Targets)) → EachMark (PrunedIsDue (setting w stored) rule) (Came event ∷ p) marks
+      pub shared : (rule : Option (PruneRule w.Targets)) → EachMark (SharedRunGoesOn (setting w stored) rule event marks) (Came event ∷ p) marks
       pub opened : EachMark (OpenedIsStored (setting w stored) event) (Came event ∷ p) marks
       pub committed : All (IsCommittedTo w stored next) marks
       pub clean_start : EachMark StartsClean (Came event ∷ p) marks
@@ -107,10 +112,28 @@ module _ {B C I P R D H G U : Type 0} (w : Workings B C I P R D H G U) (stored :
         by true up = quiet-waits w stored next (after_entry p event marks) now rule up (k.up up).1 (k.up up).0 k.apart (k.hands up).1 (k.hands up).0
         by false down = λ t live. absurd (live ((k.down down).tickets t))
 
+  -- the machine stands for the past with the entry
+  stands_of : (next : w.States) → PartsStand next now.marks → StandsAt w stored next (after_entry p event now.marks) (record now { marks = [] })
+  stands_of next k = record {
+    restart = record { unmarked = refl; counted = IsCounted-marks w now [] (after q now.marks) k.counted; apart = k.apart };
+    up_is = k.up_is;
+    up = λ up. (IsUpAt-marks w now [] stored next (after q now.marks) (k.up up).0, Quiet-marks w now [] (k.up up).1);
+    reasons = λ up trust. let r = k.reasons_stand up trust in
+        record { queue = r.queue; actions = r.actions; gatherings = r.gatherings; reaches = r.reaches };
+    hands = λ up. (
+      AllInHand-marks w now [] (after q now.marks) (k.hands up).0,
+      GoesOnAt-marks w now [] stored next (after q now.marks) (k.hands up).1,
+    );
+    down = k.down;
+    past = k.past;
+    places = λ up. kept-same w stored next (after q now.marks) now (record now { marks = [] }) refl refl (k.places up);
+  }
+
   -- It stands behind the step, where these are its marks.
   pub StepBehind-of : (next : w.States) (marks : List (Mark B)) → marks ≡ now.marks → PartsStand next marks → StepBehind w stored base p event now
   StepBehind-of next marks are parts =
       let k : PartsStand next now.marks = subst (λ (ms : List (Mark B)). PartsStand next ms) are parts in
+      let s : StandsAt w stored next (after_entry p event now.marks) (record now { marks = [] }) = stands_of next k in
       record {
         base_behind = next;
         base_is = k.base_is;
@@ -129,20 +152,10 @@ module _ {B C I P R D H G U : Type 0} (w : Workings B C I P R D H G U) (stored :
         holds = k.holds;
         pruned = k.pruned;
         waits = all_wait next now.marks k;
-        stands = record {
-          restart = record { unmarked = refl; counted = IsCounted-marks w now [] (after q now.marks) k.counted; apart = k.apart };
-          up_is = k.up_is;
-          up = λ up. (IsUpAt-marks w now [] stored next (after q now.marks) (k.up up).0, Quiet-marks w now [] (k.up up).1);
-          reasons = λ up trust. let r = k.reasons_stand up trust in
-              record { queue = r.queue; actions = r.actions; gatherings = r.gatherings; reaches = r.reaches };
-          hands = λ up. (
-            AllInHand-marks w now [] (after q now.marks) (k.hands up).0,
-            GoesOnAt-marks w now [] stored next (after q now.marks) (k.hands up).1,
-          );
-          down = k.down;
-          past = k.past;
-          places = λ up. kept-same w stored next (after q now.marks) now (record now { marks = [] }) refl refl (k.places up);
-        };
+        wanted = runs-wanted w stored next (after_entry p event now.marks) (record now { marks = [] }) s;
+        jobs = jobs-go_on w stored next (after_entry p event now.marks) (record now { marks = [] }) s;
+        shared = k.shared;
+        stands = s;
         empty = k.empty;
       }
 

@@ -8,7 +8,8 @@ use Rattle.stateful_history.specs.Opening.{base_after}
 use Rattle.stateful_history.specs.Past.{Past, Came, EachMark, EachNext, after_entry}
 use Rattle.stateful_history.specs.Prunes.{PruneRule, PrunedIsDue}
 use Rattle.stateful_history.specs.Restarts.{OpenedIsStored}
-use Rattle.stateful_history.specs.Runs.{BuildIsAnswered}
+use Rattle.stateful_history.specs.Runs.{BuildIsAnswered, RunsAreWanted}
+use Rattle.stateful_history.specs.Shared.{SharedRunGoesOn}
 use Rattle.stateful_history.specs.Stops.{StopsClean, StartsClean, EndsStopped}
 use Rattle.stateful_history.specs.Telling.{telling_of}
 use Rattle.stateful_history.specs.Waiting.{AllWait}
@@ -25,6 +26,7 @@ use Rattle.stateful_keeping.specs.Durability.{IsDurablySaid}
 use Rattle.stateful_keeping.specs.Reasons.{IsTrusted, HasItsReason}
 use Rattle.stateful_keeping.specs.Places.{IsInPlace}
 use Rattle.stateful_processing.specs.Moments.{Moment}
+use Rattle.stateful_whole.specs.Jobs.{EachJobGoesOn}
 use Rattle.stateful_whole.specs.Stands.{StandsAt, Stands}
 
 module _ {B C I P R D H G U : Type 0} (w : Workings B C I P R D H G U)
@@ -45,7 +47,10 @@ module _ {B C I P R D H G U : Type 0} (w : Workings B C I P R D H G U)
     -- do those of openings and stops, of jobs, answers to builds, withdrawn fetches and
     -- finalizations; each is in its place; and nothing was pruned. The databases hold what was
     -- applied. Each live request and receipt waits for outstanding work, whatever the rule on
-    -- prunes. The machine stands for the past with the entry; where it is down nothing goes on.
+    -- prunes; each live candidate run and build is wanted by a live request; each live job was
+    -- turned less often than it takes turns, where that is told; and no run was cancelled for which
+    -- another live request waits, unless the machine stops or starts. The machine stands for the
+    -- past with the entry; where it is down nothing goes on.
     pub record StepBehind : Type 0 where
       pub base_behind : w.States
       pub base_is : base_behind ≡ base_after base now.marks (w.kind.point now.members)
@@ -70,6 +75,12 @@ module _ {B C I P R D H G U : Type 0} (w : Workings B C I P R D H G U)
       pub waits : (rule : Option (PruneRule w.Targets))
           → AllWait (setting w stored) (telling_of w.works) w.kind.count rule base_behind
           (after_entry p event now.marks)
+      pub wanted : RunsAreWanted (setting w stored) (after_entry p event now.marks)
+      pub jobs : EachJobGoesOn w stored base_behind (after_entry p event now.marks)
+      pub shared : (rule : Option (PruneRule w.Targets))
+          → EachMark (SharedRunGoesOn (setting w stored) rule event now.marks)
+          (Came event ∷ p)
+          now.marks
       pub stands : StandsAt w stored base_behind (after_entry p event now.marks)
           (record now { marks = [] })
       pub empty : now.loop.up ≡ false → IsEmpty w now

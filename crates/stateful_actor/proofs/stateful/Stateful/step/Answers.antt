@@ -13,7 +13,7 @@ use Rattle.stateful_whole.proofs.StepStands.{step-stands}
 use Rattle.stateful_whole.proofs.StillStands.{still-stands}
 use Rattle.stateful_actor.specs.Faults.{fault}
 use Rattle.stateful_actor.proofs.Arms.{refused_at_once}
-use Rattle.stateful_actor.proofs.Lawfully.{step-ahead, step-jobs, step-shared, admit-lawful, cause-outside}
+use Rattle.stateful_actor.proofs.Lawfully.{step-ahead, admit-lawful, cause-outside}
 use Rattle.stateful_actor.proofs.Reopening.{reopens-refused, reopens-done}
 use Rattle.stateful_actor.proofs.Working.{never, cause-not_failed, restart-memory}
 use Rattle.stateful_actor.proofs.ResultsOfCalls.{on_err, if_err, in_ok, in_err, of_err, match_err}
@@ -224,30 +224,6 @@ returns-clause-ahead g c =
     base p stored_is c.args.event _ _ _ _ c.in_ok-admit.ensures.works s
     (c.in_ok-admit.ensures.yes p s.registered) (rw c.new-marks.ensures.items at (in_ok _ _ c.in-Ok.is c.act-acted.ensures.ok))
     names honest ahead)
-
-pub returns-clause-jobs : goal.returns-clause-jobs
-returns-clause-jobs g c =
-    let D = g.A.Databases.DatabaseSet in
-    let w = workings g.A.Block.Block.header g.A.Block.Block.context_of g.A.Context.Rounded.round_of g.A.Application.works D.kind D.shows in
-    let takes = g.met.A.Application.takes_turns in
-    rw (← c.self.view_is) (λ stored base p s stored_is names honest.
-    step-jobs w g.met.A.Databases.DatabaseSet.laws stored (g.S.BlockStore.stored c.args.store.now) _ _
-    (λ f states b n is. takes.runs f states b n is) (λ asked states n is. takes.builds asked states n is)
-    base p stored_is c.args.event _ _ _ _ c.in_ok-admit.ensures.works s
-    (c.in_ok-admit.ensures.yes p s.registered) (rw c.new-marks.ensures.items at (in_ok _ _ c.in-Ok.is c.act-acted.ensures.ok))
-    names honest)
-
-pub returns-clause-shared : goal.returns-clause-shared
-returns-clause-shared g c =
-    let D = g.A.Databases.DatabaseSet in
-    let w = workings g.A.Block.Block.header g.A.Block.Block.context_of g.A.Context.Rounded.round_of g.A.Application.works D.kind D.shows in
-    let takes = g.met.A.Application.takes_turns in
-    rw (← c.self.view_is) (λ stored base p rule s stored_is names honest.
-    step-shared w g.met.A.Databases.DatabaseSet.laws stored (g.S.BlockStore.stored c.args.store.now) _ _
-    (λ f states b n is. takes.runs f states b n is) (λ asked states n is. takes.builds asked states n is)
-    base p stored_is c.args.event _ _ _ _ c.in_ok-admit.ensures.works s
-    (c.in_ok-admit.ensures.yes p s.registered) (rw c.new-marks.ensures.items at (in_ok _ _ c.in-Ok.is c.act-acted.ensures.ok))
-    names honest rule)
 
 pub returns-in_err-admit-clause-complete : goal.returns-in_err-admit-clause-complete
 returns-in_err-admit-clause-complete g c =
