@@ -1,7 +1,8 @@
 //! Blocks that carry a payload.
 //!
 //! A block names its parent by digest, and commits to the state that it leads to. Its bytes are its
-//! fields, one behind the other; the payload alone may be of any width.
+//! fields, one behind the other. All but the payload have a fixed width, so where no two payloads
+//! have the same bytes no two blocks do.
 
 ghost use Rattle.std.specs.Prelude.{◌≡◌, ◌++◌, OnOk};
 ghost use Rattle.stateful_one_turn.specs.Blocks.{target_bytes, genesis_block};
@@ -14,7 +15,7 @@ use stateful_types::{Block, Digest, Epoch, Height, OutOfMemory, Round, Target, V
 pub trait Payload {
     ghost use Rattle.std.specs.Prelude.{◌≡◌, ◌++◌, List, ℕ, OnOk};
 
-    /// Its bytes. Where they tell payloads apart, digests tell blocks apart.
+    /// Its bytes. Payloads that differ are to have different ones.
     ghost bytes: { Self → List ℕ };
 
     /// Appends its bytes.
