@@ -1,7 +1,5 @@
 //! A block's way: it is judged, built, applied and made durable.
 
-ghost use Rattle.std.specs.Prelude.{◌≡◌};
-
 use stateful_actor::{Application, Config, DatabaseSet, Event, Stateful, drive};
 use stateful_counter::{Add, Counter, CounterBlock};
 use stateful_db::{Flushed, Held};
