@@ -26,7 +26,9 @@ pub struct Bank<W> {
 
 impl<W: World> Bank<W> {
     /// A bank without faults.
-    pub fn new(alloc: Global) -> Bank<W> {
+    pub fn new(alloc: Global) -> Bank<W>
+        ensures { ⟦<Bank<W> as Faulty>⟧.count result ≡ 0 }
+    {
         Bank {
             alloc,
             world: PhantomData,

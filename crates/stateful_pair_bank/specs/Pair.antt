@@ -8,9 +8,9 @@ use Rattle.stateful_any.specs.Shown.{Draft}
 use Rattle.stateful_keyless.specs.Keyless as keyless
 use Rattle.stateful_keyless.specs.declared.keyless.batch.KeylessUnmerkleized.{KeylessUnmerkleized}
 use Rattle.stateful_bank_world.specs.Rules.{Rules}
-use Rattle.stateful_pair_bank.specs.Balances.{Writes, balance_on, with_balance, balances_after}
-use Rattle.stateful_pair_bank.specs.Balances.{HoldsWrites}
-use Rattle.stateful_pair_bank.specs.Amounts.{amounts_after, HoldsNothing}
+use Rattle.stateful_bank_logs.specs.Balances.{Writes, balance_on, with_balance, balances_after}
+use Rattle.stateful_bank_logs.specs.Balances.{HoldsWrites}
+use Rattle.stateful_bank_logs.specs.Amounts.{amounts_after, HoldsNothing}
 
 -- the states of the pair
 abbrev pub States : Type 0

@@ -3,10 +3,9 @@
 ghost use Rattle.std.specs.Prelude.{◌≡◌};
 ghost use Rattle.stateful_pair_bank.specs.Pair.{two_targets};
 
-use crate::amounts::complete_amounts;
-use crate::balances::{balance, complete_balances, set_balance};
 use stateful_any::{AnyDb, AnyMerkleized, AnyUnmerkleized};
 use stateful_bank::Op;
+use stateful_bank_logs::{balance, complete_amounts, complete_balances, set_balance};
 use stateful_bank_world::World;
 use stateful_db::{Held, ManagedDb};
 use stateful_keyless::{KeylessDb, KeylessMerkleized, KeylessUnmerkleized};
@@ -62,7 +61,7 @@ impl World for Pair {
     ) -> Result<Option<Drafted>, OutOfMemory> {
         let (balances, amounts) = batch;
         match complete_amounts(amounts, &databases.1, ops, height)? {
-            Some(amounts) => Ok(Some((complete_balances(balances, height), amounts))),
+            Some((amounts, _)) => Ok(Some((complete_balances(balances, height), amounts))),
             None => Ok(None),
         }
     }

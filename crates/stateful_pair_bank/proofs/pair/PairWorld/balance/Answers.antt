@@ -1,6 +1,6 @@
 use Rattle.std.proofs.Common.{map, ◌∷◌}
 use Rattle.stateful_db.specs.Pair.{left}
-use Rattle.stateful_pair_bank.proofs.Pairing.{left_among}
+use Rattle.stateful_bank_logs.proofs.Pairing.{left_among}
 use Rattle.stateful_pair_bank.proofs.pair.PairWorld.balance.Goals as goal
 
 pub returns : goal.returns

@@ -1,4 +1,4 @@
-use Rattle.std.proofs.Common.{◌≡◌, map, ap}
+use Rattle.std.proofs.Common.{map}
 use Rattle.stateful_db.specs.Pair.{left, right}
 use Rattle.stateful_pair_bank.proofs.pair.PairWorld.batch_targets.Goals as goal
 

@@ -1,6 +1,6 @@
 use Rattle.std.proofs.Common.{map}
 use Rattle.stateful_db.specs.Pair.{left}
-use Rattle.stateful_pair_bank.proofs.Balancing.{holds_none}
+use Rattle.stateful_bank_logs.proofs.Balancing.{holds_none}
 use Rattle.stateful_pair_bank.proofs.pair.PairWorld.begin.Goals as goal
 
 pub returns : goal.returns

@@ -1,7 +1,0 @@
-use Rattle.std.proofs.Common.{◌∷◌, refl}
-use Rattle.stateful_pair_bank.proofs.Pairing.{among_here}
-use Rattle.stateful_pair_bank.proofs.amounts.complete_amounts.Goals as goal
-
-pub returns-in_ok-complete_here-in-Here : goal.returns-in_ok-complete_here-in-Here
-returns-in_ok-complete_here-in-Here c = λ i p chain holds at.
-    c.in_ok-complete_here-in-Here.ensures i p chain holds (among_here _ _ (p ∷ chain) (rw c.in-Here.is refl) at)

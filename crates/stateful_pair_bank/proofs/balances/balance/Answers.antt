@@ -1,7 +1,0 @@
-use Rattle.std.proofs.Common.{◌∷◌, refl}
-use Rattle.stateful_pair_bank.proofs.Pairing.{among_here}
-use Rattle.stateful_pair_bank.proofs.balances.balance.Goals as goal
-
-pub returns-in_ok-balance_here-in-Here : goal.returns-in_ok-balance_here-in-Here
-returns-in_ok-balance_here-in-Here c = λ writes i p chain holds at.
-    c.in_ok-balance_here-in-Here.ensures writes i p chain holds (among_here _ _ (p ∷ chain) (rw c.in-Here.is refl) at)

@@ -1,6 +1,0 @@
-use Rattle.stateful_pair_bank.proofs.Balancing.{holds_more}
-use Rattle.stateful_pair_bank.proofs.balances.set_balance.Goals as goal
-
-pub returns : goal.returns
-returns c = λ writes i p chain holds.
-    rw (c.in_ok-write.ensures, ← c.from.ensures, ← c.entry_of-entry.ensures) (holds_more c.args.batch i p chain writes holds c.from.result c.entry_of-entry.result)

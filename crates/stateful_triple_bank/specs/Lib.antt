@@ -1,0 +1,3 @@
+pub mod Compact
+pub mod Triple
+pub mod Following
