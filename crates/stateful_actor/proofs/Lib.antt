@@ -8,3 +8,4 @@ pub mod Reopening
 pub mod Lawfully
 pub mod Working
 pub mod MediaLonger
+pub mod NotesOfEvents
