@@ -6,7 +6,7 @@ use Rattle.stateful_processing.specs.Moments.{moment}
 use Rattle.stateful_processing.specs.declared.error.StepError.TheVariants.{OutOfMemory}
 use Rattle.stateful_whole.specs.Stands.{StandsAsWell}
 use Rattle.stateful_whole.proofs.LeftFurther.{unmoved-further}
-use Rattle.stateful_actor.proofs.Adding.{registered-longer, longer-past}
+use Rattle.stateful_actor.proofs.Adding.{registered-longer, longer-past, added}
 use Rattle.stateful_actor.proofs.MediaKept.{keeps-unchanged, keeps-left}
 use Rattle.stateful_actor.proofs.OtherErrors.{only_bad}
 use Rattle.stateful_actor.proofs.ResultsOfCalls.{on_err, if_err}
@@ -119,7 +119,7 @@ pub returns-clause-notes : goal.returns-clause-notes
 returns-clause-notes g c =
     let event : c.in_ok-kept.kept ≡ c.args.event = search rules in
     let marks : c.from_vec.result ≡ c.in_ok-marks.marks.items = search rules in
-    let longer = c.in_ok-push.ensures.items ∙ rw c.in_ok-reserve.ensures.items refl in (
+    let longer = added _ _ _ _ c.in_ok-push.ensures.items c.in_ok-reserve.ensures.items in (
       c.in_ok-marks.marks.items,
       rw (event, marks) at longer,
       λ registered observed. c.in_ok-marks.ensures.notes (after_all [] c.args.driven.now.history.items) registered observed,
