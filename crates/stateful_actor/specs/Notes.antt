@@ -40,8 +40,8 @@ module _ {N B : Type 0} (noted : N → B → N) (before now : N) where
 
 module _ {B C I P R D H G U : Type 0} (w : Workings B C I P R D H G U) where
   -- Up to this moment these marks were made. The notes become `noted` along some first ones, or
-  -- none, of the blocks of the Applied marks among them, behind the one that the application hadn't
-  -- observed before.
+  -- none, of these blocks: the one that the application hadn't observed before, and then those of
+  -- the Applied marks among them.
   pub record NotesReached {N : Type 0} (noted : N → B → N) (before now : N) (m reached : Moment w)
       : Type 0 where
     pub made : List (Mark B)

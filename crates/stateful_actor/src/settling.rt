@@ -62,8 +62,8 @@ pub(crate) fn settle<A: Application + Drop, S: BlockStore<A::Block>>(
         marks.old.items marks.new.items) }
     ensures noted { IfErr result (λ e. (e ≡ StepError.OutOfMemory → ⊥)
         → let w = ⟦<A as Worked>⟧.workings in
-        NotesSettling w (S.stored store.now) provider A.works.noted (A.notes handler.old.application)
-        (A.notes handler.new.application)
+        NotesSettling w (S.stored store.now) provider A.works.noted
+        (A.notes handler.old.application) (A.notes handler.new.application)
         (moment w (executing handler.old) processing.old
         (A.Databases.members databases.old) (A.Databases.next databases.old) marks.old.items)) }
     ensures barrier { processing.old.next_barrier ≤ processing.new.next_barrier }

@@ -363,9 +363,10 @@ impl<A: Application + Drop> Stateful<A> {
             → A.Databases.kind.count < 2 ^ 64
             → IsOutside e) }
 
-        // The notes become `noted` along the blocks of the Applied marks, in their order. As long as
-        // the machine hasn't failed the application has observed each block that was applied,
-        // before the event and after it. A restart leaves the application as it is.
+        // The notes become `noted` along the blocks of the Applied marks, in their order, whatever
+        // past the register stands for. As long as the machine hasn't failed the application has
+        // observed each block that was applied, before the event and after it. A restart leaves the
+        // application as it is.
         ensures notes { IfOk result (λ marks. (p : Past A.Block A.Context A.Input)
             → RegisterStands (numbered A.Databases.kind.count) p self.old.register
             → HasObserved self.old.failed self.old.loop.front

@@ -26,7 +26,7 @@ module _ {N B : Type 0} (noted : N → B → N) where
     pub told_are : told ++ unobserved is ≡ unobserved was ++ applied_in added
     pub notes_are : now ≡ noted_all noted before told
 
-  -- a thing that didn't go on told the application of nothing, or of the block that it hadn't
+  -- a rule that was refused told the application of nothing, or of the block that it hadn't
   -- observed yet
   abbrev pub NotesMayFollow : {G : Type 0} → (before now : N) → Option (Finalizing B G) → Type 0
   NotesMayFollow before now front =
