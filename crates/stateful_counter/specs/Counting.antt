@@ -1,13 +1,13 @@
 -- The counter's rules.
 use Rattle.std.specs.Prelude.{ℕ, ◌+◌, ◌-◌, ◌^◌, ◌==◌, not, List, Some, unwrap_or, min}
-use Rattle.stateful_types.specs.Number.{u64_format}
 use Rattle.stateful_plain.specs.Whole.{value_at, put}
+use Rattle.stateful_one_turn.specs.Blocks.{number_bytes}
 use Rattle.stateful_one_turn.specs.Rules.{Entries, Rules}
 use Rattle.stateful_counter.specs.declared.counter.Add.{Add}
 
 -- eight bytes, the highest first
 abbrev pub add_bytes : Add → List ℕ
-add_bytes added = u64_format.spelling added.0
+add_bytes added = number_bytes added.0
 
 -- the count is the entry of key 0, and 0 where there is none
 abbrev pub count_in : Entries → ℕ

@@ -1,7 +1,7 @@
 //! The counter's rules.
 
-use stateful_one_turn::{Draft, OneTurn, OneTurnApplication, Payload, PayloadBlock};
-use stateful_types::{OutOfMemory, Share, write_u64};
+use stateful_one_turn::{Draft, OneTurn, OneTurnApplication, Payload, PayloadBlock, write_number};
+use stateful_types::{OutOfMemory, Share};
 use std::alloc::Global;
 
 /// The key of the count.
@@ -23,7 +23,7 @@ impl Payload for Add {
     ghost bytes = { add_bytes };
 
     fn write(&self, out: &mut Vec<u8>) -> Result<(), OutOfMemory> {
-        write_u64(self.0, out)
+        write_number(self.0, out)
     }
 }
 

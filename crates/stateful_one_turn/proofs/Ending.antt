@@ -1,5 +1,5 @@
 -- What runs and builds end with.
-use Rattle.std.proofs.Common.{◌≡◌, ℕ, List, subst, ◌⊎◌, inl, inr, Bool, true, false, Option, None, Some, IsSomeAnd, refl, sym, ◌∙◌, if◌then◌else◌}
+use Rattle.std.proofs.Common.{◌≡◌, ℕ, List, subst, ◌⊎◌, inl, inr, Bool, true, false, Option, None, Some, IsSomeAnd, refl}
 use Rattle.stateful_types.specs.declared.outcome.Finality.{Finality}
 use Rattle.stateful_types.specs.declared.outcome.Finality.TheVariants.{Candidate, Finalized}
 use Rattle.stateful_types.specs.declared.outcome.Moved.TheVariants.{Done}

@@ -1,12 +1,16 @@
 -- What blocks say of themselves.
 use Rattle.std.specs.Prelude.{ℕ, List, ◌++◌, replicate}
 use Rattle.stateful_types.specs.Names.{Header}
-use Rattle.stateful_types.specs.Number.{height_format, location_format}
+use Rattle.stateful_types.specs.Number.{u64_format, height_format, location_format}
 use Rattle.stateful_types.specs.Round.{round_format}
 use Rattle.stateful_types.specs.Digest.{digest_format}
 use Rattle.stateful_types.specs.declared.target.Target.{Target}
 use Rattle.stateful_plain.specs.Whole.{initial, target_of}
 use Rattle.stateful_one_turn.specs.declared.block.PayloadBlock.{PayloadBlock}
+
+-- a number in eight bytes, the highest first
+unfoldable pub number_bytes : ℕ → List ℕ
+number_bytes number = u64_format.spelling number
 
 -- its root, then its start and its end
 unfoldable pub target_bytes : Target → List ℕ

@@ -15,7 +15,7 @@ use Rattle.stateful_plain.specs.Whole.{Whole, begun, target_of}
 use Rattle.stateful_plain.specs.Shown.{DraftShows}
 use Rattle.stateful_one_turn.specs.Blocks.{block_bytes}
 use Rattle.stateful_one_turn.specs.Rules.{Rules, run_outcome, one_turn_meaning}
-use Rattle.stateful_one_turn.specs.Drafts.{Place, chain_of}
+use Rattle.stateful_one_turn.specs.Drafts.{Place}
 use Rattle.stateful_one_turn.specs.declared.block.PayloadBlock.{PayloadBlock}
 use Rattle.stateful_one_turn.specs.declared.run.OneTurnRun.{OneTurnRun}
 use Rattle.stateful_one_turn.specs.declared.build.Header.{Header}

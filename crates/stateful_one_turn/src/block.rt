@@ -1,20 +1,24 @@
 //! Blocks that carry a payload.
 //!
 //! A block names its parent by digest, and commits to the state that it leads to. Its bytes are its
-//! fields, one behind the other; the payload alone may be of any width.
+//! fields, one behind the other. All but the payload have a fixed width, so where no two payloads
+//! have the same bytes no two blocks do.
 
 ghost use Rattle.std.specs.Prelude.{◌≡◌, ◌++◌, OnOk};
-ghost use Rattle.stateful_one_turn.specs.Blocks.{target_bytes, genesis_block};
+ghost use Rattle.stateful_one_turn.specs.Blocks.{number_bytes, target_bytes, genesis_block};
 
 use stateful_db::ManagedDb;
 use stateful_plain::Plain;
-use stateful_types::{Block, Digest, Epoch, Height, OutOfMemory, Round, Target, View};
+use stateful_types::{Block, Digest, Epoch, Height, OutOfMemory, Round, Target, View, write_u64};
 
 /// What a block carries beside its place in the chain.
+///
+/// The bytes of several parts, one behind the other, are an `unfoldable` definition, and `write` has
+/// the tactics of `encode` below.
 pub trait Payload {
     ghost use Rattle.std.specs.Prelude.{◌≡◌, ◌++◌, List, ℕ, OnOk};
 
-    /// Its bytes. Where they tell payloads apart, digests tell blocks apart.
+    /// Its bytes. Payloads that differ are to have different ones.
     ghost bytes: { Self → List ℕ };
 
     /// Appends its bytes.
@@ -48,6 +52,14 @@ impl<P> PayloadBlock<P> {
             target: Plain::initial_sync_target(),
         }
     }
+}
+
+/// Appends a number in eight bytes, the highest first.
+#[tactic(auto, unfolding(crate::specs::Blocks::number_bytes))]
+pub fn write_number(number: u64, out: &mut Vec<u8>) -> Result<(), OutOfMemory>
+    ensures { OnOk result (out.new.items ≡ out.old.items ++ number_bytes number) }
+{
+    write_u64(number, out)
 }
 
 /// Appends a root with its range.

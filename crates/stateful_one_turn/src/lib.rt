@@ -16,7 +16,7 @@ mod one_turn;
 mod run;
 
 pub use application::{NoHook, OneTurnApplication};
-pub use block::{Payload, PayloadBlock};
+pub use block::{Payload, PayloadBlock, write_number};
 pub use build::OneTurnBuild;
 pub use draft::Draft;
 pub use one_turn::OneTurn;

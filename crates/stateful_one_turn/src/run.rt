@@ -4,7 +4,7 @@
 //! where these aren't applied yet. Where the database has moved on to another branch the batch is
 //! stale, and nothing comes of it.
 
-ghost use Rattle.std.specs.Prelude.{◌≡◌, IfOk, IsErrOf};
+ghost use Rattle.std.specs.Prelude.{IfOk, IsErrOf};
 ghost use Rattle.stateful_plain.specs.Shown.{SealShows};
 ghost use Rattle.stateful_one_turn.specs.Rules.{run_outcome};
 ghost use Rattle.stateful_one_turn.specs.Drafts.{Place, Holds, Becomes, chain_of};

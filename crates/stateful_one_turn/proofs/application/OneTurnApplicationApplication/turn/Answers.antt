@@ -1,5 +1,4 @@
-use Rattle.std.proofs.Common.{◌≡◌, ◌∷◌, sym, refl, ap, subst, ◌∙◌}
-use Rattle.stateful_types.specs.declared.outcome.Finality.{Finality}
+use Rattle.std.proofs.Common.{◌≡◌, ◌∷◌, sym, refl, ap, ◌∙◌}
 use Rattle.stateful_db.specs.Meaning.{outcome}
 use Rattle.stateful_db.specs.Disk.{point}
 use Rattle.stateful_db.specs.Works.{block_of, run_chain}
@@ -8,7 +7,7 @@ use Rattle.stateful_plain.specs.Shown.{SealShows}
 use Rattle.stateful_plain.specs.Whole.{Whole}
 use Rattle.stateful_plain.specs.declared.batch.PlainMerkleized.{PlainMerkleized}
 use Rattle.stateful_one_turn.specs.Rules.{run_outcome, one_turn_meaning}
-use Rattle.stateful_one_turn.specs.Drafts.{Place, Becomes, chain_of}
+use Rattle.stateful_one_turn.specs.Drafts.{Place}
 use Rattle.stateful_one_turn.proofs.Ending.{here_at, outcome_of, ends_with}
 use Rattle.stateful_one_turn.proofs.application.OneTurnApplicationApplication.turn.Goals as goal
 
