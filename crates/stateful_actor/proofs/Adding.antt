@@ -30,6 +30,10 @@ events-push {B} {C} {I} history longer event marks events adds is =
     ∙ events-append history (record { event = event; marks = marks })
     ∙ ap (λ (l : List (Event B C I)). l ++ event ∷ []) is
 
+-- one more behind a list that is another one's
+pub added : {X : Type 0} (new mid old : List X) (x : X) → new ≡ mid ++ x ∷ [] → mid ≡ old → new ≡ old ++ x ∷ []
+added {X} new mid old x is same = is ∙ ap (λ (l : List X). l ++ x ∷ []) same
+
 module _ {B C I P R D H G U : Type 0} (w : Workings B C I P R D H G U) (stored : ℕ → Option (Named B)) (provider : P) (counts : Counts R D H) where
   -- one more step
   pub Steps-push : (p : Past B C I) (old mid : Moment w) (history : List (Entry B C I)) (event : Event B C I) (register : Register) (new : Moment w)

@@ -9,3 +9,5 @@ pub mod Lawfully
 pub mod Working
 pub mod MediaKept
 pub mod MediaLonger
+pub mod NotesOfEvents
+pub mod NotesLonger

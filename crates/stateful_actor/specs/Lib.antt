@@ -1,3 +1,4 @@
 pub mod Machine
 pub mod Faults
 pub mod Driving
+pub mod Notes

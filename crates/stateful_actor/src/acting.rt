@@ -10,11 +10,15 @@
 ghost use Rattle.std.specs.Prelude.{◌≡◌, ◌≤◌, [], ℕ, true, false, List, OnOk, OnErr, IfErr};
 ghost use Rattle.stateful_exec.specs.Starting.{Rises};
 ghost use Rattle.stateful_processing.specs.Moments.{executing, moment};
+ghost use Rattle.stateful_processing.specs.Noted.{unobserved};
 ghost use Rattle.stateful_processing.specs.Sound.{Sound};
 ghost use Rattle.stateful_actor.specs.Faults.{tally, FaultsStep};
+ghost use Rattle.stateful_actor.specs.Notes.{NotesAlong, NotesRefused};
+ghost use Rattle.stateful_history.specs.Past.{Past};
 ghost use Rattle.stateful_history.specs.declared.mark.Mark.{Mark as Marked};
+ghost use Rattle.stateful_register.specs.Register.{RegisterStands};
 ghost use Rattle.stateful_whole.specs.Left.{LeavesPlay};
-ghost use Rattle.stateful_whole.specs.Machine.{is_restart};
+ghost use Rattle.stateful_whole.specs.Machine.{is_restart, numbered};
 ghost use Rattle.stateful_whole.specs.Media.{LeavesRestart};
 ghost use Rattle.stateful_whole.specs.Steps.{IsStep};
 
@@ -80,6 +84,23 @@ pub(crate) fn act<A: Application + Drop, S: BlockStore<A::Block>>(
         → A.Databases.counted databases.old n ≤ A.Databases.counted databases.new n }
     ensures numbers { Rises handler.old.state handler.new.state }
     ensures application { A.count handler.old.application ≤ A.count handler.new.application }
+    ensures notes { OnOk result ((p : Past A.Block A.Context A.Input)
+        → RegisterStands (numbered A.Databases.kind.count) p register.now
+        → (is_restart event.now ≡ false → unobserved processing.old.front ≡ [])
+        → NotesAlong A.works.noted (A.notes handler.old.application)
+        (A.notes handler.new.application) marks.old.items marks.new.items) }
+    ensures observed { OnOk result (
+        (is_restart event.now ≡ false → unobserved processing.old.front ≡ [])
+        → unobserved processing.new.front ≡ []) }
+    ensures noted { IfErr result (λ e. (e ≡ StepError.OutOfMemory → ⊥)
+        → let w = ⟦<A as Worked>⟧.workings in
+        NotesRefused w (S.stored store.now) provider A.works.noted (A.notes handler.old.application)
+        (A.notes handler.new.application)
+        (record { run = A.Run.count; build = A.Build.count; hook = A.Hook.count }) event.now
+        (moment w (executing handler.old) processing.old
+        (A.Databases.members databases.old) (A.Databases.next databases.old) marks.old.items)) }
+    ensures restarted { is_restart event.now ≡ true
+        → handler.new.application ≡ handler.old.application }
     ensures barrier { processing.old.next_barrier ≤ processing.new.next_barrier }
 {
     match event {

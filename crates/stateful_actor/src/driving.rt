@@ -14,6 +14,7 @@
 
 ghost use Rattle.std.specs.Prelude.{◌≡◌, ◌<◌, ◌≤◌, ◌++◌, ◌∷◌, [], ℕ, List, Option, true, false};
 ghost use Rattle.std.specs.Prelude.{IfOk, IfErr, OnOk, OnErr, IsErrOf, length, map, take};
+ghost use Rattle.stateful_history.specs.Finalizations.{applied_in};
 ghost use Rattle.stateful_history.specs.Met.{TrueNames};
 ghost use Rattle.stateful_history.specs.Past.{Past, after_all};
 ghost use Rattle.stateful_history.specs.declared.event.Event.{Event as Happening};
@@ -25,10 +26,12 @@ ghost use Rattle.stateful_standing.specs.Setting.{setting};
 ghost use Rattle.stateful_standing.specs.Storing.{IsStoredNow};
 ghost use Rattle.stateful_keeping.specs.Media.{TargetsRise};
 ghost use Rattle.stateful_processing.specs.Moments.{moment};
+ghost use Rattle.stateful_processing.specs.Noted.{noted_all};
 ghost use Rattle.stateful_whole.specs.Entering.{Steps};
 ghost use Rattle.stateful_actor.specs.Driving.{IsRefused, RefusesRestart};
 ghost use Rattle.stateful_actor.specs.Driving.{KeepsMedia, KeepsMediaAfter};
 ghost use Rattle.stateful_actor.specs.Faults.{tally, HasNotFallen, IsCause};
+ghost use Rattle.stateful_actor.specs.Notes.{HasObserved, applied_along, NotesRefused, NotesAfter};
 ghost use Rattle.stateful_whole.specs.Left.{LeavesFurther};
 ghost use Rattle.stateful_whole.specs.Machine.{is_restart, IsSafe, IsNew, numbered};
 ghost use Rattle.stateful_whole.specs.Media.{MediaStand, StandsOnMedia};
@@ -156,6 +159,25 @@ fn enter<A: Application + Drop, S: BlockStore<A::Block>>(
         (moment w driven.old.stateful.execution driven.old.stateful.loop
         (A.Databases.members driven.old.databases) (A.Databases.next driven.old.databases) [])
         (A.Databases.members driven.new.databases)) }
+    ensures notes { OnOk result ((marks : List (Marked A.Block))
+        × (driven.new.history.items
+        ≡ driven.old.history.items ++ record { event = event; marks = marks } ∷ [])
+        × (RegisterStands (numbered A.Databases.kind.count)
+        (after_all [] driven.old.history.items) driven.old.stateful.register
+        → HasObserved driven.old.stateful.failed driven.old.stateful.loop.front
+        → A.notes driven.new.stateful.application
+        ≡ noted_all A.works.noted (A.notes driven.old.stateful.application)
+        (applied_in marks))) }
+    ensures observed { OnOk result (HasObserved driven.old.stateful.failed
+        driven.old.stateful.loop.front
+        → HasObserved driven.new.stateful.failed driven.new.stateful.loop.front) }
+    ensures noted { IfErr result (λ e. (e ≡ StepError.OutOfMemory → ⊥)
+        → let w = ⟦<A as Worked>⟧.workings in
+        NotesRefused w (S.stored store.old) driven.old.stateful.provider A.works.noted
+        (A.notes driven.old.stateful.application) (A.notes driven.new.stateful.application)
+        (record { run = A.Run.count; build = A.Build.count; hook = A.Hook.count }) event
+        (moment w driven.old.stateful.execution driven.old.stateful.loop
+        (A.Databases.members driven.old.databases) (A.Databases.next driven.old.databases) [])) }
     ensures later { HasNotFallen
         (tally (A.count driven.old.stateful.application) (A.Databases.counted driven.old.databases))
         (tally (A.count driven.new.stateful.application)
@@ -262,6 +284,24 @@ pub fn drive<A: Application + Drop, S: BlockStore<A::Block>>(
         (moment w halt.driven.stateful.execution halt.driven.stateful.loop
         (A.Databases.members halt.driven.databases)
         (A.Databases.next halt.driven.databases) [])) }
+
+    // The notes of the application are `noted` along the blocks that were applied, in their order;
+    // after a refusal for another cause than memory also along some first ones, or none, of those
+    // that the refused event applied.
+    ensures notes { IfOk result (λ driven. A.notes driven.stateful.application
+        ≡ noted_all A.works.noted (A.notes stateful.application)
+        (applied_along driven.history.items)) }
+    ensures still_noted { IfErr result (λ halt. (halt.halted.error ≡ StepError.OutOfMemory → ⊥)
+        → let w = ⟦<A as Worked>⟧.workings in
+        (event : Happening A.Block A.Context A.Input)
+        × (rest : List (Happening A.Block A.Context A.Input))
+        × (events.items ≡ map (λ entry. entry.event) halt.driven.history.items ++ event ∷ rest)
+        × NotesAfter w (S.stored store.old) stateful.provider
+        (record { run = A.Run.count; build = A.Build.count; hook = A.Hook.count })
+        A.works.noted (A.notes stateful.application) (A.notes halt.driven.stateful.application)
+        (moment w stateful.execution stateful.loop
+        (A.Databases.members databases) (A.Databases.next databases) [])
+        halt.driven.history.items event) }
 
     // The machine works at the end, and its register stands for the history; it may be called again
     // with these databases.

@@ -10,10 +10,15 @@
 ghost use Rattle.std.specs.Prelude.{◌≡◌, ◌≤◌, [], ℕ, List, OnOk, OnErr, IfErr};
 ghost use Rattle.stateful_exec.specs.Starting.{Rises};
 ghost use Rattle.stateful_processing.specs.Moments.{executing, moment};
+ghost use Rattle.stateful_processing.specs.Noted.{unobserved, NotesFollow};
 ghost use Rattle.stateful_processing.specs.Sound.{IsUp, Sound};
 ghost use Rattle.stateful_actor.specs.Faults.{tally, FaultsPlay};
+ghost use Rattle.stateful_actor.specs.Notes.{NotesAlong, NotesPlay};
+ghost use Rattle.stateful_history.specs.Past.{Past};
 ghost use Rattle.stateful_history.specs.declared.mark.Mark.{Mark as Marked};
+ghost use Rattle.stateful_register.specs.Register.{RegisterStands};
 ghost use Rattle.stateful_whole.specs.Left.{LeavesPlay};
+ghost use Rattle.stateful_whole.specs.Machine.{numbered};
 ghost use Rattle.stateful_whole.specs.Steps.{Advances, Plays};
 
 use crate::settling::settle;
@@ -70,6 +75,18 @@ fn advance<A: Application + Drop, S: BlockStore<A::Block>>(
         → A.Databases.counted databases.old n ≤ A.Databases.counted databases.new n }
     ensures numbers { Rises handler.old.state handler.new.state }
     ensures application { A.count handler.old.application ≤ A.count handler.new.application }
+    ensures notes { OnOk result (NotesFollow A.works.noted (A.notes handler.old.application)
+        (A.notes handler.new.application) processing.old.front processing.new.front
+        marks.old.items marks.new.items) }
+    ensures observed { OnOk result (unobserved processing.old.front ≡ []
+        → unobserved processing.new.front ≡ []) }
+    ensures noted { IfErr result (λ e. (e ≡ StepError.OutOfMemory → ⊥)
+        → let w = ⟦<A as Worked>⟧.workings in
+        NotesPlay w (S.stored store.now) provider A.works.noted (A.notes handler.old.application)
+        (A.notes handler.new.application)
+        (record { run = A.Run.count; build = A.Build.count; hook = A.Hook.count }) event.now
+        (moment w (executing handler.old) processing.old
+        (A.Databases.members databases.old) (A.Databases.next databases.old) marks.old.items)) }
     ensures barrier { processing.old.next_barrier ≤ processing.new.next_barrier }
 {
     take_in(handler, processing, databases, store, event, marks)?;
@@ -125,6 +142,20 @@ pub(crate) fn play<A: Application + Drop, S: BlockStore<A::Block>>(
         → A.Databases.counted databases.old n ≤ A.Databases.counted databases.new n }
     ensures numbers { Rises handler.old.state handler.new.state }
     ensures application { A.count handler.old.application ≤ A.count handler.new.application }
+    ensures notes { OnOk result ((p : Past A.Block A.Context A.Input)
+        → RegisterStands (numbered A.Databases.kind.count) p register.now
+        → unobserved processing.old.front ≡ []
+        → NotesAlong A.works.noted (A.notes handler.old.application)
+        (A.notes handler.new.application) marks.old.items marks.new.items) }
+    ensures observed { OnOk result (unobserved processing.old.front ≡ []
+        → unobserved processing.new.front ≡ []) }
+    ensures noted { IfErr result (λ e. (e ≡ StepError.OutOfMemory → ⊥)
+        → let w = ⟦<A as Worked>⟧.workings in
+        NotesPlay w (S.stored store.now) provider A.works.noted (A.notes handler.old.application)
+        (A.notes handler.new.application)
+        (record { run = A.Run.count; build = A.Build.count; hook = A.Hook.count }) event.now
+        (moment w (executing handler.old) processing.old
+        (A.Databases.members databases.old) (A.Databases.next databases.old) marks.old.items)) }
     ensures barrier { processing.old.next_barrier ≤ processing.new.next_barrier }
 {
     advance(

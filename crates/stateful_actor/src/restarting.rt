@@ -12,11 +12,15 @@
 //! words, "Stops and restarts".
 
 ghost use Rattle.std.specs.Prelude.{◌≡◌, ◌≤◌, ◌⊎◌, [], ℕ, OnOk, OnErr, IfErr};
+ghost use Rattle.stateful_history.specs.Past.{Past};
 ghost use Rattle.stateful_exec.specs.Starting.{Rises};
+ghost use Rattle.stateful_register.specs.Register.{RegisterStands};
 ghost use Rattle.stateful_processing.specs.Left.{LeavesOpening};
 ghost use Rattle.stateful_processing.specs.Moments.{executing, moment};
 ghost use Rattle.stateful_processing.specs.Opening.{FaultsOpening};
 ghost use Rattle.stateful_processing.specs.Sound.{Sound};
+ghost use Rattle.stateful_actor.specs.Notes.{NotesAlong};
+ghost use Rattle.stateful_whole.specs.Machine.{numbered};
 ghost use Rattle.stateful_whole.specs.Steps.{Restarts};
 
 use crate::stopping::end_work;
@@ -65,6 +69,10 @@ pub(crate) fn restart<A: Application + Drop, S: BlockStore<A::Block>>(
         → A.Databases.counted databases.old n ≤ A.Databases.counted databases.new n }
     ensures numbers { Rises handler.old.state handler.new.state }
     ensures application { handler.new.application ≡ handler.old.application }
+    ensures notes { OnOk result ((p : Past A.Block A.Context A.Input)
+        → RegisterStands (numbered A.Databases.kind.count) p register.now
+        → NotesAlong A.works.noted (A.notes handler.old.application)
+        (A.notes handler.new.application) marks.old.items marks.new.items) }
     ensures barrier { processing.old.next_barrier ≤ processing.new.next_barrier }
 {
     end_work::<A>(register, event, marks)?;

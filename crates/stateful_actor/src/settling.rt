@@ -3,8 +3,10 @@
 ghost use Rattle.std.specs.Prelude.{◌≡◌, ◌≤◌, ℕ, true, OnOk, OnErr, IfErr};
 ghost use Rattle.stateful_exec.specs.Starting.{Rises};
 ghost use Rattle.stateful_processing.specs.Moments.{executing, moment};
+ghost use Rattle.stateful_processing.specs.Noted.{NotesFollow};
 ghost use Rattle.stateful_processing.specs.Sound.{IsUp, Sound};
 ghost use Rattle.stateful_actor.specs.Faults.{tally, FaultsSettling};
+ghost use Rattle.stateful_actor.specs.Notes.{NotesSettling};
 ghost use Rattle.stateful_whole.specs.Left.{LeavesSettling};
 ghost use Rattle.stateful_whole.specs.Steps.{Settles};
 
@@ -55,6 +57,15 @@ pub(crate) fn settle<A: Application + Drop, S: BlockStore<A::Block>>(
         → A.Databases.counted databases.old n ≤ A.Databases.counted databases.new n }
     ensures numbers { Rises handler.old.state handler.new.state }
     ensures application { A.count handler.old.application ≤ A.count handler.new.application }
+    ensures notes { OnOk result (NotesFollow A.works.noted (A.notes handler.old.application)
+        (A.notes handler.new.application) processing.old.front processing.new.front
+        marks.old.items marks.new.items) }
+    ensures noted { IfErr result (λ e. (e ≡ StepError.OutOfMemory → ⊥)
+        → let w = ⟦<A as Worked>⟧.workings in
+        NotesSettling w (S.stored store.now) provider A.works.noted
+        (A.notes handler.old.application) (A.notes handler.new.application)
+        (moment w (executing handler.old) processing.old
+        (A.Databases.members databases.old) (A.Databases.next databases.old) marks.old.items)) }
     ensures barrier { processing.old.next_barrier ≤ processing.new.next_barrier }
 {
     'rules: while go_on(handler, processing, databases, provider, store, marks)? {}

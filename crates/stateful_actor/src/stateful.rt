@@ -4,6 +4,7 @@ ghost use Rattle.std.specs.Prelude.{◌≡◌, [], ℕ, Option, IfOk};
 ghost use Rattle.stateful_types.specs.Names.{Named};
 ghost use Rattle.stateful_processing.specs.Moments.{moment};
 ghost use Rattle.stateful_lawful.specs.Ahead.{IsAheadLawfully};
+ghost use Rattle.stateful_actor.specs.Notes.{HasObserved};
 ghost use Rattle.stateful_whole.specs.Machine.{IsNew, IsSafe};
 ghost use Rattle.stateful_whole.specs.Media.{IsAsAtStart, MediaStand};
 
@@ -115,6 +116,7 @@ impl<A: Application + Drop> Stateful<A> {
             (m : A.Databases.kind.Members)
             (n : A.Databases.Ids)
             → IsAheadLawfully w stored base [] (moment w s.execution s.loop m n [])) }
+        ensures observed { IfOk result (λ s. HasObserved s.failed s.loop.front) }
         ensures application { IfOk result (λ s. s.application ≡ config.application) }
         ensures config { IfOk result (λ s. (s.provider ≡ config.provider)
             × (s.config ≡ config.db_config)) }

@@ -18,6 +18,7 @@ ghost use Rattle.std.specs.Prelude.{◌≡◌, ◌≤◌, ◌<◌, ◌^◌, ◌�
 ghost use Rattle.std.specs.Prelude.{false, not, MatchResult, IfOk, IfErr, OnOk, OnErr, IsErrOf};
 ghost use Rattle.stateful_types.specs.Causes.{Rose};
 ghost use Rattle.stateful_types.specs.Names.{Named};
+ghost use Rattle.stateful_history.specs.Finalizations.{applied_in};
 ghost use Rattle.stateful_history.specs.Live.{may_come};
 ghost use Rattle.stateful_history.specs.Met.{TrueNames};
 ghost use Rattle.stateful_history.specs.Opening.{is_down, base_after};
@@ -30,12 +31,14 @@ ghost use Rattle.stateful_standing.specs.Setting.{setting};
 ghost use Rattle.stateful_standing.specs.Storing.{IsStoredNow};
 ghost use Rattle.stateful_keeping.specs.Media.{TargetsRise};
 ghost use Rattle.stateful_processing.specs.Moments.{moment};
+ghost use Rattle.stateful_processing.specs.Noted.{noted_all};
 ghost use Rattle.stateful_lawful.specs.Ahead.{IsAheadLawfully};
 ghost use Rattle.stateful_lawful.specs.Completeness.{ComesLawfully};
 ghost use Rattle.stateful_lawful.specs.Outside.{IsOutside};
 ghost use Rattle.stateful_lawful.specs.Restarting.{RestartsLawfully};
 ghost use Rattle.stateful_actor.specs.Faults.{tally, IsCause};
 ghost use Rattle.stateful_actor.specs.Machine.{faults_after};
+ghost use Rattle.stateful_actor.specs.Notes.{HasObserved, NotesRefused};
 ghost use Rattle.stateful_whole.specs.Left.{LeavesFurther};
 ghost use Rattle.stateful_whole.specs.Machine.{IsSafe, numbered, is_restart};
 ghost use Rattle.stateful_whole.specs.Media.{MediaStand, StandsOnMedia, TargetsName, OpensOn};
@@ -359,6 +362,30 @@ impl<A: Application + Drop> Stateful<A> {
             → is_restart event ≡ false
             → A.Databases.kind.count < 2 ^ 64
             → IsOutside e) }
+
+        // The notes become `noted` along the blocks of the Applied marks, in their order, whatever
+        // past the register stands for. As long as the machine hasn't failed the application has
+        // observed each block that was applied, before the event and after it. A restart leaves the
+        // application as it is.
+        ensures notes { IfOk result (λ marks. (p : Past A.Block A.Context A.Input)
+            → RegisterStands (numbered A.Databases.kind.count) p self.old.register
+            → HasObserved self.old.failed self.old.loop.front
+            → A.notes self.new.application
+            ≡ noted_all A.works.noted (A.notes self.old.application) (applied_in marks.items)) }
+        ensures observed { HasObserved self.old.failed self.old.loop.front
+            → HasObserved self.new.failed self.new.loop.front }
+        ensures restarted { is_restart event ≡ true
+            → self.new.application ≡ self.old.application }
+
+        // After a refusal for another cause than memory they are `noted` along some first ones, or
+        // none, of the blocks that the event applied.
+        ensures noted { IfErr result (λ e. (e ≡ StepError.OutOfMemory → ⊥)
+            → let w = ⟦<A as Worked>⟧.workings in
+            NotesRefused w (S.stored store.old) self.old.provider A.works.noted
+            (A.notes self.old.application) (A.notes self.new.application)
+            (record { run = A.Run.count; build = A.Build.count; hook = A.Hook.count }) event
+            (moment w self.old.execution self.old.loop (A.Databases.members databases.old)
+            (A.Databases.next databases.old) [])) }
 
         // Counts of faults and numbers never fall, and the store, the provider and the
         // configuration stay.

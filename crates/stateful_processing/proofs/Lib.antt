@@ -28,3 +28,6 @@ pub mod Finalizations
 pub mod Fronts
 pub mod Idles
 pub mod Collected
+pub mod AppliedMarks
+pub mod Observing
+pub mod NotesFollowing

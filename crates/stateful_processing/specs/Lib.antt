@@ -10,3 +10,4 @@ pub mod Opening
 pub mod Intake
 pub mod Causes
 pub mod Left
+pub mod Noted

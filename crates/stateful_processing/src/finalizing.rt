@@ -15,7 +15,7 @@
 
 ghost use Rattle.std.specs.Prelude.{◌≡◌, ◌≢◌, ◌<◌, ◌≤◌, ◌∷◌, ◌++◌, ◌⊎◌, [], ℕ, Bool, true, false};
 ghost use Rattle.std.specs.Prelude.{Option, Some, None, List, OnOk, OnErr, IfOk, IfErr, All};
-ghost use Rattle.std.specs.Prelude.{length};
+ghost use Rattle.std.specs.Prelude.{length, IsErrOf};
 ghost use Rattle.stateful_types.specs.Causes.{Rose};
 ghost use Rattle.stateful_types.specs.Names.{Named};
 ghost use Rattle.stateful_exec.specs.Causes.{FaultsStart};
@@ -27,6 +27,7 @@ ghost use Rattle.stateful_processing.specs.Causes.{Via, FaultsApply, FaultsRule}
 ghost use Rattle.stateful_processing.specs.Left.{KeepsStates, LeavesApply, LeavesRule};
 ghost use Rattle.stateful_exec.specs.Moments as exec;
 ghost use Rattle.stateful_processing.specs.Moments.{executing, moment};
+ghost use Rattle.stateful_processing.specs.Noted.{NotesFollow, NotesMayFollow};
 ghost use Rattle.stateful_processing.specs.declared.tables.Processing.{Processing as Kept};
 ghost use Rattle.stateful_processing.specs.Reached.{reached_by};
 ghost use Rattle.stateful_processing.specs.Rules.{BeginsFinalization, RunsFinalized, AppliesBlock};
@@ -62,6 +63,7 @@ pub(crate) fn begin_finalization<A: Application + Drop>(
         ⊎ Via (FaultsBegin A.Block.header handler.old.state.anchor block) e) }
     ensures numbers { Rises handler.old.state handler.new.state }
     ensures application { A.count handler.old.application ≤ A.count handler.new.application }
+    ensures notes { A.notes handler.new.application ≡ A.notes handler.old.application }
     ensures barrier { processing.old.next_barrier ≤ processing.new.next_barrier }
 {
     handler.begin(&block)?;
@@ -104,6 +106,8 @@ fn run<A: Application + Drop>(
         → A.Databases.counted databases.old n ≤ A.Databases.counted databases.new n }
     ensures numbers { Rises handler.old.state handler.new.state }
     ensures application { A.count handler.old.application ≤ A.count handler.new.application }
+    ensures notes { (IsErrOf result StepError.OutOfMemory → ⊥)
+        → A.notes handler.new.application ≡ A.notes handler.old.application }
 {
     handler.run_finalized(databases, block, marks)?;
     Ok(())
@@ -141,6 +145,8 @@ fn apply<A: Application + Drop>(
         → A.Databases.counted databases.old n ≤ A.Databases.counted databases.new n }
     ensures numbers { Rises handler.old.state handler.new.state }
     ensures application { A.count handler.old.application ≤ A.count handler.new.application }
+    ensures notes { (IsErrOf result StepError.OutOfMemory → ⊥)
+        → A.notes handler.new.application ≡ A.notes handler.old.application }
     ensures barrier { processing.old.next_barrier ≤ processing.new.next_barrier }
 {
     let Finalizing {
@@ -187,6 +193,12 @@ fn observe<A: Application + Drop>(
         (A.Databases.members databases.now) handler.old.state.next_job)) }
     ensures numbers { Rises handler.old.state handler.new.state }
     ensures application { A.count handler.old.application ≤ A.count handler.new.application }
+    ensures notes { OnOk result (A.notes handler.new.application
+        ≡ A.works.noted (A.notes handler.old.application) block.block) }
+    ensures noted { IfErr result (λ e. (e ≡ StepError.OutOfMemory → ⊥)
+        → (A.notes handler.new.application ≡ A.notes handler.old.application)
+        ⊎ (A.notes handler.new.application
+        ≡ A.works.noted (A.notes handler.old.application) block.block)) }
     ensures barrier { processing.old.next_barrier ≤ processing.new.next_barrier }
 {
     handler.hook(databases, &block, captured, marks)?;
@@ -234,6 +246,8 @@ fn end_finalization<A: Application + Drop, S: BlockStore<A::Block>>(
         → A.Databases.counted databases.old n ≤ A.Databases.counted databases.new n }
     ensures numbers { Rises handler.old.state handler.new.state }
     ensures application { A.count handler.old.application ≤ A.count handler.new.application }
+    ensures notes { (IsErrOf result StepError.OutOfMemory → ⊥)
+        → A.notes handler.new.application ≡ A.notes handler.old.application }
     ensures barrier { processing.old.next_barrier ≤ processing.new.next_barrier }
 {
     handler.drop_root();
@@ -299,6 +313,11 @@ fn run_or_apply<A: Application + Drop>(
         → A.Databases.counted databases.old n ≤ A.Databases.counted databases.new n }
     ensures numbers { Rises handler.old.state handler.new.state }
     ensures application { A.count handler.old.application ≤ A.count handler.new.application }
+    ensures notes { OnOk result (NotesFollow A.works.noted (A.notes handler.old.application)
+        (A.notes handler.new.application) (Some front) processing.new.front
+        marks.old.items marks.new.items) }
+    ensures noted { IfErr result (λ e. (e ≡ StepError.OutOfMemory → ⊥)
+        → A.notes handler.new.application ≡ A.notes handler.old.application) }
     ensures barrier { processing.old.next_barrier ≤ processing.new.next_barrier }
 {
     if handler.cached(&front.block.digest()) {
@@ -353,6 +372,12 @@ fn go_on_advanced<A: Application + Drop, S: BlockStore<A::Block>>(
         → A.Databases.counted databases.old n ≤ A.Databases.counted databases.new n }
     ensures numbers { Rises handler.old.state handler.new.state }
     ensures application { A.count handler.old.application ≤ A.count handler.new.application }
+    ensures notes { OnOk result (NotesFollow A.works.noted (A.notes handler.old.application)
+        (A.notes handler.new.application) (Some front) processing.new.front
+        marks.old.items marks.new.items) }
+    ensures noted { IfErr result (λ e. (e ≡ StepError.OutOfMemory → ⊥)
+        → NotesMayFollow A.works.noted (A.notes handler.old.application)
+        (A.notes handler.new.application) (Some front)) }
     ensures barrier { processing.old.next_barrier ≤ processing.new.next_barrier }
 {
     let Finalizing {
@@ -422,6 +447,12 @@ pub(crate) fn go_on_finalizing<A: Application + Drop, S: BlockStore<A::Block>>(
         → A.Databases.counted databases.old n ≤ A.Databases.counted databases.new n }
     ensures numbers { Rises handler.old.state handler.new.state }
     ensures application { A.count handler.old.application ≤ A.count handler.new.application }
+    ensures notes { OnOk result (NotesFollow A.works.noted (A.notes handler.old.application)
+        (A.notes handler.new.application) (Some front) processing.new.front
+        marks.old.items marks.new.items) }
+    ensures noted { IfErr result (λ e. (e ≡ StepError.OutOfMemory → ⊥)
+        → NotesMayFollow A.works.noted (A.notes handler.old.application)
+        (A.notes handler.new.application) (Some front)) }
     ensures barrier { processing.old.next_barrier ≤ processing.new.next_barrier }
 {
     match progress_of(handler) {

@@ -15,13 +15,14 @@
 //! the guards, and docs/RULES.md says them in words under this title.
 
 ghost use Rattle.std.specs.Prelude.{◌≡◌, ◌≢◌, ◌<◌, ◌≤◌, ◌∷◌, ◌++◌, ◌⊎◌, [], ℕ, Bool, true, false};
-ghost use Rattle.std.specs.Prelude.{Option, Some, None, List, OnOk, OnErr, IfOk, IfErr};
+ghost use Rattle.std.specs.Prelude.{Option, Some, None, List, OnOk, OnErr, IfOk, IfErr, IsErrOf};
 ghost use Rattle.stateful_types.specs.Causes.{Rose};
 ghost use Rattle.stateful_history.specs.declared.mark.Mark.TheVariants as mark;
 ghost use Rattle.stateful_exec.specs.Starting.{Rises};
 ghost use Rattle.stateful_processing.specs.Causes.{FaultsRule};
 ghost use Rattle.stateful_processing.specs.Left.{KeepsStates, LeavesRule};
 ghost use Rattle.stateful_processing.specs.Moments.{executing, moment};
+ghost use Rattle.stateful_processing.specs.Noted.{NotesFollow, NotesMayFollow};
 ghost use Rattle.stateful_processing.specs.Rules.{IsIdle, Collects, Goes};
 ghost use Rattle.stateful_processing.specs.Sound.{IsUp, Sound};
 
@@ -95,6 +96,8 @@ fn go_on_idle<A: Application + Drop, S: BlockStore<A::Block>>(
         → A.Databases.counted databases.old n ≤ A.Databases.counted databases.new n }
     ensures numbers { Rises handler.old.state handler.new.state }
     ensures application { A.count handler.old.application ≤ A.count handler.new.application }
+    ensures notes { (IsErrOf result StepError.OutOfMemory → ⊥)
+        → A.notes handler.new.application ≡ A.notes handler.old.application }
     ensures barrier { processing.old.next_barrier ≤ processing.new.next_barrier }
 {
     if let Some((number, height)) = processing.barriers.broken() {
@@ -182,6 +185,12 @@ pub fn go_on<A: Application + Drop, S: BlockStore<A::Block>>(
         → A.Databases.counted databases.old n ≤ A.Databases.counted databases.new n }
     ensures numbers { Rises handler.old.state handler.new.state }
     ensures application { A.count handler.old.application ≤ A.count handler.new.application }
+    ensures notes { OnOk result (NotesFollow A.works.noted (A.notes handler.old.application)
+        (A.notes handler.new.application) processing.old.front processing.new.front
+        marks.old.items marks.new.items) }
+    ensures noted { IfErr result (λ e. (e ≡ StepError.OutOfMemory → ⊥)
+        → NotesMayFollow A.works.noted (A.notes handler.old.application)
+        (A.notes handler.new.application) processing.old.front) }
     ensures barrier { processing.old.next_barrier ≤ processing.new.next_barrier }
 {
     if !processing.up {

@@ -14,7 +14,7 @@
 
 ghost use Rattle.std.specs.Prelude.{◌≡◌, ◌≢◌, ◌<◌, ◌≤◌, ◌∷◌, ◌++◌, ◌⊎◌, [], ℕ, Bool, true, false};
 ghost use Rattle.std.specs.Prelude.{not, filter, Option, Some, None, List, OnOk, OnErr, IfOk};
-ghost use Rattle.std.specs.Prelude.{IfErr, IsTrue, ◌↔◌, Contains, option_and_then, IsSome};
+ghost use Rattle.std.specs.Prelude.{IfErr, IsErrOf, IsTrue, ◌↔◌, Contains, option_and_then, IsSome};
 ghost use Rattle.std.specs.Option.{ForSome};
 ghost use Rattle.stateful_types.specs.Causes.{Rose};
 ghost use Rattle.stateful_types.specs.Names.{Named};
@@ -111,6 +111,7 @@ fn cancel<A: Application + Drop>(
     ensures memory { IfErr result (λ e. e ≡ StepError.OutOfMemory) }
     ensures numbers { Rises handler.old.state handler.new.state }
     ensures application { A.count handler.old.application ≤ A.count handler.new.application }
+    ensures notes { A.notes handler.new.application ≡ A.notes handler.old.application }
     ensures barrier { processing.old.next_barrier ≤ processing.new.next_barrier }
 {
     processing.queue.give_up(ticket);
@@ -182,6 +183,8 @@ fn turn<A: Application + Drop>(
         → A.Databases.counted databases.old n ≤ A.Databases.counted databases.new n }
     ensures numbers { Rises handler.old.state handler.new.state }
     ensures application { A.count handler.old.application ≤ A.count handler.new.application }
+    ensures notes { (IsErrOf result StepError.OutOfMemory → ⊥)
+        → A.notes handler.new.application ≡ A.notes handler.old.application }
 {
     if builds(handler, job) {
         handler.turn_build(databases, job, marks)?;
@@ -230,6 +233,8 @@ pub fn take_in<A: Application + Drop, S: BlockStore<A::Block>>(
         → A.Databases.counted databases.old n ≤ A.Databases.counted databases.new n }
     ensures numbers { Rises handler.old.state handler.new.state }
     ensures application { A.count handler.old.application ≤ A.count handler.new.application }
+    ensures notes { (IsErrOf result StepError.OutOfMemory → ⊥)
+        → A.notes handler.new.application ≡ A.notes handler.old.application }
     ensures barrier { processing.old.next_barrier ≤ processing.new.next_barrier }
 {
     match event {

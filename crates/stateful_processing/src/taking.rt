@@ -15,7 +15,7 @@
 
 ghost use Rattle.std.specs.Prelude.{◌≡◌, ◌≢◌, ◌<◌, ◌≤◌, ◌∷◌, ◌++◌, ◌⊎◌, [], ℕ, Bool, true, false};
 ghost use Rattle.std.specs.Prelude.{Option, Some, None, List, OnOk, OnErr, IfOk, IfErr, IfSome};
-ghost use Rattle.std.specs.Prelude.{IsSome, Any, All};
+ghost use Rattle.std.specs.Prelude.{IsSome, Any, All, IsErrOf};
 ghost use Rattle.stateful_types.specs.Causes.{Rose};
 ghost use Rattle.stateful_types.specs.Names.{Named};
 ghost use Rattle.stateful_exec.specs.Building.{FaultsPropose};
@@ -68,6 +68,8 @@ pub(crate) fn schedule<A: Application + Drop, S: BlockStore<A::Block>>(
         → A.Databases.counted databases.old n ≤ A.Databases.counted databases.new n }
     ensures numbers { Rises handler.old.state handler.new.state }
     ensures application { A.count handler.old.application ≤ A.count handler.new.application }
+    ensures notes { (IsErrOf result StepError.OutOfMemory → ⊥)
+        → A.notes handler.new.application ≡ A.notes handler.old.application }
 {
     handler.schedule(databases, store, request, marks)?;
     Ok(())
@@ -101,6 +103,8 @@ fn build<A: Application + Drop>(
         → A.Databases.counted databases.old n ≤ A.Databases.counted databases.new n }
     ensures numbers { Rises handler.old.state handler.new.state }
     ensures application { A.count handler.old.application ≤ A.count handler.new.application }
+    ensures notes { (IsErrOf result StepError.OutOfMemory → ⊥)
+        → A.notes handler.new.application ≡ A.notes handler.old.application }
 {
     let started = handler.propose(ticket, databases, provider)?;
     match started {
@@ -184,6 +188,8 @@ fn take_message<A: Application + Drop, S: BlockStore<A::Block>>(
         → A.Databases.counted databases.old n ≤ A.Databases.counted databases.new n }
     ensures numbers { Rises handler.old.state handler.new.state }
     ensures application { A.count handler.old.application ≤ A.count handler.new.application }
+    ensures notes { (IsErrOf result StepError.OutOfMemory → ⊥)
+        → A.notes handler.new.application ≡ A.notes handler.old.application }
     ensures barrier { processing.old.next_barrier ≤ processing.new.next_barrier }
 {
     match message {
@@ -238,6 +244,8 @@ pub(crate) fn take_first<A: Application + Drop, S: BlockStore<A::Block>>(
         → A.Databases.counted databases.old n ≤ A.Databases.counted databases.new n }
     ensures numbers { Rises handler.old.state handler.new.state }
     ensures application { A.count handler.old.application ≤ A.count handler.new.application }
+    ensures notes { (IsErrOf result StepError.OutOfMemory → ⊥)
+        → A.notes handler.new.application ≡ A.notes handler.old.application }
     ensures barrier { processing.old.next_barrier ≤ processing.new.next_barrier }
 {
     if let Some(action) = processing.actions.pop() {
@@ -292,6 +300,8 @@ pub(crate) fn drain_first<A: Application + Drop, S: BlockStore<A::Block>>(
         → A.Databases.counted databases.old n ≤ A.Databases.counted databases.new n }
     ensures numbers { Rises handler.old.state handler.new.state }
     ensures application { A.count handler.old.application ≤ A.count handler.new.application }
+    ensures notes { (IsErrOf result StepError.OutOfMemory → ⊥)
+        → A.notes handler.new.application ≡ A.notes handler.old.application }
     ensures barrier { processing.old.next_barrier ≤ processing.new.next_barrier }
 {
     let Some(message) = processing.queue.pop() else {

@@ -1,4 +1,4 @@
-use Rattle.std.proofs.Common.{[], Bool, false, refl, sym, ◌∙◌, subst}
+use Rattle.std.proofs.Common.{[], Bool, false, refl, sym, ap, ◌∙◌, subst}
 use Rattle.stateful_history.specs.Met.{TrueNames}
 use Rattle.stateful_history.specs.Past.{after_all}
 use Rattle.stateful_history.specs.Honest.{HasHonestStore}
@@ -13,10 +13,13 @@ use Rattle.stateful_processing.specs.Moments.{moment}
 use Rattle.stateful_whole.specs.Stands.{Stands}
 use Rattle.stateful_whole.proofs.HistoryStands.{EachStands-constant, history-registered, history-leaves}
 use Rattle.stateful_whole.proofs.RefusedBehind.{leaves-behind}
+use Rattle.stateful_processing.specs.Noted.{noted_all, unobserved}
 use Rattle.stateful_actor.specs.Faults.{tally}
+use Rattle.stateful_actor.specs.Notes.{applied_along, NotesRefused}
 use Rattle.stateful_actor.proofs.Adding.{event_at, events-push, longer-past, Steps-push}
 use Rattle.stateful_actor.proofs.Lawfully.{refused-outside}
 use Rattle.stateful_actor.proofs.MediaLonger.{media-longer, keeps-after}
+use Rattle.stateful_actor.proofs.NotesLonger.{notes-longer}
 use Rattle.stateful_actor.proofs.Working.{never, cause-not_failed}
 use Rattle.stateful_actor.proofs.Counts.{HasNotFallen-itself, HasNotFallen-further}
 use Rattle.stateful_actor.proofs.driving.drive.Goals as goal
@@ -35,6 +38,8 @@ loop-event-init g c = record {
   store = refl;
   provider = refl;
   working = c.requires.new.working;
+  notes = rw c.new.ensures.items refl;
+  observed = λ works. ap (λ front. unobserved front) c.requires.new.nothing.2;
   later = HasNotFallen-itself _;
 }
 
@@ -87,6 +92,11 @@ loop-event-preserved g c =
       store = c.in-Ok.ensures.same.0 ∙ i.store;
       provider = c.in-Ok.ensures.same.1 ∙ i.provider;
       working = c.in-Ok.ensures.works;
+      notes = let noted = c.in-Ok.ensures.notes in
+          notes-longer g.A.Application.works.noted (g.A.Application.notes c.args.stateful.application) (g.A.Application.notes was.stateful.application)
+          (g.A.Application.notes now.stateful.application) was.history.items now.history.items c.in-Some.event noted.0 noted.1 i.notes
+          (noted.2 i.registered i.observed);
+      observed = c.in-Ok.ensures.observed i.observed;
       later = HasNotFallen-further _ _ _ i.later c.in-Ok.ensures.later;
     }
 
@@ -191,4 +201,29 @@ returns-in-Err-clause-still_media g c =
           c.in-Some.event was.stateful.failed now.stateful.failed
           (moment w now.stateful.execution now.stateful.loop (D.members now.databases) (D.next now.databases) [])
           i.working (rw (i.store, i.provider) at c.in-Err.ensures.tried) i.media),
+    )
+
+pub returns-clause-notes : goal.returns-clause-notes
+returns-clause-notes g c = c.loop-event.invariant.notes
+
+pub returns-in-Err-clause-still_noted : goal.returns-in-Err-clause-still_noted
+returns-in-Err-clause-still_noted g c =
+    let D = g.A.Databases.DatabaseSet in
+    let w = workings g.A.Block.Block.header g.A.Block.Block.context_of g.A.Context.Rounded.round_of g.A.Application.works D.kind D.shows in
+    let i = c.loop-event.invariant in
+    let was = c.loop-event.driven in
+    let now = c.enter.new.driven in
+    let old = moment w was.stateful.execution was.stateful.loop (D.members was.databases) (D.next was.databases) [] in
+    λ other. (
+      c.in-Some.event,
+      c.next.new.self.rest.items,
+      rw c.in-Err.ensures.err (event_at c.loop-event.yielded _ _ _ _ _ i.all c.in-Some.ensures.steps.0 i.events),
+      rw c.in-Err.ensures.err (record {
+        old = old;
+        steps = i.steps;
+        refused = subst (λ n. NotesRefused w (g.S.BlockStore.stored c.args.store.now) c.args.stateful.provider g.A.Application.works.noted n
+            (g.A.Application.notes now.stateful.application)
+            (record { run = g.A.Run.Faulty.count; build = g.A.Build.Faulty.count; hook = g.A.Hook.Faulty.count }) c.in-Some.event old) i.notes
+            ((rw (i.store, i.provider) at c.in-Err.ensures.noted) other);
+      }),
     )

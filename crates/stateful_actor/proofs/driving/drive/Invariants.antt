@@ -7,8 +7,10 @@ use Rattle.stateful_keeping.specs.Media.{TargetsRise}
 use Rattle.stateful_register.specs.Register.{RegisterStands}
 use Rattle.stateful_exec.specs.Workings.{workings}
 use Rattle.stateful_processing.specs.Moments.{moment}
+use Rattle.stateful_processing.specs.Noted.{noted_all}
 use Rattle.stateful_whole.specs.Entering.{Steps}
 use Rattle.stateful_actor.specs.Faults.{tally, HasNotFallen}
+use Rattle.stateful_actor.specs.Notes.{HasObserved, applied_along}
 use Rattle.stateful_whole.specs.Machine.{IsSafe, numbered}
 use Rattle.stateful_whole.specs.Media.{MediaStand}
 use Rattle.stateful_actor.proofs.driving.drive.Given as goal
@@ -39,6 +41,9 @@ invariant-loop-event g l =
       store : l.store ≡ l.fn.store;
       provider : l.driven.stateful.provider ≡ l.fn.stateful.provider;
       working : l.driven.stateful.failed ≡ false;
+      notes : g.A.Application.notes l.driven.stateful.application
+          ≡ noted_all g.A.Application.works.noted (g.A.Application.notes l.fn.stateful.application) (applied_along l.driven.history.items);
+      observed : HasObserved l.driven.stateful.failed l.driven.stateful.loop.front;
       later : HasNotFallen (tally (g.A.Faulty.count l.fn.stateful.application) (D.counted l.fn.databases))
           (tally (g.A.Faulty.count l.driven.stateful.application) (D.counted l.driven.databases));
     }

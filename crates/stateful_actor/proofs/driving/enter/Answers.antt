@@ -6,7 +6,7 @@ use Rattle.stateful_processing.specs.Moments.{moment}
 use Rattle.stateful_processing.specs.declared.error.StepError.TheVariants.{OutOfMemory}
 use Rattle.stateful_whole.specs.Stands.{StandsAsWell}
 use Rattle.stateful_whole.proofs.LeftFurther.{unmoved-further}
-use Rattle.stateful_actor.proofs.Adding.{registered-longer, longer-past}
+use Rattle.stateful_actor.proofs.Adding.{registered-longer, longer-past, added}
 use Rattle.stateful_actor.proofs.MediaKept.{keeps-unchanged, keeps-left}
 use Rattle.stateful_actor.proofs.OtherErrors.{only_bad}
 use Rattle.stateful_actor.proofs.ResultsOfCalls.{on_err, if_err}
@@ -114,3 +114,30 @@ returns-in_err-marks-clause-tried g c =
     let D = g.A.Databases.DatabaseSet in
     let w = workings g.A.Block.Block.header g.A.Block.Block.context_of g.A.Context.Rounded.round_of g.A.Application.works D.kind D.shows in
     on_err _ (keeps-left w (g.S.BlockStore.stored c.args.store.now) _ _ c.args.event _ _ _ _ _ _ c.in_err-marks.ensures.tried)
+
+pub returns-clause-notes : goal.returns-clause-notes
+returns-clause-notes g c =
+    let event : c.in_ok-kept.kept ≡ c.args.event = search rules in
+    let marks : c.from_vec.result ≡ c.in_ok-marks.marks.items = search rules in
+    let longer = added _ _ _ _ c.in_ok-push.ensures.items c.in_ok-reserve.ensures.items in (
+      c.in_ok-marks.marks.items,
+      rw (event, marks) at longer,
+      λ registered observed. c.in_ok-marks.ensures.notes (after_all [] c.args.driven.now.history.items) registered observed,
+    )
+
+pub returns-in_err-reserve-clause-noted : goal.returns-in_err-reserve-clause-noted
+returns-in_err-reserve-clause-noted g c =
+    converted _ c.from_residual.result OutOfMemory c.from_residual.ensures.1 (λ other. absurd (other refl))
+
+pub returns-in_err-kept-clause-noted : goal.returns-in_err-kept-clause-noted
+returns-in_err-kept-clause-noted g c =
+    converted _ c.from_residual-in_err-kept.result OutOfMemory c.from_residual-in_err-kept.ensures.1 (λ other. absurd (other refl))
+
+pub returns-in_err-marks-clause-noted : goal.returns-in_err-marks-clause-noted
+returns-in_err-marks-clause-noted g c =
+    converted _ c.from_residual-in_err-marks.result c.in_err-marks.field-0.0 c.from_residual-in_err-marks.ensures.1
+    (λ other. c.in_err-marks.ensures.noted other)
+
+pub returns-in_err-push-clause-noted : goal.returns-in_err-push-clause-noted
+returns-in_err-push-clause-noted g c =
+    converted _ c.from_residual-in_err-push.result OutOfMemory c.from_residual-in_err-push.ensures.1 (λ other. absurd (other refl))

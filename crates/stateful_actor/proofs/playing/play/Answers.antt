@@ -1,4 +1,4 @@
-use Rattle.std.proofs.Common.{inl, inr, refl, arith}
+use Rattle.std.proofs.Common.{inl, inr, refl, arith, ap}
 use Rattle.stateful_exec.specs.Workings.{workings}
 use Rattle.stateful_processing.specs.Left.{keeps}
 use Rattle.stateful_processing.specs.Moments.{executing, moment}
@@ -7,6 +7,9 @@ use Rattle.stateful_processing.proofs.Leaving.{keeps_same}
 use Rattle.stateful_processing.proofs.SoundingOpenings.{cleared_sound}
 use Rattle.stateful_whole.specs.Left.{going}
 use Rattle.stateful_actor.proofs.OtherErrors.{play_other}
+use Rattle.stateful_actor.proofs.NotesOfEvents.{ends_none, follow_along, NotesAlong-further, NotesAlong-same}
+use Rattle.stateful_processing.proofs.AppliedMarks.{AppliesNone-made, AppliesNone-then}
+use Rattle.stateful_processing.specs.Noted.{unobserved}
 use Rattle.stateful_actor.proofs.playing.play.Goals as goal
 
 pub returns-in_err-advance-clause-other : goal.returns-in_err-advance-clause-other
@@ -79,3 +82,33 @@ returns-in_err-stop-clause-left g c =
         left = keeps (keeps_same w _ _ refl);
       }),
     )
+
+pub returns-in_err-advance-clause-noted : goal.returns-in_err-advance-clause-noted
+returns-in_err-advance-clause-noted g c =
+    converted _ c.from_residual.result c.in_err-advance.field-0.0 c.from_residual.ensures.1 c.in_err-advance.ensures.noted
+
+pub returns-in_err-stop-clause-noted : goal.returns-in_err-stop-clause-noted
+returns-in_err-stop-clause-noted g c =
+    converted _ c.from_residual-in_err-stop.result c.in_err-stop.field-0.0 c.from_residual-in_err-stop.ensures.1
+    (λ other. absurd (other c.in_err-stop.ensures.memory.0))
+
+pub returns-in_ok-stop-clause-notes : goal.returns-in_ok-stop-clause-notes
+returns-in_ok-stop-clause-notes g c =
+    λ p stands none.
+    let before = g.A.Application.notes c.args.handler.now.application in
+    let mid = g.A.Application.notes c.advance.new.handler.application in
+    let along = follow_along g.A.Application.works.noted before mid _ _ _ _ c.in_ok-advance.ensures.notes none (c.in_ok-advance.ensures.observed none) in
+    let work = c.in_ok-stop.ensures.work in
+    NotesAlong-same g.A.Application.works.noted g.A.Application.notes before c.advance.new.handler.application c.stop.new.handler.application _ _ c.in_ok-stop.ensures.application
+    (NotesAlong-further g.A.Application.works.noted before mid _ _ _ along
+    (AppliesNone-then _ work.0 _ (ends_none g.A.Databases.DatabaseSet.kind.count c.args.register.now c.args.event.now _ _ p stands work.1)
+    (AppliesNone-made _ _ _ work.2 refl)))
+
+pub returns-in_ok-stop-clause-observed : goal.returns-in_ok-stop-clause-observed
+returns-in_ok-stop-clause-observed g c =
+    let D = g.A.Databases.DatabaseSet in
+    λ none. ap unobserved (c.in_ok-stop.ensures.cleared (D.members c.advance.new.databases) (D.next c.advance.new.databases) c.stop.new.marks.items).front.0
+
+pub returns-else-not-processing-clause-notes : goal.returns-else-not-processing-clause-notes
+returns-else-not-processing-clause-notes g c =
+    λ p stands none. follow_along g.A.Application.works.noted _ _ _ _ _ _ c.in_ok-advance.ensures.notes none (c.in_ok-advance.ensures.observed none)

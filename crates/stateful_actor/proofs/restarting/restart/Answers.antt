@@ -1,8 +1,10 @@
-use Rattle.std.proofs.Common.{[], inr, arith}
+use Rattle.std.proofs.Common.{[], inr, arith, refl, ap, ◌∙◌}
 use Rattle.stateful_exec.specs.Workings.{workings}
 use Rattle.stateful_processing.specs.Moments.{executing, moment}
 use Rattle.stateful_processing.proofs.Handing.{err_holds}
 use Rattle.stateful_processing.proofs.SoundingOpenings.{opens_sound}
+use Rattle.stateful_actor.proofs.NotesOfEvents.{ends_none, NotesAlong-none}
+use Rattle.stateful_processing.proofs.AppliedMarks.{AppliesNone-made, AppliesNone-then}
 use Rattle.stateful_actor.proofs.restarting.restart.Goals as goal
 
 pub returns-in_err-open-clause-numbers : goal.returns-in_err-open-clause-numbers
@@ -55,3 +57,12 @@ returns-clause-barrier g c =
 
 pub returns-in_err-open-clause-left : goal.returns-in_err-open-clause-left
 returns-in_err-open-clause-left g c = err_holds c.from_residual-in_err-open.result (inr c.in_err-open.ensures.left)
+
+pub returns-clause-notes : goal.returns-clause-notes
+returns-clause-notes g c =
+    λ p stands.
+    NotesAlong-none g.A.Application.works.noted _ _ _ _
+    (AppliesNone-then _ c.end_work.new.marks.items _
+    (ends_none g.A.Databases.DatabaseSet.kind.count c.args.register.now c.args.event.now _ _ p stands c.in_ok-end_work.ensures)
+    (AppliesNone-made _ _ _ c.in_ok-open.ensures.ok.marks refl))
+    (ap g.A.Application.notes (c.in_ok-open.ensures.application ∙ c.clear.ensures.application))

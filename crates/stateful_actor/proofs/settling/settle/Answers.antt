@@ -1,4 +1,4 @@
-use Rattle.std.proofs.Common.{◌≡◌, Bool, sym, subst, arith}
+use Rattle.std.proofs.Common.{◌≡◌, Bool, refl, sym, subst, arith}
 use Rattle.stateful_exec.specs.Workings.{workings}
 use Rattle.stateful_processing.specs.Moments.{Moment, executing, moment}
 use Rattle.stateful_processing.specs.Rules.{none, further, Along, Goes, Quiet}
@@ -8,6 +8,8 @@ use Rattle.stateful_processing.proofs.Handing.{converted, err_holds}
 use Rattle.stateful_processing.proofs.Sounding.{rule_sound}
 use Rattle.stateful_actor.specs.Faults.{tally}
 use Rattle.stateful_actor.proofs.Counts.{HasNotFallen-itself, HasNotFallen-further}
+use Rattle.stateful_processing.proofs.NotesFollowing.{NotesFollow-same, NotesFollow-then}
+use Rattle.stateful_actor.proofs.NotesOfEvents.{follow_reached}
 use Rattle.stateful_actor.proofs.settling.settle.Goals as goal
 
 pub rules-init : goal.rules-init
@@ -17,6 +19,7 @@ rules-init g c = record {
   numbers = (omega arith, omega arith);
   later = HasNotFallen-itself _;
   barrier = omega arith;
+  follows = NotesFollow-same g.A.Application.works.noted _ _ _ _ _ _ refl refl refl;
 }
 
 pub returns-in_err-go_on-clause-fault : goal.returns-in_err-go_on-clause-fault
@@ -65,6 +68,7 @@ rules-preserved g c =
       later = HasNotFallen-further _ _ _ i.later
           (record { application = c.in_ok-go_on.ensures.application; databases = c.in_ok-go_on.ensures.later });
       barrier = omega arith;
+      follows = NotesFollow-then g.A.Application.works.noted _ _ _ _ _ _ _ _ _ i.follows c.in_ok-go_on.ensures.notes;
     }
 
 pub returns-clause-ok : goal.returns-clause-ok
@@ -112,4 +116,21 @@ returns-in_err-go_on-clause-left g c =
       reached = moment w (executing c.rules.handler) c.rules.processing (D.members c.rules.databases) (D.next c.rules.databases) c.rules.marks.items;
       along = c.rules.invariant.along;
       left = c.in_err-go_on.ensures.left;
+    })
+
+pub returns-clause-notes : goal.returns-clause-notes
+returns-clause-notes g c =
+    NotesFollow-then g.A.Application.works.noted _ _ _ _ _ _ _ _ _ c.rules.invariant.follows c.in_ok-go_on.ensures.notes
+
+pub returns-in_err-go_on-clause-noted : goal.returns-in_err-go_on-clause-noted
+returns-in_err-go_on-clause-noted g c =
+    let D = g.A.Databases.DatabaseSet in
+    let w = workings g.A.Block.Block.header g.A.Block.Block.context_of g.A.Context.Rounded.round_of g.A.Application.works D.kind D.shows in
+    let start = moment w (executing c.args.handler.now) c.args.processing.now (D.members c.args.databases.now)
+    (D.next c.args.databases.now) c.args.marks.now.items in
+    let reached = moment w (executing c.rules.handler) c.rules.processing (D.members c.rules.databases) (D.next c.rules.databases) c.rules.marks.items in
+    converted _ c.from_residual.result c.in_err-go_on.field-0.0 c.from_residual.ensures.1 (λ other. record {
+      reached = reached;
+      along = c.rules.invariant.along;
+      notes = follow_reached w g.A.Application.works.noted _ _ _ start reached c.rules.invariant.follows (c.in_err-go_on.ensures.noted other);
     })

@@ -6,6 +6,7 @@ use Rattle.stateful_processing.specs.Rules.{Along}
 use Rattle.stateful_processing.specs.Sound.{Sound}
 use Rattle.stateful_processing.proofs.Falling.{weight}
 use Rattle.stateful_actor.specs.Faults.{tally, HasNotFallen}
+use Rattle.stateful_processing.specs.Noted.{NotesFollow}
 use Rattle.stateful_actor.proofs.settling.settle.Given as goal
 
 abbrev pub invariant-rules : goal.invariant-rules
@@ -21,6 +22,8 @@ invariant-rules g l =
       later : HasNotFallen (tally (g.A.Faulty.count l.fn.handler.application) (D.counted l.fn.databases))
           (tally (g.A.Faulty.count l.handler.application) (D.counted l.databases));
       barrier : l.fn.processing.next_barrier ≤ l.processing.next_barrier;
+      follows : NotesFollow g.A.Application.works.noted (g.A.Application.notes l.fn.handler.application) (g.A.Application.notes l.handler.application)
+          l.fn.processing.front l.processing.front l.fn.marks.items l.marks.items;
     }
 
 abbrev pub decreases-rules : goal.decreases-rules

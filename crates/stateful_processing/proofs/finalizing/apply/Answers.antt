@@ -5,6 +5,7 @@ use Rattle.stateful_processing.specs.Moments.{executing}
 use Rattle.stateful_processing.proofs.Handing.{converted, err_holds}
 use Rattle.stateful_processing.proofs.Leaving.{left_applied, left_applying}
 use Rattle.stateful_processing.proofs.Finalizations.{fault_applying, applies_block}
+use Rattle.stateful_processing.proofs.NotesFollowing.{not_by_memory}
 use Rattle.stateful_processing.proofs.finalizing.apply.Goals as goal
 
 pub returns-in_err-apply-clause-fault : goal.returns-in_err-apply-clause-fault
@@ -56,3 +57,7 @@ returns-in_err-apply-clause-left g c =
     c.in_ok-batch.batch c.in_ok-batch.captured c.in_ok-batch.ensures.ok c.in_err-apply.field-0.0 failed.err
     (λ is. failed.unchanged (ap Err is)) (λ is. failed.exhausted (ap Err is))
     (λ n k is few. (failed.fault n k (ap Err is) few).4) (λ is. failed.memory (ap Err is))))
+
+pub returns-in_err-batch-clause-notes : goal.returns-in_err-batch-clause-notes
+returns-in_err-batch-clause-notes g c =
+    λ other. c.in_err-batch.ensures.notes (not_by_memory c.from_residual.result other c.in_err-batch.field-0.0 c.from_residual.ensures.1)

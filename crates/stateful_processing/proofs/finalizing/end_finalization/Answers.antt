@@ -1,4 +1,4 @@
-use Rattle.std.proofs.Common.{ap, subst, inr, refl}
+use Rattle.std.proofs.Common.{ap, subst, inr, refl, ◌∙◌}
 use Rattle.stateful_types.specs.Causes.{Rose}
 use Rattle.stateful_exec.specs.Moments as exec
 use Rattle.stateful_exec.specs.Pausing.{FaultsResume}
@@ -7,6 +7,7 @@ use Rattle.stateful_processing.specs.Errors.{error_of_exec}
 use Rattle.stateful_processing.specs.Moments.{executing}
 use Rattle.stateful_processing.proofs.Handing.{converted}
 use Rattle.stateful_processing.proofs.Finalizations.{ends_finalization}
+use Rattle.stateful_processing.proofs.NotesFollowing.{not_by_memory}
 use Rattle.stateful_processing.proofs.finalizing.end_finalization.Goals as goal
 
 pub returns-in_err-resume-clause-fault : goal.returns-in_err-resume-clause-fault
@@ -33,3 +34,8 @@ returns-clause-ok g c =
     (g.A.Databases.DatabaseSet.members c.args.databases.now) (g.A.Databases.DatabaseSet.members c.resume.new.databases)
     (g.A.Databases.DatabaseSet.next c.args.databases.now) (g.A.Databases.DatabaseSet.next c.resume.new.databases) c.args.marks.now.items c.resume.new.marks.items
     (ap executing c.drop_root.ensures) o.works.0 o.works.1 o.ok c.height.ensures c.in_ok-record.ensures.held c.requires.none
+
+pub returns-in_err-resume-clause-notes : goal.returns-in_err-resume-clause-notes
+returns-in_err-resume-clause-notes g c =
+    λ other. c.in_err-resume.ensures.notes (not_by_memory c.from_residual-in_err-resume.result other c.in_err-resume.field-0.0 c.from_residual-in_err-resume.ensures.1)
+    ∙ ap (λ h. g.A.Application.notes h.application) c.drop_root.ensures

@@ -1,4 +1,4 @@
-use Rattle.std.proofs.Common.{◌∙◌, sym, refl, inr, Some}
+use Rattle.std.proofs.Common.{◌∙◌, sym, refl, inr, Some, inl}
 use Rattle.stateful_exec.specs.Workings.{workings}
 use Rattle.stateful_processing.specs.Rules.{applies}
 use Rattle.stateful_processing.proofs.Handing.{converted, err_holds}
@@ -6,6 +6,9 @@ use Rattle.stateful_processing.proofs.Leaving.{left_by_rule}
 use Rattle.stateful_processing.proofs.Finalizations.{applies_with, fault_applied, counts_once, quiet_waiting}
 use Rattle.stateful_processing.proofs.Fronts.{at_ran, begun_isnt_ran, begun_isnt_advanced, some_awaited}
 use Rattle.stateful_processing.proofs.Rooms.{has_room}
+use Rattle.stateful_processing.proofs.NotesFollowing.{NotesFollow-same, error_is, leaves_follow}
+use Rattle.stateful_processing.specs.Moments.{executing, moment}
+use Rattle.stateful_processing.proofs.Observing.{applies_leaves}
 use Rattle.stateful_processing.proofs.finalizing.go_on_finalizing.Goals as goal
 
 pub returns-then-awaited-gt0-clause-ok : goal.returns-then-awaited-gt0-clause-ok
@@ -52,3 +55,39 @@ returns-in_err-apply-in-Ran-clause-left g c =
     let ran = at_ran w c.args.processing.now.durability c.args.front c.args.handler.now.front c.requires.up.front (sym c.progress_of.ensures ∙ c.in-Ran.is) in
     err_holds c.from_residual-in_err-apply-in-Ran.result
     (left_by_rule w c.args.front _ _ c.requires.finalizing (inr (ran.0, ran.1)) c.in_err-apply-in-Ran.ensures.left)
+
+pub returns-in_err-run_or_apply-in-Begun-clause-noted : goal.returns-in_err-run_or_apply-in-Begun-clause-noted
+returns-in_err-run_or_apply-in-Begun-clause-noted g c =
+    converted _ c.from_residual.result c.in_err-run_or_apply-in-Begun.field-0.0 c.from_residual.ensures.1
+    (λ other. inl (c.in_err-run_or_apply-in-Begun.ensures.noted other))
+
+pub returns-in_err-apply-in-Ran-clause-noted : goal.returns-in_err-apply-in-Ran-clause-noted
+returns-in_err-apply-in-Ran-clause-noted g c =
+    converted _ c.from_residual-in_err-apply-in-Ran.result c.in_err-apply-in-Ran.field-0.0 c.from_residual-in_err-apply-in-Ran.ensures.1
+    (λ other. inl (c.in_err-apply-in-Ran.ensures.notes (λ is. other (error_is _ is))))
+
+pub returns-in_err-go_on_advanced-in-Advanced-clause-noted : goal.returns-in_err-go_on_advanced-in-Advanced-clause-noted
+returns-in_err-go_on_advanced-in-Advanced-clause-noted g c =
+    converted _ c.from_residual-in_err-go_on_advanced-in-Advanced.result c.in_err-go_on_advanced-in-Advanced.field-0.0
+    c.from_residual-in_err-go_on_advanced-in-Advanced.ensures.1 c.in_err-go_on_advanced-in-Advanced.ensures.noted
+
+pub returns-then-awaited-gt0-clause-notes : goal.returns-then-awaited-gt0-clause-notes
+returns-then-awaited-gt0-clause-notes g c =
+    NotesFollow-same g.A.Application.works.noted _ _ (Some c.args.front) _ _ _ refl refl refl
+
+pub returns-in-Waiting-clause-notes : goal.returns-in-Waiting-clause-notes
+returns-in-Waiting-clause-notes g c =
+    NotesFollow-same g.A.Application.works.noted _ _ (Some c.args.front) _ _ _ refl refl refl
+
+pub returns-in_ok-apply-in-Ran-clause-notes : goal.returns-in_ok-apply-in-Ran-clause-notes
+returns-in_ok-apply-in-Ran-clause-notes g c =
+    let w = workings g.A.Block.Block.header g.A.Block.Block.context_of g.A.Context.Rounded.round_of g.A.Application.works g.A.Databases.DatabaseSet.kind g.A.Databases.DatabaseSet.shows in
+    let e = executing c.args.handler.now in
+    let m = moment w e (record c.args.processing.now { front = Some c.args.front }) (g.A.Databases.DatabaseSet.members c.args.databases.now)
+    (g.A.Databases.DatabaseSet.next c.args.databases.now) c.args.marks.now.items in
+    let ran = at_ran w c.args.processing.now.durability c.args.front c.args.handler.now.front c.requires.up.front (sym c.progress_of.ensures ∙ c.in-Ran.is) in
+    let now = moment w (executing c.apply.new.handler) c.apply.new.processing (g.A.Databases.DatabaseSet.members c.apply.new.databases)
+    (g.A.Databases.DatabaseSet.next c.apply.new.databases) c.apply.new.marks.items in
+    leaves_follow g.A.Application.works.noted w m now _ _
+    (applies_leaves w c.args.front m now refl ran.2 (applies_with w c.args.front _ now (Some c.args.front) c.in_ok-apply-in-Ran.ensures.ok))
+    (c.in_ok-apply-in-Ran.ensures.notes (λ is. cc))

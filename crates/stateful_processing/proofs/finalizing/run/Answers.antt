@@ -1,4 +1,5 @@
 use Rattle.stateful_processing.proofs.Finalizations.{same_moment}
+use Rattle.stateful_processing.proofs.NotesFollowing.{not_by_memory}
 use Rattle.stateful_processing.proofs.finalizing.run.Goals as goal
 use Rattle.std.proofs.Common.{refl}
 use Rattle.stateful_exec.specs.Workings.{workings}
@@ -15,3 +16,7 @@ returns-clause-ok g c = λ l.
       runs = o.ok;
       becomes = same_moment w new.self.state new.self.front (g.A.Databases.DatabaseSet.next new.databases) _ _ l l _ _ _ _ o.build refl o.members o.marks;
     }
+
+pub returns-in_err-run_finalized-clause-notes : goal.returns-in_err-run_finalized-clause-notes
+returns-in_err-run_finalized-clause-notes g c =
+    λ other. c.in_err-run_finalized.ensures.notes (not_by_memory c.from_residual.result other c.in_err-run_finalized.field-0.0 c.from_residual.ensures.1)

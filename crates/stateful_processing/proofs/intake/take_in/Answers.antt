@@ -4,6 +4,7 @@ use Rattle.stateful_processing.specs.Moments.{executing}
 use Rattle.stateful_processing.proofs.Intakes.{on_ok, on_err, ok_none, err_to, within_awaited, token_awaited, idles}
 use Rattle.stateful_processing.proofs.Handing.{err_holds}
 use Rattle.stateful_processing.proofs.Leaving.{keeps_same}
+use Rattle.stateful_processing.proofs.NotesFollowing.{not_by_memory}
 use Rattle.stateful_processing.proofs.intake.take_in.Goals as goal
 
 pub returns-in_err-answer-in-Fetched-clause-fault : goal.returns-in_err-answer-in-Fetched-clause-fault
@@ -38,6 +39,7 @@ returns-in_err-message-in_default g c =
       later = λ n. omega arith;
       numbers = (omega arith, omega arith);
       application = omega arith;
+      notes = λ other. refl;
       barrier = omega arith;
     }
 
@@ -51,6 +53,7 @@ returns-in_err-push-in_default g c =
       later = λ n. omega arith;
       numbers = (omega arith, omega arith);
       application = omega arith;
+      notes = λ other. refl;
       barrier = omega arith;
     }
 
@@ -93,6 +96,7 @@ returns-in_ok-push-in_default g c =
       later = λ n. omega arith;
       numbers = (omega arith, omega arith);
       application = omega arith;
+      notes = λ other. refl;
       barrier = omega arith;
     }
 
@@ -107,5 +111,10 @@ returns-in_default-2 g c =
       later = λ n. omega arith;
       numbers = (omega arith, omega arith);
       application = omega arith;
+      notes = λ other. refl;
       barrier = omega arith;
     }
+
+pub returns-in_err-fetched-in-Fetched-clause-notes : goal.returns-in_err-fetched-in-Fetched-clause-notes
+returns-in_err-fetched-in-Fetched-clause-notes g c =
+    λ other. c.in_err-fetched-in-Fetched.ensures.notes (not_by_memory c.from_residual-in_err-fetched-in-Fetched.result other c.in_err-fetched-in-Fetched.field-0.0 c.from_residual-in_err-fetched-in-Fetched.ensures.1)

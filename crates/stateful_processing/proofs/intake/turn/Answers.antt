@@ -3,6 +3,7 @@ use Rattle.stateful_exec.specs.Workings.{workings}
 use Rattle.stateful_processing.specs.Intake.{build as by_build, hook as by_hook, run as by_run, building, hooking, running}
 use Rattle.stateful_processing.specs.Moments.{executing, moment}
 use Rattle.stateful_processing.proofs.Intakes.{err_to}
+use Rattle.stateful_processing.proofs.NotesFollowing.{not_by_memory}
 use Rattle.stateful_processing.proofs.intake.turn.Goals as goal
 
 pub returns-in_err-turn_build-clause-fault : goal.returns-in_err-turn_build-clause-fault
@@ -37,3 +38,7 @@ pub returns-in_ok-complete-clause-ok : goal.returns-in_ok-complete-clause-ok
 returns-in_ok-complete-clause-ok g c =
     λ l. by_run (λ (b, live). c.builds.ensures.no c.if-builds.false b live) (λ (b, hook, live). c.hooks.ensures.no c.if-hooks.false b hook live)
     c.in_ok-complete.ensures.ok (rw c.in_ok-complete.ensures.build refl)
+
+pub returns-in_err-complete-clause-notes : goal.returns-in_err-complete-clause-notes
+returns-in_err-complete-clause-notes g c =
+    λ other. c.in_err-complete.ensures.notes (not_by_memory c.from_residual-in_err-complete.result other c.in_err-complete.field-0.0 c.from_residual-in_err-complete.ensures.1)

@@ -6,6 +6,7 @@ use Rattle.stateful_exec.specs.Workings.{workings}
 use Rattle.stateful_processing.proofs.Handing.{refused, out_of_memory}
 use Rattle.stateful_processing.proofs.Takes.{begun, declined}
 use Rattle.stateful_processing.specs.Moments.{executing}
+use Rattle.stateful_processing.proofs.NotesFollowing.{not_by_memory}
 use Rattle.stateful_processing.proofs.taking.build.Goals as goal
 
 pub returns-in_err-started-clause-fault : goal.returns-in_err-started-clause-fault
@@ -36,3 +37,7 @@ returns-in_ok-push-in-Declined-clause-ok g c = λ l.
     (g.A.Databases.DatabaseSet.next c.propose.new.databases) c.args.marks.now.items c.push-in-Declined.new.self.items c.args.ticket c.args.provider c.in_ok-started.ensures.members
     c.in_ok-started.ensures.front c.in_ok-started.started c.in_ok-started.ensures.ok
     c.in-Declined.is c.in_ok-push-in-Declined.ensures.items
+
+pub returns-in_err-started-clause-notes : goal.returns-in_err-started-clause-notes
+returns-in_err-started-clause-notes g c =
+    λ other. c.in_err-started.ensures.notes (not_by_memory c.from_residual.result other c.in_err-started.field-0.0 c.from_residual.ensures.1)

@@ -3,6 +3,7 @@ use Rattle.stateful_exec.specs.Workings.{workings}
 use Rattle.stateful_processing.proofs.Handing.{converted}
 use Rattle.stateful_processing.proofs.Firsts.{drained, not_drained, put_off}
 use Rattle.stateful_processing.specs.Moments.{executing, moment}
+use Rattle.stateful_processing.proofs.NotesFollowing.{not_again}
 use Rattle.stateful_processing.proofs.taking.drain_first.Goals as goal
 
 pub returns-in_err-schedule-in-Request-clause-fault : goal.returns-in_err-schedule-in-Request-clause-fault
@@ -27,3 +28,7 @@ returns-in_ok-push-clause-ok g c = λ provider.
     let m = moment w (executing c.args.handler.now) c.args.processing.now (g.A.Databases.DatabaseSet.members c.args.databases.now) (g.A.Databases.DatabaseSet.next c.args.databases.now) c.args.marks.now.items in
     put_off w (g.S.BlockStore.stored c.args.store.now) m c.pop.new.self c.requires.collected c.requires.building c.in-Some.message c.in-Some.ensures.some
     provider c.push.new.self (sym c.is_verification.ensures ∙ c.if-is_verification.false) c.in_ok-push.ensures.ok
+
+pub returns-in_err-schedule-in-Request-clause-notes : goal.returns-in_err-schedule-in-Request-clause-notes
+returns-in_err-schedule-in-Request-clause-notes g c =
+    λ other. c.in_err-schedule-in-Request.ensures.notes (not_again c.from_residual.result other c.in_err-schedule-in-Request.field-0.0 c.from_residual.ensures.1)

@@ -6,6 +6,7 @@ use Rattle.stateful_processing.specs.Causes.FaultsRule.{building}
 use Rattle.stateful_processing.specs.Moments.{executing, moment}
 use Rattle.stateful_processing.specs.Rules.Rule.{builds, takes}
 use Rattle.stateful_processing.specs.Rules.Takes.{of_action}
+use Rattle.stateful_processing.proofs.NotesFollowing.{not_again}
 use Rattle.stateful_processing.proofs.taking.take_first.Goals as goal
 
 pub returns-in_err-build-in-Build-clause-fault : goal.returns-in_err-build-in-Build-clause-fault
@@ -48,3 +49,15 @@ returns-clause-ok g c =
     let none = c.in_default.ensures.none in
     takes c.requires.calm (takes_message w (g.S.BlockStore.stored c.args.store.now) m c.requires.calm c.pop.new.self none.0 none.1
     c.in-Some-pop.message c.pop-2.new.self c.in-Some-pop.ensures.some) c.in_ok-take_message.ensures.ok
+
+pub returns-in_err-build-in-Build-clause-notes : goal.returns-in_err-build-in-Build-clause-notes
+returns-in_err-build-in-Build-clause-notes g c =
+    λ other. c.in_err-build-in-Build.ensures.notes (not_again c.from_residual.result other c.in_err-build-in-Build.field-0.0 c.from_residual.ensures.1)
+
+pub returns-in_err-take_message-in-Message-clause-notes : goal.returns-in_err-take_message-in-Message-clause-notes
+returns-in_err-take_message-in-Message-clause-notes g c =
+    λ other. c.in_err-take_message-in-Message.ensures.notes (not_again c.from_residual-in_err-take_message-in-Message.result other c.in_err-take_message-in-Message.field-0.0 c.from_residual-in_err-take_message-in-Message.ensures.1)
+
+pub returns-in_err-take_message-clause-notes : goal.returns-in_err-take_message-clause-notes
+returns-in_err-take_message-clause-notes g c =
+    λ other. c.in_err-take_message.ensures.notes (not_again c.from_residual-in_err-take_message.result other c.in_err-take_message.field-0.0 c.from_residual-in_err-take_message.ensures.1)

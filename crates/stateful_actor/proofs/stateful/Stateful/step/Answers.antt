@@ -17,6 +17,8 @@ use Rattle.stateful_actor.proofs.Lawfully.{step-ahead, admit-lawful, cause-outsi
 use Rattle.stateful_actor.proofs.Reopening.{reopens-refused, reopens-done}
 use Rattle.stateful_actor.proofs.Working.{never, cause-not_failed, restart-memory}
 use Rattle.stateful_actor.proofs.ResultsOfCalls.{on_err, if_err, in_ok, in_err, of_err, match_err}
+use Rattle.stateful_actor.proofs.NotesOfEvents.{along_all, play_refused}
+use Rattle.stateful_actor.specs.Notes.{taking}
 use Rattle.stateful_actor.proofs.stateful.Stateful.step.Goals as goal
 
 pub returns-in_err-admit-clause-cause : goal.returns-in_err-admit-clause-cause
@@ -296,3 +298,27 @@ pub returns-in_err-record-clause-restarts : goal.returns-in_err-record-clause-re
 returns-in_err-record-clause-restarts g c =
     converted _ c.from_residual-in_err-record.result OutOfMemory c.from_residual-in_err-record.ensures.1
     (λ floor keep is finds few rises. refl)
+
+pub returns-clause-notes : goal.returns-clause-notes
+returns-clause-notes g c =
+    rw (← c.self.view_is) (λ p stands observed.
+    along_all g.A.Application.works.noted _ _ _
+    ((rw c.new-marks.ensures.items at (in_ok _ _ c.in-Ok.is c.act-acted.ensures.notes)) p stands (λ other. observed (c.in_ok-admit.ensures.works other))))
+
+pub returns-clause-observed : goal.returns-clause-observed
+returns-clause-observed g c =
+    rw (← c.self.view_is) (λ observed works.
+    (in_ok _ _ c.in-Ok.is c.act-acted.ensures.observed) (λ other. observed (c.in_ok-admit.ensures.works other)))
+
+pub returns-in_err-admit-clause-noted : goal.returns-in_err-admit-clause-noted
+returns-in_err-admit-clause-noted g c =
+    rw (← c.self.view_is)
+    (if_err c.from_residual.result _ (λ e other. play_refused _ (g.S.BlockStore.stored c.args.store.now) _ g.A.Application.works.noted _ _ _ c.args.event _ c.in_err-admit.ensures.other (taking refl)))
+
+pub returns-in-Err-clause-noted : goal.returns-in-Err-clause-noted
+returns-in-Err-clause-noted g c =
+    rw (← c.self.view_is) (rw c.new-marks.ensures.items at (of_err _ _ _ c.in-Err.is c.act-acted.ensures.noted))
+
+pub returns-in_err-record-clause-noted : goal.returns-in_err-record-clause-noted
+returns-in_err-record-clause-noted g c =
+    converted _ c.from_residual-in_err-record.result OutOfMemory c.from_residual-in_err-record.ensures.1 (λ other. absurd (other refl))
