@@ -1,7 +1,6 @@
 -- What an application tells of its builds, of the turns that its jobs take, and of what it keeps of
 -- finalized blocks.
-use Rattle.std.specs.Prelude.{ℕ, Option, List, [], ◌∷◌}
-use Rattle.stateful_types.specs.Names.{Named}
+use Rattle.std.specs.Prelude.{ℕ, Option}
 use Rattle.stateful_types.specs.declared.outcome.Finality.{Finality}
 use Rattle.stateful_types.specs.declared.outcome.Handoff.{Handoff}
 use Rattle.stateful_db.specs.Works.{Works, Asked}
@@ -30,11 +29,3 @@ telling_of works = record {
   Notes = works.Notes;
   noted = works.noted;
 }
-
--- what is kept once these blocks were finalized, one after another
-abbrev pub noted_along : {B C I S : Type 0} (t : Telling B C I S)
-    → t.Notes
-    → List (Named B)
-    → t.Notes
-noted_along t notes [] = notes
-noted_along t notes (b ∷ bs) = noted_along t (t.noted notes b.block) bs
