@@ -1,0 +1,5 @@
+//! The bank over a pair, with roots by the reference's program.
+
+mod bank;
+mod pair;
+mod roots;

@@ -1,0 +1,56 @@
+//! The bank over a pair.
+
+use super::bank::{Emptied, build, is_refused, run_both};
+use super::roots::{FIRST_AMOUNTS, FIRST_BALANCES, SECOND_AMOUNTS, SECOND_BALANCES, range};
+use stateful_any::{AnyDb, AnyMedium};
+use stateful_db::Held;
+use stateful_keyless::{KeylessDb, KeylessMedium};
+use stateful_pair_bank::Pair;
+use stateful_types::Digest;
+use std::alloc::Global;
+use std::test::Fail;
+
+/// The digest of genesis, by the reference's program.
+const GENESIS: Digest = Digest([
+    0xe0, 0x4a, 0xf6, 0x13, 0x85, 0x31, 0xf5, 0xec, 0x8b, 0x87, 0x5a, 0xe3, 0x23, 0xa8, 0x3c, 0xd0,
+    0xee, 0x6d, 0x88, 0x13, 0x1e, 0x17, 0x94, 0x86, 0xdd, 0x33, 0x40, 0xf6, 0x89, 0x68, 0x21, 0x5b,
+]);
+
+type Databases = (Held<AnyDb<u64, u64>>, Held<KeylessDb<u64>>);
+
+impl Emptied for Pair {
+    fn closed(alloc: Global) -> Databases {
+        let balances = Held::Closed(AnyMedium::empty(alloc, Vec::new(alloc)));
+        let amounts = Held::Closed(KeylessMedium::empty(alloc, Vec::new(alloc)));
+        (balances, amounts)
+    }
+
+    fn config() -> ((), ()) {
+        ((), ())
+    }
+}
+
+#[test]
+fn a_run_on_a_batch_writes_and_appends(rt: HostRuntime) -> Result<(), Fail> {
+    let (first, second) = run_both::<Pair>(rt.alloc())?;
+    let targets = [range(FIRST_BALANCES, 1, 4), range(FIRST_AMOUNTS, 1, 4)];
+    assert_eq!(rt; first.as_slice(), targets.as_slice());
+    let targets = [range(SECOND_BALANCES, 5, 7), range(SECOND_AMOUNTS, 4, 6)];
+    assert_eq!(rt; second.as_slice(), targets.as_slice());
+    Ok(())
+}
+
+#[test]
+fn a_run_reads_the_batch(rt: HostRuntime) -> Result<(), Fail> {
+    assert!(rt; is_refused::<Pair>(rt.alloc())?);
+    Ok(())
+}
+
+#[test]
+fn a_build_has_the_targets_of_its_batch(rt: HostRuntime) -> Result<(), Fail> {
+    let built = build::<Pair>(rt.alloc())?;
+    assert_eq!(rt; built.parent, GENESIS);
+    let targets = [range(FIRST_BALANCES, 1, 4), range(FIRST_AMOUNTS, 1, 4)];
+    assert_eq!(rt; built.targets.as_slice(), targets.as_slice());
+    Ok(())
+}
