@@ -1,5 +1,5 @@
 -- What the machine's play of the events says of the script.
-use Rattle.std.proofs.Common.{◌≡◌, ℕ, Bool, List, [], Option, None, IfSome, Vec, Global, map, refl, subst}
+use Rattle.std.proofs.Common.{◌≡◌, ℕ, Bool, List, [], Option, Some, None, IfSome, Vec, Global, map, refl, subst}
 use Rattle.std.proofs.Math.Path.{fun_ext}
 use Rattle.stateful_types.specs.Names.{Named}
 use Rattle.stateful_types.specs.declared.round.Round.{Round}
@@ -10,12 +10,14 @@ use Rattle.stateful_bank.specs.declared.block.BankBlock.{BankBlock}
 use Rattle.stateful_plain.specs.Whole.{initial}
 use Rattle.stateful_history.specs.Met.{TrueNames}
 use Rattle.stateful_history.specs.Past.{after_all}
-use Rattle.stateful_history.specs.Honest.{HasHonestStore}
+use Rattle.stateful_history.specs.Honest.{StoresHeights, HasHonestStore}
 use Rattle.stateful_history.specs.declared.entry.Entry.{Entry}
 use Rattle.stateful_register.specs.declared.register.Register.{Register}
 use Rattle.stateful_standing.specs.Setting.{setting}
+use Rattle.stateful_keeping.specs.Media.{TargetsRise}
 use Rattle.stateful_processing.specs.Moments.{Moment}
 use Rattle.stateful_whole.specs.Machine.{IsNew}
+use Rattle.stateful_whole.specs.Media.{MediaStand}
 use Rattle.stateful_whole.specs.StepBehind.{EachStands}
 use Rattle.stateful_actor.specs.declared.driving.Halted.{Halted}
 use Rattle.stateful_script.specs.Laws.{IsPlan}
@@ -30,8 +32,8 @@ use Rattle.stateful_play.specs.declared.play.Played.{Played}
 use Rattle.stateful_play.specs.Plan.{ArePlanned, labels_of}
 use Rattle.stateful_play.specs.Events.{BankEvent, events_of}
 use Rattle.stateful_play.specs.Store.{store_of}
-use Rattle.stateful_play.specs.Shown.{listed_in, member_of}
-use Rattle.stateful_play.specs.Play.{bank, IsPlayOf, IsFirst, EndsWell, AreTaken, AreSteps, IsHaltedBy}
+use Rattle.stateful_play.specs.Shown.{listed_in, member_of, has_failed}
+use Rattle.stateful_play.specs.Play.{bank, last_of, IsPlayOf, IsFirst, EndsWell, KeepsMedium, AreTaken, AreSteps, IsHaltedBy}
 use Rattle.stateful_play.proofs.Builds.{builds_are_named}
 use Rattle.stateful_play.proofs.Heights.{heights_stored}
 use Rattle.stateful_play.proofs.Honest.{honest_play}
@@ -62,15 +64,32 @@ KeepWhereHonest stored entries machine databases «end» =
     → HasHonestStore block_header stored (after_all [] entries)
     → EachStands bank stored (EndsWell stored entries machine databases «end») initial [] entries
 
+-- what the medium keeps at the end where names are true, the store is honest and its targets rise
+abbrev pub KeepsWhereHonest : (ℕ → Option (Named BankBlock)) → List (Entry BankBlock Round Ask) → Machine → Databases → Option Halted → Type 0
+KeepsWhereHonest stored entries machine databases None =
+    TrueNames (setting bank stored) (after_all [] entries)
+    → HasHonestStore block_header stored (after_all [] entries)
+    → TargetsRise bank stored
+    → MediaStand bank stored (after_all [] entries) (has_failed machine) (last_of machine databases)
+KeepsWhereHonest stored entries machine databases (Some halted) = Unit {0}
+
+medium_kept : (stored : ℕ → Option (Named BankBlock)) (entries : List (Entry BankBlock Round Ask)) (machine : Machine) (databases : Databases)
+    («end» : Option Halted) → StoresHeights block_header stored
+    → KeepsWhereHonest stored entries machine databases «end» → KeepsMedium stored entries machine databases «end»
+medium_kept stored entries machine databases None heights k =
+    λ names finalized rise. k names (record { heights = heights; finalized = finalized }) rise
+medium_kept stored entries machine databases (Some halted) heights k = tt
+
 pub carried : (script : Script) (made : List Planned) (labels : List Label) (entries : Vec (Entry BankBlock Round Ask) Global) (machine : Machine) (databases : Databases) («end» : Option Halted) (stored : ℕ → Option (Named BankBlock)) (events : List BankEvent)
     → IsPlan script → ArePlanned script.blocks made → labels ≡ labels_of script.names made
     → ((h : ℕ) → stored h ≡ store_of made script.events h) → events ≡ events_of made script.events
     → AreTaken «end» events (map (λ entry. entry.event) entries.items)
     → AreSteps stored «end» entries.items machine databases
     → KeepWhereHonest stored entries.items machine databases «end»
+    → KeepsWhereHonest stored entries.items machine databases «end»
     → IfSome «end» (IsHaltedBy stored events entries.items machine databases)
     → IsPlayOf script labels (in_plain entries machine databases «end»)
-carried script made labels entries machine databases «end» stored events plan planned labelled same are taken steps rules halted =
+carried script made labels entries machine databases «end» stored events plan planned labelled same are taken steps rules medium halted =
     let honest = subst (λ s. KeepWhereHonest s entries.items machine databases «end») (fun_ext same) rules in
     record {
       blocks = made;
@@ -82,5 +101,7 @@ carried script made labels entries machine databases «end» stored events plan 
       honest = honest_play (store_of made script.events) script.blocks made script.events «end» entries.items planned (rw are at taken);
       steps = subst (λ s. AreSteps s «end» entries.items machine databases) (fun_ext same) steps;
       rules = λ names finalized. honest names (record { heights = heights_stored made script.events; finalized = finalized });
+      medium = medium_kept (store_of made script.events) entries.items machine databases «end» (heights_stored made script.events)
+          (subst (λ s. KeepsWhereHonest s entries.items machine databases «end») (fun_ext same) medium);
       refused = subst (λ s. IfSome «end» (IsHaltedBy s (events_of made script.events) entries.items machine databases)) (fun_ext same) (rw are at halted);
     }

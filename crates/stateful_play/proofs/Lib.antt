@@ -6,3 +6,4 @@ pub mod Builds
 pub mod Heights
 pub mod Carried
 pub mod Ends
+pub mod Media

@@ -25,13 +25,15 @@ use Rattle.stateful_history.specs.declared.entry.Entry.{Entry}
 use Rattle.stateful_exec.specs.Workings.{Workings, workings}
 use Rattle.stateful_register.specs.declared.register.Register.{Register}
 use Rattle.stateful_standing.specs.Setting.{setting}
+use Rattle.stateful_keeping.specs.Media.{TargetsRise}
 use Rattle.stateful_processing.specs.Intake.{Counts}
 use Rattle.stateful_processing.specs.Moments.{Moment, moment}
 use Rattle.stateful_processing.specs.declared.error.StepError.TheVariants.{OutOfMemory, BadEvent}
 use Rattle.stateful_whole.specs.Entering.{Steps}
 use Rattle.stateful_whole.specs.Machine.{IsNew}
+use Rattle.stateful_whole.specs.Media.{MediaStand}
 use Rattle.stateful_whole.specs.StepBehind.{EachStands, StandsAndHolds}
-use Rattle.stateful_actor.specs.Driving.{IsRefused}
+use Rattle.stateful_actor.specs.Driving.{IsRefused, KeepsMediaAfter}
 use Rattle.stateful_actor.specs.Faults.{tally}
 use Rattle.stateful_actor.specs.declared.driving.Halted.{Halted}
 use Rattle.stateful_script.specs.declared.script.Script.{Script}
@@ -94,6 +96,17 @@ module _ (stored : ℕ → Option (Named BankBlock)) (entries : List (Entry Bank
       → StoresFinalized block_header stored (after_all [] entries)
       → EachStands bank stored (EndsWell «end») initial [] entries
 
+  -- where all events were taken in, names are true, the store has the finalized block of each
+  -- height, and no block's range ends before that of a lower one, the medium keeps at the end what
+  -- can be opened again after the entries
+  abbrev pub KeepsMedium : Option Halted → Type 0
+  KeepsMedium None =
+      TrueNames (setting bank stored) (after_all [] entries)
+      → StoresFinalized block_header stored (after_all [] entries)
+      → TargetsRise bank stored
+      → MediaStand bank stored (after_all [] entries) (has_failed machine) (last_of machine d)
+  KeepsMedium (Some halted) = Unit {0}
+
 -- where a play begins: the machine has taken nothing in, and the database is closed on an empty
 -- medium, of which no call is listed as one that fails
 pub record IsFirst (first : Moment bank) : Type 0 where
@@ -118,7 +131,7 @@ pub record AreSteps (stored : ℕ → Option (Named BankBlock)) («end» : Optio
 
 -- The event behind those that were taken in was refused with this error, and the machine says why.
 -- The bank itself never fails, and no database had failed before the start. An event that may not
--- come makes no machine fail.
+-- come makes no machine fail. The medium stood for the start, and what the event left of it is told.
 pub record IsHaltedBy (stored : ℕ → Option (Named BankBlock)) (events : List BankEvent)
     (entries : List (Entry BankBlock Round Ask)) (machine : Machine) (d : Databases)
     (halted : Halted) : Type 0 where
@@ -130,11 +143,14 @@ pub record IsHaltedBy (stored : ℕ → Option (Named BankBlock)) (events : List
   pub refused : IsRefused bank stored tt bank_counts first entries event halted.error (member_of d)
       (tally 0 (λ i. 0)) (tally 0 (failed_of d))
   pub works : halted.error ≡ BadEvent → has_failed machine ≡ false
+  pub starts : MediaStand bank stored [] false first
+  pub keeps : KeepsMediaAfter bank stored tt bank_counts event false first entries
+      (has_failed machine) (last_of machine d)
 
 -- This was played of the script, whose blocks go by these labels: a line that asks for a build
 -- names the block that the build gives, the events were taken in, in each ancestry each block is
--- the parent of the one before it, each entry is a step of the machine, the rules are kept, and an
--- event that was refused has its cause.
+-- the parent of the one before it, each entry is a step of the machine, the rules are kept, the
+-- medium keeps what can be opened again, and an event that was refused has its cause.
 pub record IsPlayOf (script : Script) (labels : List Label) (p : Played) : Type 0 where
   pub blocks : List Planned
   pub planned : ArePlanned script.blocks blocks
@@ -148,6 +164,8 @@ pub record IsPlayOf (script : Script) (labels : List Label) (p : Played) : Type 
   pub steps : AreSteps (store_of blocks script.events) p.«end»
       (entries_of p.history) p.machine p.databases
   pub rules : KeepRules (store_of blocks script.events)
+      (entries_of p.history) p.machine p.databases p.«end»
+  pub medium : KeepsMedium (store_of blocks script.events)
       (entries_of p.history) p.machine p.databases p.«end»
   pub refused : IfSome p.«end»
       (IsHaltedBy (store_of blocks script.events) (events_of blocks script.events)

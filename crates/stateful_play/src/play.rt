@@ -1,11 +1,13 @@
 //! A script's play.
 
-ghost use Rattle.std.specs.Prelude.{◌≡◌, ◌↔◌, ℕ, [], IfOk, IsTrue, length};
+ghost use Rattle.std.specs.Prelude.{◌≡◌, ◌↔◌, ℕ, [], Option, IfOk, IsTrue, length};
+ghost use Rattle.stateful_types.specs.Names.{Named};
 ghost use Rattle.stateful_db.specs.Member.{closed as closed_member};
 ghost use Rattle.stateful_plain.specs.Whole.{initial};
 ghost use Rattle.stateful_script.specs.Laws.{IsPlan};
 ghost use Rattle.stateful_processing.specs.Moments.{moment};
 ghost use Rattle.stateful_whole.specs.Machine.{IsNew};
+ghost use Rattle.stateful_whole.specs.Media.{IsAsAtStart, MediaStand};
 ghost use Rattle.stateful_play.specs.Plan.{labels_of};
 ghost use Rattle.stateful_play.specs.Play.{bank, IsPlayOf};
 ghost use Rattle.stateful_play.specs.Shown.{listed_in};
@@ -85,8 +87,15 @@ fn labels(alloc: Global, names: &[Name], planned: &[Planned]) -> Result<Vec<Labe
 
 /// A machine that is down.
 fn new_machine(alloc: Global) -> Result<Stateful<Bank>, OutOfMemory>
-    ensures { IfOk result (λ stateful. (m : ⟦<Held<Plain> as DatabaseSet>⟧.kind.Members) (n : ℕ)
+    ensures new { IfOk result (λ stateful. (m : ⟦<Held<Plain> as DatabaseSet>⟧.kind.Members)
+        (n : ℕ)
         → IsNew bank stateful.failed stateful.register
+        (moment bank stateful.execution stateful.loop m n [])) }
+    ensures media { IfOk result (λ stateful. (stored : ℕ → Option (Named BankBlock))
+        (m : ⟦<Held<Plain> as DatabaseSet>⟧.kind.Members)
+        (n : ℕ)
+        → IsAsAtStart bank stored m
+        → MediaStand bank stored [] stateful.failed
         (moment bank stateful.execution stateful.loop m n [])) }
 {
     let config = Config {
