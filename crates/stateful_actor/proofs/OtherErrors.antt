@@ -3,8 +3,8 @@ use Rattle.std.proofs.Common.{◌≡◌, inl, inr, ℕ, Bool, true, false, Optio
 use Rattle.stateful_types.specs.Names.{Named}
 use Rattle.stateful_history.specs.declared.event.Event.{Event}
 use Rattle.stateful_exec.specs.Workings.{Workings}
-use Rattle.stateful_exec.specs.declared.error.ExecError.{ExecError}
-use Rattle.stateful_exec.specs.declared.error.ExecError.TheVariants as exec
+use Rattle.stateful_requests.specs.declared.error.ExecError.{ExecError}
+use Rattle.stateful_requests.specs.declared.error.ExecError.TheVariants as exec
 use Rattle.stateful_processing.specs.Causes.{Via, FaultsBarrier, FaultsFlush, FaultsApply, FaultsMessage, FaultsRule}
 use Rattle.stateful_processing.specs.Causes as rule
 use Rattle.stateful_processing.specs.Errors.{error_of_exec}

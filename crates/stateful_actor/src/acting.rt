@@ -8,7 +8,7 @@
 //! `IsStep` of `stateful_whole/specs/Steps.antt` says what is done.
 
 ghost use Rattle.std.specs.Prelude.{◌≡◌, ◌≤◌, [], ℕ, true, false, List, OnOk, OnErr, IfErr};
-ghost use Rattle.stateful_exec.specs.Starting.{Rises};
+ghost use Rattle.stateful_requests.specs.Tables.{Rises};
 ghost use Rattle.stateful_processing.specs.Moments.{executing, moment};
 ghost use Rattle.stateful_processing.specs.Noted.{unobserved};
 ghost use Rattle.stateful_processing.specs.Sound.{Sound};

@@ -8,7 +8,7 @@
 //! entry. `Plays` and `Advances` of `stateful_whole/specs/Steps.antt` say what is done.
 
 ghost use Rattle.std.specs.Prelude.{◌≡◌, ◌≤◌, [], ℕ, List, OnOk, OnErr, IfErr};
-ghost use Rattle.stateful_exec.specs.Starting.{Rises};
+ghost use Rattle.stateful_requests.specs.Tables.{Rises};
 ghost use Rattle.stateful_processing.specs.Moments.{executing, moment};
 ghost use Rattle.stateful_processing.specs.Noted.{unobserved, NotesFollow};
 ghost use Rattle.stateful_processing.specs.Sound.{IsUp, Sound};

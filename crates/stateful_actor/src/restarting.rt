@@ -13,7 +13,7 @@
 
 ghost use Rattle.std.specs.Prelude.{◌≡◌, ◌≤◌, ◌⊎◌, [], ℕ, OnOk, OnErr, IfErr};
 ghost use Rattle.stateful_history.specs.Past.{Past};
-ghost use Rattle.stateful_exec.specs.Starting.{Rises};
+ghost use Rattle.stateful_requests.specs.Tables.{Rises};
 ghost use Rattle.stateful_register.specs.Register.{RegisterStands};
 ghost use Rattle.stateful_processing.specs.Left.{LeavesOpening};
 ghost use Rattle.stateful_processing.specs.Moments.{executing, moment};

@@ -1,7 +1,7 @@
 //! One thing after another goes on.
 
 ghost use Rattle.std.specs.Prelude.{◌≡◌, ◌≤◌, ℕ, true, OnOk, OnErr, IfErr};
-ghost use Rattle.stateful_exec.specs.Starting.{Rises};
+ghost use Rattle.stateful_requests.specs.Tables.{Rises};
 ghost use Rattle.stateful_processing.specs.Moments.{executing, moment};
 ghost use Rattle.stateful_processing.specs.Noted.{NotesFollow};
 ghost use Rattle.stateful_processing.specs.Sound.{IsUp, Sound};

@@ -25,7 +25,7 @@ ghost use Rattle.stateful_history.specs.Opening.{is_down, base_after};
 ghost use Rattle.stateful_history.specs.Past.{Past, Came, after_entry};
 ghost use Rattle.stateful_history.specs.Restarts.{reopened_height, CanReopen, Finds};
 ghost use Rattle.stateful_history.specs.Honest.{HasHonestStore};
-ghost use Rattle.stateful_exec.specs.Starting.{Rises};
+ghost use Rattle.stateful_requests.specs.Tables.{Rises};
 ghost use Rattle.stateful_register.specs.Register.{RegisterStands};
 ghost use Rattle.stateful_standing.specs.Setting.{setting};
 ghost use Rattle.stateful_standing.specs.Storing.{IsStoredNow};

@@ -1,6 +1,6 @@
 //! A block's way: it is judged, built, applied and made durable.
 
-use stateful_actor::{Application, Config, DatabaseSet, Event, Stateful, drive};
+use stateful_actor::{Application, Config, DatabaseSet, Entry, Event, Stateful};
 use stateful_counter::{Add, Counter, CounterBlock};
 use stateful_db::{Flushed, Held};
 use stateful_plain::{Plain, PlainMedium, PlainState};
@@ -23,8 +23,8 @@ const FIRST: Round = Round {
     view: View(1),
 };
 
-/// Hands the events to a new machine, one after another. Gives the lines of its marks, and the
-/// databases as they are then.
+/// Hands the events to a new machine, one call of `step` each. Gives the lines of its marks, and
+/// the databases as they are then.
 fn play<A: Application + Drop>(
     alloc: Global,
     config: Config<A>,
@@ -35,12 +35,19 @@ fn play<A: Application + Drop>(
 ) -> Result<(Vec<u8>, A::Databases), Fail>
     requires { A.Databases.kind.NoneAway (A.Databases.members databases) }
 {
-    let machine = Stateful::new(alloc, config)?;
-    let Ok(driven) = drive(alloc, machine, databases, store, events) else {
-        return Err("an event is refused".into());
-    };
-    let lines = transcript(alloc, labels, driven.history.as_slice(), &[], End::Done)?;
-    Ok((lines, driven.databases))
+    let mut machine = Stateful::new(alloc, config)?;
+    let mut databases = databases;
+    let mut history = Vec::new(alloc);
+    for event in events {
+        let told = event.share()?;
+        let Ok(marks) = machine.step(&mut databases, store, event) else {
+            return Err("an event is refused".into());
+        };
+        let marks = Items::from_vec(marks);
+        history.push(Entry { event: told, marks })?;
+    }
+    let lines = transcript(alloc, labels, history.as_slice(), &[], End::Done)?;
+    Ok((lines, databases))
 }
 
 /// A closed database, on an empty medium.

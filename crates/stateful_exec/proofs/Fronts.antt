@@ -1,23 +1,13 @@
 -- Finalizations that go on: their runs, their hooks and their batches.
-use Rattle.std.proofs.Common.{◌≡◌, ◌≢◌, ◌↔◌, ◌⊎◌, inl, inr, Bool, true, false, is_some, Option, Some, None, IfNone, MatchOption, List, All, ℕ, refl, sym, ◌∙◌, ap, subst}
+use Rattle.std.proofs.Common.{◌≡◌, inl, inr, Bool, true, false, is_some, Option, Some, None, IfNone, ℕ, refl, sym, ◌∙◌, ap, subst}
 use Rattle.stateful_types.specs.Names.{Named}
-use Rattle.stateful_types.specs.declared.digest.Digest.{Digest}
-use Rattle.stateful_types.specs.declared.anchor.Anchor.{Anchor}
-use Rattle.stateful_cache.specs.Cut.{IsRootOf}
-use Rattle.stateful_cache.specs.declared.cache.Cached.{Cached}
 use Rattle.stateful_db.specs.declared.application.Hooked.{Hooked}
 use Rattle.stateful_db.specs.declared.application.Hooked.TheVariants as hooked
 use Rattle.stateful_exec.specs.Workings.{Workings}
 use Rattle.stateful_exec.specs.Finalizing.{front_at, IsLeftBehind, FaultsHooksOn, FaultsObserve, memory, no_job}
-use Rattle.stateful_exec.specs.declared.error.ExecError.{ExecError}
+use Rattle.stateful_requests.specs.declared.error.ExecError.{ExecError}
 use Rattle.stateful_exec.specs.declared.front.Front.{Front}
 use Rattle.stateful_exec.specs.declared.front.Stage.{Stage}
-
--- the root wasn't among the entries, where none was taken out
-pub cut_none : {U : Type 0} (root : Anchor) (digest : Digest) (cache : List (Cached U)) (o : Option U) → root.digest ≡ digest
-    → MatchOption o (All (λ e. e.digest ≢ root.digest) cache) (λ batch. IsRootOf root cache batch) → IfNone o (All (λ e. e.digest ≢ digest) cache)
-cut_none root digest cache None is h = subst (λ (d : Digest). All (λ e. e.digest ≢ d) cache) is h
-cut_none root digest cache (Some batch) is h = tt
 
 pub at_none : {X N : Type 0} {o : Option X} → o ≡ None → IfNone o N → N
 at_none {N = N} is h = subst (λ o. IfNone o N) is h
@@ -32,18 +22,6 @@ pub not_hooked : {B C I P R D H G U : Type 0} (w : Workings B C I P R D H G U) (
 not_hooked w rose b captured m next_job hooked.Done left e is = memory is
 not_hooked w rose b captured m next_job (hooked.Pending hook) left e (inl is) = memory is
 not_hooked w rose b captured m next_job (hooked.Pending hook) left e (inr full) = no_job full.0 left full.1
-
--- one digest more, in words of what is kept
-pub with_root : {P Q : Digest → Type 0} (root : Digest) (has : Digest → Type 0) → ((d : Digest) → has d ↔ ((d ≡ root) ⊎ P d)) → ((d : Digest) → P d ↔ Q d) → (d : Digest) → has d ↔ ((d ≡ root) ⊎ Q d)
-with_root {P} {Q} root has more each d = (λ h. into ((more d).0 h), λ q. (more d).1 (out q))
-  where
-    into : (d ≡ root) ⊎ P d → (d ≡ root) ⊎ Q d
-    into (inl is) = inl is
-    into (inr p) = inr ((each d).0 p)
-
-    out : (d ≡ root) ⊎ Q d → (d ≡ root) ⊎ P d
-    out (inl is) = inl is
-    out (inr q) = inr ((each d).1 q)
 
 -- nothing is there
 pub none_there : {X : Type 0} (o : Option X) (b : Bool) → b ≡ is_some o → b ≡ false → o ≡ None

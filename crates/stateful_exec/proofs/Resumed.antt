@@ -4,16 +4,17 @@ use Rattle.stateful_types.specs.Names.{Named}
 use Rattle.stateful_history.specs.declared.mark.Mark.{Mark}
 use Rattle.stateful_exec.specs.Workings.{Workings}
 use Rattle.stateful_exec.specs.Moments.{Moment, moment}
-use Rattle.stateful_exec.specs.Phase.{parked_in, not_parked, unacquired_in, not_unacquired}
+use Rattle.stateful_requests.specs.Phase.{parked_in, not_parked, unacquired_in, not_unacquired}
 use Rattle.stateful_exec.specs.Ending.{InTurn, StopsAt}
 use Rattle.stateful_exec.specs.Pausing.{GoesAlong, AcquiresAnew, Resumes, FaultsAnew, FaultsResume, anew, unparked, unsettled}
-use Rattle.stateful_exec.specs.declared.error.ExecError.{ExecError}
-use Rattle.stateful_exec.specs.declared.pause.Pause.TheVariants.{Free}
-use Rattle.stateful_exec.specs.declared.state.Tables.{Tables}
-use Rattle.stateful_exec.specs.declared.tables.Released.{Released}
-use Rattle.stateful_exec.specs.declared.tables.Requested.{Requested}
+use Rattle.stateful_requests.specs.declared.error.ExecError.{ExecError}
+use Rattle.stateful_requests.specs.declared.pause.Pause.TheVariants.{Free}
+use Rattle.stateful_requests.specs.declared.state.Tables.{Tables}
+use Rattle.stateful_requests.specs.declared.tables.Released.{Released}
+use Rattle.stateful_requests.specs.declared.tables.Requested.{Requested}
 use Rattle.stateful_exec.proofs.Following.{FaultsAcquire-later}
-use Rattle.stateful_exec.specs.Rules.{requested, Acquires}
+use Rattle.stateful_requests.specs.Tables.{requested}
+use Rattle.stateful_exec.specs.Rules.{Acquires}
 use Rattle.stateful_exec.specs.Causes.{FaultsAcquire}
 
 module _ {B C I P R D H G U : Type 0} (w : Workings B C I P R D H G U) (stored : ℕ → Option (Named B)) (t : ℕ) (r again : Requested B C I) (same : again ≡ requested r.request) where

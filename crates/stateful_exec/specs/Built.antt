@@ -2,7 +2,7 @@
 use Rattle.std.specs.Prelude.{◌≡◌, ◌≢◌, ◌+◌, ◌<◌, ◌^◌, ◌∷◌, [], ℕ, Option, Some, None, Result, Ok}
 use Rattle.std.specs.Prelude.{Err, List, IfOk, IsErrOf}
 use Rattle.stateful_types.specs.Causes.{Rose}
-use Rattle.stateful_types.specs.Names.{Header, Named}
+use Rattle.stateful_types.specs.Names.{Named}
 use Rattle.sha2.specs.Sha256.{sha256}
 use Rattle.stateful_types.specs.declared.anchor.Anchor.{Anchor}
 use Rattle.stateful_types.specs.declared.outcome.Handoff.{Handoff}
@@ -18,46 +18,27 @@ use Rattle.stateful_db.specs.declared.application.ProposalKind.TheVariants.{Prep
 use Rattle.stateful_db.specs.declared.application.ProposedBlock.{ProposedBlock}
 use Rattle.stateful_history.specs.declared.mark.Decision.{Decision}
 use Rattle.stateful_history.specs.declared.mark.Decision.TheVariants as decision
-use Rattle.stateful_history.specs.declared.mark.How.TheVariants.{Kept, Missed, Nothing, Cancelled}
+use Rattle.stateful_history.specs.declared.mark.How.TheVariants.{Kept, Nothing, Cancelled}
 use Rattle.stateful_history.specs.declared.mark.Mark.{Mark}
 use Rattle.stateful_history.specs.declared.mark.Mark.TheVariants as mark
 use Rattle.stateful_cache.specs.declared.cache.Cached.{Cached}
-use Rattle.stateful_exec.specs.Errors.{error_of_app}
+use Rattle.stateful_requests.specs.Errors.{error_of_app}
 use Rattle.stateful_exec.specs.Workings.{Workings, Point}
 use Rattle.stateful_exec.specs.Moments.{Moment, Becomes}
-use Rattle.stateful_exec.specs.Ending.{Takes, ChangesPending}
-use Rattle.stateful_exec.specs.Fetching.{Cancels}
-use Rattle.stateful_exec.specs.declared.state.Tables.{Tables}
+use Rattle.stateful_requests.specs.Keeping.{Takes}
+use Rattle.stateful_requests.specs.Cancelling.{Cancels}
+use Rattle.stateful_requests.specs.declared.state.Tables.{Tables}
 use Rattle.stateful_exec.specs.declared.building.Building.{Building}
-use Rattle.stateful_exec.specs.declared.error.ExecError.{ExecError}
-use Rattle.stateful_exec.specs.declared.error.ExecError.TheVariants.{OutOfMemory, ProposalMismatch}
-use Rattle.stateful_exec.specs.declared.error.ExecError.TheVariants.{ProposalStale, PendingChanged}
-use Rattle.stateful_exec.specs.declared.error.ProposalFault.{ProposalFault}
-use Rattle.stateful_exec.specs.declared.error.ProposalFault.TheVariants.{Targets, Parent, Round}
+use Rattle.stateful_requests.specs.declared.error.ExecError.{ExecError}
+use Rattle.stateful_requests.specs.declared.error.ExecError.TheVariants.{OutOfMemory, ProposalMismatch}
+use Rattle.stateful_requests.specs.declared.error.ProposalFault.{ProposalFault}
+use Rattle.stateful_requests.specs.declared.error.ProposalFault.TheVariants.{Targets, Parent, Round}
+use Rattle.stateful_requests.specs.Keeping.{FaultsKeep}
 
 -- how a block is answered: as it was handed over, where it was to be prepared
 abbrev pub decided : ProposalKind → Decision → Decision
 decided Prepare handed = handed
 decided Propose handed = decision.Block
-
--- Why the cache doesn't keep a block that was built: an entry of its digest is of another parent or
--- round; or it is missed, as one that isn't later than the anchor is.
-abbrev pub FaultsKeep : {B U : Type 0}
-    → Header B
-    → Anchor
-    → Named B
-    → U
-    → List (Cached U)
-    → ExecError
-    → Type 0
-FaultsKeep header anchor b batch cache OutOfMemory = Unit {0}
-FaultsKeep header anchor b batch cache (PendingChanged before after) =
-    ChangesPending header b cache before after
-FaultsKeep header anchor b batch cache (ProposalStale at round) =
-    (at ≡ anchor.round)
-    × (round ≡ header.round b.block)
-    × Takes header anchor b batch cache cache Missed
-FaultsKeep header anchor b batch cache e = ⊥
 
 module _ {B C I P R D H G U : Type 0} (w : Workings B C I P R D H G U) where
   -- the batch leads to what the block commits to

@@ -1,10 +1,9 @@
 -- Turns of candidate runs, how their ends are told, and what becomes of the requests that waited
 -- for them.
-use Rattle.std.specs.Prelude.{◌≡◌, ◌≢◌, ◌⊎◌, ◌+◌, ◌++◌, ◌∷◌, [], ℕ, Option, Some, None, Result, Ok}
-use Rattle.std.specs.Prelude.{Err, List, Any, IfOk, IsErrOf}
+use Rattle.std.specs.Prelude.{◌≡◌, ◌≢◌, ◌+◌, ◌++◌, ◌∷◌, [], ℕ, Option, Some, None, Result, Ok}
+use Rattle.std.specs.Prelude.{Err, List, IfOk, IsErrOf}
 use Rattle.stateful_types.specs.Causes.{Rose}
-use Rattle.stateful_types.specs.Names.{Header, Named}
-use Rattle.stateful_types.specs.Round.{IsLater}
+use Rattle.stateful_types.specs.Names.{Named}
 use Rattle.stateful_types.specs.declared.anchor.Anchor.{Anchor}
 use Rattle.stateful_types.specs.declared.outcome.Moved.{Moved}
 use Rattle.stateful_types.specs.declared.outcome.Moved.TheVariants.{Pending, Done}
@@ -14,28 +13,25 @@ use Rattle.stateful_db.specs.Works.{RunOf, block_of, run_chain, Costs}
 use Rattle.stateful_db.specs.declared.application.AppFault.{AppFault}
 use Rattle.stateful_db.specs.declared.application.AppFault.TheVariants.{Failed}
 use Rattle.stateful_history.specs.declared.mark.How.{How}
-use Rattle.stateful_history.specs.declared.mark.How.TheVariants.{Kept, Rejected, Mismatched, Missed}
+use Rattle.stateful_history.specs.declared.mark.How.TheVariants.{Rejected, Mismatched}
 use Rattle.stateful_history.specs.declared.mark.Mark.TheVariants as mark
-use Rattle.stateful_cache.specs.Cache.{IsIn, IsAtHand}
+use Rattle.stateful_cache.specs.Cache.{IsIn}
 use Rattle.stateful_cache.specs.declared.cache.Cached.{Cached}
 use Rattle.stateful_table.specs.Table.{at, put, without}
-use Rattle.stateful_exec.specs.Boundary.{step_by, IsRetained, Completes}
-use Rattle.stateful_exec.specs.Phase.{released_on, not_on}
+use Rattle.stateful_requests.specs.Phase.{released_on}
 use Rattle.stateful_exec.specs.Workings.{Workings, Point}
 use Rattle.stateful_exec.specs.Moments.{Moment, Becomes}
-use Rattle.stateful_exec.specs.Rules.{moved, requested, Concludes, Advances}
-use Rattle.stateful_exec.specs.declared.boundary.ExecutionStep.{ExecutionStep}
-use Rattle.stateful_exec.specs.declared.error.ExecError.{ExecError}
-use Rattle.stateful_exec.specs.declared.error.ExecError.TheVariants.{OutOfMemory, PendingChanged}
-use Rattle.stateful_exec.specs.declared.pause.Pause.{Pause}
-use Rattle.stateful_exec.specs.declared.pause.Pause.TheVariants.{Finalizing, Pruning}
-use Rattle.stateful_exec.specs.declared.request.Verdict.TheVariants.{Invalid}
-use Rattle.stateful_exec.specs.declared.state.Tables.{Tables}
-use Rattle.stateful_exec.specs.declared.tables.Fate.{Fate}
-use Rattle.stateful_exec.specs.declared.tables.Fate.TheVariants as fate
-use Rattle.stateful_exec.specs.declared.tables.LiveRun.{LiveRun}
-use Rattle.stateful_exec.specs.declared.tables.Phase.TheVariants.{Parked}
-use Rattle.stateful_exec.specs.declared.tables.Released.{Released}
+use Rattle.stateful_requests.specs.Tables.{moved, requested}
+use Rattle.stateful_exec.specs.Rules.{Concludes, Advances}
+use Rattle.stateful_requests.specs.declared.pause.Pause.{Pause}
+use Rattle.stateful_requests.specs.declared.pause.Pause.TheVariants.{Pruning}
+use Rattle.stateful_requests.specs.declared.request.Verdict.TheVariants.{Invalid}
+use Rattle.stateful_requests.specs.declared.state.Tables.{Tables}
+use Rattle.stateful_requests.specs.declared.tables.LiveRun.{LiveRun}
+use Rattle.stateful_requests.specs.declared.tables.Phase.TheVariants.{Parked}
+use Rattle.stateful_requests.specs.declared.tables.Released.{Released}
+use Rattle.stateful_requests.specs.Keeping.{Takes}
+use Rattle.stateful_requests.specs.Fates.{Crosses, IsGivenUp, AwaitsBoundary, released}
 
 -- one relation after another, for each of these
 pub data InTurn {X M : Type 0} (R : X → M → M → Type 0) : List X → M → M → Type 0 where
@@ -55,91 +51,6 @@ pub record StopsAt {X M E : Type 0} (R : X → M → M → Type 0) (Faults : X �
   pub parts : all ≡ served ++ next ∷ rest
   pub turns : InTurn R served m mid
   pub fault : Faults next mid e
-
--- what an entry of the cache is of
-abbrev pub step_in : {U : Type 0} → Cached U → ExecutionStep
-step_in e = record { digest = e.digest; parent = e.parent; round = e.round }
-
--- What the cache takes of a block: an entry that is there keeps its states; a new one comes behind
--- the others where the block is later than the anchor and its parent is the anchor or cached; else
--- it is missed.
-pub data Takes {B U : Type 0} (header : Header B) (anchor : Anchor) (b : Named B) (batch : U)
-    (old new : List (Cached U)) : How
-    → Type 0 where
-  there : Any (λ e. step_in e ≡ step_by header b) old
-      → new ≡ old
-      → Takes header anchor b batch old new Kept
-  added : (IsIn old b.digest → ⊥)
-      → IsLater anchor.round (header.round b.block)
-      → IsAtHand anchor old (header.parent b.block)
-      → new ≡ old
-      ++ record {
-        digest =
-            b.digest;
-        parent =
-            header.parent b.block;
-        round = header.round b.block;
-        batch = batch;
-      }
-      ∷ []
-      → Takes header anchor b batch old new Kept
-  missed : (IsIn old b.digest → ⊥)
-      → (IsLater anchor.round (header.round b.block) → ⊥)
-      ⊎ (IsAtHand anchor old (header.parent b.block) → ⊥)
-      → new ≡ old → Takes header anchor b batch old new Missed
-
--- an entry of the block's digest is of another parent or round
-abbrev pub ChangesPending : {B U : Type 0}
-    → Header B
-    → Named B
-    → List (Cached U)
-    → (before after : ExecutionStep)
-    → Type 0
-ChangesPending header b cache before after =
-    Any (λ e. (e.digest ≡ b.digest) × (step_in e ≡ before)) cache
-    × (after ≡ step_by header b)
-    × (before ≢ after)
-
--- why the cache doesn't take a block
-abbrev pub FaultsTake : {B U : Type 0} → Header B → Named B → List (Cached U) → ExecError → Type 0
-FaultsTake header b cache OutOfMemory = Unit {0}
-FaultsTake header b cache (PendingChanged before after) = ChangesPending header b cache before after
-FaultsTake header b cache e = ⊥
-
--- while a finalization goes on, a block that goes on over it is compatible once its run has ended
-abbrev pub Crosses : {B : Type 0} → Header B → Named B → Pause → Pause → Type 0
-Crosses header b (Finalizing old) (Finalizing new) =
-    (IsRetained old (step_by header b) × Completes b.digest old new)
-    ⊎ ((IsRetained old (step_by header b) → ⊥) × (new ≡ old))
-Crosses header b (Finalizing old) new = ⊥
-Crosses header b old new = new ≡ old
-
--- the block doesn't go on over the finalization of another one
-abbrev pub IsGivenUp : {B : Type 0} → Header B → Pause → Named B → Type 0
-IsGivenUp header (Finalizing boundary) b =
-    (b.digest ≢ boundary.digest) × (IsRetained boundary (step_by header b) → ⊥)
-IsGivenUp header pause b = ⊥
-
--- the block is being finalized, and this run of it wasn't kept
-abbrev pub AwaitsBoundary : {B : Type 0} → Pause → Named B → How → Type 0
-AwaitsBoundary (Finalizing boundary) b how = (b.digest ≡ boundary.digest) × (how ≢ Kept)
-AwaitsBoundary pause b how = ⊥
-
--- what becomes of a request that waited for the run of a block, where the block is known or not
-abbrev pub IsFate : {B : Type 0} → Header B → Pause → Type 0 → Named B → How → Fate → Type 0
-IsFate header pause known b how fate.Invalid =
-    IsGivenUp header pause b ⊎ ((AwaitsBoundary pause b how → ⊥) × (known → ⊥))
-IsFate header pause known b how fate.Parked =
-    AwaitsBoundary pause b how ⊎ ((pause ≡ Pruning) × known)
-IsFate header pause known b how fate.GoesOn =
-    (IsGivenUp header pause b → ⊥)
-    × (AwaitsBoundary pause b how → ⊥)
-    × (pause ≢ Pruning)
-    × known
-
--- the requests that wait for the run of a job are taken out of their table
-abbrev pub released : {B C I R U : Type 0} → ℕ → Tables B C I R U → Tables B C I R U
-released job v = record v { requests = not_on job v.requests }
 
 module _ {B C I P R D H G U : Type 0} (w : Workings B C I P R D H G U) where
   -- A turn of a run: where the databases are at a point of its chain, it goes on, or ends with what

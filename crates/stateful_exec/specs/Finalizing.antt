@@ -1,13 +1,12 @@
 -- Finalizations: which blocks may be final next, runs of them, and what becomes of the anchor and
 -- of the cache.
-use Rattle.std.specs.Prelude.{◌≡◌, ◌≢◌, ◌↔◌, ◌<◌, ◌≤◌, ◌+◌, ◌⊎◌, ◌++◌, ◌∷◌, [], ℕ, Bool, true}
+use Rattle.std.specs.Prelude.{◌≡◌, ◌≢◌, ◌<◌, ◌≤◌, ◌+◌, ◌⊎◌, ◌++◌, ◌∷◌, [], ℕ, Bool, true}
 use Rattle.std.specs.Prelude.{false, Option, Some, None, IsSome, Result, Ok, Err, List, All}
-use Rattle.std.specs.Prelude.{Contains, IfOk, IsErrOf}
+use Rattle.std.specs.Prelude.{IfOk, IsErrOf}
 use Rattle.stateful_types.specs.Causes.{Rose}
 use Rattle.stateful_types.specs.Names.{Header, Named}
 use Rattle.stateful_types.specs.Anchor.{anchor_by}
 use Rattle.stateful_types.specs.declared.anchor.Anchor.{Anchor}
-use Rattle.stateful_types.specs.declared.digest.Digest.{Digest}
 use Rattle.stateful_types.specs.declared.outcome.Finality.TheVariants.{Finalized}
 use Rattle.stateful_types.specs.declared.outcome.Moved.{Moved}
 use Rattle.stateful_types.specs.declared.outcome.Moved.TheVariants.{Pending, Done}
@@ -25,25 +24,24 @@ use Rattle.stateful_cache.specs.Cache.{IsIn}
 use Rattle.stateful_cache.specs.Cut.{IsCutTo, IsRootOf}
 use Rattle.stateful_cache.specs.declared.cache.Cached.{Cached}
 use Rattle.stateful_table.specs.Table.{at}
-use Rattle.stateful_exec.specs.Boundary.{Boundary}
-use Rattle.stateful_exec.specs.Errors.{error_of_app}
+use Rattle.stateful_requests.specs.Errors.{error_of_app}
 use Rattle.stateful_exec.specs.Workings.{Workings, Point}
 use Rattle.stateful_exec.specs.Moments.{Moment}
-use Rattle.stateful_exec.specs.Starting.{IsLeft}
+use Rattle.stateful_requests.specs.Tables.{IsLeft}
 use Rattle.stateful_exec.specs.Causes.{FaultsAnswer, FaultsStep}
 use Rattle.stateful_exec.specs.Built.{CommitsElse}
 use Rattle.stateful_exec.specs.Ending.{Turns, Agrees, SettlesBy, Steps}
-use Rattle.stateful_exec.specs.declared.error.ExecError.{ExecError}
-use Rattle.stateful_exec.specs.declared.error.ExecError.TheVariants.{ConflictAtAnchor}
-use Rattle.stateful_exec.specs.declared.error.ExecError.TheVariants.{SkippedHeight, NotExtending}
-use Rattle.stateful_exec.specs.declared.error.ExecError.TheVariants.{FinalizedRejected}
-use Rattle.stateful_exec.specs.declared.error.ExecError.TheVariants.{FinalizedMismatch, Application}
-use Rattle.stateful_exec.specs.declared.error.ExecError.TheVariants.{Exhausted, OutOfMemory}
-use Rattle.stateful_exec.specs.declared.error.ProposalFault.TheVariants.{Targets}
+use Rattle.stateful_requests.specs.declared.error.ExecError.{ExecError}
+use Rattle.stateful_requests.specs.declared.error.ExecError.TheVariants.{ConflictAtAnchor}
+use Rattle.stateful_requests.specs.declared.error.ExecError.TheVariants.{SkippedHeight, NotExtending}
+use Rattle.stateful_requests.specs.declared.error.ExecError.TheVariants.{FinalizedRejected}
+use Rattle.stateful_requests.specs.declared.error.ExecError.TheVariants.{FinalizedMismatch, Application}
+use Rattle.stateful_requests.specs.declared.error.ExecError.TheVariants.{Exhausted, OutOfMemory}
+use Rattle.stateful_requests.specs.declared.error.ProposalFault.TheVariants.{Targets}
 use Rattle.stateful_exec.specs.declared.front.Front.{Front}
 use Rattle.stateful_exec.specs.declared.front.Stage.{Stage}
 use Rattle.stateful_exec.specs.declared.front.Stage.TheVariants.{Running, Ran, Advanced, Hooking}
-use Rattle.stateful_exec.specs.declared.state.Tables.{Tables}
+use Rattle.stateful_requests.specs.declared.state.Tables.{Tables}
 
 module _ {B : Type 0} (header : Header B) (anchor : Anchor) (b : Named B) where
   -- no higher than the anchor, and at its height the anchor itself
@@ -79,16 +77,6 @@ module _ {B : Type 0} (header : Header B) (anchor : Anchor) (b : Named B) where
       × (given ≡ header.parent b.block)
       × (given ≢ expected)
   FaultsBegin e = ⊥
-
--- The boundary of the finalization of a block: compatible are the block and its cached descendants
--- of later rounds.
-pub record IsBoundaryOf {B U : Type 0} (header : Header B) (b : Named B) (cache : List (Cached U))
-    (boundary : Boundary) : Type 0 where
-  pub digest_is : boundary.digest ≡ b.digest
-  pub round_is : boundary.round ≡ header.round b.block
-  pub kept : List (Cached U)
-  pub cut : IsCutTo (anchor_by header b) cache kept
-  pub each : (d : Digest) → Contains boundary.compatible d ↔ ((d ≡ b.digest) ⊎ IsIn kept d)
 
 -- a finalization of this block goes on, and has come so far
 abbrev pub front_at : {B R U H : Type 0} → Named B → Stage R U H → Option (Front B R U H)

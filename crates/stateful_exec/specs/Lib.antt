@@ -1,9 +1,3 @@
-pub mod Boundary
-pub mod Errors
-pub mod Request
-pub mod Path
-pub mod Phase
-pub mod Walk
 pub mod Workings
 pub mod State
 pub mod Moments

@@ -1,5 +1,5 @@
 -- The start of a candidate run.
-use Rattle.std.specs.Prelude.{◌≡◌, ◌≢◌, ◌+◌, ◌-◌, ◌^◌, ◌<◌, ◌≤◌, ◌++◌, ◌∷◌, [], ℕ, Some, None, List}
+use Rattle.std.specs.Prelude.{◌≡◌, ◌≢◌, ◌+◌, ◌++◌, ◌∷◌, [], Some, None, List}
 use Rattle.std.specs.Prelude.{Contains}
 use Rattle.stateful_types.specs.Names.{Named}
 use Rattle.stateful_types.specs.declared.digest.Digest.{Digest}
@@ -9,15 +9,8 @@ use Rattle.stateful_db.specs.Works.{run_of}
 use Rattle.stateful_cache.specs.declared.cache.Cached.{Cached}
 use Rattle.stateful_table.specs.Table.{put}
 use Rattle.stateful_exec.specs.Workings.{Workings, Point}
-use Rattle.stateful_exec.specs.declared.state.Tables.{Tables}
-
--- the number isn't the last one
-abbrev pub IsLeft : ℕ → Type 0
-IsLeft number = number < 2 ^ 64 - 1
-
--- the numbers that are drawn next don't fall
-abbrev pub Rises : {B C I R U : Type 0} → (old new : Tables B C I R U) → Type 0
-Rises old new = (old.next_job ≤ new.next_job) × (old.next_fetch ≤ new.next_fetch)
+use Rattle.stateful_requests.specs.declared.state.Tables.{Tables}
+use Rattle.stateful_requests.specs.Tables.{IsLeft}
 
 module _ {B C I P R D H G U : Type 0} (w : Workings B C I P R D H G U) where
   -- Something holds over the states of the block of a digest: over those of the databases, where it

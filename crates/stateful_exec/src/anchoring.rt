@@ -12,56 +12,28 @@
 //! `Moves`, `Observes` and `TurnsHook` of `specs/Finalizing.antt` have the rules, and docs/RULES.md
 //! says them in words, "The anchor's move" and "A hook".
 
-ghost use Rattle.std.specs.Prelude.{◌≡◌, ◌≢◌, ◌≤◌, ◌⊎◌, true, false, All, Some, None, OnOk, IfOk};
+ghost use Rattle.std.specs.Prelude.{◌≡◌, ◌≤◌, ◌⊎◌, true, false, Some, None, OnOk, IfOk};
 ghost use Rattle.std.specs.Prelude.{IfErr, IfSome, IfNone, IsErrOf, OnErr};
 ghost use Rattle.stateful_types.specs.Anchor.{anchor_by};
 ghost use Rattle.stateful_types.specs.Causes.{Rose};
 ghost use Rattle.stateful_types.specs.Names.{Named};
-ghost use Rattle.stateful_cache.specs.Cache.{IsIn};
-ghost use Rattle.stateful_cache.specs.Cut.{IsCutTo, IsRootOf};
+ghost use Rattle.stateful_cache.specs.Cut.{IsCutTo};
 ghost use Rattle.stateful_exec.specs.Finalizing.{front_at, HasStates, IsRoot, Moves, FaultsMove};
 ghost use Rattle.stateful_exec.specs.Finalizing.{Observes, HooksOn, FaultsHooksOn, FaultsObserve};
 ghost use Rattle.stateful_exec.specs.Finalizing.{IsHookLive, SettlesHook, FaultsSettleHook};
 ghost use Rattle.stateful_exec.specs.Finalizing.{TurnsHook, FaultsHook};
-ghost use Rattle.stateful_exec.specs.Starting.{IsLeft, Rises};
+ghost use Rattle.stateful_requests.specs.Tables.{Rises};
 ghost use Rattle.stateful_exec.specs.declared.front.Stage.TheVariants as stage;
 
-use crate::error::ExecError;
 use crate::finalizing::FrontOf;
 use crate::front::{Front, Stage};
 use crate::running::TablesOf;
-use crate::state::Tables;
 use crate::worked::Worked;
-use stateful_cache::{Cache, Cut};
 use stateful_db::{AppFault, Application, Batch, DatabaseSet, Hooked};
 use stateful_history::{How, JobKind, Mark};
-use stateful_types::{Anchor, Block, Digested, Moved, OutOfMemory, Share};
+use stateful_requests::ExecError;
+use stateful_types::{Block, Digested, Moved, OutOfMemory, Share};
 use std::mem;
-
-impl<B: Block + Drop, C: Copy, I: Drop, R: Drop, U: Drop> Tables<B, C, I, R, U> {
-    /// Makes a block the anchor, and cuts the cache to its descendants of later rounds. The batch
-    /// of its entry is handed out, if there was one.
-    fn cut(&mut self, block: &Digested<B>) -> Result<Option<U>, OutOfMemory>
-        ensures kept { OnOk result (IsCutTo (anchor_by B.header block.now) self.old.cache
-            self.new.cache) }
-        ensures some { IfOk result (λ root. IfSome root
-            (IsRootOf (anchor_by B.header block.now) self.old.cache)) }
-        ensures none { IfOk result (λ root. IfNone root
-            (All (λ e. e.digest ≢ block.now.digest) self.old.cache)) }
-        ensures rest { OnOk result (self.new ≡ record self.old {
-          anchor = anchor_by B.header block.now;
-          cache = self.new.cache;
-        }) }
-        ensures numbers { Rises self.old self.new }
-    {
-        let root = Anchor::from_block(block);
-        let cache = mem::replace(&mut self.cache, Cache::new(self.alloc));
-        let Cut { root: batch, kept } = cache.cut(self.alloc, root)?;
-        self.cache = kept;
-        self.anchor = root;
-        Ok(batch)
-    }
-}
 
 /// Takes the batch that the run of a finalized block has led to, if there is one.
 fn take_ran<A: Application>(front: &mut Option<FrontOf<A>>) -> Option<Batch<A>>

@@ -12,22 +12,20 @@
 //! `specs/Built.antt` has the rules (`TurnsBuild`, `IsOther`, `GivesUp`), and docs/RULES.md says
 //! them in words, "Builds and cancels".
 
-ghost use Rattle.std.specs.Prelude.{◌≡◌, ◌++◌, ◌∷◌, [], List, OnOk, IfOk, IfErr, IfSome, IfNone};
-ghost use Rattle.stateful_exec.specs.Built.{decided, IsOther, IsAskedFor, IsBuilt, FaultsKeep};
+ghost use Rattle.std.specs.Prelude.{◌≡◌, ◌++◌, List, OnOk, IfOk, IfErr, IfSome, IfNone};
+ghost use Rattle.stateful_exec.specs.Built.{decided, IsOther, IsAskedFor, IsBuilt};
 ghost use Rattle.stateful_exec.specs.Built.{FaultsBuilt, Gives, EndsBuild, FaultsGiven, TurnsBuild};
 ghost use Rattle.stateful_exec.specs.Built.{FaultsTurn, GivesUp};
 ghost use Rattle.stateful_history.specs.declared.mark.Mark.{Mark as Marked};
-ghost use Rattle.stateful_exec.specs.Ending.{Takes};
 ghost use Rattle.stateful_exec.specs.Moments.{moment};
-ghost use Rattle.stateful_exec.specs.Starting.{Rises};
+ghost use Rattle.stateful_requests.specs.Tables.{Rises};
 
-use crate::error::{ExecError, ProposalFault};
 use crate::proposing::BuildingOf;
 use crate::running::TablesOf;
-use crate::state::Tables;
 use crate::worked::Worked;
 use stateful_db::{Application, DatabaseSet, ProposalKind, Proposed, ProposedBlock};
 use stateful_history::{Decision, How, Mark};
+use stateful_requests::{ExecError, ProposalFault};
 use stateful_types::{Block, Digested, Handoff, Moved, OutOfMemory, Rounded, Share};
 use std::mem;
 
@@ -38,27 +36,6 @@ fn decide(kind: ProposalKind, handed: Decision) -> Decision
     match kind {
         ProposalKind::Prepare => handed,
         ProposalKind::Propose => Decision::Block,
-    }
-}
-
-impl<B: Block + Drop, C: Copy, I: Drop, R: Drop, U: Drop> Tables<B, C, I, R, U> {
-    /// The cache keeps a block that was built with its sealed batch.
-    fn keep_built(&mut self, block: &Digested<B>, batch: U) -> Result<(), ExecError>
-        ensures takes { OnOk result (Takes B.header self.old.anchor block.now batch
-            self.old.cache self.new.cache How.Kept) }
-        ensures rest { OnOk result (self.new ≡ record self.old { cache = self.new.cache }) }
-        ensures numbers { Rises self.old self.new }
-        ensures fault { IfErr result (FaultsKeep B.header self.old.anchor block.now batch
-            self.old.cache) }
-    {
-        let anchor = self.anchor.round;
-        match self.keep(block, batch)? {
-            How::Missed => Err(ExecError::ProposalStale {
-                anchor,
-                round: block.round(),
-            }),
-            _ => Ok(()),
-        }
     }
 }
 

@@ -22,18 +22,19 @@ ghost use Rattle.stateful_exec.specs.Causes.{FaultsStart};
 ghost use Rattle.stateful_exec.specs.Finalizing.{IsRedelivered, Conflicts, MayBegin, FaultsBegin};
 ghost use Rattle.stateful_exec.specs.Finalizing.{front_at, RunsFinal, IsFinalBatch, FaultsFinal};
 ghost use Rattle.stateful_exec.specs.Finalizing.{IsFinalLive, StepsFinal, FaultsStepFinal};
-ghost use Rattle.stateful_exec.specs.Finalizing.{SettlesFinal, FaultsSettleFinal, Completes};
+ghost use Rattle.stateful_exec.specs.Finalizing.{SettlesFinal, FaultsSettleFinal};
+ghost use Rattle.stateful_exec.specs.Finalizing.{Completes};
 ghost use Rattle.stateful_exec.specs.Finalizing.{FaultsComplete, SettlesRun, FaultsSettleRun};
 ghost use Rattle.stateful_exec.specs.Moments.{moment};
-ghost use Rattle.stateful_exec.specs.Starting.{IsLeft, Rises};
+ghost use Rattle.stateful_requests.specs.Tables.{Rises};
 
 use crate::ending::{Turned, complete, settle};
-use crate::error::ExecError;
 use crate::front::{Front, Stage};
 use crate::running::TablesOf;
 use crate::worked::Worked;
 use stateful_db::{Application, Batch, DatabaseSet};
 use stateful_history::{How, JobKind, Mark};
+use stateful_requests::ExecError;
 use stateful_types::{Ancestry, Anchor, Block, Digested, Finality, Height, Items, Moved, Share};
 use std::mem;
 

@@ -25,25 +25,24 @@ ghost use Rattle.stateful_exec.specs.Building.{Proposes, FaultsPropose};
 ghost use Rattle.stateful_exec.specs.Built.{TurnsBuild, FaultsTurn};
 ghost use Rattle.stateful_exec.specs.Causes.{FaultsStart};
 ghost use Rattle.stateful_exec.specs.Finalizing.{IsRedelivered, Conflicts, MayBegin, FaultsBegin};
-ghost use Rattle.stateful_exec.specs.Finalizing.{IsBoundaryOf, front_at, RunsFinal, Moves};
+ghost use Rattle.stateful_requests.specs.Boundary.{IsBoundaryOf};
+ghost use Rattle.stateful_exec.specs.Finalizing.{front_at, RunsFinal, Moves};
 ghost use Rattle.stateful_exec.specs.Finalizing.{FaultsMove, Observes, FaultsObserve, TurnsHook};
 ghost use Rattle.stateful_exec.specs.Finalizing.{FaultsHook};
 ghost use Rattle.stateful_exec.specs.Moments.{moment};
-ghost use Rattle.stateful_exec.specs.Starting.{Rises};
+ghost use Rattle.stateful_requests.specs.Tables.{Rises};
 
 use crate::anchoring::{advance_to, observe, turn_hook};
-use crate::boundary::FinalizationBoundary;
 use crate::building::BuildStart;
 use crate::built::turn_build;
-use crate::error::ExecError;
 use crate::finalizing::{FrontOf, begin, is_redelivered, run_finalized};
 use crate::front::Stage;
 use crate::proposing::{BuildingOf, propose};
 use crate::running::TablesOf;
-use crate::state::Tables;
 use crate::worked::Worked;
 use stateful_db::{Application, Batch, DatabaseSet};
 use stateful_history::Mark;
+use stateful_requests::{ExecError, FinalizationBoundary, Tables};
 use stateful_types::{Anchor, Digest, Digested, OutOfMemory};
 use std::alloc::Global;
 use std::marker::{Model, PhantomData};
@@ -71,7 +70,7 @@ impl<A: Application + Drop, M> Model for Execution<A, M> {
     ghost use Rattle.std.specs.Prelude.{Option};
     ghost use Rattle.stateful_exec.specs.declared.building.Building.{Building};
     ghost use Rattle.stateful_exec.specs.declared.front.Front.{Front};
-    ghost use Rattle.stateful_exec.specs.declared.state.Tables.{Tables};
+    ghost use Rattle.stateful_requests.specs.declared.state.Tables.{Tables};
 
     ghost Value = { Owner A (Tables A.Block A.Context A.Input A.Run A.Databases.Merkleized)
         (Option (Building A.Block A.Context A.Build))

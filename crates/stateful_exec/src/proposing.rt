@@ -11,24 +11,22 @@
 //! `Proposes` and `Unqueues` of `specs/Building.antt` have the rules, and docs/RULES.md says them
 //! in words, "A build".
 
-ghost use Rattle.std.specs.Prelude.{◌≡◌, ◌≢◌, ◌⊎◌, ◌≤◌, ◌+◌, ◌∷◌, ℕ, List, None, OnOk, OnErr, IfOk};
-ghost use Rattle.std.specs.Prelude.{IfErr, IfSome, IsErrOf};
+ghost use Rattle.std.specs.Prelude.{◌≡◌, ◌≤◌, ◌∷◌, ℕ, List, None, OnOk, IfOk};
+ghost use Rattle.std.specs.Prelude.{IfErr, IsErrOf};
 ghost use Rattle.stateful_types.specs.Causes.{Rose};
 ghost use Rattle.stateful_db.specs.Works.{build_of};
-ghost use Rattle.stateful_exec.specs.Building.{asked_by, unqueued, IsReady, Unqueues, IsNewBuild};
+ghost use Rattle.stateful_exec.specs.Building.{asked_by, IsNewBuild};
 ghost use Rattle.stateful_exec.specs.Building.{Proposes, FaultsPropose};
-ghost use Rattle.stateful_exec.specs.Causes.{FaultsBatches, FaultsStart};
-ghost use Rattle.stateful_exec.specs.Rules.{Knows};
-ghost use Rattle.stateful_exec.specs.Starting.{IsLeft, IsOver, Rises};
+ghost use Rattle.stateful_exec.specs.Causes.{FaultsStart};
+ghost use Rattle.stateful_requests.specs.Tables.{Knows};
+ghost use Rattle.stateful_requests.specs.Tables.{IsLeft, Rises};
+ghost use Rattle.stateful_exec.specs.Starting.{IsOver};
 
 use crate::building::{BuildStart, Building};
-use crate::error::ExecError;
-use crate::queued::Queued;
-use crate::request::Proposal;
 use crate::running::{TablesOf, begin};
-use crate::state::Tables;
 use crate::worked::Worked;
 use stateful_db::{AppFault, Application, DatabaseSet, Input, OpenBatch, ProposalKind};
+use stateful_requests::{ExecError, Proposal, Queued};
 use stateful_types::{Block, Digested, Share};
 
 /// A build of an application.
@@ -44,51 +42,6 @@ pub type ProposalOf<A> = Proposal<
     <A as Application>::Context,
     <A as Application>::Input,
 >;
-
-impl<B: Block + Drop, C: Copy, I: Drop, R: Drop, U: Drop> Tables<B, C, I, R, U> {
-    /// The number of the next job is drawn. `Exhausted` exactly where that is the last one.
-    pub(crate) fn draw_job(&mut self) -> Result<u64, ExecError>
-        ensures job { IfOk result (λ job. job ≡ self.old.next_job) }
-        ensures left { OnOk result (IsLeft self.old.next_job) }
-        ensures ok { OnOk result (self.new
-            ≡ record self.old { next_job = self.old.next_job + 1 }) }
-        ensures err { IfErr result (λ e. (e ≡ ExecError.Exhausted)
-            × (IsLeft self.old.next_job → ⊥)) }
-        ensures same { OnErr result (self.new ≡ self.old) }
-    {
-        let job = self.next_job;
-        if job == u64::MAX {
-            return Err(ExecError::Exhausted);
-        }
-        self.next_job = job + 1;
-        Ok(job)
-    }
-
-    /// Takes the proposal of a ticket out of the queue. Where the block that it is to be built on
-    /// is known, the number of its job is drawn.
-    pub(crate) fn unqueue(&mut self, ticket: u64) -> Result<Option<Queued<B, C, I>>, ExecError>
-        ensures ok { IfOk result (Unqueues self.old ticket self.new) }
-        ensures known { IfOk result (λ found. IfSome found (λ q. Knows self.new q.parent.digest)) }
-        ensures fault { IfErr result (λ e. (e ≡ ExecError.OutOfMemory)
-            ⊎ ((e ≡ ExecError.Exhausted) × (IsLeft self.old.next_job → ⊥)
-            × (p : Proposal B C I) × IsReady self.old ticket p)) }
-        ensures numbers { Rises self.old self.new }
-    {
-        let Some(proposal) = self.queued.remove(ticket) else {
-            return Ok(None);
-        };
-        let parent = proposal.ancestry.first.share()?;
-        if !self.knows(parent.digest()) {
-            return Ok(None);
-        }
-        let job = self.draw_job()?;
-        Ok(Some(Queued {
-            job,
-            proposal,
-            parent,
-        }))
-    }
-}
 
 /// A build of a proposal on these batches.
 fn ask<A: Application>(

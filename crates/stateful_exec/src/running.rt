@@ -22,25 +22,23 @@ ghost use Rattle.stateful_types.specs.Causes.{Rose};
 ghost use Rattle.stateful_types.specs.declared.outcome.Finality.TheVariants.{Candidate};
 ghost use Rattle.stateful_cache.specs.Cache.{IsAtHand};
 ghost use Rattle.stateful_exec.specs.Moments.{moment};
-ghost use Rattle.stateful_exec.specs.Starting.{IsOver, IsFresh, Rises, StartsRun};
-ghost use Rattle.stateful_exec.specs.Rules.{requested, Knows, Advances, Acquires};
+ghost use Rattle.stateful_exec.specs.Starting.{IsOver, IsFresh, StartsRun};
+ghost use Rattle.stateful_requests.specs.Tables.{Rises};
+ghost use Rattle.stateful_requests.specs.Tables.{requested, Knows};
+ghost use Rattle.stateful_exec.specs.Rules.{Advances, Acquires};
 ghost use Rattle.stateful_exec.specs.Fetching.{IsFetched, FaultsFetched};
 ghost use Rattle.stateful_exec.specs.Causes.{FaultsBatches, FaultsStart, FaultsAdvance};
 ghost use Rattle.stateful_exec.specs.Causes.{FaultsAcquire};
 
-use crate::error::ExecError;
-use crate::met::Met;
-use crate::path::ReplayPath;
-use crate::request::{Request, Verdict};
-use crate::state::Tables;
-use crate::tables::{Phase, Requested};
-use crate::walk::{Acquired, prepare};
 use crate::worked::Worked;
 use stateful_cache::Cache;
 use stateful_db::{Application, Batch, DatabaseSet, OpenBatch};
 use stateful_history::{JobKind, Mark};
+use stateful_requests::{
+    Acquired, ExecError, Met, Phase, ReplayPath, Request, Requested, Tables, Verdict, prepare,
+};
 use stateful_types::{
-    Ancestry, Anchor, Block, BlockStore, Digest, Digested, Finality, Items, OutOfMemory, Share,
+    Ancestry, Anchor, Block, BlockStore, Digested, Finality, Items, OutOfMemory, Share,
 };
 use std::alloc::Global;
 

@@ -13,36 +13,25 @@
 //! `specs/Verifying.antt` has the rules (`SetsOut`, `HasNext`, `Processes`), and docs/RULES.md says
 //! them in words, "Along its path by hand".
 
-ghost use Rattle.std.specs.Prelude.{◌≡◌, ◌≢◌, ◌↔◌, ◌≤◌, ◌++◌, ◌∷◌, [], ℕ, true, false, IsTrue};
-ghost use Rattle.std.specs.Prelude.{OnOk, IfOk, IfErr, IfSome, IfNone, IsErrOf};
-ghost use Rattle.std.specs.Option.{option_copied};
+ghost use Rattle.std.specs.Prelude.{◌≡◌, ◌≤◌, ℕ};
+ghost use Rattle.std.specs.Prelude.{IfOk, IfErr, IfSome, IfNone, IsErrOf};
 ghost use Rattle.stateful_types.specs.Causes.{Rose};
 ghost use Rattle.stateful_types.specs.Names.{Named};
-ghost use Rattle.stateful_exec.specs.Boundary.{step_by};
-ghost use Rattle.stateful_exec.specs.Fetching.{IsIdle};
+ghost use Rattle.stateful_requests.specs.Boundary.{step_by};
 ghost use Rattle.stateful_exec.specs.Moments.{moment};
-ghost use Rattle.stateful_exec.specs.Rules.{taken, JoinsAs, MeetsOnKnown};
-ghost use Rattle.stateful_exec.specs.Starting.{Rises};
-ghost use Rattle.stateful_exec.specs.Verifying.{IsFree, IsParked, HasNext, SetsOut, Prepares};
+ghost use Rattle.stateful_requests.specs.Tables.{Rises};
+ghost use Rattle.stateful_requests.specs.Stepping.{HasNext, SetsOut};
+ghost use Rattle.stateful_requests.specs.Stepping.{Prepares};
 ghost use Rattle.stateful_exec.specs.Verifying.{Processes, FaultsProcess};
-ghost use Rattle.stateful_exec.specs.declared.request.Request.{Request as Req};
-ghost use Rattle.stateful_exec.specs.Path.{Path};
 
-use crate::boundary::ExecutionStep;
-use crate::error::ExecError;
 use crate::handler::{Handler, Handling};
-use crate::met::Met;
-use crate::path::ReplayPath;
 use crate::processor::Execution;
-use crate::request::{Request, Verdict};
 use crate::running::{TablesOf, launch};
-use crate::state::Tables;
-use crate::tables::{Phase, Requested};
-use crate::walk::{Acquired, prepare};
 use crate::worked::Worked;
 use stateful_db::{Application, DatabaseSet};
 use stateful_history::Mark;
-use stateful_types::{Block, BlockStore, Digested, OutOfMemory};
+use stateful_requests::{Acquired, ExecError, ExecutionStep, Met, ReplayPath, Verdict, prepare};
+use stateful_types::{Block, BlockStore, OutOfMemory};
 
 /// An application with its requests, whose paths are taken a block at a time.
 pub type Verifier<A> = Handler<A>;
@@ -56,131 +45,6 @@ pub enum Joined {
     Run(u64),
     /// Its parent isn't known, and the request has ended.
     Missed,
-}
-
-impl<B> Phase<B> {
-    /// Whether the request waits for no run and no fetch.
-    fn is_idle(&self) -> bool
-        ensures { IsTrue result ↔ IsIdle self.now }
-    {
-        match self {
-            Phase::Open | Phase::Waiting | Phase::Parked(_) => true,
-            Phase::Fetching(_) | Phase::Executing { .. } => false,
-        }
-    }
-
-    /// The blocks of a parked request.
-    fn parked(&self) -> Option<&ReplayPath<B>>
-        ensures some { IfSome (option_copied result) (λ path. self.now ≡ Phase.Parked path) }
-        ensures none { IfNone result ((path : Path B) → self.now ≡ Phase.Parked path → ⊥) }
-    {
-        match self {
-            Phase::Parked(path) => Some(path),
-            _ => None,
-        }
-    }
-}
-
-impl<B: Block + Drop, C: Copy, I: Drop, R: Drop, U: Drop> Tables<B, C, I, R, U> {
-    /// Takes a request out of its table that waits for no run and no fetch.
-    fn take_free(&mut self, ticket: u64) -> Option<Request<B, C, I>>
-        ensures free { IfSome result (IsFree self.old ticket) }
-        ensures rest { IfSome result (λ _. self.new ≡ taken self.old ticket) }
-        ensures none { IfNone result ((request : Req B C I)
-            → IsFree self.old ticket request
-            → ⊥) }
-        ensures same { IfNone result (self.new ≡ self.old) }
-    {
-        if !self.requests.get(ticket)?.phase.is_idle() {
-            return None;
-        }
-        let requested = self.take(ticket);
-        Some(requested.request)
-    }
-
-    /// The next block of the request of a ticket, where it is parked.
-    fn next_of(&self, ticket: u64) -> Option<&Digested<B>>
-        ensures next { IfSome (option_copied result) (HasNext self.now ticket) }
-        ensures none { IfNone result ((b : Named B) → HasNext self.now ticket b → ⊥) }
-    {
-        self.requests.get(ticket)?.phase.parked()?.next()
-    }
-
-    /// The same as a step.
-    fn next_step(&self, ticket: u64) -> Option<ExecutionStep>
-        ensures next { IfSome result (λ step. (b : Named B)
-            × HasNext self.now ticket b
-            × (step ≡ step_by B.header b)) }
-        ensures none { IfNone result ((b : Named B) → HasNext self.now ticket b → ⊥) }
-    {
-        Some(ExecutionStep::of(self.next_of(ticket)?))
-    }
-
-    /// What the request of a ticket needs, with the blocks that were acquired for it so far.
-    fn needs<S: BlockStore<B>>(
-        &self,
-        ticket: u64,
-        store: &S,
-    ) -> Result<Option<Acquired<B>>, OutOfMemory>
-        ensures { IfOk result (Prepares self.now ticket B.header (S.stored store.now)) }
-    {
-        let Some(requested) = self.requests.get(ticket) else {
-            return Ok(None);
-        };
-        let acquired = requested.acquired.as_slice();
-        let found = prepare(
-            self.alloc,
-            self.anchor,
-            &self.cache,
-            store,
-            &requested.request,
-            acquired,
-        )?;
-        Ok(Some(found))
-    }
-
-    /// Takes a parked request with a next block out of its table.
-    fn take_next(&mut self, ticket: u64) -> Option<(Request<B, C, I>, ReplayPath<B>)>
-        ensures parked { IfSome result (λ found. IsParked self.old ticket found.0 found.1) }
-        ensures some { IfSome result (λ found. found.1.blocks ≢ []) }
-        ensures rest { IfSome result (λ _. self.new ≡ taken self.old ticket) }
-        ensures none { IfNone result ((b : Named B) → HasNext self.old ticket b → ⊥) }
-        ensures same { IfNone result (self.new ≡ self.old) }
-    {
-        let _ = self.next_of(ticket)?;
-        let Requested {
-            request,
-            acquired: _,
-            phase,
-        } = self.take(ticket);
-        let Phase::Parked(path) = phase else {
-            unreachable!();
-        };
-        Some((request, path))
-    }
-
-    /// Passes the next block of a path, and tells what it is. A block that is to be run is met on a
-    /// known parent.
-    fn join_next(&self, path: &mut ReplayPath<B>) -> Result<Met<B>, OutOfMemory>
-        requires { path.old.blocks ≢ [] }
-        ensures passed { path.old.blocks ≡ path.new.blocks ++ path.new.parent ∷ [] }
-        ensures joins { IfOk result (JoinsAs B.header self.now path.new.parent path.old.parent) }
-        ensures on_known { IfOk result (MeetsOnKnown B.header self.now) }
-    {
-        self.join(path)
-    }
-
-    /// The request of a ticket is to go along this path, where it waits for no run and no fetch.
-    fn set_out(&mut self, ticket: u64, path: ReplayPath<B>) -> Result<bool, OutOfMemory>
-        ensures ok { IfOk result (SetsOut self.old ticket path self.new) }
-        ensures numbers { Rises self.old self.new }
-    {
-        let Some(request) = self.take_free(ticket) else {
-            return Ok(false);
-        };
-        self.park(ticket, request, path)?;
-        Ok(true)
-    }
 }
 
 /// The next block of a request's path is known and left behind, or the request joins its run or

@@ -8,7 +8,7 @@ use Rattle.stateful_history.specs.declared.event.Event.TheVariants.{Restart}
 use Rattle.stateful_history.specs.declared.mark.How.TheVariants.{Cancelled}
 use Rattle.stateful_history.specs.declared.mark.Mark.{Mark}
 use Rattle.stateful_history.specs.declared.mark.Mark.TheVariants.{Withdrawn, Ended, Declined, Dropped, Stopped, BarrierDone}
-use Rattle.stateful_exec.specs.Starting.{Rises}
+use Rattle.stateful_requests.specs.Tables.{Rises}
 use Rattle.stateful_exec.specs.Workings.{Workings}
 use Rattle.stateful_keeping.specs.Down.{IsEnding, IsCounted}
 use Rattle.stateful_keeping.specs.Stands.{IsUpAt}

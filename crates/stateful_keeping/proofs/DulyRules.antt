@@ -18,16 +18,16 @@ use Rattle.stateful_history.specs.Past.{Past, Made, EachMark}
 use Rattle.stateful_history.specs.declared.event.Event.{Event}
 use Rattle.stateful_history.specs.declared.mark.Mark.{Mark}
 use Rattle.stateful_history.specs.declared.mark.Mark.TheVariants as mark
-use Rattle.stateful_exec.specs.Fetching.{IsLiveFetch}
+use Rattle.stateful_requests.specs.Fetching.{IsLiveFetch}
 use Rattle.stateful_exec.specs.Finalizing.{HooksOn}
-use Rattle.stateful_exec.specs.Rules.{requested}
-use Rattle.stateful_exec.specs.Request.{ticket_by}
+use Rattle.stateful_requests.specs.Tables.{requested}
+use Rattle.stateful_requests.specs.Request.{ticket_by}
 use Rattle.stateful_exec.specs.Workings.{Workings}
 use Rattle.stateful_exec.specs.declared.front.Front.{Front}
-use Rattle.stateful_exec.specs.declared.state.Tables.{Tables}
-use Rattle.stateful_exec.specs.declared.tables.Phase.{Phase}
-use Rattle.stateful_exec.specs.declared.tables.Phase.TheVariants.{Fetching}
-use Rattle.stateful_exec.specs.declared.tables.Requested.{Requested}
+use Rattle.stateful_requests.specs.declared.state.Tables.{Tables}
+use Rattle.stateful_requests.specs.declared.tables.Phase.{Phase}
+use Rattle.stateful_requests.specs.declared.tables.Phase.TheVariants.{Fetching}
+use Rattle.stateful_requests.specs.declared.tables.Requested.{Requested}
 use Rattle.stateful_standing.specs.Requesting.{IsInPhase, IsStanding}
 use Rattle.stateful_standing.specs.Setting.{setting}
 use Rattle.stateful_standing.proofs.FollowStands.{below_apart}

@@ -21,15 +21,19 @@ use Rattle.stateful_history.specs.declared.mark.Mark.TheVariants.{Ended, Built, 
 use Rattle.stateful_cache.specs.declared.cache.Cached.{Cached}
 use Rattle.stateful_table.specs.Table.{put}
 use Rattle.stateful_exec.specs.Built.{decided, Gives, HasTurn, EndsBuild, TurnsBuild, other, goes_on, ends}
-use Rattle.stateful_exec.specs.Ending.{released, Takes, there, added, missed, IsTold, rejected, mismatched, agreed, EndsRun, TurnsRun, Settles, SettlesBy}
-use Rattle.stateful_exec.specs.Finalizing.{front_at, TurnsHook, hook_turned, unhooked, StepsFinal, turned, not_live, Completes, candidate, finalized}
+use Rattle.stateful_requests.specs.Fates.{released}
+use Rattle.stateful_requests.specs.Keeping.{Takes}
+use Rattle.stateful_exec.specs.Ending.{IsTold, rejected, mismatched, agreed, EndsRun, TurnsRun, Settles, SettlesBy}
+use Rattle.stateful_requests.specs.Keeping.{there, added, missed}
+use Rattle.stateful_exec.specs.Finalizing.{front_at, TurnsHook, hook_turned, unhooked, StepsFinal, turned, not_live, candidate, finalized}
+use Rattle.stateful_exec.specs.Finalizing.{Completes}
 use Rattle.stateful_exec.specs.Moments as exec
-use Rattle.stateful_exec.specs.Phase.{released_on}
+use Rattle.stateful_requests.specs.Phase.{released_on}
 use Rattle.stateful_exec.specs.Workings.{Workings}
 use Rattle.stateful_exec.specs.declared.building.Building.{Building}
 use Rattle.stateful_exec.specs.declared.front.Front.{Front}
 use Rattle.stateful_exec.specs.declared.front.Stage.TheVariants.{Running, Hooking}
-use Rattle.stateful_exec.specs.declared.state.Tables.{Tables}
+use Rattle.stateful_requests.specs.declared.state.Tables.{Tables}
 use Rattle.stateful_standing.specs.Building.{IsBuilding, BuildStands}
 use Rattle.stateful_standing.specs.Fronting.{FrontStands}
 use Rattle.stateful_standing.specs.Setting.{setting}

@@ -14,18 +14,18 @@ use Rattle.stateful_history.specs.States.{fold}
 use Rattle.stateful_history.specs.declared.mark.JobKind.TheVariants.{Finalized, Hook}
 use Rattle.stateful_history.specs.declared.mark.Mark.TheVariants.{Applied}
 use Rattle.stateful_cache.specs.Cache.{IsAtHand}
-use Rattle.stateful_exec.specs.Boundary.{step_by, IsRetained}
+use Rattle.stateful_requests.specs.Boundary.{step_by, IsRetained}
 use Rattle.stateful_exec.specs.Finalizing.{front_at}
-use Rattle.stateful_exec.specs.Pausing.{AwaitsRuns}
-use Rattle.stateful_exec.specs.Rules.{GoesOn}
+use Rattle.stateful_requests.specs.Pausing.{AwaitsRuns}
+use Rattle.stateful_requests.specs.Meeting.{GoesOn}
 use Rattle.stateful_exec.specs.Workings.{Workings, Point}
 use Rattle.stateful_exec.specs.declared.building.Building.{Building}
 use Rattle.stateful_exec.specs.declared.front.Front.{Front}
 use Rattle.stateful_exec.specs.declared.front.Stage.TheVariants.{Begun, Ran}
-use Rattle.stateful_exec.specs.declared.pause.Pause.{Pause}
-use Rattle.stateful_exec.specs.declared.pause.Pause.TheVariants.{Free}
-use Rattle.stateful_exec.specs.declared.state.Tables.{Tables}
-use Rattle.stateful_exec.specs.declared.tables.LiveRun.{LiveRun}
+use Rattle.stateful_requests.specs.declared.pause.Pause.{Pause}
+use Rattle.stateful_requests.specs.declared.pause.Pause.TheVariants.{Free}
+use Rattle.stateful_requests.specs.declared.state.Tables.{Tables}
+use Rattle.stateful_requests.specs.declared.tables.LiveRun.{LiveRun}
 use Rattle.stateful_standing.specs.Building.{BuildStands}
 use Rattle.stateful_standing.specs.Caching.{CacheStands}
 use Rattle.stateful_standing.specs.Crossing.{HasMovedSo}

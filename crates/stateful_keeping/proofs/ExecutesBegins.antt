@@ -13,15 +13,15 @@ use Rattle.stateful_history.specs.declared.mark.Mark.{Mark}
 use Rattle.stateful_history.specs.declared.mark.Mark.TheVariants.{Began, Withdrawn}
 use Rattle.stateful_exec.specs.Finalizing.{front_at}
 use Rattle.stateful_exec.specs.Moments as exec
-use Rattle.stateful_exec.specs.Phase.{dropped}
+use Rattle.stateful_requests.specs.Phase.{dropped}
 use Rattle.stateful_exec.specs.Workings.{Workings}
 use Rattle.stateful_exec.specs.declared.building.Building.{Building}
 use Rattle.stateful_exec.specs.declared.front.Front.{Front}
 use Rattle.stateful_exec.specs.declared.front.Stage.TheVariants.{Begun}
-use Rattle.stateful_exec.specs.declared.pause.Pause.TheVariants.{Finalizing}
-use Rattle.stateful_exec.specs.declared.state.Tables.{Tables}
-use Rattle.stateful_exec.specs.declared.tables.Phase.TheVariants.{Fetching}
-use Rattle.stateful_exec.specs.declared.tables.Requested.{Requested}
+use Rattle.stateful_requests.specs.declared.pause.Pause.TheVariants.{Finalizing}
+use Rattle.stateful_requests.specs.declared.state.Tables.{Tables}
+use Rattle.stateful_requests.specs.declared.tables.Phase.TheVariants.{Fetching}
+use Rattle.stateful_requests.specs.declared.tables.Requested.{Requested}
 use Rattle.stateful_standing.specs.Building.{BuildStands}
 use Rattle.stateful_standing.specs.Caching.{CacheStands}
 use Rattle.stateful_standing.specs.Crossing.{Finalizes}

@@ -10,12 +10,13 @@ use Rattle.stateful_history.specs.declared.mark.JobKind.TheVariants.{Build, Fina
 use Rattle.stateful_history.specs.declared.mark.Mark.{Mark}
 use Rattle.stateful_history.specs.declared.mark.Mark.TheVariants.{Started, Declined}
 use Rattle.stateful_table.specs.Table.{at}
-use Rattle.stateful_exec.specs.Building.{StartsBuild, unqueued}
+use Rattle.stateful_exec.specs.Building.{StartsBuild}
+use Rattle.stateful_requests.specs.Queueing.{unqueued}
 use Rattle.stateful_exec.specs.Workings.{Workings}
 use Rattle.stateful_exec.specs.declared.building.Building.{Building}
 use Rattle.stateful_exec.specs.declared.front.Front.{Front}
-use Rattle.stateful_exec.specs.declared.state.Tables.{Tables}
-use Rattle.stateful_exec.specs.declared.tables.Requested.{Requested}
+use Rattle.stateful_requests.specs.declared.state.Tables.{Tables}
+use Rattle.stateful_requests.specs.declared.tables.Requested.{Requested}
 use Rattle.stateful_standing.specs.Setting.{setting}
 use Rattle.stateful_standing.specs.Building.{BuildsTakeTurns, BuildStands}
 use Rattle.stateful_standing.specs.Fronting.{FrontStands}

@@ -8,13 +8,14 @@ use Rattle.stateful_history.specs.Met.{Met, TrueNames}
 use Rattle.stateful_history.specs.Past.{Past, Came}
 use Rattle.stateful_history.specs.declared.event.Event.TheVariants.{Fetched}
 use Rattle.stateful_table.specs.Table.{at}
-use Rattle.stateful_exec.specs.Fetching.{Fetches, with_block, serving, IsFetched, found, waits, declines, dead}
+use Rattle.stateful_requests.specs.Fetching.{Fetches, with_block}
+use Rattle.stateful_exec.specs.Fetching.{serving, IsFetched, found, waits, declines, dead}
 use Rattle.stateful_exec.specs.Moments as exec
-use Rattle.stateful_exec.specs.Rules.{taken}
+use Rattle.stateful_requests.specs.Tables.{taken}
 use Rattle.stateful_exec.specs.Workings.{Workings}
 use Rattle.stateful_exec.specs.declared.building.Building.{Building}
 use Rattle.stateful_exec.specs.declared.front.Front.{Front}
-use Rattle.stateful_exec.specs.declared.tables.Requested.{Requested}
+use Rattle.stateful_requests.specs.declared.tables.Requested.{Requested}
 use Rattle.stateful_standing.specs.Setting.{setting}
 use Rattle.stateful_standing.specs.Building.{IsElsewhere, BuildStands}
 use Rattle.stateful_standing.specs.Fronting.{FrontStands}

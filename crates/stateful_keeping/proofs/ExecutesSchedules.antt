@@ -5,11 +5,11 @@ use Rattle.stateful_types.specs.Names.{Named}
 use Rattle.stateful_db.specs.Laws.{Laws}
 use Rattle.stateful_history.specs.Met.{Met}
 use Rattle.stateful_history.specs.Past.{Past}
-use Rattle.stateful_exec.specs.Request.{ticket_by}
-use Rattle.stateful_exec.specs.Rules.{requested}
+use Rattle.stateful_requests.specs.Request.{ticket_by}
+use Rattle.stateful_requests.specs.Tables.{requested}
 use Rattle.stateful_exec.specs.Workings.{Workings}
 use Rattle.stateful_exec.specs.declared.front.Front.{Front}
-use Rattle.stateful_exec.specs.declared.request.Request.{Request}
+use Rattle.stateful_requests.specs.declared.request.Request.{Request}
 use Rattle.stateful_standing.specs.Setting.{setting}
 use Rattle.stateful_standing.specs.Fronting.{FrontStands}
 use Rattle.stateful_standing.specs.Storing.{IsStoredNow}

@@ -10,16 +10,17 @@ use Rattle.stateful_history.specs.Fetches.{Abstains}
 use Rattle.stateful_history.specs.Met.{Met}
 use Rattle.stateful_history.specs.Past.{Past, EachMark, after}
 use Rattle.stateful_history.specs.declared.mark.Mark.{Mark}
-use Rattle.stateful_exec.specs.Fetching.{IsVerification}
+use Rattle.stateful_requests.specs.Fetching.{IsVerification}
 use Rattle.stateful_exec.specs.Moments as exec
 use Rattle.stateful_exec.specs.Moments.{Becomes}
-use Rattle.stateful_exec.specs.Rules.{moved, Concludes, Acquires}
+use Rattle.stateful_requests.specs.Tables.{moved}
+use Rattle.stateful_exec.specs.Rules.{Concludes, Acquires}
 use Rattle.stateful_exec.specs.Workings.{Workings, Point}
 use Rattle.stateful_exec.specs.declared.building.Building.{Building}
 use Rattle.stateful_exec.specs.declared.front.Front.{Front}
-use Rattle.stateful_exec.specs.declared.request.Verdict.TheVariants.{Invalid}
-use Rattle.stateful_exec.specs.declared.tables.Phase.TheVariants.{Waiting}
-use Rattle.stateful_exec.specs.declared.tables.Requested.{Requested}
+use Rattle.stateful_requests.specs.declared.request.Verdict.TheVariants.{Invalid}
+use Rattle.stateful_requests.specs.declared.tables.Phase.TheVariants.{Waiting}
+use Rattle.stateful_requests.specs.declared.tables.Requested.{Requested}
 use Rattle.stateful_standing.specs.Setting.{setting}
 use Rattle.stateful_standing.specs.Building.{BuildStands}
 use Rattle.stateful_standing.specs.Fronting.{FrontStands}

@@ -9,11 +9,11 @@ use Rattle.stateful_history.specs.declared.mark.JobKind.TheVariants as job
 use Rattle.stateful_history.specs.declared.mark.Mark.{Mark}
 use Rattle.stateful_history.specs.declared.mark.Mark.TheVariants.{Started}
 use Rattle.stateful_exec.specs.Finalizing.{front_at, RunsFinal, HooksOn}
-use Rattle.stateful_exec.specs.Pausing.{AwaitsRuns}
+use Rattle.stateful_requests.specs.Pausing.{AwaitsRuns}
 use Rattle.stateful_exec.specs.Workings.{Workings}
 use Rattle.stateful_exec.specs.declared.front.Front.{Front}
 use Rattle.stateful_exec.specs.declared.front.Stage.TheVariants.{Begun, Advanced, Hooking}
-use Rattle.stateful_exec.specs.declared.state.Tables.{Tables}
+use Rattle.stateful_requests.specs.declared.state.Tables.{Tables}
 use Rattle.stateful_standing.specs.Fronting.{RunsTakeTurns, FrontStands}
 use Rattle.stateful_standing.proofs.EarnedLeft.{IsLeft}
 use Rattle.stateful_standing.proofs.FrontRules.{StandsWithFront, StandsWithFront-runs, StandsWithFront-observes}

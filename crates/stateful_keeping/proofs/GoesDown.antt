@@ -5,7 +5,7 @@ use Rattle.stateful_history.specs.Past.{Past, Came, after}
 use Rattle.stateful_history.specs.Stops.{NothingLive}
 use Rattle.stateful_history.specs.declared.event.Event.TheVariants.{Restart}
 use Rattle.stateful_history.specs.declared.mark.Mark.{Mark}
-use Rattle.stateful_exec.specs.Starting.{Rises}
+use Rattle.stateful_requests.specs.Tables.{Rises}
 use Rattle.stateful_exec.specs.Workings.{Workings}
 use Rattle.stateful_keeping.specs.Down.{IsEnding, IsEmpty, IsCounted, IsDownAt}
 use Rattle.stateful_keeping.proofs.Counting.{IsCounted-rises, IsCounted-restart, IsCounted-ends}

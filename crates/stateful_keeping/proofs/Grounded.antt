@@ -8,9 +8,9 @@ use Rattle.stateful_history.specs.declared.ticket.Ticket.TheVariants as ticket
 use Rattle.stateful_table.specs.Table.{at}
 use Rattle.stateful_exec.specs.Workings.{Workings, Point}
 use Rattle.stateful_exec.specs.declared.building.Building.{Building}
-use Rattle.stateful_exec.specs.declared.request.Proposal.{Proposal}
-use Rattle.stateful_exec.specs.declared.state.Tables.{Tables}
-use Rattle.stateful_exec.specs.declared.tables.Requested.{Requested}
+use Rattle.stateful_requests.specs.declared.request.Proposal.{Proposal}
+use Rattle.stateful_requests.specs.declared.state.Tables.{Tables}
+use Rattle.stateful_requests.specs.declared.tables.Requested.{Requested}
 use Rattle.stateful_standing.specs.Building.{IsElsewhere, BuildStands}
 use Rattle.stateful_standing.specs.Requesting.{IsStanding}
 use Rattle.stateful_standing.specs.Standing.{TablesStand}

@@ -15,24 +15,27 @@ use Rattle.stateful_history.specs.declared.mark.Mark.TheVariants as mark
 use Rattle.stateful_history.proofs.Marks.{after-append}
 use Rattle.stateful_table.specs.Table.{at, put}
 use Rattle.stateful_table.proofs.Tables.{is_at_number, at-put, at-without}
-use Rattle.stateful_exec.specs.Ending.{InTurn, none as in_none, next as in_next, released, Settles, SettlesBy, Steps, TurnsRun, Follows, given_up, at_boundary, failed, parked, goes_on}
-use Rattle.stateful_exec.specs.Fetching.{IsFetched, found, waits as awaits, declines, dead, serving, with_block}
+use Rattle.stateful_exec.specs.Ending.{InTurn, none as in_none, next as in_next, Settles, SettlesBy, Steps, TurnsRun, Follows, given_up, at_boundary, failed, parked, goes_on}
+use Rattle.stateful_requests.specs.Fates.{released}
+use Rattle.stateful_exec.specs.Fetching.{IsFetched, found, waits as awaits, declines, dead, serving}
+use Rattle.stateful_requests.specs.Fetching.{with_block}
 use Rattle.stateful_exec.specs.Moments.{Moment, Becomes}
-use Rattle.stateful_exec.specs.Path.{Path}
+use Rattle.stateful_requests.specs.Path.{Path}
 use Rattle.stateful_exec.specs.Pausing.{Resumes, GoesAlong, AcquiresAnew, unparked, unsettled}
-use Rattle.stateful_exec.specs.Phase.{is_on, released_from, released_on, parked_path, parked_from, parked_in, is_unacquired, unacquired_in}
-use Rattle.stateful_exec.specs.Rules.{requested, moved, ended, told, Concludes, Advances, arrives, leaves, joins, starts, misses, Acquires, valid, invalid, asks, waits, runs}
+use Rattle.stateful_requests.specs.Phase.{is_on, released_from, released_on, parked_path, parked_from, parked_in, is_unacquired, unacquired_in}
+use Rattle.stateful_requests.specs.Tables.{requested, moved, ended, told}
+use Rattle.stateful_exec.specs.Rules.{Concludes, Advances, arrives, leaves, joins, starts, misses, Acquires, valid, invalid, asks, waits, runs}
 use Rattle.stateful_exec.specs.Workings.{Workings}
-use Rattle.stateful_exec.specs.declared.request.Request.{Request}
-use Rattle.stateful_exec.specs.declared.request.Request.TheVariants.{Verify, Recover}
-use Rattle.stateful_exec.specs.declared.request.Verdict.{Verdict}
-use Rattle.stateful_exec.specs.declared.request.Verdict.TheVariants.{Valid, Invalid}
-use Rattle.stateful_exec.specs.declared.state.Tables.{Tables}
+use Rattle.stateful_requests.specs.declared.request.Request.{Request}
+use Rattle.stateful_requests.specs.declared.request.Request.TheVariants.{Verify, Recover}
+use Rattle.stateful_requests.specs.declared.request.Verdict.{Verdict}
+use Rattle.stateful_requests.specs.declared.request.Verdict.TheVariants.{Valid, Invalid}
+use Rattle.stateful_requests.specs.declared.state.Tables.{Tables}
 use Rattle.stateful_history.specs.declared.mark.How.{How}
-use Rattle.stateful_exec.specs.declared.tables.Phase.{Phase}
-use Rattle.stateful_exec.specs.declared.tables.Phase.TheVariants.{Open, Fetching, Waiting, Executing, Parked}
-use Rattle.stateful_exec.specs.declared.tables.Released.{Released}
-use Rattle.stateful_exec.specs.declared.tables.Requested.{Requested}
+use Rattle.stateful_requests.specs.declared.tables.Phase.{Phase}
+use Rattle.stateful_requests.specs.declared.tables.Phase.TheVariants.{Open, Fetching, Waiting, Executing, Parked}
+use Rattle.stateful_requests.specs.declared.tables.Released.{Released}
+use Rattle.stateful_requests.specs.declared.tables.Requested.{Requested}
 use Rattle.stateful_keeping.proofs.Times.{times, times-append}
 
 -- a request of this ticket is in the table of requests, or its proposal was recovered

@@ -7,9 +7,9 @@ use Rattle.stateful_history.specs.Fetches.{Abstains}
 use Rattle.stateful_history.specs.Live.{live_ticket}
 use Rattle.stateful_history.specs.Past.{Past}
 use Rattle.stateful_exec.specs.Workings.{Workings}
-use Rattle.stateful_exec.specs.declared.tables.LiveRun.{LiveRun}
-use Rattle.stateful_exec.specs.declared.tables.Phase.TheVariants.{Open, Waiting}
-use Rattle.stateful_exec.specs.declared.tables.Requested.{Requested}
+use Rattle.stateful_requests.specs.declared.tables.LiveRun.{LiveRun}
+use Rattle.stateful_requests.specs.declared.tables.Phase.TheVariants.{Open, Waiting}
+use Rattle.stateful_requests.specs.declared.tables.Requested.{Requested}
 use Rattle.stateful_standing.specs.Outstanding.{GoesOnTurning}
 use Rattle.stateful_standing.specs.Requesting.{first_of}
 use Rattle.stateful_standing.specs.Setting.{setting}

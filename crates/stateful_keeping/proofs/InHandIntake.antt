@@ -24,14 +24,17 @@ use Rattle.stateful_history.specs.declared.ticket.Ticket.TheVariants as ticket
 use Rattle.stateful_table.specs.Table.{at}
 use Rattle.stateful_table.proofs.Tables.{at-without}
 use Rattle.stateful_exec.specs.Built.{decided, TurnsBuild, other, goes_on, ends, EndsBuild, Gives, GivesUp, building, asking}
-use Rattle.stateful_exec.specs.Fetching.{IsFetched, Cancels, idle, withdraws, leaves, ends as ends_run, unqueued}
-use Rattle.stateful_exec.specs.Finalizing.{SettlesHook, TurnsHook, hook_turned, unhooked, SettlesFinal, turned, not_live, Completes, candidate, finalized}
+use Rattle.stateful_exec.specs.Fetching.{IsFetched}
+use Rattle.stateful_requests.specs.Cancelling.{Cancels}
+use Rattle.stateful_requests.specs.Cancelling.{idle, withdraws, leaves, ends as ends_run, unqueued}
+use Rattle.stateful_exec.specs.Finalizing.{SettlesHook, TurnsHook, hook_turned, unhooked, SettlesFinal, turned, not_live, candidate, finalized}
+use Rattle.stateful_exec.specs.Finalizing.{Completes}
 use Rattle.stateful_exec.specs.Moments as exec
 use Rattle.stateful_db.specs.declared.barrier.Flushed.{Flushed}
 use Rattle.stateful_exec.specs.Workings.{Workings}
 use Rattle.stateful_exec.specs.declared.building.Building.{Building}
 use Rattle.stateful_exec.specs.declared.front.Front.{Front}
-use Rattle.stateful_exec.specs.declared.state.Tables.{Tables}
+use Rattle.stateful_requests.specs.declared.state.Tables.{Tables}
 use Rattle.stateful_processing.specs.Intake as intake
 use Rattle.stateful_processing.specs.Intake.{Counts, Flushes, TurnsJob, TakesIn, message_by}
 use Rattle.stateful_processing.specs.Message.{asks_of, asks_for}
@@ -40,7 +43,7 @@ use Rattle.stateful_processing.specs.declared.message.Action.{Action}
 use Rattle.stateful_processing.specs.declared.message.Action.TheVariants as action
 use Rattle.stateful_processing.specs.declared.message.Message.{Message}
 use Rattle.stateful_processing.specs.declared.message.Message.TheVariants as message
-use Rattle.stateful_exec.specs.declared.request.Request.TheVariants as request
+use Rattle.stateful_requests.specs.declared.request.Request.TheVariants as request
 use Rattle.stateful_keeping.specs.InHand.{IsPutOff, IsFound, requested, recovered, built, waiting as found_waiting, waiting_in, AllInHand, InHandBehind}
 use Rattle.stateful_keeping.specs.Tickets.{ticket_in, ticket_under}
 use Rattle.stateful_keeping.proofs.HandKept.{IsTabled, HandsOn, live_before, unless_ended, hands_fetched, hands_steps}

@@ -13,14 +13,14 @@ use Rattle.stateful_history.specs.declared.mark.Mark.{Mark}
 use Rattle.stateful_history.specs.declared.mark.Mark.TheVariants as mark
 use Rattle.stateful_table.specs.Table.{at}
 use Rattle.stateful_table.proofs.Tables.{is_at_number}
-use Rattle.stateful_exec.specs.Building.{unqueued}
+use Rattle.stateful_requests.specs.Queueing.{unqueued}
 use Rattle.stateful_exec.specs.Finalizing.{front_at}
-use Rattle.stateful_exec.specs.Phase.{dropped}
+use Rattle.stateful_requests.specs.Phase.{dropped}
 use Rattle.stateful_exec.specs.Workings.{Workings}
 use Rattle.stateful_exec.specs.declared.building.Building.{Building}
 use Rattle.stateful_exec.specs.declared.front.Stage.TheVariants.{Begun}
-use Rattle.stateful_exec.specs.declared.state.Tables.{Tables}
-use Rattle.stateful_exec.specs.declared.tables.Requested.{Requested}
+use Rattle.stateful_requests.specs.declared.state.Tables.{Tables}
+use Rattle.stateful_requests.specs.declared.tables.Requested.{Requested}
 use Rattle.stateful_processing.specs.Moments.{Moment, with_loop}
 use Rattle.stateful_processing.specs.Rules as rules
 use Rattle.stateful_processing.specs.Rules.{IsCalm, Takes, of_action, of_message, Builds, BeginsFinalization, DoesMessage, Rule, acknowledged, finalizing}

@@ -16,15 +16,17 @@ use Rattle.stateful_history.specs.declared.event.Event.{Event}
 use Rattle.stateful_history.specs.declared.event.Event.TheVariants.{Fetched, Turn, Cancel, Restart}
 use Rattle.stateful_history.specs.declared.mark.Mark.{Mark}
 use Rattle.stateful_exec.specs.Built.{TurnsBuild, other, goes_on, ends, EndsBuild, GivesUp, building, asking}
-use Rattle.stateful_exec.specs.Fetching.{Fetches, IsFetched, found, waits, declines, dead}
-use Rattle.stateful_exec.specs.Finalizing.{TurnsHook, hook_turned, unhooked, SettlesHook, Completes, candidate, finalized, StepsFinal, turned, not_live, SettlesFinal}
+use Rattle.stateful_requests.specs.Fetching.{Fetches}
+use Rattle.stateful_exec.specs.Fetching.{IsFetched, found, waits, declines, dead}
+use Rattle.stateful_exec.specs.Finalizing.{TurnsHook, hook_turned, unhooked, SettlesHook, candidate, finalized, StepsFinal, turned, not_live, SettlesFinal}
+use Rattle.stateful_exec.specs.Finalizing.{Completes}
 use Rattle.stateful_exec.specs.Moments as exec
 use Rattle.stateful_exec.specs.Workings.{Workings}
 use Rattle.stateful_exec.specs.declared.building.Building.{Building}
 use Rattle.stateful_exec.specs.declared.front.Front.{Front}
-use Rattle.stateful_exec.specs.declared.pause.Pause.{Pause}
-use Rattle.stateful_exec.specs.declared.state.Tables.{Tables}
-use Rattle.stateful_exec.specs.declared.tables.Requested.{Requested}
+use Rattle.stateful_requests.specs.declared.pause.Pause.{Pause}
+use Rattle.stateful_requests.specs.declared.state.Tables.{Tables}
+use Rattle.stateful_requests.specs.declared.tables.Requested.{Requested}
 use Rattle.stateful_standing.specs.Ground.{IsGround}
 use Rattle.stateful_standing.specs.Setting.{setting}
 use Rattle.stateful_standing.proofs.LinkedFetched.{StaysLinked-fetched, StaysLinked-cancelled}

@@ -15,14 +15,15 @@ use Rattle.stateful_history.specs.declared.mark.Mark.{Mark}
 use Rattle.stateful_history.specs.declared.mark.Mark.TheVariants.{Ended}
 use Rattle.stateful_cache.specs.Cache.{IsIn, IsAtHand}
 use Rattle.stateful_table.specs.Table.{put}
-use Rattle.stateful_exec.specs.Ending.{released, EndsRun, TurnsRun, InTurn, Follows}
+use Rattle.stateful_requests.specs.Fates.{released}
+use Rattle.stateful_exec.specs.Ending.{EndsRun, TurnsRun, InTurn, Follows}
 use Rattle.stateful_exec.specs.Moments.{Moment}
-use Rattle.stateful_exec.specs.Phase.{released_on}
-use Rattle.stateful_exec.specs.Rules.{IsPassed, first_or}
+use Rattle.stateful_requests.specs.Phase.{released_on}
+use Rattle.stateful_requests.specs.Meeting.{IsPassed, first_or}
 use Rattle.stateful_exec.specs.Workings.{Workings, Point}
-use Rattle.stateful_exec.specs.declared.pause.Pause.TheVariants.{Free}
-use Rattle.stateful_exec.specs.declared.state.Tables.{Tables}
-use Rattle.stateful_exec.specs.declared.tables.Released.{Released}
+use Rattle.stateful_requests.specs.declared.pause.Pause.TheVariants.{Free}
+use Rattle.stateful_requests.specs.declared.state.Tables.{Tables}
+use Rattle.stateful_requests.specs.declared.tables.Released.{Released}
 use Rattle.stateful_standing.specs.Gathering.{gathered, AreLinked}
 use Rattle.stateful_standing.specs.Requesting.{first_of, IsWayOf}
 use Rattle.stateful_standing.specs.Setting.{setting}

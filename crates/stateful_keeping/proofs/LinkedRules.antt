@@ -12,15 +12,15 @@ use Rattle.stateful_history.specs.declared.event.Event.TheVariants.{Stop}
 use Rattle.stateful_history.specs.declared.mark.Mark.{Mark}
 use Rattle.stateful_history.specs.declared.mark.Mark.TheVariants as mark
 use Rattle.stateful_exec.specs.Finalizing.{front_at, HooksOn}
-use Rattle.stateful_exec.specs.Request.{ticket_by}
-use Rattle.stateful_exec.specs.Rules.{requested}
+use Rattle.stateful_requests.specs.Request.{ticket_by}
+use Rattle.stateful_requests.specs.Tables.{requested}
 use Rattle.stateful_exec.specs.Workings.{Workings}
 use Rattle.stateful_exec.specs.declared.front.Front.{Front}
 use Rattle.stateful_exec.specs.declared.front.Stage.TheVariants.{Advanced}
-use Rattle.stateful_exec.specs.declared.pause.Pause.{Pause}
-use Rattle.stateful_exec.specs.declared.pause.Pause.TheVariants.{Free}
-use Rattle.stateful_exec.specs.declared.request.Request.{Request}
-use Rattle.stateful_exec.specs.declared.state.Tables.{Tables}
+use Rattle.stateful_requests.specs.declared.pause.Pause.{Pause}
+use Rattle.stateful_requests.specs.declared.pause.Pause.TheVariants.{Free}
+use Rattle.stateful_requests.specs.declared.request.Request.{Request}
+use Rattle.stateful_requests.specs.declared.state.Tables.{Tables}
 use Rattle.stateful_standing.specs.Gathering.{gathered, AreLinked}
 use Rattle.stateful_standing.specs.Ground.{IsGround}
 use Rattle.stateful_standing.specs.Setting.{setting}

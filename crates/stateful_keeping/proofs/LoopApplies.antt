@@ -10,7 +10,7 @@ use Rattle.stateful_history.specs.Setting.{step_of}
 use Rattle.stateful_history.specs.States.{fold}
 use Rattle.stateful_history.specs.declared.mark.Mark.TheVariants.{Applied}
 use Rattle.stateful_exec.specs.Workings.{Workings, Point}
-use Rattle.stateful_exec.specs.declared.state.Tables.{Tables}
+use Rattle.stateful_requests.specs.declared.state.Tables.{Tables}
 use Rattle.stateful_standing.specs.Setting.{setting}
 use Rattle.stateful_standing.proofs.AnchorMoves.{IsApplied}
 use Rattle.stateful_keeping.specs.Checkpoints.{Keeping}

@@ -18,7 +18,7 @@ use Rattle.stateful_exec.specs.Finalizing.{HooksOn}
 use Rattle.stateful_exec.specs.Workings.{Workings, Point}
 use Rattle.stateful_exec.specs.declared.front.Front.{Front}
 use Rattle.stateful_exec.specs.declared.front.Stage.TheVariants.{Begun, Ran}
-use Rattle.stateful_exec.specs.declared.state.Tables.{Tables}
+use Rattle.stateful_requests.specs.declared.state.Tables.{Tables}
 use Rattle.stateful_standing.specs.Setting.{setting}
 use Rattle.stateful_keeping.specs.Checkpoints.{Keeping}
 use Rattle.stateful_keeping.specs.Durability.{IsDurablySaid, LoopBehind}

@@ -11,13 +11,14 @@ use Rattle.stateful_db.specs.declared.application.AppFault.{AppFault}
 use Rattle.stateful_db.specs.declared.application.ProposedBlock.{ProposedBlock}
 use Rattle.stateful_history.specs.declared.mark.Mark.{Mark}
 use Rattle.stateful_exec.specs.Built.{EndsBuild, TurnsBuild, other, goes_on, ends, GivesUp, building, asking}
-use Rattle.stateful_exec.specs.Fetching as fetching
-use Rattle.stateful_exec.specs.Finalizing.{SettlesHook, TurnsHook, hook_turned, unhooked, SettlesFinal, StepsFinal, turned, not_live, Completes, candidate, finalized}
+use Rattle.stateful_requests.specs.Cancelling as cancel
+use Rattle.stateful_exec.specs.Finalizing.{SettlesHook, TurnsHook, hook_turned, unhooked, SettlesFinal, StepsFinal, turned, not_live, candidate, finalized}
+use Rattle.stateful_exec.specs.Finalizing.{Completes}
 use Rattle.stateful_exec.specs.Moments as exec
 use Rattle.stateful_exec.specs.Workings.{Workings}
 use Rattle.stateful_exec.specs.declared.building.Building.{Building}
 use Rattle.stateful_exec.specs.declared.front.Front.{Front}
-use Rattle.stateful_exec.specs.declared.state.Tables.{Tables}
+use Rattle.stateful_requests.specs.declared.state.Tables.{Tables}
 use Rattle.stateful_standing.proofs.Passing.{PassesBy}
 use Rattle.stateful_standing.proofs.PassingRules.{PassesBy-steps}
 use Rattle.stateful_keeping.proofs.CalmItems.{IsCalmMark}
@@ -53,14 +54,14 @@ module _ {B : Type 0} where
   }
 
 -- what a cancel gives up is told by calm marks
-cancelled_marks : {B C I R U : Type 0} (old new : Tables B C I R U) (t : ℕ) (marks : List (Mark B)) → fetching.Cancels old new t marks
+cancelled_marks : {B C I R U : Type 0} (old new : Tables B C I R U) (t : ℕ) (marks : List (Mark B)) → cancel.Cancels old new t marks
     → All (λ x. IsCalmMark x) marks
-cancelled_marks old new t marks (fetching.idle r there is now e) = rw e (All-nil (λ x. IsCalmMark x))
-cancelled_marks old new t marks (fetching.withdraws r fetch is now e) = rw e (All-cons (λ x. IsCalmMark x) _ [] tt (All-nil (λ x. IsCalmMark x)))
-cancelled_marks old new t marks (fetching.leaves r j path there is others now e) = rw e (All-nil (λ x. IsCalmMark x))
-cancelled_marks old new t marks (fetching.ends r j path there is none now e) = rw e
+cancelled_marks old new t marks (cancel.idle r there is now e) = rw e (All-nil (λ x. IsCalmMark x))
+cancelled_marks old new t marks (cancel.withdraws r fetch is now e) = rw e (All-cons (λ x. IsCalmMark x) _ [] tt (All-nil (λ x. IsCalmMark x)))
+cancelled_marks old new t marks (cancel.leaves r j path there is others now e) = rw e (All-nil (λ x. IsCalmMark x))
+cancelled_marks old new t marks (cancel.ends r j path there is none now e) = rw e
     (All-cons (λ x. IsCalmMark x) _ [] tt (All-nil (λ x. IsCalmMark x)))
-cancelled_marks old new t marks (fetching.unqueued none now e) = rw e (All-nil (λ x. IsCalmMark x))
+cancelled_marks old new t marks (cancel.unqueued none now e) = rw e (All-nil (λ x. IsCalmMark x))
 
 -- and so is the end of a build that is given up
 pub given_up_marks : {B C I R U D : Type 0} (old new : Tables B C I R U) (before after : Option (Building B C D)) (t : ℕ) (marks : List (Mark B))

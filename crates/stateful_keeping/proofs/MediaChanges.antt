@@ -8,12 +8,12 @@ use Rattle.stateful_history.specs.declared.event.Event.{Event}
 use Rattle.stateful_history.specs.declared.mark.Mark.{Mark}
 use Rattle.stateful_history.specs.declared.mark.Mark.TheVariants.{BarrierDone}
 use Rattle.stateful_exec.specs.Finalizing.{HooksOn}
-use Rattle.stateful_exec.specs.Request.{ticket_by}
-use Rattle.stateful_exec.specs.Rules.{requested}
+use Rattle.stateful_requests.specs.Request.{ticket_by}
+use Rattle.stateful_requests.specs.Tables.{requested}
 use Rattle.stateful_exec.specs.Workings.{Workings}
 use Rattle.stateful_exec.specs.declared.front.Front.{Front}
-use Rattle.stateful_exec.specs.declared.request.Request.{Request}
-use Rattle.stateful_exec.specs.declared.state.Tables.{Tables}
+use Rattle.stateful_requests.specs.declared.request.Request.{Request}
+use Rattle.stateful_requests.specs.declared.state.Tables.{Tables}
 use Rattle.stateful_processing.proofs.SoundingTurns.{gives_up_anchor, builds_stays, fetched_stays}
 use Rattle.stateful_processing.proofs.Staying.{Stays, Acquires-stays, Resumes-stays}
 use Rattle.stateful_processing.specs.Intake.{Counts, TurnsJob, build, hook, run, TakesIn, enters, cancels, fetched, turns, flushes, stops, progresses, restarts}

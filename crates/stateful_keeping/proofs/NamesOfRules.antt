@@ -13,7 +13,7 @@ use Rattle.stateful_history.specs.declared.mark.Mark.TheVariants.{Withdrawn, Beg
 use Rattle.stateful_exec.specs.Finalizing.{HooksOn}
 use Rattle.stateful_exec.specs.Workings.{Workings}
 use Rattle.stateful_exec.specs.declared.front.Front.{Front}
-use Rattle.stateful_exec.specs.declared.state.Tables.{Tables}
+use Rattle.stateful_requests.specs.declared.state.Tables.{Tables}
 use Rattle.stateful_standing.specs.Setting.{setting}
 use Rattle.stateful_processing.specs.Moments.{Moment}
 use Rattle.stateful_processing.specs.Rules.{BeginsFinalization, RunsFinalized, ObservesBlock}

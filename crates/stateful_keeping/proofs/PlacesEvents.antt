@@ -14,11 +14,12 @@ use Rattle.stateful_history.specs.declared.mark.Mark.{Mark}
 use Rattle.stateful_history.specs.declared.mark.Mark.TheVariants.{Ended, Withdrawn}
 use Rattle.stateful_table.specs.Table.{at, without}
 use Rattle.stateful_exec.specs.Built.{GivesUp, building, asking}
-use Rattle.stateful_exec.specs.Fetching.{Cancels, idle, withdraws, leaves, ends, unqueued}
+use Rattle.stateful_requests.specs.Cancelling.{Cancels}
+use Rattle.stateful_requests.specs.Cancelling.{idle, withdraws, leaves, ends, unqueued}
 use Rattle.stateful_exec.specs.Workings.{Workings}
 use Rattle.stateful_exec.specs.declared.building.Building.{Building}
-use Rattle.stateful_exec.specs.declared.state.Tables.{Tables}
-use Rattle.stateful_exec.specs.declared.tables.Requested.{Requested}
+use Rattle.stateful_requests.specs.declared.state.Tables.{Tables}
+use Rattle.stateful_requests.specs.declared.tables.Requested.{Requested}
 use Rattle.stateful_standing.specs.Setting.{setting}
 use Rattle.stateful_standing.proofs.DueStands.{IsDue-came, IsDue-quiet}
 use Rattle.stateful_standing.proofs.Quiet.{IsQuiet, AreQuiet, quiet_one}

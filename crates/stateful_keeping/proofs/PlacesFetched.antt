@@ -10,18 +10,19 @@ use Rattle.stateful_history.specs.Setting.{parent_of}
 use Rattle.stateful_history.specs.declared.event.Event.TheVariants.{Fetched}
 use Rattle.stateful_history.specs.declared.mark.Mark.{Mark}
 use Rattle.stateful_table.specs.Table.{at, without}
-use Rattle.stateful_exec.specs.Fetching.{Fetches, with_block, serving, IsFetched, found, waits, declines, dead}
+use Rattle.stateful_requests.specs.Fetching.{Fetches, with_block}
+use Rattle.stateful_exec.specs.Fetching.{serving, IsFetched, found, waits, declines, dead}
 use Rattle.stateful_exec.specs.Moments as exec
 use Rattle.stateful_exec.specs.Workings.{Workings}
 use Rattle.stateful_exec.specs.declared.front.Front.{Front}
-use Rattle.stateful_exec.specs.declared.request.Request.{Request}
-use Rattle.stateful_exec.specs.declared.request.Request.TheVariants.{Verify, Recover}
-use Rattle.stateful_exec.specs.declared.request.Verdict.TheVariants as verdict
-use Rattle.stateful_exec.specs.declared.tables.Phase.TheVariants.{Fetching, Waiting}
-use Rattle.stateful_exec.specs.declared.tables.Requested.{Requested}
-use Rattle.stateful_exec.specs.declared.state.Tables.{Tables}
-use Rattle.stateful_exec.specs.Rules.{ended}
-use Rattle.stateful_exec.specs.declared.request.Verdict as said
+use Rattle.stateful_requests.specs.declared.request.Request.{Request}
+use Rattle.stateful_requests.specs.declared.request.Request.TheVariants.{Verify, Recover}
+use Rattle.stateful_requests.specs.declared.request.Verdict.TheVariants as verdict
+use Rattle.stateful_requests.specs.declared.tables.Phase.TheVariants.{Fetching, Waiting}
+use Rattle.stateful_requests.specs.declared.tables.Requested.{Requested}
+use Rattle.stateful_requests.specs.declared.state.Tables.{Tables}
+use Rattle.stateful_requests.specs.Tables.{ended}
+use Rattle.stateful_requests.specs.declared.request.Verdict as said
 use Rattle.stateful_standing.specs.Building.{IsElsewhere}
 use Rattle.stateful_standing.specs.Gathering.{gathered, but_last, AsksParents, AsksAlong}
 use Rattle.stateful_standing.specs.Setting.{setting}

@@ -13,7 +13,7 @@ use Rattle.stateful_exec.specs.Finalizing.{front_at, HooksOn}
 use Rattle.stateful_exec.specs.Workings.{Workings}
 use Rattle.stateful_exec.specs.declared.front.Front.{Front}
 use Rattle.stateful_exec.specs.declared.front.Stage.TheVariants.{Begun, Advanced}
-use Rattle.stateful_exec.specs.declared.state.Tables.{Tables}
+use Rattle.stateful_requests.specs.declared.state.Tables.{Tables}
 use Rattle.stateful_standing.specs.Due.{IsDue}
 use Rattle.stateful_standing.specs.Fronting.{FrontStands}
 use Rattle.stateful_standing.specs.Setting.{setting}

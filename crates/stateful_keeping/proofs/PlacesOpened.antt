@@ -9,8 +9,8 @@ use Rattle.stateful_history.specs.Stops.{NothingLive}
 use Rattle.stateful_history.specs.declared.mark.Mark.TheVariants.{Opened}
 use Rattle.stateful_exec.specs.Workings.{Workings}
 use Rattle.stateful_exec.specs.declared.front.Front.{Front}
-use Rattle.stateful_exec.specs.declared.tables.Phase.TheVariants.{Fetching}
-use Rattle.stateful_exec.specs.declared.tables.Requested.{Requested}
+use Rattle.stateful_requests.specs.declared.tables.Phase.TheVariants.{Fetching}
+use Rattle.stateful_requests.specs.declared.tables.Requested.{Requested}
 use Rattle.stateful_standing.specs.Due.{IsDue}
 use Rattle.stateful_standing.specs.Gathering.{gathered, AsksParents, AsksAlong}
 use Rattle.stateful_standing.specs.Setting.{setting}

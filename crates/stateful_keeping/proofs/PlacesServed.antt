@@ -14,17 +14,18 @@ use Rattle.stateful_history.specs.declared.mark.Mark.{Mark}
 use Rattle.stateful_history.specs.declared.mark.Mark.TheVariants.{Asked, Started, Verdict, Declined}
 use Rattle.stateful_table.specs.Table.{at, put}
 use Rattle.stateful_exec.specs.Moments.{Moment}
-use Rattle.stateful_exec.specs.Path.{Path}
-use Rattle.stateful_exec.specs.Rules.{told, ended, requested, Concludes, Advances, arrives, leaves, joins, starts, misses, Acquires, valid, invalid, asks, waits, runs}
+use Rattle.stateful_requests.specs.Path.{Path}
+use Rattle.stateful_requests.specs.Tables.{told, ended, requested}
+use Rattle.stateful_exec.specs.Rules.{Concludes, Advances, arrives, leaves, joins, starts, misses, Acquires, valid, invalid, asks, waits, runs}
 use Rattle.stateful_exec.specs.Workings.{Workings}
 use Rattle.stateful_exec.specs.declared.building.Building.{Building}
 use Rattle.stateful_exec.specs.declared.front.Front.{Front}
-use Rattle.stateful_exec.specs.declared.request.Request.{Request}
-use Rattle.stateful_exec.specs.declared.request.Request.TheVariants.{Verify, Recover}
-use Rattle.stateful_exec.specs.declared.request.Verdict as said
-use Rattle.stateful_exec.specs.declared.request.Verdict.TheVariants as verdict
-use Rattle.stateful_exec.specs.declared.state.Tables.{Tables}
-use Rattle.stateful_exec.specs.declared.tables.Requested.{Requested}
+use Rattle.stateful_requests.specs.declared.request.Request.{Request}
+use Rattle.stateful_requests.specs.declared.request.Request.TheVariants.{Verify, Recover}
+use Rattle.stateful_requests.specs.declared.request.Verdict as said
+use Rattle.stateful_requests.specs.declared.request.Verdict.TheVariants as verdict
+use Rattle.stateful_requests.specs.declared.state.Tables.{Tables}
+use Rattle.stateful_requests.specs.declared.tables.Requested.{Requested}
 use Rattle.stateful_standing.specs.Building.{IsElsewhere}
 use Rattle.stateful_standing.specs.Gathering.{AsksAlong, AsksNothing}
 use Rattle.stateful_standing.specs.Setting.{setting}

@@ -14,12 +14,12 @@ use Rattle.stateful_history.specs.declared.mark.Mark.TheVariants as mark
 use Rattle.stateful_exec.specs.Workings.{Workings}
 use Rattle.stateful_exec.specs.declared.building.Building.{Building}
 use Rattle.stateful_exec.specs.declared.front.Front.{Front}
-use Rattle.stateful_exec.specs.declared.state.Tables.{Tables}
-use Rattle.stateful_exec.specs.declared.tables.Requested.{Requested}
+use Rattle.stateful_requests.specs.declared.state.Tables.{Tables}
+use Rattle.stateful_requests.specs.declared.tables.Requested.{Requested}
 use Rattle.stateful_standing.specs.Due.{IsDue}
 use Rattle.stateful_standing.specs.Gathering.{gathered, AsksParents, AsksNothing}
 use Rattle.stateful_standing.specs.Setting.{setting}
-use Rattle.stateful_exec.specs.declared.tables.Phase.TheVariants.{Fetching}
+use Rattle.stateful_requests.specs.declared.tables.Phase.TheVariants.{Fetching}
 use Rattle.stateful_standing.proofs.DueStands.{IsDue-quiet}
 use Rattle.stateful_standing.proofs.Quiet.{IsQuiet}
 use Rattle.stateful_processing.specs.Moments.{Moment}

@@ -12,11 +12,12 @@ use Rattle.stateful_history.specs.declared.event.Event.{Event}
 use Rattle.stateful_history.specs.declared.event.Event.TheVariants as event
 use Rattle.stateful_db.specs.declared.application.AppFault.{AppFault}
 use Rattle.stateful_exec.specs.Ending.{TurnsRun, SettlesBy}
-use Rattle.stateful_exec.specs.Finalizing.{Completes, candidate, finalized, turned, not_live}
+use Rattle.stateful_exec.specs.Finalizing.{Completes}
+use Rattle.stateful_exec.specs.Finalizing.{candidate, finalized, turned, not_live}
 use Rattle.stateful_exec.specs.Moments as exec
 use Rattle.stateful_exec.specs.Workings.{Workings}
 use Rattle.stateful_exec.specs.declared.front.Front.{Front}
-use Rattle.stateful_exec.specs.declared.state.Tables.{Tables}
+use Rattle.stateful_requests.specs.declared.state.Tables.{Tables}
 use Rattle.stateful_processing.specs.Intake.{Counts, TurnsJob, build, hook, run, Builds, Hooks, TakesIn, enters, cancels, fetched, turns, flushes, stops, progresses, restarts}
 use Rattle.stateful_processing.specs.Moments.{Moment, inner, with_inner}
 use Rattle.stateful_keeping.specs.Execution.{NamesBehind}

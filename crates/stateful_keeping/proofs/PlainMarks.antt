@@ -19,12 +19,14 @@ use Rattle.stateful_history.specs.declared.mark.Mark.TheVariants.{Opened, Conver
 use Rattle.stateful_exec.specs.Workings.{Workings}
 use Rattle.stateful_exec.specs.Moments as exec
 use Rattle.stateful_exec.specs.Built.{TurnsBuild, other, goes_on, ends, EndsBuild, GivesUp, building, asking}
-use Rattle.stateful_exec.specs.Fetching.{Cancels, idle, withdraws, leaves, unqueued}
-use Rattle.stateful_exec.specs.Fetching as cancel
-use Rattle.stateful_exec.specs.Finalizing.{TurnsHook, hook_turned, unhooked, SettlesHook, Completes, candidate, finalized, StepsFinal, turned, not_live, SettlesFinal, HooksOn}
+use Rattle.stateful_requests.specs.Cancelling.{Cancels}
+use Rattle.stateful_requests.specs.Cancelling.{idle, withdraws, leaves, unqueued}
+use Rattle.stateful_requests.specs.Cancelling as cancel
+use Rattle.stateful_exec.specs.Finalizing.{TurnsHook, hook_turned, unhooked, SettlesHook, candidate, finalized, StepsFinal, turned, not_live, SettlesFinal, HooksOn}
+use Rattle.stateful_exec.specs.Finalizing.{Completes}
 use Rattle.stateful_exec.specs.declared.building.Building.{Building}
 use Rattle.stateful_exec.specs.declared.front.Front.{Front}
-use Rattle.stateful_exec.specs.declared.state.Tables.{Tables}
+use Rattle.stateful_requests.specs.declared.state.Tables.{Tables}
 use Rattle.stateful_standing.specs.Building.{IsElsewhere}
 use Rattle.stateful_standing.proofs.Passing.{IsBeside, PassesBy, PassesBy-acquires}
 use Rattle.stateful_standing.proofs.PassingRules.{PassesBy-steps, PassesBy-resumes, PassesBy-fetched}

@@ -9,16 +9,17 @@ use Rattle.std.proofs.lemmas.List.Elements.{All-nil, All-cons, All-append, All-w
 use Rattle.stateful_table.specs.Table.{at, put}
 use Rattle.stateful_exec.specs.Ending.{InTurn, none, next}
 use Rattle.stateful_exec.specs.Moments.{Moment, Becomes}
-use Rattle.stateful_exec.specs.Rules.{moved, ended, Concludes}
+use Rattle.stateful_requests.specs.Tables.{moved, ended}
+use Rattle.stateful_exec.specs.Rules.{Concludes}
 use Rattle.stateful_exec.specs.Workings.{Workings}
-use Rattle.stateful_exec.specs.declared.request.Request.{Request}
-use Rattle.stateful_exec.specs.declared.request.Request.TheVariants.{Verify, Recover}
-use Rattle.stateful_exec.specs.declared.request.Proposal.{Proposal}
-use Rattle.stateful_exec.specs.declared.request.Verdict.{Verdict}
-use Rattle.stateful_exec.specs.declared.request.Verdict.TheVariants.{Valid, Invalid}
-use Rattle.stateful_exec.specs.declared.state.Tables.{Tables}
-use Rattle.stateful_exec.specs.declared.tables.Phase.{Phase}
-use Rattle.stateful_exec.specs.declared.tables.Requested.{Requested}
+use Rattle.stateful_requests.specs.declared.request.Request.{Request}
+use Rattle.stateful_requests.specs.declared.request.Request.TheVariants.{Verify, Recover}
+use Rattle.stateful_requests.specs.declared.request.Proposal.{Proposal}
+use Rattle.stateful_requests.specs.declared.request.Verdict.{Verdict}
+use Rattle.stateful_requests.specs.declared.request.Verdict.TheVariants.{Valid, Invalid}
+use Rattle.stateful_requests.specs.declared.state.Tables.{Tables}
+use Rattle.stateful_requests.specs.declared.tables.Phase.{Phase}
+use Rattle.stateful_requests.specs.declared.tables.Requested.{Requested}
 use Rattle.stateful_standing.specs.Building.{IsElsewhere}
 use Rattle.stateful_standing.proofs.EndedLeft.{sorted_filter}
 use Rattle.stateful_standing.proofs.PassingRules.{none_kept}

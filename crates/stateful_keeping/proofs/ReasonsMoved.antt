@@ -15,17 +15,21 @@ use Rattle.stateful_history.specs.declared.mark.How.{How}
 use Rattle.stateful_history.specs.declared.mark.How.TheVariants.{Missed}
 use Rattle.stateful_history.specs.declared.mark.Mark.{Mark}
 use Rattle.stateful_cache.specs.Cache.{IsIn, IsAtHand}
-use Rattle.stateful_exec.specs.Boundary.{Boundary, IsRetained, step_by}
-use Rattle.stateful_exec.specs.Ending.{IsGivenUp, Follows, given_up, at_boundary, failed, parked, goes_on}
+use Rattle.stateful_requests.specs.Boundary.{Boundary, IsRetained, step_by}
+use Rattle.stateful_requests.specs.Fates.{IsGivenUp}
+use Rattle.stateful_exec.specs.Ending.{Follows, given_up, at_boundary, failed, parked, goes_on}
 use Rattle.stateful_exec.specs.Moments.{Moment, moment}
-use Rattle.stateful_exec.specs.Path.{Path}
-use Rattle.stateful_exec.specs.Rules.{GoesOn, IsPassed, Reaches, requested, ended, told, Concludes, Advances, arrives, leaves, joins, starts, misses}
+use Rattle.stateful_requests.specs.Path.{Path}
+use Rattle.stateful_requests.specs.Meeting.{GoesOn, IsPassed}
+use Rattle.stateful_requests.specs.Meeting.{Reaches}
+use Rattle.stateful_exec.specs.Rules.{Concludes, Advances, arrives, leaves, joins, starts, misses}
+use Rattle.stateful_requests.specs.Tables.{requested, ended, told}
 use Rattle.stateful_exec.specs.Workings.{Workings, Point}
-use Rattle.stateful_exec.specs.declared.pause.Pause.{Pause}
-use Rattle.stateful_exec.specs.declared.pause.Pause.TheVariants.{Free, Finalizing, Pruning}
-use Rattle.stateful_exec.specs.declared.request.Verdict.TheVariants as verdict
-use Rattle.stateful_exec.specs.declared.state.Tables.{Tables}
-use Rattle.stateful_exec.specs.declared.tables.Released.{Released}
+use Rattle.stateful_requests.specs.declared.pause.Pause.{Pause}
+use Rattle.stateful_requests.specs.declared.pause.Pause.TheVariants.{Free, Finalizing, Pruning}
+use Rattle.stateful_requests.specs.declared.request.Verdict.TheVariants as verdict
+use Rattle.stateful_requests.specs.declared.state.Tables.{Tables}
+use Rattle.stateful_requests.specs.declared.tables.Released.{Released}
 use Rattle.stateful_standing.specs.Crossing.{HasMovedSo}
 use Rattle.stateful_standing.specs.Requesting.{IsRequestOf, IsWayOf}
 use Rattle.stateful_standing.specs.Setting.{setting}

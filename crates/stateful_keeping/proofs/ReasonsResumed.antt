@@ -11,11 +11,11 @@ use Rattle.stateful_history.specs.declared.mark.Mark.{Mark}
 use Rattle.stateful_exec.specs.Ending.{InTurn}
 use Rattle.stateful_exec.specs.Moments.{Moment}
 use Rattle.stateful_exec.specs.Pausing.{GoesAlong, unparked, Resumes}
-use Rattle.stateful_exec.specs.Phase.{parked_in, unacquired_in}
-use Rattle.stateful_exec.specs.Rules.{requested}
+use Rattle.stateful_requests.specs.Phase.{parked_in, unacquired_in}
+use Rattle.stateful_requests.specs.Tables.{requested}
 use Rattle.stateful_exec.specs.Workings.{Workings, Point}
-use Rattle.stateful_exec.specs.declared.pause.Pause.TheVariants.{Free}
-use Rattle.stateful_exec.specs.declared.tables.Released.{Released}
+use Rattle.stateful_requests.specs.declared.pause.Pause.TheVariants.{Free}
+use Rattle.stateful_requests.specs.declared.tables.Released.{Released}
 use Rattle.stateful_standing.specs.Setting.{setting}
 use Rattle.stateful_standing.specs.Gathering.{GatheringsStand}
 use Rattle.stateful_standing.specs.Standing.{TablesStand}

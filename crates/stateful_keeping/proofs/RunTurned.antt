@@ -11,22 +11,23 @@ use Rattle.stateful_history.specs.declared.mark.JobKind.{JobKind}
 use Rattle.stateful_history.specs.declared.mark.JobKind.TheVariants.{Candidate, Finalized, Build, Hook}
 use Rattle.stateful_table.specs.Table.{at}
 use Rattle.stateful_exec.specs.Ending.{Steps}
-use Rattle.stateful_exec.specs.Finalizing.{front_at, IsFinalLive, turned, not_live, Completes, candidate, finalized}
+use Rattle.stateful_exec.specs.Finalizing.{front_at, IsFinalLive, turned, not_live, candidate, finalized}
+use Rattle.stateful_exec.specs.Finalizing.{Completes}
 use Rattle.stateful_exec.specs.Moments as exec
 use Rattle.stateful_exec.specs.Workings.{Workings, Point}
 use Rattle.stateful_exec.specs.declared.building.Building.{Building}
 use Rattle.stateful_exec.specs.declared.front.Front.{Front}
 use Rattle.stateful_exec.specs.declared.front.Stage.{Stage}
 use Rattle.stateful_exec.specs.declared.front.Stage.TheVariants.{Begun, Running, Ran, Advanced, Hooking}
-use Rattle.stateful_exec.specs.declared.state.Tables.{Tables}
-use Rattle.stateful_exec.specs.declared.tables.LiveRun.{LiveRun}
+use Rattle.stateful_requests.specs.declared.state.Tables.{Tables}
+use Rattle.stateful_requests.specs.declared.tables.LiveRun.{LiveRun}
 use Rattle.stateful_standing.specs.Fronting.{RunsAs, HooksAs}
 use Rattle.stateful_standing.proofs.EarnedTogether.{AreEarned-behind}
 use Rattle.stateful_standing.proofs.TurnedStands.{live-started}
 use Rattle.stateful_standing.specs.Requesting.{steps}
 use Rattle.stateful_standing.specs.Ways.{KeepOff}
-use Rattle.stateful_exec.specs.Phase.{released_on}
-use Rattle.stateful_exec.specs.declared.tables.Released.{Released}
+use Rattle.stateful_requests.specs.Phase.{released_on}
+use Rattle.stateful_requests.specs.declared.tables.Released.{Released}
 use Rattle.stateful_processing.specs.Intake.{Counts, Builds, Hooks}
 use Rattle.stateful_processing.specs.Moments.{Moment, inner, with_inner}
 use Rattle.stateful_keeping.specs.Execution.{IsFree, IsPausedFor, IsPausedOver, HasMovedOn, IsPlacedAt, IsPlaced, Executes, NamesBehind, ExecutesBehind}

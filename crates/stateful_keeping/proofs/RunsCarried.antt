@@ -15,27 +15,32 @@ use Rattle.stateful_history.specs.declared.mark.Mark.TheVariants.{Ended}
 use Rattle.stateful_cache.specs.declared.cache.Cached.{Cached}
 use Rattle.stateful_table.specs.Table.{at, put, without}
 use Rattle.stateful_exec.specs.Built.{GivesUp, building, asking}
-use Rattle.stateful_exec.specs.Ending.{InTurn, none as in_none, next as in_next, released, Turns, TurnsRun, Settles, SettlesBy, Steps, Follows, given_up, at_boundary, failed, parked, goes_on}
-use Rattle.stateful_exec.specs.Fetching.{Fetches, IsFetched, found, waits as awaits, declines, dead, serving, with_block, Cancels, idle, withdraws, leaves as leaves_run, ends as ends_run, unqueued}
+use Rattle.stateful_exec.specs.Ending.{InTurn, none as in_none, next as in_next, Turns, TurnsRun, Settles, SettlesBy, Steps, Follows, given_up, at_boundary, failed, parked, goes_on}
+use Rattle.stateful_requests.specs.Fates.{released}
+use Rattle.stateful_requests.specs.Fetching.{Fetches, with_block}
+use Rattle.stateful_exec.specs.Fetching.{IsFetched, found, waits as awaits, declines, dead, serving}
+use Rattle.stateful_requests.specs.Cancelling.{Cancels}
+use Rattle.stateful_requests.specs.Cancelling.{idle, withdraws, leaves as leaves_run, ends as ends_run, unqueued}
 use Rattle.stateful_exec.specs.Moments.{Moment, Becomes}
-use Rattle.stateful_exec.specs.Path.{Path}
+use Rattle.stateful_requests.specs.Path.{Path}
 use Rattle.stateful_exec.specs.Pausing.{Resumes, GoesAlong, AcquiresAnew, unparked, unsettled}
-use Rattle.stateful_exec.specs.Phase.{is_on, released_on, is_unacquired, parked_in, unacquired_in, not_unacquired}
-use Rattle.stateful_exec.specs.Rules.{requested, moved, ended, Concludes, Advances, arrives, leaves, joins, starts, misses, Acquires, valid, invalid, asks, waits, runs as needs_runs}
-use Rattle.stateful_exec.specs.Walk.{IsPrepared}
+use Rattle.stateful_requests.specs.Phase.{is_on, released_on, is_unacquired, parked_in, unacquired_in, not_unacquired}
+use Rattle.stateful_requests.specs.Tables.{requested, moved, ended}
+use Rattle.stateful_exec.specs.Rules.{Concludes, Advances, arrives, leaves, joins, starts, misses, Acquires, valid, invalid, asks, waits, runs as needs_runs}
+use Rattle.stateful_requests.specs.Walk.{IsPrepared}
 use Rattle.stateful_exec.specs.Workings.{Workings}
 use Rattle.stateful_exec.specs.declared.building.Building.{Building}
-use Rattle.stateful_exec.specs.declared.request.Request.{Request}
-use Rattle.stateful_exec.specs.declared.request.Request.TheVariants.{Verify, Recover}
-use Rattle.stateful_exec.specs.declared.request.Verdict.{Verdict}
-use Rattle.stateful_exec.specs.declared.request.Verdict.TheVariants.{Valid, Invalid}
-use Rattle.stateful_exec.specs.declared.state.Tables.{Tables}
-use Rattle.stateful_exec.specs.declared.tables.LiveRun.{LiveRun}
-use Rattle.stateful_exec.specs.declared.tables.Phase.{Phase}
-use Rattle.stateful_exec.specs.declared.tables.Phase.TheVariants.{Fetching, Waiting, Executing, Parked}
-use Rattle.stateful_exec.specs.declared.tables.Released.{Released}
-use Rattle.stateful_exec.specs.declared.tables.Requested.{Requested}
-use Rattle.stateful_exec.specs.declared.walk.Acquired.TheVariants as acquired
+use Rattle.stateful_requests.specs.declared.request.Request.{Request}
+use Rattle.stateful_requests.specs.declared.request.Request.TheVariants.{Verify, Recover}
+use Rattle.stateful_requests.specs.declared.request.Verdict.{Verdict}
+use Rattle.stateful_requests.specs.declared.request.Verdict.TheVariants.{Valid, Invalid}
+use Rattle.stateful_requests.specs.declared.state.Tables.{Tables}
+use Rattle.stateful_requests.specs.declared.tables.LiveRun.{LiveRun}
+use Rattle.stateful_requests.specs.declared.tables.Phase.{Phase}
+use Rattle.stateful_requests.specs.declared.tables.Phase.TheVariants.{Fetching, Waiting, Executing, Parked}
+use Rattle.stateful_requests.specs.declared.tables.Released.{Released}
+use Rattle.stateful_requests.specs.declared.tables.Requested.{Requested}
+use Rattle.stateful_requests.specs.declared.walk.Acquired.TheVariants as acquired
 use Rattle.stateful_standing.specs.Requesting.{first_of}
 use Rattle.stateful_standing.proofs.EarnedCarried.{IsMild}
 use Rattle.stateful_standing.proofs.EarnedLeft.{LeavesBehind-concludes, LeavesBehind-advances, LeavesBehind-acquires}

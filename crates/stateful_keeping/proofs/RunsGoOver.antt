@@ -8,28 +8,32 @@ use Rattle.stateful_types.specs.declared.outcome.Moved.TheVariants.{Pending, Don
 use Rattle.stateful_db.specs.declared.application.AppFault.{AppFault}
 use Rattle.stateful_history.specs.declared.mark.How.{How}
 use Rattle.stateful_history.specs.declared.mark.Mark.{Mark}
-use Rattle.stateful_exec.specs.Boundary.{Boundary, step_by, IsRetained}
-use Rattle.stateful_exec.specs.Ending.{InTurn, none, next, Crosses, EndsRun, TurnsRun, Follows, given_up, at_boundary, failed, parked, goes_on, Settles, SettlesBy, Steps}
-use Rattle.stateful_exec.specs.Fetching.{Cancels, idle, withdraws, leaves, ends, unqueued}
+use Rattle.stateful_requests.specs.Boundary.{Boundary, step_by, IsRetained}
+use Rattle.stateful_exec.specs.Ending.{InTurn, none, next, EndsRun, TurnsRun, Follows, given_up, at_boundary, failed, parked, goes_on, Settles, SettlesBy, Steps}
+use Rattle.stateful_requests.specs.Fates.{Crosses}
+use Rattle.stateful_requests.specs.Cancelling.{Cancels}
+use Rattle.stateful_requests.specs.Cancelling.{idle, withdraws, leaves, ends, unqueued}
 use Rattle.stateful_exec.specs.Finalizing.{RunsFinal}
 use Rattle.stateful_exec.specs.Moments.{Moment}
-use Rattle.stateful_exec.specs.Path.{Path}
-use Rattle.stateful_exec.specs.Pausing.{AwaitsRuns}
-use Rattle.stateful_exec.specs.Phase.{released_on}
+use Rattle.stateful_requests.specs.Path.{Path}
+use Rattle.stateful_requests.specs.Pausing.{AwaitsRuns}
+use Rattle.stateful_requests.specs.Phase.{released_on}
 use Rattle.stateful_exec.specs.Rules as rules
-use Rattle.stateful_exec.specs.Rules.{GoesOn, ended, requested, Concludes, Advances, Acquires}
+use Rattle.stateful_requests.specs.Meeting.{GoesOn}
+use Rattle.stateful_requests.specs.Tables.{ended, requested}
+use Rattle.stateful_exec.specs.Rules.{Concludes, Advances, Acquires}
 use Rattle.stateful_exec.specs.Workings.{Workings}
 use Rattle.stateful_exec.specs.declared.front.Front.{Front}
-use Rattle.stateful_exec.specs.declared.pause.Pause.{Pause}
-use Rattle.stateful_exec.specs.declared.pause.Pause.TheVariants.{Free, Finalizing, Pruning}
-use Rattle.stateful_exec.specs.declared.request.Request.{Request}
-use Rattle.stateful_exec.specs.declared.request.Request.TheVariants.{Verify, Recover}
-use Rattle.stateful_exec.specs.declared.request.Verdict.{Verdict}
-use Rattle.stateful_exec.specs.declared.request.Verdict.TheVariants as verdict
-use Rattle.stateful_exec.specs.declared.state.Tables.{Tables}
-use Rattle.stateful_exec.specs.declared.tables.LiveRun.{LiveRun}
-use Rattle.stateful_exec.specs.declared.tables.Released.{Released}
-use Rattle.stateful_exec.specs.declared.tables.Requested.{Requested}
+use Rattle.stateful_requests.specs.declared.pause.Pause.{Pause}
+use Rattle.stateful_requests.specs.declared.pause.Pause.TheVariants.{Free, Finalizing, Pruning}
+use Rattle.stateful_requests.specs.declared.request.Request.{Request}
+use Rattle.stateful_requests.specs.declared.request.Request.TheVariants.{Verify, Recover}
+use Rattle.stateful_requests.specs.declared.request.Verdict.{Verdict}
+use Rattle.stateful_requests.specs.declared.request.Verdict.TheVariants as verdict
+use Rattle.stateful_requests.specs.declared.state.Tables.{Tables}
+use Rattle.stateful_requests.specs.declared.tables.LiveRun.{LiveRun}
+use Rattle.stateful_requests.specs.declared.tables.Released.{Released}
+use Rattle.stateful_requests.specs.declared.tables.Requested.{Requested}
 use Rattle.stateful_standing.proofs.EndedFinalizing.{IsRetained-crossed}
 use Rattle.stateful_standing.proofs.Putting.{All-put}
 use Rattle.stateful_standing.proofs.Removing.{All-without, All-at}

@@ -9,18 +9,22 @@ use Rattle.stateful_history.specs.declared.event.Event.{Event}
 use Rattle.stateful_history.specs.declared.mark.Mark.{Mark}
 use Rattle.stateful_table.specs.Table.{without}
 use Rattle.stateful_exec.specs.Built.{TurnsBuild, other, goes_on, ends, EndsBuild, GivesUp, building, asking}
-use Rattle.stateful_exec.specs.Ending.{Crosses}
-use Rattle.stateful_exec.specs.Fetching.{IsFetched, found, waits as awaits, declines, dead, serving, with_block, Cancels, idle, withdraws, leaves, ends as ends_run, unqueued}
-use Rattle.stateful_exec.specs.Finalizing.{Completes, candidate, finalized}
+use Rattle.stateful_requests.specs.Fates.{Crosses}
+use Rattle.stateful_exec.specs.Fetching.{IsFetched, found, waits as awaits, declines, dead, serving}
+use Rattle.stateful_requests.specs.Cancelling.{Cancels}
+use Rattle.stateful_requests.specs.Fetching.{with_block}
+use Rattle.stateful_requests.specs.Cancelling.{idle, withdraws, leaves, ends as ends_run, unqueued}
+use Rattle.stateful_exec.specs.Finalizing.{Completes}
+use Rattle.stateful_exec.specs.Finalizing.{candidate, finalized}
 use Rattle.stateful_exec.specs.Moments as exec
 use Rattle.stateful_exec.specs.Workings.{Workings}
 use Rattle.stateful_exec.specs.declared.building.Building.{Building}
-use Rattle.stateful_exec.specs.declared.pause.Pause.{Pause}
-use Rattle.stateful_exec.specs.declared.pause.Pause.TheVariants.{Free, Finalizing, Pruning}
-use Rattle.stateful_exec.specs.declared.request.Verdict.TheVariants.{Invalid}
-use Rattle.stateful_exec.specs.declared.state.Tables.{Tables}
-use Rattle.stateful_exec.specs.declared.tables.Phase.TheVariants.{Open}
-use Rattle.stateful_exec.specs.declared.tables.Requested.{Requested}
+use Rattle.stateful_requests.specs.declared.pause.Pause.{Pause}
+use Rattle.stateful_requests.specs.declared.pause.Pause.TheVariants.{Free, Finalizing, Pruning}
+use Rattle.stateful_requests.specs.declared.request.Verdict.TheVariants.{Invalid}
+use Rattle.stateful_requests.specs.declared.state.Tables.{Tables}
+use Rattle.stateful_requests.specs.declared.tables.Phase.TheVariants.{Open}
+use Rattle.stateful_requests.specs.declared.tables.Requested.{Requested}
 use Rattle.stateful_standing.proofs.EarnedLeft.{LeavesBehind-acquires, LeavesBehind-concludes}
 use Rattle.stateful_processing.specs.Intake as intake
 use Rattle.stateful_processing.specs.Intake.{Counts, TurnsJob, TakesIn}

@@ -7,23 +7,26 @@ use Rattle.stateful_types.specs.declared.outcome.Moved.TheVariants.{Pending, Don
 use Rattle.stateful_db.specs.declared.application.AppFault.{AppFault}
 use Rattle.stateful_history.specs.declared.mark.How.{How}
 use Rattle.stateful_table.specs.Table.{put}
-use Rattle.stateful_exec.specs.Ending.{InTurn, none as in_none, next as in_next, released, Settles, SettlesBy, Steps, Follows, given_up, at_boundary, failed, parked, goes_on}
-use Rattle.stateful_exec.specs.Fetching.{IsFetched, found, waits as awaits, declines, dead, serving, with_block}
+use Rattle.stateful_exec.specs.Ending.{InTurn, none as in_none, next as in_next, Settles, SettlesBy, Steps, Follows, given_up, at_boundary, failed, parked, goes_on}
+use Rattle.stateful_requests.specs.Fates.{released}
+use Rattle.stateful_exec.specs.Fetching.{IsFetched, found, waits as awaits, declines, dead, serving}
+use Rattle.stateful_requests.specs.Fetching.{with_block}
 use Rattle.stateful_exec.specs.Moments.{Moment, Becomes}
-use Rattle.stateful_exec.specs.Path.{Path}
+use Rattle.stateful_requests.specs.Path.{Path}
 use Rattle.stateful_exec.specs.Pausing.{Resumes, AcquiresAnew, unsettled}
-use Rattle.stateful_exec.specs.Phase.{is_on, released_on, is_unacquired, unacquired_in, not_unacquired}
-use Rattle.stateful_exec.specs.Rules.{requested, moved, ended, Concludes, Advances, arrives, leaves, joins, starts, misses, Acquires, valid, invalid, asks, waits, runs}
+use Rattle.stateful_requests.specs.Phase.{is_on, released_on, is_unacquired, unacquired_in, not_unacquired}
+use Rattle.stateful_requests.specs.Tables.{requested, moved, ended}
+use Rattle.stateful_exec.specs.Rules.{Concludes, Advances, arrives, leaves, joins, starts, misses, Acquires, valid, invalid, asks, waits, runs}
 use Rattle.stateful_exec.specs.Workings.{Workings}
-use Rattle.stateful_exec.specs.declared.request.Request.{Request}
-use Rattle.stateful_exec.specs.declared.request.Request.TheVariants.{Verify, Recover}
-use Rattle.stateful_exec.specs.declared.request.Verdict.{Verdict}
-use Rattle.stateful_exec.specs.declared.request.Verdict.TheVariants.{Valid, Invalid}
-use Rattle.stateful_exec.specs.declared.state.Tables.{Tables}
-use Rattle.stateful_exec.specs.declared.tables.Phase.{Phase}
-use Rattle.stateful_exec.specs.declared.tables.Phase.TheVariants.{Open, Fetching, Waiting, Executing, Parked}
-use Rattle.stateful_exec.specs.declared.tables.Released.{Released}
-use Rattle.stateful_exec.specs.declared.tables.Requested.{Requested}
+use Rattle.stateful_requests.specs.declared.request.Request.{Request}
+use Rattle.stateful_requests.specs.declared.request.Request.TheVariants.{Verify, Recover}
+use Rattle.stateful_requests.specs.declared.request.Verdict.{Verdict}
+use Rattle.stateful_requests.specs.declared.request.Verdict.TheVariants.{Valid, Invalid}
+use Rattle.stateful_requests.specs.declared.state.Tables.{Tables}
+use Rattle.stateful_requests.specs.declared.tables.Phase.{Phase}
+use Rattle.stateful_requests.specs.declared.tables.Phase.TheVariants.{Open, Fetching, Waiting, Executing, Parked}
+use Rattle.stateful_requests.specs.declared.tables.Released.{Released}
+use Rattle.stateful_requests.specs.declared.tables.Requested.{Requested}
 use Rattle.stateful_standing.proofs.Putting.{All-put}
 use Rattle.stateful_keeping.specs.InHand.{NoneOpen}
 

@@ -2,12 +2,12 @@
 use Rattle.std.proofs.Common.{◌≡◌, ℕ, Option, sym, ap, ◌∙◌, subst}
 use Rattle.stateful_types.specs.Names.{Named}
 use Rattle.stateful_exec.specs.Finalizing.{HooksOn}
-use Rattle.stateful_exec.specs.Rules.{requested}
-use Rattle.stateful_exec.specs.Request.{ticket_by}
+use Rattle.stateful_requests.specs.Tables.{requested}
+use Rattle.stateful_requests.specs.Request.{ticket_by}
 use Rattle.stateful_exec.specs.Workings.{Workings}
-use Rattle.stateful_exec.specs.declared.pause.Pause.TheVariants.{Free, Finalizing}
-use Rattle.stateful_exec.specs.declared.request.Request.{Request}
-use Rattle.stateful_exec.specs.declared.state.Tables.{Tables}
+use Rattle.stateful_requests.specs.declared.pause.Pause.TheVariants.{Free, Finalizing}
+use Rattle.stateful_requests.specs.declared.request.Request.{Request}
+use Rattle.stateful_requests.specs.declared.state.Tables.{Tables}
 use Rattle.stateful_db.specs.declared.application.Hooked.{Hooked}
 use Rattle.stateful_db.specs.declared.application.Hooked.TheVariants as hooked
 use Rattle.stateful_processing.specs.Moments.{Moment, inner, with_loop}

@@ -5,13 +5,14 @@ use Rattle.stateful_types.specs.declared.outcome.Moved.{Moved}
 use Rattle.stateful_types.specs.declared.outcome.Moved.TheVariants.{Pending, Done}
 use Rattle.stateful_db.specs.declared.application.AppFault.{AppFault}
 use Rattle.stateful_history.specs.declared.mark.How.{How}
-use Rattle.stateful_exec.specs.Ending.{InTurn, none, next, Crosses, TurnsRun, Follows, SettlesBy, Steps}
+use Rattle.stateful_exec.specs.Ending.{InTurn, none, next, TurnsRun, Follows, SettlesBy, Steps}
+use Rattle.stateful_requests.specs.Fates.{Crosses}
 use Rattle.stateful_exec.specs.Moments.{Moment}
-use Rattle.stateful_exec.specs.Phase.{released_on}
+use Rattle.stateful_requests.specs.Phase.{released_on}
 use Rattle.stateful_exec.specs.Workings.{Workings}
-use Rattle.stateful_exec.specs.declared.pause.Pause.{Pause}
-use Rattle.stateful_exec.specs.declared.state.Tables.{Tables}
-use Rattle.stateful_exec.specs.declared.tables.Released.{Released}
+use Rattle.stateful_requests.specs.declared.pause.Pause.{Pause}
+use Rattle.stateful_requests.specs.declared.state.Tables.{Tables}
+use Rattle.stateful_requests.specs.declared.tables.Released.{Released}
 use Rattle.stateful_standing.proofs.EarnedLeft.{LeavesBehind-follows}
 
 module _ {B C I P R D H G U : Type 0} (w : Workings B C I P R D H G U) where

@@ -14,11 +14,12 @@ use Rattle.stateful_history.specs.declared.ticket.Ticket.{Ticket}
 use Rattle.stateful_history.specs.declared.ticket.Ticket.TheVariants as ticket
 use Rattle.stateful_table.specs.Table.{at}
 use Rattle.stateful_exec.specs.Built.{GivesUp, building, asking}
-use Rattle.stateful_exec.specs.Fetching.{Cancels, idle, withdraws, leaves, ends, unqueued}
+use Rattle.stateful_requests.specs.Cancelling.{Cancels}
+use Rattle.stateful_requests.specs.Cancelling.{idle, withdraws, leaves, ends, unqueued}
 use Rattle.stateful_exec.specs.Workings.{Workings}
 use Rattle.stateful_exec.specs.declared.building.Building.{Building}
-use Rattle.stateful_exec.specs.declared.request.Request.TheVariants.{Verify, Recover}
-use Rattle.stateful_exec.specs.declared.state.Tables.{Tables}
+use Rattle.stateful_requests.specs.declared.request.Request.TheVariants.{Verify, Recover}
+use Rattle.stateful_requests.specs.declared.state.Tables.{Tables}
 use Rattle.stateful_standing.specs.Setting.{setting}
 use Rattle.stateful_standing.proofs.Passing.{PassesBy}
 use Rattle.stateful_standing.proofs.PassingRules.{PassesBy-cancels}

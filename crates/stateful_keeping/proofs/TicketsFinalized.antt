@@ -10,7 +10,7 @@ use Rattle.stateful_history.specs.declared.mark.Mark.TheVariants as mark
 use Rattle.stateful_exec.specs.Finalizing.{front_at}
 use Rattle.stateful_exec.specs.Workings.{Workings}
 use Rattle.stateful_exec.specs.declared.front.Stage.TheVariants.{Begun}
-use Rattle.stateful_exec.specs.declared.state.Tables.{Tables}
+use Rattle.stateful_requests.specs.declared.state.Tables.{Tables}
 use Rattle.stateful_standing.specs.Setting.{setting}
 use Rattle.stateful_standing.proofs.Passing.{PassesBy}
 use Rattle.stateful_standing.proofs.PassingRules.{PassesBy-pauses, PassesBy-resumes}

@@ -8,10 +8,10 @@ use Rattle.stateful_durability.specs.Durability.{receipts_up_to, receipts_above,
 use Rattle.stateful_history.specs.Past.{Past, after}
 use Rattle.stateful_history.specs.declared.mark.Mark.{Mark}
 use Rattle.stateful_history.specs.declared.mark.Mark.TheVariants as mark
-use Rattle.stateful_exec.specs.Rules.{requested}
-use Rattle.stateful_exec.specs.Request.{ticket_by}
+use Rattle.stateful_requests.specs.Tables.{requested}
+use Rattle.stateful_requests.specs.Request.{ticket_by}
 use Rattle.stateful_exec.specs.Workings.{Workings}
-use Rattle.stateful_exec.specs.declared.request.Request.{Request}
+use Rattle.stateful_requests.specs.declared.request.Request.{Request}
 use Rattle.stateful_standing.specs.Setting.{setting}
 use Rattle.stateful_standing.proofs.Passing.{PassesBy, PassesBy-acquires}
 use Rattle.stateful_processing.specs.Moments.{Moment, inner, with_inner, with_loop}

@@ -19,12 +19,13 @@ use Rattle.stateful_history.specs.declared.mark.How.TheVariants.{Nothing}
 use Rattle.stateful_history.specs.declared.mark.Mark.TheVariants as mark
 use Rattle.stateful_exec.specs.Built.{decided, TurnsBuild, other, goes_on, ends, EndsBuild, Gives}
 use Rattle.stateful_exec.specs.Fetching.{IsFetched}
-use Rattle.stateful_exec.specs.Finalizing.{SettlesHook, TurnsHook, hook_turned, unhooked, SettlesFinal, StepsFinal, turned, not_live, Completes, candidate, finalized}
+use Rattle.stateful_exec.specs.Finalizing.{SettlesHook, TurnsHook, hook_turned, unhooked, SettlesFinal, StepsFinal, turned, not_live, candidate, finalized}
+use Rattle.stateful_exec.specs.Finalizing.{Completes}
 use Rattle.stateful_exec.specs.Moments as exec
 use Rattle.stateful_exec.specs.Workings.{Workings}
 use Rattle.stateful_exec.specs.declared.building.Building.{Building}
 use Rattle.stateful_exec.specs.declared.front.Front.{Front}
-use Rattle.stateful_exec.specs.declared.state.Tables.{Tables}
+use Rattle.stateful_requests.specs.declared.state.Tables.{Tables}
 use Rattle.stateful_standing.specs.Setting.{setting}
 use Rattle.stateful_standing.proofs.PassingRules.{PassesBy-fetched, PassesBy-steps}
 use Rattle.stateful_processing.specs.Intake.{Counts, Flushes, TurnsJob, build, hook, run}

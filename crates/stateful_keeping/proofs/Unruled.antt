@@ -13,15 +13,17 @@ use Rattle.stateful_history.specs.declared.mark.Mark.{Mark}
 use Rattle.stateful_history.specs.declared.mark.Mark.TheVariants as mark
 use Rattle.stateful_history.proofs.Marks.{EachMark-append}
 use Rattle.stateful_exec.specs.Ending.{InTurn, none, next, Follows}
-use Rattle.stateful_exec.specs.Fetching.{IsFetched, found, waits, declines, dead, serving, with_block}
+use Rattle.stateful_exec.specs.Fetching.{IsFetched, found, waits, declines, dead, serving}
+use Rattle.stateful_requests.specs.Fetching.{with_block}
 use Rattle.stateful_exec.specs.Moments.{Moment}
 use Rattle.stateful_exec.specs.Pausing.{GoesAlong, AcquiresAnew, unparked, unsettled, Resumes}
-use Rattle.stateful_exec.specs.Phase.{parked_in, unacquired_in}
-use Rattle.stateful_exec.specs.Rules.{requested, Advances, Acquires}
+use Rattle.stateful_requests.specs.Phase.{parked_in, unacquired_in}
+use Rattle.stateful_requests.specs.Tables.{requested}
+use Rattle.stateful_exec.specs.Rules.{Advances, Acquires}
 use Rattle.stateful_exec.specs.Workings.{Workings}
-use Rattle.stateful_exec.specs.declared.request.Verdict.TheVariants as verdict
-use Rattle.stateful_exec.specs.declared.tables.Released.{Released}
-use Rattle.stateful_exec.specs.declared.tables.Requested.{Requested}
+use Rattle.stateful_requests.specs.declared.request.Verdict.TheVariants as verdict
+use Rattle.stateful_requests.specs.declared.tables.Released.{Released}
+use Rattle.stateful_requests.specs.declared.tables.Requested.{Requested}
 use Rattle.stateful_standing.proofs.AdvanceStands.{All-front, All-back}
 use Rattle.stateful_standing.proofs.ServedMarks.{IsServedBy, AreServedBy, ServesMarks, advances-marks, acquires-marks, follows-marks, concludes-marks}
 use Rattle.stateful_processing.specs.Moments as loop

@@ -12,13 +12,13 @@ use Rattle.stateful_history.specs.Setting.{Setting}
 use Rattle.stateful_cache.specs.Judgement.{IsJudged}
 use Rattle.stateful_cache.specs.declared.cache.Cached.{Cached}
 use Rattle.stateful_cache.specs.declared.judgement.Judgement.TheVariants as judged
-use Rattle.stateful_exec.specs.Walk as walk
-use Rattle.stateful_exec.specs.Walk.{IsNeeded, IsVerified, IsPrepared}
+use Rattle.stateful_requests.specs.Walk as walk
+use Rattle.stateful_requests.specs.Walk.{IsNeeded, IsVerified, IsPrepared}
 use Rattle.stateful_exec.specs.Workings.{Workings, Point}
-use Rattle.stateful_exec.specs.declared.pause.Pause.TheVariants.{Free}
-use Rattle.stateful_exec.specs.declared.request.Request.{Request}
-use Rattle.stateful_exec.specs.declared.request.Request.TheVariants.{Verify, Recover}
-use Rattle.stateful_exec.specs.declared.walk.Acquired.TheVariants as acquired
+use Rattle.stateful_requests.specs.declared.pause.Pause.TheVariants.{Free}
+use Rattle.stateful_requests.specs.declared.request.Request.{Request}
+use Rattle.stateful_requests.specs.declared.request.Request.TheVariants.{Verify, Recover}
+use Rattle.stateful_requests.specs.declared.walk.Acquired.TheVariants as acquired
 use Rattle.stateful_standing.specs.Ground.{IsGround}
 use Rattle.stateful_standing.specs.Requesting.{first_of}
 use Rattle.stateful_standing.specs.Setting.{setting}

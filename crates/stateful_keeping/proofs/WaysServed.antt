@@ -7,19 +7,21 @@ use Rattle.stateful_db.specs.Laws.{Laws}
 use Rattle.stateful_history.specs.Met.{Met, TrueNames}
 use Rattle.stateful_history.specs.Past.{Past, Came}
 use Rattle.stateful_history.specs.declared.event.Event.TheVariants.{Fetched}
-use Rattle.stateful_exec.specs.Fetching.{Fetches, with_block, serving, IsFetched, found, waits, declines, dead}
+use Rattle.stateful_requests.specs.Fetching.{Fetches, with_block}
+use Rattle.stateful_exec.specs.Fetching.{serving, IsFetched, found, waits, declines, dead}
 use Rattle.stateful_exec.specs.Moments as exec
-use Rattle.stateful_exec.specs.Path.{Path}
-use Rattle.stateful_exec.specs.Request.{ticket_by}
-use Rattle.stateful_exec.specs.Rules.{taken, moved, requested, Acquires, Concludes}
+use Rattle.stateful_requests.specs.Path.{Path}
+use Rattle.stateful_requests.specs.Request.{ticket_by}
+use Rattle.stateful_requests.specs.Tables.{taken, moved, requested}
+use Rattle.stateful_exec.specs.Rules.{Acquires, Concludes}
 use Rattle.stateful_exec.specs.Workings.{Workings, Point}
 use Rattle.stateful_exec.specs.declared.front.Front.{Front}
-use Rattle.stateful_exec.specs.declared.pause.Pause.{Pause}
-use Rattle.stateful_exec.specs.declared.request.Request.{Request}
-use Rattle.stateful_exec.specs.declared.request.Verdict.TheVariants.{Invalid}
-use Rattle.stateful_exec.specs.declared.state.Tables.{Tables}
-use Rattle.stateful_exec.specs.declared.tables.Phase.TheVariants.{Waiting, Parked}
-use Rattle.stateful_exec.specs.declared.tables.Requested.{Requested}
+use Rattle.stateful_requests.specs.declared.pause.Pause.{Pause}
+use Rattle.stateful_requests.specs.declared.request.Request.{Request}
+use Rattle.stateful_requests.specs.declared.request.Verdict.TheVariants.{Invalid}
+use Rattle.stateful_requests.specs.declared.state.Tables.{Tables}
+use Rattle.stateful_requests.specs.declared.tables.Phase.TheVariants.{Waiting, Parked}
+use Rattle.stateful_requests.specs.declared.tables.Requested.{Requested}
 use Rattle.stateful_standing.specs.Ground.{IsGround}
 use Rattle.stateful_standing.specs.Setting.{setting}
 use Rattle.stateful_standing.specs.Standing.{IsInHand}

@@ -8,7 +8,7 @@ use Rattle.stateful_history.specs.declared.mark.Mark.{Mark}
 use Rattle.stateful_history.specs.declared.mark.Mark.TheVariants.{Withdrawn, Ended, Declined}
 use Rattle.stateful_history.specs.declared.mark.Mark.TheVariants.{Dropped, Stopped}
 use Rattle.stateful_exec.specs.Workings.{Workings}
-use Rattle.stateful_exec.specs.declared.pause.Pause.TheVariants.{Free}
+use Rattle.stateful_requests.specs.declared.pause.Pause.TheVariants.{Free}
 use Rattle.stateful_standing.specs.Standing.{NumbersStand}
 use Rattle.stateful_processing.specs.Moments.{Moment}
 

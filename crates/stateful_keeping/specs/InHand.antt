@@ -10,9 +10,9 @@ use Rattle.stateful_history.specs.Requests.{proposed, subscribed}
 use Rattle.stateful_history.specs.declared.mark.Mark.{Mark}
 use Rattle.stateful_table.specs.Table.{at}
 use Rattle.stateful_exec.specs.Workings.{Workings}
-use Rattle.stateful_exec.specs.declared.pause.Pause.TheVariants.{Free}
-use Rattle.stateful_exec.specs.declared.tables.Phase.TheVariants.{Open}
-use Rattle.stateful_exec.specs.declared.tables.Requested.{Requested}
+use Rattle.stateful_requests.specs.declared.pause.Pause.TheVariants.{Free}
+use Rattle.stateful_requests.specs.declared.tables.Phase.TheVariants.{Open}
+use Rattle.stateful_requests.specs.declared.tables.Requested.{Requested}
 use Rattle.stateful_standing.specs.Outstanding.{RunsGoOn}
 use Rattle.stateful_standing.specs.Requesting.{AllAbstain}
 use Rattle.stateful_processing.specs.Message.{is_verification}

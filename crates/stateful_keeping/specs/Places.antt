@@ -21,7 +21,7 @@ use Rattle.stateful_exec.specs.declared.front.Front.{Front}
 use Rattle.stateful_exec.specs.declared.front.Stage.{Stage}
 use Rattle.stateful_exec.specs.declared.front.Stage.TheVariants.{Begun, Running, Ran, Advanced}
 use Rattle.stateful_exec.specs.declared.front.Stage.TheVariants.{Hooking}
-use Rattle.stateful_exec.specs.declared.state.Tables.{Tables}
+use Rattle.stateful_requests.specs.declared.state.Tables.{Tables}
 use Rattle.stateful_standing.specs.Due.{IsDue}
 use Rattle.stateful_standing.specs.Gathering.{AsksAlong, AsksNothing}
 use Rattle.stateful_standing.specs.Orderly.{IsOrderly}

@@ -22,17 +22,19 @@ use Rattle.stateful_history.specs.declared.mark.How.{How}
 use Rattle.stateful_history.specs.declared.mark.How.TheVariants.{Missed}
 use Rattle.stateful_cache.specs.Cache.{IsIn, IsAtHand}
 use Rattle.stateful_cache.specs.declared.cache.Cached.{Cached}
-use Rattle.stateful_exec.specs.Built.{IsOther, IsNamed, FaultsKeep, FaultsBuilt, memory, other, not_kept, FaultsGiven, HasTurn, IsLiveBuild, FaultsTurn, failed, ending}
-use Rattle.stateful_exec.specs.Ending.{Takes, there, added, missed}
+use Rattle.stateful_exec.specs.Built.{IsOther, IsNamed, FaultsBuilt, memory, other, not_kept, FaultsGiven, HasTurn, IsLiveBuild, FaultsTurn, failed, ending}
+use Rattle.stateful_requests.specs.Keeping.{FaultsKeep}
+use Rattle.stateful_requests.specs.Keeping.{Takes}
+use Rattle.stateful_requests.specs.Keeping.{there, added, missed}
 use Rattle.stateful_exec.specs.Moments as exec
 use Rattle.stateful_exec.specs.Workings.{Workings, Point}
 use Rattle.stateful_exec.specs.declared.building.Building.{Building}
-use Rattle.stateful_exec.specs.declared.error.ExecError.{ExecError}
-use Rattle.stateful_exec.specs.declared.error.ExecError.TheVariants as exec_error
-use Rattle.stateful_exec.specs.declared.error.ProposalFault.{ProposalFault}
-use Rattle.stateful_exec.specs.declared.error.ProposalFault.TheVariants.{Targets, Parent, Round as AnotherRound}
-use Rattle.stateful_exec.specs.declared.pause.Pause.{Pause}
-use Rattle.stateful_exec.specs.declared.pause.Pause.TheVariants.{Free}
+use Rattle.stateful_requests.specs.declared.error.ExecError.{ExecError}
+use Rattle.stateful_requests.specs.declared.error.ExecError.TheVariants as exec_error
+use Rattle.stateful_requests.specs.declared.error.ProposalFault.{ProposalFault}
+use Rattle.stateful_requests.specs.declared.error.ProposalFault.TheVariants.{Targets, Parent, Round as AnotherRound}
+use Rattle.stateful_requests.specs.declared.pause.Pause.{Pause}
+use Rattle.stateful_requests.specs.declared.pause.Pause.TheVariants.{Free}
 use Rattle.stateful_standing.specs.Building.{BuildStands, IsBuilding}
 use Rattle.stateful_standing.specs.Setting.{setting}
 use Rattle.stateful_standing.specs.Standing.{TablesStand}

@@ -18,7 +18,7 @@ use Rattle.stateful_exec.specs.Fetching.{FaultsFetched}
 use Rattle.stateful_exec.specs.Finalizing.{front_at, FaultsComplete, of_candidate, of_finalized, FaultsHook}
 use Rattle.stateful_exec.specs.Workings.{Workings, Point}
 use Rattle.stateful_exec.specs.declared.building.Building.{Building}
-use Rattle.stateful_exec.specs.declared.error.ExecError.{ExecError}
+use Rattle.stateful_requests.specs.declared.error.ExecError.{ExecError}
 use Rattle.stateful_exec.specs.declared.front.Front.{Front}
 use Rattle.stateful_exec.specs.declared.front.Stage.TheVariants.{Running}
 use Rattle.stateful_standing.specs.Building.{BuildsTakeTurns}

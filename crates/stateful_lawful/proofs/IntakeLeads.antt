@@ -12,7 +12,8 @@ use Rattle.stateful_history.specs.Joined.{Matches}
 use Rattle.stateful_history.specs.declared.event.Event.{Event}
 use Rattle.stateful_history.specs.declared.event.Event.TheVariants as event
 use Rattle.stateful_history.specs.declared.mark.Mark.{Mark}
-use Rattle.stateful_exec.specs.Finalizing.{front_at, IsRedelivered, SettlesFinal, StepsFinal, turned, not_live, SettlesHook, TurnsHook, hook_turned, unhooked, Completes, candidate, finalized}
+use Rattle.stateful_exec.specs.Finalizing.{front_at, IsRedelivered, SettlesFinal, StepsFinal, turned, not_live, SettlesHook, TurnsHook, hook_turned, unhooked, candidate, finalized}
+use Rattle.stateful_exec.specs.Finalizing.{Completes}
 use Rattle.stateful_exec.specs.Moments as exec
 use Rattle.stateful_exec.specs.Workings.{Workings}
 use Rattle.stateful_exec.specs.declared.front.Front.{Front}

@@ -14,22 +14,23 @@ use Rattle.stateful_db.specs.declared.application.ProposedBlock.{ProposedBlock}
 use Rattle.stateful_db.specs.declared.application.AppFault.{AppFault}
 use Rattle.stateful_cache.specs.declared.cache.Cached.{Cached}
 use Rattle.stateful_table.specs.Table.{at}
-use Rattle.stateful_exec.specs.Built.{FaultsBuilt, FaultsGiven, FaultsKeep, FaultsTurn}
+use Rattle.stateful_exec.specs.Built.{FaultsBuilt, FaultsGiven, FaultsTurn}
+use Rattle.stateful_requests.specs.Keeping.{FaultsKeep}
 use Rattle.stateful_exec.specs.Built as built
 use Rattle.stateful_exec.specs.Causes.{FaultsAcquire, FaultsAnswer, FaultsStep}
 use Rattle.stateful_exec.specs.Causes as cause
-use Rattle.stateful_exec.specs.Ending.{FaultsTake}
-use Rattle.stateful_exec.specs.Errors.{error_of_app}
+use Rattle.stateful_requests.specs.Keeping.{FaultsTake}
+use Rattle.stateful_requests.specs.Errors.{error_of_app}
 use Rattle.stateful_exec.specs.Finalizing.{Conflicts, FaultsBegin, FaultsComplete, FaultsFinal, FaultsMove, FaultsSettleFinal, FaultsStepFinal}
 use Rattle.stateful_exec.specs.Finalizing as final
 use Rattle.stateful_exec.specs.Moments as exec
-use Rattle.stateful_exec.specs.Rules.{requested}
+use Rattle.stateful_requests.specs.Tables.{requested}
 use Rattle.stateful_exec.specs.Workings.{Workings}
-use Rattle.stateful_exec.specs.declared.error.ExecError.{ExecError}
-use Rattle.stateful_exec.specs.declared.error.ExecError.TheVariants as exec_error
+use Rattle.stateful_requests.specs.declared.error.ExecError.{ExecError}
+use Rattle.stateful_requests.specs.declared.error.ExecError.TheVariants as exec_error
 use Rattle.stateful_exec.specs.declared.building.Building.{Building}
 use Rattle.stateful_exec.specs.declared.front.Front.{Front}
-use Rattle.stateful_exec.specs.declared.tables.LiveRun.{LiveRun}
+use Rattle.stateful_requests.specs.declared.tables.LiveRun.{LiveRun}
 use Rattle.stateful_history.specs.declared.event.Event.{Event}
 use Rattle.stateful_history.specs.declared.event.Event.TheVariants as event
 use Rattle.stateful_processing.specs.Barriers.{awaiting}

@@ -12,7 +12,7 @@ use Rattle.stateful_exec.specs.Finalizing.{front_at, HooksOn}
 use Rattle.stateful_exec.specs.Workings.{Workings}
 use Rattle.stateful_exec.specs.declared.front.Front.{Front}
 use Rattle.stateful_exec.specs.declared.front.Stage.TheVariants.{Begun, Running, Advanced, Hooking}
-use Rattle.stateful_exec.specs.declared.state.Tables.{Tables}
+use Rattle.stateful_requests.specs.declared.state.Tables.{Tables}
 use Rattle.stateful_standing.specs.Setting.{setting}
 use Rattle.stateful_processing.specs.Moments.{Moment}
 use Rattle.stateful_processing.specs.Rules.{Builds, starts, declines, DoesMessage, schedules, answers, acknowledges, holds, begins, Takes, of_action, of_message, Rule, AppliesBlock, IsFinalizing, HasStates}

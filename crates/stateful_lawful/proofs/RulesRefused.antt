@@ -9,10 +9,10 @@ use Rattle.stateful_exec.specs.Causes.{FaultsAcquire, FaultsStart}
 use Rattle.stateful_exec.specs.Building.{FaultsPropose}
 use Rattle.stateful_exec.specs.Finalizing.{Conflicts, FaultsBegin, IsRedelivered, HasStates as IsCachedOrRun, FaultsMove, no_room, not_read, no_states, FaultsObserve}
 use Rattle.stateful_exec.specs.Pausing.{FaultsResume}
-use Rattle.stateful_exec.specs.Rules.{requested}
+use Rattle.stateful_requests.specs.Tables.{requested}
 use Rattle.stateful_exec.specs.Workings.{Workings, Point}
-use Rattle.stateful_exec.specs.declared.error.ExecError.{ExecError}
-use Rattle.stateful_exec.specs.declared.error.ExecError.TheVariants as exec_error
+use Rattle.stateful_requests.specs.declared.error.ExecError.{ExecError}
+use Rattle.stateful_requests.specs.declared.error.ExecError.TheVariants as exec_error
 use Rattle.stateful_exec.specs.declared.front.Front.{Front}
 use Rattle.stateful_standing.specs.Setting.{setting}
 use Rattle.stateful_processing.specs.Causes.{FaultsBarrier, FaultsApply, FaultsMessage, FaultsRule, memory, scheduling, running, advancing, applying, covering, observing, ending, beginning, building, taking}

@@ -22,21 +22,22 @@ use Rattle.stateful_history.specs.Past.{Past}
 use Rattle.stateful_cache.specs.declared.cache.Cached.{Cached}
 use Rattle.stateful_table.specs.Table.{at, put}
 use Rattle.stateful_table.proofs.Tables.{at-put}
-use Rattle.stateful_exec.specs.Boundary.{step_by}
+use Rattle.stateful_requests.specs.Boundary.{step_by}
 use Rattle.stateful_exec.specs.Causes.{FaultsEnd, FaultsAnswer, FaultsStep}
 use Rattle.stateful_exec.specs.Causes as cause
-use Rattle.stateful_exec.specs.Ending.{step_in, ChangesPending, FaultsTake, Turns}
-use Rattle.stateful_exec.specs.Errors.{error_of_app}
+use Rattle.stateful_requests.specs.Keeping.{step_in, ChangesPending, FaultsTake}
+use Rattle.stateful_exec.specs.Ending.{Turns}
+use Rattle.stateful_requests.specs.Errors.{error_of_app}
 use Rattle.stateful_exec.specs.Finalizing.{front_at, HasRunOn, FaultsFinal, FaultsSettleFinal, FaultsStepFinal, run_failed, HasHooked, FaultsSettleHook, FaultsHook, hook_failed}
 use Rattle.stateful_exec.specs.Moments as exec
 use Rattle.stateful_exec.specs.Workings.{Workings, Point}
-use Rattle.stateful_exec.specs.declared.error.ExecError.{ExecError}
-use Rattle.stateful_exec.specs.declared.error.ExecError.TheVariants as exec_error
-use Rattle.stateful_exec.specs.declared.boundary.ExecutionStep.{ExecutionStep}
+use Rattle.stateful_requests.specs.declared.error.ExecError.{ExecError}
+use Rattle.stateful_requests.specs.declared.error.ExecError.TheVariants as exec_error
+use Rattle.stateful_requests.specs.declared.boundary.ExecutionStep.{ExecutionStep}
 use Rattle.stateful_exec.specs.declared.front.Front.{Front}
 use Rattle.stateful_exec.specs.declared.front.Stage.TheVariants.{Running}
-use Rattle.stateful_exec.specs.declared.state.Tables.{Tables}
-use Rattle.stateful_exec.specs.declared.tables.LiveRun.{LiveRun}
+use Rattle.stateful_requests.specs.declared.state.Tables.{Tables}
+use Rattle.stateful_requests.specs.declared.tables.LiveRun.{LiveRun}
 use Rattle.stateful_standing.specs.Caching.{IsCached}
 use Rattle.stateful_standing.specs.Fronting.{FrontStands, IsAtStage, IsRunFinal}
 use Rattle.stateful_standing.specs.Running.{IsRunning}

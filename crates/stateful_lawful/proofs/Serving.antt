@@ -12,16 +12,16 @@ use Rattle.stateful_exec.specs.Finalizing as final
 use Rattle.stateful_exec.specs.Fetching.{FaultsFetched}
 use Rattle.stateful_exec.specs.Fetching as fetching
 use Rattle.stateful_exec.specs.Moments as exec
-use Rattle.stateful_exec.specs.Path.{Path}
+use Rattle.stateful_requests.specs.Path.{Path}
 use Rattle.stateful_exec.specs.Pausing.{FaultsResume, GoesAlong, AcquiresAnew, unparked, unsettled}
 use Rattle.stateful_exec.specs.Pausing as pausing
-use Rattle.stateful_exec.specs.Phase.{parked_in, unacquired_in}
+use Rattle.stateful_requests.specs.Phase.{parked_in, unacquired_in}
 use Rattle.stateful_exec.specs.Workings.{Workings, Point}
-use Rattle.stateful_exec.specs.declared.error.ExecError.{ExecError}
-use Rattle.stateful_exec.specs.declared.error.ExecError.TheVariants as exec_error
-use Rattle.stateful_exec.specs.declared.state.Tables.{Tables}
-use Rattle.stateful_exec.specs.declared.tables.Released.{Released}
-use Rattle.stateful_exec.specs.declared.tables.Requested.{Requested}
+use Rattle.stateful_requests.specs.declared.error.ExecError.{ExecError}
+use Rattle.stateful_requests.specs.declared.error.ExecError.TheVariants as exec_error
+use Rattle.stateful_requests.specs.declared.state.Tables.{Tables}
+use Rattle.stateful_requests.specs.declared.tables.Released.{Released}
+use Rattle.stateful_requests.specs.declared.tables.Requested.{Requested}
 use Rattle.stateful_processing.specs.Causes.{Via}
 use Rattle.stateful_processing.specs.Errors.{error_of_exec}
 use Rattle.stateful_processing.specs.declared.error.StepError.{StepError}

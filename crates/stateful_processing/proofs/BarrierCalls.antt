@@ -13,7 +13,7 @@ use Rattle.stateful_db.specs.declared.database.FlushToken.{FlushToken}
 use Rattle.stateful_db.specs.declared.set.SetError.{SetError}
 use Rattle.stateful_db.specs.declared.set.SetError.TheVariants as set
 use Rattle.stateful_durability.specs.Durability.{Coverage, Releases, covered_receipts, receipts_above}
-use Rattle.stateful_exec.specs.Starting.{IsLeft}
+use Rattle.stateful_requests.specs.Tables.{IsLeft}
 use Rattle.stateful_history.specs.declared.mark.Mark.{Mark}
 use Rattle.stateful_processing.proofs.OutTokens.{opened_by, awaiting_first, awaiting_behind}
 use Rattle.stateful_processing.specs.Barriers.{awaits, awaiting}

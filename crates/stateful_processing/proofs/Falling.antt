@@ -9,14 +9,14 @@ use Rattle.stateful_db.specs.declared.application.Hooked.TheVariants as hooked
 use Rattle.stateful_durability.specs.Durability.{Coverage, covered_by_barriers, receipts_above}
 use Rattle.stateful_history.specs.declared.mark.Mark.{Mark}
 use Rattle.stateful_exec.specs.Finalizing.{front_at, HooksOn}
-use Rattle.stateful_exec.specs.Phase.{dropped}
-use Rattle.stateful_exec.specs.Request.{ticket_by}
-use Rattle.stateful_exec.specs.Rules.{requested}
+use Rattle.stateful_requests.specs.Phase.{dropped}
+use Rattle.stateful_requests.specs.Request.{ticket_by}
+use Rattle.stateful_requests.specs.Tables.{requested}
 use Rattle.stateful_exec.specs.Workings.{Workings}
 use Rattle.stateful_exec.specs.declared.front.Front.{Front}
 use Rattle.stateful_exec.specs.declared.front.Stage.TheVariants.{Begun, Running, Ran, Advanced}
-use Rattle.stateful_exec.specs.declared.request.Request.{Request}
-use Rattle.stateful_exec.specs.declared.state.Tables.{Tables}
+use Rattle.stateful_requests.specs.declared.request.Request.{Request}
+use Rattle.stateful_requests.specs.declared.state.Tables.{Tables}
 use Rattle.stateful_processing.proofs.FallingParts.{action_weight, reached_weight, front_weight, uncovered, uncovered_by, up_weight, uncovered_few, uncovered_two, covered_now, covered_still, weighs, weighs_captured}
 pub use Rattle.stateful_processing.proofs.FallingParts.{weight}
 use Rattle.stateful_processing.proofs.FallingTables.{tables_weight, acquires_adds, resumes_adds}

@@ -17,11 +17,12 @@ use Rattle.stateful_cache.specs.Cache.{IsIn}
 use Rattle.stateful_cache.specs.declared.cache.Cached.{Cached}
 use Rattle.stateful_exec.specs.Finalizing.{Moves, FaultsMove, Observes}
 use Rattle.stateful_exec.specs.Moments as exec
-use Rattle.stateful_exec.specs.Pausing.{AwaitsRuns, IsCount, none, one, other, Resumes}
+use Rattle.stateful_requests.specs.Pausing.{AwaitsRuns, IsCount, none, one, other}
+use Rattle.stateful_exec.specs.Pausing.{Resumes}
 use Rattle.stateful_exec.specs.Workings.{Workings, Point}
 use Rattle.stateful_exec.specs.declared.building.Building.{Building}
 use Rattle.stateful_exec.specs.declared.front.Front.{Front}
-use Rattle.stateful_exec.specs.declared.state.Tables.{Tables}
+use Rattle.stateful_requests.specs.declared.state.Tables.{Tables}
 use Rattle.stateful_processing.specs.Causes.{HasCounted, FaultsApply, Via, FaultsRule, memory, advancing, applying}
 use Rattle.stateful_processing.specs.Errors.{error_of_set}
 use Rattle.stateful_processing.specs.Moments.{Moment, Executing, moment, with_loop}

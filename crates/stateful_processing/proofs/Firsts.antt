@@ -2,9 +2,9 @@
 use Rattle.std.proofs.Common.{◌≡◌, ◌∷◌, ◌++◌, ◌⊎◌, [], ℕ, true, false, List, Option, IsSome, inl, inr, sym, ap, ◌∙◌}
 use Rattle.stateful_types.specs.Names.{Named}
 use Rattle.stateful_exec.specs.Causes.{FaultsAcquire}
-use Rattle.stateful_exec.specs.Rules.{requested}
+use Rattle.stateful_requests.specs.Tables.{requested}
 use Rattle.stateful_exec.specs.Workings.{Workings}
-use Rattle.stateful_exec.specs.declared.request.Request.{Request}
+use Rattle.stateful_requests.specs.declared.request.Request.{Request}
 use Rattle.stateful_processing.specs.Causes.{Via, FaultsMessage, FaultsRule}
 use Rattle.stateful_processing.specs.Causes.FaultsRule.{memory, scheduling, taking}
 use Rattle.stateful_processing.specs.Message.{is_verification}

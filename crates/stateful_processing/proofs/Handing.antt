@@ -1,7 +1,7 @@
 -- What an error is answered as.
 use Rattle.std.proofs.Common.{◌≡◌, Result, Ok, Err, OnErr, IfErr, IsErrAnd, refl, sym, subst}
-use Rattle.stateful_exec.specs.declared.error.ExecError.{ExecError}
-use Rattle.stateful_exec.specs.declared.error.ExecError.TheVariants as exec
+use Rattle.stateful_requests.specs.declared.error.ExecError.{ExecError}
+use Rattle.stateful_requests.specs.declared.error.ExecError.TheVariants as exec
 use Rattle.stateful_processing.specs.Causes.{Via}
 use Rattle.stateful_processing.specs.Errors.{error_of_exec}
 use Rattle.stateful_processing.specs.declared.error.StepError.{StepError}

@@ -6,8 +6,8 @@ use Rattle.stateful_types.specs.Names.{Named}
 use Rattle.stateful_history.specs.Finalizations.{applied_in}
 use Rattle.stateful_history.specs.declared.mark.Mark.{Mark}
 use Rattle.stateful_exec.specs.Workings.{Workings}
-use Rattle.stateful_exec.specs.declared.error.ExecError.{ExecError}
-use Rattle.stateful_exec.specs.declared.error.ExecError.TheVariants as exec
+use Rattle.stateful_requests.specs.declared.error.ExecError.{ExecError}
+use Rattle.stateful_requests.specs.declared.error.ExecError.TheVariants as exec
 use Rattle.stateful_processing.specs.Errors.{error_of_exec}
 use Rattle.stateful_processing.specs.Moments.{Moment}
 use Rattle.stateful_processing.specs.Noted.{noted_all, unobserved, NotesFollow, NotesMayFollow}

@@ -11,7 +11,7 @@ use Rattle.stateful_exec.specs.Workings.{Workings}
 use Rattle.stateful_exec.specs.declared.front.Front.{Front}
 use Rattle.stateful_exec.specs.declared.front.Stage.{Stage}
 use Rattle.stateful_exec.specs.declared.front.Stage.TheVariants.{Begun, Running, Ran, Advanced, Hooking}
-use Rattle.stateful_exec.specs.declared.state.Tables.{Tables}
+use Rattle.stateful_requests.specs.declared.state.Tables.{Tables}
 use Rattle.stateful_processing.proofs.SoundingFront.{agrees_at, turned_sound}
 use Rattle.stateful_processing.proofs.SoundingHeld.{HasOf, has_right, has_here, held_push, below}
 use Rattle.stateful_processing.proofs.SoundingKept.{Sound-is}

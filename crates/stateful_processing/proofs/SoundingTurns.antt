@@ -10,26 +10,30 @@ use Rattle.stateful_db.specs.declared.application.ProposedBlock.{ProposedBlock}
 use Rattle.stateful_history.specs.declared.mark.How.{How}
 use Rattle.stateful_history.specs.declared.mark.Mark.{Mark}
 use Rattle.stateful_exec.specs.Built.{EndsBuild, TurnsBuild, other, goes_on, ends, GivesUp, building, asking}
-use Rattle.stateful_exec.specs.Ending.{InTurn, none, next, released, Follows, EndsRun, Settles, SettlesBy, Steps}
+use Rattle.stateful_exec.specs.Ending.{InTurn, none, next, Follows, EndsRun, Settles, SettlesBy, Steps}
+use Rattle.stateful_requests.specs.Fates.{released}
 use Rattle.stateful_exec.specs.Ending as ending
-use Rattle.stateful_exec.specs.Fetching.{serving, with_block, IsFetched, Cancels}
+use Rattle.stateful_exec.specs.Fetching.{serving, IsFetched}
+use Rattle.stateful_requests.specs.Cancelling.{Cancels}
+use Rattle.stateful_requests.specs.Fetching.{with_block}
 use Rattle.stateful_exec.specs.Fetching as fetching
+use Rattle.stateful_requests.specs.Cancelling as cancel
 use Rattle.stateful_exec.specs.Moments as exec
-use Rattle.stateful_exec.specs.Rules.{requested}
+use Rattle.stateful_requests.specs.Tables.{requested}
 use Rattle.stateful_exec.specs.Workings.{Workings}
 use Rattle.stateful_exec.specs.declared.building.Building.{Building}
-use Rattle.stateful_exec.specs.declared.request.Verdict.TheVariants.{Invalid}
-use Rattle.stateful_exec.specs.declared.state.Tables.{Tables}
-use Rattle.stateful_exec.specs.declared.tables.Released.{Released}
+use Rattle.stateful_requests.specs.declared.request.Verdict.TheVariants.{Invalid}
+use Rattle.stateful_requests.specs.declared.state.Tables.{Tables}
+use Rattle.stateful_requests.specs.declared.tables.Released.{Released}
 use Rattle.stateful_processing.proofs.Staying.{Stays, Stays-same, Stays-then, becomes, concluded, Advances-stays, Acquires-stays}
 
 -- a cancel leaves the anchor
 cancels_anchor : {B C I R U : Type 0} (old new : Tables B C I R U) (t : ℕ) (marks : List (Mark B)) → Cancels old new t marks → new.anchor ≡ old.anchor
-cancels_anchor old new t marks (fetching.idle r there phase e empty) = ap (λ v. v.anchor) e
-cancels_anchor old new t marks (fetching.withdraws r fetch there e is) = ap (λ v. v.anchor) e
-cancels_anchor old new t marks (fetching.leaves r j path there phase others e empty) = ap (λ v. v.anchor) e
-cancels_anchor old new t marks (fetching.ends r j path there phase alone e is) = ap (λ v. v.anchor) e
-cancels_anchor old new t marks (fetching.unqueued unasked e empty) = ap (λ v. v.anchor) e
+cancels_anchor old new t marks (cancel.idle r there phase e empty) = ap (λ v. v.anchor) e
+cancels_anchor old new t marks (cancel.withdraws r fetch there e is) = ap (λ v. v.anchor) e
+cancels_anchor old new t marks (cancel.leaves r j path there phase others e empty) = ap (λ v. v.anchor) e
+cancels_anchor old new t marks (cancel.ends r j path there phase alone e is) = ap (λ v. v.anchor) e
+cancels_anchor old new t marks (cancel.unqueued unasked e empty) = ap (λ v. v.anchor) e
 
 pub gives_up_anchor : {B C I R U D : Type 0} (old new : Tables B C I R U) (before after : Option (Building B C D)) (t : ℕ) (marks : List (Mark B))
     → GivesUp old new before after t marks → new.anchor ≡ old.anchor

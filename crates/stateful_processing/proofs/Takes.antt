@@ -10,13 +10,14 @@ use Rattle.stateful_exec.specs.Building.{Proposes}
 use Rattle.stateful_exec.specs.Building.Proposes.{starts, declines}
 use Rattle.stateful_exec.specs.Finalizing.{IsRedelivered}
 use Rattle.stateful_exec.specs.Moments as exec
-use Rattle.stateful_exec.specs.Request.{ticket_by}
-use Rattle.stateful_exec.specs.Rules.{requested, Acquires}
+use Rattle.stateful_requests.specs.Request.{ticket_by}
+use Rattle.stateful_requests.specs.Tables.{requested}
+use Rattle.stateful_exec.specs.Rules.{Acquires}
 use Rattle.stateful_exec.specs.Workings.{Workings}
 use Rattle.stateful_exec.specs.declared.building.Building.{Building}
 use Rattle.stateful_exec.specs.declared.building.BuildStart.{BuildStart}
 use Rattle.stateful_exec.specs.declared.building.BuildStart.TheVariants.{Started, Declined}
-use Rattle.stateful_exec.specs.declared.request.Request.{Request}
+use Rattle.stateful_requests.specs.declared.request.Request.{Request}
 use Rattle.stateful_processing.specs.Moments.{Executing, Moment, moment}
 use Rattle.stateful_processing.specs.Rules.{Schedules, Builds, DoesMessage}
 use Rattle.stateful_processing.specs.Rules.Builds.{starts as builds, declines as builds_none}

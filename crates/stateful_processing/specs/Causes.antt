@@ -9,13 +9,14 @@ use Rattle.stateful_exec.specs.Building.{FaultsPropose}
 use Rattle.stateful_exec.specs.Causes.{FaultsAcquire, FaultsStart}
 use Rattle.stateful_exec.specs.Finalizing.{front_at, Conflicts, FaultsBegin, FaultsMove}
 use Rattle.stateful_exec.specs.Finalizing.{FaultsObserve}
-use Rattle.stateful_exec.specs.Pausing.{AwaitsRuns, FaultsResume}
-use Rattle.stateful_exec.specs.Rules.{requested}
-use Rattle.stateful_exec.specs.Starting.{IsLeft}
+use Rattle.stateful_requests.specs.Pausing.{AwaitsRuns}
+use Rattle.stateful_exec.specs.Pausing.{FaultsResume}
+use Rattle.stateful_requests.specs.Tables.{requested}
+use Rattle.stateful_requests.specs.Tables.{IsLeft}
 use Rattle.stateful_exec.specs.Workings.{Workings}
-use Rattle.stateful_exec.specs.declared.error.ExecError.{ExecError}
+use Rattle.stateful_requests.specs.declared.error.ExecError.{ExecError}
 use Rattle.stateful_exec.specs.declared.front.Stage.TheVariants.{Begun, Advanced}
-use Rattle.stateful_exec.specs.declared.request.Request.{Request}
+use Rattle.stateful_requests.specs.declared.request.Request.{Request}
 use Rattle.stateful_cache.specs.Cache.{IsIn}
 use Rattle.stateful_processing.specs.Errors.{error_of_exec}
 use Rattle.stateful_processing.specs.Message.{is_verification}

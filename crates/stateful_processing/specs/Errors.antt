@@ -5,8 +5,8 @@ use Rattle.stateful_db.specs.declared.database.InitError.TheVariants as init
 use Rattle.stateful_db.specs.declared.set.SetError.{SetError}
 use Rattle.stateful_db.specs.declared.set.SetError.TheVariants as set
 use Rattle.stateful_db.specs.declared.set.SetInit.{SetInit}
-use Rattle.stateful_exec.specs.declared.error.ExecError.{ExecError}
-use Rattle.stateful_exec.specs.declared.error.ExecError.TheVariants as exec
+use Rattle.stateful_requests.specs.declared.error.ExecError.{ExecError}
+use Rattle.stateful_requests.specs.declared.error.ExecError.TheVariants as exec
 use Rattle.stateful_processing.specs.declared.error.StepError.{StepError}
 use Rattle.stateful_processing.specs.declared.error.StepError.TheVariants as step
 

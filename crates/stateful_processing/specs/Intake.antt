@@ -12,14 +12,15 @@ use Rattle.stateful_history.specs.declared.event.Event.TheVariants as event
 use Rattle.stateful_history.specs.declared.mark.Mark.{Mark}
 use Rattle.stateful_exec.specs.Built.{IsLiveBuild, TurnsBuild, FaultsTurn, GivesUp}
 use Rattle.stateful_exec.specs.Fetching.{IsFetched, FaultsFetched}
-use Rattle.stateful_exec.specs.Finalizing.{IsHookLive, TurnsHook, FaultsHook, Completes}
+use Rattle.stateful_exec.specs.Finalizing.{IsHookLive, TurnsHook, FaultsHook}
+use Rattle.stateful_exec.specs.Finalizing.{Completes}
 use Rattle.stateful_exec.specs.Finalizing.{FaultsComplete}
 use Rattle.stateful_exec.specs.Moments as exec
 use Rattle.stateful_exec.specs.Workings.{Workings}
 use Rattle.stateful_exec.specs.declared.building.Building.{Building}
 use Rattle.stateful_exec.specs.declared.front.Front.{Front}
-use Rattle.stateful_exec.specs.declared.request.Request.TheVariants as request
-use Rattle.stateful_exec.specs.declared.state.Tables.{Tables}
+use Rattle.stateful_requests.specs.declared.request.Request.TheVariants as request
+use Rattle.stateful_requests.specs.declared.state.Tables.{Tables}
 use Rattle.stateful_processing.specs.Barriers.{awaiting, with_answer}
 use Rattle.stateful_processing.specs.Causes.{FaultsFlush, Via}
 use Rattle.stateful_processing.specs.Message.{asks_of, asks_for}

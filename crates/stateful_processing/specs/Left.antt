@@ -8,7 +8,7 @@ use Rattle.stateful_history.specs.Restarts.{reopened_height}
 use Rattle.stateful_exec.specs.Finalizing.{Moves}
 use Rattle.stateful_exec.specs.Workings.{Workings, Point}
 use Rattle.stateful_exec.specs.declared.front.Front.{Front}
-use Rattle.stateful_exec.specs.declared.state.Tables.{Tables}
+use Rattle.stateful_requests.specs.declared.state.Tables.{Tables}
 use Rattle.stateful_processing.specs.Moments.{Executing, Moment}
 use Rattle.stateful_processing.specs.Rules.{IsFinalizing, HasStates}
 use Rattle.stateful_processing.specs.declared.tables.Finalizing.{Finalizing}

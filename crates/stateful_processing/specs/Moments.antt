@@ -6,7 +6,7 @@ use Rattle.stateful_exec.specs.Moments as exec
 use Rattle.stateful_exec.specs.State.{Owner}
 use Rattle.stateful_exec.specs.declared.building.Building.{Building}
 use Rattle.stateful_exec.specs.declared.front.Front.{Front}
-use Rattle.stateful_exec.specs.declared.state.Tables.{Tables}
+use Rattle.stateful_requests.specs.declared.state.Tables.{Tables}
 use Rattle.stateful_processing.specs.declared.tables.Processing.{Processing}
 
 -- the tables of execution, its live build, and how far a finalization has come

@@ -9,7 +9,7 @@ use Rattle.stateful_db.specs.declared.database.InitError.TheVariants as init
 use Rattle.stateful_history.specs.Restarts.{reopened_height}
 use Rattle.stateful_history.specs.declared.mark.Mark.TheVariants as mark
 use Rattle.stateful_exec.specs.Workings.{Workings}
-use Rattle.stateful_exec.specs.declared.pause.Pause.TheVariants.{Free}
+use Rattle.stateful_requests.specs.declared.pause.Pause.TheVariants.{Free}
 use Rattle.stateful_processing.specs.Moments.{Moment}
 use Rattle.stateful_processing.specs.declared.error.StepError.{StepError}
 use Rattle.stateful_processing.specs.declared.error.StepError.TheVariants.{Database, TargetMismatch}

@@ -12,15 +12,20 @@ use Rattle.stateful_history.specs.declared.mark.Mark.TheVariants as mark
 use Rattle.stateful_cache.specs.Cache.{IsIn}
 use Rattle.stateful_exec.specs.Workings.{Workings, Point}
 use Rattle.stateful_exec.specs.Moments as exec
-use Rattle.stateful_exec.specs.Request.{ticket_by}
-use Rattle.stateful_exec.specs.Rules.{requested, Acquires}
-use Rattle.stateful_exec.specs.Starting.{IsLeft}
-use Rattle.stateful_exec.specs.Building.{IsReady, StartsBuild, unqueued}
-use Rattle.stateful_exec.specs.Finalizing.{IsRedelivered, MayBegin, IsBoundaryOf, front_at}
+use Rattle.stateful_requests.specs.Request.{ticket_by}
+use Rattle.stateful_requests.specs.Tables.{requested}
+use Rattle.stateful_exec.specs.Rules.{Acquires}
+use Rattle.stateful_requests.specs.Tables.{IsLeft}
+use Rattle.stateful_requests.specs.Queueing.{IsReady, unqueued}
+use Rattle.stateful_exec.specs.Building.{StartsBuild}
+use Rattle.stateful_exec.specs.Finalizing.{IsRedelivered, MayBegin, front_at}
+use Rattle.stateful_requests.specs.Boundary.{IsBoundaryOf}
 use Rattle.stateful_exec.specs.Finalizing.{RunsFinal, Moves, Observes}
-use Rattle.stateful_exec.specs.Pausing.{AwaitsRuns, Pauses, Resumes}
+use Rattle.stateful_requests.specs.Pausing.{AwaitsRuns}
+use Rattle.stateful_requests.specs.Pausing.{Pauses}
+use Rattle.stateful_exec.specs.Pausing.{Resumes}
 use Rattle.stateful_exec.specs.declared.front.Stage.TheVariants.{Begun, Ran, Advanced}
-use Rattle.stateful_exec.specs.declared.request.Request.{Request}
+use Rattle.stateful_requests.specs.declared.request.Request.{Request}
 use Rattle.stateful_processing.specs.Barriers.{broken, flushed}
 use Rattle.stateful_processing.specs.Message.{is_verification}
 use Rattle.stateful_processing.specs.Moments.{Moment, inner, with_inner, with_loop}

@@ -1,7 +1,7 @@
 //! How all that goes on is dropped.
 
 ghost use Rattle.std.specs.Prelude.{◌≡◌, ◌≤◌, [], ℕ, List, false, None};
-ghost use Rattle.stateful_exec.specs.Starting.{Rises};
+ghost use Rattle.stateful_requests.specs.Tables.{Rises};
 ghost use Rattle.stateful_history.specs.declared.mark.Mark.{Mark as Marked};
 ghost use Rattle.stateful_processing.specs.Clearing.{IsCleared};
 ghost use Rattle.stateful_processing.specs.Moments.{executing, moment};

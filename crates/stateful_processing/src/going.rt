@@ -18,7 +18,7 @@ ghost use Rattle.std.specs.Prelude.{◌≡◌, ◌≢◌, ◌<◌, ◌≤◌, �
 ghost use Rattle.std.specs.Prelude.{Option, Some, None, List, OnOk, OnErr, IfOk, IfErr, IsErrOf};
 ghost use Rattle.stateful_types.specs.Causes.{Rose};
 ghost use Rattle.stateful_history.specs.declared.mark.Mark.TheVariants as mark;
-ghost use Rattle.stateful_exec.specs.Starting.{Rises};
+ghost use Rattle.stateful_requests.specs.Tables.{Rises};
 ghost use Rattle.stateful_processing.specs.Causes.{FaultsRule};
 ghost use Rattle.stateful_processing.specs.Left.{KeepsStates, LeavesRule};
 ghost use Rattle.stateful_processing.specs.Moments.{executing, moment};

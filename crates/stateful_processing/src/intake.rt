@@ -19,7 +19,7 @@ ghost use Rattle.std.specs.Option.{ForSome};
 ghost use Rattle.stateful_types.specs.Causes.{Rose};
 ghost use Rattle.stateful_types.specs.Names.{Named};
 ghost use Rattle.stateful_db.specs.Barrier.{open_at};
-ghost use Rattle.stateful_exec.specs.Starting.{Rises};
+ghost use Rattle.stateful_requests.specs.Tables.{Rises};
 ghost use Rattle.stateful_exec.specs.Built.{IsLiveBuild};
 ghost use Rattle.stateful_exec.specs.Finalizing.{IsHookLive};
 ghost use Rattle.stateful_processing.specs.Barriers.{awaiting};

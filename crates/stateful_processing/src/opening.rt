@@ -13,7 +13,7 @@
 //! restarts".
 
 ghost use Rattle.std.specs.Prelude.{◌≡◌, ◌≢◌, ◌≤◌, [], ℕ, OnOk, OnErr, IfErr, None};
-ghost use Rattle.stateful_exec.specs.Starting.{Rises};
+ghost use Rattle.stateful_requests.specs.Tables.{Rises};
 ghost use Rattle.stateful_history.specs.Restarts.{reopened_height};
 ghost use Rattle.stateful_processing.specs.Left.{LeavesOpening};
 ghost use Rattle.stateful_processing.specs.Moments.{executing, moment};

@@ -10,19 +10,21 @@ use Rattle.stateful_history.specs.Past.{Past, Made}
 use Rattle.stateful_history.specs.Met.{Met, TrueNames}
 use Rattle.stateful_history.specs.Fetches.{Abstains}
 use Rattle.stateful_history.specs.declared.mark.Mark.TheVariants.{Asked}
-use Rattle.stateful_exec.specs.Fetching.{IsVerification}
+use Rattle.stateful_requests.specs.Fetching.{IsVerification}
 use Rattle.stateful_exec.specs.Moments.{Moment, Becomes}
-use Rattle.stateful_exec.specs.Path.{Path, Descends}
-use Rattle.stateful_exec.specs.Rules.{moved, requested, first_or, Needs, Acquires, valid, invalid, asks, waits, runs}
-use Rattle.stateful_exec.specs.Walk.{Walks, IsPrepared}
-use Rattle.stateful_exec.specs.Walk as walk
+use Rattle.stateful_requests.specs.Path.{Path, Descends}
+use Rattle.stateful_requests.specs.Tables.{moved, requested}
+use Rattle.stateful_requests.specs.Meeting.{first_or}
+use Rattle.stateful_exec.specs.Rules.{Needs, Acquires, valid, invalid, asks, waits, runs}
+use Rattle.stateful_requests.specs.Walk.{Walks, IsPrepared}
+use Rattle.stateful_requests.specs.Walk as walk
 use Rattle.stateful_exec.specs.Workings.{Workings, Point}
-use Rattle.stateful_exec.specs.declared.request.Request.{Request}
-use Rattle.stateful_exec.specs.declared.request.Request.TheVariants.{Verify, Recover}
-use Rattle.stateful_exec.specs.declared.request.Verdict.TheVariants as verdict
-use Rattle.stateful_exec.specs.declared.tables.Phase.TheVariants.{Fetching, Waiting}
-use Rattle.stateful_exec.specs.declared.tables.Requested.{Requested}
-use Rattle.stateful_exec.specs.declared.walk.Acquired.TheVariants as acquired
+use Rattle.stateful_requests.specs.declared.request.Request.{Request}
+use Rattle.stateful_requests.specs.declared.request.Request.TheVariants.{Verify, Recover}
+use Rattle.stateful_requests.specs.declared.request.Verdict.TheVariants as verdict
+use Rattle.stateful_requests.specs.declared.tables.Phase.TheVariants.{Fetching, Waiting}
+use Rattle.stateful_requests.specs.declared.tables.Requested.{Requested}
+use Rattle.stateful_requests.specs.declared.walk.Acquired.TheVariants as acquired
 use Rattle.stateful_standing.specs.Setting.{setting}
 use Rattle.stateful_standing.specs.Requesting.{first_of, brought_by, LeadsDown, IsWayOf}
 use Rattle.stateful_standing.specs.Standing.{TablesStand, IsInHand, StandsBehind}

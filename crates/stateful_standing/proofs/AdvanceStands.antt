@@ -6,11 +6,12 @@ use Rattle.stateful_types.specs.Names.{Header, Named}
 use Rattle.stateful_history.specs.Setting.{parent_of}
 use Rattle.stateful_history.specs.Past.{Past}
 use Rattle.stateful_history.specs.Met.{Met}
-use Rattle.stateful_exec.specs.Path.{Path, Descends}
-use Rattle.stateful_exec.specs.Rules.{first_or, Reaches}
+use Rattle.stateful_requests.specs.Path.{Path, Descends}
+use Rattle.stateful_requests.specs.Meeting.{first_or}
+use Rattle.stateful_requests.specs.Meeting.{Reaches}
 use Rattle.stateful_exec.specs.Workings.{Workings}
-use Rattle.stateful_exec.specs.declared.request.Request.{Request}
-use Rattle.stateful_exec.specs.declared.state.Tables.{Tables}
+use Rattle.stateful_requests.specs.declared.request.Request.{Request}
+use Rattle.stateful_requests.specs.declared.state.Tables.{Tables}
 use Rattle.stateful_standing.specs.Setting.{setting}
 use Rattle.stateful_standing.specs.Requesting.{steps, LeadsDown, IsWayOf}
 

@@ -17,10 +17,10 @@ use Rattle.stateful_history.specs.declared.mark.Mark.TheVariants.{Applied}
 use Rattle.stateful_cache.specs.Cache.{IsIn, IsAtHand, InOrder}
 use Rattle.stateful_cache.specs.Cut.{GoesOn, IsCutTo}
 use Rattle.stateful_cache.specs.declared.cache.Cached.{Cached}
-use Rattle.stateful_exec.specs.Boundary.{Boundary, IsRetained}
-use Rattle.stateful_exec.specs.Ending.{step_in}
+use Rattle.stateful_requests.specs.Boundary.{Boundary, IsRetained}
+use Rattle.stateful_requests.specs.Keeping.{step_in}
 use Rattle.stateful_exec.specs.Workings.{Workings, Point}
-use Rattle.stateful_exec.specs.declared.pause.Pause.TheVariants.{Finalizing}
+use Rattle.stateful_requests.specs.declared.pause.Pause.TheVariants.{Finalizing}
 use Rattle.stateful_standing.specs.Setting.{setting}
 use Rattle.stateful_standing.specs.Chains.{Chain, Leads}
 use Rattle.stateful_standing.specs.Caching.{IsCached, CacheStands}

@@ -15,13 +15,13 @@ use Rattle.stateful_history.specs.declared.mark.Mark.TheVariants.{Applied}
 use Rattle.stateful_cache.specs.Cache.{IsAtHand}
 use Rattle.stateful_cache.specs.Cut.{IsCutTo, IsRootOf}
 use Rattle.stateful_cache.specs.declared.cache.Cached.{Cached}
-use Rattle.stateful_exec.specs.Boundary.{Boundary, step_by, IsRetained}
+use Rattle.stateful_requests.specs.Boundary.{Boundary, step_by, IsRetained}
 use Rattle.stateful_exec.specs.Finalizing.{front_at, IsRoot, cached, ran, Moves}
 use Rattle.stateful_exec.specs.Workings.{Workings, Point}
 use Rattle.stateful_exec.specs.declared.front.Front.{Front}
 use Rattle.stateful_exec.specs.declared.front.Stage.TheVariants.{Ran}
-use Rattle.stateful_exec.specs.declared.pause.Pause.TheVariants.{Finalizing}
-use Rattle.stateful_exec.specs.declared.state.Tables.{Tables}
+use Rattle.stateful_requests.specs.declared.pause.Pause.TheVariants.{Finalizing}
+use Rattle.stateful_requests.specs.declared.state.Tables.{Tables}
 use Rattle.stateful_standing.specs.Setting.{setting}
 use Rattle.stateful_standing.specs.Chains.{Leads}
 use Rattle.stateful_standing.specs.Caching.{IsCached, CacheStands}

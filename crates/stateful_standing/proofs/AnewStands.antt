@@ -17,13 +17,14 @@ use Rattle.stateful_table.specs.Table.{at}
 use Rattle.stateful_exec.specs.Ending.{InTurn}
 use Rattle.stateful_exec.specs.Moments.{Moment}
 use Rattle.stateful_exec.specs.Pausing.{AcquiresAnew, Resumes, unparked, unsettled}
-use Rattle.stateful_exec.specs.Phase.{is_unacquired, unacquired_in, not_unacquired}
-use Rattle.stateful_exec.specs.Rules.{requested, Needs}
+use Rattle.stateful_requests.specs.Phase.{is_unacquired, unacquired_in, not_unacquired}
+use Rattle.stateful_requests.specs.Tables.{requested}
+use Rattle.stateful_exec.specs.Rules.{Needs}
 use Rattle.stateful_exec.specs.Workings.{Workings, Point}
-use Rattle.stateful_exec.specs.declared.pause.Pause.TheVariants.{Free}
-use Rattle.stateful_exec.specs.declared.request.Request.{Request}
-use Rattle.stateful_exec.specs.declared.tables.Requested.{Requested}
-use Rattle.stateful_exec.specs.declared.walk.Acquired.TheVariants as acquired
+use Rattle.stateful_requests.specs.declared.pause.Pause.TheVariants.{Free}
+use Rattle.stateful_requests.specs.declared.request.Request.{Request}
+use Rattle.stateful_requests.specs.declared.tables.Requested.{Requested}
+use Rattle.stateful_requests.specs.declared.walk.Acquired.TheVariants as acquired
 use Rattle.stateful_standing.specs.Setting.{setting}
 use Rattle.stateful_standing.specs.Requesting.{AllAbstain, first_of, IsStanding}
 use Rattle.stateful_standing.specs.Standing.{TablesStand, StandsBehind}

@@ -12,16 +12,18 @@ use Rattle.stateful_history.specs.Met.{Met, TrueNames}
 use Rattle.stateful_history.specs.Past.{Past, Item, Came}
 use Rattle.stateful_history.specs.declared.event.Event.TheVariants.{Fetched, Turn}
 use Rattle.stateful_cache.specs.declared.cache.Cached.{Cached}
-use Rattle.stateful_exec.specs.Fetching.{Fetches, with_block, serving, IsFetched, found, waits, declines, dead}
+use Rattle.stateful_requests.specs.Fetching.{Fetches, with_block}
+use Rattle.stateful_exec.specs.Fetching.{serving, IsFetched, found, waits, declines, dead}
 use Rattle.stateful_exec.specs.Moments.{Moment}
-use Rattle.stateful_exec.specs.Rules.{Needs, taken}
+use Rattle.stateful_exec.specs.Rules.{Needs}
+use Rattle.stateful_requests.specs.Tables.{taken}
 use Rattle.stateful_exec.specs.Workings.{Workings, Point}
-use Rattle.stateful_exec.specs.declared.pause.Pause.{Pause}
-use Rattle.stateful_exec.specs.declared.pause.Pause.TheVariants.{Free}
-use Rattle.stateful_exec.specs.declared.state.Tables.{Tables}
-use Rattle.stateful_exec.specs.declared.tables.LiveRun.{LiveRun}
-use Rattle.stateful_exec.specs.declared.tables.Requested.{Requested}
-use Rattle.stateful_exec.specs.declared.walk.Acquired.TheVariants as acquired
+use Rattle.stateful_requests.specs.declared.pause.Pause.{Pause}
+use Rattle.stateful_requests.specs.declared.pause.Pause.TheVariants.{Free}
+use Rattle.stateful_requests.specs.declared.state.Tables.{Tables}
+use Rattle.stateful_requests.specs.declared.tables.LiveRun.{LiveRun}
+use Rattle.stateful_requests.specs.declared.tables.Requested.{Requested}
+use Rattle.stateful_requests.specs.declared.walk.Acquired.TheVariants as acquired
 use Rattle.stateful_standing.specs.Setting.{setting}
 use Rattle.stateful_standing.specs.Beside.{StaysBeside, BesideBehind}
 use Rattle.stateful_standing.specs.Outstanding.{RunsGoOn}

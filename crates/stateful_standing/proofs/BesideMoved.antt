@@ -12,9 +12,9 @@ use Rattle.stateful_history.specs.declared.mark.Mark.TheVariants.{Applied}
 use Rattle.stateful_cache.specs.Cache.{IsAtHand}
 use Rattle.stateful_exec.specs.Ending.{TurnsRun}
 use Rattle.stateful_exec.specs.Workings.{Workings, Point}
-use Rattle.stateful_exec.specs.declared.request.Proposal.{Proposal}
-use Rattle.stateful_exec.specs.declared.state.Tables.{Tables}
-use Rattle.stateful_exec.specs.declared.tables.LiveRun.{LiveRun}
+use Rattle.stateful_requests.specs.declared.request.Proposal.{Proposal}
+use Rattle.stateful_requests.specs.declared.state.Tables.{Tables}
+use Rattle.stateful_requests.specs.declared.tables.LiveRun.{LiveRun}
 use Rattle.stateful_standing.specs.Setting.{setting}
 use Rattle.stateful_standing.specs.Beside.{StaysBeside}
 use Rattle.stateful_standing.specs.Outstanding.{RunsGoOn}

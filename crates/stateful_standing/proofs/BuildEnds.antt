@@ -20,7 +20,8 @@ use Rattle.stateful_history.specs.declared.mark.Mark.TheVariants.{Built, Answere
 use Rattle.stateful_cache.specs.Cache.{IsIn}
 use Rattle.stateful_cache.specs.declared.cache.Cached.{Cached}
 use Rattle.stateful_exec.specs.Built.{decided, Gives, HasTurn}
-use Rattle.stateful_exec.specs.Ending.{Takes, there, added}
+use Rattle.stateful_requests.specs.Keeping.{Takes}
+use Rattle.stateful_requests.specs.Keeping.{there, added}
 use Rattle.stateful_exec.specs.Moments.{Moment}
 use Rattle.stateful_exec.specs.Workings.{Workings, Point}
 use Rattle.stateful_exec.specs.declared.building.Building.{Building}

@@ -14,7 +14,7 @@ use Rattle.stateful_cache.specs.Cache.{IsAtHand}
 use Rattle.stateful_cache.specs.declared.cache.Cached.{Cached}
 use Rattle.stateful_exec.specs.Workings.{Workings, Point}
 use Rattle.stateful_exec.specs.declared.building.Building.{Building}
-use Rattle.stateful_exec.specs.declared.state.Tables.{Tables}
+use Rattle.stateful_requests.specs.declared.state.Tables.{Tables}
 use Rattle.stateful_standing.specs.Chains.{Chain}
 use Rattle.stateful_standing.specs.Building.{IsBuilding, IsElsewhere, BuildStands}
 use Rattle.stateful_standing.proofs.Calm.{LeavesJob}

@@ -20,15 +20,15 @@ use Rattle.stateful_history.specs.declared.mark.Mark.TheVariants.{Built, Answere
 use Rattle.stateful_history.proofs.Marks.{TrueNames-before}
 use Rattle.stateful_table.specs.Table.{at}
 use Rattle.stateful_exec.specs.Built.{HasTurn, EndsBuild, TurnsBuild, other, goes_on, ends, IsBuildFor, GivesUp, building, asking}
-use Rattle.stateful_exec.specs.Fetching.{Cancels}
+use Rattle.stateful_requests.specs.Cancelling.{Cancels}
 use Rattle.stateful_exec.specs.Moments.{Moment}
-use Rattle.stateful_exec.specs.Path.{Path}
+use Rattle.stateful_requests.specs.Path.{Path}
 use Rattle.stateful_exec.specs.Workings.{Workings, Point}
 use Rattle.stateful_exec.specs.declared.building.Building.{Building}
-use Rattle.stateful_exec.specs.declared.state.Tables.{Tables}
-use Rattle.stateful_exec.specs.declared.tables.LiveRun.{LiveRun}
-use Rattle.stateful_exec.specs.declared.tables.Phase.TheVariants.{Executing}
-use Rattle.stateful_exec.specs.declared.tables.Requested.{Requested}
+use Rattle.stateful_requests.specs.declared.state.Tables.{Tables}
+use Rattle.stateful_requests.specs.declared.tables.LiveRun.{LiveRun}
+use Rattle.stateful_requests.specs.declared.tables.Phase.TheVariants.{Executing}
+use Rattle.stateful_requests.specs.declared.tables.Requested.{Requested}
 use Rattle.stateful_standing.specs.Setting.{setting}
 use Rattle.stateful_standing.specs.Building.{BuildStands}
 use Rattle.stateful_standing.specs.Requesting.{AllAbstain, IsInPhase, IsStanding}

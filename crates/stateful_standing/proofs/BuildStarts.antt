@@ -12,12 +12,13 @@ use Rattle.stateful_history.specs.declared.event.Event.TheVariants.{Prepare, Pro
 use Rattle.stateful_history.specs.declared.mark.JobKind.TheVariants.{Build}
 use Rattle.stateful_history.specs.declared.mark.Mark.TheVariants.{Started, Declined}
 use Rattle.stateful_table.specs.Table.{at, without}
-use Rattle.stateful_exec.specs.Building.{unqueued, IsNewBuild, StartsBuild}
+use Rattle.stateful_requests.specs.Queueing.{unqueued}
+use Rattle.stateful_exec.specs.Building.{IsNewBuild, StartsBuild}
 use Rattle.stateful_exec.specs.Workings.{Workings, Point}
 use Rattle.stateful_exec.specs.declared.building.Building.{Building}
-use Rattle.stateful_exec.specs.declared.request.Proposal.{Proposal}
-use Rattle.stateful_exec.specs.declared.state.Tables.{Tables}
-use Rattle.stateful_exec.specs.declared.tables.Requested.{Requested}
+use Rattle.stateful_requests.specs.declared.request.Proposal.{Proposal}
+use Rattle.stateful_requests.specs.declared.state.Tables.{Tables}
+use Rattle.stateful_requests.specs.declared.tables.Requested.{Requested}
 use Rattle.stateful_standing.specs.Setting.{setting}
 use Rattle.stateful_standing.specs.Building.{BuildsTakeTurns, IsBuilding, IsElsewhere, BuildStands}
 use Rattle.stateful_standing.specs.Standing.{TablesStand}

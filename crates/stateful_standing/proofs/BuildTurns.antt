@@ -20,8 +20,8 @@ use Rattle.stateful_table.specs.Table.{at}
 use Rattle.stateful_exec.specs.Built.{HasTurn}
 use Rattle.stateful_exec.specs.Workings.{Workings, Point}
 use Rattle.stateful_exec.specs.declared.building.Building.{Building}
-use Rattle.stateful_exec.specs.declared.state.Tables.{Tables}
-use Rattle.stateful_exec.specs.declared.tables.LiveRun.{LiveRun}
+use Rattle.stateful_requests.specs.declared.state.Tables.{Tables}
+use Rattle.stateful_requests.specs.declared.tables.LiveRun.{LiveRun}
 use Rattle.stateful_standing.specs.Setting.{setting}
 use Rattle.stateful_standing.specs.Building.{IsBuilding, BuildStands}
 use Rattle.stateful_standing.specs.Running.{IsRunning}

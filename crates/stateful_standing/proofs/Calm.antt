@@ -16,8 +16,8 @@ use Rattle.stateful_history.specs.Live.{live_job}
 use Rattle.stateful_history.specs.Jobs.{started_for, turns}
 use Rattle.stateful_cache.specs.declared.cache.Cached.{Cached}
 use Rattle.stateful_exec.specs.Workings.{Workings, Point}
-use Rattle.stateful_exec.specs.declared.pause.Pause.{Pause}
-use Rattle.stateful_exec.specs.declared.tables.LiveRun.{LiveRun}
+use Rattle.stateful_requests.specs.declared.pause.Pause.{Pause}
+use Rattle.stateful_requests.specs.declared.tables.LiveRun.{LiveRun}
 use Rattle.stateful_standing.specs.Setting.{setting}
 use Rattle.stateful_standing.specs.Chains.{Stacked, here, further, Chain, Leads}
 use Rattle.stateful_standing.specs.Caching.{IsCached, CacheStands}

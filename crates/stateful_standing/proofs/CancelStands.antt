@@ -12,14 +12,15 @@ use Rattle.stateful_history.specs.declared.event.Event.TheVariants.{Cancel}
 use Rattle.stateful_history.specs.declared.mark.Mark.{Mark}
 use Rattle.stateful_table.specs.Table.{at, without}
 use Rattle.stateful_table.proofs.Tables.{without_none}
-use Rattle.stateful_exec.specs.Fetching.{Cancels, idle, withdraws, leaves, ends, unqueued}
-use Rattle.stateful_exec.specs.Phase.{is_on, tickets_on}
-use Rattle.stateful_exec.specs.Rules.{taken}
+use Rattle.stateful_requests.specs.Cancelling.{Cancels}
+use Rattle.stateful_requests.specs.Cancelling.{idle, withdraws, leaves, ends, unqueued}
+use Rattle.stateful_requests.specs.Phase.{is_on, tickets_on}
+use Rattle.stateful_requests.specs.Tables.{taken}
 use Rattle.stateful_exec.specs.Workings.{Workings, Point}
-use Rattle.stateful_exec.specs.declared.request.Proposal.{Proposal}
-use Rattle.stateful_exec.specs.declared.state.Tables.{Tables}
-use Rattle.stateful_exec.specs.declared.tables.Phase.TheVariants.{Fetching, Executing}
-use Rattle.stateful_exec.specs.declared.tables.Requested.{Requested}
+use Rattle.stateful_requests.specs.declared.request.Proposal.{Proposal}
+use Rattle.stateful_requests.specs.declared.state.Tables.{Tables}
+use Rattle.stateful_requests.specs.declared.tables.Phase.TheVariants.{Fetching, Executing}
+use Rattle.stateful_requests.specs.declared.tables.Requested.{Requested}
 use Rattle.stateful_standing.specs.Setting.{setting}
 use Rattle.stateful_standing.specs.Requesting.{IsStanding, RequestsStand, QueueStands}
 use Rattle.stateful_standing.specs.Standing.{TablesStand}

@@ -9,14 +9,14 @@ use Rattle.stateful_history.specs.Fetches.{Abstains}
 use Rattle.stateful_history.specs.Requests.{IsLiveProposal}
 use Rattle.stateful_history.specs.declared.mark.Mark.TheVariants.{Verdict, Declined}
 use Rattle.stateful_table.specs.Table.{at, put}
-use Rattle.stateful_exec.specs.Rules.{told, ended}
+use Rattle.stateful_requests.specs.Tables.{told, ended}
 use Rattle.stateful_exec.specs.Workings.{Workings, Point}
-use Rattle.stateful_exec.specs.declared.request.Proposal.{Proposal}
-use Rattle.stateful_exec.specs.declared.request.Request.{Request}
-use Rattle.stateful_exec.specs.declared.request.Request.TheVariants.{Verify, Recover}
-use Rattle.stateful_exec.specs.declared.request.Verdict.TheVariants as verdict
-use Rattle.stateful_exec.specs.declared.request.Verdict.{Verdict as Verdicts}
-use Rattle.stateful_exec.specs.declared.state.Tables.{Tables}
+use Rattle.stateful_requests.specs.declared.request.Proposal.{Proposal}
+use Rattle.stateful_requests.specs.declared.request.Request.{Request}
+use Rattle.stateful_requests.specs.declared.request.Request.TheVariants.{Verify, Recover}
+use Rattle.stateful_requests.specs.declared.request.Verdict.TheVariants as verdict
+use Rattle.stateful_requests.specs.declared.request.Verdict.{Verdict as Verdicts}
+use Rattle.stateful_requests.specs.declared.state.Tables.{Tables}
 use Rattle.stateful_standing.specs.Setting.{setting}
 use Rattle.stateful_standing.specs.Standing.{TablesStand, IsInHand}
 use Rattle.stateful_standing.proofs.Calm.{IsCalm, LeavesJob, CacheStands-calm, RunsStand-calm}

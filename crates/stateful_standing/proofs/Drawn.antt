@@ -8,9 +8,9 @@ use Rattle.stateful_history.specs.Jobs.{JobOf, started_for}
 use Rattle.stateful_history.specs.Requests.{IsLiveProposal}
 use Rattle.stateful_table.specs.Table.{at, without}
 use Rattle.stateful_exec.specs.Workings.{Workings, Point}
-use Rattle.stateful_exec.specs.declared.request.Proposal.{Proposal}
-use Rattle.stateful_exec.specs.declared.state.Tables.{Tables}
-use Rattle.stateful_exec.specs.declared.tables.Requested.{Requested}
+use Rattle.stateful_requests.specs.declared.request.Proposal.{Proposal}
+use Rattle.stateful_requests.specs.declared.state.Tables.{Tables}
+use Rattle.stateful_requests.specs.declared.tables.Requested.{Requested}
 use Rattle.stateful_standing.specs.Requesting.{QueueStands}
 use Rattle.stateful_standing.specs.Standing.{NumbersStand, TablesStand}
 use Rattle.stateful_standing.proofs.Removing.{at_other, at_gone, All-without}

@@ -20,18 +20,21 @@ use Rattle.stateful_history.specs.declared.mark.Mark.{Mark}
 use Rattle.stateful_history.specs.declared.mark.Mark.TheVariants.{Ended, Began}
 use Rattle.stateful_cache.specs.Cache.{IsIn}
 use Rattle.stateful_cache.specs.declared.cache.Cached.{Cached}
-use Rattle.stateful_exec.specs.Ending.{Takes, there, added, missed, IsTold, rejected, mismatched, agreed, released, EndsRun, TurnsRun, Follows, SettlesBy, Steps}
+use Rattle.stateful_requests.specs.Keeping.{Takes}
+use Rattle.stateful_exec.specs.Ending.{IsTold, rejected, mismatched, agreed, EndsRun, TurnsRun, Follows, SettlesBy, Steps}
+use Rattle.stateful_requests.specs.Keeping.{there, added, missed}
+use Rattle.stateful_requests.specs.Fates.{released}
 use Rattle.stateful_db.specs.declared.application.Hooked.{Hooked}
 use Rattle.stateful_db.specs.declared.application.Hooked.TheVariants as hooked
 use Rattle.stateful_exec.specs.Finalizing.{front_at, RunsFinal, StepsFinal, turned, not_live, Moves, HooksOn, TurnsHook, hook_turned, unhooked}
 use Rattle.stateful_exec.specs.Moments.{Moment}
-use Rattle.stateful_exec.specs.Phase.{released_on}
+use Rattle.stateful_requests.specs.Phase.{released_on}
 use Rattle.stateful_exec.specs.Workings.{Workings, Point}
 use Rattle.stateful_exec.specs.declared.front.Front.{Front}
 use Rattle.stateful_exec.specs.declared.front.Stage.{Stage}
 use Rattle.stateful_exec.specs.declared.front.Stage.TheVariants.{Begun, Running, Ran, Advanced, Hooking}
-use Rattle.stateful_exec.specs.declared.pause.Pause.TheVariants.{Free}
-use Rattle.stateful_exec.specs.declared.state.Tables.{Tables}
+use Rattle.stateful_requests.specs.declared.pause.Pause.TheVariants.{Free}
+use Rattle.stateful_requests.specs.declared.state.Tables.{Tables}
 use Rattle.stateful_standing.specs.Setting.{setting}
 use Rattle.stateful_standing.specs.Caching.{CacheStands}
 use Rattle.stateful_standing.specs.Due.{IsToRun, IsDue}
@@ -42,8 +45,8 @@ use Rattle.std.proofs.lemmas.List.Quantifiers.{Any-push}
 use Rattle.std.proofs.lemmas.Bool.{eq-eqb}
 use Rattle.stateful_table.proofs.Tables.{at-put}
 use Rattle.stateful_table.specs.Table.{at, put}
-use Rattle.stateful_exec.specs.declared.tables.LiveRun.{LiveRun}
-use Rattle.stateful_exec.specs.declared.boundary.ExecutionStep.{ExecutionStep}
+use Rattle.stateful_requests.specs.declared.tables.LiveRun.{LiveRun}
+use Rattle.stateful_requests.specs.declared.boundary.ExecutionStep.{ExecutionStep}
 use Rattle.stateful_standing.proofs.Quiet.{AreQuiet, IsQuiet, unmoved, GoesQuietly, GoesQuietly-follows, GoesQuietly-in_turn}
 
 module _ {B C I S T : Type 0} (s : Setting B S T) (p : Past B C I) {U : Type 0} (d : Digest) where

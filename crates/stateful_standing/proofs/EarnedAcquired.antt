@@ -7,15 +7,16 @@ use Rattle.stateful_history.specs.Met.{Met}
 use Rattle.stateful_history.specs.Past.{Past}
 use Rattle.stateful_cache.specs.Cache.{IsAtHand}
 use Rattle.stateful_exec.specs.Moments.{Moment}
-use Rattle.stateful_exec.specs.Rules.{Needs, Concludes, Acquires, valid, invalid, asks, waits, runs, requested}
-use Rattle.stateful_exec.specs.Walk.{IsNeeded, child, IsVerified, IsPrepared}
-use Rattle.stateful_exec.specs.Walk as walk
+use Rattle.stateful_exec.specs.Rules.{Needs, Concludes, Acquires, valid, invalid, asks, waits, runs}
+use Rattle.stateful_requests.specs.Tables.{requested}
+use Rattle.stateful_requests.specs.Walk.{IsNeeded, child, IsVerified, IsPrepared}
+use Rattle.stateful_requests.specs.Walk as walk
 use Rattle.stateful_exec.specs.Workings.{Workings, Point}
-use Rattle.stateful_exec.specs.declared.request.Request.{Request}
-use Rattle.stateful_exec.specs.declared.request.Request.TheVariants.{Verify, Recover}
-use Rattle.stateful_exec.specs.declared.request.Verdict.TheVariants as verdict
-use Rattle.stateful_exec.specs.declared.tables.Requested.{Requested}
-use Rattle.stateful_exec.specs.declared.walk.Acquired.TheVariants as acquired
+use Rattle.stateful_requests.specs.declared.request.Request.{Request}
+use Rattle.stateful_requests.specs.declared.request.Request.TheVariants.{Verify, Recover}
+use Rattle.stateful_requests.specs.declared.request.Verdict.TheVariants as verdict
+use Rattle.stateful_requests.specs.declared.tables.Requested.{Requested}
+use Rattle.stateful_requests.specs.declared.walk.Acquired.TheVariants as acquired
 use Rattle.stateful_standing.specs.Setting.{setting}
 use Rattle.stateful_standing.specs.Requesting.{first_of, IsRequestOf}
 use Rattle.stateful_standing.specs.Standing.{TablesStand, IsInHand}

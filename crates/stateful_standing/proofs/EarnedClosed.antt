@@ -14,12 +14,15 @@ use Rattle.stateful_cache.specs.Cache.{IsIn}
 use Rattle.stateful_cache.specs.Cut.{AreNamed, GoesOn}
 use Rattle.stateful_cache.specs.declared.cache.Cached.{Cached}
 use Rattle.stateful_cache.proofs.Cutting.{Any-from}
-use Rattle.stateful_exec.specs.Boundary.{Boundary, step_by, IsRetained, Completes}
-use Rattle.stateful_exec.specs.Ending.{step_in, Takes, there, added, missed, IsTold, rejected, mismatched, agreed, Crosses}
-use Rattle.stateful_exec.specs.Finalizing.{IsBoundaryOf}
+use Rattle.stateful_requests.specs.Boundary.{Boundary, step_by, IsRetained, Completes}
+use Rattle.stateful_requests.specs.Keeping.{step_in, there, added, missed}
+use Rattle.stateful_requests.specs.Keeping.{Takes}
+use Rattle.stateful_exec.specs.Ending.{IsTold, rejected, mismatched, agreed}
+use Rattle.stateful_requests.specs.Fates.{Crosses}
+use Rattle.stateful_requests.specs.Boundary.{IsBoundaryOf}
 use Rattle.stateful_exec.specs.Workings.{Workings, Point}
-use Rattle.stateful_exec.specs.declared.pause.Pause.{Pause}
-use Rattle.stateful_exec.specs.declared.pause.Pause.TheVariants.{Free, Finalizing, Pruning}
+use Rattle.stateful_requests.specs.declared.pause.Pause.{Pause}
+use Rattle.stateful_requests.specs.declared.pause.Pause.TheVariants.{Free, Finalizing, Pruning}
 use Rattle.stateful_standing.specs.Setting.{setting}
 use Rattle.stateful_standing.specs.Caching.{IsCached, CacheStands}
 use Rattle.stateful_standing.proofs.EndedPoints.{parent_at_hand}

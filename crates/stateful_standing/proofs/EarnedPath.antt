@@ -9,7 +9,7 @@ use Rattle.stateful_history.specs.Known.{Known}
 use Rattle.stateful_history.specs.Past.{Past}
 use Rattle.stateful_cache.specs.Cache.{IsIn, IsAtHand}
 use Rattle.stateful_exec.specs.Workings.{Workings, Point}
-use Rattle.stateful_exec.specs.declared.state.Tables.{Tables}
+use Rattle.stateful_requests.specs.declared.state.Tables.{Tables}
 use Rattle.stateful_standing.specs.Setting.{setting}
 use Rattle.stateful_standing.specs.Chains.{here, further, Chain}
 use Rattle.stateful_standing.specs.Caching.{IsCached}

@@ -12,12 +12,12 @@ use Rattle.stateful_history.specs.Past.{Past}
 use Rattle.stateful_cache.specs.Cache.{IsAtHand}
 use Rattle.stateful_cache.specs.Cut.{AreNamed}
 use Rattle.stateful_cache.specs.declared.cache.Cached.{Cached}
-use Rattle.stateful_exec.specs.Boundary.{Boundary, step_by, IsRetained}
-use Rattle.stateful_exec.specs.Ending.{step_in}
-use Rattle.stateful_exec.specs.Rules.{GoesOn}
+use Rattle.stateful_requests.specs.Boundary.{Boundary, step_by, IsRetained}
+use Rattle.stateful_requests.specs.Keeping.{step_in}
+use Rattle.stateful_requests.specs.Meeting.{GoesOn}
 use Rattle.stateful_exec.specs.Workings.{Workings, Point}
-use Rattle.stateful_exec.specs.declared.pause.Pause.{Pause}
-use Rattle.stateful_exec.specs.declared.pause.Pause.TheVariants.{Free, Finalizing, Pruning}
+use Rattle.stateful_requests.specs.declared.pause.Pause.{Pause}
+use Rattle.stateful_requests.specs.declared.pause.Pause.TheVariants.{Free, Finalizing, Pruning}
 use Rattle.stateful_standing.specs.Setting.{setting}
 use Rattle.stateful_standing.specs.Caching.{IsCached, CacheStands}
 use Rattle.stateful_standing.proofs.EndedKept.{IsRoundOf}

@@ -17,7 +17,7 @@ use Rattle.stateful_cache.specs.Cache.{IsAtHand}
 use Rattle.stateful_cache.specs.declared.cache.Cached.{Cached}
 use Rattle.stateful_table.specs.Table.{without}
 use Rattle.stateful_exec.specs.Workings.{Workings, Point}
-use Rattle.stateful_exec.specs.declared.tables.LiveRun.{LiveRun}
+use Rattle.stateful_requests.specs.declared.tables.LiveRun.{LiveRun}
 use Rattle.stateful_standing.specs.Setting.{setting}
 use Rattle.stateful_standing.specs.Chains.{Chain}
 use Rattle.stateful_standing.specs.Caching.{IsCached}

@@ -17,13 +17,14 @@ use Rattle.stateful_history.specs.declared.mark.How.TheVariants.{Kept, Rejected,
 use Rattle.stateful_cache.specs.Cache.{IsIn, IsAtHand}
 use Rattle.stateful_cache.specs.declared.cache.Cached.{Cached}
 use Rattle.stateful_table.specs.Table.{at}
-use Rattle.stateful_exec.specs.Boundary.{step_by}
-use Rattle.stateful_exec.specs.Ending.{step_in, there, added, missed, Turns, IsTold, rejected, mismatched, agreed}
+use Rattle.stateful_requests.specs.Boundary.{step_by}
+use Rattle.stateful_requests.specs.Keeping.{step_in, there, added, missed}
+use Rattle.stateful_exec.specs.Ending.{Turns, IsTold, rejected, mismatched, agreed}
 use Rattle.stateful_exec.specs.Workings.{Workings, Point}
-use Rattle.stateful_exec.specs.declared.pause.Pause.{Pause}
-use Rattle.stateful_exec.specs.declared.pause.Pause.TheVariants.{Free, Finalizing, Pruning}
-use Rattle.stateful_exec.specs.declared.state.Tables.{Tables}
-use Rattle.stateful_exec.specs.declared.tables.LiveRun.{LiveRun}
+use Rattle.stateful_requests.specs.declared.pause.Pause.{Pause}
+use Rattle.stateful_requests.specs.declared.pause.Pause.TheVariants.{Free, Finalizing, Pruning}
+use Rattle.stateful_requests.specs.declared.state.Tables.{Tables}
+use Rattle.stateful_requests.specs.declared.tables.LiveRun.{LiveRun}
 use Rattle.stateful_standing.specs.Setting.{setting}
 use Rattle.stateful_standing.specs.Caching.{IsKnownBy}
 use Rattle.stateful_standing.specs.Running.{IsRunning}

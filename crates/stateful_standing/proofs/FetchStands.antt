@@ -12,16 +12,18 @@ use Rattle.stateful_history.specs.Live.{live_fetch}
 use Rattle.stateful_history.specs.Setting.{Setting}
 use Rattle.stateful_history.specs.declared.event.Event.TheVariants.{Fetched}
 use Rattle.stateful_table.specs.Table.{at, without}
-use Rattle.stateful_exec.specs.Fetching.{Fetches, IsLiveFetch, with_block, serving, IsFetched, found, waits, declines, dead}
+use Rattle.stateful_requests.specs.Fetching.{Fetches, IsLiveFetch, with_block}
+use Rattle.stateful_exec.specs.Fetching.{serving, IsFetched, found, waits, declines, dead}
 use Rattle.stateful_exec.specs.Moments.{Moment}
-use Rattle.stateful_exec.specs.Phase.{is_on}
-use Rattle.stateful_exec.specs.Rules.{taken, Needs}
+use Rattle.stateful_requests.specs.Phase.{is_on}
+use Rattle.stateful_requests.specs.Tables.{taken}
+use Rattle.stateful_exec.specs.Rules.{Needs}
 use Rattle.stateful_exec.specs.Workings.{Workings, Point}
-use Rattle.stateful_exec.specs.declared.request.Verdict.TheVariants.{Invalid}
-use Rattle.stateful_exec.specs.declared.state.Tables.{Tables}
-use Rattle.stateful_exec.specs.declared.tables.Phase.TheVariants.{Fetching, Waiting}
-use Rattle.stateful_exec.specs.declared.tables.Requested.{Requested}
-use Rattle.stateful_exec.specs.declared.walk.Acquired.TheVariants.{Waits}
+use Rattle.stateful_requests.specs.declared.request.Verdict.TheVariants.{Invalid}
+use Rattle.stateful_requests.specs.declared.state.Tables.{Tables}
+use Rattle.stateful_requests.specs.declared.tables.Phase.TheVariants.{Fetching, Waiting}
+use Rattle.stateful_requests.specs.declared.tables.Requested.{Requested}
+use Rattle.stateful_requests.specs.declared.walk.Acquired.TheVariants.{Waits}
 use Rattle.stateful_standing.specs.Setting.{setting}
 use Rattle.stateful_standing.specs.Requesting.{first_of, IsStanding, QueueStands}
 use Rattle.stateful_standing.specs.Standing.{TablesStand, IsInHand, StandsBehind}

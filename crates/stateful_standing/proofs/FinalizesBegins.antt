@@ -15,12 +15,12 @@ use Rattle.stateful_history.specs.declared.mark.Mark.{Mark}
 use Rattle.stateful_history.specs.declared.mark.Mark.TheVariants.{Withdrawn, Began}
 use Rattle.stateful_cache.specs.Cache.{IsIn}
 use Rattle.stateful_cache.specs.declared.cache.Cached.{Cached}
-use Rattle.stateful_exec.specs.Boundary.{Boundary}
-use Rattle.stateful_exec.specs.Finalizing.{IsBoundaryOf}
-use Rattle.stateful_exec.specs.Pausing.{Pauses}
+use Rattle.stateful_requests.specs.Boundary.{Boundary}
+use Rattle.stateful_requests.specs.Boundary.{IsBoundaryOf}
+use Rattle.stateful_requests.specs.Pausing.{Pauses}
 use Rattle.stateful_exec.specs.Workings.{Workings, Point}
-use Rattle.stateful_exec.specs.declared.pause.Pause.TheVariants.{Free}
-use Rattle.stateful_exec.specs.declared.state.Tables.{Tables}
+use Rattle.stateful_requests.specs.declared.pause.Pause.TheVariants.{Free}
+use Rattle.stateful_requests.specs.declared.state.Tables.{Tables}
 use Rattle.stateful_standing.specs.Setting.{setting}
 use Rattle.stateful_standing.specs.Caching.{IsCached, CacheStands}
 use Rattle.stateful_standing.proofs.EarnedClosed.{IsClosed-begins}

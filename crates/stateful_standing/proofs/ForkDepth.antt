@@ -10,7 +10,7 @@ use Rattle.stateful_cache.specs.declared.cache.Cached.{Cached}
 use Rattle.stateful_exec.specs.Building.{IsNewBuild}
 use Rattle.stateful_exec.specs.Starting.{IsOver, databases, batch, IsFresh}
 use Rattle.stateful_exec.specs.Workings.{Workings, Point}
-use Rattle.stateful_exec.specs.declared.state.Tables.{Tables}
+use Rattle.stateful_requests.specs.declared.state.Tables.{Tables}
 use Rattle.stateful_standing.specs.Setting.{setting}
 use Rattle.stateful_standing.specs.Chains.{Stacked, here, further, Leads}
 use Rattle.stateful_standing.specs.Caching.{IsCached}

@@ -15,7 +15,7 @@ use Rattle.stateful_history.specs.declared.mark.Mark.TheVariants.{Started, Ended
 use Rattle.stateful_exec.specs.Finalizing.{front_at, IsLeftBehind, HasHooked}
 use Rattle.stateful_exec.specs.Workings.{Workings, Point}
 use Rattle.stateful_exec.specs.declared.front.Stage.TheVariants.{Advanced, Hooking}
-use Rattle.stateful_exec.specs.declared.state.Tables.{Tables}
+use Rattle.stateful_requests.specs.declared.state.Tables.{Tables}
 use Rattle.stateful_standing.specs.Fronting.{IsHooking, FrontStands}
 use Rattle.stateful_standing.specs.Standing.{TablesStand}
 use Rattle.stateful_standing.proofs.Drawn.{TablesStand-numbered}

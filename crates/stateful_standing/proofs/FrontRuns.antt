@@ -20,7 +20,7 @@ use Rattle.stateful_exec.specs.Finalizing.{front_at, RunsFinal, IsFinalBatch}
 use Rattle.stateful_exec.specs.Workings.{Workings, Point}
 use Rattle.stateful_exec.specs.declared.front.Front.{Front}
 use Rattle.stateful_exec.specs.declared.front.Stage.TheVariants.{Begun, Running, Ran}
-use Rattle.stateful_exec.specs.declared.state.Tables.{Tables}
+use Rattle.stateful_requests.specs.declared.state.Tables.{Tables}
 use Rattle.stateful_standing.specs.Setting.{setting}
 use Rattle.stateful_standing.specs.Fronting.{RunsTakeTurns, IsRunFinal, FrontStands}
 use Rattle.stateful_standing.specs.Standing.{TablesStand}

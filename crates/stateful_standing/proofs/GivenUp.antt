@@ -8,13 +8,13 @@ use Rattle.stateful_history.specs.Asked.{asked_for}
 use Rattle.stateful_history.specs.Live.{live_fetch}
 use Rattle.stateful_history.specs.declared.event.Event.TheVariants.{Cancel}
 use Rattle.stateful_table.specs.Table.{at, without}
-use Rattle.stateful_exec.specs.Fetching.{IsIdle}
-use Rattle.stateful_exec.specs.Phase.{is_on, tickets_on}
+use Rattle.stateful_requests.specs.Cancelling.{IsIdle}
+use Rattle.stateful_requests.specs.Phase.{is_on, tickets_on}
 use Rattle.stateful_exec.specs.Workings.{Workings}
-use Rattle.stateful_exec.specs.declared.tables.LiveRun.{LiveRun}
-use Rattle.stateful_exec.specs.declared.tables.Phase.{Phase}
-use Rattle.stateful_exec.specs.declared.tables.Phase.TheVariants.{Open, Fetching, Waiting, Executing, Parked}
-use Rattle.stateful_exec.specs.declared.tables.Requested.{Requested}
+use Rattle.stateful_requests.specs.declared.tables.LiveRun.{LiveRun}
+use Rattle.stateful_requests.specs.declared.tables.Phase.{Phase}
+use Rattle.stateful_requests.specs.declared.tables.Phase.TheVariants.{Open, Fetching, Waiting, Executing, Parked}
+use Rattle.stateful_requests.specs.declared.tables.Requested.{Requested}
 use Rattle.stateful_standing.specs.Requesting.{IsStanding, RequestsStand}
 use Rattle.stateful_standing.proofs.Calm.{IsCalm, LeavesJob}
 use Rattle.stateful_standing.proofs.Asking.{LeavesTicket, LeavesFetch, IsStanding-calm}

@@ -9,9 +9,9 @@ use Rattle.stateful_history.specs.Met.{Met, TrueNames}
 use Rattle.stateful_history.proofs.Marks.{after-append}
 use Rattle.stateful_exec.specs.Ending.{InTurn, none, next}
 use Rattle.stateful_exec.specs.Moments.{Moment}
-use Rattle.stateful_exec.specs.Path.{Path}
+use Rattle.stateful_requests.specs.Path.{Path}
 use Rattle.stateful_exec.specs.Workings.{Workings, Point}
-use Rattle.stateful_exec.specs.declared.request.Request.{Request}
+use Rattle.stateful_requests.specs.declared.request.Request.{Request}
 use Rattle.stateful_standing.specs.Setting.{setting}
 use Rattle.stateful_standing.specs.Requesting.{steps, IsWayOf}
 use Rattle.stateful_standing.specs.Standing.{TablesStand, IsInHand, StandsBehind}

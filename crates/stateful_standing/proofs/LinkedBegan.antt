@@ -9,13 +9,13 @@ use Rattle.stateful_history.specs.Past.{Past, Made, after}
 use Rattle.stateful_history.specs.Setting.{parent_of}
 use Rattle.stateful_history.specs.declared.mark.Mark.{Mark}
 use Rattle.stateful_history.specs.declared.mark.Mark.TheVariants.{Began}
-use Rattle.stateful_exec.specs.Boundary.{Boundary}
-use Rattle.stateful_exec.specs.Finalizing.{IsBoundaryOf}
-use Rattle.stateful_exec.specs.Pausing.{Pauses}
+use Rattle.stateful_requests.specs.Boundary.{Boundary}
+use Rattle.stateful_requests.specs.Boundary.{IsBoundaryOf}
+use Rattle.stateful_requests.specs.Pausing.{Pauses}
 use Rattle.stateful_exec.specs.Workings.{Workings, Point}
-use Rattle.stateful_exec.specs.declared.pause.Pause.TheVariants.{Free}
-use Rattle.stateful_exec.specs.declared.state.Tables.{Tables}
-use Rattle.stateful_exec.specs.declared.tables.Requested.{Requested}
+use Rattle.stateful_requests.specs.declared.pause.Pause.TheVariants.{Free}
+use Rattle.stateful_requests.specs.declared.state.Tables.{Tables}
+use Rattle.stateful_requests.specs.declared.tables.Requested.{Requested}
 use Rattle.stateful_standing.specs.Setting.{setting}
 use Rattle.stateful_standing.specs.Gathering.{IsGathered, GatheringsStand}
 use Rattle.stateful_standing.specs.Standing.{TablesStand}

@@ -15,20 +15,23 @@ use Rattle.stateful_history.specs.declared.mark.How.TheVariants.{Cancelled}
 use Rattle.stateful_history.specs.declared.mark.Mark.{Mark}
 use Rattle.stateful_history.specs.declared.mark.Mark.TheVariants.{Withdrawn, Ended}
 use Rattle.stateful_table.specs.Table.{without}
-use Rattle.stateful_exec.specs.Boundary.{Boundary}
-use Rattle.stateful_exec.specs.Fetching.{Fetches, with_block, serving, IsFetched, found, waits, declines, dead, Cancels, idle, withdraws, leaves, ends, unqueued}
+use Rattle.stateful_requests.specs.Boundary.{Boundary}
+use Rattle.stateful_requests.specs.Fetching.{Fetches, with_block}
+use Rattle.stateful_exec.specs.Fetching.{serving, IsFetched, found, waits, declines, dead}
+use Rattle.stateful_requests.specs.Cancelling.{Cancels}
+use Rattle.stateful_requests.specs.Cancelling.{idle, withdraws, leaves, ends, unqueued}
 use Rattle.stateful_exec.specs.Moments.{Moment}
-use Rattle.stateful_exec.specs.Pausing.{Pauses}
-use Rattle.stateful_exec.specs.Phase.{unfetched, dropped}
-use Rattle.stateful_exec.specs.Rules.{taken}
+use Rattle.stateful_requests.specs.Pausing.{Pauses}
+use Rattle.stateful_requests.specs.Phase.{unfetched, dropped}
+use Rattle.stateful_requests.specs.Tables.{taken}
 use Rattle.stateful_exec.specs.Workings.{Workings, Point}
-use Rattle.stateful_exec.specs.declared.pause.Pause.TheVariants.{Free}
-use Rattle.stateful_exec.specs.declared.request.Proposal.{Proposal}
-use Rattle.stateful_exec.specs.declared.request.Verdict.TheVariants as verdict
-use Rattle.stateful_exec.specs.declared.state.Tables.{Tables}
-use Rattle.stateful_exec.specs.declared.tables.Phase.{Phase}
-use Rattle.stateful_exec.specs.declared.tables.Phase.TheVariants.{Open, Fetching, Waiting, Executing, Parked}
-use Rattle.stateful_exec.specs.declared.tables.Requested.{Requested}
+use Rattle.stateful_requests.specs.declared.pause.Pause.TheVariants.{Free}
+use Rattle.stateful_requests.specs.declared.request.Proposal.{Proposal}
+use Rattle.stateful_requests.specs.declared.request.Verdict.TheVariants as verdict
+use Rattle.stateful_requests.specs.declared.state.Tables.{Tables}
+use Rattle.stateful_requests.specs.declared.tables.Phase.{Phase}
+use Rattle.stateful_requests.specs.declared.tables.Phase.TheVariants.{Open, Fetching, Waiting, Executing, Parked}
+use Rattle.stateful_requests.specs.declared.tables.Requested.{Requested}
 use Rattle.stateful_standing.specs.Setting.{setting}
 use Rattle.stateful_standing.specs.Gathering.{IsGathered}
 use Rattle.stateful_standing.specs.Reaching.{IsLost}

@@ -16,9 +16,9 @@ use Rattle.stateful_history.specs.declared.mark.Mark.{Mark}
 use Rattle.stateful_history.specs.declared.mark.Mark.TheVariants.{Opened, Converged, Began, Asked}
 use Rattle.stateful_history.proofs.Marks.{TrueNames-before_marks}
 use Rattle.stateful_exec.specs.Workings.{Workings}
-use Rattle.stateful_exec.specs.declared.request.Proposal.{Proposal}
-use Rattle.stateful_exec.specs.declared.state.Tables.{Tables}
-use Rattle.stateful_exec.specs.declared.tables.Requested.{Requested}
+use Rattle.stateful_requests.specs.declared.request.Proposal.{Proposal}
+use Rattle.stateful_requests.specs.declared.state.Tables.{Tables}
+use Rattle.stateful_requests.specs.declared.tables.Requested.{Requested}
 use Rattle.stateful_standing.specs.Setting.{setting}
 use Rattle.stateful_standing.specs.Gathering.{gathered, last_of, IsGathered, GatheringsStand}
 use Rattle.stateful_standing.specs.Reaching.{QueueReaches}

@@ -13,15 +13,18 @@ use Rattle.stateful_history.specs.declared.mark.JobKind.TheVariants.{Candidate}
 use Rattle.stateful_history.specs.declared.mark.Mark.{Mark}
 use Rattle.stateful_history.specs.declared.mark.Mark.TheVariants.{Asked, Started, Verdict, Declined}
 use Rattle.stateful_cache.specs.Cache.{IsIn, IsAtHand}
-use Rattle.stateful_exec.specs.Ending.{IsGivenUp, Follows, given_up, at_boundary, failed, parked, goes_on}
+use Rattle.stateful_requests.specs.Fates.{IsGivenUp}
+use Rattle.stateful_exec.specs.Ending.{Follows, given_up, at_boundary, failed, parked, goes_on}
 use Rattle.stateful_exec.specs.Moments.{Moment}
-use Rattle.stateful_exec.specs.Path.{Path}
-use Rattle.stateful_exec.specs.Rules.{IsPassed, requested, Concludes, Advances, Acquires}
+use Rattle.stateful_requests.specs.Path.{Path}
+use Rattle.stateful_requests.specs.Meeting.{IsPassed}
+use Rattle.stateful_requests.specs.Tables.{requested}
+use Rattle.stateful_exec.specs.Rules.{Concludes, Advances, Acquires}
 use Rattle.stateful_exec.specs.Workings.{Workings, Point}
-use Rattle.stateful_exec.specs.declared.pause.Pause.TheVariants.{Free}
-use Rattle.stateful_exec.specs.declared.request.Verdict.TheVariants as verdict
-use Rattle.stateful_exec.specs.declared.tables.Released.{Released}
-use Rattle.stateful_exec.specs.declared.tables.Requested.{Requested}
+use Rattle.stateful_requests.specs.declared.pause.Pause.TheVariants.{Free}
+use Rattle.stateful_requests.specs.declared.request.Verdict.TheVariants as verdict
+use Rattle.stateful_requests.specs.declared.tables.Released.{Released}
+use Rattle.stateful_requests.specs.declared.tables.Requested.{Requested}
 use Rattle.stateful_standing.specs.Setting.{setting}
 use Rattle.stateful_standing.specs.Gathering.{gathered, AreLinked}
 use Rattle.stateful_standing.specs.Reaching.{QueueReaches}

@@ -17,15 +17,16 @@ use Rattle.stateful_history.specs.declared.mark.Mark.TheVariants.{Ended}
 use Rattle.stateful_history.proofs.Marks.{TrueNames-before_marks}
 use Rattle.stateful_cache.specs.declared.cache.Cached.{Cached}
 use Rattle.stateful_table.specs.Table.{at, put, without}
-use Rattle.stateful_exec.specs.Ending.{released, Turns, EndsRun, TurnsRun, InTurn, Follows}
+use Rattle.stateful_requests.specs.Fates.{released}
+use Rattle.stateful_exec.specs.Ending.{Turns, EndsRun, TurnsRun, InTurn, Follows}
 use Rattle.stateful_exec.specs.Moments.{Moment, moment}
-use Rattle.stateful_exec.specs.Phase.{is_on, released_on}
+use Rattle.stateful_requests.specs.Phase.{is_on, released_on}
 use Rattle.stateful_exec.specs.Workings.{Workings, Point}
-use Rattle.stateful_exec.specs.declared.pause.Pause.{Pause}
-use Rattle.stateful_exec.specs.declared.state.Tables.{Tables}
-use Rattle.stateful_exec.specs.declared.tables.LiveRun.{LiveRun}
-use Rattle.stateful_exec.specs.declared.tables.Released.{Released}
-use Rattle.stateful_exec.specs.declared.tables.Requested.{Requested}
+use Rattle.stateful_requests.specs.declared.pause.Pause.{Pause}
+use Rattle.stateful_requests.specs.declared.state.Tables.{Tables}
+use Rattle.stateful_requests.specs.declared.tables.LiveRun.{LiveRun}
+use Rattle.stateful_requests.specs.declared.tables.Released.{Released}
+use Rattle.stateful_requests.specs.declared.tables.Requested.{Requested}
 use Rattle.stateful_standing.specs.Setting.{setting}
 use Rattle.stateful_standing.specs.Gathering.{gathered, AreLinked, IsGathered, GatheringsStand}
 use Rattle.stateful_standing.specs.Standing.{TablesStand}

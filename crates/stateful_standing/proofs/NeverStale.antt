@@ -8,8 +8,8 @@ use Rattle.stateful_db.specs.Works.{run_of}
 use Rattle.stateful_history.specs.Past.{Past}
 use Rattle.stateful_table.specs.Table.{at}
 use Rattle.stateful_exec.specs.Workings.{Workings, Point}
-use Rattle.stateful_exec.specs.declared.state.Tables.{Tables}
-use Rattle.stateful_exec.specs.declared.tables.LiveRun.{LiveRun}
+use Rattle.stateful_requests.specs.declared.state.Tables.{Tables}
+use Rattle.stateful_requests.specs.declared.tables.LiveRun.{LiveRun}
 use Rattle.stateful_standing.specs.Running.{IsRunning, ReadsNothingStale}
 use Rattle.stateful_standing.specs.Standing.{TablesStand}
 use Rattle.stateful_standing.proofs.EndedPoints.{Stacked-point}

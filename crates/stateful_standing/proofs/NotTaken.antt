@@ -12,16 +12,17 @@ use Rattle.stateful_history.specs.declared.mark.How.TheVariants.{Missed}
 use Rattle.stateful_table.specs.Table.{at}
 use Rattle.stateful_cache.specs.Cache.{IsAtHand}
 use Rattle.stateful_cache.specs.declared.cache.Cached.{Cached}
-use Rattle.stateful_exec.specs.Boundary.{step_by}
+use Rattle.stateful_requests.specs.Boundary.{step_by}
 use Rattle.stateful_exec.specs.Built.{IsNamed, FaultsBuilt, memory, other, not_kept}
 use Rattle.stateful_exec.specs.Causes.{FaultsEnd}
-use Rattle.stateful_exec.specs.Ending.{step_in, ChangesPending, FaultsTake, Takes, missed}
+use Rattle.stateful_requests.specs.Keeping.{step_in, ChangesPending, FaultsTake, missed}
+use Rattle.stateful_requests.specs.Keeping.{Takes}
 use Rattle.stateful_exec.specs.Workings.{Workings, Point}
-use Rattle.stateful_exec.specs.declared.boundary.ExecutionStep.{ExecutionStep}
+use Rattle.stateful_requests.specs.declared.boundary.ExecutionStep.{ExecutionStep}
 use Rattle.stateful_exec.specs.declared.building.Building.{Building}
-use Rattle.stateful_exec.specs.declared.error.ExecError.TheVariants.{PendingChanged, ProposalStale}
-use Rattle.stateful_exec.specs.declared.state.Tables.{Tables}
-use Rattle.stateful_exec.specs.declared.tables.LiveRun.{LiveRun}
+use Rattle.stateful_requests.specs.declared.error.ExecError.TheVariants.{PendingChanged, ProposalStale}
+use Rattle.stateful_requests.specs.declared.state.Tables.{Tables}
+use Rattle.stateful_requests.specs.declared.tables.LiveRun.{LiveRun}
 use Rattle.stateful_standing.specs.Setting.{setting}
 use Rattle.stateful_standing.specs.Building.{IsBuilding}
 use Rattle.stateful_standing.specs.Caching.{IsCached}

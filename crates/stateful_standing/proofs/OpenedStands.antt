@@ -17,8 +17,8 @@ use Rattle.stateful_history.specs.Live.{live_fetch}
 use Rattle.stateful_history.specs.declared.mark.JobKind.{JobKind}
 use Rattle.stateful_cache.specs.Cache.{IsAtHand}
 use Rattle.stateful_exec.specs.Workings.{Workings, Point}
-use Rattle.stateful_exec.specs.declared.pause.Pause.TheVariants.{Free}
-use Rattle.stateful_exec.specs.declared.state.Tables.{Tables}
+use Rattle.stateful_requests.specs.declared.pause.Pause.TheVariants.{Free}
+use Rattle.stateful_requests.specs.declared.state.Tables.{Tables}
 use Rattle.stateful_standing.specs.Setting.{setting}
 use Rattle.stateful_standing.specs.Building.{BuildStands}
 use Rattle.stateful_standing.specs.Caching.{IsCached}

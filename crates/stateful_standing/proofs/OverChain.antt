@@ -7,7 +7,7 @@ use Rattle.stateful_history.specs.Past.{Past}
 use Rattle.stateful_cache.specs.declared.cache.Cached.{Cached}
 use Rattle.stateful_exec.specs.Starting.{IsOver, databases, batch}
 use Rattle.stateful_exec.specs.Workings.{Workings, Point}
-use Rattle.stateful_exec.specs.declared.state.Tables.{Tables}
+use Rattle.stateful_requests.specs.declared.state.Tables.{Tables}
 use Rattle.stateful_standing.specs.Chains.{Chain, Leads, here}
 use Rattle.stateful_standing.specs.Caching.{IsCached}
 use Rattle.stateful_standing.specs.Standing.{TablesStand}

@@ -11,17 +11,18 @@ use Rattle.stateful_history.specs.declared.mark.Mark.TheVariants.{Asked, Withdra
 use Rattle.stateful_cache.specs.Cache.{IsIn}
 use Rattle.stateful_exec.specs.Ending.{InTurn, none, next, Follows, given_up, at_boundary, failed, parked, goes_on}
 use Rattle.stateful_exec.specs.Moments.{Moment, Becomes}
-use Rattle.stateful_exec.specs.Path.{Path}
-use Rattle.stateful_exec.specs.Rules.{moved, requested, told, ended, Concludes, Launches, Advances, arrives, leaves, joins, starts, misses, Acquires, valid, invalid, asks, waits, runs}
+use Rattle.stateful_requests.specs.Path.{Path}
+use Rattle.stateful_requests.specs.Tables.{moved, requested, told, ended}
+use Rattle.stateful_exec.specs.Rules.{Concludes, Launches, Advances, arrives, leaves, joins, starts, misses, Acquires, valid, invalid, asks, waits, runs}
 use Rattle.stateful_exec.specs.Workings.{Workings}
-use Rattle.stateful_exec.specs.declared.request.Request.{Request}
-use Rattle.stateful_exec.specs.declared.request.Request.TheVariants.{Verify, Recover}
-use Rattle.stateful_exec.specs.declared.request.Verdict.{Verdict as Verdicts}
-use Rattle.stateful_exec.specs.declared.request.Verdict.TheVariants.{Valid, Invalid}
-use Rattle.stateful_exec.specs.declared.state.Tables.{Tables}
-use Rattle.stateful_exec.specs.declared.tables.Phase.{Phase}
-use Rattle.stateful_exec.specs.declared.tables.Released.{Released}
-use Rattle.stateful_exec.specs.declared.tables.Requested.{Requested}
+use Rattle.stateful_requests.specs.declared.request.Request.{Request}
+use Rattle.stateful_requests.specs.declared.request.Request.TheVariants.{Verify, Recover}
+use Rattle.stateful_requests.specs.declared.request.Verdict.{Verdict as Verdicts}
+use Rattle.stateful_requests.specs.declared.request.Verdict.TheVariants.{Valid, Invalid}
+use Rattle.stateful_requests.specs.declared.state.Tables.{Tables}
+use Rattle.stateful_requests.specs.declared.tables.Phase.{Phase}
+use Rattle.stateful_requests.specs.declared.tables.Released.{Released}
+use Rattle.stateful_requests.specs.declared.tables.Requested.{Requested}
 use Rattle.stateful_standing.specs.Building.{IsElsewhere}
 use Rattle.stateful_standing.proofs.Putting.{put_other}
 

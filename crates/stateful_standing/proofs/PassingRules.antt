@@ -15,19 +15,25 @@ use Rattle.stateful_cache.specs.Cache.{IsIn}
 use Rattle.stateful_cache.specs.declared.cache.Cached.{Cached}
 use Rattle.stateful_table.specs.Table.{at}
 use Rattle.stateful_table.proofs.Tables.{is_at_number}
-use Rattle.stateful_exec.specs.Boundary.{Boundary}
-use Rattle.stateful_exec.specs.Ending.{InTurn, there, added, missed, IsTold, rejected, mismatched, agreed, released, EndsRun, TurnsRun, Follows, Settles, SettlesBy, Steps}
-use Rattle.stateful_exec.specs.Fetching.{Fetches, serving, with_block, IsFetched, found, waits, declines, dead, Cancels, idle, withdraws, leaves, ends, unqueued}
+use Rattle.stateful_requests.specs.Boundary.{Boundary}
+use Rattle.stateful_exec.specs.Ending.{InTurn, IsTold, rejected, mismatched, agreed, EndsRun, TurnsRun, Follows, Settles, SettlesBy, Steps}
+use Rattle.stateful_requests.specs.Keeping.{there, added, missed}
+use Rattle.stateful_requests.specs.Fates.{released}
+use Rattle.stateful_requests.specs.Fetching.{Fetches, with_block}
+use Rattle.stateful_exec.specs.Fetching.{serving, IsFetched, found, waits, declines, dead}
+use Rattle.stateful_requests.specs.Cancelling.{Cancels}
+use Rattle.stateful_requests.specs.Cancelling.{idle, withdraws, leaves, ends, unqueued}
 use Rattle.stateful_exec.specs.Moments.{Moment}
-use Rattle.stateful_exec.specs.Path.{Path}
-use Rattle.stateful_exec.specs.Pausing.{Pauses, GoesAlong, AcquiresAnew, unparked, unsettled, Resumes}
-use Rattle.stateful_exec.specs.Phase.{is_on, released_on, parked_path, parked_in, is_unacquired, unacquired_in}
-use Rattle.stateful_exec.specs.Rules.{taken, requested}
+use Rattle.stateful_requests.specs.Path.{Path}
+use Rattle.stateful_requests.specs.Pausing.{Pauses}
+use Rattle.stateful_exec.specs.Pausing.{GoesAlong, AcquiresAnew, unparked, unsettled, Resumes}
+use Rattle.stateful_requests.specs.Phase.{is_on, released_on, parked_path, parked_in, is_unacquired, unacquired_in}
+use Rattle.stateful_requests.specs.Tables.{taken, requested}
 use Rattle.stateful_exec.specs.Workings.{Workings}
-use Rattle.stateful_exec.specs.declared.request.Verdict.TheVariants.{Invalid}
-use Rattle.stateful_exec.specs.declared.state.Tables.{Tables}
-use Rattle.stateful_exec.specs.declared.tables.Phase.TheVariants.{Waiting, Executing}
-use Rattle.stateful_exec.specs.declared.tables.Requested.{Requested}
+use Rattle.stateful_requests.specs.declared.request.Verdict.TheVariants.{Invalid}
+use Rattle.stateful_requests.specs.declared.state.Tables.{Tables}
+use Rattle.stateful_requests.specs.declared.tables.Phase.TheVariants.{Waiting, Executing}
+use Rattle.stateful_requests.specs.declared.tables.Requested.{Requested}
 use Rattle.stateful_standing.specs.Building.{IsElsewhere}
 use Rattle.stateful_standing.proofs.Removing.{none_at}
 use Rattle.stateful_standing.proofs.EndedKept.{Any-more}

@@ -15,12 +15,13 @@ use Rattle.stateful_history.specs.declared.mark.How.{How}
 use Rattle.stateful_history.specs.declared.mark.Mark.{Mark}
 use Rattle.stateful_history.specs.declared.mark.Mark.TheVariants.{Ended}
 use Rattle.stateful_history.proofs.Marks.{Met-after}
-use Rattle.stateful_exec.specs.Ending.{InTurn, none, next, released, TurnsRun, Follows, Settles, SettlesBy, Steps}
+use Rattle.stateful_exec.specs.Ending.{InTurn, none, next, TurnsRun, Follows, Settles, SettlesBy, Steps}
+use Rattle.stateful_requests.specs.Fates.{released}
 use Rattle.stateful_exec.specs.Moments.{Moment}
-use Rattle.stateful_exec.specs.Phase.{released_on}
+use Rattle.stateful_requests.specs.Phase.{released_on}
 use Rattle.stateful_exec.specs.Workings.{Workings, Point}
-use Rattle.stateful_exec.specs.declared.state.Tables.{Tables}
-use Rattle.stateful_exec.specs.declared.tables.Released.{Released}
+use Rattle.stateful_requests.specs.declared.state.Tables.{Tables}
+use Rattle.stateful_requests.specs.declared.tables.Released.{Released}
 use Rattle.stateful_standing.specs.Setting.{setting}
 use Rattle.stateful_standing.specs.Standing.{TablesStand}
 use Rattle.stateful_standing.proofs.EarnedCarried.{IsMild, as_before}

@@ -16,16 +16,17 @@ use Rattle.stateful_history.specs.Setting.{parent_of}
 use Rattle.stateful_history.specs.declared.mark.Mark.TheVariants.{Asked}
 use Rattle.stateful_cache.specs.Cache.{IsAtHand}
 use Rattle.stateful_exec.specs.Moments.{Moment}
-use Rattle.stateful_exec.specs.Rules.{requested, Acquires, valid, invalid, asks, waits, runs}
-use Rattle.stateful_exec.specs.Walk.{Walks, IsPrepared}
-use Rattle.stateful_exec.specs.Walk as walk
+use Rattle.stateful_requests.specs.Tables.{requested}
+use Rattle.stateful_exec.specs.Rules.{Acquires, valid, invalid, asks, waits, runs}
+use Rattle.stateful_requests.specs.Walk.{Walks, IsPrepared}
+use Rattle.stateful_requests.specs.Walk as walk
 use Rattle.stateful_exec.specs.Workings.{Workings, Point}
-use Rattle.stateful_exec.specs.declared.pause.Pause.TheVariants.{Free}
-use Rattle.stateful_exec.specs.declared.request.Request.{Request}
-use Rattle.stateful_exec.specs.declared.request.Request.TheVariants.{Verify, Recover}
-use Rattle.stateful_exec.specs.declared.request.Verdict.TheVariants as verdict
-use Rattle.stateful_exec.specs.declared.tables.Requested.{Requested}
-use Rattle.stateful_exec.specs.declared.walk.Acquired.TheVariants as acquired
+use Rattle.stateful_requests.specs.declared.pause.Pause.TheVariants.{Free}
+use Rattle.stateful_requests.specs.declared.request.Request.{Request}
+use Rattle.stateful_requests.specs.declared.request.Request.TheVariants.{Verify, Recover}
+use Rattle.stateful_requests.specs.declared.request.Verdict.TheVariants as verdict
+use Rattle.stateful_requests.specs.declared.tables.Requested.{Requested}
+use Rattle.stateful_requests.specs.declared.walk.Acquired.TheVariants as acquired
 use Rattle.stateful_standing.specs.Setting.{setting}
 use Rattle.stateful_standing.specs.Gathering.{gathered, but_last, last_of, AsksParents}
 use Rattle.stateful_standing.specs.Outstanding.{TicketsApart}

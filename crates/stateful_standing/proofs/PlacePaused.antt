@@ -16,14 +16,14 @@ use Rattle.stateful_history.specs.Setting.{Setting}
 use Rattle.stateful_history.specs.declared.event.Event.{Event}
 use Rattle.stateful_history.specs.declared.mark.Mark.{Mark}
 use Rattle.stateful_history.specs.declared.mark.Mark.TheVariants.{Withdrawn}
-use Rattle.stateful_exec.specs.Boundary.{Boundary}
-use Rattle.stateful_exec.specs.Fetching.{IsLiveFetch}
-use Rattle.stateful_exec.specs.Pausing.{Pauses}
+use Rattle.stateful_requests.specs.Boundary.{Boundary}
+use Rattle.stateful_requests.specs.Fetching.{IsLiveFetch}
+use Rattle.stateful_requests.specs.Pausing.{Pauses}
 use Rattle.stateful_exec.specs.Workings.{Workings, Point}
-use Rattle.stateful_exec.specs.declared.state.Tables.{Tables}
-use Rattle.stateful_exec.specs.declared.tables.Phase.{Phase}
-use Rattle.stateful_exec.specs.declared.tables.Phase.TheVariants.{Fetching}
-use Rattle.stateful_exec.specs.declared.tables.Requested.{Requested}
+use Rattle.stateful_requests.specs.declared.state.Tables.{Tables}
+use Rattle.stateful_requests.specs.declared.tables.Phase.{Phase}
+use Rattle.stateful_requests.specs.declared.tables.Phase.TheVariants.{Fetching}
+use Rattle.stateful_requests.specs.declared.tables.Requested.{Requested}
 use Rattle.stateful_standing.specs.Setting.{setting}
 use Rattle.stateful_standing.specs.Requesting.{IsInPhase, IsStanding}
 use Rattle.stateful_standing.specs.Standing.{TablesStand}

@@ -12,17 +12,18 @@ use Rattle.stateful_history.specs.declared.mark.JobKind.TheVariants.{Candidate}
 use Rattle.stateful_history.specs.declared.mark.Mark.{Mark}
 use Rattle.stateful_history.specs.declared.mark.Mark.TheVariants.{Ended}
 use Rattle.stateful_table.specs.Table.{at, put}
-use Rattle.stateful_exec.specs.Ending.{released, EndsRun, TurnsRun, Turns, InTurn, Follows}
+use Rattle.stateful_requests.specs.Fates.{released}
+use Rattle.stateful_exec.specs.Ending.{EndsRun, TurnsRun, Turns, InTurn, Follows}
 use Rattle.stateful_exec.specs.Moments.{Moment}
-use Rattle.stateful_exec.specs.Path.{Path}
-use Rattle.stateful_exec.specs.Phase.{is_on, path_on, released_on, tickets_on}
+use Rattle.stateful_requests.specs.Path.{Path}
+use Rattle.stateful_requests.specs.Phase.{is_on, path_on, released_on, tickets_on}
 use Rattle.stateful_exec.specs.Workings.{Workings, Point}
-use Rattle.stateful_exec.specs.declared.state.Tables.{Tables}
-use Rattle.stateful_exec.specs.declared.tables.LiveRun.{LiveRun}
-use Rattle.stateful_exec.specs.declared.tables.Phase.{Phase}
-use Rattle.stateful_exec.specs.declared.tables.Phase.TheVariants.{Open, Fetching, Waiting, Executing, Parked}
-use Rattle.stateful_exec.specs.declared.tables.Released.{Released}
-use Rattle.stateful_exec.specs.declared.tables.Requested.{Requested}
+use Rattle.stateful_requests.specs.declared.state.Tables.{Tables}
+use Rattle.stateful_requests.specs.declared.tables.LiveRun.{LiveRun}
+use Rattle.stateful_requests.specs.declared.tables.Phase.{Phase}
+use Rattle.stateful_requests.specs.declared.tables.Phase.TheVariants.{Open, Fetching, Waiting, Executing, Parked}
+use Rattle.stateful_requests.specs.declared.tables.Released.{Released}
+use Rattle.stateful_requests.specs.declared.tables.Requested.{Requested}
 use Rattle.stateful_standing.specs.Setting.{setting}
 use Rattle.stateful_standing.specs.Running.{IsRunning}
 use Rattle.stateful_standing.specs.Standing.{TablesStand}

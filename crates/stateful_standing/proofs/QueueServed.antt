@@ -9,7 +9,7 @@ use Rattle.stateful_history.specs.Setting.{Setting}
 use Rattle.stateful_history.specs.declared.event.Event.TheVariants.{Prepare, Propose}
 use Rattle.stateful_history.specs.declared.mark.Mark.{Mark}
 use Rattle.stateful_history.proofs.Marks.{Met-item, TrueNames-before_marks}
-use Rattle.stateful_exec.specs.declared.request.Proposal.{Proposal}
+use Rattle.stateful_requests.specs.declared.request.Proposal.{Proposal}
 use Rattle.stateful_exec.specs.Workings.{Workings}
 use Rattle.stateful_standing.specs.Setting.{setting}
 use Rattle.stateful_standing.specs.Reaching.{QueueReaches}

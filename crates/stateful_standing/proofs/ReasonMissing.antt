@@ -10,7 +10,7 @@ use Rattle.stateful_history.specs.Met.{Met, TrueNames}
 use Rattle.stateful_history.specs.Past.{Past}
 use Rattle.stateful_history.specs.Reasons.{Missing, itself, above, IsMissingAbove}
 use Rattle.stateful_history.specs.Setting.{Setting, parent_of}
-use Rattle.stateful_exec.specs.Rules.{first_or}
+use Rattle.stateful_requests.specs.Meeting.{first_or}
 use Rattle.stateful_standing.specs.Requesting.{LeadsDown}
 use Rattle.stateful_standing.proofs.Acquired.{leads_down}
 

@@ -10,13 +10,13 @@ use Rattle.stateful_history.specs.declared.event.Event.{Event}
 use Rattle.stateful_history.specs.declared.mark.Mark.{Mark}
 use Rattle.stateful_exec.specs.Moments.{Moment}
 use Rattle.stateful_exec.specs.Pausing.{GoesAlong, AcquiresAnew, unparked, unsettled, Resumes}
-use Rattle.stateful_exec.specs.Phase.{parked_path, parked_in, is_unacquired, unacquired_in}
+use Rattle.stateful_requests.specs.Phase.{parked_path, parked_in, is_unacquired, unacquired_in}
 use Rattle.stateful_exec.specs.Workings.{Workings, Point}
-use Rattle.stateful_exec.specs.declared.pause.Pause.TheVariants.{Free}
-use Rattle.stateful_exec.specs.declared.tables.Phase.{Phase}
-use Rattle.stateful_exec.specs.declared.tables.Phase.TheVariants.{Parked}
-use Rattle.stateful_exec.specs.declared.tables.Released.{Released}
-use Rattle.stateful_exec.specs.declared.tables.Requested.{Requested}
+use Rattle.stateful_requests.specs.declared.pause.Pause.TheVariants.{Free}
+use Rattle.stateful_requests.specs.declared.tables.Phase.{Phase}
+use Rattle.stateful_requests.specs.declared.tables.Phase.TheVariants.{Parked}
+use Rattle.stateful_requests.specs.declared.tables.Released.{Released}
+use Rattle.stateful_requests.specs.declared.tables.Requested.{Requested}
 use Rattle.stateful_standing.specs.Standing.{TablesStand}
 use Rattle.stateful_standing.specs.Ways.{IsOnOpenWay, WaysStand}
 use Rattle.stateful_standing.proofs.AnewStands as anew

@@ -10,14 +10,17 @@ use Rattle.stateful_history.specs.declared.mark.How.{How}
 use Rattle.stateful_history.specs.declared.mark.Mark.TheVariants.{Ended}
 use Rattle.stateful_cache.specs.Cache.{IsIn}
 use Rattle.stateful_cache.specs.declared.cache.Cached.{Cached}
-use Rattle.stateful_exec.specs.Boundary.{Boundary}
-use Rattle.stateful_exec.specs.Ending.{Takes, there, added, missed, IsTold, rejected, mismatched, agreed, Crosses}
+use Rattle.stateful_requests.specs.Boundary.{Boundary}
+use Rattle.stateful_requests.specs.Keeping.{Takes}
+use Rattle.stateful_exec.specs.Ending.{IsTold, rejected, mismatched, agreed}
+use Rattle.stateful_requests.specs.Keeping.{there, added, missed}
+use Rattle.stateful_requests.specs.Fates.{Crosses}
 use Rattle.stateful_exec.specs.Workings.{Workings}
-use Rattle.stateful_exec.specs.declared.pause.Pause.{Pause}
-use Rattle.stateful_exec.specs.declared.pause.Pause.TheVariants.{Free, Finalizing, Pruning}
-use Rattle.stateful_exec.specs.declared.request.Request.{Request}
-use Rattle.stateful_exec.specs.declared.tables.Phase.{Phase}
-use Rattle.stateful_exec.specs.declared.tables.Phase.TheVariants.{Open, Fetching, Waiting, Executing, Parked}
+use Rattle.stateful_requests.specs.declared.pause.Pause.{Pause}
+use Rattle.stateful_requests.specs.declared.pause.Pause.TheVariants.{Free, Finalizing, Pruning}
+use Rattle.stateful_requests.specs.declared.request.Request.{Request}
+use Rattle.stateful_requests.specs.declared.tables.Phase.{Phase}
+use Rattle.stateful_requests.specs.declared.tables.Phase.TheVariants.{Open, Fetching, Waiting, Executing, Parked}
 use Rattle.stateful_standing.specs.Ways.{IsParkedOn, IsOnOpenWay}
 use Rattle.stateful_standing.proofs.EarnedPaused.{IsClosedBy}
 use Rattle.stateful_standing.proofs.EndedKept.{Any-more}

@@ -14,15 +14,16 @@ use Rattle.stateful_history.specs.declared.mark.How.{How}
 use Rattle.stateful_history.specs.declared.mark.Mark.{Mark}
 use Rattle.stateful_history.specs.declared.mark.Mark.TheVariants.{Ended}
 use Rattle.stateful_table.specs.Table.{at, put, without}
-use Rattle.stateful_exec.specs.Ending.{released, IsTold, Crosses, EndsRun, TurnsRun, Turns, InTurn, Follows}
+use Rattle.stateful_requests.specs.Fates.{released, Crosses}
+use Rattle.stateful_exec.specs.Ending.{IsTold, EndsRun, TurnsRun, Turns, InTurn, Follows}
 use Rattle.stateful_exec.specs.Moments.{Moment, moment}
-use Rattle.stateful_exec.specs.Phase.{is_on, released_on}
+use Rattle.stateful_requests.specs.Phase.{is_on, released_on}
 use Rattle.stateful_exec.specs.Workings.{Workings, Point}
-use Rattle.stateful_exec.specs.declared.state.Tables.{Tables}
-use Rattle.stateful_exec.specs.declared.tables.LiveRun.{LiveRun}
-use Rattle.stateful_exec.specs.declared.tables.Phase.{Phase}
-use Rattle.stateful_exec.specs.declared.tables.Released.{Released}
-use Rattle.stateful_exec.specs.declared.tables.Requested.{Requested}
+use Rattle.stateful_requests.specs.declared.state.Tables.{Tables}
+use Rattle.stateful_requests.specs.declared.tables.LiveRun.{LiveRun}
+use Rattle.stateful_requests.specs.declared.tables.Phase.{Phase}
+use Rattle.stateful_requests.specs.declared.tables.Released.{Released}
+use Rattle.stateful_requests.specs.declared.tables.Requested.{Requested}
 use Rattle.stateful_standing.specs.Setting.{setting}
 use Rattle.stateful_standing.specs.Requesting.{steps}
 use Rattle.stateful_standing.specs.Running.{IsRunning}

@@ -19,10 +19,10 @@ use Rattle.stateful_cache.specs.Cache.{IsIn, IsAtHand}
 use Rattle.stateful_cache.specs.Judgement.{IsJudged}
 use Rattle.stateful_cache.specs.declared.cache.Cached.{Cached}
 use Rattle.stateful_cache.specs.declared.judgement.Judgement.TheVariants as judged
-use Rattle.stateful_exec.specs.Path.{IsMissing, Leads}
-use Rattle.stateful_exec.specs.Walk.{Walks}
+use Rattle.stateful_requests.specs.Path.{IsMissing, Leads}
+use Rattle.stateful_requests.specs.Walk.{Walks}
 use Rattle.stateful_exec.specs.Workings.{Workings, Point}
-use Rattle.stateful_exec.specs.declared.walk.Acquired.TheVariants as acquired
+use Rattle.stateful_requests.specs.declared.walk.Acquired.TheVariants as acquired
 use Rattle.stateful_standing.specs.Setting.{setting}
 use Rattle.stateful_standing.specs.Gathering.{AreLinked}
 use Rattle.stateful_standing.proofs.Acquired.{leads_down, first_walked}

@@ -12,8 +12,8 @@ use Rattle.std.proofs.lemmas.List.Kept.{IsStrictlySortedBy-filter}
 use Rattle.std.proofs.lemmas.Map.Keys.{sorted_head, sorted_tail}
 use Rattle.stateful_table.specs.Table.{at, without}
 use Rattle.stateful_table.proofs.Tables.{is_at_number, at-without}
-use Rattle.stateful_exec.specs.Phase.{is_on, tickets_on}
-use Rattle.stateful_exec.specs.declared.tables.Requested.{Requested}
+use Rattle.stateful_requests.specs.Phase.{is_on, tickets_on}
+use Rattle.stateful_requests.specs.declared.tables.Requested.{Requested}
 
 -- two numbers differ
 pub differ : (t u : ℕ) → u ≢ t → (t == u) ≡ false

@@ -13,17 +13,17 @@ use Rattle.stateful_history.specs.States.{HasState}
 use Rattle.stateful_history.specs.Telling.{telling_of}
 use Rattle.stateful_history.specs.Waiting.{Waits, fetch, abstention, run, build}
 use Rattle.stateful_table.specs.Table.{at}
-use Rattle.stateful_exec.specs.Fetching.{IsVerification}
-use Rattle.stateful_exec.specs.Path.{Path}
+use Rattle.stateful_requests.specs.Fetching.{IsVerification}
+use Rattle.stateful_requests.specs.Path.{Path}
 use Rattle.stateful_exec.specs.Workings.{Workings, Point}
-use Rattle.stateful_exec.specs.declared.request.Proposal.{Proposal}
-use Rattle.stateful_exec.specs.declared.request.Request.{Request}
-use Rattle.stateful_exec.specs.declared.request.Request.TheVariants.{Verify, Recover}
-use Rattle.stateful_exec.specs.declared.state.Tables.{Tables}
-use Rattle.stateful_exec.specs.declared.tables.LiveRun.{LiveRun}
-use Rattle.stateful_exec.specs.declared.tables.Phase.{Phase}
-use Rattle.stateful_exec.specs.declared.tables.Phase.TheVariants.{Open, Fetching, Waiting, Executing, Parked}
-use Rattle.stateful_exec.specs.declared.tables.Requested.{Requested}
+use Rattle.stateful_requests.specs.declared.request.Proposal.{Proposal}
+use Rattle.stateful_requests.specs.declared.request.Request.{Request}
+use Rattle.stateful_requests.specs.declared.request.Request.TheVariants.{Verify, Recover}
+use Rattle.stateful_requests.specs.declared.state.Tables.{Tables}
+use Rattle.stateful_requests.specs.declared.tables.LiveRun.{LiveRun}
+use Rattle.stateful_requests.specs.declared.tables.Phase.{Phase}
+use Rattle.stateful_requests.specs.declared.tables.Phase.TheVariants.{Open, Fetching, Waiting, Executing, Parked}
+use Rattle.stateful_requests.specs.declared.tables.Requested.{Requested}
 use Rattle.stateful_standing.specs.Setting.{setting}
 use Rattle.stateful_standing.specs.Outstanding.{TicketsApart, GoesOnTurning, RunsGoOn}
 use Rattle.stateful_standing.specs.Requesting.{AllAbstain, first_of, IsRequestOf, IsWayOf, IsInPhase, IsStanding}

@@ -10,13 +10,13 @@ use Rattle.stateful_types.specs.Names.{Header}
 use Rattle.stateful_types.specs.Round.{IsLater}
 use Rattle.stateful_types.specs.declared.digest.Digest.{Digest}
 use Rattle.stateful_types.specs.declared.round.Round.{Round}
-use Rattle.stateful_exec.specs.Boundary.{Boundary, step_by, IsRetained}
-use Rattle.stateful_exec.specs.Pausing.{IsAwaited, IsCount, none, one, other, AwaitsRuns}
-use Rattle.stateful_exec.specs.declared.boundary.ExecutionStep.{ExecutionStep}
-use Rattle.stateful_exec.specs.declared.pause.Pause.{Pause}
-use Rattle.stateful_exec.specs.declared.pause.Pause.TheVariants.{Finalizing}
-use Rattle.stateful_exec.specs.declared.state.Tables.{Tables}
-use Rattle.stateful_exec.specs.declared.tables.LiveRun.{LiveRun}
+use Rattle.stateful_requests.specs.Boundary.{Boundary, step_by, IsRetained}
+use Rattle.stateful_requests.specs.Pausing.{IsAwaited, IsCount, none, one, other, AwaitsRuns}
+use Rattle.stateful_requests.specs.declared.boundary.ExecutionStep.{ExecutionStep}
+use Rattle.stateful_requests.specs.declared.pause.Pause.{Pause}
+use Rattle.stateful_requests.specs.declared.pause.Pause.TheVariants.{Finalizing}
+use Rattle.stateful_requests.specs.declared.state.Tables.{Tables}
+use Rattle.stateful_requests.specs.declared.tables.LiveRun.{LiveRun}
 use Rattle.stateful_standing.proofs.EndedPoints.{same_or_not}
 
 later_or_not : (a b : Round) → IsLater a b ⊎ (IsLater a b → ⊥)

@@ -9,15 +9,16 @@ use Rattle.stateful_history.specs.Met.{Met, Brings}
 use Rattle.stateful_history.specs.declared.mark.JobKind.TheVariants.{Candidate}
 use Rattle.stateful_history.specs.declared.mark.Mark.TheVariants.{Declined, Started, Verdict}
 use Rattle.stateful_exec.specs.Moments.{Moment, Becomes}
-use Rattle.stateful_exec.specs.Rules.{moved, told, ended, Concludes, Launches}
+use Rattle.stateful_requests.specs.Tables.{moved, told, ended}
+use Rattle.stateful_exec.specs.Rules.{Concludes, Launches}
 use Rattle.stateful_exec.specs.Workings.{Workings, Point}
-use Rattle.stateful_exec.specs.declared.request.Request.{Request}
-use Rattle.stateful_exec.specs.declared.request.Request.TheVariants.{Verify, Recover}
-use Rattle.stateful_exec.specs.declared.request.Verdict.TheVariants.{Valid, Invalid}
-use Rattle.stateful_exec.specs.declared.request.Verdict.{Verdict as Verdicts}
-use Rattle.stateful_exec.specs.declared.tables.Phase.{Phase}
-use Rattle.stateful_exec.specs.declared.tables.Phase.TheVariants.{Waiting}
-use Rattle.stateful_exec.specs.declared.tables.Requested.{Requested}
+use Rattle.stateful_requests.specs.declared.request.Request.{Request}
+use Rattle.stateful_requests.specs.declared.request.Request.TheVariants.{Verify, Recover}
+use Rattle.stateful_requests.specs.declared.request.Verdict.TheVariants.{Valid, Invalid}
+use Rattle.stateful_requests.specs.declared.request.Verdict.{Verdict as Verdicts}
+use Rattle.stateful_requests.specs.declared.tables.Phase.{Phase}
+use Rattle.stateful_requests.specs.declared.tables.Phase.TheVariants.{Waiting}
+use Rattle.stateful_requests.specs.declared.tables.Requested.{Requested}
 use Rattle.stateful_standing.specs.Setting.{setting}
 use Rattle.stateful_standing.specs.Requesting.{first_of, brought_by, IsInPhase, AllAbstain}
 use Rattle.stateful_standing.specs.Standing.{TablesStand, IsInHand, StandsBehind}

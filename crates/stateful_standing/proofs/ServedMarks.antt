@@ -17,15 +17,16 @@ use Rattle.stateful_history.specs.declared.mark.Mark.{Mark}
 use Rattle.stateful_history.specs.declared.mark.Mark.TheVariants.{Asked, Started, Verdict, Declined}
 use Rattle.stateful_exec.specs.Ending.{Follows, given_up, at_boundary, failed, parked, goes_on}
 use Rattle.stateful_exec.specs.Moments.{Moment}
-use Rattle.stateful_exec.specs.Path.{Path}
-use Rattle.stateful_exec.specs.Rules.{told, requested, Concludes, Advances, arrives, leaves, joins, starts, misses, Acquires, valid, invalid, asks, waits, runs}
+use Rattle.stateful_requests.specs.Path.{Path}
+use Rattle.stateful_requests.specs.Tables.{told, requested}
+use Rattle.stateful_exec.specs.Rules.{Concludes, Advances, arrives, leaves, joins, starts, misses, Acquires, valid, invalid, asks, waits, runs}
 use Rattle.stateful_exec.specs.Workings.{Workings}
-use Rattle.stateful_exec.specs.declared.request.Request.{Request}
-use Rattle.stateful_exec.specs.declared.request.Request.TheVariants.{Verify, Recover}
-use Rattle.stateful_exec.specs.declared.request.Verdict as said
-use Rattle.stateful_exec.specs.declared.request.Verdict.TheVariants as verdict
-use Rattle.stateful_exec.specs.declared.tables.Released.{Released}
-use Rattle.stateful_exec.specs.declared.tables.Requested.{Requested}
+use Rattle.stateful_requests.specs.declared.request.Request.{Request}
+use Rattle.stateful_requests.specs.declared.request.Request.TheVariants.{Verify, Recover}
+use Rattle.stateful_requests.specs.declared.request.Verdict as said
+use Rattle.stateful_requests.specs.declared.request.Verdict.TheVariants as verdict
+use Rattle.stateful_requests.specs.declared.tables.Released.{Released}
+use Rattle.stateful_requests.specs.declared.tables.Requested.{Requested}
 use Rattle.stateful_standing.specs.Outstanding.{TicketsApart}
 use Rattle.stateful_standing.proofs.Calm.{IsCalm, Known-before}
 use Rattle.stateful_standing.proofs.KeptMarks.{KeepsBehind}

@@ -16,7 +16,7 @@ use Rattle.stateful_history.specs.declared.mark.JobKind.TheVariants.{Candidate}
 use Rattle.stateful_history.specs.declared.mark.Mark.TheVariants.{Started, Ended, Answered}
 use Rattle.stateful_table.specs.Table.{at}
 use Rattle.stateful_exec.specs.Workings.{Workings, Point}
-use Rattle.stateful_exec.specs.declared.state.Tables.{Tables}
+use Rattle.stateful_requests.specs.declared.state.Tables.{Tables}
 use Rattle.stateful_standing.specs.Standing.{NumbersStand, TablesStand}
 use Rattle.stateful_standing.proofs.Calm.{LeavesJob}
 use Rattle.stateful_standing.proofs.Removing.{differ, none_at}

@@ -23,8 +23,8 @@ use Rattle.stateful_table.specs.Table.{at, put}
 use Rattle.stateful_table.proofs.Tables.{is_at_number}
 use Rattle.stateful_exec.specs.Starting.{IsFresh, StartsRun}
 use Rattle.stateful_exec.specs.Workings.{Workings, Point}
-use Rattle.stateful_exec.specs.declared.state.Tables.{Tables}
-use Rattle.stateful_exec.specs.declared.tables.LiveRun.{LiveRun}
+use Rattle.stateful_requests.specs.declared.state.Tables.{Tables}
+use Rattle.stateful_requests.specs.declared.tables.LiveRun.{LiveRun}
 use Rattle.stateful_standing.specs.Setting.{setting}
 use Rattle.stateful_standing.specs.Caching.{IsCached, CacheStands}
 use Rattle.stateful_standing.specs.Running.{IsRunning, RunsStand}

@@ -14,7 +14,7 @@ use Rattle.stateful_history.specs.declared.mark.How.{How}
 use Rattle.stateful_exec.specs.Ending.{TurnsRun, SettlesBy, Steps}
 use Rattle.stateful_exec.specs.Moments.{Moment}
 use Rattle.stateful_exec.specs.Workings.{Workings, Point}
-use Rattle.stateful_exec.specs.declared.state.Tables.{Tables}
+use Rattle.stateful_requests.specs.declared.state.Tables.{Tables}
 use Rattle.stateful_standing.specs.Setting.{setting}
 use Rattle.stateful_standing.specs.Standing.{TablesStand, StandsBehind}
 use Rattle.stateful_standing.proofs.EndedKept.{IsRoundOf}

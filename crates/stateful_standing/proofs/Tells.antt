@@ -8,7 +8,7 @@ use Rattle.stateful_history.specs.Past.{Past, Item, Came, Made}
 use Rattle.stateful_history.specs.declared.event.Event.TheVariants.{Verify, Prepare, Propose, Subscribe, Finalized}
 use Rattle.stateful_history.specs.declared.mark.Mark.TheVariants.{Acknowledged, Databases, BarrierBegun, BarrierDone, Pruned}
 use Rattle.stateful_exec.specs.Workings.{Workings}
-use Rattle.stateful_exec.specs.declared.state.Tables.{Tables}
+use Rattle.stateful_requests.specs.declared.state.Tables.{Tables}
 use Rattle.stateful_standing.specs.Setting.{setting}
 use Rattle.stateful_standing.proofs.Calm.{IsCalm, LeavesJob}
 use Rattle.stateful_standing.proofs.Asking.{LeavesTicket, LeavesFetch}

@@ -7,18 +7,20 @@ use Rattle.stateful_types.specs.declared.digest.Digest.{Digest}
 use Rattle.stateful_history.specs.Met.{Met}
 use Rattle.stateful_history.specs.Past.{Past}
 use Rattle.stateful_exec.specs.Moments.{Moment}
-use Rattle.stateful_exec.specs.Path.{Path, IsMissing}
-use Rattle.stateful_exec.specs.Rules.{first_or, requested, Acquires, valid, invalid, asks, waits, runs}
-use Rattle.stateful_exec.specs.Walk.{IsPrepared}
-use Rattle.stateful_exec.specs.Walk as walk
+use Rattle.stateful_requests.specs.Path.{Path, IsMissing}
+use Rattle.stateful_requests.specs.Meeting.{first_or}
+use Rattle.stateful_requests.specs.Tables.{requested}
+use Rattle.stateful_exec.specs.Rules.{Acquires, valid, invalid, asks, waits, runs}
+use Rattle.stateful_requests.specs.Walk.{IsPrepared}
+use Rattle.stateful_requests.specs.Walk as walk
 use Rattle.stateful_exec.specs.Workings.{Workings, Point}
-use Rattle.stateful_exec.specs.declared.pause.Pause.TheVariants.{Free}
-use Rattle.stateful_exec.specs.declared.request.Request.{Request}
-use Rattle.stateful_exec.specs.declared.request.Request.TheVariants.{Verify, Recover}
-use Rattle.stateful_exec.specs.declared.request.Verdict.TheVariants as verdict
-use Rattle.stateful_exec.specs.declared.tables.Phase.TheVariants.{Fetching, Waiting}
-use Rattle.stateful_exec.specs.declared.tables.Requested.{Requested}
-use Rattle.stateful_exec.specs.declared.walk.Acquired.TheVariants as acquired
+use Rattle.stateful_requests.specs.declared.pause.Pause.TheVariants.{Free}
+use Rattle.stateful_requests.specs.declared.request.Request.{Request}
+use Rattle.stateful_requests.specs.declared.request.Request.TheVariants.{Verify, Recover}
+use Rattle.stateful_requests.specs.declared.request.Verdict.TheVariants as verdict
+use Rattle.stateful_requests.specs.declared.tables.Phase.TheVariants.{Fetching, Waiting}
+use Rattle.stateful_requests.specs.declared.tables.Requested.{Requested}
+use Rattle.stateful_requests.specs.declared.walk.Acquired.TheVariants as acquired
 use Rattle.stateful_standing.specs.Setting.{setting}
 use Rattle.stateful_standing.specs.Requesting.{first_of, brought_by}
 use Rattle.stateful_standing.specs.Standing.{IsInHand}

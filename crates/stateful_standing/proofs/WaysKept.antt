@@ -10,22 +10,25 @@ use Rattle.stateful_history.specs.declared.mark.How.{How}
 use Rattle.stateful_cache.specs.Cache.{IsIn}
 use Rattle.stateful_cache.specs.declared.cache.Cached.{Cached}
 use Rattle.stateful_table.specs.Table.{put}
-use Rattle.stateful_exec.specs.Ending.{AwaitsBoundary, Follows, given_up, at_boundary, failed, parked, goes_on}
+use Rattle.stateful_requests.specs.Fates.{AwaitsBoundary}
+use Rattle.stateful_exec.specs.Ending.{Follows, given_up, at_boundary, failed, parked, goes_on}
 use Rattle.stateful_exec.specs.Moments.{Moment}
-use Rattle.stateful_exec.specs.Path.{Path}
-use Rattle.stateful_exec.specs.Rules.{ended, requested, Concludes, Reaches, Advances, arrives, leaves, joins, starts, misses}
+use Rattle.stateful_requests.specs.Path.{Path}
+use Rattle.stateful_requests.specs.Tables.{ended, requested}
+use Rattle.stateful_exec.specs.Rules.{Concludes, Advances, arrives, leaves, joins, starts, misses}
+use Rattle.stateful_requests.specs.Meeting.{Reaches}
 use Rattle.stateful_exec.specs.Workings.{Workings}
-use Rattle.stateful_exec.specs.declared.pause.Pause.{Pause}
-use Rattle.stateful_exec.specs.declared.pause.Pause.TheVariants.{Free, Finalizing, Pruning}
-use Rattle.stateful_exec.specs.declared.request.Request.{Request}
-use Rattle.stateful_exec.specs.declared.request.Request.TheVariants.{Verify, Recover}
-use Rattle.stateful_exec.specs.declared.request.Verdict.{Verdict}
-use Rattle.stateful_exec.specs.declared.request.Verdict.TheVariants as verdict
-use Rattle.stateful_exec.specs.declared.state.Tables.{Tables}
-use Rattle.stateful_exec.specs.declared.tables.Phase.{Phase}
-use Rattle.stateful_exec.specs.declared.tables.Phase.TheVariants.{Open, Fetching, Waiting, Executing, Parked}
-use Rattle.stateful_exec.specs.declared.tables.Released.{Released}
-use Rattle.stateful_exec.specs.declared.tables.Requested.{Requested}
+use Rattle.stateful_requests.specs.declared.pause.Pause.{Pause}
+use Rattle.stateful_requests.specs.declared.pause.Pause.TheVariants.{Free, Finalizing, Pruning}
+use Rattle.stateful_requests.specs.declared.request.Request.{Request}
+use Rattle.stateful_requests.specs.declared.request.Request.TheVariants.{Verify, Recover}
+use Rattle.stateful_requests.specs.declared.request.Verdict.{Verdict}
+use Rattle.stateful_requests.specs.declared.request.Verdict.TheVariants as verdict
+use Rattle.stateful_requests.specs.declared.state.Tables.{Tables}
+use Rattle.stateful_requests.specs.declared.tables.Phase.{Phase}
+use Rattle.stateful_requests.specs.declared.tables.Phase.TheVariants.{Open, Fetching, Waiting, Executing, Parked}
+use Rattle.stateful_requests.specs.declared.tables.Released.{Released}
+use Rattle.stateful_requests.specs.declared.tables.Requested.{Requested}
 use Rattle.stateful_standing.specs.Setting.{setting}
 use Rattle.stateful_standing.specs.Requesting.{first_of, steps}
 use Rattle.stateful_standing.specs.Ways.{IsParkedOn, KeepOff, IsUnsettled, IsOnOpenWay, WaysStand}

@@ -6,7 +6,7 @@ use Rattle.stateful_history.specs.Past.{Past, after}
 use Rattle.stateful_history.specs.declared.mark.Mark.{Mark}
 use Rattle.stateful_exec.specs.Moments.{Moment}
 use Rattle.stateful_exec.specs.Workings.{Workings}
-use Rattle.stateful_exec.specs.declared.state.Tables.{Tables}
+use Rattle.stateful_requests.specs.declared.state.Tables.{Tables}
 use Rattle.stateful_standing.specs.Outstanding.{RunsGoOn}
 use Rattle.stateful_standing.specs.Reaching.{QueueReaches}
 

@@ -8,11 +8,11 @@ use Rattle.stateful_history.specs.Anchors.{tip_of}
 use Rattle.stateful_history.specs.Met.{Met}
 use Rattle.stateful_history.specs.Past.{Past}
 use Rattle.stateful_cache.specs.declared.cache.Cached.{Cached}
-use Rattle.stateful_exec.specs.Boundary.{Boundary, step_by, IsRetained}
-use Rattle.stateful_exec.specs.Ending.{step_in}
+use Rattle.stateful_requests.specs.Boundary.{Boundary, step_by, IsRetained}
+use Rattle.stateful_requests.specs.Keeping.{step_in}
 use Rattle.stateful_exec.specs.Workings.{Workings}
-use Rattle.stateful_exec.specs.declared.pause.Pause.TheVariants.{Finalizing}
-use Rattle.stateful_exec.specs.declared.state.Tables.{Tables}
+use Rattle.stateful_requests.specs.declared.pause.Pause.TheVariants.{Finalizing}
+use Rattle.stateful_requests.specs.declared.state.Tables.{Tables}
 use Rattle.stateful_standing.specs.Setting.{setting}
 
 module _ {B C I P R D H G U : Type 0} (w : Workings B C I P R D H G U)

@@ -9,7 +9,7 @@ use Rattle.stateful_exec.specs.Building.{StartsBuild, IsNewBuild}
 use Rattle.stateful_exec.specs.Starting.{StartsRun, IsFresh}
 use Rattle.stateful_exec.specs.Workings.{Workings, Point}
 use Rattle.stateful_exec.specs.declared.building.Building.{Building}
-use Rattle.stateful_exec.specs.declared.state.Tables.{Tables}
+use Rattle.stateful_requests.specs.declared.state.Tables.{Tables}
 use Rattle.stateful_standing.specs.Setting.{setting}
 use Rattle.stateful_standing.specs.Standing.{TablesStand}
 

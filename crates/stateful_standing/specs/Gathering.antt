@@ -10,10 +10,10 @@ use Rattle.stateful_history.specs.Past.{Past}
 use Rattle.stateful_history.specs.Setting.{Setting, parent_of}
 use Rattle.stateful_history.specs.Honest.{Descends, IsHonest, IsAnswered}
 use Rattle.stateful_table.specs.Table.{at}
-use Rattle.stateful_exec.specs.declared.request.Request.{Request}
-use Rattle.stateful_exec.specs.declared.request.Request.TheVariants.{Verify, Recover}
-use Rattle.stateful_exec.specs.declared.tables.Phase.TheVariants.{Fetching}
-use Rattle.stateful_exec.specs.declared.tables.Requested.{Requested}
+use Rattle.stateful_requests.specs.declared.request.Request.{Request}
+use Rattle.stateful_requests.specs.declared.request.Request.TheVariants.{Verify, Recover}
+use Rattle.stateful_requests.specs.declared.tables.Phase.TheVariants.{Fetching}
+use Rattle.stateful_requests.specs.declared.tables.Requested.{Requested}
 
 -- the first block of what is asked, and its ancestors in the order in which they are walked
 abbrev pub gathered : {B C I : Type 0} → Request B C I → List (Named B) → List (Named B)

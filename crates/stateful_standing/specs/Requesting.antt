@@ -12,20 +12,20 @@ use Rattle.stateful_history.specs.Asked.{asked_for}
 use Rattle.stateful_history.specs.Requests.{IsLiveVerification, IsLiveProposal}
 use Rattle.stateful_history.specs.Fetches.{Abstains}
 use Rattle.stateful_table.specs.Table.{at}
-use Rattle.stateful_exec.specs.Fetching.{IsVerification}
-use Rattle.stateful_exec.specs.Path.{Path, Descends}
-use Rattle.stateful_exec.specs.Phase.{tickets_on}
-use Rattle.stateful_exec.specs.Request.{ticket_by}
-use Rattle.stateful_exec.specs.Rules.{first_or}
-use Rattle.stateful_exec.specs.declared.request.Proposal.{Proposal}
+use Rattle.stateful_requests.specs.Fetching.{IsVerification}
+use Rattle.stateful_requests.specs.Path.{Path, Descends}
+use Rattle.stateful_requests.specs.Phase.{tickets_on}
+use Rattle.stateful_requests.specs.Request.{ticket_by}
+use Rattle.stateful_requests.specs.Meeting.{first_or}
+use Rattle.stateful_requests.specs.declared.request.Proposal.{Proposal}
 use Rattle.stateful_exec.specs.Workings.{Workings}
-use Rattle.stateful_exec.specs.declared.request.Request.{Request}
-use Rattle.stateful_exec.specs.declared.request.Request.TheVariants.{Verify, Recover}
-use Rattle.stateful_exec.specs.declared.tables.LiveRun.{LiveRun}
-use Rattle.stateful_exec.specs.declared.tables.Phase.{Phase}
-use Rattle.stateful_exec.specs.declared.tables.Phase.TheVariants.{Open, Fetching, Waiting}
-use Rattle.stateful_exec.specs.declared.tables.Phase.TheVariants.{Executing, Parked}
-use Rattle.stateful_exec.specs.declared.tables.Requested.{Requested}
+use Rattle.stateful_requests.specs.declared.request.Request.{Request}
+use Rattle.stateful_requests.specs.declared.request.Request.TheVariants.{Verify, Recover}
+use Rattle.stateful_requests.specs.declared.tables.LiveRun.{LiveRun}
+use Rattle.stateful_requests.specs.declared.tables.Phase.{Phase}
+use Rattle.stateful_requests.specs.declared.tables.Phase.TheVariants.{Open, Fetching, Waiting}
+use Rattle.stateful_requests.specs.declared.tables.Phase.TheVariants.{Executing, Parked}
+use Rattle.stateful_requests.specs.declared.tables.Requested.{Requested}
 use Rattle.stateful_standing.specs.Setting.{setting}
 
 -- the first block of what is asked: the one to judge, or the one to build on

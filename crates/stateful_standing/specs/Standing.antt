@@ -10,9 +10,9 @@ use Rattle.stateful_history.specs.Jobs.{started_for, turns}
 use Rattle.stateful_table.specs.Table.{at}
 use Rattle.stateful_exec.specs.Workings.{Workings, Point}
 use Rattle.stateful_exec.specs.Moments.{Moment}
-use Rattle.stateful_exec.specs.Request.{ticket_by}
-use Rattle.stateful_exec.specs.declared.request.Request.{Request}
-use Rattle.stateful_exec.specs.declared.state.Tables.{Tables}
+use Rattle.stateful_requests.specs.Request.{ticket_by}
+use Rattle.stateful_requests.specs.declared.request.Request.{Request}
+use Rattle.stateful_requests.specs.declared.state.Tables.{Tables}
 use Rattle.stateful_standing.specs.Setting.{setting}
 use Rattle.stateful_standing.specs.Caching.{CacheStands}
 use Rattle.stateful_standing.specs.Requesting.{brought_by, IsRequestOf, RequestsStand, AllAbstain}

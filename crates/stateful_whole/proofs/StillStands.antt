@@ -2,7 +2,7 @@
 use Rattle.std.proofs.Common.{◌≡◌, ◌≢◌, ◌≤◌, ◌<◌, [], ℕ, Bool, true, false, Option, None, arith, sym, ◌∙◌, true≢false}
 use Rattle.stateful_types.specs.Names.{Named}
 use Rattle.stateful_history.specs.Past.{Past}
-use Rattle.stateful_exec.specs.Starting.{Rises}
+use Rattle.stateful_requests.specs.Tables.{Rises}
 use Rattle.stateful_exec.specs.Workings.{Workings}
 use Rattle.stateful_register.specs.Register.{RegisterStands}
 use Rattle.stateful_register.specs.declared.register.Register.{Register}

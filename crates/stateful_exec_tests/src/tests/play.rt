@@ -2,7 +2,7 @@
 
 ghost use Rattle.std.specs.Prelude.{◌≡◌, None, IfOk};
 ghost use Rattle.stateful_table.specs.Table.{at};
-ghost use Rattle.stateful_exec.specs.Request.{ticket_by};
+ghost use Rattle.stateful_requests.specs.Request.{ticket_by};
 
 use super::blocks::{COUNT, blocks, round};
 use crate::{End, Fake, FakeBlock, Order};

@@ -1,0 +1,13 @@
+pub mod Tests
+pub mod Walking
+pub mod Skipping
+pub mod Entries
+pub mod Cancelling
+pub mod Keeping
+pub mod Fates
+pub mod Cuts
+pub mod Queues
+pub mod Releasing
+pub mod Rebuilding
+pub mod Pauses
+pub mod Steps

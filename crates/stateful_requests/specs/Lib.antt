@@ -1,0 +1,15 @@
+pub mod Boundary
+pub mod Errors
+pub mod Request
+pub mod Path
+pub mod Phase
+pub mod Walk
+pub mod Tables
+pub mod Meeting
+pub mod Keeping
+pub mod Fates
+pub mod Fetching
+pub mod Cancelling
+pub mod Pausing
+pub mod Stepping
+pub mod Queueing

@@ -1,0 +1,32 @@
+//! The tables of execution: requests with what they need, live runs, pauses, and the walks of
+//! requests through their ancestors. Nothing here knows an application.
+#![tactic(auto)]
+
+mod boundary;
+mod cutting;
+mod error;
+mod met;
+mod path;
+mod pause;
+mod pausing;
+mod queued;
+mod queueing;
+mod request;
+mod serving;
+mod state;
+mod stepping;
+mod tables;
+mod tickets;
+mod walk;
+
+pub use boundary::{Disposition, ExecutionStep, FinalizationBoundary};
+pub use error::{ExecError, ProposalFault};
+pub use met::Met;
+pub use path::ReplayPath;
+pub use pause::Pause;
+pub use queued::Queued;
+pub use request::{Proposal, Request, Verdict};
+pub use state::Tables;
+pub use tables::{Fate, LiveRun, Phase, Released, Requested};
+pub use tickets::Tickets;
+pub use walk::{Acquired, prepare};
