@@ -65,65 +65,68 @@ module _ (u : PlainUnmerkleized) where
   -- a read of a batch that may still change
   pub draft_value : (p : ℕ × Whole) (c : List (ℕ × Whole)) (key : ℕ) → DraftShows u (p ∷ c)
       → value_at p.1.entries key ≡ value_over u.writes.entries key (value_through u.below.layers key (value_at u.base.entries key))
-  draft_value p [] key h = absurd h
+  draft_value p [] key h = absurd h.stands
   draft_value p (q ∷ c) key h =
-      h.gives.values key ∙ ap (λ o. value_over u.writes.entries key o) (layers_show u.below.base u.below.layers q c u.base key h.layers h.base)
+      h.stands.gives.values key ∙ ap (λ o. value_over u.writes.entries key o) (layers_show u.below.base u.below.layers q c u.base key h.stands.layers h.stands.base)
 
   -- its ids
   pub draft_has : (c : List (ℕ × Whole)) (n : ℕ) → DraftShows u c → has_id c n ≡ ((u.id == n) || has_layer u.below n)
-  draft_has [] n h = absurd h
-  draft_has (p ∷ []) n h = absurd h
+  draft_has [] n h = absurd h.stands
+  draft_has (p ∷ []) n h = absurd h.stands
   draft_has (p ∷ q ∷ c) n h =
-      ap (λ i. (i == n) || has_id (q ∷ c) n) h.id
-      ∙ ap (λ b. (u.id == n) || b) (has_id-layers After u.below.base u.below.layers (q ∷ c) n h.layers)
+      ap (λ i. (i == n) || has_id (q ∷ c) n) h.stands.id
+      ∙ ap (λ b. (u.id == n) || b) (has_id-layers After u.below.base u.below.layers (q ∷ c) n h.stands.layers)
 
   -- none of its layers has its own id
   pub draft_layers : (c : List (ℕ × Whole)) → DraftShows u c → above u.id u.below.layers ≡ u.below.layers
-  draft_layers [] h = absurd h
-  draft_layers (p ∷ []) h = absurd h
-  draft_layers (p ∷ q ∷ c) h = above_all u.below.base u.id u.below.layers q c h.layers (omega (arith, h.id, h.later))
+  draft_layers [] h = absurd h.stands
+  draft_layers (p ∷ []) h = absurd h.stands
+  draft_layers (p ∷ q ∷ c) h = above_all u.below.base u.id u.below.layers q c h.stands.layers (omega (arith, h.stands.id, h.stands.later))
 
   -- a state that has what it reads is the one that it shows
   pub draft_state : (p : ℕ × Whole) (c : List (ℕ × Whole)) (s : Whole) → DraftShows u (p ∷ c) → s.size ≡ u.size + 1 → IsInOrder s.entries
       → ((key : ℕ) → value_at s.entries key ≡ value_over u.writes.entries key (value_through u.below.layers key (value_at u.base.entries key)))
       → s ≡ p.1
-  draft_state p [] s h size up reads = absurd h
+  draft_state p [] s h size up reads = absurd h.stands
   draft_state p (q ∷ c) s h size up reads =
       gives_one u.writes.entries q.1 s p.1
       (record {
-        size = size ∙ ap (λ n. n + 1) h.size;
+        size = size ∙ ap (λ n. n + 1) h.stands.size;
         ordered = up;
-        values = λ key. reads key ∙ sym (ap (λ o. value_over u.writes.entries key o) (layers_show u.below.base u.below.layers q c u.base key h.layers h.base));
+        values = λ key. reads key ∙ sym (ap (λ o. value_over u.writes.entries key o) (layers_show u.below.base u.below.layers q c u.base key h.stands.layers h.stands.base));
       })
-      h.gives
+      h.stands.gives
 
   -- it has one write more
   pub draft_write : (writes : BTreeMap ℕ (Option ℕ)) (p : ℕ × Whole) (c : List (ℕ × Whole)) (key : ℕ) (value : Option ℕ) → writes.entries ≡ insert_entry nat_cmp u.writes.entries key value
       → DraftShows u (p ∷ c) → DraftShows (record u { writes = writes }) ((p.0, record p.1 { entries = put p.1.entries key value }) ∷ c)
-  draft_write writes p [] key value is h = absurd h
+  draft_write writes p [] key value is h = absurd h.stands
   draft_write writes p (q ∷ c) key value is h = record {
-    id = h.id;
-    later = h.later;
-    layers = h.layers;
-    base = h.base;
-    size = h.size;
-    gives = gives_put u.writes.entries writes.entries q.1 p.1 key value is h.gives;
+    stands =
+        record {
+          id = h.stands.id;
+          later = h.stands.later;
+          layers = h.stands.layers;
+          base = h.stands.base;
+          size = h.stands.size;
+          gives = gives_put u.writes.entries writes.entries q.1 p.1 key value is h.stands.gives;
+        };
   }
 
   -- its changes as a layer are its seal
   pub draft_seals : (m : PlainMerkleized) (target : Target) → m.layer ≡ (u.id, record { writes = u.writes.entries; target = target }) → m.below ≡ u.below → m.base ≡ u.base
       → ((p : ℕ × Whole) (c : List (ℕ × Whole)) → DraftShows u (p ∷ c) → target ≡ target_of p.1)
       → (c : List (ℕ × Whole)) → DraftShows u c → SealShows m c
-  draft_seals m target layer below base leads [] h = absurd h
-  draft_seals m target layer below base leads (p ∷ []) h = absurd h
+  draft_seals m target layer below base leads [] h = absurd h.stands
+  draft_seals m target layer below base leads (p ∷ []) h = absurd h.stands
   draft_seals m target layer below base leads (p ∷ q ∷ c) h =
       let top : ℕ × Change = (u.id, record { writes = u.writes.entries; target = target }) in
       let L : ℕ × Change → Type 0 = λ l. Stands After m.below.base (l ∷ m.below.layers) (p ∷ q ∷ c) in
       let S : Stack Change → Type 0 = λ s. Stands After s.base (top ∷ s.layers) (p ∷ q ∷ c) in
       let E : Whole → Type 0 = λ w. EndsAt (p ∷ q ∷ c) w in
       record {
-        layers = subst L (sym layer) (subst S (sym below) (sym h.id, (h.later, ((h.gives, leads p (q ∷ c) h), h.layers))));
-        base = subst E (sym base) h.base;
+        layers = subst L (sym layer) (subst S (sym below) (sym h.stands.id, (h.stands.later, ((h.stands.gives, leads p (q ∷ c) h), h.stands.layers))));
+        base = subst E (sym base) h.stands.base;
       }
 
   -- the layers that a database at a point of its chain has taken in are dropped
@@ -132,19 +135,22 @@ module _ (u : PlainUnmerkleized) where
   draft_cut v r q p newer older is h =
       let Shows : PlainUnmerkleized → Type 0 = λ w. DraftShows w (r ∷ q ∷ newer ++ p ∷ []) in
       subst Shows (sym is) (record {
-        id = h.id;
-        later = h.later;
-        layers = stands-cut After u.below (q ∷ newer) older p h.layers;
-        base = ends_at (q ∷ newer) p;
-        size = h.size;
-        gives = h.gives;
+        stands =
+            record {
+              id = h.stands.id;
+              later = h.stands.later;
+              layers = stands-cut After u.below (q ∷ newer) older p h.stands.layers;
+              base = ends_at (q ∷ newer) p;
+              size = h.stands.size;
+              gives = h.stands.gives;
+            };
       })
 
   -- a point of its parent's chain is the base or a layer
   pub draft_at : (r q p : ℕ × Whole) (newer older : List (ℕ × Whole)) → DraftShows u (r ∷ q ∷ newer ++ p ∷ older) → has_layer u.below p.0 ≡ true
   draft_at r q p newer older h =
-      sym (has_id-layers After u.below.base u.below.layers (q ∷ newer ++ p ∷ older) p.0 h.layers) ∙ has_point (q ∷ newer) older p
+      sym (has_id-layers After u.below.base u.below.layers (q ∷ newer ++ p ∷ older) p.0 h.stands.layers) ∙ has_point (q ∷ newer) older p
 
   -- one that isn't is neither
   pub draft_apart : (r q : ℕ × Whole) (c : List (ℕ × Whole)) (n : ℕ) → DraftShows u (r ∷ q ∷ c) → has_id (q ∷ c) n ≡ false → has_layer u.below n ≡ false
-  draft_apart r q c n h none = sym (has_id-layers After u.below.base u.below.layers (q ∷ c) n h.layers) ∙ none
+  draft_apart r q c n h none = sym (has_id-layers After u.below.base u.below.layers (q ∷ c) n h.stands.layers) ∙ none

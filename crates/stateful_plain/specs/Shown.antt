@@ -26,11 +26,15 @@ pub record IsDraft (u : PlainUnmerkleized) (p q : ℕ × Whole) (c : List (ℕ �
   pub size : u.size ≡ q.1.size
   pub gives : Gives u.writes.entries q.1 p.1
 
+-- a chain has the batch's point and its parent's
+abbrev pub IsDraftOn : PlainUnmerkleized → List (ℕ × Whole) → Type 0
+IsDraftOn u [] = ⊥
+IsDraftOn u (p ∷ []) = ⊥
+IsDraftOn u (p ∷ q ∷ c) = IsDraft u p q c
+
 -- It stands on this chain, whose second point is its parent. A seal gives the state of the first.
-abbrev pub DraftShows : PlainUnmerkleized → List (ℕ × Whole) → Type 0
-DraftShows u [] = ⊥
-DraftShows u (p ∷ []) = ⊥
-DraftShows u (p ∷ q ∷ c) = IsDraft u p q c
+pub record DraftShows (u : PlainUnmerkleized) (c : List (ℕ × Whole)) : Type 0 where
+  pub stands : IsDraftOn u c
 
 -- the sealed batch stands on this chain, and has the state of its first point
 pub record SealShows (m : PlainMerkleized) (c : List (ℕ × Whole)) : Type 0 where
