@@ -1,8 +1,13 @@
 //! A block's way: it is judged, built, applied and made durable.
 
+ghost use Rattle.std.specs.Prelude.{[]};
+ghost use Rattle.stateful_processing.specs.Moments.{moment};
+ghost use Rattle.stateful_whole.specs.Machine.{IsSafe};
+
 use stateful_actor::{Application, Config, DatabaseSet, Entry, Event, Stateful};
 use stateful_counter::{Add, Counter, CounterBlock};
 use stateful_db::{Flushed, Held};
+use stateful_exec::Worked;
 use stateful_plain::{Plain, PlainMedium, PlainState};
 use stateful_text::{End, Label, transcript};
 use stateful_types::{
@@ -23,8 +28,30 @@ const FIRST: Round = Round {
     view: View(1),
 };
 
-/// Hands the events to a new machine, one call of `step` each. Gives the lines of its marks, and
-/// the databases as they are then.
+/// Hands one event to the machine, and gives its entry.
+fn enter<A: Application + Drop>(
+    machine: &mut Stateful<A>,
+    databases: &mut A::Databases,
+    store: &mut MemoryStore<A::Block>,
+    event: Event<A::Block, A::Context, A::Input>,
+) -> Result<Entry<A::Block, A::Context, A::Input>, Fail>
+    requires { let w = ⟦<A as Worked>⟧.workings in IsSafe w machine.old.failed
+        (moment w machine.old.execution machine.old.loop (A.Databases.members databases.old)
+        (A.Databases.next databases.old) []) }
+    ensures { let w = ⟦<A as Worked>⟧.workings in IsSafe w machine.new.failed
+        (moment w machine.new.execution machine.new.loop (A.Databases.members databases.new)
+        (A.Databases.next databases.new) []) }
+{
+    let told = event.share()?;
+    let Ok(marks) = machine.step(databases, store, event) else {
+        return Err("an event is refused".into());
+    };
+    let marks = Items::from_vec(marks);
+    Ok(Entry { event: told, marks })
+}
+
+/// Hands the events to a new machine, one after another. Gives the lines of its marks, and the
+/// databases as they are then.
 fn play<A: Application + Drop>(
     alloc: Global,
     config: Config<A>,
@@ -39,12 +66,8 @@ fn play<A: Application + Drop>(
     let mut databases = databases;
     let mut history = Vec::new(alloc);
     for event in events {
-        let told = event.share()?;
-        let Ok(marks) = machine.step(&mut databases, store, event) else {
-            return Err("an event is refused".into());
-        };
-        let marks = Items::from_vec(marks);
-        history.push(Entry { event: told, marks })?;
+        let entry = enter(&mut machine, &mut databases, store, event)?;
+        history.push(entry)?;
     }
     let lines = transcript(alloc, labels, history.as_slice(), &[], End::Done)?;
     Ok((lines, databases))
