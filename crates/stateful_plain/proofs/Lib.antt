@@ -1,6 +1,8 @@
 pub mod Positions
-pub mod Cuts
 pub mod Opening
 pub mod Listing
 pub mod Ascending
 pub mod TokenPlaces
+pub mod Entries
+pub mod Written
+pub mod Showing

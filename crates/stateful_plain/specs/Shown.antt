@@ -1,35 +1,38 @@
 -- The chains on which batches stand: points of a batch id and the state behind it, the newest
 -- first.
-use Rattle.std.specs.Prelude.{◌≡◌, ℕ, ◌+◌, ◌<◌, ◌==◌, List, [], ◌∷◌, if◌then◌else◌}
-use Rattle.stateful_db.specs.Chain.{ids}
+use Rattle.std.specs.Prelude.{◌≡◌, ℕ, ◌<◌, List, [], ◌∷◌}
+use Rattle.stateful_overlay.specs.Chains.{Stands}
 use Rattle.stateful_plain.specs.declared.batch.PlainUnmerkleized.{PlainUnmerkleized}
 use Rattle.stateful_plain.specs.declared.batch.PlainMerkleized.{PlainMerkleized}
-use Rattle.stateful_plain.specs.Whole.{Whole}
+use Rattle.stateful_plain.specs.Whole.{Whole, target_of}
+use Rattle.stateful_plain.specs.Writes.{Change, Gives}
 
--- the state of the first point
-abbrev pub TopIs : List (ℕ × Whole) → Whole → Type 0
-TopIs [] w = ⊥
-TopIs (p ∷ c) w = p.1 ≡ w
+-- what a sealed batch changes leads from its parent's state to its own
+abbrev pub After : Change → Whole → Whole → Type 0
+After change s t = Gives change.writes s t × (change.target ≡ target_of t)
 
--- id and size of each point are greater than those of the next
-abbrev pub Descends : List (ℕ × Whole) → Type 0
-Descends [] = Unit {0}
-Descends (p ∷ []) = Unit {0}
-Descends (p ∷ q ∷ c) = (q.0 < p.0) × (q.1.size < p.1.size) × Descends (q ∷ c)
+-- the state of the last point, on which the layers of a chain stand
+abbrev pub EndsAt : List (ℕ × Whole) → Whole → Type 0
+EndsAt [] w = ⊥
+EndsAt (p ∷ []) w = p.1 ≡ w
+EndsAt (p ∷ q ∷ c) w = EndsAt (q ∷ c) w
 
--- the points down to the one with this id, or all where none has it
-abbrev pub down_to : ℕ → List (ℕ × Whole) → List (ℕ × Whole)
-down_to n [] = []
-down_to n (p ∷ c) = p ∷ (if p.0 == n then [] else down_to n c)
+-- a batch that may still change shows this point, over its parent's and those below it
+pub record IsDraft (u : PlainUnmerkleized) (p q : ℕ × Whole) (c : List (ℕ × Whole)) : Type 0 where
+  pub id : p.0 ≡ u.id
+  pub later : q.0 < p.0
+  pub layers : Stands After u.below.base u.below.layers (q ∷ c)
+  pub base : EndsAt (q ∷ c) u.base
+  pub size : u.size ≡ q.1.size
+  pub gives : Gives u.writes.entries q.1 p.1
 
--- the batch stands on this chain, and a seal gives the state of its first point
-pub record DraftShows (u : PlainUnmerkleized) (c : List (ℕ × Whole)) : Type 0 where
-  pub chain : ids c ≡ u.id ∷ u.below.items
-  pub top : TopIs c (record { size = u.size + 1; entries = u.entries.entries })
-  pub descends : Descends c
+-- It stands on this chain, whose second point is its parent. A seal gives the state of the first.
+abbrev pub DraftShows : PlainUnmerkleized → List (ℕ × Whole) → Type 0
+DraftShows u [] = ⊥
+DraftShows u (p ∷ []) = ⊥
+DraftShows u (p ∷ q ∷ c) = IsDraft u p q c
 
 -- the sealed batch stands on this chain, and has the state of its first point
 pub record SealShows (m : PlainMerkleized) (c : List (ℕ × Whole)) : Type 0 where
-  pub chain : ids c ≡ m.id ∷ m.below.items
-  pub top : TopIs c m.state
-  pub descends : Descends c
+  pub layers : Stands After m.below.base (m.layer ∷ m.below.layers) c
+  pub base : EndsAt c m.base

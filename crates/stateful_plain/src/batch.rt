@@ -1,37 +1,42 @@
-//! Batches that hold a whole copy of their state.
+//! Batches that keep their own changes alone, over shared layers and the state of the database on
+//! which these stand.
 
-ghost use Rattle.std.specs.Prelude.{◌≡◌, ◌≢◌, ℕ, ◌-◌, ◌^◌, ◌<◌, ◌≤◌, ◌==◌, List, ◌∷◌, IfOk, IfErr};
-ghost use Rattle.std.specs.Prelude.{IsErrOf, ◌↔◌, false, position};
-ghost use Rattle.std.specs.List.{list_any};
+ghost use Rattle.std.specs.Prelude.{◌≡◌, ℕ, ◌+◌, ◌-◌, ◌^◌, ◌<◌, ◌≤◌, List, [], ◌∷◌, ◌++◌};
+ghost use Rattle.std.specs.Prelude.{IfOk, IfErr, OnOk, IsErrOf, ◌↔◌, false};
 ghost use Rattle.stateful_db.specs.Batch.{RefusesSeal};
 ghost use Rattle.stateful_db.specs.Chain.{has_id, IsPoint};
 ghost use Rattle.stateful_db.specs.Disk.{point};
-ghost use Rattle.stateful_plain.specs.Whole.{Whole, value_at, put};
+ghost use Rattle.stateful_plain.specs.Whole.{Whole, value_at, put, target_of};
 ghost use Rattle.stateful_plain.specs.Stored.{standing_of};
-ghost use Rattle.stateful_plain.specs.Shown.{DraftShows, SealShows, down_to};
+ghost use Rattle.stateful_plain.specs.Shown.{DraftShows, SealShows};
 
+use crate::changes::{PlainChanges, Writes, all_writes, changed, value_in};
 use crate::database::Plain;
 use crate::state::PlainState;
 use stateful_db::{BatchError, Merkleized, Unmerkleized};
-use stateful_types::{Digest, OutOfMemory};
+use stateful_overlay::{Layer, Layers};
+use stateful_types::{Digest, OutOfMemory, Target};
 use std::collections::BTreeMap;
 
-/// A batch that may still change: its id, those below it, newest first, the end of its parent's
-/// range, and all entries.
+/// A batch that may still change: its id, the layers below it, the state of the database on which
+/// these stand, the end of its parent's range, and its own writes. It shares the layers with other
+/// batches, and the state with the database.
 #[derive(Drop)]
 pub struct PlainUnmerkleized {
     pub(crate) id: u64,
-    pub(crate) below: Vec<u64>,
+    pub(crate) below: Layers<PlainChanges>,
+    pub(crate) base: PlainState,
     pub(crate) size: u64,
-    pub(crate) entries: BTreeMap<u64, u64>,
+    pub(crate) writes: Writes,
 }
 
-/// A sealed batch: its id, those below it, newest first, and its state.
+/// A sealed batch: its own changes with its id, the layers below it, and the state of the database
+/// on which these stand.
 #[derive(Drop)]
 pub struct PlainMerkleized {
-    pub(crate) id: u64,
-    pub(crate) below: Vec<u64>,
-    pub(crate) state: PlainState,
+    pub(crate) layer: Layer<PlainChanges>,
+    pub(crate) below: Layers<PlainChanges>,
+    pub(crate) base: PlainState,
 }
 
 impl PlainUnmerkleized {
@@ -46,10 +51,13 @@ impl PlainUnmerkleized {
             → (IsErrOf result BatchError.StaleRead ↔ (has_id c (standing_of db.now).id ≡ false)) }
         ensures cause { IfErr result (λ e. e ≡ BatchError.StaleRead) }
     {
-        if !stands_on(self.id, self.below.as_slice(), db.id) {
+        if !self.stands_on(db.id) {
             return Err(BatchError::StaleRead);
         }
-        Ok(self.entries.get(&key).copied())
+        match self.writes.get(&key) {
+            Some(value) => Ok(*value),
+            None => Ok(value_in(self.layers(), self.base.entries(), key)),
+        }
     }
 
     /// The batch with this value at the key, or with none.
@@ -58,37 +66,57 @@ impl PlainUnmerkleized {
             → DraftShows self (p ∷ c)
             → DraftShows u ((p.0, record p.1 { entries = put p.1.entries key value }) ∷ c)) }
     {
-        let PlainUnmerkleized {
-            id,
-            below,
-            size,
-            mut entries,
-        } = self;
-        match value {
-            Some(value) => {
-                entries.insert(key, value)?;
-            }
-            None => {
-                entries.remove(&key);
-            }
-        }
-        Ok(PlainUnmerkleized {
-            id,
-            below,
-            size,
-            entries,
-        })
+        let mut batch = self;
+        batch.writes.insert(key, value)?;
+        Ok(batch)
     }
 
-    /// Cuts the chain below the point of this id.
-    pub(crate) fn cut(&mut self, id: u64)
-        ensures { (p : ℕ × Whole) (c : List (ℕ × Whole))
-            → DraftShows self.old (p ∷ c)
-            → DraftShows self.new (p ∷ down_to id c) }
+    /// Whether the database where the batch of this id was applied last is at a state of its chain.
+    fn stands_on(&self, at: u64) -> bool
+        ensures { (c : List (ℕ × Whole)) → DraftShows self.now c → has_id c at ≡ result }
     {
-        if let Some(place) = place_of(self.below.as_slice(), id) {
-            self.below.truncate(place + 1);
+        let inside = self.below.has(at);
+        self.id == at || inside
+    }
+
+    /// All layers below it: none has its own id.
+    fn layers(&self) -> &[Layer<PlainChanges>]
+        ensures { (c : List (ℕ × Whole))
+            → DraftShows self.now c
+            → result.now ≡ self.now.below.layers }
+    {
+        self.below.above(self.id)
+    }
+
+    /// The root and the range of its seal.
+    fn target(&self) -> Result<Target, OutOfMemory>
+        requires { self.now.size + 1 < 2 ^ 64 }
+        ensures { IfOk result (λ target. (p : ℕ × Whole) (c : List (ℕ × Whole))
+            → DraftShows self.now (p ∷ c)
+            → target ≡ target_of p.1) }
+    {
+        let writes = all_writes(self.below.allocator(), &self.writes, self.layers())?;
+        let entries = changed(self.base.entries(), &writes)?;
+        Ok(PlainState::new(self.size + 1, entries).target())
+    }
+
+    /// Drops the layers that the database has taken in. It stands then on the database's state.
+    pub(crate) fn rebase(&mut self, db: &Plain) -> Result<(), OutOfMemory>
+        ensures chain { let p = point (standing_of db.now) in
+            OnOk result ((r q : ℕ × Whole) (above older : List (ℕ × Whole))
+            → DraftShows self.old (r ∷ q ∷ above ++ p ∷ older)
+            → DraftShows self.new (r ∷ q ∷ above ++ p ∷ [])) }
+        ensures apart { let at = (standing_of db.now).id in
+            OnOk result ((r q : ℕ × Whole) (c : List (ℕ × Whole))
+            → DraftShows self.old (r ∷ q ∷ c)
+            → has_id (q ∷ c) at ≡ false
+            → DraftShows self.new (r ∷ q ∷ c)) }
+    {
+        if self.below.has(db.id) {
+            self.base = db.state().share()?;
+            self.below.cut(db.id);
         }
+        Ok(())
     }
 }
 
@@ -111,7 +139,6 @@ impl Unmerkleized for PlainUnmerkleized {
 
     ghost end_of = { λ w. w.size };
 
-    /// Takes no memory.
     fn merkleize(self, db: &Plain) -> Result<PlainMerkleized, BatchError>
         ensures ok { IfOk result (λ m. (c : List (ℕ × Whole))
             → DraftShows self c
@@ -131,25 +158,32 @@ impl Unmerkleized for PlainUnmerkleized {
             → DraftShows self c
             → SealShows m c) }
         ensures why { IfErr result RefusesSeal }
-        ensures memory { IfErr result (λ e. e ≢ BatchError.OutOfMemory) }
     {
-        if !stands_on(self.id, self.below.as_slice(), db.id) {
+        if !self.stands_on(db.id) {
             return Err(BatchError::StaleRead);
         }
+        if self.size >= u64::MAX - 1 {
+            return Err(BatchError::Exhausted);
+        }
+        let target = self.target()?;
         let PlainUnmerkleized {
             id,
             below,
-            size,
-            entries,
+            base,
+            size: _,
+            writes,
         } = self;
-        if size >= u64::MAX - 1 {
-            return Err(BatchError::Exhausted);
-        }
-        Ok(PlainMerkleized {
-            id,
-            below,
-            state: PlainState::new(size + 1, entries),
-        })
+        let layer = Layer::new(below.allocator(), id, PlainChanges::new(writes, target))?;
+        Ok(PlainMerkleized { layer, below, base })
+    }
+}
+
+impl PlainMerkleized {
+    /// Its root, with its range.
+    pub(crate) fn target(&self) -> Target
+        ensures { result ≡ self.now.layer.1.target }
+    {
+        self.layer.changes().target()
     }
 }
 
@@ -170,40 +204,24 @@ impl Merkleized for PlainMerkleized {
     ghost begun = { begun };
 
     fn root(&self) -> Digest {
-        self.state.root()
+        self.target().root
     }
 
     fn new_batch(&self, id: u64) -> Result<PlainUnmerkleized, OutOfMemory> {
-        let mut below = Vec::new(*self.below.allocator());
-        below.push(self.id)?;
-        below.extend_from_slice(self.below.as_slice())?;
         Ok(PlainUnmerkleized {
             id,
-            below,
-            size: self.state.size(),
-            entries: self.state.entries().clone()?,
+            below: self.below.with(&self.layer)?,
+            base: self.base.share()?,
+            size: self.target().end.0,
+            writes: BTreeMap::new(self.below.allocator()),
         })
     }
 
     fn share(&self) -> Result<PlainMerkleized, OutOfMemory> {
         Ok(PlainMerkleized {
-            id: self.id,
-            below: Vec::from_slice(*self.below.allocator(), self.below.as_slice())?,
-            state: self.state.share()?,
+            layer: self.layer.share()?,
+            below: self.below.share()?,
+            base: self.base.share()?,
         })
     }
-}
-
-/// Whether this is one of the ids of a chain.
-fn stands_on(id: u64, below: &[u64], at: u64) -> bool
-    ensures { result ≡ list_any (λ i. i == at) (id ∷ below.now) }
-{
-    id == at || below.contains(&at)
-}
-
-/// The place of an id.
-fn place_of(ids: &[u64], id: u64) -> Option<usize>
-    ensures { result ≡ position (λ i. i == id) ids.now }
-{
-    ids.iter().position(|at| *at == id)
 }

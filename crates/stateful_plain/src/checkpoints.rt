@@ -4,9 +4,10 @@ ghost use Rattle.std.specs.Prelude.{◌≡◌, ◌==◌, ◌≤◌, ◌<◌, ◌
 ghost use Rattle.std.specs.Prelude.{take, OnOk, OnErr};
 ghost use Rattle.stateful_plain.specs.Sizes.{Ascend, Ascend-prop};
 
+use crate::changes::{PlainChanges, changed};
 use crate::state::PlainState;
 use stateful_db::InitError;
-use stateful_types::{Location, Target};
+use stateful_types::{Location, OutOfMemory, Target};
 use std::alloc::{AllocError, Global};
 use std::mem;
 
@@ -31,6 +32,7 @@ impl Checkpoints {
     ghost use Rattle.stateful_db.specs.Reopening.{with_end, FailsToReopen, KeepsDurable, pruned_to};
     ghost use Rattle.stateful_plain.specs.Whole.{Whole, initial, target_of};
     ghost use Rattle.stateful_plain.specs.Stored.{disk_in, IsNumberOf};
+    ghost use Rattle.stateful_plain.specs.Shown.{After};
 
     /// The empty state alone.
     pub(crate) fn new(alloc: Global) -> Checkpoints
@@ -129,9 +131,26 @@ impl Checkpoints {
         keep_first(&mut self.older, &mut self.newest, count);
     }
 
+    /// One more, which the changes of a sealed batch make of the newest. Its entries can be shared.
+    /// Where its size isn't greater than that of the newest, it is refused as if memory were
+    /// wanting.
+    pub(crate) fn grow(&mut self, changes: &PlainChanges) -> Result<(), OutOfMemory>
+        ensures ok { OnOk result ((state : Whole)
+            → After changes.now (disk_in self.old).newest state
+            → disk_in self.new ≡ applied (disk_in self.old) state) }
+        ensures place { OnOk result (place (disk_in self.old) ≤ place (disk_in self.new)) }
+        ensures err { OnErr result (disk_in self.new ≡ disk_in self.old) }
+    {
+        let entries = changed(self.newest.entries(), changes.writes())?;
+        let alloc = *self.older.allocator();
+        let state = PlainState::shared(alloc, changes.target().end.0, entries)?;
+        self.push(state)?;
+        Ok(())
+    }
+
     /// One more. Where its size isn't greater than that of the newest, it is refused as if memory
     /// were wanting.
-    pub(crate) fn push(&mut self, state: PlainState) -> Result<(), AllocError>
+    fn push(&mut self, state: PlainState) -> Result<(), AllocError>
         ensures ok { OnOk result (disk_in self.new ≡ applied (disk_in self.old) state) }
         ensures err { OnErr result (disk_in self.new ≡ disk_in self.old) }
     {

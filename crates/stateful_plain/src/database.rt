@@ -10,7 +10,9 @@ use stateful_db::{
     BatchContext, Broken, DbCall, Exhausted, FlushToken, InitError, ManagedDb, Merkleized, Tokens,
     Why,
 };
+use stateful_overlay::Layers;
 use stateful_types::{Digest, Faulty, Location, OutOfMemory, Target};
+use std::alloc::Global;
 use std::collections::BTreeMap;
 use std::ops::Range;
 
@@ -34,7 +36,7 @@ impl Plain {
     pub fn size(&self) -> u64
         ensures { result ≡ (standing_of self.now).disk.newest.size }
     {
-        self.newest().size()
+        self.state().size()
     }
 
     /// The range of the newest state: its last location alone.
@@ -50,13 +52,19 @@ impl Plain {
     pub fn entries(&self) -> &BTreeMap<u64, u64>
         ensures { result.now.entries ≡ (standing_of self.now).disk.newest.entries }
     {
-        self.newest().entries()
+        self.state().entries()
     }
 
-    fn newest(&self) -> &PlainState
+    /// The newest state.
+    pub(crate) fn state(&self) -> &PlainState
         ensures { result.now ≡ (standing_of self.now).disk.newest }
     {
         &self.medium.checkpoints.newest
+    }
+
+    /// Its allocator.
+    fn allocator(&self) -> Global {
+        *self.medium.checkpoints.older.allocator()
     }
 }
 
@@ -71,7 +79,8 @@ impl Faulty for Plain {
 impl ManagedDb for Plain {
     ghost use Rattle.std.specs.Prelude.{◌≡◌, ◌≢◌, ℕ, ◌+◌, ◌-◌, ◌^◌, ◌≤◌, ◌<◌, List, ◌∷◌, ◌++◌, []};
     ghost use Rattle.std.specs.Prelude.{IfOk, IfErr, IsErrAnd, Option, ◌↔◌, ◌⊎◌, Contains, length};
-    ghost use Rattle.std.specs.Prelude.{refl};
+    ghost use Rattle.std.specs.Prelude.{refl, false};
+    ghost use Rattle.stateful_db.specs.Chain.{has_id};
     ghost use Rattle.stateful_types.specs.Causes.{Rose};
     ghost use Rattle.stateful_db.specs.Disk.{IsEither, IsCrash, place, applied, flushed, point};
     ghost use Rattle.stateful_db.specs.Reopening.{Reopens, FailsToReopen, HasNone, KeepsDurable};
@@ -80,7 +89,7 @@ impl ManagedDb for Plain {
     ghost use Rattle.stateful_plain.specs.Whole.{Whole, begun, initial, target_of};
     ghost use Rattle.stateful_plain.specs.Called.{IsListed, Called};
     ghost use Rattle.stateful_plain.specs.Stored.{disk_of, standing_of};
-    ghost use Rattle.stateful_plain.specs.Shown.{DraftShows, SealShows, down_to};
+    ghost use Rattle.stateful_plain.specs.Shown.{DraftShows, SealShows};
     ghost use Rattle.stateful_plain.specs.Soundness.{sound_checkpoints};
 
     type State = PlainState;
@@ -186,13 +195,15 @@ impl ManagedDb for Plain {
             → DraftShows u ((database.entry.id, begun s.disk.newest) ∷ point s ∷ [])) }
     {
         let (db, id) = database.into_parts();
-        let mut below = Vec::new(*db.medium.checkpoints.older.allocator());
-        below.push(db.id)?;
+        let alloc = db.allocator();
+        // The length comes with the order of the keys.
+        let _count = db.entries().len();
         Ok(PlainUnmerkleized {
             id,
-            below,
+            below: Layers::over(alloc, db.id),
+            base: db.state().share()?,
             size: db.size(),
-            entries: db.entries().clone()?,
+            writes: BTreeMap::new(alloc),
         })
     }
 
@@ -205,24 +216,25 @@ impl ManagedDb for Plain {
             → SealShows parent.now (q ∷ above ++ p ∷ older)
             → q.0 < database.entry.id
             → DraftShows u ((database.entry.id, begun q.1) ∷ q ∷ above ++ p ∷ [])) }
-        ensures cut { let at = (standing_of database.entry.database.now).id in
+        ensures apart { let at = (standing_of database.entry.database.now).id in
             IfOk result (λ u. (q : ℕ × Whole) (c : List (ℕ × Whole))
             → SealShows parent.now (q ∷ c)
             → q.0 < database.entry.id
-            → DraftShows u ((database.entry.id, begun q.1) ∷ down_to at (q ∷ c))) }
+            → has_id (q ∷ c) at ≡ false
+            → DraftShows u ((database.entry.id, begun q.1) ∷ q ∷ c)) }
     {
         let (db, id) = database.into_parts();
         let mut batch = parent.new_batch(id)?;
-        batch.cut(db.id);
+        batch.rebase(db)?;
         Ok(batch)
     }
 
     fn batch_target(batch: &PlainMerkleized) -> Target {
-        batch.state.target()
+        batch.target()
     }
 
     fn matches_sync_target(batch: &PlainMerkleized, target: &Target) -> bool {
-        Plain::batch_target(batch) == *target
+        batch.target() == *target
     }
 
     /// `Failed` exactly where the call is listed as a failing one. A failed apply leaves the
@@ -263,9 +275,12 @@ impl ManagedDb for Plain {
                 why: Why::Failed,
             });
         }
-        let PlainMerkleized { id, state, .. } = batch;
-        match medium.checkpoints.push(state) {
-            Ok(()) => Ok(Plain { id, out, medium }),
+        match medium.checkpoints.grow(batch.layer.changes()) {
+            Ok(()) => Ok(Plain {
+                id: batch.layer.id(),
+                out,
+                medium,
+            }),
             Err(_) => Err(Broken {
                 medium,
                 why: Why::OutOfMemory,
@@ -392,7 +407,7 @@ impl ManagedDb for Plain {
     }
 
     fn sync_target(&self) -> Target {
-        self.newest().target()
+        self.state().target()
     }
 
     fn close(self) -> PlainMedium

@@ -1,8 +1,12 @@
 //! The plainest database: a map from numbers to numbers that is kept whole at each checkpoint.
+//!
+//! Its batches keep their own writes alone. What is below them they share: the layers of sealed
+//! batches, and the state of the database on which these stand.
 #![tactic(auto)]
 
 mod batch;
 mod calls;
+mod changes;
 mod checkpoints;
 mod database;
 mod medium;
@@ -10,6 +14,7 @@ mod pass;
 mod state;
 
 pub use batch::{PlainMerkleized, PlainUnmerkleized};
+pub use changes::PlainChanges;
 pub use database::Plain;
 pub use medium::PlainMedium;
 pub use pass::PlainPass;

@@ -10,20 +10,34 @@ use stateful_types::{Digest, Location, OutOfMemory, Target};
 use std::alloc::Global;
 use std::collections::BTreeMap;
 use std::marker::Model;
+use std::sync::Arc;
+
+/// The entries of a state.
+#[derive(Drop)]
+enum Entries {
+    /// They are its own.
+    Own(BTreeMap<u64, u64>),
+    /// Its copies share them.
+    Shared(Arc<BTreeMap<u64, u64>>),
+}
 
 /// A checkpoint: the end of its range, and its entries.
 #[derive(Drop)]
 pub struct PlainState {
     size: u64,
-    entries: BTreeMap<u64, u64>,
+    entries: Entries,
 }
 
 impl Model for PlainState {
     ghost use Rattle.stateful_plain.specs.Whole.{Whole};
+    ghost use Rattle.stateful_plain.specs.declared.state.Entries.TheVariants.{Own, Shared};
 
     ghost Value = { Whole };
 
-    ghost view = { λ a. record { size = a.size; entries = a.entries.entries } };
+    ghost view = { λ a. record {
+      size = a.size;
+      entries = elim a.entries [ Own own ↦ own.entries | Shared shared ↦ shared.value.entries ];
+    } };
 }
 
 impl PlainState {
@@ -31,7 +45,25 @@ impl PlainState {
     pub fn new(size: u64, entries: BTreeMap<u64, u64>) -> PlainState
         ensures { result ≡ record { size = size; entries = entries.entries } }
     {
-        PlainState { size, entries }
+        PlainState {
+            size,
+            entries: Entries::Own(entries),
+        }
+    }
+
+    /// The same, for copies that share its entries.
+    pub(crate) fn shared(
+        alloc: Global,
+        size: u64,
+        entries: BTreeMap<u64, u64>,
+    ) -> Result<PlainState, OutOfMemory>
+        ensures { IfOk result (λ state. state ≡ record { size = size; entries = entries.entries }) }
+    {
+        let entries = Arc::new(alloc, entries)?;
+        Ok(PlainState {
+            size,
+            entries: Entries::Shared(entries),
+        })
     }
 
     /// The state without entries.
@@ -52,7 +84,10 @@ impl PlainState {
     pub fn entries(&self) -> &BTreeMap<u64, u64>
         ensures { result.now.entries ≡ self.now.entries }
     {
-        &self.entries
+        match &self.entries {
+            Entries::Own(entries) => entries,
+            Entries::Shared(entries) => entries,
+        }
     }
 
     /// The SHA-256 of the end, and of key and value of each entry.
@@ -61,7 +96,7 @@ impl PlainState {
     {
         let mut hasher = Sha256::new();
         hasher.update(&self.size.to_be_bytes());
-        add_entries(&self.entries, &mut hasher);
+        add_entries(self.entries(), &mut hasher);
         Digest(hasher.finalize())
     }
 
@@ -76,11 +111,18 @@ impl PlainState {
         }
     }
 
-    /// An equal state.
+    /// An equal state. It copies no entries that are shared.
     pub(crate) fn share(&self) -> Result<PlainState, OutOfMemory>
         ensures { IfOk result (λ state. state ≡ self.now) }
     {
-        Ok(PlainState::new(self.size, self.entries.clone()?))
+        let entries = match &self.entries {
+            Entries::Own(entries) => Entries::Own(entries.clone()?),
+            Entries::Shared(entries) => Entries::Shared(Arc::try_clone(entries)?),
+        };
+        Ok(PlainState {
+            size: self.size,
+            entries,
+        })
     }
 }
 
