@@ -77,7 +77,3 @@ IsBuilt Pending = ⊥
 IsBuilt (Done Wait) = ⊥
 IsBuilt (Done (Vote built)) = Unit {0}
 IsBuilt (Done (Stage built)) = Unit {0}
-
--- how often a build has failed
-abbrev pub build_faults : {U : Type 0} → BankBuild U → ℕ
-build_faults build = build.faults

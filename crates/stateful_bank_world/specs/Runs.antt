@@ -62,10 +62,6 @@ counted (Err Failed) faults = min (faults + 1) (2 ^ 64 - 1)
 counted (Err OutOfMemory) faults = faults
 counted (Ok value) faults = faults
 
--- how often a run has failed
-abbrev pub run_faults : {U : Type 0} → BankRun U → ℕ
-run_faults run = run.faults
-
 module _ {States Targets : Type 0} (w : Rules States Targets) (Full : States → Type 0) where
   -- a block of these operations at this height leads to states that end at the last number
   pub record LeadsToFull (s : States) (ops : List Op) (height : ℕ) : Type 0 where
