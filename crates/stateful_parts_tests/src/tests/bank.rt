@@ -2,9 +2,10 @@
 
 use stateful_bank::{Ask, BankBlock, Op, Proposal, apply_ops, is_acceptable, one_is_given};
 use stateful_types::{
-    Block, Digest, Digested, Epoch, Handoff, Height, Items, Location, Round, Share, Target, View,
+    Block, Digest, Digested, Epoch, Handoff, Height, Items, Location, OutOfMemory, Round, Share,
+    Target, View,
 };
-use std::alloc::Global;
+use std::alloc::{AllocError, Global};
 use std::collections::BTreeMap;
 use std::process::Abort;
 use std::test::Fail;
@@ -64,15 +65,21 @@ fn check(
     bytes: &[u8],
     digest: &[u8; 32],
 ) -> Result<(), Fail> {
-    let alloc = rt.alloc();
-    let mut encoded = Vec::new(alloc);
-    assert!(rt; block.encode(&mut encoded).is_ok());
+    let mut encoded = Vec::new(rt.alloc());
+    block.encode(&mut encoded)?;
     assert_eq!(rt; encoded.as_slice(), bytes);
-    match Digested::compute(alloc, block) {
-        Ok(named) => assert_eq!(rt; named.digest(), Digest(*digest)),
-        Err(_) => assert!(rt; false),
-    }
+    let named = Digested::compute(rt.alloc(), block)?;
+    assert_eq!(rt; named.digest(), Digest(*digest));
     Ok(())
+}
+
+fn items(alloc: Global, ops: &[Op]) -> Result<Items<Op>, AllocError> {
+    Ok(Items::from_vec(Vec::from_slice(alloc, ops)?))
+}
+
+/// The operations of the child.
+fn child_ops(alloc: Global) -> Result<Items<Op>, AllocError> {
+    items(alloc, &[pay(1, 258, 30), mint(3, 7)])
 }
 
 #[test]
@@ -84,20 +91,12 @@ fn encodes_genesis(rt: HostRuntime) -> Result<(), Fail> {
 
 #[test]
 fn encodes_child(rt: HostRuntime) -> Result<(), Fail> {
-    let mut ops = Items::new(rt.alloc());
-    ops.push(pay(1, 258, 30))?;
-    ops.push(mint(3, 7))?;
+    let ops = child_ops(rt.alloc())?;
     let targets = one_target(rt.alloc(), CHILD_ROOT, 3)?;
-    match BankBlock::child(Height(1), Digest(*PARENT_DIGEST), ROUND, ops, targets) {
-        Some(mut block) => {
-            block.slow = 9;
-            check(&rt, block, CHILD_BYTES, CHILD_DIGEST)
-        }
-        None => {
-            assert!(rt; false);
-            Ok(())
-        }
-    }
+    let child = BankBlock::child(Height(1), Digest(*PARENT_DIGEST), ROUND, ops, targets);
+    let mut block = child.ok_or("a height is left")?;
+    block.slow = 9;
+    check(&rt, block, CHILD_BYTES, CHILD_DIGEST)
 }
 
 #[test]
@@ -110,15 +109,12 @@ fn has_no_child_at_the_last_height(rt: HostRuntime) {
 #[test]
 fn builds_a_block(rt: HostRuntime) -> Result<(), Fail> {
     one_is_given::<u64>();
-    let mut ops = Items::new(rt.alloc());
-    ops.push(pay(1, 258, 30))?;
-    ops.push(mint(3, 7))?;
     let proposal = Proposal {
         decision: Handoff::Stage(()),
         height: Height(1),
         parent: Digest(*PARENT_DIGEST),
         round: ROUND,
-        ops,
+        ops: child_ops(rt.alloc())?,
     };
     assert!(rt; !proposal.is_declined());
     let mut block = proposal.into_block(one_target(rt.alloc(), CHILD_ROOT, 3)?);
@@ -140,12 +136,23 @@ fn pay(from: u16, to: u16, amount: u64) -> Op {
     Op::Move { from, to, amount }
 }
 
-/// Account 1 has 100 before each of these lists of operations.
-#[test]
-fn does_operations(rt: HostRuntime) -> Result<(), Fail> {
-    let alloc = rt.alloc();
+/// What the accounts have after these operations, where account 1 has 100 before them. None where
+/// one of them isn't allowed.
+fn balances_after(alloc: Global, ops: &[Op]) -> Result<Option<Vec<(u64, u64)>>, OutOfMemory> {
     let mut entries = BTreeMap::new(alloc);
     entries.insert(1, 100)?;
+    let Some(after) = apply_ops(&entries, ops)? else {
+        return Ok(None);
+    };
+    let mut balances = Vec::new(alloc);
+    for (account, balance) in &after {
+        balances.push((*account, *balance))?;
+    }
+    Ok(Some(balances))
+}
+
+#[test]
+fn does_operations(rt: HostRuntime) -> Result<(), Fail> {
     let last = u64::MAX;
     let cases: [(&[Op], Option<&[(u64, u64)]>); 10] = [
         (&[], Some(&[(1, 100)])),
@@ -163,38 +170,27 @@ fn does_operations(rt: HostRuntime) -> Result<(), Fail> {
         (&[pay(2, 1, 1), mint(2, 1)], None),
     ];
     for (ops, want) in cases {
-        match (apply_ops(&entries, ops), want) {
-            (Ok(Some(after)), Some(want)) => {
-                assert_eq!(rt; after.len(), want.len());
-                for (account, amount) in want {
-                    assert_eq!(rt; after.get(account).copied(), Some(*amount));
-                }
-            }
-            (Ok(None), None) => {}
-            _ => assert!(rt; false),
-        }
+        let after = balances_after(rt.alloc(), ops)?;
+        assert_eq!(rt; after.as_deref(), want, "after {ops:?}");
     }
     Ok(())
 }
 
 #[test]
-fn accepts_and_shares(rt: HostRuntime) -> Result<(), Fail> {
-    let alloc = rt.alloc();
+fn accepts_operations_that_move_something(rt: HostRuntime) {
     assert!(rt; is_acceptable(&[]));
     assert!(rt; is_acceptable(&[mint(1, 1), pay(1, 2, 1)]));
     assert!(rt; !is_acceptable(&[mint(1, 1), pay(1, 2, 0)]));
-    let mut ops = Items::new(alloc);
-    ops.push(mint(3, 8))?;
+}
+
+#[test]
+fn shares_what_is_asked(rt: HostRuntime) -> Result<(), Fail> {
     let ask = Ask {
         decision: Handoff::Stage(()),
-        ops,
+        ops: items(rt.alloc(), &[mint(3, 8)])?,
     };
-    match ask.share() {
-        Ok(copy) => {
-            assert_eq!(rt; copy.decision, Handoff::Stage(()));
-            assert_eq!(rt; copy.ops.as_slice(), [mint(3, 8)].as_slice());
-        }
-        Err(_) => assert!(rt; false),
-    }
+    let copy = ask.share()?;
+    assert_eq!(rt; copy.decision, Handoff::Stage(()));
+    assert_eq!(rt; copy.ops.as_slice(), [mint(3, 8)].as_slice());
     Ok(())
 }

@@ -1,6 +1,8 @@
 //! The blocks that the tests of several parts name.
 
-use stateful_types::{Block, Digest, Digested, Epoch, Height, OutOfMemory, Round, View};
+use stateful_types::{
+    Ancestry, Block, Digest, Digested, Epoch, Height, Items, OutOfMemory, Round, View,
+};
 use std::alloc::Global;
 
 /// A block of a height whose one byte is a letter.
@@ -52,4 +54,12 @@ pub(super) fn block(
 ) -> Result<Digested<Letter>, OutOfMemory> {
     let height = Height(height);
     Digested::compute(alloc, Letter { letter, height })
+}
+
+/// A block of height 1, with no ancestors at hand.
+pub(super) fn ancestry(alloc: Global, letter: u8) -> Result<Ancestry<Letter>, OutOfMemory> {
+    Ok(Ancestry {
+        first: block(alloc, letter, 1)?,
+        rest: Items::new(alloc),
+    })
 }

@@ -2,203 +2,273 @@
 
 ghost use Rattle.std.specs.Prelude.{◌≤◌};
 
-use super::letter::{Letter, block};
+use super::letter::{Letter, ancestry, block};
 use stateful_history::{Decision, Event, Mark};
 use stateful_mailbox::{Mailbox, Reply, Stopped};
-use stateful_types::{Ancestry, Feedback, Handoff, Height, Items, Moved, OutOfMemory};
+use stateful_types::{DrawError, Feedback, Handoff, Height, Moved, OutOfMemory};
 use std::alloc::Global;
+use std::process::Abort;
 use std::test::Fail;
 
 type Letters = Mailbox<Letter, u8, u8>;
 
-fn ancestry(alloc: Global, letter: u8) -> Result<Ancestry<Letter>, OutOfMemory> {
-    Ok(Ancestry {
-        first: block(alloc, letter, 1)?,
-        rest: Items::new(alloc),
-    })
-}
-
-/// What a mailbox hands out: of what kind it is, with its ticket and its block's letter, where it
-/// has one.
-#[derive(Clone, Copy, Debug, PartialEq, Eq)]
-enum Taken {
-    Prepare(u64, u8),
-    Propose(u64, u8),
-    Verify(u64, u8),
-    Finalized(u64, u8),
-    Subscribe(u64),
+/// What is done with a mailbox. Blocks go by their letters.
+#[derive(Clone, Copy)]
+enum Act {
+    Prepare(u8),
+    Propose(u8),
+    Verify(u8),
+    Report(u8),
+    Subscribe,
     Cancel(u64),
-    Other,
+    /// The machine has made these marks.
+    Answer(&'static [Sign]),
+    Take,
+    Poll(u64),
 }
 
-fn take(mailbox: &mut Letters) -> Option<Taken> {
-    let event = mailbox.take()?;
-    let taken = taken_as(&event);
-    Some(taken)
+/// A mark that tells of tickets.
+#[derive(Clone, Copy)]
+enum Sign {
+    Answered(u64, Decision, u8),
+    Declined(u64),
+    Verdict(u64, bool),
+    Acknowledged(u64),
+    Databases(u64),
+    Dropped(u64),
+    Stopped,
 }
 
-fn taken_as(event: &Event<Letter, u8, u8>) -> Taken {
+/// What comes of it: a word, with its ticket, which is 0 where it has none, and its block's letter.
+type Found = (&'static str, u64, char);
+
+const NO_BLOCK: char = '-';
+
+/// What is done, and what comes of it.
+type Row = (Act, Found);
+
+fn take(mailbox: &mut Letters) -> Found {
+    match mailbox.take() {
+        Some(event) => taken_as(&event),
+        None => ("no event", 0, NO_BLOCK),
+    }
+}
+
+fn taken_as(event: &Event<Letter, u8, u8>) -> Found {
     match event {
         Event::Prepare {
             ticket,
             ancestry,
             ..
-        } => Taken::Prepare(*ticket, ancestry.first.inner().letter),
+        } => ("prepare", *ticket, ancestry.first.inner().letter as char),
         Event::Propose {
             ticket,
             ancestry,
             ..
-        } => Taken::Propose(*ticket, ancestry.first.inner().letter),
+        } => ("propose", *ticket, ancestry.first.inner().letter as char),
         Event::Verify { ticket, ancestry } => {
-            Taken::Verify(*ticket, ancestry.first.inner().letter)
+            ("verify", *ticket, ancestry.first.inner().letter as char)
         }
-        Event::Finalized { ticket, block } => Taken::Finalized(*ticket, block.inner().letter),
-        Event::Subscribe { ticket } => Taken::Subscribe(*ticket),
-        Event::Cancel { ticket } => Taken::Cancel(*ticket),
-        _ => Taken::Other,
+        Event::Finalized { ticket, block } => {
+            ("finalized", *ticket, block.inner().letter as char)
+        }
+        Event::Subscribe { ticket } => ("subscribe", *ticket, NO_BLOCK),
+        Event::Cancel { ticket } => ("cancel", *ticket, NO_BLOCK),
+        _ => ("something else", 0, NO_BLOCK),
     }
 }
 
-/// What became of a ticket, with the letter of the block that it was answered with.
-#[derive(Clone, Copy, Debug, PartialEq, Eq)]
-enum Told {
-    Pending,
-    Stopped,
-    Verdict(bool),
-    Wait,
-    Vote(u8),
-    Stage(u8),
-    Proposed(u8),
-    Nothing,
-    Acknowledged,
-    Cancelled,
-    Databases,
-}
-
-fn poll(mailbox: &mut Letters, ticket: u64) -> Told {
+fn poll(mailbox: &mut Letters, ticket: u64) -> Found {
     match mailbox.poll(ticket) {
-        Err(Stopped) => Told::Stopped,
-        Ok(Moved::Pending) => Told::Pending,
+        Err(Stopped) => ("stopped", 0, NO_BLOCK),
+        Ok(Moved::Pending) => ("pending", 0, NO_BLOCK),
         Ok(Moved::Done(reply)) => read(reply),
     }
 }
 
-fn read(reply: Reply<Letter>) -> Told {
+fn read(reply: Reply<Letter>) -> Found {
     match reply {
-        Reply::Verdict(valid) => Told::Verdict(valid),
-        Reply::Prepared(Handoff::Wait) => Told::Wait,
-        Reply::Prepared(Handoff::Vote(block)) => Told::Vote(block.inner().letter),
-        Reply::Prepared(Handoff::Stage(block)) => Told::Stage(block.inner().letter),
-        Reply::Proposed(Some(block)) => Told::Proposed(block.inner().letter),
-        Reply::Proposed(None) => Told::Nothing,
-        Reply::Acknowledged => Told::Acknowledged,
-        Reply::Cancelled => Told::Cancelled,
-        Reply::Databases => Told::Databases,
+        Reply::Verdict(valid) => (if valid { "valid" } else { "not valid" }, 0, NO_BLOCK),
+        Reply::Prepared(Handoff::Wait) => ("wait", 0, NO_BLOCK),
+        Reply::Prepared(Handoff::Vote(block)) => ("vote", 0, block.inner().letter as char),
+        Reply::Prepared(Handoff::Stage(block)) => ("stage", 0, block.inner().letter as char),
+        Reply::Proposed(Some(block)) => ("proposed", 0, block.inner().letter as char),
+        Reply::Proposed(None) => ("not proposed", 0, NO_BLOCK),
+        Reply::Acknowledged => ("acknowledged", 0, NO_BLOCK),
+        Reply::Cancelled => ("cancelled", 0, NO_BLOCK),
+        Reply::Databases => ("databases", 0, NO_BLOCK),
     }
 }
 
-/// A mailbox with tickets 0 to 5, one of each call and a further preparation.
-fn asked(alloc: Global, capacity: usize) -> Result<Letters, Fail>
+fn mark(alloc: Global, sign: Sign) -> Result<Mark<Letter>, OutOfMemory> {
+    Ok(match sign {
+        Sign::Answered(ticket, decision, letter) => Mark::Answered {
+            ticket,
+            decision,
+            block: block(alloc, letter, 1)?,
+        },
+        Sign::Declined(ticket) => Mark::Declined { ticket },
+        Sign::Verdict(ticket, valid) => Mark::Verdict { ticket, valid },
+        Sign::Acknowledged(ticket) => Mark::Acknowledged {
+            ticket,
+            height: Height(1),
+        },
+        Sign::Databases(ticket) => Mark::Databases { ticket },
+        Sign::Dropped(ticket) => Mark::Dropped { ticket },
+        Sign::Stopped => Mark::Stopped,
+    })
+}
+
+fn answer(alloc: Global, mailbox: &mut Letters, signs: &[Sign]) -> Result<(), OutOfMemory> {
+    let mut marks = Vec::new(alloc);
+    for sign in signs {
+        marks.push(mark(alloc, *sign)?)?;
+    }
+    mailbox.answer(marks.as_slice())
+}
+
+fn sent(answer: Result<(Feedback, u64), DrawError>) -> Result<Found, DrawError> {
+    match answer {
+        Ok((Feedback::Ok, ticket)) => Ok(("ok", ticket, NO_BLOCK)),
+        Ok((Feedback::Backoff, ticket)) => Ok(("backoff", ticket, NO_BLOCK)),
+        Ok((Feedback::Closed, ticket)) => Ok(("closed", ticket, NO_BLOCK)),
+        Err(error) => Err(error),
+    }
+}
+
+/// Asks for something, of context 1 and input 2 where it is a build.
+fn ask(alloc: Global, mailbox: &mut Letters, act: Act) -> Result<Found, DrawError> {
+    match act {
+        Act::Prepare(letter) => sent(mailbox.prepare(1, ancestry(alloc, letter)?, 2)),
+        Act::Propose(letter) => sent(mailbox.propose(1, ancestry(alloc, letter)?, 2)),
+        Act::Verify(letter) => sent(mailbox.verify(ancestry(alloc, letter)?)),
+        Act::Report(letter) => sent(mailbox.report(block(alloc, letter, 1)?)),
+        Act::Subscribe => sent(mailbox.subscribe_databases()),
+        _ => Ok(("done", 0, NO_BLOCK)),
+    }
+}
+
+/// Does this with a mailbox, and tells what comes of it.
+fn make(alloc: Global, mailbox: &mut Letters, act: Act) -> Result<Found, DrawError> {
+    match act {
+        Act::Take => Ok(take(mailbox)),
+        Act::Poll(ticket) => Ok(poll(mailbox, ticket)),
+        Act::Cancel(ticket) => {
+            mailbox.cancel(ticket);
+            Ok(("done", 0, NO_BLOCK))
+        }
+        Act::Answer(signs) => {
+            answer(alloc, mailbox, signs)?;
+            Ok(("done", 0, NO_BLOCK))
+        }
+        _ => ask(alloc, mailbox, act),
+    }
+}
+
+/// What is asked before the rows are done: it draws the tickets from 0 to 5.
+const ASKED: [Act; 6] = [
+    Act::Prepare(b'a'),
+    Act::Propose(b'b'),
+    Act::Verify(b'c'),
+    Act::Report(b'd'),
+    Act::Subscribe,
+    Act::Prepare(b'e'),
+];
+
+/// Does each row with one mailbox, in which so many messages are ready at most.
+fn runs(rt: &impl Abort, alloc: Global, capacity: usize, rows: &[Row]) -> Result<(), Fail>
     requires { 1 ≤ capacity }
 {
     let mut mailbox = Mailbox::new(alloc, capacity)?;
-    mailbox.prepare(1, ancestry(alloc, b'a')?, 2)?;
-    mailbox.propose(1, ancestry(alloc, b'b')?, 2)?;
-    mailbox.verify(ancestry(alloc, b'c')?)?;
-    mailbox.report(block(alloc, b'd', 1)?)?;
-    mailbox.subscribe_databases()?;
-    mailbox.prepare(1, ancestry(alloc, b'e')?, 2)?;
-    Ok(mailbox)
+    for act in ASKED {
+        make(alloc, &mut mailbox, act)?;
+    }
+    for (i, (act, want)) in rows.iter().enumerate() {
+        let found = make(alloc, &mut mailbox, *act)?;
+        assert_eq!(rt; found, *want, "in row {i}");
+    }
+    Ok(())
 }
 
 #[test]
 fn each_caller_is_told_what_became_of_its_ticket(rt: HostRuntime) -> Result<(), Fail> {
-    let alloc = rt.alloc();
-    let mut mailbox = asked(alloc, 2)?;
-    assert_eq!(rt; take(&mut mailbox), Some(Taken::Prepare(0, b'a')));
-    assert_eq!(rt; take(&mut mailbox), Some(Taken::Propose(1, b'b')));
-    assert_eq!(rt; take(&mut mailbox), Some(Taken::Verify(2, b'c')));
-    assert_eq!(rt; take(&mut mailbox), Some(Taken::Finalized(3, b'd')));
-    assert_eq!(rt; take(&mut mailbox), Some(Taken::Subscribe(4)));
-    assert_eq!(rt; take(&mut mailbox), Some(Taken::Prepare(5, b'e')));
-    assert_eq!(rt; take(&mut mailbox), None);
-    assert_eq!(rt; poll(&mut mailbox, 2), Told::Pending);
-    let mut marks = Vec::new(alloc);
-    for (ticket, decision, letter) in [
-        (0, Decision::Vote, b'v'),
-        (1, Decision::Block, b'w'),
-        (5, Decision::Stage, b'x'),
-    ] {
-        let block = block(alloc, letter, 1)?;
-        marks.push(Mark::Answered {
-            ticket,
-            decision,
-            block,
-        })?;
-    }
-    marks.push(Mark::Verdict {
-        ticket: 2,
-        valid: true,
-    })?;
-    marks.push(Mark::Acknowledged {
-        ticket: 3,
-        height: Height(1),
-    })?;
-    marks.push(Mark::Databases { ticket: 4 })?;
-    mailbox.answer(marks.as_slice())?;
-    assert_eq!(rt; poll(&mut mailbox, 0), Told::Vote(b'v'));
-    assert_eq!(rt; poll(&mut mailbox, 1), Told::Proposed(b'w'));
-    assert_eq!(rt; poll(&mut mailbox, 2), Told::Verdict(true));
-    assert_eq!(rt; poll(&mut mailbox, 2), Told::Pending);
-    assert_eq!(rt; poll(&mut mailbox, 3), Told::Acknowledged);
-    assert_eq!(rt; poll(&mut mailbox, 4), Told::Databases);
-    assert_eq!(rt; poll(&mut mailbox, 5), Told::Stage(b'x'));
-    Ok(())
+    let rows = [
+        (Act::Take, ("prepare", 0, 'a')),
+        (Act::Take, ("propose", 1, 'b')),
+        (Act::Take, ("verify", 2, 'c')),
+        (Act::Take, ("finalized", 3, 'd')),
+        (Act::Take, ("subscribe", 4, '-')),
+        (Act::Take, ("prepare", 5, 'e')),
+        (Act::Take, ("no event", 0, '-')),
+        (Act::Poll(2), ("pending", 0, '-')),
+        (
+            Act::Answer(&[
+                Sign::Answered(0, Decision::Vote, b'v'),
+                Sign::Answered(1, Decision::Block, b'w'),
+                Sign::Answered(5, Decision::Stage, b'x'),
+                Sign::Verdict(2, true),
+                Sign::Acknowledged(3),
+                Sign::Databases(4),
+            ]),
+            ("done", 0, '-'),
+        ),
+        (Act::Poll(0), ("vote", 0, 'v')),
+        (Act::Poll(1), ("proposed", 0, 'w')),
+        (Act::Poll(2), ("valid", 0, '-')),
+        (Act::Poll(2), ("pending", 0, '-')),
+        (Act::Poll(3), ("acknowledged", 0, '-')),
+        (Act::Poll(4), ("databases", 0, '-')),
+        (Act::Poll(5), ("stage", 0, 'x')),
+    ];
+    runs(&rt, rt.alloc(), 2, &rows)
 }
 
 #[test]
 fn stop_ends_what_waits_and_what_was_handed_out(rt: HostRuntime) -> Result<(), Fail> {
-    let alloc = rt.alloc();
-    let mut mailbox = asked(alloc, 1)?;
-    assert_eq!(rt; take(&mut mailbox), Some(Taken::Prepare(0, b'a')));
-    mailbox.answer(&[Mark::Declined { ticket: 0 }, Mark::Dropped { ticket: 3 }])?;
-    mailbox.answer(&[Mark::Stopped])?;
-    assert_eq!(rt; take(&mut mailbox), None);
-    assert_eq!(rt; poll(&mut mailbox, 0), Told::Wait);
-    assert_eq!(rt; poll(&mut mailbox, 1), Told::Nothing);
-    assert_eq!(rt; poll(&mut mailbox, 2), Told::Stopped);
-    assert_eq!(rt; poll(&mut mailbox, 3), Told::Cancelled);
-    assert_eq!(rt; poll(&mut mailbox, 4), Told::Stopped);
-    assert_eq!(rt; poll(&mut mailbox, 5), Told::Wait);
-    assert_eq!(rt; mailbox.report(block(alloc, b'f', 1)?)?, (Feedback::Ok, 6));
-    assert_eq!(rt;
-        mailbox.report(block(alloc, b'g', 1)?)?,
-        (Feedback::Backoff, 7)
-    );
-    mailbox.answer(&[Mark::Stopped])?;
-    assert_eq!(rt; poll(&mut mailbox, 6), Told::Cancelled);
-    assert_eq!(rt; poll(&mut mailbox, 7), Told::Cancelled);
-    Ok(())
+    let rows = [
+        (Act::Take, ("prepare", 0, 'a')),
+        (
+            Act::Answer(&[Sign::Declined(0), Sign::Dropped(3)]),
+            ("done", 0, '-'),
+        ),
+        (Act::Answer(&[Sign::Stopped]), ("done", 0, '-')),
+        (Act::Take, ("no event", 0, '-')),
+        (Act::Poll(0), ("wait", 0, '-')),
+        (Act::Poll(1), ("not proposed", 0, '-')),
+        (Act::Poll(2), ("stopped", 0, '-')),
+        (Act::Poll(3), ("cancelled", 0, '-')),
+        (Act::Poll(4), ("stopped", 0, '-')),
+        (Act::Poll(5), ("wait", 0, '-')),
+        (Act::Report(b'f'), ("ok", 6, '-')),
+        (Act::Report(b'g'), ("backoff", 7, '-')),
+        (Act::Answer(&[Sign::Stopped]), ("done", 0, '-')),
+        (Act::Poll(6), ("cancelled", 0, '-')),
+        (Act::Poll(7), ("cancelled", 0, '-')),
+    ];
+    runs(&rt, rt.alloc(), 1, &rows)
 }
 
 #[test]
 fn cancelled_request_is_withdrawn_or_told(rt: HostRuntime) -> Result<(), Fail> {
-    let mut mailbox = asked(rt.alloc(), 1)?;
-    mailbox.cancel(4);
-    mailbox.cancel(0);
-    assert_eq!(rt; take(&mut mailbox), Some(Taken::Propose(1, b'b')));
-    assert_eq!(rt; take(&mut mailbox), Some(Taken::Verify(2, b'c')));
-    for ticket in [2, 1, 2, 3, 9] {
-        mailbox.cancel(ticket);
-    }
-    assert_eq!(rt; take(&mut mailbox), Some(Taken::Cancel(1)));
-    assert_eq!(rt; take(&mut mailbox), Some(Taken::Cancel(2)));
-    assert_eq!(rt; take(&mut mailbox), Some(Taken::Finalized(3, b'd')));
-    assert_eq!(rt; take(&mut mailbox), Some(Taken::Prepare(5, b'e')));
-    mailbox.cancel(5);
-    mailbox.answer(&[Mark::Dropped { ticket: 5 }])?;
-    assert_eq!(rt; take(&mut mailbox), None);
-    assert_eq!(rt; poll(&mut mailbox, 5), Told::Wait);
-    assert_eq!(rt; poll(&mut mailbox, 4), Told::Pending);
-    Ok(())
+    let rows = [
+        (Act::Cancel(4), ("done", 0, '-')),
+        (Act::Cancel(0), ("done", 0, '-')),
+        (Act::Take, ("propose", 1, 'b')),
+        (Act::Take, ("verify", 2, 'c')),
+        (Act::Cancel(2), ("done", 0, '-')),
+        (Act::Cancel(1), ("done", 0, '-')),
+        (Act::Cancel(2), ("done", 0, '-')),
+        (Act::Cancel(3), ("done", 0, '-')),
+        (Act::Cancel(9), ("done", 0, '-')),
+        (Act::Take, ("cancel", 1, '-')),
+        (Act::Take, ("cancel", 2, '-')),
+        (Act::Take, ("finalized", 3, 'd')),
+        (Act::Take, ("prepare", 5, 'e')),
+        (Act::Cancel(5), ("done", 0, '-')),
+        (Act::Answer(&[Sign::Dropped(5)]), ("done", 0, '-')),
+        (Act::Take, ("no event", 0, '-')),
+        (Act::Poll(5), ("wait", 0, '-')),
+        (Act::Poll(4), ("pending", 0, '-')),
+    ];
+    runs(&rt, rt.alloc(), 1, &rows)
 }

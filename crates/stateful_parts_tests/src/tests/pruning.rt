@@ -2,8 +2,8 @@
 
 use stateful_pruning::{InvalidPruneConfig, PruneConfig, Pruning, PruningError};
 use stateful_types::{Height, OutOfMemory};
-use std::alloc::Global;
 use std::num::NonZeroUsize;
+use std::process::Abort;
 use std::test::Fail;
 
 fn config_of(
@@ -20,59 +20,71 @@ fn config_of(
     })
 }
 
-/// The answers to heights with their targets and operations: the two heights and the targets of
-/// each prune.
-fn answers(
-    alloc: Global,
-    pruning: &mut Pruning<char>,
-    entries: &[(u64, char, u64)],
-) -> Result<Vec<Option<(u64, u64, char)>>, OutOfMemory> {
-    let mut answers = Vec::new(alloc);
-    for (height, targets, operations) in entries {
-        let prune = pruning.observe(Height(*height), *targets, *operations)?;
-        answers.push(prune.map(|prune| {
-            (
-                prune.marshal_height.0,
-                prune.barrier_height.0,
-                prune.qmdb_target,
-            )
-        }))?;
+/// A height with its targets and operations.
+type Entry = (u64, char, u64);
+
+/// The two heights and the targets of a prune.
+type Answer = Option<(u64, u64, char)>;
+
+fn answer(pruning: &mut Pruning<char>, entry: Entry) -> Result<Answer, OutOfMemory> {
+    let (height, targets, operations) = entry;
+    match pruning.observe(Height(height), targets, operations)? {
+        Some(prune) => Ok(Some((
+            prune.marshal_height.0,
+            prune.barrier_height.0,
+            prune.qmdb_target,
+        ))),
+        None => Ok(None),
     }
-    Ok(answers)
+}
+
+/// Observes each entry, of which so many may be unacknowledged, and compares the answer with it.
+fn check(
+    rt: &(impl Abort + AllocGlobal),
+    config: PruneConfig,
+    max_pending_acks: usize,
+    rows: &[(Entry, Answer)],
+) -> Result<(), Fail> {
+    let mut pruning = Pruning::new(rt.alloc(), config, max_pending_acks, 0)?;
+    for (entry, want) in rows {
+        assert_eq!(rt; answer(&mut pruning, *entry)?, *want, "at {entry:?}");
+    }
+    Ok(())
 }
 
 #[test]
 fn prunes_once_in_an_interval(rt: HostRuntime) -> Result<(), Fail> {
-    let config = config_of(4, 1, 0, 0)?;
-    let mut pruning = Pruning::new(rt.alloc(), config, 1, 0)?;
-    let entries = [(1, 'a', 7), (2, 'b', 7), (3, 'c', 7), (4, 'd', 7)];
-    assert_eq!(rt;
-        answers(rt.alloc(), &mut pruning, &entries)?.as_slice(),
-        [None, None, None, Some((2, 3, 'c'))].as_slice()
-    );
-    Ok(())
+    let rows = [
+        ((1, 'a', 7), None),
+        ((2, 'b', 7), None),
+        ((3, 'c', 7), None),
+        ((4, 'd', 7), Some((2, 3, 'c'))),
+    ];
+    check(&rt, config_of(4, 1, 0, 0)?, 1, &rows)
 }
 
 #[test]
-fn retains_operations(rt: HostRuntime) -> Result<(), Fail> {
-    let entries = [
-        (1, 'a', 3),
-        (2, 'b', 5),
-        (3, 'c', 6),
-        (4, 'd', 9),
-        (5, 'e', 10),
+fn retains_four_operations(rt: HostRuntime) -> Result<(), Fail> {
+    let rows = [
+        ((1, 'a', 3), None),
+        ((2, 'b', 5), None),
+        ((3, 'c', 6), None),
+        ((4, 'd', 9), Some((1, 2, 'b'))),
+        ((5, 'e', 10), Some((2, 3, 'c'))),
     ];
-    let mut pruning = Pruning::new(rt.alloc(), config_of(1, 3, 0, 4)?, 0, 0)?;
-    assert_eq!(rt;
-        answers(rt.alloc(), &mut pruning, &entries)?.as_slice(),
-        [None, None, None, Some((1, 2, 'b')), Some((2, 3, 'c'))].as_slice()
-    );
-    let mut pruning = Pruning::new(rt.alloc(), config_of(1, 3, 0, 7)?, 0, 0)?;
-    assert_eq!(rt;
-        answers(rt.alloc(), &mut pruning, &entries)?.as_slice(),
-        [None, None, None, None, None].as_slice()
-    );
-    Ok(())
+    check(&rt, config_of(1, 3, 0, 4)?, 0, &rows)
+}
+
+#[test]
+fn retains_seven_operations(rt: HostRuntime) -> Result<(), Fail> {
+    let rows = [
+        ((1, 'a', 3), None),
+        ((2, 'b', 5), None),
+        ((3, 'c', 6), None),
+        ((4, 'd', 9), None),
+        ((5, 'e', 10), None),
+    ];
+    check(&rt, config_of(1, 3, 0, 7)?, 0, &rows)
 }
 
 #[test]
@@ -111,10 +123,7 @@ fn errors_print_their_names(rt: HostRuntime) -> Result<(), Fail> {
     ] {
         assert_eq!(rt; format!(in rt.alloc(); "{error}")?.as_str(), want);
     }
-    let error = InvalidPruneConfig;
-    assert_eq!(rt;
-        format!(in rt.alloc(); "{error}")?.as_str(),
-        "InvalidPruneConfig"
-    );
+    let text = format!(in rt.alloc(); "{InvalidPruneConfig}")?;
+    assert_eq!(rt; text.as_str(), "InvalidPruneConfig");
     Ok(())
 }

@@ -1,10 +1,9 @@
 //! What scripts say, and at which line they are refused.
 
 use stateful_script::{
-    Name, Script, ScriptError, World, first_is_named, last_is_ended, number, number_is_decimal,
+    Name, Script, ScriptError, first_is_named, last_is_ended, number, number_is_decimal,
     plans_are_kept, read_script, whole_is_read,
 };
-use stateful_types::Height;
 use std::alloc::{AllocError, Global};
 use std::process::Abort;
 use std::test::Fail;
@@ -51,38 +50,68 @@ fn with_ops(alloc: Global, count: usize) -> Result<String, AllocError> {
     Ok(text)
 }
 
+/// What a script says in short: its world and its names, the parent, the height and the number of
+/// operations of each block, and the number of events.
+fn outline(alloc: Global, text: &[u8]) -> Result<String, Fail> {
+    let script = read_script(alloc, text)?;
+    let world = script.world;
+    let mut outline = format!(in alloc; "{world:?}")?;
+    for name in script.names.as_slice() {
+        outline.push_str(" ")?;
+        outline.push_str(name.as_str())?;
+    }
+    for block in script.blocks.as_slice() {
+        let (parent, height, ops) = (block.parent, block.height.0, block.ops.len());
+        let line = format!(in alloc; ", {parent} at {height} with {ops}")?;
+        outline.push_str(line.as_str())?;
+    }
+    let events = script.events.len();
+    outline.push_str(format!(in alloc; ", {events} events")?.as_str())?;
+    Ok(outline)
+}
+
 #[test]
 fn says_what_its_lines_say(rt: HostRuntime) -> Result<(), Fail> {
-    let text = b"# blocks may come first\nblock a on genesis view 3 move 7 65535 2 mint 7 0\n\n\
-        world plain\nblock b1 on a view 18446744073709551615\nturn 0\nfinalize a\n#";
-    let mut bytes = text.to_vec(rt.alloc())?;
-    bytes.push(b'\n')?;
-    let script = read_script(rt.alloc(), bytes.as_slice())?;
-    assert_eq!(rt; script.world, Some(World::Plain));
-    let names = script.names.as_slice();
-    assert_eq!(rt; names.len(), 3);
-    assert_eq!(rt; names[0].as_str(), "genesis");
-    assert_eq!(rt; names[1].as_str(), "a");
-    assert_eq!(rt; names[2].as_str(), "b1");
-    assert_eq!(rt; script.blocks.len(), 2);
-    assert_eq!(rt; script.events.len(), 2);
+    let rows: [(&[u8], &str); 3] = [
+        (b"", "None genesis, 0 events"),
+        (
+            b"# blocks may come first\nblock a on genesis view 3 move 7 65535 2 mint 7 0\n\n\
+            world plain\nblock b1 on a view 18446744073709551615\nturn 0\nfinalize a\n#\n",
+            "Some(Plain) genesis a b1, 0 at 1 with 2, 1 at 2 with 0, 2 events",
+        ),
+        // A build names a block.
+        (
+            b"prepare p on genesis view 1 vote mint 1 2\npropose q on p view 2 epoch 3\n\
+            verify q\n",
+            "None genesis p q, 0 at 1 with 1, 1 at 2 with 0, 3 events",
+        ),
+    ];
+    for (text, want) in rows {
+        let outline = outline(rt.alloc(), text)?;
+        assert_eq!(rt; outline.as_str(), want);
+    }
     Ok(())
 }
 
-/// What is said of the last block, or of the last event, behind two blocks a and b.
+/// The last event, or the last block where there is no event.
+fn last_of(alloc: Global, script: &Script) -> Result<String, AllocError> {
+    match (
+        script.events.as_slice().last(),
+        script.blocks.as_slice().last(),
+    ) {
+        (Some(event), _) => format!(in alloc; "{event:?}"),
+        (None, Some(block)) => format!(in alloc; "{block:?}"),
+        (None, None) => Ok(String::new(alloc)),
+    }
+}
+
+/// What is said of the last event, or of the last block, behind two blocks a and b.
 fn said_of(alloc: Global, line: &str) -> Result<String, Fail> {
     let text = format!(in alloc;
         "block a on genesis view 1\nblock b on a view 2 height 9\n{line}\n"
     )?;
     let script = read_script(alloc, text.as_bytes())?;
-    match (
-        script.events.as_slice().last(),
-        script.blocks.as_slice().last(),
-    ) {
-        (Some(event), _) => Ok(format!(in alloc; "{event:?}")?),
-        (None, Some(block)) => Ok(format!(in alloc; "{block:?}")?),
-        (None, None) => Ok(String::new(alloc)),
-    }
+    Ok(last_of(alloc, &script)?)
 }
 
 fn check_said(rt: &impl Abort, alloc: Global, rows: &[(&str, &str)]) -> Result<(), Fail> {
@@ -154,32 +183,6 @@ fn event_lines_say_events(rt: HostRuntime) -> Result<(), Fail> {
         ),
     ];
     check_said(&rt, rt.alloc(), rows.as_slice())
-}
-
-#[test]
-fn a_build_names_a_block(rt: HostRuntime) -> Result<(), Fail> {
-    let script = read_script(
-        rt.alloc(),
-        b"prepare p on genesis view 1 vote mint 1 2\npropose q on p view 2 epoch 3\nverify q\n",
-    )?;
-    assert_eq!(rt; script.names.len(), 3);
-    let blocks = script.blocks.as_slice();
-    assert_eq!(rt; blocks.len(), 2);
-    assert_eq!(rt; blocks[0].ops.len(), 1);
-    assert_eq!(rt; blocks[1].parent, 1);
-    assert_eq!(rt; blocks[1].height, Height(2));
-    assert_eq!(rt; script.events.len(), 3);
-    Ok(())
-}
-
-#[test]
-fn an_empty_script_names_genesis(rt: HostRuntime) -> Result<(), Fail> {
-    let script: Script = read_script(rt.alloc(), b"")?;
-    assert_eq!(rt; script.world, None);
-    assert_eq!(rt; script.names.len(), 1);
-    assert!(rt; script.blocks.is_empty());
-    assert!(rt; script.events.is_empty());
-    Ok(())
 }
 
 fn check_all(rt: &impl Abort, alloc: Global, cases: &[(&[u8], Option<u64>)]) -> Result<(), Fail> {
@@ -343,23 +346,51 @@ fn numbers_have_one_spelling_and_an_end(rt: HostRuntime) -> Result<(), Fail> {
 }
 
 #[test]
-fn reads_up_to_each_limit(rt: HostRuntime) -> Result<(), Fail> {
-    let alloc = rt.alloc();
-    let sixteen = with_ops(alloc, 16)?;
-    assert_eq!(rt; first_unread(alloc, sixteen.as_bytes())?, None);
-    let seventeen = with_ops(alloc, 17)?;
-    assert_eq!(rt; first_unread(alloc, seventeen.as_bytes())?, Some(1));
-    let mut names = named(alloc, 1024)?;
-    names.push_str("verify n1023\n")?;
-    assert_eq!(rt; first_unread(alloc, names.as_bytes())?, None);
-    names.push_str("propose a on genesis view 0\n")?;
-    assert_eq!(rt; first_unread(alloc, names.as_bytes())?, Some(1026));
-    let mut events = repeated(alloc, "turn 0\n", 65_536)?;
-    events.push_str("# no event\n\n")?;
-    assert_eq!(rt; first_unread(alloc, events.as_bytes())?, None);
-    events.push_str("prepare a on genesis view 0 wait\n")?;
-    assert_eq!(rt; first_unread(alloc, events.as_bytes())?, Some(65_539));
+fn a_block_has_sixteen_operations_at_most(rt: HostRuntime) -> Result<(), Fail> {
+    for (count, line) in [(16, None), (17, Some(1))] {
+        let text = with_ops(rt.alloc(), count)?;
+        assert_eq!(rt; first_unread(rt.alloc(), text.as_bytes())?, line);
+    }
     Ok(())
+}
+
+/// Puts these lines behind a text, one after another, and compares the first line that isn't read
+/// then.
+fn check_grown(
+    rt: &impl Abort,
+    alloc: Global,
+    text: String,
+    rows: &[(&str, Option<u64>)],
+) -> Result<(), Fail> {
+    let mut text = text;
+    for (lines, want) in rows {
+        text.push_str(lines)?;
+        assert_eq!(rt; first_unread(alloc, text.as_bytes())?, *want, "{lines}");
+    }
+    Ok(())
+}
+
+#[test]
+fn a_script_names_1024_blocks_beside_genesis_at_most(rt: HostRuntime) -> Result<(), Fail> {
+    let rows = [
+        ("verify n1023\n", None),
+        ("propose a on genesis view 0\n", Some(1026)),
+    ];
+    check_grown(&rt, rt.alloc(), named(rt.alloc(), 1024)?, &rows)
+}
+
+#[test]
+fn a_script_has_65536_events_at_most(rt: HostRuntime) -> Result<(), Fail> {
+    let rows = [
+        ("# no event\n\n", None),
+        ("prepare a on genesis view 0 wait\n", Some(65_539)),
+    ];
+    check_grown(
+        &rt,
+        rt.alloc(),
+        repeated(rt.alloc(), "turn 0\n", 65_536)?,
+        &rows,
+    )
 }
 
 #[test]

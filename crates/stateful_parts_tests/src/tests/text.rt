@@ -1,143 +1,147 @@
 //! Each line of a transcript, as it is printed.
 
 use super::letter::{Letter, block};
-use stateful_db::Flushed;
 use stateful_history::{Decision, Entry, Event, How, JobKind, Mark};
 use stateful_text::{End, Label, Shown, script_line, transcript, usage_line};
-use stateful_types::{
-    Ancestry, Anchor, Digest, Digested, Floor, Height, Items, OutOfMemory, Share,
-};
-use std::alloc::{AllocError, Global};
+use stateful_types::{Anchor, Digest, Digested, Height, Items, OutOfMemory, Share};
+use std::alloc::Global;
 use std::test::Fail;
 
-fn label(alloc: Global, name: &[u8], block: &Digested<Letter>) -> Result<Label, AllocError> {
-    Ok(Label {
-        name: Items::from_vec(Vec::from_slice(alloc, name)?),
-        digest: block.digest(),
-    })
+/// A name, and the digest of the block that it names.
+type Name = (&'static str, Digest);
+
+fn labels(alloc: Global, names: &[Name]) -> Result<Vec<Label>, OutOfMemory> {
+    let mut labels = Vec::new(alloc);
+    for (name, digest) in names {
+        labels.push(Label {
+            name: Items::from_vec(Vec::from_slice(alloc, name.as_bytes())?),
+            digest: *digest,
+        })?;
+    }
+    Ok(labels)
 }
 
-fn entry(event: Event<Letter, u8, u8>, marks: Vec<Mark<Letter>>) -> Entry<Letter, u8, u8> {
+/// These marks, of an event that isn't printed.
+fn entry(marks: Vec<Mark<Letter>>) -> Entry<Letter, u8, u8> {
     Entry {
-        event,
+        event: Event::Stop,
         marks: Items::from_vec(marks),
     }
 }
 
-/// The databases are opened at genesis.
-fn opening(alloc: Global, genesis: &Digested<Letter>) -> Result<Entry<Letter, u8, u8>, AllocError> {
-    let anchor = Anchor::from_block(genesis);
-    let marks = vec![in alloc; Mark::Opened { anchor }]?;
-    let floor = Floor {
-        processed: None,
-        cutoff: None,
-        max_pending_acks: 1,
-    };
-    let keep = Items::new(alloc);
-    Ok(entry(Event::Restart { floor, keep }, marks))
-}
-
-/// A block is to be judged.
-fn request(alloc: Global, a: &Digested<Letter>) -> Result<Entry<Letter, u8, u8>, OutOfMemory> {
-    let started = Mark::Started {
-        job: 0,
-        kind: JobKind::Candidate,
-        digest: a.digest(),
-    };
-    let marks = vec![in alloc; started]?;
-    let ancestry = Ancestry {
-        first: a.share()?,
-        rest: Items::new(alloc),
-    };
-    Ok(entry(
-        Event::Verify {
-            ticket: 0,
-            ancestry,
-        },
-        marks,
-    ))
-}
-
-/// Its run ends, and it is judged.
-fn judgement(alloc: Global) -> Result<Entry<Letter, u8, u8>, AllocError> {
-    let ended = Mark::Ended {
-        job: 0,
-        how: How::Kept,
-    };
-    let verdict = Mark::Verdict {
-        ticket: 0,
-        valid: true,
-    };
-    let marks = vec![in alloc; ended, verdict]?;
-    Ok(entry(Event::Turn { job: 0 }, marks))
-}
-
-/// It is final, and applied.
-fn finalization(alloc: Global, a: &Digested<Letter>) -> Result<Entry<Letter, u8, u8>, OutOfMemory> {
-    let barrier = Mark::BarrierBegun {
-        barrier: 0,
-        height: a.height(),
-    };
-    let mut marks = Vec::new(alloc);
-    marks.push(Mark::Began {
-        ticket: 1,
-        block: a.share()?,
-    })?;
-    marks.push(Mark::Applied { block: a.share()? })?;
-    marks.push(barrier)?;
-    let block = a.share()?;
-    Ok(entry(Event::Finalized { ticket: 1, block }, marks))
-}
-
-/// It is durable.
-fn flush(alloc: Global, height: Height) -> Result<Entry<Letter, u8, u8>, AllocError> {
-    let durable = Mark::BarrierDone {
-        barrier: 0,
-        height,
-        good: true,
-    };
-    let acknowledged = Mark::Acknowledged { ticket: 1, height };
-    let marks = vec![in alloc; durable, acknowledged]?;
-    let event = Event::Flushed {
-        barrier: 0,
-        database: 0,
-        answer: Flushed::Good,
-    };
-    Ok(entry(event, marks))
-}
-
-/// A block is judged, finalized and flushed.
-fn first_history(
+/// What is printed of these marks of one event.
+fn printed(
     alloc: Global,
+    names: &[Name],
+    marks: Vec<Mark<Letter>>,
+) -> Result<Vec<u8>, OutOfMemory> {
+    let entries = vec![in alloc; entry(marks)]?;
+    let labels = labels(alloc, names)?;
+    transcript(alloc, labels.as_slice(), entries.as_slice(), &[], End::Done)
+}
+
+/// An event of a history in which a block a is judged, finalized and flushed.
+#[derive(Clone, Copy)]
+enum Happening {
+    /// The databases are opened at genesis.
+    Opening,
+    /// The block is to be judged.
+    Request,
+    /// Its run ends, and it is judged.
+    Judgement,
+    /// It is final, and applied.
+    Finalization,
+    /// It is durable.
+    Flush,
+}
+
+const HISTORY: [Happening; 5] = [
+    Happening::Opening,
+    Happening::Request,
+    Happening::Judgement,
+    Happening::Finalization,
+    Happening::Flush,
+];
+
+fn marks_of(
+    alloc: Global,
+    happening: Happening,
     genesis: &Digested<Letter>,
     a: &Digested<Letter>,
-) -> Result<Vec<Entry<Letter, u8, u8>>, OutOfMemory> {
+) -> Result<Vec<Mark<Letter>>, OutOfMemory> {
+    let height = a.height();
+    let marks = match happening {
+        Happening::Opening => vec![in alloc;
+            Mark::Opened {
+                anchor: Anchor::from_block(genesis),
+            },
+        ]?,
+        Happening::Request => vec![in alloc;
+            Mark::Started {
+                job: 0,
+                kind: JobKind::Candidate,
+                digest: a.digest(),
+            },
+        ]?,
+        Happening::Judgement => vec![in alloc;
+            Mark::Ended {
+                job: 0,
+                how: How::Kept
+            },
+            Mark::Verdict {
+                ticket: 0,
+                valid: true
+            },
+        ]?,
+        Happening::Finalization => {
+            let (begun, applied) = (a.share()?, a.share()?);
+            vec![in alloc;
+                Mark::Began {
+                    ticket: 1,
+                    block: begun
+                },
+                Mark::Applied { block: applied },
+                Mark::BarrierBegun { barrier: 0, height },
+            ]?
+        }
+        Happening::Flush => vec![in alloc;
+            Mark::BarrierDone {
+                barrier: 0,
+                height,
+                good: true
+            },
+            Mark::Acknowledged { ticket: 1, height },
+        ]?,
+    };
+    Ok(marks)
+}
+
+/// The transcript of that history, behind which a database holds an account.
+fn printed_history(alloc: Global) -> Result<Vec<u8>, OutOfMemory> {
+    let genesis = block(alloc, b'g', 0)?;
+    let a = block(alloc, b'a', 1)?;
     let mut entries = Vec::new(alloc);
-    entries.push(opening(alloc, genesis)?)?;
-    entries.push(request(alloc, a)?)?;
-    entries.push(judgement(alloc)?)?;
-    entries.push(finalization(alloc, a)?)?;
-    entries.push(flush(alloc, a.height())?)?;
-    Ok(entries)
+    for happening in HISTORY {
+        entries.push(entry(marks_of(alloc, happening, &genesis, &a)?))?;
+    }
+    let labels = labels(alloc, &[("genesis", genesis.digest()), ("a", a.digest())])?;
+    let databases = [Shown::Balances {
+        start: 1,
+        end: 2,
+        balances: Items::from_vec(vec![in alloc; (1, 100)]?),
+    }];
+    transcript(
+        alloc,
+        labels.as_slice(),
+        entries.as_slice(),
+        &databases,
+        End::Done,
+    )
 }
 
 #[test]
 fn one_block_from_its_verification_to_its_acknowledgement(rt: HostRuntime) -> Result<(), Fail> {
-    let alloc = rt.alloc();
-    let genesis = block(alloc, b'g', 0)?;
-    let a = block(alloc, b'a', 1)?;
-    let labels = vec![in alloc;
-        label(alloc, b"genesis", &genesis)?,
-        label(alloc, b"a", &a)?,
-    ]?;
-    let entries = first_history(alloc, &genesis, &a)?;
-    let shown = Shown::Balances {
-        start: 1,
-        end: 2,
-        balances: Items::from_vec(vec![in alloc; (1, 100)]?),
-    };
-    let databases = vec![in alloc; shown]?;
-    let text = transcript(alloc, &labels, &entries, &databases, End::Done)?;
+    let text = printed_history(rt.alloc())?;
     assert_eq!(rt;
         text.as_slice(),
         b"#0
@@ -162,14 +166,21 @@ done
     Ok(())
 }
 
-fn job_marks(alloc: Global, digest: Digest) -> Result<Vec<Mark<Letter>>, AllocError> {
-    let kinds = [
+fn job_marks(alloc: Global, digest: Digest) -> Result<Vec<Mark<Letter>>, OutOfMemory> {
+    let mut marks = Vec::new(alloc);
+    for kind in [
         JobKind::Candidate,
         JobKind::Finalized,
         JobKind::Build,
         JobKind::Hook,
-    ];
-    let hows = [
+    ] {
+        marks.push(Mark::Started {
+            job: 4,
+            kind,
+            digest,
+        })?;
+    }
+    for how in [
         How::Kept,
         How::Rejected,
         How::Mismatched,
@@ -177,102 +188,103 @@ fn job_marks(alloc: Global, digest: Digest) -> Result<Vec<Mark<Letter>>, AllocEr
         How::Cancelled,
         How::Nothing,
         How::Hooked,
-    ];
-    let mut marks = Vec::new(alloc);
-    for kind in kinds {
-        marks.push(Mark::Started {
-            job: 4,
-            kind,
-            digest,
-        })?;
-    }
-    for how in hows {
+    ] {
         marks.push(Mark::Ended { job: 5, how })?;
     }
     Ok(marks)
 }
 
-fn request_marks(
-    alloc: Global,
-    block: &Digested<Letter>,
-) -> Result<Vec<Mark<Letter>>, OutOfMemory> {
-    let digest = block.digest();
-    let mut marks = Vec::new(alloc);
-    for ticket in [Some(2), None] {
-        marks.push(Mark::Asked {
-            fetch: 1,
-            ticket,
-            digest,
-        })?;
+fn answered(decision: Decision, block: Digested<Letter>) -> Mark<Letter> {
+    Mark::Answered {
+        ticket: 9,
+        decision,
+        block,
     }
-    marks.push(Mark::Withdrawn { fetch: 3 })?;
-    marks.push(Mark::Built {
-        job: 6,
-        ticket: 7,
-        block: block.share()?,
-    })?;
-    for valid in [true, false] {
-        marks.push(Mark::Verdict { ticket: 8, valid })?;
-    }
-    for decision in [Decision::Block, Decision::Vote, Decision::Stage] {
-        marks.push(Mark::Answered {
-            ticket: 9,
-            decision,
-            block: block.share()?,
-        })?;
-    }
-    marks.push(Mark::Declined { ticket: 10 })?;
-    marks.push(Mark::Databases { ticket: 11 })?;
-    marks.push(Mark::Dropped { ticket: 12 })?;
-    Ok(marks)
 }
 
-fn state_marks(alloc: Global, block: &Digested<Letter>) -> Result<Vec<Mark<Letter>>, OutOfMemory> {
-    let anchor = Anchor::from_block(block);
+fn request_marks(alloc: Global, n: &Digested<Letter>) -> Result<Vec<Mark<Letter>>, OutOfMemory> {
+    let digest = n.digest();
+    let (built, whole, vote, stage) = (n.share()?, n.share()?, n.share()?, n.share()?);
+    Ok(vec![in alloc;
+        Mark::Asked {
+            fetch: 1,
+            ticket: Some(2),
+            digest
+        },
+        Mark::Asked {
+            fetch: 1,
+            ticket: None,
+            digest
+        },
+        Mark::Withdrawn { fetch: 3 },
+        Mark::Built {
+            job: 6,
+            ticket: 7,
+            block: built
+        },
+        Mark::Verdict {
+            ticket: 8,
+            valid: true
+        },
+        Mark::Verdict {
+            ticket: 8,
+            valid: false
+        },
+        answered(Decision::Block, whole),
+        answered(Decision::Vote, vote),
+        answered(Decision::Stage, stage),
+        Mark::Declined { ticket: 10 },
+        Mark::Databases { ticket: 11 },
+        Mark::Dropped { ticket: 12 },
+    ]?)
+}
+
+fn state_marks(alloc: Global, n: &Digested<Letter>) -> Result<Vec<Mark<Letter>>, OutOfMemory> {
+    let anchor = Anchor::from_block(n);
     let height = Height(14);
-    let mut marks = Vec::new(alloc);
-    marks.push(Mark::Opened { anchor })?;
-    marks.push(Mark::Converged { anchor })?;
-    marks.push(Mark::Began {
-        ticket: 13,
-        block: block.share()?,
-    })?;
-    marks.push(Mark::Applied {
-        block: block.share()?,
-    })?;
-    marks.push(Mark::BarrierBegun {
-        barrier: 15,
-        height,
-    })?;
-    for good in [true, false] {
-        marks.push(Mark::BarrierDone {
+    let (begun, applied) = (n.share()?, n.share()?);
+    Ok(vec![in alloc;
+        Mark::Opened { anchor },
+        Mark::Converged { anchor },
+        Mark::Began {
+            ticket: 13,
+            block: begun
+        },
+        Mark::Applied { block: applied },
+        Mark::BarrierBegun {
+            barrier: 15,
+            height
+        },
+        Mark::BarrierDone {
             barrier: 15,
             height,
-            good,
-        })?;
-    }
-    marks.push(Mark::Acknowledged { ticket: 16, height })?;
-    marks.push(Mark::Recorded { anchor })?;
-    marks.push(Mark::Dispatched {
-        generation: 17,
-        height,
-    })?;
-    marks.push(Mark::Pruned {
-        marshal: Height(18),
-        target: Height(19),
-    })?;
-    marks.push(Mark::Completed { height })?;
-    marks.push(Mark::Stopped)?;
-    Ok(marks)
+            good: true
+        },
+        Mark::BarrierDone {
+            barrier: 15,
+            height,
+            good: false
+        },
+        Mark::Acknowledged { ticket: 16, height },
+        Mark::Recorded { anchor },
+        Mark::Dispatched {
+            generation: 17,
+            height
+        },
+        Mark::Pruned {
+            marshal: Height(18),
+            target: Height(19)
+        },
+        Mark::Completed { height },
+        Mark::Stopped,
+    ]?)
 }
 
 #[test]
 fn each_mark_of_a_request_has_its_line(rt: HostRuntime) -> Result<(), Fail> {
-    let alloc = rt.alloc();
-    let n = block(alloc, b'n', 20)?;
-    let labels = vec![in alloc; label(alloc, b"n1", &n)?]?;
-    let entries = vec![in alloc; entry(Event::Stop, request_marks(alloc, &n)?)]?;
-    let text = transcript(alloc, &labels, &entries, &[], End::Done)?;
+    let n = block(rt.alloc(), b'n', 20)?;
+    let marks = request_marks(rt.alloc(), &n)?;
+    let text = printed(rt.alloc(), &[("n1", n.digest())], marks)?;
     assert_eq!(rt;
         text.as_slice(),
         b"#0
@@ -297,11 +309,9 @@ done
 
 #[test]
 fn each_mark_of_a_job_has_its_line(rt: HostRuntime) -> Result<(), Fail> {
-    let alloc = rt.alloc();
-    let n = block(alloc, b'n', 20)?;
-    let labels = vec![in alloc; label(alloc, b"n1", &n)?]?;
-    let entries = vec![in alloc; entry(Event::Stop, job_marks(alloc, n.digest())?)]?;
-    let text = transcript(alloc, &labels, &entries, &[], End::Done)?;
+    let n = block(rt.alloc(), b'n', 20)?;
+    let marks = job_marks(rt.alloc(), n.digest())?;
+    let text = printed(rt.alloc(), &[("n1", n.digest())], marks)?;
     assert_eq!(rt;
         text.as_slice(),
         b"#0
@@ -325,11 +335,9 @@ done
 
 #[test]
 fn each_mark_of_the_state_has_its_line(rt: HostRuntime) -> Result<(), Fail> {
-    let alloc = rt.alloc();
-    let n = block(alloc, b'n', 20)?;
-    let labels = vec![in alloc; label(alloc, b"n1", &n)?]?;
-    let entries = vec![in alloc; entry(Event::Stop, state_marks(alloc, &n)?)]?;
-    let text = transcript(alloc, &labels, &entries, &[], End::Done)?;
+    let n = block(rt.alloc(), b'n', 20)?;
+    let marks = state_marks(rt.alloc(), &n)?;
+    let text = printed(rt.alloc(), &[("n1", n.digest())], marks)?;
     assert_eq!(rt;
         text.as_slice(),
         b"#0
@@ -359,10 +367,9 @@ fn names(rt: HostRuntime) -> Result<(), Fail> {
     let alloc = rt.alloc();
     let a = block(alloc, b'a', 1)?;
     let b = block(alloc, b'b', 2)?;
-    let labels = vec![in alloc; label(alloc, b"a", &a)?, label(alloc, b"a2", &a)?]?;
+    let names = [("a", a.digest()), ("a2", a.digest())];
     let marks = vec![in alloc; Mark::Applied { block: a }, Mark::Applied { block: b }]?;
-    let entries = vec![in alloc; entry(Event::Stop, marks)]?;
-    let text = transcript(alloc, &labels, &entries, &[], End::Done)?;
+    let text = printed(alloc, &names, marks)?;
     assert_eq!(rt;
         text.as_slice(),
         b"#0
@@ -375,26 +382,30 @@ done
     Ok(())
 }
 
-#[test]
-fn databases_and_a_halt(rt: HostRuntime) -> Result<(), Fail> {
-    let alloc = rt.alloc();
+/// What is printed of two databases with these accounts, and of three that aren't here.
+fn printed_halt(alloc: Global, accounts: &[(u64, u64)]) -> Result<Vec<u8>, OutOfMemory> {
     let empty = Shown::Balances {
         start: 0,
         end: 1,
         balances: Items::new(alloc),
     };
-    let two = Shown::Balances {
+    let full = Shown::Balances {
         start: 2,
         end: 3,
-        balances: Items::from_vec(vec![in alloc; (1, 100), (2, 18446744073709551615)]?),
+        balances: Items::from_vec(Vec::from_slice(alloc, accounts)?),
     };
-    let databases = vec![in alloc; empty, two, Shown::Closed, Shown::Lost, Shown::Away]?;
-    let entries: Vec<Entry<Letter, u8, u8>> = Vec::new(alloc);
+    let databases = [empty, full, Shown::Closed, Shown::Lost, Shown::Away];
+    let entries: [Entry<Letter, u8, u8>; 0] = [];
     let end = End::Halted {
         at: 3,
         name: "SkippedHeight",
     };
-    let text = transcript(alloc, &[], &entries, &databases, end)?;
+    transcript(alloc, &[], &entries, &databases, end)
+}
+
+#[test]
+fn databases_and_a_halt(rt: HostRuntime) -> Result<(), Fail> {
+    let text = printed_halt(rt.alloc(), &[(1, 100), (2, 18446744073709551615)])?;
     assert_eq!(rt;
         text.as_slice(),
         b"database 0 0..1
