@@ -5,10 +5,10 @@ ghost use Rattle.std.specs.Prelude.{◌≡◌, ◌^◌, ◌<◌, length, IfOk};
 use bytes::Bytes;
 use stateful_probe::{Config, Event, Mailbox, Message, Out, Probe, ProbeOut, Tag};
 use stateful_types::{
-    CodecError, Digest, Epoch, Finalization, Items, MemoryLatest, Round, View, VoteScheme,
+    CodecError, Digest, Epoch, Finalization, Items, MemoryLatest, OutOfMemory, Round, View,
+    VoteScheme,
 };
 use std::alloc::{AllocError, Global};
-use std::fmt::Display;
 use std::process::Abort;
 use std::test::Fail;
 
@@ -36,15 +36,45 @@ enum Act {
 /// What is done, and what comes of it.
 type Row = (Act, &'static str);
 
-/// The participants of a small committee, of which one may be faulty, and of a larger one, of which
-/// two may.
-const FOUR: [u64; 4] = [10, 11, 12, 13];
+/// A probe, of which the epochs from 1 on count, and what it is to serve.
+#[derive(Clone, Copy)]
+struct Setting {
+    participants: &'static [u64],
+    /// Those that have a scheme.
+    epochs: &'static [u64],
+    /// The epoch and the view of the latest finalization, and the number of its signers.
+    latest: Option<(u64, u64, u32)>,
+}
 
-const SEVEN: [u64; 7] = [10, 11, 12, 13, 14, 15, 16];
+/// Of four participants one may be faulty, and of seven two.
+const IN_FOUR: Setting = Setting {
+    participants: &[10, 11, 12, 13],
+    epochs: &[0, 1, 2],
+    latest: None,
+};
 
-const ASKED: &str = "request 10 11 12 13;";
+const IN_SEVEN: Setting = Setting {
+    participants: &[10, 11, 12, 13, 14, 15, 16],
+    epochs: &[0, 1, 2],
+    latest: None,
+};
 
-fn committee(alloc: Global, keys: &[u64]) -> Result<VoteScheme, AllocError>
+const IN_FOUR_THAT_SERVE: Setting = Setting {
+    participants: &[10, 11, 12, 13],
+    epochs: &[0, 1, 2],
+    latest: Some((1, 258, 2)),
+};
+
+/// The lowest epoch that counts has no scheme, while those beside it have one.
+const WITHOUT_A_COMMITTEE: Setting = Setting {
+    participants: &[10, 11, 12, 13],
+    epochs: &[0, 2],
+    latest: Some((1, 258, 2)),
+};
+
+const ASKED: &str = "request [10, 11, 12, 13];";
+
+fn committee(alloc: Global, keys: &[u64]) -> Result<VoteScheme, OutOfMemory>
     ensures { IfOk result (λ scheme. scheme.participants ≡ keys.now) }
 {
     Ok(VoteScheme {
@@ -52,31 +82,22 @@ fn committee(alloc: Global, keys: &[u64]) -> Result<VoteScheme, AllocError>
     })
 }
 
-/// A probe of one committee in the epochs from 0 to 2, of which those from 1 on count.
-fn probe(alloc: Global, keys: &[u64]) -> Result<Probe<VoteScheme>, Fail>
-    requires { length keys.now < 2 ^ 32 }
+fn probe(
+    alloc: Global,
+    participants: &[u64],
+    epochs: &[u64],
+) -> Result<Probe<VoteScheme>, OutOfMemory>
+    requires { length participants.now < 2 ^ 32 }
 {
     let mut schemes = Vec::new(alloc);
-    schemes.push((Epoch(0), committee(alloc, keys)?))?;
-    schemes.push((Epoch(1), committee(alloc, keys)?))?;
-    schemes.push((Epoch(2), committee(alloc, keys)?))?;
+    for epoch in epochs {
+        schemes.push((Epoch(*epoch), committee(alloc, participants)?))?;
+    }
     let config = Config {
         schemes: Items::from_vec(schemes),
         minimum_epoch: Epoch(1),
     };
-    Ok(Probe::new(alloc, config)?)
-}
-
-/// A probe whose lowest epoch that counts, 1, has no scheme, while those beside it have one.
-fn probe_without_committee(alloc: Global) -> Result<Probe<VoteScheme>, Fail> {
-    let mut schemes = Vec::new(alloc);
-    schemes.push((Epoch(0), committee(alloc, &FOUR)?))?;
-    schemes.push((Epoch(2), committee(alloc, &FOUR)?))?;
-    let config = Config {
-        schemes: Items::from_vec(schemes),
-        minimum_epoch: Epoch(1),
-    };
-    Ok(Probe::new(alloc, config)?)
+    Probe::new(alloc, config)
 }
 
 /// A finalization of this round, signed by so many, from the first participant on.
@@ -85,7 +106,7 @@ fn finalization(
     epoch: u64,
     view: u64,
     signers: u32,
-) -> Result<Finalization<Votes>, Fail> {
+) -> Result<Finalization<Votes>, OutOfMemory> {
     let mut certificate = Items::new(alloc);
     for signer in 0..signers {
         certificate.push(signer)?;
@@ -102,83 +123,75 @@ fn finalization(
 }
 
 /// The bytes of a response with such a finalization.
-fn response(alloc: Global, epoch: u64, view: u64, signers: u32) -> Result<Vec<u8>, Fail> {
+fn response(alloc: Global, epoch: u64, view: u64, signers: u32) -> Result<Vec<u8>, OutOfMemory> {
     let mut bytes = Vec::new(alloc);
     let message = Message::Response(finalization(alloc, epoch, view, signers)?);
     message.write::<VoteScheme>(&mut bytes)?;
     Ok(bytes)
 }
 
-fn received(peer: u64, bytes: Vec<u8>) -> Result<Event<u64>, Fail> {
+/// The bytes of a good response, without the last one.
+fn cut(alloc: Global, epoch: u64) -> Result<Vec<u8>, OutOfMemory> {
+    let mut bytes = response(alloc, epoch, 7, 3)?;
+    bytes.pop();
+    Ok(bytes)
+}
+
+/// The bytes of a good response, and one more.
+fn longer(alloc: Global, epoch: u64) -> Result<Vec<u8>, OutOfMemory> {
+    let mut bytes = response(alloc, epoch, 7, 3)?;
+    bytes.push(0)?;
+    Ok(bytes)
+}
+
+fn copied(alloc: Global, bytes: &[u8]) -> Result<Vec<u8>, OutOfMemory> {
+    Ok(Vec::from_slice(alloc, bytes)?)
+}
+
+fn received(peer: u64, bytes: Result<Vec<u8>, OutOfMemory>) -> Result<Event<u64>, OutOfMemory> {
     Ok(Event::Received {
         peer,
-        value: Bytes::from_vec(bytes)?,
+        value: Bytes::from_vec(bytes?)?,
     })
 }
 
-fn event(alloc: Global, act: Act) -> Result<Event<u64>, Fail> {
+fn event(alloc: Global, act: Act) -> Result<Event<u64>, OutOfMemory> {
     match act {
         Act::Subscribe(ticket) => Ok(Event::Subscribe { ticket }),
         Act::Cancel(ticket) => Ok(Event::Cancel { ticket }),
         Act::Attach => Ok(Event::Attach),
         Act::Retry => Ok(Event::Retry),
         Act::Stop => Ok(Event::Stop),
-        Act::Bytes(peer, bytes) => received(peer, Vec::from_slice(alloc, bytes)?),
+        Act::Bytes(peer, bytes) => received(peer, copied(alloc, bytes)),
         Act::Reply(peer, epoch, view, signers) => {
-            received(peer, response(alloc, epoch, view, signers)?)
+            received(peer, response(alloc, epoch, view, signers))
         }
-        Act::Cut(peer, epoch) => {
-            let mut bytes = response(alloc, epoch, 7, 3)?;
-            bytes.pop();
-            received(peer, bytes)
-        }
-        Act::Longer(peer, epoch) => {
-            let mut bytes = response(alloc, epoch, 7, 3)?;
-            bytes.push(0)?;
-            received(peer, bytes)
-        }
+        Act::Cut(peer, epoch) => received(peer, cut(alloc, epoch)),
+        Act::Longer(peer, epoch) => received(peer, longer(alloc, epoch)),
     }
-}
-
-/// Each of these behind a space, and a semicolon.
-fn listed<T: Display>(alloc: Global, text: &mut String, values: &[T]) -> Result<(), Fail> {
-    for value in values {
-        text.push_str(format!(in alloc; " {value}")?.as_str())?;
-    }
-    text.push_str(";")?;
-    Ok(())
 }
 
 /// What is to be done, in words.
-fn told(alloc: Global, outs: &[ProbeOut<VoteScheme>]) -> Result<String, Fail> {
-    let mut text = String::new(alloc);
-    for out in outs {
-        match out {
-            Out::Floor {
-                ticket,
-                finalization,
-            } => {
-                let (epoch, view) = (finalization.round.epoch.0, finalization.round.view.0);
-                let line = format!(in alloc; "floor {ticket} at {epoch} {view};")?;
-                text.push_str(line.as_str())?;
-            }
-            Out::Closed { ticket } => {
-                text.push_str(format!(in alloc; "closed {ticket};")?.as_str())?;
-            }
-            Out::Request { peers } => {
-                text.push_str("request")?;
-                listed(alloc, &mut text, peers.as_slice())?;
-            }
-            Out::Response { peer, value } => {
-                text.push_str(format!(in alloc; "response {peer}:")?.as_str())?;
-                listed(alloc, &mut text, value.as_slice())?;
-            }
-            Out::Block { peer } => {
-                text.push_str(format!(in alloc; "block {peer};")?.as_str())?;
-            }
+fn line(alloc: Global, out: &ProbeOut<VoteScheme>) -> Result<String, AllocError> {
+    match out {
+        Out::Floor {
+            ticket,
+            finalization,
+        } => {
+            let (epoch, view) = (finalization.round.epoch.0, finalization.round.view.0);
+            format!(in alloc; "floor {ticket} at {epoch} {view};")
         }
+        Out::Closed { ticket } => format!(in alloc; "closed {ticket};"),
+        Out::Request { peers } => {
+            let peers = peers.as_slice();
+            format!(in alloc; "request {peers:?};")
+        }
+        Out::Response { peer, value } => {
+            let value = value.as_slice();
+            format!(in alloc; "response {peer}: {value:?};")
+        }
+        Out::Block { peer } => format!(in alloc; "block {peer};"),
     }
-    Ok(text)
 }
 
 /// Does this to a probe, and tells what comes of it.
@@ -188,43 +201,41 @@ fn done(
     latest: &MemoryLatest<Votes>,
     act: Act,
 ) -> Result<String, Fail> {
+    let mut text = String::new(alloc);
     match probe.step(event(alloc, act)?, latest) {
-        Ok(outs) => told(alloc, outs.as_slice()),
-        Err(error) => Ok(format!(in alloc; "{error:?}")?),
+        Ok(outs) => {
+            for out in &outs {
+                text.push_str(line(alloc, out)?.as_str())?;
+            }
+        }
+        Err(error) => text.push_str(format!(in alloc; "{error:?}")?.as_str())?,
     }
+    Ok(text)
 }
 
-/// Does each row to this probe.
-fn runs_on(
-    rt: &impl Abort,
+fn latest(
     alloc: Global,
-    probe: Probe<VoteScheme>,
-    latest: Option<Finalization<Votes>>,
-    rows: &[Row],
-) -> Result<(), Fail> {
-    let mut probe = probe;
-    let latest = MemoryLatest {
-        finalization: latest,
+    latest: Option<(u64, u64, u32)>,
+) -> Result<MemoryLatest<Votes>, OutOfMemory> {
+    let finalization = match latest {
+        Some((epoch, view, signers)) => Some(finalization(alloc, epoch, view, signers)?),
+        None => None,
     };
+    Ok(MemoryLatest { finalization })
+}
+
+/// Does each row to one probe.
+fn runs(rt: &(impl Abort + AllocGlobal), setting: Setting, rows: &[Row]) -> Result<(), Fail>
+    requires { length setting.participants.now < 2 ^ 32 }
+{
+    let alloc = rt.alloc();
+    let latest = latest(alloc, setting.latest)?;
+    let mut probe = probe(alloc, setting.participants, setting.epochs)?;
     for (i, (act, want)) in rows.iter().enumerate() {
         let text = done(alloc, &mut probe, &latest, *act)?;
         assert_eq!(rt; text.as_str(), *want, "in row {i}");
     }
     Ok(())
-}
-
-/// Does each row to one probe of this committee.
-fn runs(
-    rt: &impl Abort,
-    alloc: Global,
-    keys: &[u64],
-    latest: Option<Finalization<Votes>>,
-    rows: &[Row],
-) -> Result<(), Fail>
-    requires { length keys.now < 2 ^ 32 }
-{
-    let probe = probe(alloc, keys)?;
-    runs_on(rt, alloc, probe, latest, rows)
 }
 
 #[test]
@@ -240,20 +251,20 @@ fn discovers_a_floor_in_four(rt: HostRuntime) -> Result<(), Fail> {
         (Act::Bytes(13, &[]), ""),
         (Act::Retry, ""),
     ];
-    runs(&rt, rt.alloc(), &FOUR, None, &rows)
+    runs(&rt, IN_FOUR, &rows)
 }
 
 #[test]
 fn discovers_a_floor_in_seven(rt: HostRuntime) -> Result<(), Fail> {
     let rows = [
-        (Act::Subscribe(0), "request 10 11 12 13 14 15 16;"),
+        (Act::Subscribe(0), "request [10, 11, 12, 13, 14, 15, 16];"),
         (Act::Reply(16, 1, 50, 5), ""),
         (Act::Reply(11, 2, 1, 5), ""),
         (Act::Reply(11, 2, 1, 5), ""),
         (Act::Reply(14, 1, 70, 4), "block 14;"),
         (Act::Reply(12, 1, 60, 5), "floor 0 at 2 1;"),
     ];
-    runs(&rt, rt.alloc(), &SEVEN, None, &rows)
+    runs(&rt, IN_SEVEN, &rows)
 }
 
 #[test]
@@ -280,7 +291,7 @@ fn judges_replies(rt: HostRuntime) -> Result<(), Fail> {
     ];
     for (act, want) in rows {
         let rows = [(Act::Subscribe(0), ASKED), (act, want)];
-        runs(&rt, rt.alloc(), &FOUR, None, &rows)?;
+        runs(&rt, IN_FOUR, &rows)?;
     }
     Ok(())
 }
@@ -302,13 +313,13 @@ fn begins_rounds_anew(rt: HostRuntime) -> Result<(), Fail> {
         (Act::Reply(12, 1, 3, 3), ""),
         (Act::Reply(11, 1, 4, 3), "floor 1 at 1 4;"),
     ];
-    runs(&rt, rt.alloc(), &FOUR, None, &rows)
+    runs(&rt, IN_FOUR, &rows)
 }
 
 /// Byte 1, the epoch, the view, the parent's view, the payload, the number of signers, and each
 /// signer.
 const RESPONDED: &str =
-    "response 12: 1 0 0 0 0 0 0 0 1 0 0 0 0 0 0 1 2 0 0 0 0 0 0 0 8 7 7 7 7 7 7 7 7 7 7 7 7 7 7 7 7 7 7 7 7 7 7 7 7 7 7 7 7 7 7 7 7 0 0 0 2 0 0 0 0 0 0 0 1;";
+    "response 12: [1, 0, 0, 0, 0, 0, 0, 0, 1, 0, 0, 0, 0, 0, 0, 1, 2, 0, 0, 0, 0, 0, 0, 0, 8, 7, 7, 7, 7, 7, 7, 7, 7, 7, 7, 7, 7, 7, 7, 7, 7, 7, 7, 7, 7, 7, 7, 7, 7, 7, 7, 7, 7, 7, 7, 7, 7, 0, 0, 0, 2, 0, 0, 0, 0, 0, 0, 0, 1];";
 
 #[test]
 fn serves(rt: HostRuntime) -> Result<(), Fail> {
@@ -325,20 +336,13 @@ fn serves(rt: HostRuntime) -> Result<(), Fail> {
         (Act::Attach, ""),
         (Act::Retry, ""),
     ];
-    runs(
-        &rt,
-        rt.alloc(),
-        &FOUR,
-        Some(finalization(rt.alloc(), 1, 258, 2)?),
-        &rows,
-    )?;
-    runs(
-        &rt,
-        rt.alloc(),
-        &FOUR,
-        None,
-        &[(Act::Attach, ""), (Act::Bytes(12, &[0]), "")],
-    )
+    runs(&rt, IN_FOUR_THAT_SERVE, &rows)
+}
+
+#[test]
+fn serves_nothing_where_nothing_is_finalized(rt: HostRuntime) -> Result<(), Fail> {
+    let rows = [(Act::Attach, ""), (Act::Bytes(12, &[0]), "")];
+    runs(&rt, IN_FOUR, &rows)
 }
 
 #[test]
@@ -352,13 +356,7 @@ fn serves_once_nobody_waits(rt: HostRuntime) -> Result<(), Fail> {
         (Act::Bytes(12, &[0]), RESPONDED),
         (Act::Subscribe(1), "floor 1 at 1 7;"),
     ];
-    runs(
-        &rt,
-        rt.alloc(),
-        &FOUR,
-        Some(finalization(rt.alloc(), 1, 258, 2)?),
-        &rows,
-    )
+    runs(&rt, IN_FOUR_THAT_SERVE, &rows)
 }
 
 #[test]
@@ -390,15 +388,7 @@ fn judges_nothing_where_the_lowest_epoch_has_no_scheme(rt: HostRuntime) -> Resul
         (Act::Bytes(12, &[0]), RESPONDED),
         (Act::Subscribe(2), "closed 2;"),
     ];
-    let alloc = rt.alloc();
-    let probe = probe_without_committee(alloc)?;
-    runs_on(
-        &rt,
-        alloc,
-        probe,
-        Some(finalization(alloc, 1, 258, 2)?),
-        &rows,
-    )
+    runs(&rt, WITHOUT_A_COMMITTEE, &rows)
 }
 
 #[test]
@@ -423,7 +413,7 @@ fn refuses_events(rt: HostRuntime) -> Result<(), Fail> {
         (Act::Retry, "BadEvent"),
         (Act::Bytes(10, &[0]), "BadEvent"),
     ];
-    runs(&rt, rt.alloc(), &FOUR, None, &rows)
+    runs(&rt, IN_FOUR, &rows)
 }
 
 #[test]
@@ -433,33 +423,55 @@ fn fails_when_no_number_is_left(rt: HostRuntime) -> Result<(), Fail> {
         (Act::Attach, "Failed"),
         (Act::Subscribe(0), "Failed"),
     ];
-    runs(&rt, rt.alloc(), &FOUR, None, &rows)
+    runs(&rt, IN_FOUR, &rows)
 }
 
 #[test]
 fn reads_tags(rt: HostRuntime) -> Result<(), Fail> {
-    let alloc = rt.alloc();
-    let mut input = Bytes::copy_from_slice(alloc, &[0, 1, 2])?;
-    assert_eq!(rt; Tag::read(&mut input), Ok(Tag::Request));
-    assert_eq!(rt; Tag::read(&mut input), Ok(Tag::Response));
-    assert_eq!(rt; Tag::read(&mut input), Err(CodecError::InvalidEnum(2)));
-    let mut nothing = Bytes::copy_from_slice(alloc, &[])?;
-    assert_eq!(rt; Tag::read(&mut nothing), Err(CodecError::EndOfBuffer));
+    let mut input = Bytes::copy_from_slice(rt.alloc(), &[0, 1, 2])?;
+    for want in [
+        Ok(Tag::Request),
+        Ok(Tag::Response),
+        Err(CodecError::InvalidEnum(2)),
+        Err(CodecError::EndOfBuffer),
+    ] {
+        assert_eq!(rt; Tag::read(&mut input), want);
+    }
     Ok(())
+}
+
+/// The size of a response that is read back, and what is left behind it and one byte more.
+fn read_back(alloc: Global, bytes: Vec<u8>) -> Result<(usize, Bytes), CodecError> {
+    let mut bytes = bytes;
+    bytes.push(9)?;
+    let mut input = Bytes::from_vec(bytes)?;
+    let message: Message<Votes> = Message::read::<VoteScheme>(alloc, &mut input)?;
+    Ok((message.encode_size::<VoteScheme>(), input))
 }
 
 #[test]
 fn reads_what_it_writes_and_leaves_the_rest(rt: HostRuntime) -> Result<(), Fail> {
-    let mut bytes = response(rt.alloc(), 1, 258, 3)?;
-    let size = bytes.len();
-    bytes.push(9)?;
-    let mut input = Bytes::from_vec(bytes)?;
-    let message: Message<Votes> = Message::read::<VoteScheme>(rt.alloc(), &mut input)?;
-    assert_eq!(rt; message.encode_size::<VoteScheme>(), size);
+    let bytes = response(rt.alloc(), 1, 258, 3)?;
+    assert_eq!(rt; bytes.len(), 73);
+    let (size, rest) = read_back(rt.alloc(), bytes)?;
     assert_eq!(rt; size, 73);
-    assert_eq!(rt; input.as_slice(), [9].as_slice());
-    assert_eq!(rt; Message::<Votes>::max_encode_size::<VoteScheme>(4), 77);
+    assert_eq!(rt; rest.as_slice(), [9].as_slice());
     Ok(())
+}
+
+#[test]
+fn no_message_of_four_is_longer(rt: HostRuntime) {
+    assert_eq!(rt; Message::<Votes>::max_encode_size::<VoteScheme>(4), 77);
+}
+
+/// What a mailbox hands out, with its ticket, which is 0 where it has none.
+fn take(mailbox: &mut Mailbox<VoteScheme>) -> (&'static str, u64) {
+    match mailbox.take() {
+        Some(Event::Subscribe { ticket }) => ("subscribe", ticket),
+        Some(Event::Attach) => ("attach", 0),
+        Some(_) => ("something else", 0),
+        None => ("nothing", 0),
+    }
 }
 
 #[test]
@@ -468,15 +480,13 @@ fn mailbox_hands_out_in_order(rt: HostRuntime) -> Result<(), Fail> {
     assert_eq!(rt; mailbox.subscribe()?, 0);
     mailbox.attach()?;
     assert_eq!(rt; mailbox.subscribe()?, 1);
-    assert_eq!(rt;
-        matches!(&mailbox.take(), Some(Event::Subscribe { ticket: 0 })),
-        true
-    );
-    assert_eq!(rt; matches!(&mailbox.take(), Some(Event::Attach)), true);
-    assert_eq!(rt;
-        matches!(&mailbox.take(), Some(Event::Subscribe { ticket: 1 })),
-        true
-    );
-    assert_eq!(rt; mailbox.take().is_none(), true);
+    for want in [
+        ("subscribe", 0),
+        ("attach", 0),
+        ("subscribe", 1),
+        ("nothing", 0),
+    ] {
+        assert_eq!(rt; take(&mut mailbox), want);
+    }
     Ok(())
 }

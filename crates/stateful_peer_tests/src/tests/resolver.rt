@@ -10,7 +10,7 @@ use stateful_types::{
     CodecError, Digest, Failed, Faulty, Items, Location, Moved, Operation, OutOfMemory, Share,
     read_u8, read_u64, write_u8, write_u64,
 };
-use std::alloc::Global;
+use std::alloc::{AllocError, Global};
 use std::num::NonZeroU64;
 use std::process::Abort;
 use std::test::Fail;
@@ -182,41 +182,36 @@ fn resolver(alloc: Global) -> Result<(Actor<Fixed>, Mailbox<Fixed>), Fail> {
 }
 
 /// What is to be done, in words.
-fn told(alloc: Global, outs: &[ActorOut]) -> Result<String, Fail> {
-    let mut text = String::new(alloc);
-    for out in outs {
-        let line = match out {
-            ActorOut::Fetch { ticket, .. } => format!(in alloc; "fetch {ticket};")?,
-            ActorOut::Forget { ticket } => format!(in alloc; "forget {ticket};")?,
-            ActorOut::Candidate { ticket } => format!(in alloc; "candidate {ticket};")?,
-            ActorOut::Feedback { delivery, valid } => {
-                format!(in alloc; "feedback {delivery} {valid};")?
-            }
-            ActorOut::Unjudged { delivery } => format!(in alloc; "unjudged {delivery};")?,
-            ActorOut::Served { serve, bytes } => {
-                let count = bytes.len();
-                format!(in alloc; "served {serve} {count};")?
-            }
-            ActorOut::Unserved { serve } => format!(in alloc; "unserved {serve};")?,
-        };
-        text.push_str(line.as_str())?;
+fn line(alloc: Global, out: &ActorOut) -> Result<String, AllocError> {
+    match out {
+        ActorOut::Fetch { ticket, .. } => format!(in alloc; "fetch {ticket};"),
+        ActorOut::Forget { ticket } => format!(in alloc; "forget {ticket};"),
+        ActorOut::Candidate { ticket } => format!(in alloc; "candidate {ticket};"),
+        ActorOut::Feedback { delivery, valid } => {
+            format!(in alloc; "feedback {delivery} {valid};")
+        }
+        ActorOut::Unjudged { delivery } => format!(in alloc; "unjudged {delivery};"),
+        ActorOut::Served { serve, bytes } => {
+            let count = bytes.len();
+            format!(in alloc; "served {serve} {count};")
+        }
+        ActorOut::Unserved { serve } => format!(in alloc; "unserved {serve};"),
     }
-    Ok(text)
 }
 
 /// What was polled, in words.
 fn polled(
     alloc: Global,
     answer: Result<Moved<Response<Update>>, ResponseDropped>,
-) -> Result<String, Fail> {
+) -> Result<String, AllocError> {
     match answer {
-        Ok(Moved::Pending) => Ok(format!(in alloc; "pending")?),
+        Ok(Moved::Pending) => String::from_str(alloc, "pending"),
         Ok(Moved::Done(Response::Operations { operations })) => {
             let count = operations.len();
-            Ok(format!(in alloc; "{count} operations")?)
+            format!(in alloc; "{count} operations")
         }
-        Ok(Moved::Done(Response::Boundary { .. })) => Ok(format!(in alloc; "a boundary")?),
-        Err(ResponseDropped) => Ok(format!(in alloc; "dropped")?),
+        Ok(Moved::Done(Response::Boundary { .. })) => String::from_str(alloc, "a boundary"),
+        Err(ResponseDropped) => String::from_str(alloc, "dropped"),
     }
 }
 
@@ -239,6 +234,45 @@ fn event(act: Act) -> Option<ActorEvent> {
     }
 }
 
+/// Does this event, and tells what comes of it.
+fn stepped(
+    alloc: Global,
+    actor: &mut Actor<Fixed>,
+    mailbox: &mut Mailbox<Fixed>,
+    event: ActorEvent,
+) -> Result<String, Fail> {
+    let mut text = String::new(alloc);
+    match actor.step(mailbox, event) {
+        Ok(outs) => {
+            for out in &outs {
+                text.push_str(line(alloc, out)?.as_str())?;
+            }
+        }
+        Err(error) => text.push_str(format!(in alloc; "{error:?}")?.as_str())?,
+    }
+    Ok(text)
+}
+
+/// Sends this through the mailbox, and tells what comes of it.
+fn sent(alloc: Global, mailbox: &mut Mailbox<Fixed>, act: Act) -> Result<String, Fail> {
+    Ok(match act {
+        Act::Serve(asked) => {
+            let (feedback, ticket) = mailbox.serve(key(asked))?;
+            format!(in alloc; "{ticket} {feedback:?}")?
+        }
+        Act::Attach(answer) => {
+            let feedback = mailbox.attach_database(answering(alloc, answer))?;
+            format!(in alloc; "{feedback:?}")?
+        }
+        Act::Poll(ticket) => polled(alloc, mailbox.poll(ticket))?,
+        Act::Cancel(ticket) => {
+            mailbox.cancel(ticket);
+            String::new(alloc)
+        }
+        _ => String::new(alloc),
+    })
+}
+
 /// Does this, and tells what comes of it.
 fn done(
     alloc: Global,
@@ -246,38 +280,30 @@ fn done(
     mailbox: &mut Mailbox<Fixed>,
     act: Act,
 ) -> Result<String, Fail> {
-    if let Some(event) = event(act) {
-        return match actor.step(mailbox, event) {
-            Ok(outs) => told(alloc, outs.as_slice()),
-            Err(error) => Ok(format!(in alloc; "{error:?}")?),
-        };
-    }
-    match act {
-        Act::Serve(asked) => {
-            let (feedback, ticket) = mailbox.serve(key(asked))?;
-            Ok(format!(in alloc; "{ticket} {feedback:?}")?)
-        }
-        Act::Attach(answer) => {
-            let feedback = mailbox.attach_database(answering(alloc, answer))?;
-            Ok(format!(in alloc; "{feedback:?}")?)
-        }
-        Act::Cancel(ticket) => {
-            mailbox.cancel(ticket);
-            Ok(String::new(alloc))
-        }
-        Act::Poll(ticket) => polled(alloc, mailbox.poll(ticket)),
-        _ => Ok(String::new(alloc)),
+    match event(act) {
+        Some(event) => stepped(alloc, actor, mailbox, event),
+        None => sent(alloc, mailbox, act),
     }
 }
 
-/// Does each row to one resolver.
-pub(super) fn runs(rt: &impl Abort, alloc: Global, rows: &[Row]) -> Result<(), Fail> {
-    let (mut actor, mut mailbox) = resolver(alloc)?;
+/// Does each row to a resolver, and lets go of it.
+fn runs_on(
+    rt: &impl Abort,
+    alloc: Global,
+    resolver: (Actor<Fixed>, Mailbox<Fixed>),
+    rows: &[Row],
+) -> Result<(), Fail> {
+    let (mut actor, mut mailbox) = resolver;
     for (i, (act, want)) in rows.iter().enumerate() {
         let text = done(alloc, &mut actor, &mut mailbox, *act)?;
         assert_eq!(rt; text.as_str(), *want, "in row {i}");
     }
     Ok(())
+}
+
+/// Does each row to one resolver.
+pub(super) fn runs(rt: &impl Abort, alloc: Global, rows: &[Row]) -> Result<(), Fail> {
+    runs_on(rt, alloc, resolver(alloc)?, rows)
 }
 
 /// Byte 0, the number of operations, and each of them.
@@ -487,26 +513,30 @@ fn serves(rt: HostRuntime) -> Result<(), Fail> {
     runs(&rt, rt.alloc(), &rows)
 }
 
+/// Attaches a set of two databases to two mailboxes.
+fn attach_set(
+    alloc: Global,
+    mailboxes: &mut (Mailbox<Fixed>, Mailbox<Fixed>),
+    answers: (Answer, Answer),
+) -> Result<(), OutOfMemory> {
+    let databases = (answering(alloc, answers.0), answering(alloc, answers.1));
+    mailboxes.attach_databases(databases)
+}
+
 #[test]
 fn a_set_of_databases_goes_to_its_resolvers(rt: HostRuntime) -> Result<(), Fail> {
-    let (mut actor, mailbox) = resolver(rt.alloc())?;
-    let (mut other, more) = resolver(rt.alloc())?;
-    let mut mailboxes = (mailbox, more);
-    mailboxes.attach_databases((
-        answering(rt.alloc(), Answer::Value(100)),
-        answering(rt.alloc(), Answer::NotServed),
-    ))?;
-    let rows = [
-        (Act::Message, "", ""),
-        (Act::Produce(0, 1), "served 0 22;", "unserved 0;"),
-    ];
-    for (act, want, wanted) in rows {
-        let text = done(rt.alloc(), &mut actor, &mut mailboxes.0, act)?;
-        assert_eq!(rt; text.as_str(), want);
-        let text = done(rt.alloc(), &mut other, &mut mailboxes.1, act)?;
-        assert_eq!(rt; text.as_str(), wanted);
-    }
-    Ok(())
+    let (first, mailbox) = resolver(rt.alloc())?;
+    let (second, other) = resolver(rt.alloc())?;
+    let mut mailboxes = (mailbox, other);
+    attach_set(
+        rt.alloc(),
+        &mut mailboxes,
+        (Answer::Value(100), Answer::NotServed),
+    )?;
+    let served = [(Act::Message, ""), (Act::Produce(0, 1), "served 0 22;")];
+    let unserved = [(Act::Message, ""), (Act::Produce(0, 1), "unserved 0;")];
+    runs_on(&rt, rt.alloc(), (first, mailboxes.0), &served)?;
+    runs_on(&rt, rt.alloc(), (second, mailboxes.1), &unserved)
 }
 
 #[test]
@@ -530,11 +560,9 @@ fn refuses_events(rt: HostRuntime) -> Result<(), Fail> {
 
 #[test]
 fn payloads_have_their_limit(rt: HostRuntime) -> Result<(), Fail> {
-    let size = |ops: u64| -> Result<Result<usize, TooManyOps>, Fail> {
-        Ok(max_payload_size(NonZeroU64::new(ops).ok_or("not 0")?, 17))
-    };
-    assert_eq!(rt; size(1 << 32)?, Err(TooManyOps));
-    assert_eq!(rt; size(16)?, Ok(286));
-    assert_eq!(rt; size(1)?, Ok(59));
+    for (ops, want) in [(1 << 32, Err(TooManyOps)), (16, Ok(286)), (1, Ok(59))] {
+        let max_ops = NonZeroU64::new(ops).ok_or("it isn't 0")?;
+        assert_eq!(rt; max_payload_size(max_ops, 17), want, "of {ops}");
+    }
     Ok(())
 }
