@@ -16,9 +16,10 @@ use Rattle.stateful_bank.specs.declared.block.BankBlock.{BankBlock}
 use Rattle.stateful_bank.specs.declared.op.Op.{Op}
 use Rattle.stateful_bank.specs.BankBlock.{block_bytes}
 use Rattle.stateful_bank.specs.Proposal.{Builds, built_block}
-use Rattle.stateful_plain.specs.Whole.{Whole}
-use Rattle.stateful_plain_bank.specs.Stepped.{stepped, bank_meaning}
-use Rattle.stateful_plain_bank.specs.Builds.{proposal_of, targets_after}
+use Rattle.stateful_plain.specs.Whole.{Whole, target_of}
+use Rattle.stateful_bank_world.specs.Rules.{stepped, bank_meaning}
+use Rattle.stateful_bank_world.specs.Builds.{proposal_of, targets_after}
+use Rattle.stateful_single_bank.specs.Single.{single_rules}
 use Rattle.stateful_script.specs.Named.{height_in}
 use Rattle.stateful_script.specs.Laws.{IsBuild, IsBuilt}
 use Rattle.stateful_script.proofs.Got.{got_before, got_behind, height_stays}
@@ -126,7 +127,7 @@ module _ (kind : ProposalKind) (decision : Handoff (Unit {0})) (parent : Planned
     (above : c.height.0 ≡ parent.block.block.height.0 + 1) (slow : c.slow ≡ 0) (right : c.wrong ≡ false)
     (digest : parent.block.digest ≡ record { 0 = sha256 (block_bytes parent.block.block) }) where
   -- the block over the target of this state
-  over : (after : Whole) → state_after parent c ≡ Some after → block_on parent c ≡ built_block (proposal_of (asked kind decision parent (child parent c))) (targets_after after)
+  over : (after : Whole) → state_after parent c ≡ Some after → block_on parent c ≡ built_block (proposal_of (asked kind decision parent (child parent c))) (targets_after single_rules target_of after)
   unfolding child block_on
   over after leads =
       same_with c.height (record { 0 = parent.block.block.height.0 + 1 }) c.round parent.block.digest (record { 0 = sha256 (block_bytes parent.block.block) }) c.slow c.ops c.wrong (state_after parent c) after above digest slow right leads
@@ -135,11 +136,11 @@ module _ (kind : ProposalKind) (decision : Handoff (Unit {0})) (parent : Planned
   unfolding child block_on
   same_ops = refl
 
-  is_built : (whole : Whole) (b : BankBlock) → parent.after ≡ Some whole → Builds bank_meaning.step targets_after (proposal_of (asked kind decision parent (child parent c))) whole b → b ≡ (child parent c).block.block
+  is_built : (whole : Whole) (b : BankBlock) → parent.after ≡ Some whole → Builds (bank_meaning single_rules).step (targets_after single_rules target_of) (proposal_of (asked kind decision parent (child parent c))) whole b → b ≡ (child parent c).block.block
   unfolding child
   is_built whole b after built =
       let ops : b.ops ≡ c.ops = ap (λ x. x.ops) built.block_is ∙ same_ops in
-      let leads : stepped whole c.ops ≡ Some built.after = rw (← ops) built.leads in
+      let leads : stepped single_rules whole c.ops c.height.0 ≡ Some built.after = rw (← ops) built.leads in
       built.block_is ∙ sym (over built.after (rw after leads))
 
   child_built : NamesBuild kind decision parent (child parent c)

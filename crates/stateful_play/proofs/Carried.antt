@@ -1,5 +1,5 @@
 -- What the machine's play of the events says of the script.
-use Rattle.std.proofs.Common.{◌≡◌, ℕ, Bool, List, [], Option, Some, None, IfSome, Vec, Global, map, refl, subst}
+use Rattle.std.proofs.Common.{◌≡◌, ℕ, Bool, List, [], Option, Some, None, IfSome, map, subst}
 use Rattle.std.proofs.Math.Path.{fun_ext}
 use Rattle.stateful_types.specs.Names.{Named}
 use Rattle.stateful_types.specs.declared.round.Round.{Round}
@@ -22,25 +22,19 @@ use Rattle.stateful_whole.specs.StepBehind.{EachStands}
 use Rattle.stateful_actor.specs.declared.driving.Halted.{Halted}
 use Rattle.stateful_script.specs.Laws.{IsPlan}
 use Rattle.stateful_script.specs.declared.script.Script.{Script}
-use Rattle.stateful_script.specs.declared.script.World.TheVariants as world
 use Rattle.stateful_text.specs.declared.shown.Label.{Label}
 use Rattle.stateful_play.specs.declared.plan.Planned.{Planned}
 use Rattle.stateful_play.specs.declared.play.Databases.{Databases}
-use Rattle.stateful_play.specs.declared.play.History.TheVariants as history
 use Rattle.stateful_play.specs.declared.play.Machine.{Machine}
 use Rattle.stateful_play.specs.declared.play.Played.{Played}
 use Rattle.stateful_play.specs.Plan.{ArePlanned, labels_of}
 use Rattle.stateful_play.specs.Events.{BankEvent, events_of}
 use Rattle.stateful_play.specs.Store.{store_of}
-use Rattle.stateful_play.specs.Shown.{listed_in, member_of, has_failed}
-use Rattle.stateful_play.specs.Play.{bank, last_of, IsPlayOf, IsFirst, EndsWell, KeepsMedium, AreTaken, AreSteps, IsHaltedBy}
+use Rattle.stateful_play.specs.Shown.{entries_of, listed_in, member_of}
+use Rattle.stateful_play.specs.Play.{bank, IsPlayOf, IsFirst, KeepsMedium, AreSteps, IsHaltedBy, KeepWhereHonest, KeepsWhereHonest, AreEventsPlayed}
 use Rattle.stateful_play.proofs.Builds.{builds_are_named}
 use Rattle.stateful_play.proofs.Heights.{heights_stored}
 use Rattle.stateful_play.proofs.Honest.{honest_play}
-
--- a play in the plain world
-abbrev pub in_plain : Vec (Entry BankBlock Round Ask) Global → Machine → Databases → Option Halted → Played
-in_plain entries machine databases «end» = record { world = world.Plain; history = history.Plain entries; machine = machine; databases = databases; «end» = «end» }
 
 -- a play begins with a new machine and an empty database
 pub begins_new : (failed : Bool) (register : Register) (first : Moment bank) → IsNew bank failed register first
@@ -57,22 +51,6 @@ begins_new failed register first new database unlisted shown empty batches = rec
   batches = batches;
 }
 
--- the rules that entries keep where names are true and the store is honest
-abbrev pub KeepWhereHonest : (ℕ → Option (Named BankBlock)) → List (Entry BankBlock Round Ask) → Machine → Databases → Option Halted → Type 0
-KeepWhereHonest stored entries machine databases «end» =
-    TrueNames (setting bank stored) (after_all [] entries)
-    → HasHonestStore block_header stored (after_all [] entries)
-    → EachStands bank stored (EndsWell stored entries machine databases «end») initial [] entries
-
--- what the medium keeps at the end where names are true, the store is honest and its targets rise
-abbrev pub KeepsWhereHonest : (ℕ → Option (Named BankBlock)) → List (Entry BankBlock Round Ask) → Machine → Databases → Option Halted → Type 0
-KeepsWhereHonest stored entries machine databases None =
-    TrueNames (setting bank stored) (after_all [] entries)
-    → HasHonestStore block_header stored (after_all [] entries)
-    → TargetsRise bank stored
-    → MediaStand bank stored (after_all [] entries) (has_failed machine) (last_of machine databases)
-KeepsWhereHonest stored entries machine databases (Some halted) = Unit {0}
-
 medium_kept : (stored : ℕ → Option (Named BankBlock)) (entries : List (Entry BankBlock Round Ask)) (machine : Machine) (databases : Databases)
     («end» : Option Halted) → StoresHeights block_header stored
     → KeepsWhereHonest stored entries machine databases «end» → KeepsMedium stored entries machine databases «end»
@@ -80,28 +58,25 @@ medium_kept stored entries machine databases None heights k =
     λ names finalized rise. k names (record { heights = heights; finalized = finalized }) rise
 medium_kept stored entries machine databases (Some halted) heights k = tt
 
-pub carried : (script : Script) (made : List Planned) (labels : List Label) (entries : Vec (Entry BankBlock Round Ask) Global) (machine : Machine) (databases : Databases) («end» : Option Halted) (stored : ℕ → Option (Named BankBlock)) (events : List BankEvent)
+pub carried : (script : Script) (made : List Planned) (labels : List Label) (p : Played) (stored : ℕ → Option (Named BankBlock)) (events : List BankEvent)
     → IsPlan script → ArePlanned script.blocks made → labels ≡ labels_of script.names made
     → ((h : ℕ) → stored h ≡ store_of made script.events h) → events ≡ events_of made script.events
-    → AreTaken «end» events (map (λ entry. entry.event) entries.items)
-    → AreSteps stored «end» entries.items machine databases
-    → KeepWhereHonest stored entries.items machine databases «end»
-    → KeepsWhereHonest stored entries.items machine databases «end»
-    → IfSome «end» (IsHaltedBy stored events entries.items machine databases)
-    → IsPlayOf script labels (in_plain entries machine databases «end»)
-carried script made labels entries machine databases «end» stored events plan planned labelled same are taken steps rules medium halted =
-    let honest = subst (λ s. KeepWhereHonest s entries.items machine databases «end») (fun_ext same) rules in
+    → AreEventsPlayed stored events p → IsPlayOf script labels p
+carried script made labels p stored events plan planned labelled same are played =
+    let entries = entries_of p.history in
+    let taken = rw are at played.taken in
+    let honest = subst (λ s. KeepWhereHonest s entries p.machine p.databases p.«end») (fun_ext same) played.rules in
     record {
       blocks = made;
       planned = planned;
       builds = builds_are_named script.blocks made script.events planned plan.builds;
       labelled = labelled;
-      world = refl;
-      events = rw are at taken;
-      honest = honest_play (store_of made script.events) script.blocks made script.events «end» entries.items planned (rw are at taken);
-      steps = subst (λ s. AreSteps s «end» entries.items machine databases) (fun_ext same) steps;
+      world = played.world;
+      events = taken;
+      honest = honest_play (store_of made script.events) script.blocks made script.events p.«end» entries planned taken;
+      steps = subst (λ s. AreSteps s p.«end» entries p.machine p.databases) (fun_ext same) played.steps;
       rules = λ names finalized. honest names (record { heights = heights_stored made script.events; finalized = finalized });
-      medium = medium_kept (store_of made script.events) entries.items machine databases «end» (heights_stored made script.events)
-          (subst (λ s. KeepsWhereHonest s entries.items machine databases «end») (fun_ext same) medium);
-      refused = subst (λ s. IfSome «end» (IsHaltedBy s (events_of made script.events) entries.items machine databases)) (fun_ext same) (rw are at halted);
+      medium = medium_kept (store_of made script.events) entries p.machine p.databases p.«end» (heights_stored made script.events)
+          (subst (λ s. KeepsWhereHonest s entries p.machine p.databases p.«end») (fun_ext same) played.medium);
+      refused = subst (λ s. IfSome p.«end» (IsHaltedBy s (events_of made script.events) entries p.machine p.databases)) (fun_ext same) (rw are at played.refused);
     }

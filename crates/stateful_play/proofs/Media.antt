@@ -34,6 +34,10 @@ empty-starts stored made ls m same is = subst (λ (x : Member Whole). IsAsAtStar
   genesis = λ b found. first_stored made ls b (sym (same 0) ∙ found);
 })
 
+-- so is a database that is this one
+pub starts-here : (stored : ℕ → Option (Named BankBlock)) (m n : Member Whole) → m ≡ n → IsAsAtStart bank stored n → IsAsAtStart bank stored m
+starts-here stored m n is starts = subst (λ (x : Member Whole). IsAsAtStart bank stored x) (sym is) starts
+
 -- it stands for the start beside a machine that hasn't failed
 pub starts-working : (stored : ℕ → Option (Named BankBlock)) (failed : Bool) (first : Moment bank) → failed ≡ false
     → MediaStand bank stored [] failed first → MediaStand bank stored [] false first

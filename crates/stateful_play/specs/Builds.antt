@@ -8,8 +8,9 @@ use Rattle.stateful_db.specs.declared.application.ProposalKind.{ProposalKind}
 use Rattle.stateful_db.specs.declared.application.ProposalKind.TheVariants.{Prepare, Propose}
 use Rattle.stateful_bank.specs.declared.ask.Ask.{Ask}
 use Rattle.stateful_bank.specs.declared.block.BankBlock.{BankBlock}
-use Rattle.stateful_plain.specs.Whole.{Whole}
-use Rattle.stateful_plain_bank.specs.Builds.{bank_gives}
+use Rattle.stateful_bank_world.specs.Builds.{bank_gives}
+use Rattle.stateful_plain.specs.Whole.{Whole, target_of}
+use Rattle.stateful_single_bank.specs.Single.{single_rules}
 use Rattle.stateful_script.specs.declared.script.PlannedEvent.{PlannedEvent}
 use Rattle.stateful_script.specs.declared.script.PlannedEvent.TheVariants as line
 use Rattle.stateful_play.specs.declared.plan.Planned.{Planned}
@@ -31,8 +32,8 @@ asked kind decision parent p =
 abbrev pub NamesBuild : ProposalKind → Handoff (Unit {0}) → Planned → Planned → Type 0
 NamesBuild kind decision parent p =
     (whole : Whole) (b : BankBlock) → parent.after ≡ Some whole
-    → (bank_gives (asked kind decision parent p) whole (Vote b))
-    ⊎ (bank_gives (asked kind decision parent p) whole (Stage b))
+    → (bank_gives single_rules target_of (asked kind decision parent p) whole (Vote b))
+    ⊎ (bank_gives single_rules target_of (asked kind decision parent p) whole (Stage b))
     → b ≡ p.block.block
 
 -- a line that asks for a build names the block that the build gives

@@ -8,7 +8,8 @@ use Rattle.stateful_types.specs.declared.target.Target.{Target}
 use Rattle.stateful_bank.specs.declared.block.BankBlock.{BankBlock}
 use Rattle.stateful_bank.specs.BankBlock.{block_bytes, genesis_block}
 use Rattle.stateful_plain.specs.Whole.{Whole, initial, target_of}
-use Rattle.stateful_plain_bank.specs.Stepped.{stepped}
+use Rattle.stateful_bank_world.specs.Rules.{stepped}
+use Rattle.stateful_single_bank.specs.Single.{single_rules}
 use Rattle.stateful_script.specs.declared.script.PlannedBlock.{PlannedBlock}
 use Rattle.stateful_text.specs.declared.shown.Label.{Label}
 use Rattle.stateful_play.specs.declared.plan.Planned.{Planned}
@@ -40,7 +41,8 @@ genesis =
 
 -- the state after a block on this parent, where there is one
 abbrev pub state_after : Planned → PlannedBlock → Option Whole
-state_after parent b = option_and_then (λ whole. stepped whole b.ops) parent.after
+state_after parent b =
+    option_and_then (λ whole. stepped single_rules whole b.ops b.height.0) parent.after
 
 -- the block of a line on its parent
 unfoldable pub block_on : Planned → PlannedBlock → BankBlock

@@ -11,15 +11,17 @@ use Rattle.stateful_bank.specs.declared.block.BankBlock.{BankBlock}
 use Rattle.stateful_plain.specs.Whole.{Whole, begun, initial, target_of}
 use Rattle.stateful_plain.specs.Shown.{SealShows}
 use Rattle.stateful_plain.specs.declared.batch.PlainMerkleized.{PlainMerkleized}
-use Rattle.stateful_plain_bank.specs.Works.{bank_works}
-use Rattle.stateful_plain_bank.specs.Runs.{run_faults}
-use Rattle.stateful_plain_bank.specs.Builds.{build_faults}
-use Rattle.stateful_plain_bank.specs.Hooks.{hook_faults}
-use Rattle.stateful_plain_bank.specs.declared.build.BankBuild.{BankBuild}
-use Rattle.stateful_plain_bank.specs.declared.hook.BankHook.{BankHook}
-use Rattle.stateful_plain_bank.specs.declared.run.BankRun.{BankRun}
+use Rattle.stateful_plain.specs.declared.batch.PlainUnmerkleized.{PlainUnmerkleized}
+use Rattle.stateful_bank_world.specs.Works.{bank_works}
+use Rattle.stateful_bank_world.specs.Runs.{run_faults}
+use Rattle.stateful_bank_world.specs.Builds.{build_faults}
+use Rattle.stateful_bank_world.specs.Hooks.{hook_faults}
+use Rattle.stateful_bank_world.specs.declared.build.BankBuild.{BankBuild}
+use Rattle.stateful_bank_world.specs.declared.hook.BankHook.{BankHook}
+use Rattle.stateful_bank_world.specs.declared.run.BankRun.{BankRun}
+use Rattle.stateful_single_bank.specs.Single.{single_rules, HoldsEntries}
 use Rattle.stateful_history.specs.Past.{after_all}
-use Rattle.stateful_history.specs.Honest.{IsHonest, StoresFinalized}
+use Rattle.stateful_history.specs.Honest.{IsHonest, StoresFinalized, HasHonestStore}
 use Rattle.stateful_history.specs.Met.{TrueNames}
 use Rattle.stateful_history.specs.declared.entry.Entry.{Entry}
 use Rattle.stateful_exec.specs.Workings.{Workings, workings}
@@ -51,14 +53,22 @@ use Rattle.stateful_play.specs.Store.{store_of}
 use Rattle.stateful_play.specs.Shown.{entries_of, listed_in, member_of, next_of, failed_of}
 use Rattle.stateful_play.specs.Shown.{register_of, has_failed}
 
+-- runs and builds over one database that is kept whole
+abbrev pub PlainRun : Type 0
+PlainRun = BankRun PlainUnmerkleized
+
+abbrev pub PlainBuild : Type 0
+PlainBuild = BankBuild PlainUnmerkleized
+
 -- the bank over one database that is kept whole, as the definitions of the machine take it
-abbrev pub bank : Workings BankBlock Round Ask (Unit {0}) BankRun BankBuild BankHook
+abbrev pub bank : Workings BankBlock Round Ask (Unit {0}) PlainRun PlainBuild BankHook
     (Unit {0}) PlainMerkleized
-bank = workings block_header (λ b. b.round) (λ round. round) bank_works
+bank = workings block_header (λ b. b.round) (λ round. round)
+    (bank_works single_rules HoldsEntries target_of)
     (single target_of (λ target. target) begun initial) SealShows
 
 -- how often the bank's runs, builds and hooks have failed
-abbrev pub bank_counts : Counts BankRun BankBuild BankHook
+abbrev pub bank_counts : Counts PlainRun PlainBuild BankHook
 bank_counts = record { run = run_faults; build = build_faults; hook = hook_faults }
 
 -- the machine and the database as they are handed out
@@ -107,6 +117,23 @@ module _ (stored : ℕ → Option (Named BankBlock)) (entries : List (Entry Bank
       → MediaStand bank stored (after_all [] entries) (has_failed machine) (last_of machine d)
   KeepsMedium (Some halted) = Unit {0}
 
+  -- where names are true and the store is honest, each entry keeps the rules
+  abbrev pub KeepWhereHonest : Option Halted → Type 0
+  KeepWhereHonest «end» =
+      TrueNames (setting bank stored) (after_all [] entries)
+      → HasHonestStore block_header stored (after_all [] entries)
+      → EachStands bank stored (EndsWell «end») initial [] entries
+
+  -- where all events were taken in, names are true, the store is honest, and no block's range ends
+  -- before that of a lower one, the medium keeps at the end what can be opened again
+  abbrev pub KeepsWhereHonest : Option Halted → Type 0
+  KeepsWhereHonest None =
+      TrueNames (setting bank stored) (after_all [] entries)
+      → HasHonestStore block_header stored (after_all [] entries)
+      → TargetsRise bank stored
+      → MediaStand bank stored (after_all [] entries) (has_failed machine) (last_of machine d)
+  KeepsWhereHonest (Some halted) = Unit {0}
+
 -- where a play begins: the machine has taken nothing in, and the database is closed on an empty
 -- medium, of which no call is listed as one that fails
 pub record IsFirst (first : Moment bank) : Type 0 where
@@ -146,6 +173,19 @@ pub record IsHaltedBy (stored : ℕ → Option (Named BankBlock)) (events : List
   pub starts : MediaStand bank stored [] false first
   pub keeps : KeepsMediaAfter bank stored tt bank_counts event false first entries
       (has_failed machine) (last_of machine d)
+
+-- These events were played from the start on, over a store that has these blocks: they were taken
+-- in, each entry is a step of the machine, the rules are kept, the medium keeps what can be opened
+-- again, and an event that was refused has its cause.
+pub record AreEventsPlayed (stored : ℕ → Option (Named BankBlock)) (events : List BankEvent)
+    (p : Played) : Type 0 where
+  pub world : p.world ≡ world.Plain
+  pub taken : AreTaken p.«end» events (map (λ entry. entry.event) (entries_of p.history))
+  pub steps : AreSteps stored p.«end» (entries_of p.history) p.machine p.databases
+  pub rules : KeepWhereHonest stored (entries_of p.history) p.machine p.databases p.«end»
+  pub medium : KeepsWhereHonest stored (entries_of p.history) p.machine p.databases p.«end»
+  pub refused : IfSome p.«end»
+      (IsHaltedBy stored events (entries_of p.history) p.machine p.databases)
 
 -- This was played of the script, whose blocks go by these labels: a line that asks for a build
 -- names the block that the build gives, the events were taken in, in each ancestry each block is

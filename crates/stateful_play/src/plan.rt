@@ -8,8 +8,8 @@ ghost use Rattle.stateful_play.specs.Plan.{target_after, committed};
 
 use stateful_bank::BankBlock;
 use stateful_plain::PlainState;
-use stateful_plain_bank::step;
 use stateful_script::PlannedBlock;
+use stateful_single_bank::step;
 use stateful_types::{Digest, Digested, Items, OutOfMemory, Share, Target};
 use std::alloc::Global;
 

@@ -1,6 +1,6 @@
 //! A script's play.
 
-ghost use Rattle.std.specs.Prelude.{◌≡◌, ◌↔◌, ℕ, [], Option, IfOk, IsTrue, length};
+ghost use Rattle.std.specs.Prelude.{◌≡◌, ◌↔◌, ℕ, [], Option, Some, IfOk, IsTrue, length};
 ghost use Rattle.stateful_types.specs.Names.{Named};
 ghost use Rattle.stateful_db.specs.Member.{closed as closed_member};
 ghost use Rattle.stateful_plain.specs.Whole.{initial};
@@ -9,21 +9,25 @@ ghost use Rattle.stateful_processing.specs.Moments.{moment};
 ghost use Rattle.stateful_whole.specs.Machine.{IsNew};
 ghost use Rattle.stateful_whole.specs.Media.{IsAsAtStart, MediaStand};
 ghost use Rattle.stateful_play.specs.Plan.{labels_of};
-ghost use Rattle.stateful_play.specs.Play.{bank, IsPlayOf};
+ghost use Rattle.stateful_play.specs.Play.{bank, AreEventsPlayed, IsPlayOf};
 ghost use Rattle.stateful_play.specs.Shown.{listed_in};
 
 use crate::event::events;
 use crate::plan::{Planned, plan};
 use crate::store::store_of;
-use stateful_actor::{Config, Driven, Halted, NewError, Stateful, StepError, drive};
+use stateful_actor::{
+    Application, Config, Driven, Halt, Halted, NewError, Stateful, StepError, drive,
+};
 use stateful_bank::{Ask, BankBlock};
+use stateful_bank_world::Bank;
 use stateful_db::{DatabaseSet, Held};
-use stateful_history::Entry;
+use stateful_exec::Worked;
+use stateful_history::{Entry, Event};
 use stateful_plain::{Plain, PlainMedium};
-use stateful_plain_bank::Bank;
 use stateful_script::{Name, Script, World};
+use stateful_single_bank::Single;
 use stateful_text::Label;
-use stateful_types::{Items, OutOfMemory, Round};
+use stateful_types::{BlockStore, Items, MemoryStore, OutOfMemory, Round};
 use std::alloc::Global;
 
 /// The entries of a play, by its world.
@@ -35,7 +39,7 @@ pub enum History {
 /// The machine of a play, by its world.
 #[derive(Drop)]
 pub enum Machine {
-    Plain(Stateful<Bank>),
+    Plain(Stateful<Bank<Single>>),
 }
 
 /// The databases of a play, by its world.
@@ -86,7 +90,7 @@ fn labels(alloc: Global, names: &[Name], planned: &[Planned]) -> Result<Vec<Labe
 }
 
 /// A machine that is down.
-fn new_machine(alloc: Global) -> Result<Stateful<Bank>, OutOfMemory>
+fn new_machine(alloc: Global) -> Result<Stateful<Bank<Single>>, OutOfMemory>
     ensures new { IfOk result (λ stateful. (m : ⟦<Held<Plain> as DatabaseSet>⟧.kind.Members)
         (n : ℕ)
         → IsNew bank stateful.failed stateful.register
@@ -124,7 +128,7 @@ fn empty_database(alloc: Global) -> Held<Plain>
 }
 
 /// What came of the events, and the refused one if one was.
-fn in_plain(driven: Driven<Bank>, end: Option<Halted>) -> Played
+fn in_plain(driven: Driven<Bank<Single>>, end: Option<Halted>) -> Played
     ensures { result
         ≡ record {
           world = World.Plain;
@@ -150,6 +154,49 @@ fn wants_memory(error: StepError) -> bool
     matches!(error, StepError::OutOfMemory)
 }
 
+/// What came of these events, and the refused one if one was. Nothing where it was refused for want
+/// of memory.
+fn drive_all<A: Application + Drop>(
+    alloc: Global,
+    stateful: Stateful<A>,
+    databases: A::Databases,
+    store: &mut MemoryStore<A::Block>,
+    events: Vec<Event<A::Block, A::Context, A::Input>>,
+) -> Result<(Driven<A>, Option<Halted>), OutOfMemory>
+    requires new { let w = ⟦<A as Worked>⟧.workings in IsNew w stateful.failed stateful.register
+        (moment w stateful.execution stateful.loop
+        (A.Databases.members databases) (A.Databases.next databases) []) }
+    requires none_away { A.Databases.kind.NoneAway (A.Databases.members databases) }
+{
+    match drive(alloc, stateful, databases, store, events) {
+        Ok(driven) => Ok((driven, None)),
+        Err(halt) => {
+            if wants_memory(halt.halted.error) {
+                return Err(OutOfMemory);
+            }
+            let Halt { driven, halted } = halt;
+            Ok((driven, Some(halted)))
+        }
+    }
+}
+
+/// Plays these events from the start on. Where the machine wants memory there is no play.
+fn play_events(
+    alloc: Global,
+    store: &mut MemoryStore<BankBlock>,
+    events: Vec<Event<BankBlock, Round, Ask>>,
+) -> Result<Played, OutOfMemory>
+    requires { let stored = ⟦<MemoryStore<BankBlock> as BlockStore<BankBlock>>⟧.stored in
+        IsAsAtStart bank (stored store.old) (closed_member
+        (record { older = []; newest = initial; pruned = 0; durable = 0 })) }
+    ensures { let stored = ⟦<MemoryStore<BankBlock> as BlockStore<BankBlock>>⟧.stored in
+        IfOk result (λ played. AreEventsPlayed (stored store.old) events.items played) }
+{
+    let stateful = new_machine(alloc)?;
+    let (driven, end) = drive_all(alloc, stateful, empty_database(alloc), store, events)?;
+    Ok(in_plain(driven, end))
+}
+
 /// Plays a script in its world. Where the machine wants memory there is no play.
 pub fn play(alloc: Global, script: &Script) -> Result<Told, OutOfMemory>
     requires { IsPlan script.now }
@@ -159,20 +206,6 @@ pub fn play(alloc: Global, script: &Script) -> Result<Told, OutOfMemory>
     let labels = labels(alloc, script.names.as_slice(), planned.as_slice())?;
     let mut store = store_of(alloc, planned.as_slice(), script.events.as_slice())?;
     let events = events(alloc, planned.as_slice(), script.events.as_slice())?;
-    let stateful = new_machine(alloc)?;
-    match drive(alloc, stateful, empty_database(alloc), &mut store, events) {
-        Ok(driven) => Ok(Told {
-            labels,
-            played: in_plain(driven, None),
-        }),
-        Err(halt) => {
-            if wants_memory(halt.halted.error) {
-                return Err(OutOfMemory);
-            }
-            Ok(Told {
-                labels,
-                played: in_plain(halt.driven, Some(halt.halted)),
-            })
-        }
-    }
+    let played = play_events(alloc, &mut store, events)?;
+    Ok(Told { labels, played })
 }
