@@ -1,12 +1,24 @@
 //! A script's play.
 
-ghost use Rattle.std.specs.Prelude.{◌≡◌, ◌↔◌, ℕ, [], Option, Some, IfOk, IsTrue, length};
+ghost use Rattle.std.specs.Prelude.{◌≡◌, ◌<◌, ◌↔◌, ℕ, List, [], ◌∷◌, ◌++◌, Option, Some, None, IfOk};
+ghost use Rattle.std.specs.Prelude.{IsTrue, length, map, take};
 ghost use Rattle.stateful_types.specs.Names.{Named};
 ghost use Rattle.stateful_db.specs.Member.{closed as closed_member};
 ghost use Rattle.stateful_plain.specs.Whole.{initial};
+ghost use Rattle.stateful_history.specs.Past.{after_all};
+ghost use Rattle.stateful_history.specs.Met.{TrueNames};
+ghost use Rattle.stateful_history.specs.Honest.{HasHonestStore};
+ghost use Rattle.stateful_history.specs.declared.event.Event.{Event as Happening};
+ghost use Rattle.stateful_standing.specs.Setting.{setting};
+ghost use Rattle.stateful_keeping.specs.Media.{TargetsRise};
 ghost use Rattle.stateful_script.specs.Laws.{IsPlan};
 ghost use Rattle.stateful_processing.specs.Moments.{moment};
+ghost use Rattle.stateful_whole.specs.Entering.{Steps};
 ghost use Rattle.stateful_whole.specs.Machine.{IsNew};
+ghost use Rattle.stateful_whole.specs.StepBehind.{EachStands, StandsAndHolds};
+ghost use Rattle.stateful_actor.specs.Driving.{IsRefused, KeepsMediaAfter};
+ghost use Rattle.stateful_actor.specs.Faults.{tally};
+ghost use Rattle.stateful_actor.specs.declared.driving.Halted.{Halted};
 ghost use Rattle.stateful_whole.specs.Media.{IsAsAtStart, MediaStand};
 ghost use Rattle.stateful_play.specs.Plan.{labels_of};
 ghost use Rattle.stateful_play.specs.Play.{bank, AreEventsPlayed, IsPlayOf};
@@ -167,14 +179,103 @@ fn drive_all<A: Application + Drop>(
         (moment w stateful.execution stateful.loop
         (A.Databases.members databases) (A.Databases.next databases) []) }
     requires none_away { A.Databases.kind.NoneAway (A.Databases.members databases) }
+    ensures all { IfOk result (λ told. told.1 ≡ None →
+        map (λ entry. entry.event) told.0.history.items
+        ≡ events.items) }
+    ensures part { IfOk result (λ told. (halted : Halted) → told.1 ≡ Some halted →
+        map (λ entry. entry.event) told.0.history.items
+        ≡ take halted.at events.items) }
+    ensures at { IfOk result (λ told. (halted : Halted) → told.1 ≡ Some halted →
+        (halted.at ≡ length told.0.history.items)
+        × (halted.at < length events.items)) }
+    ensures steps { let stored = ⟦<MemoryStore<A::Block> as BlockStore<A::Block>>⟧.stored in
+        IfOk result (λ told. told.1 ≡ None → let w = ⟦<A as Worked>⟧.workings in
+        Steps w (stored store.old) stateful.provider
+        (record { run = A.Run.count; build = A.Build.count; hook = A.Hook.count }) []
+        (moment w stateful.execution stateful.loop
+        (A.Databases.members databases) (A.Databases.next databases) [])
+        told.0.history.items
+        (moment w told.0.stateful.execution told.0.stateful.loop
+        (A.Databases.members told.0.databases) (A.Databases.next told.0.databases) [])) }
+    ensures stands { let stored = ⟦<MemoryStore<A::Block> as BlockStore<A::Block>>⟧.stored in
+        IfOk result (λ told. told.1 ≡ None → let w = ⟦<A as Worked>⟧.workings in
+        (base : A.Databases.States)
+        → TrueNames (setting w (stored store.old)) (after_all [] told.0.history.items)
+        → HasHonestStore A.Block.header (stored store.old) (after_all [] told.0.history.items)
+        → EachStands w (stored store.old)
+        (λ last. StandsAndHolds w (stored store.old) last (after_all [] told.0.history.items)
+        false told.0.stateful.register
+        (moment w told.0.stateful.execution told.0.stateful.loop
+        (A.Databases.members told.0.databases) (A.Databases.next told.0.databases) []))
+        base [] told.0.history.items) }
+    ensures still_stands { let stored = ⟦<MemoryStore<A::Block> as BlockStore<A::Block>>⟧.stored in
+        IfOk result (λ told. (halted : Halted) → told.1 ≡ Some halted →
+        let w = ⟦<A as Worked>⟧.workings in
+        (base : A.Databases.States)
+        → TrueNames (setting w (stored store.old)) (after_all [] told.0.history.items)
+        → HasHonestStore A.Block.header (stored store.old)
+        (after_all [] told.0.history.items)
+        → EachStands w (stored store.old)
+        (λ last. StandsAndHolds w (stored store.old) last
+        (after_all [] told.0.history.items)
+        told.0.stateful.failed told.0.stateful.register
+        (moment w told.0.stateful.execution told.0.stateful.loop
+        (A.Databases.members told.0.databases) (A.Databases.next told.0.databases) []))
+        base [] told.0.history.items) }
+    ensures media { let stored = ⟦<MemoryStore<A::Block> as BlockStore<A::Block>>⟧.stored in
+        IfOk result (λ told. told.1 ≡ None → let w = ⟦<A as Worked>⟧.workings in
+        A.Databases.States
+        → MediaStand w (stored store.old) [] stateful.failed
+        (moment w stateful.execution stateful.loop
+        (A.Databases.members databases) (A.Databases.next databases) [])
+        → TrueNames (setting w (stored store.old)) (after_all [] told.0.history.items)
+        → HasHonestStore A.Block.header (stored store.old) (after_all [] told.0.history.items)
+        → TargetsRise w (stored store.old)
+        → MediaStand w (stored store.old) (after_all [] told.0.history.items)
+        told.0.stateful.failed
+        (moment w told.0.stateful.execution told.0.stateful.loop
+        (A.Databases.members told.0.databases) (A.Databases.next told.0.databases) [])) }
+    ensures still_media { let stored = ⟦<MemoryStore<A::Block> as BlockStore<A::Block>>⟧.stored in
+        IfOk result (λ told. (halted : Halted) → told.1 ≡ Some halted →
+        let w = ⟦<A as Worked>⟧.workings in
+        (event : Happening A.Block A.Context A.Input)
+        × (rest : List (Happening A.Block A.Context A.Input))
+        × (events.items ≡ map (λ entry. entry.event) told.0.history.items ++ event ∷ rest)
+        × KeepsMediaAfter w (stored store.old) stateful.provider
+        (record { run = A.Run.count; build = A.Build.count; hook = A.Hook.count }) event
+        stateful.failed
+        (moment w stateful.execution stateful.loop
+        (A.Databases.members databases) (A.Databases.next databases) [])
+        told.0.history.items told.0.stateful.failed
+        (moment w told.0.stateful.execution told.0.stateful.loop
+        (A.Databases.members told.0.databases)
+        (A.Databases.next told.0.databases) [])) }
+    ensures still_works { IfOk result (λ told. (halted : Halted) → told.1 ≡ Some halted →
+        halted.error ≡ StepError.BadEvent
+        → told.0.stateful.failed ≡ false) }
+    ensures refused { let stored = ⟦<MemoryStore<A::Block> as BlockStore<A::Block>>⟧.stored in
+        IfOk result (λ told. (halted : Halted) → told.1 ≡ Some halted →
+        let w = ⟦<A as Worked>⟧.workings in
+        (event : Happening A.Block A.Context A.Input)
+        × (rest : List (Happening A.Block A.Context A.Input))
+        × (events.items ≡ map (λ entry. entry.event) told.0.history.items ++ event ∷ rest)
+        × IsRefused w (stored store.old) stateful.provider
+        (record { run = A.Run.count; build = A.Build.count; hook = A.Hook.count })
+        (moment w stateful.execution stateful.loop
+        (A.Databases.members databases) (A.Databases.next databases) [])
+        told.0.history.items event halted.error (A.Databases.members told.0.databases)
+        (tally (A.count stateful.application) (A.Databases.counted databases))
+        (tally (A.count told.0.stateful.application)
+        (A.Databases.counted told.0.databases))) }
+    ensures why { IfOk result (λ told. (halted : Halted) → told.1 ≡ Some halted →
+        halted.error ≡ StepError.OutOfMemory → ⊥) }
 {
     match drive(alloc, stateful, databases, store, events) {
         Ok(driven) => Ok((driven, None)),
-        Err(halt) => {
-            if wants_memory(halt.halted.error) {
+        Err(Halt { driven, halted }) => {
+            if wants_memory(halted.error) {
                 return Err(OutOfMemory);
             }
-            let Halt { driven, halted } = halt;
             Ok((driven, Some(halted)))
         }
     }
