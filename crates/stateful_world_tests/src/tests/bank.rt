@@ -26,7 +26,7 @@ const ROUND: Round = Round {
 };
 
 /// A mint of 100 to account 1 and a move of 30 to account 2.
-const FIRST_OPS: [Op; 2] = [
+pub(super) const FIRST_OPS: [Op; 2] = [
     Op::Mint {
         account: 1,
         amount: 100,
@@ -39,7 +39,7 @@ const FIRST_OPS: [Op; 2] = [
 ];
 
 /// A move of this amount from account 1 to account 2.
-fn pay(amount: u64) -> Op {
+pub(super) fn pay(amount: u64) -> Op {
     Op::Move {
         from: 1,
         to: 2,
