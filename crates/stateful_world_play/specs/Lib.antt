@@ -1,0 +1,7 @@
+pub mod Plan
+pub mod Events
+pub mod Store
+pub mod Builds
+pub mod Driven
+pub mod Grounds
+pub mod Play
