@@ -1,7 +1,3 @@
-pub mod Plan
-pub mod Events
-pub mod Store
-pub mod Builds
-pub mod Driven
 pub mod Grounds
+pub mod Driven
 pub mod Play

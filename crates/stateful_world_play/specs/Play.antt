@@ -20,10 +20,10 @@ use Rattle.stateful_actor.specs.Faults.{tally}
 use Rattle.stateful_actor.specs.declared.driving.Halted.{Halted}
 use Rattle.stateful_script.specs.declared.script.Script.{Script}
 use Rattle.stateful_text.specs.declared.shown.Label.{Label}
-use Rattle.stateful_world_play.specs.Plan.{Outlined, ArePlanned, blocks_of, labels_of}
-use Rattle.stateful_world_play.specs.Events.{BankEvent, events_of}
-use Rattle.stateful_world_play.specs.Builds.{NamesItsBuild}
-use Rattle.stateful_world_play.specs.Store.{store_of}
+use Rattle.stateful_world_plan.specs.Plan.{Outlined, ArePlanned, blocks_of, labels_of}
+use Rattle.stateful_world_plan.specs.Events.{BankEvent, events_of}
+use Rattle.stateful_world_plan.specs.Builds.{NamesItsBuild}
+use Rattle.stateful_world_plan.specs.Store.{store_of}
 use Rattle.stateful_world_play.specs.Grounds.{Grounds, bank, bank_counts}
 use Rattle.stateful_world_play.specs.Driven.{AreTaken, Left, EndsWell}
 use Rattle.stateful_world_play.specs.Driven as driven

@@ -1,16 +1,9 @@
-//! Plays a script over the databases of a world: makes its blocks, its block store and its events,
-//! and steps the machine through them.
+//! Plays a script over the databases of a world: steps a machine through its events.
 #![tactic(auto)]
 
 mod driving;
-mod event;
-mod label;
-mod plan;
+mod grounds;
 mod play;
-mod playable;
-mod store;
 
 pub use driving::drive_all;
-pub use plan::{Planned, plan};
 pub use play::{PlayedIn, play_in};
-pub use playable::{Config, Playable};

@@ -12,11 +12,7 @@ ghost use Rattle.stateful_world_play.specs.Grounds.{bank};
 ghost use Rattle.stateful_world_play.specs.Play.{IsPlayOf};
 
 use crate::driving::drive_all;
-use crate::event::events;
-use crate::label::labels;
-use crate::plan::plan;
-use crate::playable::{Grounded, Playable};
-use crate::store::store_of;
+use crate::grounds::Grounded;
 use stateful_actor::{Config, DatabaseSet, Halted, NewError, Stateful};
 use stateful_bank::{Ask, BankBlock};
 use stateful_bank_world::Bank;
@@ -24,6 +20,7 @@ use stateful_history::Entry;
 use stateful_script::Script;
 use stateful_text::Label;
 use stateful_types::{OutOfMemory, Round};
+use stateful_world_plan::{Playable, events, labels, plan, store_of};
 use std::alloc::Global;
 
 /// What was played over the databases of a world: the names of the blocks, the entries, the machine

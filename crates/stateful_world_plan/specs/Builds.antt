@@ -12,9 +12,9 @@ use Rattle.stateful_bank_world.specs.Builds.{bank_gives}
 use Rattle.stateful_bank_world.specs.Rules.{Rules}
 use Rattle.stateful_script.specs.declared.script.PlannedEvent.{PlannedEvent}
 use Rattle.stateful_script.specs.declared.script.PlannedEvent.TheVariants as line
-use Rattle.stateful_world_play.specs.declared.plan.Planned.{Planned}
-use Rattle.stateful_world_play.specs.Plan.{Outlined, first_outlined}
-use Rattle.stateful_world_play.specs.Events.{ask_for}
+use Rattle.stateful_world_plan.specs.declared.plan.Planned.{Planned}
+use Rattle.stateful_world_plan.specs.Plan.{Outlined, first_outlined}
+use Rattle.stateful_world_plan.specs.Events.{ask_for}
 
 -- what is asked for on a parent, in the round and with the operations of a block
 abbrev pub asked : ProposalKind → Handoff (Unit {0}) → Planned → Planned → Asked BankBlock Round Ask

@@ -11,9 +11,9 @@ pub type Config<W> = <<W as World>::Databases as DatabaseSet>::Config;
 
 /// A world that scripts are played in.
 pub trait Playable: World + Drop {
-    ghost use Rattle.std.specs.Prelude.{◌≡◌, ◌<◌, ℕ, List, IfOk, Some};
-    ghost use Rattle.stateful_keeping.specs.Media.{KeepsDurably};
+    ghost use Rattle.std.specs.Prelude.{◌≡◌, ℕ, List, IfOk};
     ghost use Rattle.stateful_text.specs.declared.shown.Shown.{Shown};
+    ghost use Rattle.stateful_world_plan.specs.Starts.{AreEmpty};
 
     /// Databases that are closed on empty media.
     ghost blank: { Self.Databases.kind.Members };
@@ -42,48 +42,10 @@ pub trait Playable: World + Drop {
         ensures { IfOk result (λ shown. shown.items
             ≡ shown_of (Self.Databases.members databases.now)) };
 
-    /// They can be opened.
-    ghost openable: { Self.Databases.kind.Openable blank };
-
-    /// Each keeps durably a checkpoint of its part of the initial states.
-    ghost starts: { (i : ℕ) → i < Self.Databases.kind.count
-        → KeepsDurably Self.Databases.kind blank
-        (Self.Databases.kind.target_of Self.Databases.kind.initial) i };
-
-    /// Opened at the targets of the initial states they are at these.
-    ghost reopens: { (m : Self.Databases.kind.Members)
-        (p : Self.Databases.Ids × Self.Databases.States)
-        → Self.Databases.kind.Reopened blank
-        (Some (Self.Databases.kind.target_of Self.Databases.kind.initial)) m
-        → Self.Databases.kind.point m ≡ Some p
-        → p.1 ≡ Self.Databases.kind.initial };
+    ghost empty_are: { AreEmpty Self.Databases.kind blank };
 
     /// A block that has the targets of the initial states commits to these.
     ghost commits: { Self.rules.committed (Self.rules.listed
         (Self.Databases.kind.target_of Self.Databases.kind.initial))
         ≡ Self.Databases.kind.target_of Self.Databases.kind.initial };
-}
-
-/// What a play takes of a world, in one record.
-pub trait Grounded: Playable {
-    ghost use Rattle.stateful_world_play.specs.Grounds.{Grounds};
-
-    ghost grounds: { Grounds Self.Databases.Unmerkleized Self.Databases.Merkleized Self.Databases };
-}
-
-impl<W: Playable> Grounded for W {
-    ghost grounds = { record {
-      Ids = W.Databases.Ids;
-      States = W.Databases.States;
-      Targets = W.Databases.SyncTargets;
-      rules = W.rules;
-      holds = W.holds;
-      kind = W.Databases.kind;
-      shows = W.Databases.shows;
-      members = W.Databases.members;
-      next = W.Databases.next;
-      Unlisted = W.unlisted;
-      blank = W.blank;
-      first_ids = W.first_ids;
-    } };
 }

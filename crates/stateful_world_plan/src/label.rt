@@ -1,7 +1,7 @@
 //! The names of blocks.
 
 ghost use Rattle.std.specs.Prelude.{◌≡◌, ◌+◌, IfOk, length};
-ghost use Rattle.stateful_world_play.specs.Plan.{labels_of};
+ghost use Rattle.stateful_world_plan.specs.Plan.{labels_of};
 
 use crate::plan::Planned;
 use stateful_script::Name;

@@ -10,7 +10,7 @@ use Rattle.stateful_bank.specs.BankBlock.{block_bytes, genesis_block}
 use Rattle.stateful_bank_world.specs.Rules.{Rules, stepped}
 use Rattle.stateful_script.specs.declared.script.PlannedBlock.{PlannedBlock}
 use Rattle.stateful_text.specs.declared.shown.Label.{Label}
-use Rattle.stateful_world_play.specs.declared.plan.Planned.{Planned}
+use Rattle.stateful_world_plan.specs.declared.plan.Planned.{Planned}
 
 -- a block with the SHA-256 of its bytes
 abbrev pub named : BankBlock → Named BankBlock

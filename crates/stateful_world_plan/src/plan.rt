@@ -2,7 +2,7 @@
 
 ghost use Rattle.std.specs.Prelude.{◌≡◌, ◌≤◌, ◌+◌, IfOk, EachIndex, slice_index_or, length};
 ghost use Rattle.stateful_script.specs.declared.script.PlannedBlock.{PlannedBlock};
-ghost use Rattle.stateful_world_play.specs.Plan.{HaveOutline};
+ghost use Rattle.stateful_world_plan.specs.Plan.{HaveOutline};
 
 use crate::playable::Playable;
 use stateful_bank::BankBlock;

@@ -3,9 +3,9 @@
 ghost use Rattle.std.specs.Prelude.{◌≡◌, ◌≤◌, ◌<◌, ◌-◌, ◌^◌, true, IfOk, IfSome, All, length};
 ghost use Rattle.std.specs.Prelude.{option_map};
 ghost use Rattle.stateful_script.specs.Laws.{IsNamedBelow};
-ghost use Rattle.stateful_world_play.specs.Events.{restart, planned_at, list_of, ancestry_of, ask_for};
-ghost use Rattle.stateful_world_play.specs.Events.{flushed, event_of, takes_ticket, ticket_after};
-ghost use Rattle.stateful_world_play.specs.Events.{events_of};
+ghost use Rattle.stateful_world_plan.specs.Events.{restart, planned_at, list_of, ancestry_of, ask_for};
+ghost use Rattle.stateful_world_plan.specs.Events.{flushed, event_of, takes_ticket, ticket_after};
+ghost use Rattle.stateful_world_plan.specs.Events.{events_of};
 
 use crate::plan::Planned;
 use stateful_bank::{Ask, BankBlock};

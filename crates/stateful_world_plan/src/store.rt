@@ -4,7 +4,7 @@ ghost use Rattle.std.specs.Prelude.{◌≡◌, ◌<◌, ◌++◌, ◌∷◌, [],
 ghost use Rattle.stateful_types.specs.Names.{Named};
 ghost use Rattle.stateful_bank.specs.declared.block.BankBlock.{BankBlock};
 ghost use Rattle.stateful_script.specs.Laws.{IsNamedBelow};
-ghost use Rattle.stateful_world_play.specs.Store.{Keeps, finalized, store_of};
+ghost use Rattle.stateful_world_plan.specs.Store.{Keeps, finalized, store_of};
 
 use crate::plan::Planned;
 use stateful_bank::BankBlock;

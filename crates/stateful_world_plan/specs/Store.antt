@@ -5,8 +5,8 @@ use Rattle.stateful_types.specs.Names.{Named}
 use Rattle.stateful_bank.specs.declared.block.BankBlock.{BankBlock}
 use Rattle.stateful_script.specs.declared.script.PlannedEvent.{PlannedEvent}
 use Rattle.stateful_script.specs.declared.script.PlannedEvent.TheVariants as line
-use Rattle.stateful_world_play.specs.declared.plan.Planned.{Planned}
-use Rattle.stateful_world_play.specs.Events.{planned_at}
+use Rattle.stateful_world_plan.specs.declared.plan.Planned.{Planned}
+use Rattle.stateful_world_plan.specs.Events.{planned_at}
 
 -- the block that a line finalizes, if it does
 abbrev pub finalized_by : List Planned → PlannedEvent → Option (Named BankBlock)

@@ -15,8 +15,8 @@ use Rattle.stateful_history.specs.declared.event.Event.{Event}
 use Rattle.stateful_history.specs.declared.event.Event.TheVariants as event
 use Rattle.stateful_script.specs.declared.script.PlannedEvent.{PlannedEvent}
 use Rattle.stateful_script.specs.declared.script.PlannedEvent.TheVariants as line
-use Rattle.stateful_world_play.specs.declared.plan.Planned.{Planned}
-use Rattle.stateful_world_play.specs.Plan.{genesis}
+use Rattle.stateful_world_plan.specs.declared.plan.Planned.{Planned}
+use Rattle.stateful_world_plan.specs.Plan.{genesis}
 
 abbrev pub BankEvent : Type 0
 BankEvent = Event BankBlock Round Ask

@@ -1,0 +1,14 @@
+//! What a script says in a world: its blocks with their names, its block store and its events.
+#![tactic(auto)]
+
+mod event;
+mod label;
+mod plan;
+mod playable;
+mod store;
+
+pub use event::{BankEvent, events};
+pub use label::labels;
+pub use plan::{Planned, plan};
+pub use playable::{Config, Playable};
+pub use store::store_of;
