@@ -2,4 +2,3 @@ pub mod Plan
 pub mod Events
 pub mod Store
 pub mod Builds
-pub mod Starts

@@ -4,11 +4,9 @@
 mod event;
 mod label;
 mod plan;
-mod playable;
 mod store;
 
 pub use event::{BankEvent, events};
 pub use label::labels;
 pub use plan::{Planned, plan};
-pub use playable::{Config, Playable};
 pub use store::store_of;

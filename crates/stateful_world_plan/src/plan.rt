@@ -4,8 +4,8 @@ ghost use Rattle.std.specs.Prelude.{◌≡◌, ◌≤◌, ◌+◌, IfOk, EachInd
 ghost use Rattle.stateful_script.specs.declared.script.PlannedBlock.{PlannedBlock};
 ghost use Rattle.stateful_world_plan.specs.Plan.{HaveOutline};
 
-use crate::playable::Playable;
 use stateful_bank::BankBlock;
+use stateful_bank_world::{Fresh, World};
 use stateful_db::DatabaseSet;
 use stateful_script::PlannedBlock;
 use stateful_types::{Digested, OutOfMemory};
@@ -19,7 +19,7 @@ pub struct Planned {
 }
 
 /// Genesis, and the block of each line.
-pub fn plan<W: Playable>(
+pub fn plan<W: Fresh>(
     _alloc: Global,
     _blocks: &[PlannedBlock],
 ) -> Result<Vec<Planned>, OutOfMemory>

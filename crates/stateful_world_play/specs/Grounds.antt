@@ -25,14 +25,13 @@ pub record Grounds (Drafts Sealed Sets : Type 0) : Type 1 where
   pub kind : Databases Ids States Targets
   -- the sealed batch stands on this chain
   pub shows : Sealed → List (Ids × States) → Type 0
-  -- all that is known of the databases, but for the next ids, and these
+  -- all that is known of the databases, but for the next ids; these; and how often the database of a
+  -- number has failed
   pub members : Sets → kind.Members
   pub next : Sets → Ids
-  -- no call on the media of the databases is listed as one that fails
-  pub Unlisted : Sets → Type 0
-  -- databases that are closed on empty media, and the ids that they draw next
-  pub blank : kind.Members
-  pub first_ids : Ids
+  pub counted : Sets → ℕ → ℕ
+  -- the databases are closed on empty media, of which no call is listed as one that fails
+  pub Blank : Sets → Type 0
 
 module _ {Drafts Sealed Sets : Type 0} (g : Grounds Drafts Sealed Sets) where
   -- the bank over these databases, as the definitions of the machine take it

@@ -5,6 +5,9 @@ use Rattle.stateful_types.specs.declared.round.Round.{Round}
 use Rattle.stateful_bank.specs.BankBlock.{block_header}
 use Rattle.stateful_bank.specs.declared.ask.Ask.{Ask}
 use Rattle.stateful_bank.specs.declared.block.BankBlock.{BankBlock}
+use Rattle.stateful_bank_world.specs.declared.build.BankBuild.{BankBuild}
+use Rattle.stateful_bank_world.specs.declared.hook.BankHook.{BankHook}
+use Rattle.stateful_bank_world.specs.declared.run.BankRun.{BankRun}
 use Rattle.stateful_history.specs.Past.{after_all}
 use Rattle.stateful_history.specs.Honest.{IsHonest, StoresFinalized}
 use Rattle.stateful_history.specs.Met.{TrueNames}
@@ -12,11 +15,13 @@ use Rattle.stateful_history.specs.declared.entry.Entry.{Entry}
 use Rattle.stateful_register.specs.declared.register.Register.{Register}
 use Rattle.stateful_standing.specs.Setting.{setting}
 use Rattle.stateful_keeping.specs.Media.{TargetsRise}
-use Rattle.stateful_processing.specs.Moments.{Moment}
+use Rattle.stateful_processing.specs.Moments.{Moment, Executing, moment}
+use Rattle.stateful_processing.specs.declared.tables.Processing.{Processing}
 use Rattle.stateful_whole.specs.Machine.{IsNew}
 use Rattle.stateful_whole.specs.Media.{MediaStand}
 use Rattle.stateful_whole.specs.StepBehind.{EachStands}
 use Rattle.stateful_actor.specs.Faults.{tally}
+use Rattle.stateful_actor.specs.Machine.{Machine}
 use Rattle.stateful_actor.specs.declared.driving.Halted.{Halted}
 use Rattle.stateful_script.specs.declared.script.Script.{Script}
 use Rattle.stateful_text.specs.declared.shown.Label.{Label}
@@ -29,17 +34,29 @@ use Rattle.stateful_world_play.specs.Driven.{AreTaken, Left, EndsWell}
 use Rattle.stateful_world_play.specs.Driven as driven
 
 module _ {Drafts Sealed Sets : Type 0} (g : Grounds Drafts Sealed Sets) where
+  -- a machine of the bank and its databases, as they are handed out
+  abbrev pub left_of : {A K : Type 0}
+      → Machine A (Executing BankBlock Round Ask (BankRun Drafts) (BankBuild Drafts) BankHook Sealed)
+      (Processing BankBlock Round Ask (Unit {0})) (Unit {0}) K
+      → Sets
+      → Left (bank g)
+  left_of machine d =
+      record {
+        failed = machine.failed;
+        register = machine.register;
+        last = moment (bank g) machine.execution machine.loop (g.members d) (g.next d) [];
+        faults = tally 0 (g.counted d);
+      }
+
   -- where a play begins: the machine has taken nothing in, and the databases are closed on empty
   -- media, of which no call is listed as one that fails
   pub record IsFirst (first : Moment (bank g)) : Type 0 where
     pub register : Register
     pub new : IsNew (bank g) false register first
     pub databases : Sets
-    pub unlisted : g.Unlisted databases
-    pub shown : first.members ≡ g.members databases
-    pub drawn : first.next ≡ g.next databases
-    pub members : first.members ≡ g.blank
-    pub batches : first.next ≡ g.first_ids
+    pub blank : g.Blank databases
+    pub members_are : first.members ≡ g.members databases
+    pub next_is : first.next ≡ g.next databases
 
   module _ (stored : ℕ → Option (Named BankBlock)) (entries : List (Entry BankBlock Round Ask))
       (left : Left (bank g)) where

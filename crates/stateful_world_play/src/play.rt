@@ -5,28 +5,27 @@ ghost use Rattle.stateful_types.specs.Names.{Named};
 ghost use Rattle.stateful_bank.specs.declared.block.BankBlock.{BankBlock as Block};
 ghost use Rattle.stateful_script.specs.Laws.{IsPlan};
 ghost use Rattle.stateful_processing.specs.Moments.{moment};
-ghost use Rattle.stateful_actor.specs.Faults.{tally};
 ghost use Rattle.stateful_whole.specs.Machine.{IsNew};
 ghost use Rattle.stateful_whole.specs.Media.{IsAsAtStart, MediaStand};
 ghost use Rattle.stateful_world_play.specs.Grounds.{bank};
-ghost use Rattle.stateful_world_play.specs.Play.{IsPlayOf};
+ghost use Rattle.stateful_world_play.specs.Play.{IsPlayOf, left_of};
 
 use crate::driving::drive_all;
 use crate::grounds::Grounded;
 use stateful_actor::{Config, DatabaseSet, Halted, NewError, Stateful};
 use stateful_bank::{Ask, BankBlock};
-use stateful_bank_world::Bank;
+use stateful_bank_world::{Bank, Fresh};
 use stateful_history::Entry;
 use stateful_script::Script;
 use stateful_text::Label;
 use stateful_types::{OutOfMemory, Round};
-use stateful_world_plan::{Playable, events, labels, plan, store_of};
+use stateful_world_plan::{events, labels, plan, store_of};
 use std::alloc::Global;
 
 /// What was played over the databases of a world: the names of the blocks, the entries, the machine
 /// and the databases as they are after them, and the refused event if one was.
 #[derive(Drop)]
-pub struct PlayedIn<W: Playable> {
+pub struct PlayedIn<W: Fresh> {
     pub labels: Vec<Label>,
     pub history: Vec<Entry<BankBlock, Round, Ask>>,
     pub machine: Stateful<Bank<W>>,
@@ -35,7 +34,7 @@ pub struct PlayedIn<W: Playable> {
 }
 
 /// A machine that is down.
-fn new_machine<W: Playable>(alloc: Global) -> Result<Stateful<Bank<W>>, OutOfMemory>
+fn new_machine<W: Fresh>(alloc: Global) -> Result<Stateful<Bank<W>>, OutOfMemory>
     ensures new { IfOk result (λ stateful. let w = bank ⟦<W as Grounded>⟧.grounds in
         (m : W.Databases.kind.Members) (n : W.Databases.Ids)
         → IsNew w stateful.failed stateful.register
@@ -59,18 +58,11 @@ fn new_machine<W: Playable>(alloc: Global) -> Result<Stateful<Bank<W>>, OutOfMem
 
 /// Plays a script over empty databases of this world. Where the machine wants memory there is no
 /// play.
-pub fn play_in<W: Playable>(alloc: Global, script: &Script) -> Result<PlayedIn<W>, OutOfMemory>
+pub fn play_in<W: Fresh>(alloc: Global, script: &Script) -> Result<PlayedIn<W>, OutOfMemory>
     requires { IsPlan script.now }
-    ensures { IfOk result (λ played. let w = bank ⟦<W as Grounded>⟧.grounds in
-        IsPlayOf ⟦<W as Grounded>⟧.grounds script.now played.labels.items played.history.items
-        (record {
-          failed = played.machine.failed;
-          register = played.machine.register;
-          last = moment w played.machine.execution played.machine.loop
-              (W.Databases.members played.databases) (W.Databases.next played.databases) [];
-          faults = tally 0 (W.Databases.counted played.databases);
-        })
-        played.end) }
+    ensures { IfOk result (λ played. let g = ⟦<W as Grounded>⟧.grounds in
+        IsPlayOf g script.now played.labels.items played.history.items
+        (left_of g played.machine played.databases) played.end) }
 {
     let planned = plan::<W>(alloc, script.blocks.as_slice())?;
     let labels = labels(alloc, script.names.as_slice(), planned.as_slice())?;
