@@ -7,6 +7,6 @@ mod plan;
 mod store;
 
 pub use event::{BankEvent, events};
-pub use label::labels;
-pub use plan::{Planned, plan};
+pub use label::label_blocks;
+pub use plan::{Planned, plan_blocks};
 pub use store::store_of;

@@ -19,7 +19,10 @@ pub struct Planned {
 }
 
 /// Genesis, and the block of each line.
-pub fn plan<W: Fresh>(_alloc: Global, _blocks: &[PlannedBlock]) -> Result<Vec<Planned>, OutOfMemory>
+pub fn plan_blocks<W: Fresh>(
+    _alloc: Global,
+    _blocks: &[PlannedBlock],
+) -> Result<Vec<Planned>, OutOfMemory>
     requires { EachIndex _blocks.now (λ i. (d : PlannedBlock)
         → (slice_index_or _blocks.now i d).parent ≤ i) }
     ensures made { IfOk result (λ made. HaveOutline W.rules W.Databases.kind.target_of

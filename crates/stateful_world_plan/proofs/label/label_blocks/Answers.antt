@@ -1,5 +1,5 @@
 use Rattle.stateful_world_plan.proofs.Labels.{labels_more, labels_all}
-use Rattle.stateful_world_plan.proofs.label.labels.Goals as goal
+use Rattle.stateful_world_plan.proofs.label.label_blocks.Goals as goal
 
 pub loop-place-preserved : goal.loop-place-preserved
 loop-place-preserved c =
