@@ -1,7 +1,7 @@
 -- Operations on a batch, as operations on what it changes.
-use Rattle.std.proofs.Common.{◌≡◌, ℕ, List, ◌∷◌, Option, Some, None, MatchOption, option_map, inr, refl, sym, ◌∙◌, subst}
+use Rattle.std.proofs.Common.{◌≡◌, List, ◌∷◌, Option, Some, None, MatchOption, option_map, inr, refl, sym, ◌∙◌, subst}
 use Rattle.stateful_bank.specs.declared.op.Op.{Op}
-use Rattle.stateful_bank.specs.Accounts.{Becomes, do_op}
+use Rattle.stateful_bank.specs.Accounts.{do_op}
 use Rattle.stateful_bank.proofs.Following.{Follows, do_op-seen}
 use Rattle.stateful_bank_world.specs.Rules.{Rules, book_on}
 use Rattle.stateful_bank_world.specs.Draft.{IsAmong, Place, draft_book, StandsAt}

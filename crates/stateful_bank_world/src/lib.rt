@@ -4,6 +4,7 @@
 mod bank;
 mod build;
 mod draft;
+mod fresh;
 mod hook;
 mod progress;
 mod run;
@@ -11,6 +12,7 @@ mod world;
 
 pub use bank::Bank;
 pub use build::BankBuild;
+pub use fresh::{Config, Fresh};
 pub use hook::BankHook;
 pub use run::BankRun;
 pub use world::{Drafted, Sealed, World};

@@ -1,0 +1,5 @@
+pub mod Outlines
+pub mod Builds
+pub mod Kept
+pub mod Labels
+pub mod Heights

@@ -1,0 +1,12 @@
+//! What a script says in a world: its blocks with their names, its block store and its events.
+#![tactic(auto)]
+
+mod event;
+mod label;
+mod plan;
+mod store;
+
+pub use event::{BankEvent, events};
+pub use label::labels;
+pub use plan::{Planned, plan};
+pub use store::store_of;
