@@ -21,7 +21,11 @@ fn label(alloc: Global, name: &Name, made: &Planned) -> Result<Label, OutOfMemor
 }
 
 /// The names of the planned blocks, with their digests.
-pub fn labels(alloc: Global, names: &[Name], planned: &[Planned]) -> Result<Vec<Label>, OutOfMemory>
+pub fn label_blocks(
+    alloc: Global,
+    names: &[Name],
+    planned: &[Planned],
+) -> Result<Vec<Label>, OutOfMemory>
     requires { length planned.now ≡ length names.now }
     ensures { IfOk result (λ labels. labels.items ≡ labels_of names.now planned.now) }
 {

@@ -8,6 +8,6 @@ mod scratch;
 mod store;
 
 pub use event::{BankEvent, events};
-pub use label::labels;
-pub use plan::{Planned, plan};
+pub use label::label_blocks;
+pub use plan::{Planned, plan_blocks};
 pub use store::store_of;

@@ -76,7 +76,10 @@ fn child(
 
 /// Genesis, and the block of each line. The states after blocks are those of scratch databases of
 /// the world, on which each block that has a child or none is run once and sealed.
-pub fn plan<W: Fresh>(alloc: Global, blocks: &[PlannedBlock]) -> Result<Vec<Planned>, OutOfMemory>
+pub fn plan_blocks<W: Fresh>(
+    alloc: Global,
+    blocks: &[PlannedBlock],
+) -> Result<Vec<Planned>, OutOfMemory>
     requires { EachIndex blocks.now (λ i. (d : PlannedBlock)
         → (slice_index_or blocks.now i d).parent ≤ i) }
     ensures made { IfOk result (λ made. HaveOutline W.rules W.Databases.kind.target_of
