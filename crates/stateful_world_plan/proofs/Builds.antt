@@ -1,5 +1,5 @@
 -- A line that asks for a build names the block that the build gives.
-use Rattle.std.proofs.Common.{◌≡◌, ℕ, zero, suc, ◌+◌, ◌<◌, ◌≤◌, ◌⊎◌, inl, inr, Bool, false, List, [], ◌∷◌, Some, slice_get, All, refl, sym, ap, ◌∙◌, arith}
+use Rattle.std.proofs.Common.{◌≡◌, ℕ, suc, ◌+◌, inl, inr, Bool, false, List, Some, slice_get, All, refl, sym, ap, ◌∙◌, arith}
 use Rattle.std.specs.Prelude.{slice_index_or}
 use Rattle.std.proofs.lemmas.List.Elements.{All-weaker}
 use Rattle.std.proofs.lemmas.Option.{get_or_from_slice_get}
@@ -24,7 +24,7 @@ use Rattle.stateful_script.specs.Laws.{IsBuild, IsBuilt}
 use Rattle.stateful_script.specs.declared.script.PlannedBlock.{PlannedBlock}
 use Rattle.stateful_script.specs.declared.script.PlannedEvent.{PlannedEvent}
 use Rattle.stateful_script.specs.declared.script.PlannedEvent.TheVariants as line
-use Rattle.stateful_world_plan.specs.Plan.{Outlined, ArePlanned, first, next, genesis, child, block_on, targets_after, states_after, first_outlined, next_outlined, committed}
+use Rattle.stateful_world_plan.specs.Plan.{Outlined, ArePlanned, child, block_on, targets_after, states_after, first_outlined, next_outlined, committed}
 use Rattle.stateful_world_plan.specs.Builds.{asked, NamesBuild, NamesItsBuild, outlined_at}
 use Rattle.stateful_world_plan.proofs.Outlines.{stands, outlined_named}
 

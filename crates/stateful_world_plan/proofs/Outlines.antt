@@ -1,9 +1,9 @@
 -- The blocks of an outline, by their places.
-use Rattle.std.proofs.Common.{◌≡◌, ℕ, zero, suc, ◌+◌, ◌<◌, ◌≤◌, ◌⊎◌, inl, inr, List, [], ◌∷◌, ◌++◌, Some, length, map, slice_get, slice_get_read, take, get_or, refl, sym, ap, ◌∙◌, subst, arith, length-append}
-use Rattle.std.specs.Option.{option_map, option_map_or}
+use Rattle.std.proofs.Common.{◌≡◌, ℕ, zero, suc, ◌+◌, ◌<◌, ◌≤◌, ◌⊎◌, inl, inr, List, [], ◌∷◌, ◌++◌, Some, length, slice_get, take, get_or, refl, sym, ap, ◌∙◌, subst, arith, length-append}
+use Rattle.std.specs.Option.{option_map_or}
 use Rattle.std.proofs.lemmas.Bool.{cases_lt}
-use Rattle.std.proofs.lemmas.List.{take_more, length-map}
-use Rattle.std.proofs.lemmas.Option.{same_Some, slice_get_within, slice_get_read, none-some}
+use Rattle.std.proofs.lemmas.List.{take_more}
+use Rattle.std.proofs.lemmas.Option.{same_Some, slice_get_within, slice_get_read}
 use Rattle.sha2.specs.Sha256.{sha256}
 use Rattle.stateful_bank.specs.BankBlock.{block_bytes}
 use Rattle.stateful_bank_world.specs.Rules.{Rules}
@@ -12,7 +12,7 @@ use Rattle.stateful_script.specs.Named.{height_in}
 use Rattle.stateful_script.proofs.Got.{got_before, got_behind, height_stays}
 use Rattle.stateful_script.specs.declared.script.PlannedBlock.{PlannedBlock}
 use Rattle.stateful_world_plan.specs.declared.plan.Planned.{Planned}
-use Rattle.stateful_world_plan.specs.Plan.{Outlined, ArePlanned, first, next, genesis, child, block_on, blocks_of, first_outlined, next_outlined, targets_after}
+use Rattle.stateful_world_plan.specs.Plan.{Outlined, ArePlanned, first, next, genesis, child, block_on, first_outlined, next_outlined, targets_after}
 
 stays : {X : Type 0} (xs : List X) (y : X) (i : ℕ) (x : X) → slice_get xs i ≡ Some x → slice_get (xs ++ y ∷ []) i ≡ Some x
 stays xs y i x h = got_before xs (y ∷ []) i (slice_get_within xs i x h) ∙ h

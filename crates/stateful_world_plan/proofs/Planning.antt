@@ -76,13 +76,14 @@ module _ {M Ids States Targets : Type 0} (w : Rules States Targets) (d : Databas
     keeps = subst (λ (k : List (After M)). KeepsEach d Shows at n k (first_outlined w d.target_of d.initial ∷ [])) (sym kept_are) (ap Some (sym scratch.initial), tt);
   }
 
-  module _ {n : Ids} {m : d.Members} {lines : List PlannedBlock} {i : ℕ} {made : List Planned} {kept : List (After M)} (goes : Goes n m (take i lines) made kept) (b : PlannedBlock) (lt : i < length lines) (is : b ≡ get_or lines i b) (low : b.parent ≤ i) where
+  module _ (lines : List PlannedBlock) (i : ℕ) (far : i ≤ length lines) (n : Ids) (m : d.Members) (made : List Planned) (kept : List (After M)) (goes : Goes n m (take i lines) made kept) where
     pub made_length : length made ≡ i + 1
     made_length = ap length goes.made_are ∙ length-map goes.outline (λ o. o.planned) ∙ one_each w d.target_of d.initial (take i lines) goes.outline goes.planned ∙ omega (arith, length-take i lines)
 
     pub kept_length : length kept ≡ i + 1
     kept_length = keeps_each_length d Shows goes.at n kept goes.outline goes.keeps ∙ one_each w d.target_of d.initial (take i lines) goes.outline goes.planned ∙ omega (arith, length-take i lines)
 
+  module _ (lines : List PlannedBlock) (i : ℕ) (lt : i < length lines) (n : Ids) (m : d.Members) (made : List Planned) (kept : List (After M)) (goes : Goes n m (take i lines) made kept) (b : PlannedBlock) (is : b ≡ get_or lines i b) (low : b.parent ≤ i) where
     -- the parent in the outline
     parent : Outlined States
     parent = get_or goes.outline b.parent (first_outlined w d.target_of d.initial)
@@ -93,7 +94,7 @@ module _ {M Ids States Targets : Type 0} (w : Rules States Targets) (d : Databas
 
     parent_is : (p : Planned) → p ≡ get_or made b.parent p → p ≡ parent.planned
     parent_is p at_p =
-        let there : slice_get made b.parent ≡ Some p = slice_get_read made (length made) b.parent p refl (omega (arith, made_length)) at_p in
+        let there : slice_get made b.parent ≡ Some p = slice_get_read made (length made) b.parent p refl (omega (arith, made_length lines i (omega arith) n m made kept goes)) at_p in
         let planned : slice_get made b.parent ≡ Some parent.planned = ap (λ xs. slice_get xs b.parent) goes.made_are ∙ slice_get-map (λ o. o.planned) goes.outline b.parent ∙ ap (λ o. option_map (λ (x : Outlined States). x.planned) o) parent_there in
         same_Some p parent.planned (sym there ∙ planned)
 
@@ -106,7 +107,7 @@ module _ {M Ids States Targets : Type 0} (w : Rules States Targets) (d : Databas
         → new ≡ made ++ child p b targets ∷ [] → now ≡ kept ++ after ∷ []
         → Goes k l (take (i + 1) lines) new now
     Goes-more p a at_p at_a k l after targets new now same later steps targeted new_is now_is =
-        let kept_a : Keeps d Shows n goes.at a parent.after = keeps_each_at d Shows goes.at n kept goes.outline b.parent a parent goes.keeps (slice_get_read kept (length kept) b.parent a refl (omega (arith, kept_length)) at_a) parent_there in
+        let kept_a : Keeps d Shows n goes.at a parent.after = keeps_each_at d Shows goes.at n kept goes.outline b.parent a parent goes.keeps (slice_get_read kept (length kept) b.parent a refl (omega (arith, kept_length lines i (omega arith) n m made kept goes)) at_a) parent_there in
         let behind : Keeps d Shows k goes.at after (states_after w d.target_of d.initial parent b) = steps goes.at parent.after goes.scratch.here goes.scratch.drawn kept_a in
         let targets_are = targeted goes.at (states_after w d.target_of d.initial parent b) goes.scratch.initial behind in
         let more = take_more lines i b lt in

@@ -16,11 +16,13 @@ use Rattle.stateful_world_plan.specs.declared.plan.Planned.{Planned}
 abbrev pub named : BankBlock → Named BankBlock
 named b = record { digest = record { 0 = sha256 (block_bytes b) }; block = b }
 
--- what a block commits to: where it is to be wrong, each root is 32 zero bytes
+-- the target under a root of 32 zero bytes
+abbrev pub under_wrong_root : Target → Target
+under_wrong_root target = record target { root = record { 0 = replicate 32 0 } }
+
+-- what a block commits to: where it is to be wrong, each root is a wrong one
 abbrev pub committed : Bool → List Target → List Target
-committed wrong targets =
-    if wrong then map (λ target. record target { root = record { 0 = replicate 32 0 } }) targets
-    else targets
+committed wrong targets = if wrong then map under_wrong_root targets else targets
 
 -- genesis over these targets
 unfoldable pub genesis : List Target → Planned

@@ -1,4 +1,4 @@
-use Rattle.std.proofs.Common.{◌≡◌, ◌∷◌, [], take, length, refl}
+use Rattle.std.proofs.Common.{◌∷◌, [], take, length, refl, sym, ◌∙◌}
 use Rattle.std.proofs.lemmas.Option.{get_or_from_slice_get, slice_get_read}
 use Rattle.std.specs.Ordering.{nat_cmp}
 use Rattle.std.specs.BTreeMap.{get}
@@ -12,8 +12,9 @@ pub loop-event-init : goal.loop-event-init
 loop-event-init c =
     let b = c.index-planned-0.result in
     let there = slice_get_read c.args.planned.now (length c.args.planned.now) 0 b refl c.requires.genesis c.index-planned-0.is in
-    let is_first : planned_at c.args.planned.now 0 ≡ b = get_or_from_slice_get c.args.planned.now 0 b (genesis []) there in
-    rw (← is_first) at (c.in_ok-store_block.ensures [] c.new-store.ensures)
+    let here = get_or_from_slice_get c.args.planned.now 0 b b there in
+    let first = get_or_from_slice_get c.args.planned.now 0 b (genesis []) there in
+    rw (here ∙ sym first) at (c.in_ok-store_block.ensures [] c.new-store.ensures)
 
 pub loop-event-preserved : goal.loop-event-preserved
 loop-event-preserved c =
