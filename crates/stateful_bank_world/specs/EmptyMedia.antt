@@ -1,11 +1,12 @@
 -- Databases that are closed on empty media, one of them or several.
-use Rattle.std.proofs.Common.{◌≡◌, ◌+◌, ℕ, suc, zero, List, [], ◌∷◌, ◌++◌, Some, take, refl, sym, ap, ◌∙◌, arith, add-one}
-use Rattle.std.proofs.lemmas.Option.{same_Some}
+use Rattle.std.proofs.Common.{◌≡◌, ◌+◌, ◌<◌, ℕ, suc, zero, List, [], ◌∷◌, ◌++◌, Option, None, Some, take, refl, sym, ap, ◌∙◌, arith, add-one}
+use Rattle.std.proofs.lemmas.Option.{none-some, same_Some}
 use Rattle.stateful_types.specs.declared.target.Target.{Target}
 use Rattle.stateful_db.specs.Databases.{Databases}
 use Rattle.stateful_db.specs.Member.{Member, here, closed, lost, away}
+use Rattle.stateful_db.specs.Pair.{pair, both}
 use Rattle.stateful_db.specs.Single.{single}
-use Rattle.stateful_bank_world.specs.Fresh.{AreEmpty}
+use Rattle.stateful_bank_world.specs.Fresh.{AreEmpty, HasDurably}
 
 -- closed on a medium with this state alone
 abbrev pub empty_on : {S : Type 0} → S → Member S
@@ -37,4 +38,33 @@ module _ {S T : Type 0} (target_of : S → T) (targeted : T → Target) (begun :
     openable = tt;
     has = λ i within. record { place = 0; has = (omega arith, refl); durable = omega arith };
     opened = opened;
+  }
+
+same_parts : {X Y : Type 0} (p : X × Y) (x : X) (y : Y) → p.0 ≡ x → p.1 ≡ y → p ≡ (x, y)
+same_parts (a, b) x y e f = cc
+
+module _ {I J S T U V : Type 0} (a : Databases I S T) (b : Databases J U V) where
+  both_some : (p : Option (I × S)) (q : Option (J × U)) (at : (I × J) × (S × U)) → both p q ≡ Some at
+      → (p ≡ Some (at.0.0, at.1.0)) × (q ≡ Some (at.0.1, at.1.1))
+  both_some None q at is = absurd (none-some at is)
+  both_some (Some p) None at is = absurd (none-some at is)
+  both_some (Some p) (Some q) at is =
+      let same : ((p.0, q.0), (p.1, q.1)) ≡ at = same_Some ((p.0, q.0), (p.1, q.1)) at is in
+      (ap (λ (x : (I × J) × (S × U)). Some (x.0.0, x.1.0)) same, ap (λ (x : (I × J) × (S × U)). Some (x.0.1, x.1.1)) same)
+
+  has_each : (m : a.Members) (n : b.Members) → a.count ≡ 1 → AreEmpty a m → AreEmpty b n → (i : ℕ) → i < suc b.count
+      → HasDurably (pair a b) (m, n) (a.initial, b.initial) i
+  has_each m n one first others zero within =
+      let h = first.has 0 (omega (arith, one)) in record { place = h.place; has = h.has; durable = h.durable }
+  has_each m n one first others (suc i) within =
+      let h = others.has i (omega (arith, within)) in record { place = h.place; has = h.has; durable = h.durable }
+
+  -- one database, and those behind it
+  pub both_empty : (m : a.Members) (n : b.Members) → a.count ≡ 1 → AreEmpty a m → AreEmpty b n → AreEmpty (pair a b) (m, n)
+  both_empty m n one first others = record {
+    openable = (first.openable, others.openable);
+    has = has_each m n one first others;
+    opened = λ k p h is.
+        let parts = both_some (a.point k.0) (b.point k.1) p is in
+        same_parts p.1 a.initial b.initial (first.opened k.0 (p.0.0, p.1.0) h.0 parts.0) (others.opened k.1 (p.0.1, p.1.1) h.1 parts.1);
   }

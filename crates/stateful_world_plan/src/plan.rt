@@ -74,8 +74,9 @@ fn child(
     })
 }
 
-/// Genesis, and the block of each line. The states after blocks are those of scratch databases of
-/// the world, on which each block that has a child or none is run once and sealed.
+/// Genesis, and the block of each line. Each block is run once, and sealed over scratch databases of
+/// the world, which give the targets that it commits to. States that would end at the last number
+/// are refused as want of memory.
 pub fn plan_blocks<W: Fresh>(
     alloc: Global,
     blocks: &[PlannedBlock],

@@ -19,7 +19,7 @@ use stateful_history::Entry;
 use stateful_script::Script;
 use stateful_text::Label;
 use stateful_types::{OutOfMemory, Round};
-use stateful_world_plan::{events, labels, plan, store_of};
+use stateful_world_plan::{events, label_blocks, plan_blocks, store_of};
 use std::alloc::Global;
 
 /// What was played over the databases of a world: the names of the blocks, the entries, the machine
@@ -64,8 +64,8 @@ pub fn play_in<W: Fresh>(alloc: Global, script: &Script) -> Result<PlayedIn<W>, 
         IsPlayOf g script.now played.labels.items played.history.items
         (left_of g played.machine played.databases) played.end) }
 {
-    let planned = plan::<W>(alloc, script.blocks.as_slice())?;
-    let labels = labels(alloc, script.names.as_slice(), planned.as_slice())?;
+    let planned = plan_blocks::<W>(alloc, script.blocks.as_slice())?;
+    let labels = label_blocks(alloc, script.names.as_slice(), planned.as_slice())?;
     let mut store = store_of(alloc, planned.as_slice(), script.events.as_slice())?;
     let events = events(alloc, planned.as_slice(), script.events.as_slice())?;
     let stateful = new_machine::<W>(alloc)?;
