@@ -1,5 +1,5 @@
 -- What runs end with.
-use Rattle.std.proofs.Common.{◌≡◌, true, false, Option, Some, None, refl, ap, ◌∙◌}
+use Rattle.std.proofs.Common.{◌≡◌, true, false, Option, Some, None, refl, ap}
 use Rattle.std.specs.Option.{option_map}
 use Rattle.stateful_types.specs.declared.outcome.Finality.{Finality}
 use Rattle.stateful_types.specs.declared.outcome.Finality.TheVariants.{Candidate, Finalized}

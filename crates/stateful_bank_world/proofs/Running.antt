@@ -4,7 +4,7 @@ use Rattle.stateful_types.specs.declared.outcome.Moved.TheVariants.{Done}
 use Rattle.stateful_db.specs.Meaning.{outcome, Ends}
 use Rattle.stateful_db.specs.Works.{block_of, run_chain}
 use Rattle.stateful_bank.specs.declared.op.Op.{Op}
-use Rattle.stateful_bank_world.specs.Rules.{Rules, bank_meaning, changes_of, turns_of, stepped}
+use Rattle.stateful_bank_world.specs.Rules.{Rules, bank_meaning, turns_of, stepped}
 use Rattle.stateful_bank_world.specs.Draft.{IsAmong}
 use Rattle.stateful_bank_world.specs.Progress.{Shows, HasDone, Advances}
 use Rattle.stateful_bank_world.specs.Runs.{BankRunOf, IsRun, IsRejected, LeadsToFull, LeadsToRoom}

@@ -1,5 +1,5 @@
 -- One turn of a run or a build.
-use Rattle.std.proofs.Common.{◌≡◌, ℕ, zero, suc, ◌+◌, ◌<◌, ◌≤◌, max, List, ◌∷◌, Option, Some, None, take, drop, length, refl, ap, ◌∙◌, add-one, arith}
+use Rattle.std.proofs.Common.{◌≡◌, ℕ, zero, suc, ◌+◌, ◌<◌, ◌≤◌, max, List, Option, Some, None, take, drop, length, refl, ap, ◌∙◌, add-one, arith}
 use Rattle.stateful_bank.specs.declared.op.Op.{Op}
 use Rattle.stateful_bank.specs.Accounts.{Becomes, do_ops}
 use Rattle.stateful_bank.proofs.Doing.{do_ops-next, do_ops-last, do_ops-refused, turns_refused, turns_last, turns_more}

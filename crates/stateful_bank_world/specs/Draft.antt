@@ -1,5 +1,5 @@
 -- Batches that may still change, as accounts.
-use Rattle.std.specs.Prelude.{◌≡◌, ℕ, List, ◌∷◌, Option, Some}
+use Rattle.std.specs.Prelude.{◌≡◌, List, ◌∷◌, Option, Some}
 use Rattle.stateful_db.specs.Chain.{IsPoint}
 use Rattle.stateful_bank.specs.Accounts as accounts
 use Rattle.stateful_bank_world.specs.Rules.{Rules}

@@ -5,3 +5,5 @@ pub mod Runs
 pub mod Builds
 pub mod Hooks
 pub mod Works
+pub mod Fresh
+pub mod EmptyMedia

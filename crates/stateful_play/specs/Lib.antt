@@ -1,7 +1,4 @@
-pub mod Plan
-pub mod Events
-pub mod Builds
-pub mod Store
+pub mod Plain
 pub mod Shown
 pub mod Play
 pub mod Status

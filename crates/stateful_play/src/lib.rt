@@ -1,12 +1,9 @@
-//! Plays a script: makes its blocks, its block store and its events, steps the machine through
-//! them, and writes what came of it.
+//! Plays a script in its world, and writes what came of it.
 #![tactic(auto)]
 
-mod event;
-mod plan;
 mod play;
+mod shown;
 mod status;
-mod store;
 mod text;
 mod top;
 

@@ -1,29 +1,20 @@
-//! A script's play.
+//! A script's play, in its world.
 
-ghost use Rattle.std.specs.Prelude.{◌≡◌, ◌↔◌, ℕ, [], Option, IfOk, IsTrue, length};
-ghost use Rattle.stateful_types.specs.Names.{Named};
-ghost use Rattle.stateful_db.specs.Member.{closed as closed_member};
-ghost use Rattle.stateful_plain.specs.Whole.{initial};
+ghost use Rattle.std.specs.Prelude.{◌≡◌, IfOk};
 ghost use Rattle.stateful_script.specs.Laws.{IsPlan};
-ghost use Rattle.stateful_processing.specs.Moments.{moment};
-ghost use Rattle.stateful_whole.specs.Machine.{IsNew};
-ghost use Rattle.stateful_whole.specs.Media.{IsAsAtStart, MediaStand};
-ghost use Rattle.stateful_play.specs.Plan.{labels_of};
-ghost use Rattle.stateful_play.specs.Play.{bank, IsPlayOf};
-ghost use Rattle.stateful_play.specs.Shown.{listed_in};
+ghost use Rattle.stateful_play.specs.Play.{IsPlayOf};
 
-use crate::event::events;
-use crate::plan::{Planned, plan};
-use crate::store::store_of;
-use stateful_actor::{Config, Driven, Halted, NewError, Stateful, StepError, drive};
+use stateful_actor::{Halted, Stateful};
 use stateful_bank::{Ask, BankBlock};
-use stateful_db::{DatabaseSet, Held};
+use stateful_bank_world::Bank;
+use stateful_db::Held;
 use stateful_history::Entry;
-use stateful_plain::{Plain, PlainMedium};
-use stateful_plain_bank::Bank;
-use stateful_script::{Name, Script, World};
+use stateful_plain::Plain;
+use stateful_script::{Script, World};
+use stateful_single_bank::Single;
 use stateful_text::Label;
-use stateful_types::{Items, OutOfMemory, Round};
+use stateful_types::{OutOfMemory, Round};
+use stateful_world_play::{PlayedIn, play_in};
 use std::alloc::Global;
 
 /// The entries of a play, by its world.
@@ -35,7 +26,7 @@ pub enum History {
 /// The machine of a play, by its world.
 #[derive(Drop)]
 pub enum Machine {
-    Plain(Stateful<Bank>),
+    Plain(Stateful<Bank<Single>>),
 }
 
 /// The databases of a play, by its world.
@@ -62,92 +53,30 @@ pub struct Told {
     pub played: Played,
 }
 
-/// A name with the digest of its block.
-fn label(alloc: Global, name: &Name, made: &Planned) -> Result<Label, OutOfMemory>
-    ensures { IfOk result (λ label. label
-        ≡ record { name = name.now; digest = made.now.block.digest }) }
-{
-    Ok(Label {
-        name: Items::from_vec(name.as_str().as_bytes().to_vec(alloc)?),
-        digest: made.block.digest(),
-    })
-}
-
-/// The names of the planned blocks, with their digests.
-fn labels(alloc: Global, names: &[Name], planned: &[Planned]) -> Result<Vec<Label>, OutOfMemory>
-    requires { length planned.now ≡ length names.now }
-    ensures { IfOk result (λ labels. labels.items ≡ labels_of names.now planned.now) }
-{
-    let mut labels = Vec::new(alloc);
-    for (place, name) in names.iter().enumerate() {
-        labels.push(label(alloc, name, &planned[place])?)?;
-    }
-    Ok(labels)
-}
-
-/// A machine that is down.
-fn new_machine(alloc: Global) -> Result<Stateful<Bank>, OutOfMemory>
-    ensures new { IfOk result (λ stateful. (m : ⟦<Held<Plain> as DatabaseSet>⟧.kind.Members)
-        (n : ℕ)
-        → IsNew bank stateful.failed stateful.register
-        (moment bank stateful.execution stateful.loop m n [])) }
-    ensures media { IfOk result (λ stateful. (stored : ℕ → Option (Named BankBlock))
-        (m : ⟦<Held<Plain> as DatabaseSet>⟧.kind.Members)
-        (n : ℕ)
-        → IsAsAtStart bank stored m
-        → MediaStand bank stored [] stateful.failed
-        (moment bank stateful.execution stateful.loop m n [])) }
-{
-    let config = Config {
-        application: Bank::new(alloc),
-        db_config: (),
-        provider: (),
-    };
-    match Stateful::new(alloc, config) {
-        Ok(stateful) => Ok(stateful),
-        Err(NewError::OutOfMemory) => Err(OutOfMemory),
-    }
-}
-
-/// A database that is closed, on an empty medium that hasn't failed. No call on it is to fail: a
-/// script lists none.
-fn empty_database(alloc: Global) -> Held<Plain>
-    ensures none_away { ⟦<Held<Plain> as DatabaseSet>⟧.kind.NoneAway
-        (⟦<Held<Plain> as DatabaseSet>⟧.members result) }
-    ensures empty { ⟦<Held<Plain> as DatabaseSet>⟧.members result
-        ≡ closed_member (record { older = []; newest = initial; pruned = 0; durable = 0 }) }
-    ensures batches { ⟦<Held<Plain> as DatabaseSet>⟧.next result ≡ 1 }
-    ensures listed { listed_in (Databases.Plain result) ≡ [] }
-    ensures counts { (i : ℕ) → ⟦<Held<Plain> as DatabaseSet>⟧.counted result i ≡ 0 }
-{
-    Held::Closed(PlainMedium::empty(alloc, Vec::new(alloc)))
-}
-
-/// What came of the events, and the refused one if one was.
-fn in_plain(driven: Driven<Bank>, end: Option<Halted>) -> Played
+/// A play in the world of one database.
+fn in_plain(played: PlayedIn<Single>) -> Told
     ensures { result
         ≡ record {
-          world = World.Plain;
-          history = History.Plain driven.history;
-          machine = Machine.Plain driven.stateful;
-          databases = Databases.Plain driven.databases;
-          end = end;
+          labels = played.labels;
+          played = record {
+            world = World.Plain;
+            history = History.Plain played.history;
+            machine = Machine.Plain played.machine;
+            databases = Databases.Plain played.databases;
+            end = played.end;
+          };
         } }
 {
-    Played {
-        world: World::Plain,
-        history: History::Plain(driven.history),
-        machine: Machine::Plain(driven.stateful),
-        databases: Databases::Plain(driven.databases),
-        end,
+    Told {
+        labels: played.labels,
+        played: Played {
+            world: World::Plain,
+            history: History::Plain(played.history),
+            machine: Machine::Plain(played.machine),
+            databases: Databases::Plain(played.databases),
+            end: played.end,
+        },
     }
-}
-
-/// Whether memory ran out.
-fn wants_memory(error: StepError) -> bool
-    ensures { IsTrue result ↔ (error ≡ StepError.OutOfMemory) }
-{
-    matches!(error, StepError::OutOfMemory)
 }
 
 /// Plays a script in its world. Where the machine wants memory there is no play.
@@ -155,24 +84,7 @@ pub fn play(alloc: Global, script: &Script) -> Result<Told, OutOfMemory>
     requires { IsPlan script.now }
     ensures { IfOk result (λ told. IsPlayOf script.now told.labels.items told.played) }
 {
-    let planned = plan(alloc, script.blocks.as_slice())?;
-    let labels = labels(alloc, script.names.as_slice(), planned.as_slice())?;
-    let mut store = store_of(alloc, planned.as_slice(), script.events.as_slice())?;
-    let events = events(alloc, planned.as_slice(), script.events.as_slice())?;
-    let stateful = new_machine(alloc)?;
-    match drive(alloc, stateful, empty_database(alloc), &mut store, events) {
-        Ok(driven) => Ok(Told {
-            labels,
-            played: in_plain(driven, None),
-        }),
-        Err(halt) => {
-            if wants_memory(halt.halted.error) {
-                return Err(OutOfMemory);
-            }
-            Ok(Told {
-                labels,
-                played: in_plain(halt.driven, Some(halt.halted)),
-            })
-        }
+    match script.world.unwrap_or(World::Plain) {
+        World::Plain => Ok(in_plain(play_in::<Single>(alloc, script)?)),
     }
 }

@@ -9,9 +9,9 @@ ghost use Rattle.stateful_plain.specs.Stored.{standing_of};
 ghost use Rattle.stateful_single_bank.specs.Single.{one_target, HoldsEntries};
 
 use stateful_bank::Op;
-use stateful_bank_world::World;
+use stateful_bank_world::{Fresh, World};
 use stateful_db::{Held, ManagedDb};
-use stateful_plain::{Plain, PlainMerkleized, PlainUnmerkleized};
+use stateful_plain::{Plain, PlainMedium, PlainMerkleized, PlainUnmerkleized};
 use stateful_types::{Height, Items, OutOfMemory, Target};
 use std::alloc::Global;
 
@@ -75,6 +75,23 @@ impl World for Single {
     fn committed(targets: &[Target]) -> Target {
         target_in(targets)
     }
+}
+
+impl Fresh for Single {
+    ghost use Rattle.std.proofs.Common.{refl};
+    ghost use Rattle.stateful_single_bank.specs.Blank.{IsBlank, blank_is_empty};
+
+    ghost blank = { IsBlank };
+
+    ghost blank_are = { λ database blank. blank_is_empty database blank };
+
+    ghost commits = { refl };
+
+    fn empty(alloc: Global) -> Held<Plain> {
+        Held::Closed(PlainMedium::empty(alloc, Vec::new(alloc)))
+    }
+
+    fn config() {}
 }
 
 /// What the account has, over a database that is here. None where the batch is stale.

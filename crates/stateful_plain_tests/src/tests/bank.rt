@@ -1,11 +1,12 @@
 //! Blocks that the bank builds and runs, with their roots and turns.
 
 use stateful_bank::{Ask, BankBlock, Op};
+use stateful_bank_world::Bank;
 use stateful_db::{
     Application, DatabaseSet, Held, Hooked, Input, Merkleized, ProposalKind, Proposed,
 };
 use stateful_plain::{Plain, PlainMedium, PlainMerkleized, PlainState};
-use stateful_plain_bank::{Bank, step};
+use stateful_single_bank::{Single, step};
 use stateful_types::{
     Ancestry, Digest, Digested, Epoch, Finality, Handoff, Height, Items, Moved, Round, Target, View,
 };
@@ -77,13 +78,13 @@ fn run(
         rest: Items::new(alloc),
     };
     let batches = databases.new_batches().ok().expect(rt, "it is here");
-    let mut bank = Bank::new(alloc);
+    let mut bank = Bank::<Single>::new(alloc);
     let mut run = bank
         .process(ROUND, ancestry, batches, finality)
         .ok()
         .expect(rt, "it starts");
     for turns in 1..20 {
-        match Bank::turn(&mut run, databases)
+        match Bank::<Single>::turn(&mut run, databases)
             .ok()
             .expect(rt, "it goes on")
         {
@@ -104,9 +105,9 @@ fn build(
     kind: ProposalKind,
     decision: Handoff<()>,
     ops: &[Op],
-) -> Result<(Handoff<Proposed<Bank>>, u64), Fail> {
+) -> Result<(Handoff<Proposed<Bank<Single>>>, u64), Fail> {
     let mut databases = empty(rt, alloc);
-    let mut bank = Bank::new(alloc);
+    let mut bank = Bank::<Single>::new(alloc);
     let mut parent = bank.genesis().ok().expect(rt, "memory");
     parent.height = Height(height);
     let first = Digested::compute(alloc, parent).ok().expect(rt, "memory");
@@ -124,7 +125,7 @@ fn build(
     };
     let mut build = begun.ok().expect(rt, "memory");
     for turns in 1..20 {
-        match Bank::turn_build(&mut build, &databases)
+        match Bank::<Single>::turn_build(&mut build, &databases)
             .ok()
             .expect(rt, "it goes on")
         {
@@ -147,7 +148,7 @@ fn builds_a_block(rt: HostRuntime) -> Result<(), Fail> {
             assert_eq!(rt; built.block.parent, Digest(*GENESIS));
             assert_eq!(rt; built.block.height, Height(1));
             assert_eq!(rt; built.merkleized.root(), Digest(*ROOTS[0]));
-            let targets = Bank::sync_targets(&built.block);
+            let targets = Bank::<Single>::sync_targets(&built.block);
             assert!(rt; Held::<Plain>::matches_sync_targets(&built.merkleized, &targets));
         }
         _ => assert!(rt; false),
@@ -203,7 +204,9 @@ fn runs_blocks(rt: HostRuntime) -> Result<(), Fail> {
             .expect(&rt, "a state");
         let target = state.target();
         let block = block(alloc, ops, &[target])?;
-        assert!(rt; Held::<Plain>::matches_sync_targets(&sealed, &Bank::sync_targets(&block)));
+        assert!(rt;
+            Held::<Plain>::matches_sync_targets(&sealed, &Bank::<Single>::sync_targets(&block))
+        );
         databases.apply(sealed).ok().expect(&rt, "it applies");
     }
     Ok(())
@@ -240,8 +243,11 @@ fn ends_without_a_batch(rt: HostRuntime) -> Result<(), Fail> {
 #[test]
 fn commits_to_one_target(rt: HostRuntime) -> Result<(), Fail> {
     let alloc = rt.alloc();
-    let genesis = Bank::new(alloc).genesis().ok().expect(&rt, "memory");
-    let initial = Bank::sync_targets(&genesis);
+    let genesis = Bank::<Single>::new(alloc)
+        .genesis()
+        .ok()
+        .expect(&rt, "memory");
+    let initial = Bank::<Single>::sync_targets(&genesis);
     assert_eq!(rt; initial, PlainState::empty(alloc).target());
     let named = Digested::compute(alloc, genesis).ok().expect(&rt, "memory");
     assert_eq!(rt; named.digest(), Digest(*GENESIS));
@@ -249,10 +255,16 @@ fn commits_to_one_target(rt: HostRuntime) -> Result<(), Fail> {
         .ok()
         .expect(&rt, "memory");
     let target = state.expect(&rt, "a state").target();
-    assert_eq!(rt; Bank::sync_targets(&block(alloc, &[], &[target])?), target);
-    assert_eq!(rt; Bank::sync_targets(&block(alloc, &[], &[])?), initial);
     assert_eq!(rt;
-        Bank::sync_targets(&block(alloc, &[], &[target, target])?),
+        Bank::<Single>::sync_targets(&block(alloc, &[], &[target])?),
+        target
+    );
+    assert_eq!(rt;
+        Bank::<Single>::sync_targets(&block(alloc, &[], &[])?),
+        initial
+    );
+    assert_eq!(rt;
+        Bank::<Single>::sync_targets(&block(alloc, &[], &[target, target])?),
         initial
     );
     Ok(())
@@ -264,7 +276,7 @@ fn hooks_take_their_turns(rt: HostRuntime) -> Result<(), Fail> {
     let mut databases = empty(&rt, alloc);
     let (sealed, _) = run(&rt, alloc, &mut databases, &[], Finality::Finalized)?;
     let sealed = sealed.expect(&rt, "a batch");
-    let mut bank = Bank::new(alloc);
+    let mut bank = Bank::<Single>::new(alloc);
     let mut slow = block(alloc, &[], &[])?;
     for turns in 0..3u8 {
         slow.slow = turns;
@@ -279,7 +291,7 @@ fn hooks_take_their_turns(rt: HostRuntime) -> Result<(), Fail> {
         if let Hooked::Pending(mut hook) = hooked {
             for turn in 1..6u8 {
                 taken = turn;
-                let moved = Bank::turn_hook(&mut hook, &databases)
+                let moved = Bank::<Single>::turn_hook(&mut hook, &databases)
                     .ok()
                     .expect(&rt, "it goes on");
                 if moved == Moved::Done(()) {

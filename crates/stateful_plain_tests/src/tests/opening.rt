@@ -1,10 +1,11 @@
 //! Openings over a medium that keeps the empty state alone.
 
 use stateful_bank::BankBlock;
+use stateful_bank_world::Bank;
 use stateful_db::{DatabaseSet, Held};
 use stateful_plain::{PlainMedium, PlainState};
-use stateful_plain_bank::Bank;
 use stateful_plan::{Missing, SyncError, open_set};
+use stateful_single_bank::Single;
 use stateful_types::{
     Anchor, Digest, Digested, Epoch, Height, Items, MemoryStore, Round, Target, View,
 };
@@ -88,7 +89,7 @@ fn databases_open_at_the_later_height_or_not_at_all(rt: HostRuntime) -> Result<(
         let processed = processed.map(Height);
         let completed = completed.map(|(height, digest)| (Height(height), digest));
         let mut databases = Held::Closed(PlainMedium::empty(alloc, Vec::new(alloc)));
-        let opened = open_set::<Bank, _>(&mut databases, &(), &store, processed, completed);
+        let opened = open_set::<Bank<Single>, _>(&mut databases, &(), &store, processed, completed);
         assert_eq!(rt; opened, answer);
         assert_eq!(rt; databases.is_here(), answer.is_ok());
     }

@@ -2,7 +2,6 @@ use Rattle.std.proofs.Common.{◌≡◌, Err, sym, ◌∙◌, ap, refl}
 use Rattle.std.proofs.lemmas.Bool.{false≢true}
 use Rattle.stateful_db.specs.declared.application.AppFault.TheVariants.{Failed}
 use Rattle.stateful_bank_world.specs.Runs.{IsRejected}
-use Rattle.stateful_bank_world.specs.Draft.{IsAmong}
 use Rattle.stateful_bank_world.proofs.Running.{refused_outcome, refused_cost, further_run, further_cost, complete_cost, complete_outcome, complete_full, complete_room}
 use Rattle.stateful_bank_world.proofs.run.turn_run.Goals as goal
 

@@ -1,6 +1,0 @@
-pub mod Points
-pub mod Drafting
-pub mod Outcomes
-pub mod Turning
-pub mod Running
-pub mod Building

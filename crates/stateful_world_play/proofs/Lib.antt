@@ -1,0 +1,4 @@
+pub mod Driving
+pub mod Starts
+pub mod Honest
+pub mod Carried
