@@ -3,6 +3,7 @@
 use super::bank::{Emptied, build, run_both};
 use super::roots::{FIRST_AMOUNTS, FIRST_BALANCES, SECOND_AMOUNTS, SECOND_BALANCES, range};
 use stateful_any::{AnyDb, AnyMedium};
+use stateful_bank_world::Sealed;
 use stateful_db::Held;
 use stateful_keyless::{CompactMedium, KeylessMedium};
 use stateful_triple_bank::{AmountLogs, Triple};
@@ -31,6 +32,10 @@ impl Emptied for Triple {
 
     fn config() -> ((), ((), ())) {
         ((), ((), ()))
+    }
+
+    fn depth(batch: &Sealed<Triple>) -> usize {
+        batch.0.depth()
     }
 }
 
