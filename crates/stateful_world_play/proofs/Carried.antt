@@ -1,5 +1,5 @@
 -- What the machine's play of the events says of the script.
-use Rattle.std.proofs.Common.{◌≡◌, ℕ, false, List, [], Option, Some, None, IfSome, map, subst}
+use Rattle.std.proofs.Common.{◌≡◌, ℕ, false, List, [], Option, Some, None, IfSome, subst}
 use Rattle.std.proofs.Math.Path.{fun_ext}
 use Rattle.stateful_types.specs.Names.{Named}
 use Rattle.stateful_types.specs.declared.round.Round.{Round}

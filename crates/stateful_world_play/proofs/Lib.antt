@@ -1,4 +1,5 @@
-pub mod Driving
+pub mod Refused
 pub mod Starts
 pub mod Honest
 pub mod Carried
+pub mod Played

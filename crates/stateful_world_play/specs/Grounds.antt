@@ -1,5 +1,5 @@
 -- What a play takes of a world.
-use Rattle.std.specs.Prelude.{ℕ, List, Option}
+use Rattle.std.specs.Prelude.{ℕ, List}
 use Rattle.stateful_types.specs.declared.round.Round.{Round}
 use Rattle.stateful_db.specs.Databases.{Databases}
 use Rattle.stateful_bank.specs.BankBlock.{block_header}

@@ -5,7 +5,7 @@ use stateful_db::DatabaseSet;
 
 /// What a play takes of a world, in one record.
 pub trait Grounded: Fresh {
-    ghost use Rattle.stateful_world_plan.specs.Grounds.{Grounds};
+    ghost use Rattle.stateful_world_play.specs.Grounds.{Grounds};
 
     ghost grounds: { Grounds Self.Databases.Unmerkleized Self.Databases.Merkleized Self.Databases };
 }

@@ -1,7 +1,7 @@
-use Rattle.std.proofs.Common.{Some, None, refl, sym, ◌∙◌}
+use Rattle.std.proofs.Common.{refl, sym, ◌∙◌}
 use Rattle.std.proofs.lemmas.Bool.{false≢true}
 use Rattle.std.proofs.lemmas.Option.{none-some}
-use Rattle.stateful_world_play.proofs.Driving.{halted_with}
+use Rattle.stateful_world_play.proofs.Refused.{halted_with}
 use Rattle.stateful_world_play.proofs.driving.drive_all.Goals as goal
 
 pub returns-in-Ok : goal.returns-in-Ok
@@ -13,12 +13,12 @@ returns-in-Ok g c = record {
   refused = tt;
 }
 
-pub returns : goal.returns
-returns g c =
+pub returns-else-wants_memory : goal.returns-else-wants_memory
+returns-else-wants_memory g c =
     let why = c.in-Err.ensures.refused in
     let still = c.in-Err.ensures.still_media in
     record {
-      taken = (c.in-Err.ensures.part, (c.in-Err.ensures.at.1, λ e. false≢true (sym c.if-wants_memory.false ∙ c.wants_memory.ensures.1 e)));
+      taken = (c.in-Err.ensures.part, c.in-Err.ensures.at.1, λ e. false≢true (sym c.if-wants_memory.false ∙ c.wants_memory.ensures.1 e));
       steps = record { last = _; steps = why.3.steps; handed = λ e. absurd (none-some _ (sym e)) };
       rules = c.in-Err.ensures.still_stands;
       media = tt;

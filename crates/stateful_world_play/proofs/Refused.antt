@@ -7,7 +7,6 @@ use Rattle.stateful_history.specs.declared.event.Event.{Event}
 use Rattle.stateful_exec.specs.Workings.{Workings}
 use Rattle.stateful_processing.specs.Intake.{Counts}
 use Rattle.stateful_processing.specs.Moments.{Moment}
-use Rattle.stateful_processing.specs.declared.error.StepError.{StepError}
 use Rattle.stateful_processing.specs.declared.error.StepError.TheVariants.{BadEvent}
 use Rattle.stateful_actor.specs.Driving.{IsRefused, KeepsMediaAfter}
 use Rattle.stateful_actor.specs.Faults.{Tally}
