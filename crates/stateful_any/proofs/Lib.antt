@@ -6,3 +6,4 @@ pub mod Floor
 pub mod Values
 pub mod Sealing
 pub mod Staging
+pub mod Entries

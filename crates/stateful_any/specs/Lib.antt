@@ -5,6 +5,7 @@ pub mod Through
 pub mod Keyed
 pub mod Shown
 pub mod Staged
+pub mod Entries
 pub mod Stored
 pub mod AnySound
 pub mod Laws

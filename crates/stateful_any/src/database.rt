@@ -17,9 +17,10 @@ use stateful_db::{
 };
 use stateful_log::{Field, LogMedium, OpenLog};
 use stateful_overlay::Layers;
-use stateful_types::{Digest, Faulty, Location, OutOfMemory, Target};
+use stateful_types::{Digest, Faulty, Items, Location, OutOfMemory, Target};
 use std::alloc::Global;
 use std::collections::BTreeMap;
+use std::ops::Range;
 
 /// A map that is kept as a log of operations, each from its floor on once. The index has the
 /// location of each live key's last write.
@@ -44,6 +45,7 @@ impl<K: Field, V: Field> AnyDb<K, V> {
     ghost use Rattle.std.specs.Prelude.{◌≡◌, IfOk, IsErrOf, IfErr, IsTrue};
     ghost use Rattle.std.specs.Option.{option_copied};
     ghost use Rattle.stateful_any.specs.Any.{metadata_of, value_at, IsWhole};
+    ghost use Rattle.stateful_any.specs.Entries.{AreLive};
     ghost use Rattle.stateful_any.specs.Stored.{standing_of};
 
     /// The digest behind all operations.
@@ -64,6 +66,31 @@ impl<K: Field, V: Field> AnyDb<K, V> {
             Ok(value) => Ok(value),
             Err(_) => Err(BatchError::OutOfMemory),
         }
+    }
+
+    /// The live keys in ascending order, each with its value.
+    pub fn entries(&self, alloc: Global) -> Result<Items<(K, V)>, OutOfMemory>
+        ensures { IfOk result (λ entries.
+            AreLive K.cmp (standing_of self.now).disk.newest entries) }
+    {
+        let mut entries = Items::new(alloc);
+        for key in self.index.keys() {
+            match self.get(key) {
+                Ok(Some(value)) => entries.push((key.duplicate()?, value))?,
+                Ok(None) => {}
+                Err(_) => return Err(OutOfMemory),
+            }
+        }
+        Ok(entries)
+    }
+
+    /// Where the range of the newest state begins and ends.
+    pub fn range(&self) -> Range<u64>
+        ensures { let target = (standing_of self.now).disk.newest.target in
+            result ≡ record { start = target.start.0; end = target.end.0 } }
+    {
+        let target = self.log.target();
+        target.start.0..target.end.0
     }
 
     /// Its allocator.

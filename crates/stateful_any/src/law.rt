@@ -1,6 +1,7 @@
 //! What holds of the ranges of states.
 
 ghost use Rattle.stateful_any.specs.Laws.{KeepsLiveKeys, BeginsWithNeed};
+ghost use Rattle.stateful_any.specs.Entries.{HasOneList};
 
 use stateful_log::Field;
 
@@ -9,4 +10,9 @@ use stateful_log::Field;
 pub fn ranges_are_tight<K: Field, V: Field>()
     ensures live { KeepsLiveKeys K.cmp K.fields.spelling V.fields.spelling }
     ensures begins { BeginsWithNeed K.cmp K.fields.spelling V.fields.spelling }
+{}
+
+/// The entries of a state are pinned: no other list has its live keys in order with their values.
+pub fn entries_are_one<K: Field, V: Field>()
+    ensures { HasOneList V K.cmp }
 {}

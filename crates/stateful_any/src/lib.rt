@@ -20,7 +20,7 @@ mod state;
 pub use batch::{AnyMerkleized, AnyUnmerkleized};
 pub use changes::{AnyChanges, AnyWritten};
 pub use database::AnyDb;
-pub use law::ranges_are_tight;
+pub use law::{entries_are_one, ranges_are_tight};
 pub use medium::AnyMedium;
 pub use op::AnyOp;
 pub use pass::AnyPass;

@@ -3,3 +3,4 @@ pub mod Outcomes
 pub mod Turning
 pub mod Running
 pub mod Building
+pub mod Blocks

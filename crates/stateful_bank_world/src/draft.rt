@@ -1,7 +1,7 @@
 //! Operations on a batch that may still change.
 
 ghost use Rattle.std.specs.Prelude.{◌≡◌, List, ◌∷◌, IfOk};
-ghost use Rattle.stateful_bank.specs.Accounts.{Becomes, do_op};
+ghost use Rattle.stateful_bank.specs.Accounts.{Becomes, do_op, do_ops};
 ghost use Rattle.stateful_bank_world.specs.Rules.{book_on};
 ghost use Rattle.stateful_bank_world.specs.Draft.{IsAmong};
 
@@ -50,6 +50,27 @@ pub(crate) fn do_op<W: World>(
         Becomes (λ u now. W.holds u now i p c) after (do_op (book_on W.rules p.1) changes op.now)) }
 {
     match stateful_bank::do_op(Draft::<W> { batch, databases }, op)? {
+        Some(Draft { batch, .. }) => Ok(Some(batch)),
+        None => Ok(None),
+    }
+}
+
+/// The batch after these operations, in order. None where one isn't allowed, or where the batch is
+/// stale.
+pub(crate) fn do_ops<W: World>(
+    batch: Drafted<W>,
+    databases: &W::Databases,
+    ops: &[Op],
+) -> Result<Option<Drafted<W>>, OutOfMemory>
+    ensures { IfOk result (λ after. (changes : W.rules.Changes) (i : W.Databases.Ids)
+        (p : W.Databases.Ids × W.Databases.States)
+        (c : List (W.Databases.Ids × W.Databases.States)) →
+        W.holds batch changes i p c →
+        IsAmong (W.Databases.kind.point (W.Databases.members databases.now)) (p ∷ c) →
+        Becomes (λ u now. W.holds u now i p c) after
+        (do_ops (book_on W.rules p.1) changes ops.now)) }
+{
+    match stateful_bank::do_ops(Draft::<W> { batch, databases }, ops)? {
         Some(Draft { batch, .. }) => Ok(Some(batch)),
         None => Ok(None),
     }

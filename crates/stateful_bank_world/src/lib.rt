@@ -2,6 +2,7 @@
 #![tactic(auto)]
 
 mod bank;
+mod block;
 mod build;
 mod draft;
 mod fresh;
@@ -11,6 +12,7 @@ mod run;
 mod world;
 
 pub use bank::Bank;
+pub use block::seal_block;
 pub use build::BankBuild;
 pub use fresh::{Config, Fresh};
 pub use hook::BankHook;

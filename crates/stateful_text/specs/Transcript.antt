@@ -5,7 +5,8 @@ use Rattle.std.specs.Fmt.{decimal}
 use Rattle.stateful_history.specs.declared.entry.Entry.{Entry}
 use Rattle.stateful_text.specs.declared.shown.Label.{Label}
 use Rattle.stateful_text.specs.declared.shown.Shown.{Shown}
-use Rattle.stateful_text.specs.declared.shown.Shown.TheVariants.{Balances, Closed, Lost, Away}
+use Rattle.stateful_text.specs.declared.shown.Shown.TheVariants.{Balances, Range, Size, Closed}
+use Rattle.stateful_text.specs.declared.shown.Shown.TheVariants.{Lost, Away}
 use Rattle.stateful_text.specs.declared.shown.End.{End}
 use Rattle.stateful_text.specs.declared.shown.End.TheVariants.{Done, Halted}
 use Rattle.stateful_text.specs.Line.{line}
@@ -27,11 +28,17 @@ module _ {B : Type 0} (height_of : B → ℕ) (labels : List Label) where
 abbrev pub balance_text : ℕ × ℕ → List ℕ
 balance_text (account, balance) = decimal account ++ codes "=" ++ decimal balance
 
+-- operations from a location on, and before another
+abbrev pub range_text : ℕ → ℕ → List ℕ
+range_text start end = decimal start ++ codes ".." ++ decimal end
+
 -- the line of a database, by its number
 abbrev pub database_line : ℕ × Shown → List ℕ
 database_line (number, Balances start end balances) =
-    line (codes "database")
-    (decimal number ∷ (decimal start ++ codes ".." ++ decimal end) ∷ map balance_text balances)
+    line (codes "database") (decimal number ∷ range_text start end ∷ map balance_text balances)
+database_line (number, Range start end) =
+    line (codes "database") (decimal number ∷ range_text start end ∷ [])
+database_line (number, Size size) = line (codes "database") (decimal number ∷ decimal size ∷ [])
 database_line (number, Closed) = line (codes "database") (decimal number ∷ codes "closed" ∷ [])
 database_line (number, Lost) = line (codes "database") (decimal number ∷ codes "lost" ∷ [])
 database_line (number, Away) = line (codes "database") (decimal number ∷ codes "away" ∷ [])

@@ -18,6 +18,15 @@ pub enum Shown {
         end: u64,
         balances: Items<(u64, u64)>,
     },
+    /// Its operations `start..end`.
+    Range {
+        start: u64,
+        end: u64,
+    },
+    /// Its size, in operations.
+    Size {
+        size: u64,
+    },
     /// It isn't open.
     Closed,
     /// It failed for good.

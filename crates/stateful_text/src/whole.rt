@@ -1,12 +1,13 @@
 //! The whole text of a history, and the lines that stand in its place.
 
-ghost use Rattle.std.specs.Prelude.{◌≡◌, ◌++◌, ◌∷◌, IfOk, OnOk};
+ghost use Rattle.std.specs.Prelude.{◌≡◌, ◌++◌, ◌∷◌, codes, IfOk, OnOk};
+ghost use Rattle.std.specs.Fmt.{decimal};
 ghost use Rattle.std.specs.List.{flat_map, enumerate_from};
 ghost use Rattle.stateful_text.specs.Transcript.{entry_lines, entries_from, balance_text};
-ghost use Rattle.stateful_text.specs.Transcript.{database_line};
+ghost use Rattle.stateful_text.specs.Transcript.{range_text, database_line};
 ghost use Rattle.stateful_text.specs.Transcript.{end_line, ending_of, transcript, usage_line};
 ghost use Rattle.stateful_text.specs.Transcript.{script_line};
-ghost use Rattle.stateful_text.specs.declared.shown.Shown.TheVariants.{Balances};
+ghost use Rattle.stateful_text.specs.declared.shown.Shown.TheVariants.{Balances, Range};
 
 use crate::label::Labels;
 use crate::line::{Lines, push, push_number};
@@ -66,6 +67,26 @@ fn push_balance(
     push_number(lines.alloc, out, balance)
 }
 
+/// What a line begins with that shows a range: the database's number, and its operations.
+fn push_head(
+    lines: Lines<'_>,
+    out: &mut Vec<u8>,
+    number: usize,
+    start: u64,
+    end: u64,
+) -> Result<(), OutOfMemory>
+    ensures { OnOk result
+        (out.new.items ≡ out.old.items ++ codes "database " ++ decimal number
+        ++ 32 ∷ range_text start end) }
+{
+    push(out, b"database ")?;
+    push_number(lines.alloc, out, number as u64)?;
+    push(out, b" ")?;
+    push_number(lines.alloc, out, start)?;
+    push(out, b"..")?;
+    push_number(lines.alloc, out, end)
+}
+
 fn push_balances(
     lines: Lines<'_>,
     out: &mut Vec<u8>,
@@ -77,15 +98,24 @@ fn push_balances(
     ensures { OnOk result
         (out.new.items ≡ out.old.items ++ database_line (number, Balances start end balances.now)) }
 {
-    push(out, b"database ")?;
-    push_number(lines.alloc, out, number as u64)?;
-    push(out, b" ")?;
-    push_number(lines.alloc, out, start)?;
-    push(out, b"..")?;
-    push_number(lines.alloc, out, end)?;
+    push_head(lines, out, number, start, end)?;
     for (account, balance) in balances {
         push_balance(lines, out, *account, *balance)?;
     }
+    push(out, b"\n")
+}
+
+fn push_range(
+    lines: Lines<'_>,
+    out: &mut Vec<u8>,
+    number: usize,
+    start: u64,
+    end: u64,
+) -> Result<(), OutOfMemory>
+    ensures { OnOk result
+        (out.new.items ≡ out.old.items ++ database_line (number, Range start end)) }
+{
+    push_head(lines, out, number, start, end)?;
     push(out, b"\n")
 }
 
@@ -104,6 +134,8 @@ fn push_database(
             end,
             balances,
         } => push_balances(lines, out, number, *start, *end, balances.as_slice()),
+        Shown::Range { start, end } => push_range(lines, out, number, *start, *end),
+        Shown::Size { size } => lines.pair(out, "database", number as u64, *size),
         Shown::Closed => lines.word(out, "database", number as u64, "closed"),
         Shown::Lost => lines.word(out, "database", number as u64, "lost"),
         Shown::Away => lines.word(out, "database", number as u64, "away"),

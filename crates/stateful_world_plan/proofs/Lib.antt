@@ -3,3 +3,5 @@ pub mod Builds
 pub mod Kept
 pub mod Labels
 pub mod Heights
+pub mod Scratches
+pub mod Planning

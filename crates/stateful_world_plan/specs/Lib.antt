@@ -1,4 +1,5 @@
 pub mod Plan
+pub mod Scratch
 pub mod Events
 pub mod Store
 pub mod Builds

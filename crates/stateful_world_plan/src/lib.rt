@@ -4,6 +4,7 @@
 mod event;
 mod label;
 mod plan;
+mod scratch;
 mod store;
 
 pub use event::{BankEvent, events};

@@ -24,6 +24,7 @@ pub struct CompactDb<V> {
 impl<V: Drop> CompactDb<V> {
     ghost use Rattle.std.specs.Prelude.{◌≡◌};
     ghost use Rattle.std.specs.Option.{option_copied};
+    ghost use Rattle.stateful_keyless.specs.Compacted.{target_of};
     ghost use Rattle.stateful_keyless.specs.CompactStored.{standing_of};
 
     /// The digest behind all operations.
@@ -31,6 +32,13 @@ impl<V: Drop> CompactDb<V> {
         ensures { result ≡ (standing_of self.now).disk.newest.target.root }
     {
         self.opened.newest().target.root
+    }
+
+    /// How many operations there are.
+    pub fn size(&self) -> u64
+        ensures { result ≡ (target_of (standing_of self.now).disk.newest).size.0 }
+    {
+        self.opened.newest().target.end.0
     }
 
     /// The metadata of the latest commit.

@@ -17,6 +17,7 @@ use stateful_db::{
 use stateful_log::{Field, LogMedium, OpenLog};
 use stateful_overlay::Layers;
 use stateful_types::{Digest, Faulty, Location, OutOfMemory, Target};
+use std::ops::Range;
 
 /// A log of values, which keeps each operation from its floor on once.
 #[derive(Drop)]
@@ -36,6 +37,15 @@ impl<V: Drop> KeylessDb<V> {
         ensures { result ≡ (standing_of self.now).disk.newest.target.root }
     {
         self.log.target().root
+    }
+
+    /// Where the range of the newest state begins and ends.
+    pub fn range(&self) -> Range<u64>
+        ensures { let target = (standing_of self.now).disk.newest.target in
+            result ≡ record { start = target.start.0; end = target.end.0 } }
+    {
+        let target = self.log.target();
+        target.start.0..target.end.0
     }
 
     /// The metadata of the last commit.

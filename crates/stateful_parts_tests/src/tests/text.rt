@@ -420,6 +420,37 @@ halted 3 SkippedHeight
     Ok(())
 }
 
+/// What is printed of the databases of a triple.
+fn printed_triple(alloc: Global, accounts: &[(u64, u64)]) -> Result<Vec<u8>, OutOfMemory> {
+    let balances = Shown::Balances {
+        start: 3,
+        end: 7,
+        balances: Items::from_vec(Vec::from_slice(alloc, accounts)?),
+    };
+    let databases = [
+        balances,
+        Shown::Range { start: 5, end: 8 },
+        Shown::Size { size: 8 },
+    ];
+    let entries: [Entry<Letter, u8, u8>; 0] = [];
+    transcript(alloc, &[], &entries, &databases, End::Done)
+}
+
+#[test]
+fn databases_without_balances(rt: HostRuntime) -> Result<(), Fail> {
+    let text = printed_triple(rt.alloc(), &[(7, 1)])?;
+    assert_eq!(rt;
+        text.as_slice(),
+        b"database 0 3..7 7=1
+database 1 5..8
+database 2 8
+done
+"
+            .as_slice()
+    );
+    Ok(())
+}
+
 #[test]
 fn lines_in_place_of_a_history(rt: HostRuntime) -> Result<(), Fail> {
     let usage = usage_line(rt.alloc())?;
