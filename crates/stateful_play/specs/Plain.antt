@@ -5,35 +5,16 @@ use Rattle.stateful_db.specs.Member.{Member, here, closed, lost, away}
 use Rattle.stateful_db.specs.Single.{single}
 use Rattle.stateful_db.specs.declared.held.Held.TheVariants as held
 use Rattle.stateful_plain.specs.Shown.{SealShows}
-use Rattle.stateful_plain.specs.Stored.{standing_of, disk_of}
 use Rattle.stateful_plain.specs.Whole.{Whole, begun, initial, target_of}
 use Rattle.stateful_plain.specs.declared.batch.PlainMerkleized.{PlainMerkleized}
 use Rattle.stateful_plain.specs.declared.batch.PlainUnmerkleized.{PlainUnmerkleized}
 use Rattle.stateful_single_bank.specs.Single.{single_rules, HoldsEntries}
-use Rattle.stateful_single_bank.specs.Blank.{OneDatabase, IsBlank}
+use Rattle.stateful_single_bank.specs.Blank.{OneDatabase, member_of, next_of, IsBlank}
 use Rattle.stateful_text.specs.declared.shown.Shown.{Shown}
 use Rattle.stateful_text.specs.declared.shown.Shown.TheVariants.{Balances, Closed, Lost, Away}
 use Rattle.stateful_world_play.specs.Grounds.{Grounds}
 
--- the database, wherever it is
-abbrev pub member_of : OneDatabase → Member Whole
-member_of = elim [
-  | held.Here db ↦ here (standing_of db)
-  | held.Closed medium ↦ closed (disk_of medium)
-  | held.Lost medium ↦ lost (disk_of medium)
-  | held.Away ↦ away
-]
-
--- the batch id that it draws next
-abbrev pub next_of : OneDatabase → ℕ
-next_of = elim [
-  | held.Here db ↦ db.medium.next
-  | held.Closed medium ↦ medium.next
-  | held.Lost medium ↦ medium.next
-  | held.Away ↦ 0
-]
-
--- how often it has failed
+-- how often the database has failed
 abbrev pub failed_of : OneDatabase → ℕ → ℕ
 failed_of d i = elim d [
   | held.Here db ↦ db.medium.calls.faults
@@ -42,7 +23,7 @@ failed_of d i = elim d [
   | held.Away ↦ 0
 ]
 
-abbrev pub plain : Grounds PlainUnmerkleized PlainMerkleized (OneDatabase)
+abbrev pub plain : Grounds PlainUnmerkleized PlainMerkleized OneDatabase
 plain = record {
   Ids = ℕ;
   States = Whole;

@@ -16,7 +16,7 @@ use Rattle.stateful_play.specs.declared.play.History.{History}
 use Rattle.stateful_play.specs.declared.play.History.TheVariants as history
 use Rattle.stateful_play.specs.declared.play.Played.{Played}
 use Rattle.stateful_play.specs.Plain.{shown_of}
-use Rattle.stateful_play.specs.Plain.{member_of}
+use Rattle.stateful_single_bank.specs.Blank.{member_of}
 
 -- the entries of a play
 abbrev pub entries_of : History → List (Entry BankBlock Round Ask)

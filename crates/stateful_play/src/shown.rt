@@ -1,7 +1,7 @@
 //! What is shown of databases.
 
 ghost use Rattle.std.specs.Prelude.{◌≡◌, ◌∷◌, [], IfOk};
-ghost use Rattle.stateful_play.specs.Plain.{member_of};
+ghost use Rattle.stateful_single_bank.specs.Blank.{member_of};
 ghost use Rattle.stateful_play.specs.Plain.{shown_of};
 ghost use Rattle.stateful_play.specs.Shown.{shown_in};
 

@@ -23,10 +23,12 @@ OneDatabase =
 
 -- the database, wherever it is
 abbrev pub member_of : OneDatabase → Member Whole
-member_of (held.Here db) = here (standing_of db)
-member_of (held.Closed medium) = closed (disk_of medium)
-member_of (held.Lost medium) = lost (disk_of medium)
-member_of held.Away = away
+member_of = elim [
+  | held.Here db ↦ here (standing_of db)
+  | held.Closed medium ↦ closed (disk_of medium)
+  | held.Lost medium ↦ lost (disk_of medium)
+  | held.Away ↦ away
+]
 
 -- the calls that are to fail on its medium, by kind and by number
 abbrev pub listed_in : OneDatabase → List (DbCall × ℕ)
@@ -37,10 +39,12 @@ listed_in held.Away = []
 
 -- the batch id that it draws next
 abbrev pub next_of : OneDatabase → ℕ
-next_of (held.Here db) = db.medium.next
-next_of (held.Closed medium) = medium.next
-next_of (held.Lost medium) = medium.next
-next_of held.Away = 0
+next_of = elim [
+  | held.Here db ↦ db.medium.next
+  | held.Closed medium ↦ medium.next
+  | held.Lost medium ↦ medium.next
+  | held.Away ↦ 0
+]
 
 -- it is closed on an empty medium, of which no call is listed as one that fails
 pub record IsBlank (database : OneDatabase) : Type 0 where
