@@ -1,5 +1,5 @@
 -- Where a lawful event other than a restart is refused the reason lies outside of the machine.
-use Rattle.std.proofs.Common.{◌≡◌, ◌⊎◌, inl, inr, ◌<◌, ◌^◌, ◌∷◌, [], ℕ, Bool, true, false, not, Option, List, refl, sym, ap, ◌∙◌, subst, true≢false}
+use Rattle.std.proofs.Common.{◌≡◌, ◌⊎◌, inl, inr, ◌<◌, ◌≤◌, ◌^◌, ◌∷◌, [], ℕ, Bool, true, false, not, Option, List, refl, sym, ap, ◌∙◌, subst, true≢false, arith}
 use Rattle.stateful_types.specs.Causes.{Rose}
 use Rattle.stateful_types.specs.Names.{Named}
 use Rattle.stateful_db.specs.Laws.{Laws}
@@ -24,7 +24,7 @@ use Rattle.stateful_keeping.proofs.TakenIn.{may_come-live}
 use Rattle.stateful_processing.specs.Intake.{Counts}
 use Rattle.stateful_processing.specs.Moments.{Moment}
 use Rattle.stateful_processing.specs.declared.error.StepError.{StepError}
-use Rattle.stateful_processing.specs.declared.error.StepError.TheVariants.{OutOfMemory, Failed, BadEvent}
+use Rattle.stateful_processing.specs.declared.error.StepError.TheVariants.{OutOfMemory, Failed, BadEvent, Exhausted, Application, DatabaseFault}
 use Rattle.stateful_whole.specs.Entering.{Steps}
 use Rattle.stateful_whole.specs.Machine.{numbered, is_restart, IsNew}
 use Rattle.stateful_whole.specs.Stands.{StandsAt, Stands}
@@ -42,11 +42,20 @@ use Rattle.stateful_lawful.specs.Outside.{IsOutside}
 use Rattle.stateful_lawful.proofs.AheadHistory.{ahead-new, StandsAhead, steps-ahead}
 use Rattle.stateful_lawful.proofs.AheadSteps.{ahead-step}
 use Rattle.stateful_lawful.proofs.Completeness.{intake-outside, going-outside}
+use Rattle.stateful_actor.proofs.Counts.{HasNotFallen-further}
 use Rattle.stateful_actor.specs.Faults.{Tally, FaultsPlay, memory, taking, going, FaultsStep, IsCause, failed_before, unlawful, fault}
 use Rattle.stateful_actor.specs.Faults as cause
 
-outside_memory : (e : StepError) → e ≡ OutOfMemory → IsOutside e
-outside_memory e is = subst (λ (x : StepError). IsOutside x) (sym is) tt
+outside_memory : (before now : ℕ → ℕ) (e : StepError) → e ≡ OutOfMemory → IsOutside before now e
+outside_memory before now e is = subst (λ (x : StepError). IsOutside before now x) (sym is) tt
+
+-- a count that rose from a later moment on rose from an earlier one on
+outside_earlier : (before later now : ℕ → ℕ) → ((i : ℕ) → before i ≤ later i) → (e : StepError) → IsOutside later now e → IsOutside before now e
+outside_earlier before later now fewer OutOfMemory h = tt
+outside_earlier before later now fewer Exhausted h = tt
+outside_earlier before later now fewer Application h = tt
+outside_earlier before later now fewer (DatabaseFault i call) h = let less = fewer i in omega (arith)
+outside_earlier before later now fewer e h = absurd h
 
 -- an event that is no restart
 pub isnt_restart : {B C I : Type 0} (event : Event B C I) → is_restart event ≡ false → IsRestart event → ⊥
@@ -77,26 +86,29 @@ module _ {B C I P R D H G U : Type 0} (w : Workings B C I P R D H G U) (laws : L
   live = names_live-more (numbered w.kind.count) w.kind.count (numbered_le w.kind.count) p event
       (may_come-live (numbered w.kind.count) p event on lawful.lawful.may_come)
 
-  plays-outside : (start «end» : Tally) (new : w.kind.Members) (e : StepError) → FaultsPlay w stored_now provider counts start «end» new m event e → IsOutside e
-  plays-outside start last new e (memory is) = outside_memory e is
+  plays-outside : (start «end» : Tally) (new : w.kind.Members) (e : StepError) → FaultsPlay w stored_now provider counts start «end» new m event e
+      → IsOutside start.databases «end».databases e
+  plays-outside start last new e (memory is) = outside_memory start.databases last.databases e is
   plays-outside start last new e (taking f) =
       intake-outside w laws few stored base p m h ahead names stored_now counts (Rose start.application last.application) start.databases last.databases new
       event live lawful.lawful.true_of lawful.built e f
   plays-outside start last new e (going {taken = taken} {between = between} takes later f) =
-      going-outside w laws few stored base p m h ahead names stored_now counts stored_is provider runs_cost builds_cost event on lawful.named honest.finalized
+      outside_earlier start.databases f.before.databases last.databases (HasNotFallen-further start between f.before later f.later).databases e
+      (going-outside w laws few stored base p m h ahead names stored_now counts stored_is provider runs_cost builds_cost event on lawful.named honest.finalized
       lawful.lawful up (s.up up).1 live taken f.reached (lawful.taken taken takes) takes f.along
-      (Rose f.before.application last.application) f.before.databases last.databases new e f.fault
+      (Rose f.before.application last.application) f.before.databases last.databases new e f.fault)
 
   step_outside : (v : Event B C I) → v ≡ event → is_restart v ≡ false → (start «end» : Tally) (new : w.kind.Members) (e : StepError)
-      → FaultsStep w stored_now provider counts start «end» new m v e → IsOutside e
+      → FaultsStep w stored_now provider counts start «end» new m v e → IsOutside start.databases «end».databases e
   step_outside (Restart floor keep) is none start last new e f = absurd (true≢false none)
   step_outside v is none start last new e f =
       plays-outside start last new e (subst (λ (x : Event B C I). FaultsPlay w stored_now provider counts start last new m x e) is f)
 
   -- whatever the cause
   pub cause-outside : (register : Register) → RegisterStands (numbered w.kind.count) p register → (start «end» : Tally) (new : w.kind.Members) (e : StepError)
-      → IsCause w stored_now provider counts false register event start «end» new m e → IsOutside e
-  cause-outside register registered start last new e (cause.memory is) = outside_memory e is
+      → IsCause w stored_now provider counts false register event start «end» new m e → IsOutside start.databases «end».databases e
+  cause-outside register registered start last new e (cause.memory is) =
+      outside_memory start.databases last.databases e is
   cause-outside register registered start last new e (failed_before is failed none) = absurd (true≢false (sym failed))
   cause-outside register registered start last new e (unlawful is never) =
       absurd (true≢false (sym lawful.lawful.may_come ∙ never p registered s.up_is))
@@ -110,10 +122,11 @@ module _ {B C I P R D H G U : Type 0} (w : Workings B C I P R D H G U) (laws : L
       → RegisterStands (numbered w.kind.count) (after_all [] history) own → (event : Event B C I) → is_restart event ≡ false → (start «end» : Tally)
       → (new : w.kind.Members) (e : StepError) → IsCause w stored provider counts false own event start «end» new old e → w.kind.count < 2 ^ 64
       → (base : w.States) → TrueNames (setting w stored) (after_all [] history) → HasHonestStore w.header stored (Came event ∷ after_all [] history)
-      → EachStands w stored (λ last. ComesLawfully w stored last (after_all [] history) stored counts old event → IsOutside e) base [] history
+      → EachStands w stored (λ last. ComesLawfully w stored last (after_all [] history) stored counts old event
+      → IsOutside start.databases «end».databases e) base [] history
   refused-outside failed register first old history is_new unmarked away steps own registered event other start last new e cause_is few base names honest =
       EachStands-last w stored (StandsAhead w laws stored stored counts provider runs_cost builds_cost honest.heights (after_all [] history) old)
-      (λ b. ComesLawfully w stored b (after_all [] history) stored counts old event → IsOutside e)
+      (λ b. ComesLawfully w stored b (after_all [] history) stored counts old event → IsOutside start.databases last.databases e)
       (λ b at lawful. cause-outside w laws stored stored counts provider runs_cost builds_cost few b (after_all [] history) at.stored_is event other honest old
       at.stands at.ahead lawful own registered start last new e cause_is)
       base [] history
@@ -146,12 +159,12 @@ module _ {B C I P R D H G U : Type 0} (w : Workings B C I P R D H G U) (laws : L
 
 -- a machine that hasn't failed takes a lawful event on
 pub admit-lawful : {B C I P R D H G U : Type 0} (w : Workings B C I P R D H G U) (stored : ℕ → Option (Named B)) (base : w.States) (p : Past B C I)
-    (failed : Bool) (register : Register) (m : Moment w) (event : Event B C I) → failed ≡ false → Stands w stored base p failed register m
+    (failed : Bool) (register : Register) (m : Moment w) (event : Event B C I) (before now : ℕ → ℕ) → failed ≡ false → Stands w stored base p failed register m
     → may_come (numbered w.kind.count) p event ≡ true → (e : StepError) → (e ≡ Failed) ⊎ (e ≡ BadEvent)
     → (e ≡ Failed → (failed ≡ true) × (is_restart event ≡ false))
     → (e ≡ BadEvent → (q : Past B C I) → RegisterStands (numbered w.kind.count) q register → m.loop.up ≡ not (is_down q)
     → may_come (numbered w.kind.count) q event ≡ false)
-    → IsOutside e
-admit-lawful w stored base p failed register m event working s may e (inl is) was never = absurd (true≢false (sym (was is).0 ∙ working))
-admit-lawful w stored base p failed register m event working s may e (inr is) was never =
+    → IsOutside before now e
+admit-lawful w stored base p failed register m event before now working s may e (inl is) was never = absurd (true≢false (sym (was is).0 ∙ working))
+admit-lawful w stored base p failed register m event before now working s may e (inr is) was never =
     absurd (true≢false (sym may ∙ never is p s.registered (s.at working).up_is))

@@ -49,14 +49,16 @@ module _ {B C I P R D H G U : Type 0} (w : Workings B C I P R D H G U)
   -- Where the event is lawful, and each since the last restart was, it was refused for a reason
   -- outside of the machine: over the states on which the history is based at last, of fewer than
   -- 2^64 databases.
-  abbrev pub RefusesLawful : List (Entry B C I) → Event B C I → StepError → Moment w → Type 0
-  RefusesLawful history event e old = (base : w.States)
+  abbrev pub RefusesLawful : (before now : ℕ → ℕ) → List (Entry B C I) → Event B C I → StepError
+      → Moment w
+      → Type 0
+  RefusesLawful before now history event e old = (base : w.States)
       → w.kind.count < 2 ^ 64
       → TrueNames (setting w stored) (after_all [] history)
       → HasHonestStore w.header stored (Came event ∷ after_all [] history)
       → EachStands w stored
       (λ last. ComesLawfully w stored last (after_all [] history) stored counts old event
-      → IsOutside e)
+      → IsOutside before now e)
       base [] history
 
   -- The event that was refused after a history, and why: the machine before it, to which the
@@ -76,7 +78,8 @@ module _ {B C I P R D H G U : Type 0} (w : Workings B C I P R D H G U)
     pub cause : IsCause w stored provider counts false register event before «end» m old e
     pub behind : (e ≡ BadEvent → ⊥) → is_restart event ≡ false → old.loop.up ≡ true
         → LeavesBehind w stored provider counts event history old m
-    pub complete : is_restart event ≡ false → RefusesLawful history event e old
+    pub complete : is_restart event ≡ false
+        → RefusesLawful before.databases «end».databases history event e old
     pub restarts : RefusesRestart w stored before.databases «end».databases event e old
     pub works : w.States
         → TrueNames (setting w stored) (after_all [] history)

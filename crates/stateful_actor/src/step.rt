@@ -340,8 +340,9 @@ impl<A: Application + Drop> Stateful<A> {
             (A.Databases.next databases.new) [])) }
 
         // A lawful event other than a restart, behind lawful ones since the last restart, is
-        // refused only where memory or numbers ran out, or the application, a job of it or a
-        // database failed: by a machine that hadn't failed, of fewer than 2^64 databases.
+        // refused only where memory or numbers ran out, the application or a job of it failed, or
+        // a database did and has counted it: by a machine that hadn't failed, of fewer than 2^64
+        // databases.
         ensures complete { IfErr result (λ e. let w = ⟦<A as Worked>⟧.workings in
             (stored : ℕ → Option (Named A.Block))
             (base : A.Databases.States)
@@ -361,7 +362,7 @@ impl<A: Application + Drop> Stateful<A> {
             → self.old.failed ≡ false
             → is_restart event ≡ false
             → A.Databases.kind.count < 2 ^ 64
-            → IsOutside e) }
+            → IsOutside (A.Databases.counted databases.old) (A.Databases.counted databases.new) e) }
 
         // The notes become `noted` along the blocks of the Applied marks, in their order, whatever
         // past the register stands for. As long as the machine hasn't failed the application has

@@ -54,8 +54,8 @@ use Rattle.stateful_lawful.proofs.RulesRefused.{rule-outside}
 use Rattle.stateful_lawful.proofs.RunsRefused.{candidate-outside, final-outside, hook-outside}
 use Rattle.stateful_lawful.proofs.Serving.{IsOutsideOf, outside-via, AreHere, fetched-outside}
 
-outside_memory : (e : StepError) → e ≡ error.OutOfMemory → IsOutside e
-outside_memory e is = subst (λ (x : StepError). IsOutside x) (sym is) tt
+outside_memory : (before now : ℕ → ℕ) (e : StepError) → e ≡ error.OutOfMemory → IsOutside before now e
+outside_memory before now e is = subst (λ (x : StepError). IsOutside before now x) (sym is) tt
 
 module _ {B C I P R D H G U : Type 0} (w : Workings B C I P R D H G U) (stored_now : ℕ → Option (Named B)) (rose : Type 0) (before now : ℕ → ℕ)
     (new : w.kind.Members) where
@@ -96,10 +96,10 @@ module _ {B C I P R D H G U : Type 0} (w : Workings B C I P R D H G U) (laws : L
       (a.waits.before, subst (λ (t : w.States). Matches (setting w stored) t b a.waits.before) same above.matches)
 
   module _ (rose : Type 0) (before now : ℕ → ℕ) (new : w.kind.Members) where
-    flush-outside : (k i : ℕ) → IsSome (awaiting k i m.loop.barriers) → (e : StepError) → FaultsFlush w.kind before now new m.loop.barriers k i e → IsOutside e
+    flush-outside : (k i : ℕ) → IsSome (awaiting k i m.loop.barriers) → (e : StepError) → FaultsFlush w.kind before now new m.loop.barriers k i e → IsOutside before now e
     flush-outside k i awaits error.OutOfMemory f = tt
     flush-outside k i awaits error.Failed f = let never : IsSome {T = Active} None = subst (λ (o : Option Active). IsSome o) f awaits in cc
-    flush-outside k i awaits (error.DatabaseFault n call) f = tt
+    flush-outside k i awaits (error.DatabaseFault n call) f = (f.1 few).2
     flush-outside k i awaits e f = absurd f
 
     complete-outside : (j : ℕ) (e : ExecError) → FaultsComplete w rose counts.run (inner w m) m.execution.front j e → IsOutsideOf e
@@ -111,16 +111,16 @@ module _ {B C I P R D H G U : Type 0} (w : Workings B C I P R D H G U) (laws : L
 
     -- an event that isn't taken in
     pub intake-outside : (v : Event B C I) → names_live w.kind.count p v ≡ true → BringsTruth (setting w stored) (telling_of w.works) w.round_of base p v
-        → IsBuiltNamed w stored base p v → (e : StepError) → FaultsIntake w stored_now counts rose before now new m e v → IsOutside e
-    intake-outside v live brings named e (intake.memory is) = outside_memory e is
+        → IsBuiltNamed w stored base p v → (e : StepError) → FaultsIntake w stored_now counts rose before now new m e v → IsOutside before now e
+    intake-outside v live brings named e (intake.memory is) = outside_memory before now e is
     intake-outside _ live brings named e (intake.fetching {f = f} {answer = answer} via) =
-        outside-via _ (λ fault k. fetched-outside w rose stored_now (inner w m) f answer here fault k) e via
+        outside-via before now _ (λ fault k. fetched-outside w rose stored_now (inner w m) f answer here fault k) e via
     intake-outside _ live brings named e (intake.building {j = j} b via) =
-        outside-via _ (λ fault k. build-outside w laws few stored base p h.executes.points h.executes.point (inner w m) h.executes.tables
+        outside-via before now _ (λ fault k. build-outside w laws few stored base p h.executes.points h.executes.point (inner w m) h.executes.tables
         (free b.0 b.1.live) h.executes.located a.rounds m.execution.build h.executes.builds counts.build j brings named fault k) e via
     intake-outside _ live brings named e (intake.hooking {j = j} hooks via) =
-        outside-via _ (λ fault k. hook-outside w stored p counts.hook m.members m.execution.front j fault k) e via
-    intake-outside _ live brings named e (intake.running {j = j} none unhooked via) = outside-via _ (λ fault k. complete-outside j fault k) e via
+        outside-via before now _ (λ fault k. hook-outside w stored p counts.hook m.members m.execution.front j fault k) e via
+    intake-outside _ live brings named e (intake.running {j = j} none unhooked via) = outside-via before now _ (λ fault k. complete-outside j fault k) e via
     intake-outside _ live brings named e (intake.flushing {k = k} {i = i} f) = flush-outside k i (h.loop.awaits k i live) e f
 
   -- a lawful event that is no restart was taken in by a machine at which nothing could go on without it, rules went, one after
@@ -131,7 +131,7 @@ module _ {B C I P R D H G U : Type 0} (w : Workings B C I P R D H G U) (laws : L
       (live : names_live w.kind.count p v ≡ true) where
     pub going-outside : (mid reached : Moment w) → NamesBehind w stored base (Came v ∷ p) m mid → TakesIn w stored_now counts m mid v
         → Along w stored_now provider mid reached → (rose : Type 0) (before now : ℕ → ℕ) (new : w.kind.Members) (e : StepError)
-        → FaultsRule w stored_now rose before now new reached e → IsOutside e
+        → FaultsRule w stored_now rose before now new reached e → IsOutside before now e
     going-outside mid reached behind takes along rose before now new e f = of (fault_is_up w stored_now rose before now new reached e f)
       where
         taken : TakenBehind w stored base (Came v ∷ p) m mid
@@ -149,9 +149,9 @@ module _ {B C I P R D H G U : Type 0} (w : Workings B C I P R D H G U) (laws : L
         first : IsAhead w stored base (after (Came v ∷ p) taken.more) mid
         first = ahead-taken w stored base p m mid h a stored_now counts v on named lawful takes taken.more taken.marks_are
 
-        of : (e ≡ error.OutOfMemory) ⊎ (reached.loop.up ≡ true) → IsOutside e
-        of (inl is) = outside_memory e is
+        of : (e ≡ error.OutOfMemory) ⊎ (reached.loop.up ≡ true) → IsOutside before now e
+        of (inl is) = outside_memory before now e is
         of (inr still) =
-            rule-outside w stored base (after (after (Came v ∷ p) taken.more) b.more) reached (b.up still) stored_now rose before now new
+            rule-outside w stored base (after (after (Came v ∷ p) taken.more) b.more) reached (b.up still) few stored_now rose before now new
             (ahead-along w stored base laws (after (Came v ∷ p) taken.more) stored_now stored_mid provider runs_cost builds_cost stores_mid mid reached taken.stands first along still
             b.more b.marks_are) e f

@@ -50,16 +50,16 @@ use Rattle.stateful_processing.specs.declared.message.Message.{Message}
 use Rattle.stateful_processing.specs.declared.message.Message.TheVariants as message
 use Rattle.stateful_processing.proofs.Sounding.{rule_sound}
 use Rattle.stateful_processing.proofs.SoundingIntake.{taken_in_sound}
-use Rattle.stateful_lawful.specs.Outside.{IsOutside, IsNotFailed}
+use Rattle.stateful_lawful.specs.Outside.{IsNotFailed}
 use Rattle.stateful_lawful.proofs.RunsRefused.{app-outside, hook-outside}
-use Rattle.stateful_lawful.proofs.Serving.{AreHere, start-outside, acquire-outside, follow-outside, resume-outside, propose-outside, observe-outside, fetched-outside}
+use Rattle.stateful_lawful.proofs.Serving.{IsOutsideOf, AreHere, start-outside, acquire-outside, follow-outside, resume-outside, propose-outside, observe-outside, fetched-outside}
 
 -- what execution answered isn't that a database is away
 abbrev IsNotLost : ExecError → Type 0
 IsNotLost e = IsNotFailed (error_of_exec e)
 
-pub outside-not_failed : (e : StepError) → IsOutside e → IsNotFailed e
-outside-not_failed error.Failed h = absurd h
+outside-not_failed : (e : ExecError) → IsOutsideOf e → IsNotLost e
+outside-not_failed exec_error.Lost h = absurd h
 outside-not_failed e h = tt
 
 is-not_failed : (e known : StepError) → e ≡ known → IsNotFailed known → IsNotFailed e
@@ -72,7 +72,7 @@ via-not_failed : (Faults : ExecError → Type 0) → ((fault : ExecError) → Fa
 via-not_failed Faults each e via = is-not_failed e (error_of_exec via.0) via.2 (each via.0 via.1)
 
 app-not_lost : (e : ExecError) (fault : AppFault) → e ≡ error_of_app fault → IsNotLost e
-app-not_lost e fault is = is-not_lost e (error_of_app fault) is (outside-not_failed (error_of_exec (error_of_app fault)) (app-outside fault))
+app-not_lost e fault is = is-not_lost e (error_of_app fault) is (outside-not_failed (error_of_app fault) (app-outside fault))
 
 module _ {B C I P R D H G U : Type 0} (w : Workings B C I P R D H G U) where
   take-not_lost : (b : Named B) (cache : List (Cached U)) (e : ExecError) → FaultsTake w.header b cache e → IsNotLost e
@@ -116,7 +116,7 @@ module _ {B C I P R D H G U : Type 0} (w : Workings B C I P R D H G U) where
     answer-not_lost mid same (Ok (Done ended)) e (cause.memory is) = is-not_lost e exec_error.OutOfMemory is tt
     answer-not_lost mid same (Ok (Done ended)) e (cause.ending h) = end-not_lost (at mid.state.runs j) mid.state.cache e h
     answer-not_lost mid same (Ok (Done ended)) e (cause.following {b = b} {how = how} {done = done} ends h) =
-        outside-not_failed (error_of_exec e) (follow-outside w rose b how _ _
+        outside-not_failed e (follow-outside w rose b how _ _
         (subst (λ (x : w.kind.Members). AreHere w x) (sym (ap (λ (n : exec.Moment w). n.members) ends.becomes ∙ same)) here) e h)
     answer-not_lost mid same (Err fault) e h = app-not_lost e fault h
 
@@ -175,7 +175,7 @@ module _ {B C I P R D H G U : Type 0} (w : Workings B C I P R D H G U) where
         → FaultsMessage w stored rose before now new mid x e → IsNotFailed e
     message-not_failed mid here (message.Request request) e f =
         via-not_failed (FaultsAcquire w rose stored (inner w mid) (requested request))
-        (λ fault k. outside-not_failed (error_of_exec fault) (acquire-outside w rose _ here stored (requested request) fault k)) e f
+        (λ fault k. outside-not_failed fault (acquire-outside w rose _ here stored (requested request) fault k)) e f
     message-not_failed mid here (message.Subscribe t) e f = absurd f
     message-not_failed mid here (message.Finalized t b) e (inl via) =
         via-not_failed (Conflicts w.header mid.execution.state.anchor b) (λ fault k. conflicts-not_lost mid.execution.state.anchor b fault k) e via
@@ -195,25 +195,25 @@ module _ {B C I P R D H G U : Type 0} (w : Workings B C I P R D H G U) where
       rule-not_failed e (rule.memory is) = is-not_failed e error.OutOfMemory is tt
       rule-not_failed e (rule.scheduling {request = request} collected alive queue verifies via) =
           via-not_failed _
-          (λ fault k. outside-not_failed (error_of_exec fault) (acquire-outside w rose _ (here collected.0) stored (requested request) fault k)) e via
+          (λ fault k. outside-not_failed fault (acquire-outside w rose _ (here collected.0) stored (requested request) fault k)) e via
       rule-not_failed e (rule.running fin begun awaits uncached via) =
           via-not_failed _
-          (λ fault k. outside-not_failed (error_of_exec fault)
+          (λ fault k. outside-not_failed fault
           (start-outside w rose m.execution.state.next_job m.members m.next (here fin.0.0) fault k)) e via
       rule-not_failed e (rule.advancing {f = f} fin states via) = via-not_failed _ (λ fault k. move-not_lost rose f.block m fault k) e via
       rule-not_failed e (rule.applying fin states f) = apply-not_failed m.members (here fin.0.0) e f
       rule-not_failed e (rule.covering fin front captured needed f) = barrier-not_failed m.loop.next_barrier e f
       rule-not_failed e (rule.observing {f = f} {captured = read} fin front captured via) =
           via-not_failed _
-          (λ fault k. outside-not_failed (error_of_exec fault)
+          (λ fault k. outside-not_failed fault
           (observe-outside w rose f.block read m.members m.execution.state.next_job fault k)) e via
       rule-not_failed e (rule.ending fin front none via) =
           via-not_failed _
-          (λ fault k. outside-not_failed (error_of_exec fault) (resume-outside w rose stored (inner w m) (here fin.0.0) fault k)) e via
+          (λ fault k. outside-not_failed fault (resume-outside w rose stored (inner w m) (here fin.0.0) fault k)) e via
       rule-not_failed e (rule.beginning idle needed f) = barrier-not_failed m.loop.next_barrier e f
       rule-not_failed e (rule.building {t = t} calm actions via) =
           via-not_failed _
-          (λ fault k. outside-not_failed (error_of_exec fault)
+          (λ fault k. outside-not_failed fault
           (propose-outside w rose t m.members m.next m.execution.state (here calm.0.0.0) fault k)) e via
       rule-not_failed e (rule.taking {x = x} {mid = mid} calm takes f) =
           message-not_failed mid (subst (λ (x : w.kind.Members). AreHere w x) (sym (takes_members m mid x takes)) (here calm.0.0.0)) x e f
@@ -225,12 +225,12 @@ module _ {B C I P R D H G U : Type 0} (w : Workings B C I P R D H G U) where
       intake-not_failed up counts v awaits e (intake.memory is) = is-not_failed e error.OutOfMemory is tt
       intake-not_failed up counts _ awaits e (intake.fetching {f = f} {answer = answer} via) =
           via-not_failed _
-          (λ fault k. outside-not_failed (error_of_exec fault) (fetched-outside w rose stored (inner w m) f answer (here up) fault k)) e via
+          (λ fault k. outside-not_failed fault (fetched-outside w rose stored (inner w m) f answer (here up) fault k)) e via
       intake-not_failed up counts _ awaits e (intake.building {j = j} b via) =
           via-not_failed _ (λ fault k. build-not_lost counts.build (inner w m) m.execution.build j fault k) e via
       intake-not_failed up counts _ awaits e (intake.hooking {j = j} hooks via) =
           via-not_failed _
-          (λ fault k. outside-not_failed (error_of_exec fault) (hook-outside w stored [] counts.hook m.members m.execution.front j fault k)) e via
+          (λ fault k. outside-not_failed fault (hook-outside w stored [] counts.hook m.members m.execution.front j fault k)) e via
       intake-not_failed up counts _ awaits e (intake.running {j = j} none unhooked via) =
           via-not_failed _ (λ fault k. complete-not_lost rose counts.run (inner w m) (here up) j m.execution.front fault k) e via
       intake-not_failed up counts _ awaits e (intake.flushing {k = k} {i = i} {answer = answer} f) =

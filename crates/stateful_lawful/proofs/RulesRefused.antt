@@ -1,6 +1,6 @@
 -- Where a rule of the loop that could go isn't done the reason lies outside, as long as the finalized blocks that wait are in
 -- their order.
-use Rattle.std.proofs.Common.{◌≡◌, ◌≢◌, ◌<◌, ◌+◌, ◌⊎◌, inl, inr, ◌++◌, ◌∷◌, [], ℕ, true, Option, Some, None, List, refl, sym, ap, ◌∙◌, subst, arith}
+use Rattle.std.proofs.Common.{◌≡◌, ◌≢◌, ◌<◌, ◌+◌, ◌^◌, ◌⊎◌, inl, inr, ◌++◌, ◌∷◌, [], ℕ, true, Option, Some, None, List, refl, sym, ap, ◌∙◌, subst, arith}
 use Rattle.stateful_types.specs.Names.{Named}
 use Rattle.stateful_types.specs.declared.anchor.Anchor.{Anchor}
 use Rattle.stateful_history.specs.Finalizations.{IsChildOf}
@@ -30,8 +30,8 @@ use Rattle.stateful_lawful.proofs.LeadsUp.{LeadsUp-first}
 use Rattle.stateful_lawful.proofs.RulesLead.{takes-finals, takes-same}
 use Rattle.stateful_lawful.proofs.Serving.{IsOutsideOf, outside-is, outside-via, AreHere, start-outside, acquire-outside, resume-outside, propose-outside, observe-outside}
 
-outside_memory : (e : StepError) → e ≡ error.OutOfMemory → IsOutside e
-outside_memory e is = subst (λ (x : StepError). IsOutside x) (sym is) tt
+outside_memory : (before now : ℕ → ℕ) (e : StepError) → e ≡ error.OutOfMemory → IsOutside before now e
+outside_memory before now e is = subst (λ (x : StepError). IsOutside before now x) (sym is) tt
 
 module _ {B C I P R D H G U : Type 0} (w : Workings B C I P R D H G U) where
   module _ (anchor : Anchor) (b : Named B) (first : IsChildOf w.header anchor b ⊎ IsRedelivered w.header anchor b) where
@@ -60,20 +60,20 @@ module _ {B C I P R D H G U : Type 0} (w : Workings B C I P R D H G U) where
     begin-outside high e h = absurd h
 
 module _ {B C I P R D H G U : Type 0} (w : Workings B C I P R D H G U) (stored : ℕ → Option (Named B)) (base : w.States) (q : Past B C I)
-    (m : Moment w) (h : IsUpAt w stored base q m) (stored_now : ℕ → Option (Named B)) (rose : Type 0) (before now : ℕ → ℕ) (new : w.kind.Members) where
+    (m : Moment w) (h : IsUpAt w stored base q m) (few : w.kind.count < 2 ^ 64) (stored_now : ℕ → Option (Named B)) (rose : Type 0) (before now : ℕ → ℕ) (new : w.kind.Members) where
   here : m.loop.up ≡ true → AreHere w m.members
   here up none = let found : Some h.executes.point ≡ None = sym h.executes.located ∙ none in cc
 
-  barrier-outside : (number : ℕ) (e : StepError) → FaultsBarrier w.kind before now new number e → IsOutside e
+  barrier-outside : (number : ℕ) (e : StepError) → FaultsBarrier w.kind before now new number e → IsOutside before now e
   barrier-outside number error.OutOfMemory f = tt
   barrier-outside number error.Exhausted f = tt
-  barrier-outside number (error.DatabaseFault i call) f = tt
+  barrier-outside number (error.DatabaseFault i call) f = (f.0 few).2
   barrier-outside number e f = absurd f
 
-  apply-outside : m.loop.up ≡ true → (e : StepError) → FaultsApply w.kind before now new m.members e → IsOutside e
+  apply-outside : m.loop.up ≡ true → (e : StepError) → FaultsApply w.kind before now new m.members e → IsOutside before now e
   apply-outside up error.OutOfMemory f = tt
   apply-outside up error.Failed f = absurd (here up f)
-  apply-outside up (error.DatabaseFault i call) f = tt
+  apply-outside up (error.DatabaseFault i call) f = (f few).2
   apply-outside up e f = absurd f
 
   move-outside : (b : Named B) → HasStates w m b → (e : ExecError) → FaultsMove w rose b m.execution.state.cache m.execution.front e → IsOutsideOf e
@@ -88,9 +88,9 @@ module _ {B C I P R D H G U : Type 0} (w : Workings B C I P R D H G U) (stored :
   module _ (a : IsAhead w stored base q m) where
     -- a message that is taken
     message-outside : m.loop.up ≡ true → m.loop.front ≡ None → (x : Message B C I) (mid : Moment w) → Takes w x m mid
-        → mid.members ≡ m.members → (e : StepError) → FaultsMessage w stored_now rose before now new mid x e → IsOutside e
+        → mid.members ≡ m.members → (e : StepError) → FaultsMessage w stored_now rose before now new mid x e → IsOutside before now e
     message-outside up idle (message.Request request) mid takes same e f =
-        outside-via (FaultsAcquire w rose stored_now (inner w mid) (requested request))
+        outside-via before now (FaultsAcquire w rose stored_now (inner w mid) (requested request))
         (λ fault k. acquire-outside w rose (inner w mid) (subst (λ (x : w.kind.Members). AreHere w x) (sym same) (here up)) stored_now (requested request) fault k) e f
     message-outside up idle (message.Subscribe t) mid takes same e f = absurd f
     message-outside up idle (message.Finalized t b) mid takes same e f = of f
@@ -110,9 +110,9 @@ module _ {B C I P R D H G U : Type 0} (w : Workings B C I P R D H G U) (stored :
             (subst (λ (bs : List (Named B)). LeadsUp (setting w stored) a.top a.last a.waits.head a.waits.before bs)
             (takes-finals w (message.Finalized t b) m mid takes) a.waits.leads))
 
-        of : FaultsMessage w stored_now rose before now new mid (message.Finalized t b) e → IsOutside e
+        of : FaultsMessage w stored_now rose before now new mid (message.Finalized t b) e → IsOutside before now e
         of (inl via) = absurd (conflicts-never w mid.execution.state.anchor b first via.0 via.1)
-        of (inr (high, via)) = outside-via (FaultsBegin w.header mid.execution.state.anchor b)
+        of (inr (high, via)) = outside-via before now (FaultsBegin w.header mid.execution.state.anchor b)
             (λ fault k. begin-outside w mid.execution.state.anchor b first high fault k) e via
 
     takes_members : (x : Message B C I) (mid : Moment w) → Takes w x m mid → mid.members ≡ m.members
@@ -120,20 +120,20 @@ module _ {B C I P R D H G U : Type 0} (w : Workings B C I P R D H G U) (stored :
     takes_members x mid (of_message none is e) = ap (λ (n : Moment w). n.members) e
 
     -- a rule that could go
-    pub rule-outside : (e : StepError) → FaultsRule w stored_now rose before now new m e → IsOutside e
-    rule-outside e (memory is) = outside_memory e is
+    pub rule-outside : (e : StepError) → FaultsRule w stored_now rose before now new m e → IsOutside before now e
+    rule-outside e (memory is) = outside_memory before now e is
     rule-outside e (scheduling {request = request} collected alive queue verifies via) =
-        outside-via _ (λ fault k. acquire-outside w rose _ (here collected.0) stored_now (requested request) fault k) e via
+        outside-via before now _ (λ fault k. acquire-outside w rose _ (here collected.0) stored_now (requested request) fault k) e via
     rule-outside e (running fin begun awaits uncached via) =
-        outside-via _ (λ fault k. start-outside w rose m.execution.state.next_job m.members m.next (here fin.0.0) fault k) e via
-    rule-outside e (advancing {f = f} fin states via) = outside-via _ (λ fault k. move-outside f.block states fault k) e via
+        outside-via before now _ (λ fault k. start-outside w rose m.execution.state.next_job m.members m.next (here fin.0.0) fault k) e via
+    rule-outside e (advancing {f = f} fin states via) = outside-via before now _ (λ fault k. move-outside f.block states fault k) e via
     rule-outside e (applying fin states f) = apply-outside fin.0.0 e f
     rule-outside e (covering fin front captured needed f) = barrier-outside m.loop.next_barrier e f
     rule-outside e (observing {f = f} {captured = read} fin front captured via) =
-        outside-via _ (λ fault k. observe-outside w rose f.block read m.members m.execution.state.next_job fault k) e via
-    rule-outside e (ending fin front none via) = outside-via _ (λ fault k. resume-outside w rose stored_now (inner w m) (here fin.0.0) fault k) e via
+        outside-via before now _ (λ fault k. observe-outside w rose f.block read m.members m.execution.state.next_job fault k) e via
+    rule-outside e (ending fin front none via) = outside-via before now _ (λ fault k. resume-outside w rose stored_now (inner w m) (here fin.0.0) fault k) e via
     rule-outside e (beginning idle needed f) = barrier-outside m.loop.next_barrier e f
     rule-outside e (building {t = t} calm actions via) =
-        outside-via _ (λ fault k. propose-outside w rose t m.members m.next m.execution.state (here calm.0.0.0) fault k) e via
+        outside-via before now _ (λ fault k. propose-outside w rose t m.members m.next m.execution.state (here calm.0.0.0) fault k) e via
     rule-outside e (taking {x = x} {mid = mid} calm takes f) =
         message-outside calm.0.0.0 calm.0.2 x mid takes (takes_members x mid takes) e f

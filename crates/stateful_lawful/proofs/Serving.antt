@@ -31,14 +31,25 @@ use Rattle.stateful_lawful.specs.Outside.{IsOutside}
 
 -- what execution answers for such a reason
 abbrev pub IsOutsideOf : ExecError → Type 0
-IsOutsideOf e = IsOutside (error_of_exec e)
+IsOutsideOf exec_error.OutOfMemory = Unit {0}
+IsOutsideOf exec_error.Exhausted = Unit {0}
+IsOutsideOf exec_error.Application = Unit {0}
+IsOutsideOf e = ⊥
 
 pub outside-is : (e known : ExecError) → e ≡ known → IsOutsideOf known → IsOutsideOf e
 outside-is e known is h = subst (λ (x : ExecError). IsOutsideOf x) (sym is) h
 
 -- an error that execution answered
-pub outside-via : (Faults : ExecError → Type 0) → ((fault : ExecError) → Faults fault → IsOutsideOf fault) → (e : StepError) → Via Faults e → IsOutside e
-outside-via Faults each e via = subst (λ (x : StepError). IsOutside x) (sym via.2) (each via.0 via.1)
+module _ (before now : ℕ → ℕ) where
+  outside-of : (e : ExecError) → IsOutsideOf e → IsOutside before now (error_of_exec e)
+  outside-of exec_error.OutOfMemory h = tt
+  outside-of exec_error.Exhausted h = tt
+  outside-of exec_error.Application h = tt
+  outside-of e h = absurd h
+
+  pub outside-via : (Faults : ExecError → Type 0) → ((fault : ExecError) → Faults fault → IsOutsideOf fault) → (e : StepError) → Via Faults e
+      → IsOutside before now e
+  outside-via Faults each e via = subst (λ (x : StepError). IsOutside before now x) (sym via.2) (outside-of via.0 (each via.0 via.1))
 
 module _ {B C I P R D H G U : Type 0} (w : Workings B C I P R D H G U) where
   -- the databases are here

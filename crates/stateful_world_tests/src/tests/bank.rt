@@ -18,6 +18,9 @@ pub(super) trait Emptied: World + Drop {
     fn closed(alloc: Global) -> Self::Databases;
 
     fn config() -> Config<Self>;
+
+    /// How many layers a batch of balances stands on, its own among them.
+    fn depth(batch: &Sealed<Self>) -> usize;
 }
 
 const ROUND: Round = Round {
@@ -122,6 +125,32 @@ pub(super) fn is_refused<W: Emptied>(alloc: Global) -> Result<bool, Fail> {
     let batch = databases.fork_batches(&first)?;
     let second = run::<W>(alloc, &databases, batch, 2, &[pay(71)])?;
     Ok(second.is_none())
+}
+
+/// How deep a sealed batch on this one is.
+fn depth_on<W: Emptied>(
+    alloc: Global,
+    databases: &mut W::Databases,
+    parent: &Sealed<W>,
+) -> Result<usize, Fail> {
+    let batch = databases.fork_batches(parent)?;
+    let sealed = run_all::<W>(alloc, databases, batch, 4, &[pay(3)])?;
+    Ok(W::depth(&sealed))
+}
+
+/// How deep a batch on the third of three blocks is, before the first one is applied and after it.
+pub(super) fn depths<W: Emptied>(alloc: Global) -> Result<(usize, usize), Fail> {
+    let mut databases = open::<W>(alloc)?;
+    let batch = databases.new_batches()?;
+    let first = run_all::<W>(alloc, &databases, batch, 1, &FIRST_OPS)?;
+    let batch = databases.fork_batches(&first)?;
+    let second = run_all::<W>(alloc, &databases, batch, 2, &[pay(1)])?;
+    let batch = databases.fork_batches(&second)?;
+    let third = run_all::<W>(alloc, &databases, batch, 3, &[pay(2)])?;
+    let before = depth_on::<W>(alloc, &mut databases, &third)?;
+    databases.apply(first)?;
+    let after = depth_on::<W>(alloc, &mut databases, &third)?;
+    Ok((before, after))
 }
 
 /// A build of the first operations on this block.

@@ -1,8 +1,9 @@
 //! The bank over a pair.
 
-use super::bank::{Emptied, build, is_refused, run_both};
+use super::bank::{Emptied, build, depths, is_refused, run_both};
 use super::roots::{FIRST_AMOUNTS, FIRST_BALANCES, SECOND_AMOUNTS, SECOND_BALANCES, range};
 use stateful_any::{AnyDb, AnyMedium};
+use stateful_bank_world::Sealed;
 use stateful_db::Held;
 use stateful_keyless::{KeylessDb, KeylessMedium};
 use stateful_pair_bank::Pair;
@@ -28,6 +29,10 @@ impl Emptied for Pair {
     fn config() -> ((), ()) {
         ((), ())
     }
+
+    fn depth(batch: &Sealed<Pair>) -> usize {
+        batch.0.depth()
+    }
 }
 
 #[test]
@@ -43,6 +48,12 @@ fn a_run_on_a_batch_writes_and_appends(rt: HostRuntime) -> Result<(), Fail> {
 #[test]
 fn a_run_reads_the_batch(rt: HostRuntime) -> Result<(), Fail> {
     assert!(rt; is_refused::<Pair>(rt.alloc())?);
+    Ok(())
+}
+
+#[test]
+fn a_fork_leaves_out_what_is_applied(rt: HostRuntime) -> Result<(), Fail> {
+    assert_eq!(rt; depths::<Pair>(rt.alloc())?, (4, 3));
     Ok(())
 }
 

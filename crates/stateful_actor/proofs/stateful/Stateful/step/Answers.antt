@@ -234,7 +234,7 @@ returns-in_err-admit-clause-complete g c =
     rw (← c.self.view_is)
     (converted _ c.from_residual.result c.in_err-admit.field-0.0 c.from_residual.ensures.1
     (λ stored base p s stored_is honest ahead lawful working other few.
-    admit-lawful w stored base p _ _ _ _ working s lawful.lawful.may_come c.in_err-admit.field-0.0
+    admit-lawful w stored base p _ _ _ _ _ _ working s lawful.lawful.may_come c.in_err-admit.field-0.0
     c.in_err-admit.ensures.one c.in_err-admit.ensures.failed c.in_err-admit.ensures.unlawful))
 
 pub returns-in-Err-clause-complete : goal.returns-in-Err-clause-complete
