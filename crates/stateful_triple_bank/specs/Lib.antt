@@ -1,3 +1,4 @@
 pub mod Compact
 pub mod Triple
 pub mod Following
+pub mod Logs

@@ -3,6 +3,8 @@
 #![tactic(auto)]
 
 mod compact;
+mod logs;
 mod triple;
 
+pub use logs::AmountLogs;
 pub use triple::{Triple, compact_follows_amounts};

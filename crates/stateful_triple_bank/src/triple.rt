@@ -5,6 +5,7 @@ ghost use Rattle.stateful_triple_bank.specs.Triple.{empty, three_targets};
 ghost use Rattle.stateful_triple_bank.specs.Following.{KeepsFollowing};
 
 use crate::compact::complete_compact;
+use crate::logs::AmountLogs;
 use stateful_any::{AnyDb, AnyMerkleized, AnyUnmerkleized};
 use stateful_bank::Op;
 use stateful_bank_logs::{balance, complete_amounts, complete_balances, set_balance};
@@ -23,10 +24,7 @@ use std::alloc::Global;
 pub enum Triple {}
 
 /// The databases of the triple.
-type Databases = (
-    Held<AnyDb<u64, u64>>,
-    (Held<KeylessDb<u64>>, Held<CompactDb<u64>>),
-);
+type Databases = (Held<AnyDb<u64, u64>>, AmountLogs);
 
 /// A batch over the triple that may still change.
 type Drafted = (
@@ -81,7 +79,7 @@ impl World for Triple {
         height: Height,
     ) -> Result<Option<Drafted>, OutOfMemory> {
         let (balances, (amounts, compact)) = batch;
-        match complete_amounts(amounts, &databases.1.0, ops, height)? {
+        match complete_amounts(amounts, &databases.1.both.0, ops, height)? {
             Some((amounts, first)) => {
                 let compact = complete_compact(compact, ops, first, height)?;
                 let balances = complete_balances(balances, height);

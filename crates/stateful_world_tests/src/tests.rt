@@ -1,5 +1,6 @@
-//! The bank over a pair, with roots by the reference's program.
+//! The bank over a pair and over a triple, with roots by the reference's program.
 
 mod bank;
 mod pair;
 mod roots;
+mod triple;
