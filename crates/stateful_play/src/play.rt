@@ -12,6 +12,10 @@ use stateful_history::Entry;
 use stateful_plain::Plain;
 use stateful_script::{Script, World};
 use stateful_single_bank::Single;
+use stateful_pair_bank::Pair;
+use stateful_triple_bank::{AmountLogs, Triple};
+use stateful_any::AnyDb;
+use stateful_keyless::KeylessDb;
 use stateful_text::Label;
 use stateful_types::{OutOfMemory, Round};
 use stateful_world_play::{PlayedIn, play_in};
@@ -21,18 +25,24 @@ use std::alloc::Global;
 #[derive(Drop)]
 pub enum History {
     Plain(Vec<Entry<BankBlock, Round, Ask>>),
+    Pair(Vec<Entry<BankBlock, Round, Ask>>),
+    Triple(Vec<Entry<BankBlock, Round, Ask>>),
 }
 
 /// The machine of a play, by its world.
 #[derive(Drop)]
 pub enum Machine {
     Plain(Stateful<Bank<Single>>),
+    Pair(Stateful<Bank<Pair>>),
+    Triple(Stateful<Bank<Triple>>),
 }
 
 /// The databases of a play, by its world.
 #[derive(Drop)]
 pub enum Databases {
     Plain(Held<Plain>),
+    Pair((Held<AnyDb<u64, u64>>, Held<KeylessDb<u64>>)),
+    Triple((Held<AnyDb<u64, u64>>, AmountLogs)),
 }
 
 /// What was played: the entries, the machine and the databases as they are after them, and the
@@ -79,6 +89,32 @@ fn in_plain(played: PlayedIn<Single>) -> Told
     }
 }
 
+fn in_pair(played: PlayedIn<Pair>) -> Told {
+    Told {
+        labels: played.labels,
+        played: Played {
+            world: World::Pair,
+            history: History::Pair(played.history),
+            machine: Machine::Pair(played.machine),
+            databases: Databases::Pair(played.databases),
+            end: played.end,
+        },
+    }
+}
+
+fn in_triple(played: PlayedIn<Triple>) -> Told {
+    Told {
+        labels: played.labels,
+        played: Played {
+            world: World::Triple,
+            history: History::Triple(played.history),
+            machine: Machine::Triple(played.machine),
+            databases: Databases::Triple(played.databases),
+            end: played.end,
+        },
+    }
+}
+
 /// Plays a script in its world. Where the machine wants memory there is no play.
 pub fn play(alloc: Global, script: &Script) -> Result<Told, OutOfMemory>
     requires { IsPlan script.now }
@@ -86,5 +122,7 @@ pub fn play(alloc: Global, script: &Script) -> Result<Told, OutOfMemory>
 {
     match script.world.unwrap_or(World::Plain) {
         World::Plain => Ok(in_plain(play_in::<Single>(alloc, script)?)),
+        World::Pair => Ok(in_pair(play_in::<Pair>(alloc, script)?)),
+        World::Triple => Ok(in_triple(play_in::<Triple>(alloc, script)?)),
     }
 }

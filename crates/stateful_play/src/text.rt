@@ -53,7 +53,9 @@ fn end_of(end: &Option<Halted>) -> End<'static>
 pub fn text_of(alloc: Global, told: &Told) -> Result<Vec<u8>, OutOfMemory>
     ensures { IfOk result (λ text. text.items ≡ text_of told.now.labels.items told.now.played) }
 {
-    let History::Plain(history) = &told.played.history;
+    let history = match &told.played.history {
+        History::Plain(history) | History::Pair(history) | History::Triple(history) => history,
+    };
     transcript(
         alloc,
         told.labels.as_slice(),
