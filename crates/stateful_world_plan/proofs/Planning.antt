@@ -1,5 +1,5 @@
 -- The plan of a script, a line at a time.
-use Rattle.std.proofs.Common.{◌≡◌, ℕ, zero, suc, ◌+◌, ◌<◌, ◌≤◌, List, [], ◌∷◌, ◌++◌, length, map, take, get_or, slice_get, Option, Some, None, MatchOption, option_map, option_and_then, refl, sym, ap, ◌∙◌, subst, arith, length-take}
+use Rattle.std.proofs.Common.{◌≡◌, ℕ, zero, suc, ◌+◌, ◌<◌, ◌≤◌, List, [], ◌∷◌, ◌++◌, length, take, get_or, slice_get, Option, Some, None, option_map, option_and_then, refl, sym, ap, ◌∙◌, subst, arith, length-take}
 use Rattle.std.proofs.lemmas.List.{take_more, map-append, length-map}
 use Rattle.std.proofs.lemmas.Option.{same_Some, slice_get-map, slice_get-get_or, slice_get_read}
 use Rattle.stateful_types.specs.declared.target.Target.{Target}
@@ -10,7 +10,7 @@ use Rattle.stateful_world_plan.specs.declared.plan.Planned.{Planned}
 use Rattle.stateful_world_plan.specs.declared.scratch.After.{After}
 use Rattle.stateful_world_plan.specs.declared.scratch.After.TheVariants.{Initial, Sealed, Nothing}
 use Rattle.stateful_world_plan.specs.Plan.{Outlined, ArePlanned, first, next, genesis, child, blocks_of, first_outlined, next_outlined, states_after, targets_after}
-use Rattle.stateful_world_plan.specs.Scratch.{IsScratch, LeadsTo, Keeps}
+use Rattle.stateful_world_plan.specs.Scratch.{IsScratch, Keeps}
 use Rattle.stateful_world_plan.proofs.Outlines.{one_each}
 
 module _ {M Ids States Targets : Type 0} (d : Databases Ids States Targets) (Shows : M → List (Ids × States) → Type 0) (at : Ids × States) where

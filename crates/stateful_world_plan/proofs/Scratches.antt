@@ -7,10 +7,8 @@ use Rattle.stateful_db.specs.Laws.{IdLaws}
 use Rattle.stateful_bank.specs.Accounts.{Becomes}
 use Rattle.stateful_bank_world.specs.Rules.{Rules}
 use Rattle.stateful_bank_world.specs.Draft.{IsAmong}
-use Rattle.stateful_world_plan.specs.declared.scratch.After.{After}
-use Rattle.stateful_world_plan.specs.declared.scratch.After.TheVariants.{Initial, Sealed, Nothing}
 use Rattle.stateful_world_plan.specs.Plan.{targets_after}
-use Rattle.stateful_world_plan.specs.Scratch.{Chain, BeginsOn, Begins, LeadsTo, Keeps}
+use Rattle.stateful_world_plan.specs.Scratch.{Chain, BeginsOn, Begins, LeadsTo}
 
 last_point : {P : Type 0} (p : P) (above : List P) → IsPoint p (above ++ p ∷ [])
 last_point p [] = inl refl

@@ -1,5 +1,3 @@
-use Rattle.std.proofs.Common.{◌≡◌, Some, None, subst, sym, ◌∙◌}
-use Rattle.stateful_bank.specs.Accounts.{Becomes}
 use Rattle.stateful_bank_world.specs.Rules.{changes_of}
 use Rattle.stateful_bank_world.proofs.Blocks.{none_behind, sealed_behind}
 use Rattle.stateful_bank_world.proofs.block.seal_block.Goals as goal

@@ -1,4 +1,4 @@
-use Rattle.std.proofs.Common.{◌++◌, ◌∷◌, [], subst}
+use Rattle.std.proofs.Common.{◌∷◌, [], subst}
 use Rattle.stateful_world_plan.specs.Scratch.{Keeps}
 use Rattle.stateful_world_plan.proofs.Scratches.{begins_initial, begins_sealed}
 use Rattle.stateful_world_plan.proofs.scratch.batch_over.Goals as goal

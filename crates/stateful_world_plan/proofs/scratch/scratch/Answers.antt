@@ -1,4 +1,4 @@
-use Rattle.std.proofs.Common.{Some, ap, sym, ◌∙◌, subst}
+use Rattle.std.proofs.Common.{Some, ap, subst}
 use Rattle.stateful_world_plan.proofs.scratch.scratch.Goals as goal
 
 pub returns-in-Ok : goal.returns-in-Ok

@@ -1,4 +1,4 @@
-use Rattle.std.proofs.Common.{◌≡◌, Some, None, ap, sym, ◌∙◌, subst, option_and_then}
+use Rattle.std.proofs.Common.{ap, ◌∙◌, subst}
 use Rattle.stateful_bank_world.specs.Rules.{stepped}
 use Rattle.stateful_world_plan.specs.Scratch.{Begins}
 use Rattle.stateful_world_plan.proofs.Scratches.{keeps_none, keeps_sealed}
