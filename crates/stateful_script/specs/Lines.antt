@@ -2,6 +2,8 @@
 --
 --     an empty line, and a line that begins with #       add nothing
 --     world plain                                        one database of balances
+--     world pair                                         balances, and a log of amounts
+--     world triple                                       those, and the log's latest commit
 --     block, prepare, propose ..                         name a block
 --     prepare, propose, verify, turn ..                  add an event
 --
@@ -50,7 +52,11 @@ with_items s head items = do
 
 -- the world that a word names
 unfoldable pub world_by : List ℕ → Option World
-world_by word = if bytes_eq word (codes "plain") then Some world.Plain else None
+world_by word =
+    if bytes_eq word (codes "plain") then Some world.Plain
+    else (if bytes_eq word (codes "pair") then Some world.Pair
+    else (if bytes_eq word (codes "triple") then Some world.Triple
+    else None))
 
 -- each line after its first word
 

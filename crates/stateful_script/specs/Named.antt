@@ -37,3 +37,5 @@ height_in blocks (suc i) = option_map_or (λ b. b.height.0) (slice_get blocks i)
 abbrev pub databases_in : Option World → ℕ
 databases_in None = 1
 databases_in (Some world.Plain) = 1
+databases_in (Some world.Pair) = 2
+databases_in (Some world.Triple) = 3

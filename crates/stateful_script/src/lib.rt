@@ -6,7 +6,8 @@
 //! 15 letters a to z or digits. `genesis` is named from the start. A line is
 //!
 //! - empty, or a comment, which begins with `#`;
-//! - `world plain`, at most once and before the first event line;
+//! - `world plain`, `world pair` or `world triple`, at most one of them, once, and before the first
+//!   event line;
 //! - `block NAME on PARENT view V ITEMS`, which names a block. ITEMS are operations, at most 16 of
 //!   them, each `mint ACCOUNT AMOUNT` or `move FROM TO AMOUNT`, and what else the block says
 //!   (`height`, `epoch`, `slow`, `wrong`), in any order, or none. NAME isn't named yet, and is

@@ -40,7 +40,15 @@ fn all_ascii(line: &[u8]) -> bool
 fn world_by(word: &[u8]) -> Option<World>
     ensures { result ≡ world_by word.now }
 {
-    (word == b"plain".as_slice()).then_some(World::Plain)
+    if word == b"plain".as_slice() {
+        Some(World::Plain)
+    } else if word == b"pair".as_slice() {
+        Some(World::Pair)
+    } else if word == b"triple".as_slice() {
+        Some(World::Triple)
+    } else {
+        None
+    }
 }
 
 // Behind a `LineError` the script is given up: it may be in mid-change.

@@ -15,6 +15,10 @@ use thiserror::Error;
 pub enum World {
     /// One database of balances.
     Plain,
+    /// A database of balances, and a log of amounts.
+    Pair,
+    /// The databases of a pair, and the latest commit of a log of the same amounts.
+    Triple,
 }
 
 impl World {
@@ -24,6 +28,8 @@ impl World {
     {
         match self {
             World::Plain => 1,
+            World::Pair => 2,
+            World::Triple => 3,
         }
     }
 }

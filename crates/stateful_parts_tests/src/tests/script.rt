@@ -72,13 +72,18 @@ fn outline(alloc: Global, text: &[u8]) -> Result<String, Fail> {
 
 #[test]
 fn says_what_its_lines_say(rt: HostRuntime) -> Result<(), Fail> {
-    let rows: [(&[u8], &str); 3] = [
+    let rows: [(&[u8], &str); 5] = [
         (b"", "None genesis, 0 events"),
         (
             b"# blocks may come first\nblock a on genesis view 3 move 7 65535 2 mint 7 0\n\n\
             world plain\nblock b1 on a view 18446744073709551615\nturn 0\nfinalize a\n#\n",
             "Some(Plain) genesis a b1, 0 at 1 with 2, 1 at 2 with 0, 2 events",
         ),
+        (
+            b"block pair on genesis view 1\nworld pair\nverify pair\n",
+            "Some(Pair) genesis pair, 0 at 1 with 0, 1 events",
+        ),
+        (b"world triple\n", "Some(Triple) genesis, 0 events"),
         // A build names a block.
         (
             b"prepare p on genesis view 1 vote mint 1 2\npropose q on p view 2 epoch 3\n\
@@ -181,6 +186,19 @@ fn event_lines_say_events(rt: HostRuntime) -> Result<(), Fail> {
             "restart none 0",
             "Restart { processed: None, keep: Items { items: [0] } }",
         ),
+        // One number for each database of the world.
+        (
+            "world pair\nrestart none 4 5",
+            "Restart { processed: None, keep: Items { items: [4, 5] } }",
+        ),
+        (
+            "world triple\nrestart 3 0 18446744073709551615 7",
+            "Restart { processed: Some(Height(3)), keep: Items { items: [0, 18446744073709551615, 7] } }",
+        ),
+        (
+            "world triple\nflushed 5 3",
+            "Flushed { barrier: 5, database: 3, stopped: false }",
+        ),
     ];
     check_said(&rt, rt.alloc(), rows.as_slice())
 }
@@ -195,7 +213,7 @@ fn check_all(rt: &impl Abort, alloc: Global, cases: &[(&[u8], Option<u64>)]) -> 
 
 #[test]
 fn refuses_lines_by_their_numbers(rt: HostRuntime) -> Result<(), Fail> {
-    let cases: [(&[u8], Option<u64>); 18] = [
+    let cases: [(&[u8], Option<u64>); 15] = [
         (b"\n", None),
         (b"turn 0", Some(1)),
         (b"turn 0\n#", Some(2)),
@@ -209,11 +227,44 @@ fn refuses_lines_by_their_numbers(rt: HostRuntime) -> Result<(), Fail> {
         (b"turn\n", Some(1)),
         (b"Turn 0\n", Some(1)),
         (b"flushed 0\n", Some(1)),
-        (b"world plain\nworld plain\n", Some(2)),
-        (b"turn 0\n\nworld plain\n", Some(3)),
-        (b"world pair\n", Some(1)),
         (b"hello\nturn x\n", Some(1)),
         (b"turn 0\nturn x\nturn 1\nhello\n", Some(2)),
+    ];
+    check_all(&rt, rt.alloc(), cases.as_slice())
+}
+
+#[test]
+fn a_world_is_named_once_and_before_the_first_event(rt: HostRuntime) -> Result<(), Fail> {
+    let cases: [(&[u8], Option<u64>); 12] = [
+        (b"world plain\n", None),
+        (b"world pair\n", None),
+        (b"world triple\n", None),
+        (b"world\n", Some(1)),
+        (b"world Pair\n", Some(1)),
+        (b"world pairs\n", Some(1)),
+        (b"world pair triple\n", Some(1)),
+        (b"world plain\nworld plain\n", Some(2)),
+        (b"world pair\n\nworld triple\n", Some(3)),
+        (b"turn 0\n\nworld plain\n", Some(3)),
+        (b"propose a on genesis view 1\nworld pair\n", Some(2)),
+        (b"block a on genesis view 1\nworld triple\nstop\n", None),
+    ];
+    check_all(&rt, rt.alloc(), cases.as_slice())
+}
+
+#[test]
+fn a_restart_has_a_number_for_each_database(rt: HostRuntime) -> Result<(), Fail> {
+    let cases: [(&[u8], Option<u64>); 10] = [
+        (b"restart none 0 0\n", Some(1)),
+        (b"world plain\nrestart none 0 0\n", Some(2)),
+        (b"world plain\nrestart none 0\n", None),
+        (b"world pair\nrestart none 0\n", Some(2)),
+        (b"world pair\nrestart none 0 1\n", None),
+        (b"world pair\nrestart none 0 1 2\n", Some(2)),
+        (b"world triple\nrestart 3 0 1\n", Some(2)),
+        (b"world triple\nrestart 3 0 1 2\n", None),
+        (b"world triple\nrestart 3 0 1 2 3\n", Some(2)),
+        (b"world triple\nrestart 3 0 1 none\n", Some(2)),
     ];
     check_all(&rt, rt.alloc(), cases.as_slice())
 }
