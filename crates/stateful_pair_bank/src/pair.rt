@@ -3,12 +3,12 @@
 ghost use Rattle.std.specs.Prelude.{◌≡◌};
 ghost use Rattle.stateful_pair_bank.specs.Pair.{two_targets};
 
-use stateful_any::{AnyDb, AnyMerkleized, AnyUnmerkleized};
+use stateful_any::{AnyDb, AnyMedium, AnyMerkleized, AnyUnmerkleized};
 use stateful_bank::Op;
 use stateful_bank_logs::{balance, complete_amounts, complete_balances, set_balance};
-use stateful_bank_world::World;
+use stateful_bank_world::{Fresh, World};
 use stateful_db::{Held, ManagedDb};
-use stateful_keyless::{KeylessDb, KeylessMerkleized, KeylessUnmerkleized};
+use stateful_keyless::{KeylessDb, KeylessMedium, KeylessMerkleized, KeylessUnmerkleized};
 use stateful_types::{Height, Items, OutOfMemory, Target};
 use std::alloc::Global;
 
@@ -81,6 +81,27 @@ impl World for Pair {
 
     fn committed(targets: &[Target]) -> (Target, Target) {
         two_of(targets)
+    }
+}
+
+impl Fresh for Pair {
+    ghost use Rattle.std.proofs.Common.{refl};
+    ghost use Rattle.stateful_pair_bank.specs.Blank.{AreBlank, blank_are_empty};
+
+    ghost blank = { AreBlank };
+
+    ghost blank_are = { λ databases blank. blank_are_empty databases blank };
+
+    ghost commits = { refl };
+
+    fn empty(alloc: Global) -> Databases {
+        let balances = Held::Closed(AnyMedium::empty(alloc, Vec::new(alloc)));
+        let amounts = Held::Closed(KeylessMedium::empty(alloc, Vec::new(alloc)));
+        (balances, amounts)
+    }
+
+    fn config() -> ((), ()) {
+        ((), ())
     }
 }
 

@@ -9,7 +9,8 @@ use Rattle.stateful_play.specs.declared.status.Status.TheVariants.{Done, Usage, 
 use Rattle.stateful_play.specs.declared.status.Status.TheVariants as status
 use Rattle.stateful_script.specs.declared.script.Script.{Script}
 use Rattle.stateful_text.specs.declared.shown.Label.{Label}
-use Rattle.stateful_play.specs.Shown.{text_of}
+use Rattle.stateful_text.specs.declared.shown.Shown.{Shown}
+use Rattle.stateful_play.specs.Shown.{AreShown, text_of}
 use Rattle.stateful_play.specs.Play.{IsPlayOf}
 use Rattle.stateful_play.specs.Status.{Known, HoldsPrefix, HoldsPart, Writes, AsksFor, IsLoaded, IsPlayed, IsHaltedAt, status_by}
 
@@ -56,14 +57,14 @@ pub record WasTold (left left_after out out_after : Known) (rose : Type 0) (answ
   pub writes : Writes rose out out_after text (status_by p.«end») answer
   pub is : ((answer ≡ NoMemory) × IsNone played) ⊎ ((answer ≢ NoMemory) × (played ≡ Some p))
 
-pub was_told : (left left_after out out_after : Known) (rose : Type 0) (answer : Status) (played : Option Played) (script : Script) (labels : List Label) (p : Played)
-    → IsLoaded left left_after script → IsPlayOf script labels p → Writes rose out out_after (text_of labels p) (status_by p.«end») answer
+pub was_told : (left left_after out out_after : Known) (rose : Type 0) (answer : Status) (played : Option Played) (script : Script) (labels : List Label) (shown : List Shown) (p : Played)
+    → IsLoaded left left_after script → IsPlayOf script labels p → AreShown p.databases shown → Writes rose out out_after (text_of labels shown p) (status_by p.«end») answer
     → ((answer ≡ NoMemory) × IsNone played) ⊎ ((answer ≢ NoMemory) × (played ≡ Some p))
     → WasTold left left_after out out_after rose answer played
-was_told left left_after out out_after rose answer played script labels p loaded play writes is = record {
+was_told left left_after out out_after rose answer played script labels shown p loaded play are_shown writes is = record {
   p = p;
-  text = text_of labels p;
-  play = record { script = script; loaded = loaded; labels = labels; play = play; text_is = refl };
+  text = text_of labels shown p;
+  play = record { script = script; loaded = loaded; labels = labels; play = play; shown = shown; are_shown = are_shown; text_is = refl };
   writes = writes;
   is = is;
 }

@@ -1,7 +1,6 @@
 -- The grounds of plays over one database of balances.
-use Rattle.std.specs.Prelude.{ℕ, ◌-◌}
+use Rattle.std.specs.Prelude.{ℕ}
 use Rattle.stateful_types.specs.declared.target.Target.{Target}
-use Rattle.stateful_db.specs.Member.{Member, here, closed, lost, away}
 use Rattle.stateful_db.specs.Single.{single}
 use Rattle.stateful_db.specs.declared.held.Held.TheVariants as held
 use Rattle.stateful_plain.specs.Shown.{SealShows}
@@ -10,8 +9,6 @@ use Rattle.stateful_plain.specs.declared.batch.PlainMerkleized.{PlainMerkleized}
 use Rattle.stateful_plain.specs.declared.batch.PlainUnmerkleized.{PlainUnmerkleized}
 use Rattle.stateful_single_bank.specs.Single.{single_rules, HoldsEntries}
 use Rattle.stateful_single_bank.specs.Blank.{OneDatabase, member_of, next_of, IsBlank}
-use Rattle.stateful_text.specs.declared.shown.Shown.{Shown}
-use Rattle.stateful_text.specs.declared.shown.Shown.TheVariants.{Balances, Closed, Lost, Away}
 use Rattle.stateful_world_play.specs.Grounds.{Grounds}
 
 -- how often the database has failed
@@ -37,10 +34,3 @@ plain = record {
   counted = failed_of;
   Blank = IsBlank;
 }
-
--- the range and the balances of the newest state, or where the database is
-abbrev pub shown_of : Member Whole → Shown
-shown_of (here s) = Balances (s.disk.newest.size - 1) s.disk.newest.size s.disk.newest.entries
-shown_of (closed disk) = Closed
-shown_of (lost disk) = Lost
-shown_of away = Away

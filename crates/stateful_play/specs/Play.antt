@@ -7,6 +7,8 @@ use Rattle.stateful_text.specs.declared.shown.Label.{Label}
 use Rattle.stateful_world_play.specs.Play.{left_of}
 use Rattle.stateful_world_play.specs.Play as any
 use Rattle.stateful_play.specs.Plain.{plain}
+use Rattle.stateful_play.specs.Pair.{pair}
+use Rattle.stateful_play.specs.Triple.{triple}
 use Rattle.stateful_play.specs.declared.play.Databases.{Databases}
 use Rattle.stateful_play.specs.declared.play.Databases.TheVariants as databases
 use Rattle.stateful_play.specs.declared.play.History.{History}
@@ -19,6 +21,11 @@ use Rattle.stateful_play.specs.declared.play.Played.{Played}
 abbrev pub IsPlayIn : Script → List Label → Option Halted → History → Machine → Databases → Type 0
 IsPlayIn script labels «end» (history.Plain entries) (machine.Plain m) (databases.Plain d) =
     any.IsPlayOf plain script labels entries.items (left_of plain m d) «end»
+IsPlayIn script labels «end» (history.Pair entries) (machine.Pair m) (databases.Pair d) =
+    any.IsPlayOf pair script labels entries.items (left_of pair m d) «end»
+IsPlayIn script labels «end» (history.Triple entries) (machine.Triple m) (databases.Triple d) =
+    any.IsPlayOf triple script labels entries.items (left_of triple m d) «end»
+IsPlayIn script labels «end» _ _ _ = ⊥
 
 -- this was played of the script in the world that it names, which is that of one database where it
 -- names none

@@ -1,5 +1,5 @@
 -- What a transcript shows of a play.
-use Rattle.std.specs.Prelude.{ℕ, List, [], ◌∷◌, Option, Some, None, codes}
+use Rattle.std.specs.Prelude.{◌≡◌, ℕ, List, [], ◌∷◌, Option, Some, None, codes}
 use Rattle.stateful_types.specs.declared.round.Round.{Round}
 use Rattle.stateful_bank.specs.declared.ask.Ask.{Ask}
 use Rattle.stateful_bank.specs.declared.block.BankBlock.{BankBlock}
@@ -15,16 +15,29 @@ use Rattle.stateful_play.specs.declared.play.Databases.TheVariants as databases
 use Rattle.stateful_play.specs.declared.play.History.{History}
 use Rattle.stateful_play.specs.declared.play.History.TheVariants as history
 use Rattle.stateful_play.specs.declared.play.Played.{Played}
-use Rattle.stateful_play.specs.Plain.{shown_of}
+use Rattle.stateful_play.specs.Database.{whole_of, ShowsKeys, range_of, size_of}
 use Rattle.stateful_single_bank.specs.Blank.{member_of}
+use Rattle.stateful_bank_logs.specs.Kept.{balances_member, amounts_member}
+use Rattle.stateful_triple_bank.specs.Blank.{latest_member}
 
 -- the entries of a play
 abbrev pub entries_of : History → List (Entry BankBlock Round Ask)
 entries_of (history.Plain entries) = entries.items
+entries_of (history.Pair entries) = entries.items
+entries_of (history.Triple entries) = entries.items
 
--- what is shown of the databases of a play
-abbrev pub shown_in : Databases → List Shown
-shown_in (databases.Plain d) = shown_of (member_of d) ∷ []
+-- this is shown of the databases of a play, in their order
+abbrev pub AreShown : Databases → List Shown → Type 0
+AreShown (databases.Plain d) shown = shown ≡ whole_of (member_of d) ∷ []
+AreShown (databases.Pair d) shown =
+    (keys : Shown)
+    × ShowsKeys (balances_member d.0) keys
+    × (shown ≡ keys ∷ range_of (amounts_member d.1) ∷ [])
+AreShown (databases.Triple d) shown =
+    (keys : Shown)
+    × ShowsKeys (balances_member d.0) keys
+    × (shown
+    ≡ keys ∷ range_of (amounts_member d.1.both.0) ∷ size_of (latest_member d.1.both.1) ∷ [])
 
 -- the name of an error
 abbrev pub error_name : StepError → List ℕ
@@ -51,8 +64,7 @@ abbrev pub ending_by : Option Halted → Ending
 ending_by None = WithLast
 ending_by (Some halted) = HaltedAt halted.at (error_name halted.error)
 
--- the transcript of a play, by these names of its blocks
-abbrev pub text_of : List Label → Played → List ℕ
-text_of labels p =
-    transcript (λ b. b.height.0) labels (entries_of p.history)
-    (shown_in p.databases) (ending_by p.«end»)
+-- the transcript of a play, by these names of its blocks, where this is shown of its databases
+abbrev pub text_of : List Label → List Shown → Played → List ℕ
+text_of labels shown p =
+    transcript (λ b. b.height.0) labels (entries_of p.history) shown (ending_by p.«end»)

@@ -10,12 +10,13 @@ use Rattle.stateful_script.specs.Script.{script_or_line}
 use Rattle.stateful_script.specs.declared.script.Script.{Script}
 use Rattle.stateful_text.specs.Transcript.{usage_line, script_line}
 use Rattle.stateful_text.specs.declared.shown.Label.{Label}
+use Rattle.stateful_text.specs.declared.shown.Shown.{Shown}
 use Rattle.stateful_play.specs.declared.play.Played.{Played}
 use Rattle.stateful_play.specs.declared.status.Status.{Status}
 use Rattle.stateful_play.specs.declared.status.Status.TheVariants as status
 use Rattle.stateful_play.specs.declared.top.Stop.{Stop}
 use Rattle.stateful_play.specs.declared.top.Stop.TheVariants as stop
-use Rattle.stateful_play.specs.Shown.{text_of}
+use Rattle.stateful_play.specs.Shown.{AreShown, text_of}
 use Rattle.stateful_play.specs.Play.{IsPlayOf}
 
 -- the words are the one word `play`
@@ -55,13 +56,16 @@ Stops left left_after rose stop.ReadFault = rose
 Stops left left_after rose (stop.Refused line) = IsUnread left left_after line
 Stops left left_after rose stop.NoMemory = Unit {0}
 
--- all bytes were read, they are a script, this was played of it, and this is its transcript
+-- All bytes were read, they are a script, this was played of it, and this is its transcript, with what
+-- is shown of the databases.
 pub record IsPlayed (left left_after : Known) (p : Played) (text : List ℕ) : Type 0 where
   pub script : Script
   pub loaded : IsLoaded left left_after script
   pub labels : List Label
   pub play : IsPlayOf script labels p
-  pub text_is : text ≡ text_of labels p
+  pub shown : List Shown
+  pub are_shown : AreShown p.databases shown
+  pub text_is : text ≡ text_of labels shown p
 
 -- the words and the bytes ask for this text, which stands for a play where something is played
 abbrev pub AsksFor : Known → Known → Bool → Option Played → List ℕ → Type 0

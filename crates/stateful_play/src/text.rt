@@ -5,7 +5,6 @@ ghost use Rattle.stateful_text.specs.Transcript.{ending_of};
 ghost use Rattle.stateful_play.specs.Shown.{error_name, ending_by, text_of};
 
 use crate::play::{History, Told};
-use crate::shown::shown;
 use stateful_actor::{Halted, StepError};
 use stateful_text::{End, transcript};
 use stateful_types::OutOfMemory;
@@ -51,14 +50,17 @@ fn end_of(end: &Option<Halted>) -> End<'static>
 
 /// The transcript of a play.
 pub fn text_of(alloc: Global, told: &Told) -> Result<Vec<u8>, OutOfMemory>
-    ensures { IfOk result (λ text. text.items ≡ text_of told.now.labels.items told.now.played) }
+    ensures { IfOk result (λ text. text.items
+        ≡ text_of told.now.labels.items told.now.shown.items told.now.played) }
 {
-    let History::Plain(history) = &told.played.history;
+    let history = match &told.played.history {
+        History::Plain(history) | History::Pair(history) | History::Triple(history) => history,
+    };
     transcript(
         alloc,
         told.labels.as_slice(),
         history.as_slice(),
-        shown(alloc, &told.played.databases)?.as_slice(),
+        told.shown.as_slice(),
         end_of(&told.played.end),
     )
 }

@@ -114,8 +114,8 @@ fn outcome_of(played: Played) -> Outcome
 /// Writes the transcript of a play. Where memory runs out nothing is told of it.
 fn write_transcript<K: Sink>(alloc: Global, sink: &mut K, told: Told) -> Outcome
     ensures status { Writes (Rose (K.count sink.old) (K.count sink.new)) (K.written sink.old)
-        (K.written sink.new) (text_of told.labels.items told.played) (status_by told.played.end)
-        result.status }
+        (K.written sink.new) (text_of told.labels.items told.shown.items told.played)
+        (status_by told.played.end) result.status }
     ensures played { ((result.status ≡ Status.NoMemory) × IsNone result.played)
         ⊎ ((result.status ≢ Status.NoMemory) × (result.played ≡ Some told.played)) }
 {

@@ -1,7 +1,6 @@
 -- The two logs of amounts as one set: what each is by itself, and that the laws of sets hold of both.
 use Rattle.std.specs.Prelude.{ℕ, refl}
 use Rattle.stateful_types.specs.Number.{u64_format}
-use Rattle.stateful_types.specs.declared.target.Target.{Target}
 use Rattle.stateful_types.specs.declared.target.CompactTarget.{CompactTarget}
 use Rattle.stateful_db.specs.Databases.{Databases}
 use Rattle.stateful_db.specs.Laws.{Laws}
@@ -10,14 +9,8 @@ use Rattle.stateful_db.specs.SingleLaws.{single_laws}
 use Rattle.stateful_db.specs.Pair.{pair}
 use Rattle.stateful_db.specs.PairLaws.{pair_laws}
 use Rattle.stateful_db.specs.Targeted.{compact_target}
-use Rattle.stateful_keyless.specs.Keyless as keyless
 use Rattle.stateful_keyless.specs.Compacted as compact
-
--- the keyless database by itself
-abbrev pub amounts : Databases ℕ (keyless.State ℕ) Target
-amounts =
-    single keyless.target_of (λ target. target) (keyless.begun u64_format.spelling)
-    (keyless.initial u64_format.spelling)
+use Rattle.stateful_bank_logs.specs.Kept.{amounts}
 
 -- the compact database by itself
 abbrev pub latest : Databases ℕ (compact.State ℕ) CompactTarget
@@ -28,8 +21,6 @@ latest =
 pub logs_laws : Laws (pair amounts latest)
 logs_laws =
     pair_laws amounts latest
-    (single_laws keyless.target_of (λ target. target) (keyless.begun u64_format.spelling)
-    (keyless.initial u64_format.spelling))
-    (single_laws compact.target_of compact_target (compact.begun u64_format.spelling)
-    (compact.initial u64_format.spelling))
+    (single_laws amounts.target_of (λ target. target) amounts.begun amounts.initial)
+    (single_laws latest.target_of compact_target latest.begun latest.initial)
     refl

@@ -6,14 +6,14 @@ ghost use Rattle.stateful_triple_bank.specs.Following.{KeepsFollowing};
 
 use crate::compact::complete_compact;
 use crate::logs::AmountLogs;
-use stateful_any::{AnyDb, AnyMerkleized, AnyUnmerkleized};
+use stateful_any::{AnyDb, AnyMedium, AnyMerkleized, AnyUnmerkleized};
 use stateful_bank::Op;
 use stateful_bank_logs::{balance, complete_amounts, complete_balances, set_balance};
-use stateful_bank_world::World;
+use stateful_bank_world::{Fresh, World};
 use stateful_db::{Held, ManagedDb, Targeted};
 use stateful_keyless::{
-    CompactDb, KeylessDb, KeylessMerkleized, KeylessUnjournaledMerkleized,
-    KeylessUnjournaledUnmerkleized, KeylessUnmerkleized,
+    CompactDb, CompactMedium, KeylessDb, KeylessMedium, KeylessMerkleized,
+    KeylessUnjournaledMerkleized, KeylessUnjournaledUnmerkleized, KeylessUnmerkleized,
 };
 use stateful_types::{CompactTarget, Height, Items, OutOfMemory, Target};
 use std::alloc::Global;
@@ -106,6 +106,31 @@ impl World for Triple {
 
     fn committed(targets: &[Target]) -> Targets {
         three_of(targets)
+    }
+}
+
+impl Fresh for Triple {
+    ghost use Rattle.std.proofs.Common.{refl};
+    ghost use Rattle.stateful_triple_bank.specs.Blank.{AreBlank, blank_are_empty};
+
+    ghost blank = { AreBlank };
+
+    ghost blank_are = { λ databases blank. blank_are_empty databases blank };
+
+    ghost commits = { refl };
+
+    fn empty(alloc: Global) -> Databases {
+        let balances = Held::Closed(AnyMedium::empty(alloc, Vec::new(alloc)));
+        let amounts = Held::Closed(KeylessMedium::empty(alloc, Vec::new(alloc)));
+        let compact = Held::Closed(CompactMedium::empty(alloc, Vec::new(alloc)));
+        let logs = AmountLogs {
+            both: (amounts, compact),
+        };
+        (balances, logs)
+    }
+
+    fn config() -> ((), ((), ())) {
+        ((), ((), ()))
     }
 }
 
