@@ -9,3 +9,4 @@ mod shown;
 mod stopping;
 mod verifying;
 mod words;
+mod worlds;
