@@ -17,7 +17,7 @@ use Rattle.stateful_keyless.specs.declared.compact.medium.CompactMedium.{Compact
 use Rattle.stateful_keyless.specs.declared.compact.pass.CompactPass.{CompactPass}
 use Rattle.stateful_bank_world.specs.EmptyMedia.{both_empty}
 use Rattle.stateful_bank_world.specs.Fresh.{AreEmpty}
-use Rattle.stateful_bank_logs.specs.Kept.{BalancesDb, AmountsDb, balances, amounts}
+use Rattle.stateful_bank_logs.specs.Kept.{BalancesDb, balances, amounts}
 use Rattle.stateful_bank_logs.specs.Kept.{balances_member, amounts_member, BalancesAreBlank}
 use Rattle.stateful_bank_logs.specs.Kept.{AmountsAreBlank, IsBlank, blank_is_empty, member_by}
 use Rattle.stateful_bank_logs.specs.Kept.{next_by, failed_by, listed_by}
