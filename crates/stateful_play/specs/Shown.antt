@@ -39,6 +39,14 @@ AreShown (databases.Triple d) shown =
     × (shown
     ≡ keys ∷ range_of (amounts_member d.1.both.0) ∷ size_of (latest_member d.1.both.1) ∷ [])
 
+-- no two lists are shown of the databases of a play
+abbrev pub AreShownOnce : Type 0
+AreShownOnce =
+    (d : Databases) (shown others : List Shown)
+    → AreShown d shown
+    → AreShown d others
+    → shown ≡ others
+
 -- the name of an error
 abbrev pub error_name : StepError → List ℕ
 error_name (error.Database index) = codes "Database"
