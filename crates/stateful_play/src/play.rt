@@ -12,8 +12,7 @@ use stateful_bank::{Ask, BankBlock};
 use stateful_bank_world::Bank;
 use stateful_db::Held;
 use stateful_history::Entry;
-use stateful_keyless::KeylessDb;
-use stateful_pair_bank::Pair;
+use stateful_pair_bank::{Pair, PairDatabases};
 use stateful_plain::Plain;
 use stateful_script::{Script, World};
 use stateful_single_bank::Single;
@@ -43,7 +42,7 @@ pub enum Machine {
 #[derive(Drop)]
 pub enum Databases {
     Plain(Held<Plain>),
-    Pair((Held<AnyDb<u64, u64>>, Held<KeylessDb<u64>>)),
+    Pair(PairDatabases),
     Triple((Held<AnyDb<u64, u64>>, AmountLogs)),
 }
 

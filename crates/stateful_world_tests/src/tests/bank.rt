@@ -1,7 +1,7 @@
 //! Runs and builds of the bank over any world.
 
 use stateful_bank::{Ask, BankBlock, Op};
-use stateful_bank_world::{Bank, BankBuild, Drafted, Sealed, World};
+use stateful_bank_world::{Bank, BankBuild, Drafted, Fresh, Sealed, World};
 use stateful_db::{Application, DatabaseSet, Input};
 use stateful_types::{
     Ancestry, Digested, Epoch, Finality, Handoff, Height, Items, Moved, Round, Target, View,
@@ -9,16 +9,8 @@ use stateful_types::{
 use std::alloc::Global;
 use std::test::Fail;
 
-/// How a world's databases are opened.
-pub(super) type Config<W> = <<W as World>::Databases as DatabaseSet>::Config;
-
-/// A world with its empty databases.
-pub(super) trait Emptied: World + Drop {
-    /// Its databases over empty media.
-    fn closed(alloc: Global) -> Self::Databases;
-
-    fn config() -> Config<Self>;
-
+/// A world whose batches tell how deep they are.
+pub(super) trait Layered: Fresh {
     /// How many layers a batch of balances stands on, its own among them.
     fn depth(batch: &Sealed<Self>) -> usize;
 }
@@ -98,15 +90,15 @@ fn run_all<W: World + Drop>(
 }
 
 /// Opens a world's databases, which are empty.
-fn open<W: Emptied>(alloc: Global) -> Result<W::Databases, Fail> {
-    let mut databases = W::closed(alloc);
+fn open<W: Layered>(alloc: Global) -> Result<W::Databases, Fail> {
+    let mut databases = W::empty(alloc);
     databases.init(&W::config(), None)?;
     Ok(databases)
 }
 
 /// The targets after a block of the first operations, and after a move of the other 70 on its batch,
 /// as a block lists them.
-pub(super) fn run_both<W: Emptied>(alloc: Global) -> Result<(Items<Target>, Items<Target>), Fail> {
+pub(super) fn run_both<W: Layered>(alloc: Global) -> Result<(Items<Target>, Items<Target>), Fail> {
     let mut databases = open::<W>(alloc)?;
     let batch = databases.new_batches()?;
     let first = run_all::<W>(alloc, &databases, batch, 1, &FIRST_OPS)?;
@@ -118,7 +110,7 @@ pub(super) fn run_both<W: Emptied>(alloc: Global) -> Result<(Items<Target>, Item
 }
 
 /// Whether a move of 71 is refused on a batch that leaves 70.
-pub(super) fn is_refused<W: Emptied>(alloc: Global) -> Result<bool, Fail> {
+pub(super) fn is_refused<W: Layered>(alloc: Global) -> Result<bool, Fail> {
     let mut databases = open::<W>(alloc)?;
     let batch = databases.new_batches()?;
     let first = run_all::<W>(alloc, &databases, batch, 1, &FIRST_OPS)?;
@@ -128,7 +120,7 @@ pub(super) fn is_refused<W: Emptied>(alloc: Global) -> Result<bool, Fail> {
 }
 
 /// How deep a sealed batch on this one is.
-fn depth_on<W: Emptied>(
+fn depth_on<W: Layered>(
     alloc: Global,
     databases: &mut W::Databases,
     parent: &Sealed<W>,
@@ -139,7 +131,7 @@ fn depth_on<W: Emptied>(
 }
 
 /// How deep a batch on the third of three blocks is, before the first one is applied and after it.
-pub(super) fn depths<W: Emptied>(alloc: Global) -> Result<(usize, usize), Fail> {
+pub(super) fn depths<W: Layered>(alloc: Global) -> Result<(usize, usize), Fail> {
     let mut databases = open::<W>(alloc)?;
     let batch = databases.new_batches()?;
     let first = run_all::<W>(alloc, &databases, batch, 1, &FIRST_OPS)?;
@@ -175,7 +167,7 @@ fn start<W: World + Drop>(
 }
 
 /// The block of a build of the first operations on genesis, where it is staged at the second turn.
-pub(super) fn build<W: Emptied>(alloc: Global) -> Result<BankBlock, Fail> {
+pub(super) fn build<W: Layered>(alloc: Global) -> Result<BankBlock, Fail> {
     let mut databases = open::<W>(alloc)?;
     let mut bank = Bank::<W>::new(alloc);
     let genesis = Digested::compute(alloc, bank.genesis()?)?;

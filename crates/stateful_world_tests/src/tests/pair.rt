@@ -1,14 +1,10 @@
 //! The bank over a pair.
 
-use super::bank::{Emptied, build, depths, is_refused, run_both};
+use super::bank::{Layered, build, depths, is_refused, run_both};
 use super::roots::{FIRST_AMOUNTS, FIRST_BALANCES, SECOND_AMOUNTS, SECOND_BALANCES, range};
-use stateful_any::{AnyDb, AnyMedium};
 use stateful_bank_world::Sealed;
-use stateful_db::Held;
-use stateful_keyless::{KeylessDb, KeylessMedium};
 use stateful_pair_bank::Pair;
 use stateful_types::Digest;
-use std::alloc::Global;
 use std::test::Fail;
 
 /// The digest of genesis, by the reference's program.
@@ -17,19 +13,7 @@ const GENESIS: Digest = Digest([
     0xee, 0x6d, 0x88, 0x13, 0x1e, 0x17, 0x94, 0x86, 0xdd, 0x33, 0x40, 0xf6, 0x89, 0x68, 0x21, 0x5b,
 ]);
 
-type Databases = (Held<AnyDb<u64, u64>>, Held<KeylessDb<u64>>);
-
-impl Emptied for Pair {
-    fn closed(alloc: Global) -> Databases {
-        let balances = Held::Closed(AnyMedium::empty(alloc, Vec::new(alloc)));
-        let amounts = Held::Closed(KeylessMedium::empty(alloc, Vec::new(alloc)));
-        (balances, amounts)
-    }
-
-    fn config() -> ((), ()) {
-        ((), ())
-    }
-
+impl Layered for Pair {
     fn depth(batch: &Sealed<Pair>) -> usize {
         batch.0.depth()
     }

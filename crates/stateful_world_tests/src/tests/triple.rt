@@ -1,14 +1,10 @@
 //! The bank over a triple.
 
-use super::bank::{Emptied, build, run_both};
+use super::bank::{Layered, build, run_both};
 use super::roots::{FIRST_AMOUNTS, FIRST_BALANCES, SECOND_AMOUNTS, SECOND_BALANCES, range};
-use stateful_any::{AnyDb, AnyMedium};
 use stateful_bank_world::Sealed;
-use stateful_db::Held;
-use stateful_keyless::{CompactMedium, KeylessMedium};
-use stateful_triple_bank::{AmountLogs, Triple};
+use stateful_triple_bank::Triple;
 use stateful_types::Digest;
-use std::alloc::Global;
 use std::test::Fail;
 
 /// The digest of genesis, by the reference's program.
@@ -17,23 +13,7 @@ const GENESIS: Digest = Digest([
     0x27, 0x5f, 0xea, 0xa7, 0x6d, 0x4e, 0x30, 0x1d, 0x7e, 0xbd, 0xcd, 0x53, 0x6e, 0xd0, 0x52, 0xa2,
 ]);
 
-type Databases = (Held<AnyDb<u64, u64>>, AmountLogs);
-
-impl Emptied for Triple {
-    fn closed(alloc: Global) -> Databases {
-        let balances = Held::Closed(AnyMedium::empty(alloc, Vec::new(alloc)));
-        let amounts = Held::Closed(KeylessMedium::empty(alloc, Vec::new(alloc)));
-        let compact = Held::Closed(CompactMedium::empty(alloc, Vec::new(alloc)));
-        let logs = AmountLogs {
-            both: (amounts, compact),
-        };
-        (balances, logs)
-    }
-
-    fn config() -> ((), ((), ())) {
-        ((), ((), ()))
-    }
-
+impl Layered for Triple {
     fn depth(batch: &Sealed<Triple>) -> usize {
         batch.0.depth()
     }
