@@ -4,8 +4,7 @@ use Rattle.stateful_actor.specs.declared.driving.Halted.{Halted}
 use Rattle.stateful_script.specs.declared.script.Script.{Script}
 use Rattle.stateful_script.specs.declared.script.World.TheVariants as world
 use Rattle.stateful_text.specs.declared.shown.Label.{Label}
-use Rattle.stateful_world_play.specs.Play.{left_of}
-use Rattle.stateful_world_play.specs.Play as any
+use Rattle.stateful_world_play.specs.Play.{IsPlayOn}
 use Rattle.stateful_play.specs.Plain.{plain}
 use Rattle.stateful_play.specs.Pair.{pair}
 use Rattle.stateful_play.specs.Triple.{triple}
@@ -13,22 +12,20 @@ use Rattle.stateful_play.specs.declared.play.Databases.{Databases}
 use Rattle.stateful_play.specs.declared.play.Databases.TheVariants as databases
 use Rattle.stateful_play.specs.declared.play.History.{History}
 use Rattle.stateful_play.specs.declared.play.History.TheVariants as history
-use Rattle.stateful_play.specs.declared.play.Machine.{Machine}
-use Rattle.stateful_play.specs.declared.play.Machine.TheVariants as machine
 use Rattle.stateful_play.specs.declared.play.Played.{Played}
 
 -- this was played of the script, over the databases of one world
-abbrev pub IsPlayIn : Script → List Label → Option Halted → History → Machine → Databases → Type 0
-IsPlayIn script labels «end» (history.Plain entries) (machine.Plain m) (databases.Plain d) =
-    any.IsPlayOf plain script labels entries.items (left_of plain m d) «end»
-IsPlayIn script labels «end» (history.Pair entries) (machine.Pair m) (databases.Pair d) =
-    any.IsPlayOf pair script labels entries.items (left_of pair m d) «end»
-IsPlayIn script labels «end» (history.Triple entries) (machine.Triple m) (databases.Triple d) =
-    any.IsPlayOf triple script labels entries.items (left_of triple m d) «end»
-IsPlayIn script labels «end» _ _ _ = ⊥
+abbrev pub IsPlayIn : Script → List Label → Option Halted → History → Databases → Type 0
+IsPlayIn script labels «end» (history.Plain entries) (databases.Plain d) =
+    IsPlayOn d plain script labels entries.items «end»
+IsPlayIn script labels «end» (history.Pair entries) (databases.Pair d) =
+    IsPlayOn d pair script labels entries.items «end»
+IsPlayIn script labels «end» (history.Triple entries) (databases.Triple d) =
+    IsPlayOn d triple script labels entries.items «end»
+IsPlayIn script labels «end» _ _ = ⊥
 
 -- this was played of the script in the world that it names, which is that of one database where it
 -- names none
 pub record IsPlayOf (script : Script) (labels : List Label) (p : Played) : Type 0 where
   pub world : p.world ≡ unwrap_or script.world world.Plain
-  pub play : IsPlayIn script labels p.«end» p.history p.machine p.databases
+  pub play : IsPlayIn script labels p.«end» p.history p.databases

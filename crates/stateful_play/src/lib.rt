@@ -9,7 +9,7 @@ mod text;
 mod top;
 
 pub use law::databases_are_shown_once;
-pub use play::{Databases, History, Machine, Played};
+pub use play::{Databases, History, Played};
 pub use stateful_script::World;
 pub use status::{Outcome, Status};
 pub use top::run;

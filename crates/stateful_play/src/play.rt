@@ -2,14 +2,13 @@
 
 ghost use Rattle.std.specs.Prelude.{◌≡◌, IfOk};
 ghost use Rattle.stateful_script.specs.Laws.{IsPlan};
-ghost use Rattle.stateful_play.specs.Play.{IsPlayOf};
+ghost use Rattle.stateful_play.specs.Play.{IsPlayIn, IsPlayOf};
 ghost use Rattle.stateful_play.specs.Shown.{AreShown};
 
 use crate::shown::shown;
-use stateful_actor::{Halted, Stateful};
+use stateful_actor::Halted;
 use stateful_any::AnyDb;
 use stateful_bank::{Ask, BankBlock};
-use stateful_bank_world::Bank;
 use stateful_db::Held;
 use stateful_history::Entry;
 use stateful_pair_bank::{Pair, PairDatabases};
@@ -19,7 +18,7 @@ use stateful_single_bank::Single;
 use stateful_text::{Label, Shown};
 use stateful_triple_bank::{AmountLogs, Triple};
 use stateful_types::{OutOfMemory, Round};
-use stateful_world_play::{PlayedIn, play_in};
+use stateful_world_play::play_in;
 use std::alloc::Global;
 
 /// The entries of a play, by its world.
@@ -30,14 +29,6 @@ pub enum History {
     Triple(Vec<Entry<BankBlock, Round, Ask>>),
 }
 
-/// The machine of a play, by its world.
-#[derive(Drop)]
-pub enum Machine {
-    Plain(Stateful<Bank<Single>>),
-    Pair(Stateful<Bank<Pair>>),
-    Triple(Stateful<Bank<Triple>>),
-}
-
 /// The databases of a play, by its world.
 #[derive(Drop)]
 pub enum Databases {
@@ -46,13 +37,12 @@ pub enum Databases {
     Triple((Held<AnyDb<u64, u64>>, AmountLogs)),
 }
 
-/// What was played: the entries, the machine and the databases as they are after them, and the
-/// refused event if one was.
+/// What was played: the entries, the databases as they are after them, and the refused event if one
+/// was.
 #[derive(Drop)]
 pub struct Played {
     pub world: World,
     pub history: History,
-    pub machine: Machine,
     pub databases: Databases,
     pub end: Option<Halted>,
 }
@@ -65,19 +55,15 @@ pub struct Told {
     pub played: Played,
 }
 
-/// A play in the world of one database.
-fn in_plain(alloc: Global, played: PlayedIn<Single>) -> Result<Told, OutOfMemory>
-    ensures labels { IfOk result (λ told. told.labels ≡ played.labels) }
-    ensures played { IfOk result (λ told. told.played
-        ≡ record {
-          world = World.Plain;
-          history = History.Plain played.history;
-          machine = Machine.Plain played.machine;
-          databases = Databases.Plain played.databases;
-          end = played.end;
-        }) }
+/// Plays a script over one database.
+fn in_plain(alloc: Global, script: &Script) -> Result<Told, OutOfMemory>
+    requires { IsPlan script.now }
+    ensures world { IfOk result (λ told. told.played.world ≡ World.Plain) }
+    ensures play { IfOk result (λ told. IsPlayIn script.now told.labels.items told.played.«end»
+        told.played.history told.played.databases) }
     ensures shown { IfOk result (λ told. AreShown told.played.databases told.shown.items) }
 {
+    let played = play_in::<Single>(alloc, script)?;
     let databases = Databases::Plain(played.databases);
     Ok(Told {
         labels: played.labels,
@@ -85,26 +71,21 @@ fn in_plain(alloc: Global, played: PlayedIn<Single>) -> Result<Told, OutOfMemory
         played: Played {
             world: World::Plain,
             history: History::Plain(played.history),
-            machine: Machine::Plain(played.machine),
             databases,
             end: played.end,
         },
     })
 }
 
-/// A play in the world of two databases.
-fn in_pair(alloc: Global, played: PlayedIn<Pair>) -> Result<Told, OutOfMemory>
-    ensures labels { IfOk result (λ told. told.labels ≡ played.labels) }
-    ensures played { IfOk result (λ told. told.played
-        ≡ record {
-          world = World.Pair;
-          history = History.Pair played.history;
-          machine = Machine.Pair played.machine;
-          databases = Databases.Pair played.databases;
-          end = played.end;
-        }) }
+/// Plays a script over two databases.
+fn in_pair(alloc: Global, script: &Script) -> Result<Told, OutOfMemory>
+    requires { IsPlan script.now }
+    ensures world { IfOk result (λ told. told.played.world ≡ World.Pair) }
+    ensures play { IfOk result (λ told. IsPlayIn script.now told.labels.items told.played.«end»
+        told.played.history told.played.databases) }
     ensures shown { IfOk result (λ told. AreShown told.played.databases told.shown.items) }
 {
+    let played = play_in::<Pair>(alloc, script)?;
     let databases = Databases::Pair(played.databases);
     Ok(Told {
         labels: played.labels,
@@ -112,26 +93,21 @@ fn in_pair(alloc: Global, played: PlayedIn<Pair>) -> Result<Told, OutOfMemory>
         played: Played {
             world: World::Pair,
             history: History::Pair(played.history),
-            machine: Machine::Pair(played.machine),
             databases,
             end: played.end,
         },
     })
 }
 
-/// A play in the world of three databases.
-fn in_triple(alloc: Global, played: PlayedIn<Triple>) -> Result<Told, OutOfMemory>
-    ensures labels { IfOk result (λ told. told.labels ≡ played.labels) }
-    ensures played { IfOk result (λ told. told.played
-        ≡ record {
-          world = World.Triple;
-          history = History.Triple played.history;
-          machine = Machine.Triple played.machine;
-          databases = Databases.Triple played.databases;
-          end = played.end;
-        }) }
+/// Plays a script over three databases.
+fn in_triple(alloc: Global, script: &Script) -> Result<Told, OutOfMemory>
+    requires { IsPlan script.now }
+    ensures world { IfOk result (λ told. told.played.world ≡ World.Triple) }
+    ensures play { IfOk result (λ told. IsPlayIn script.now told.labels.items told.played.«end»
+        told.played.history told.played.databases) }
     ensures shown { IfOk result (λ told. AreShown told.played.databases told.shown.items) }
 {
+    let played = play_in::<Triple>(alloc, script)?;
     let databases = Databases::Triple(played.databases);
     Ok(Told {
         labels: played.labels,
@@ -139,7 +115,6 @@ fn in_triple(alloc: Global, played: PlayedIn<Triple>) -> Result<Told, OutOfMemor
         played: Played {
             world: World::Triple,
             history: History::Triple(played.history),
-            machine: Machine::Triple(played.machine),
             databases,
             end: played.end,
         },
@@ -153,8 +128,8 @@ pub fn play(alloc: Global, script: &Script) -> Result<Told, OutOfMemory>
     ensures shown { IfOk result (λ told. AreShown told.played.databases told.shown.items) }
 {
     match script.world.unwrap_or(World::Plain) {
-        World::Plain => in_plain(alloc, play_in::<Single>(alloc, script)?),
-        World::Pair => in_pair(alloc, play_in::<Pair>(alloc, script)?),
-        World::Triple => in_triple(alloc, play_in::<Triple>(alloc, script)?),
+        World::Plain => in_plain(alloc, script),
+        World::Pair => in_pair(alloc, script),
+        World::Triple => in_triple(alloc, script),
     }
 }

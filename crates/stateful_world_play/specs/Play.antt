@@ -1,5 +1,5 @@
 -- What was played of a script over the databases of a world.
-use Rattle.std.specs.Prelude.{◌≡◌, ℕ, false, All, List, [], Option, Some, None, IfSome, map}
+use Rattle.std.specs.Prelude.{◌≡◌, ℕ, Bool, false, All, List, [], Option, Some, None, IfSome, map}
 use Rattle.stateful_types.specs.Names.{Named}
 use Rattle.stateful_types.specs.declared.round.Round.{Round}
 use Rattle.stateful_bank.specs.BankBlock.{block_header}
@@ -21,7 +21,6 @@ use Rattle.stateful_whole.specs.Machine.{IsNew}
 use Rattle.stateful_whole.specs.Media.{MediaStand}
 use Rattle.stateful_whole.specs.StepBehind.{EachStands}
 use Rattle.stateful_actor.specs.Faults.{tally}
-use Rattle.stateful_actor.specs.Machine.{Machine}
 use Rattle.stateful_actor.specs.declared.driving.Halted.{Halted}
 use Rattle.stateful_script.specs.declared.script.Script.{Script}
 use Rattle.stateful_text.specs.declared.shown.Label.{Label}
@@ -34,20 +33,6 @@ use Rattle.stateful_world_play.specs.Driven.{AreTaken, Left, EndsWell}
 use Rattle.stateful_world_play.specs.Driven as driven
 
 module _ {Drafts Sealed Sets : Type 0} (g : Grounds Drafts Sealed Sets) where
-  -- a machine of the bank and its databases, as they are handed out
-  abbrev pub left_of : {A K : Type 0}
-      → Machine A (Executing BankBlock Round Ask (BankRun Drafts) (BankBuild Drafts) BankHook Sealed)
-      (Processing BankBlock Round Ask (Unit {0})) (Unit {0}) K
-      → Sets
-      → Left (bank g)
-  left_of machine d =
-      record {
-        failed = machine.failed;
-        register = machine.register;
-        last = moment (bank g) machine.execution machine.loop (g.members d) (g.next d) [];
-        faults = tally 0 (g.counted d);
-      }
-
   -- where a play begins: the machine has taken nothing in, and the databases are closed on empty
   -- media, of which no call is listed as one that fails
   pub record IsFirst (first : Moment (bank g)) : Type 0 where
@@ -121,3 +106,22 @@ module _ {Drafts Sealed Sets : Type 0} (g : Grounds Drafts Sealed Sets) where
     pub media : KeepMedia (store_of (blocks_of outline) script.events) entries left «end»
     pub refused : IfSome «end» (IsHaltedBy (store_of (blocks_of outline) script.events)
         (events_of (blocks_of outline) script.events) entries left)
+
+-- This was played of the script on these grounds, and left these databases, and a machine over them
+-- with these fields, which nothing hands out.
+pub record IsPlayOn {Drafts Sealed Sets : Type 0} (d : Sets) (g : Grounds Drafts Sealed Sets)
+    (script : Script) (labels : List Label) (entries : List (Entry BankBlock Round Ask))
+    («end» : Option Halted) : Type 0 where
+  pub failed : Bool
+  pub register : Register
+  pub execution :
+      Executing BankBlock Round Ask (BankRun Drafts) (BankBuild Drafts) BankHook Sealed
+  pub loop : Processing BankBlock Round Ask (Unit {0})
+  pub play : IsPlayOf g script labels entries
+      (record {
+        failed = failed;
+        register = register;
+        last = moment (bank g) execution loop (g.members d) (g.next d) [];
+        faults = tally 0 (g.counted d);
+      })
+      «end»

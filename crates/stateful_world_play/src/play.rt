@@ -8,7 +8,7 @@ ghost use Rattle.stateful_processing.specs.Moments.{moment};
 ghost use Rattle.stateful_whole.specs.Machine.{IsNew};
 ghost use Rattle.stateful_whole.specs.Media.{IsAsAtStart, MediaStand};
 ghost use Rattle.stateful_world_play.specs.Grounds.{bank};
-ghost use Rattle.stateful_world_play.specs.Play.{IsPlayOf, left_of};
+ghost use Rattle.stateful_world_play.specs.Play.{IsPlayOn};
 
 use crate::driving::drive_all;
 use crate::grounds::Grounded;
@@ -22,13 +22,12 @@ use stateful_types::{OutOfMemory, Round};
 use stateful_world_plan::{events, label_blocks, plan_blocks, store_of};
 use std::alloc::Global;
 
-/// What was played over the databases of a world: the names of the blocks, the entries, the machine
-/// and the databases as they are after them, and the refused event if one was.
+/// What was played over the databases of a world: the names of the blocks, the entries, the
+/// databases as they are after them, and the refused event if one was.
 #[derive(Drop)]
 pub struct PlayedIn<W: Fresh> {
     pub labels: Vec<Label>,
     pub history: Vec<Entry<BankBlock, Round, Ask>>,
-    pub machine: Stateful<Bank<W>>,
     pub databases: W::Databases,
     pub end: Option<Halted>,
 }
@@ -60,9 +59,8 @@ fn new_machine<W: Fresh>(alloc: Global) -> Result<Stateful<Bank<W>>, OutOfMemory
 /// play.
 pub fn play_in<W: Fresh>(alloc: Global, script: &Script) -> Result<PlayedIn<W>, OutOfMemory>
     requires { IsPlan script.now }
-    ensures { IfOk result (λ played. let g = ⟦<W as Grounded>⟧.grounds in
-        IsPlayOf g script.now played.labels.items played.history.items
-        (left_of g played.machine played.databases) played.end) }
+    ensures { IfOk result (λ played. IsPlayOn played.databases ⟦<W as Grounded>⟧.grounds script.now
+        played.labels.items played.history.items played.end) }
 {
     let planned = plan_blocks::<W>(alloc, script.blocks.as_slice())?;
     let labels = label_blocks(alloc, script.names.as_slice(), planned.as_slice())?;
@@ -73,7 +71,6 @@ pub fn play_in<W: Fresh>(alloc: Global, script: &Script) -> Result<PlayedIn<W>, 
     Ok(PlayedIn {
         labels,
         history: driven.history,
-        machine: driven.stateful,
         databases: driven.databases,
         end,
     })

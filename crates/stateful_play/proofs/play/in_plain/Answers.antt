@@ -1,4 +1,4 @@
 use Rattle.stateful_play.proofs.play.in_plain.Goals as goal
 
 pub returns-clause-play : goal.returns-clause-play
-returns-clause-play c = record { failed = _; register = _; execution = _; loop = _; play = c.in_ok-played.ensures }
+returns-clause-play c = c.in_ok-played.ensures
