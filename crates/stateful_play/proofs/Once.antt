@@ -5,7 +5,6 @@ use Rattle.stateful_db.specs.Member.{Member, here, closed, lost, away}
 use Rattle.stateful_any.specs.Any.{State}
 use Rattle.stateful_any.specs.Entries.{HasOneList}
 use Rattle.stateful_text.specs.declared.shown.Shown.{Shown}
-use Rattle.stateful_play.specs.declared.play.Databases.{Databases}
 use Rattle.stateful_play.specs.declared.play.Databases.TheVariants as databases
 use Rattle.stateful_play.specs.Database.{ShowsKeys}
 use Rattle.stateful_play.specs.Shown.{AreShownOnce}
