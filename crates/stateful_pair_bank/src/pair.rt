@@ -3,13 +3,12 @@
 ghost use Rattle.std.specs.Prelude.{◌≡◌};
 ghost use Rattle.stateful_pair_bank.specs.Pair.{two_targets};
 
-use crate::databases::{Drafted, PairDatabases, Sealed};
-use stateful_any::{AnyDb, AnyMedium};
+use stateful_any::{AnyDb, AnyMedium, AnyMerkleized, AnyUnmerkleized};
 use stateful_bank::Op;
 use stateful_bank_logs::{balance, complete_amounts, complete_balances, set_balance};
 use stateful_bank_world::{Fresh, World};
 use stateful_db::{Held, ManagedDb};
-use stateful_keyless::{KeylessDb, KeylessMedium};
+use stateful_keyless::{KeylessDb, KeylessMedium, KeylessMerkleized, KeylessUnmerkleized};
 use stateful_types::{Height, Items, OutOfMemory, Target};
 use std::alloc::Global;
 
@@ -18,10 +17,19 @@ use std::alloc::Global;
 #[derive(Drop)]
 pub enum Pair {}
 
+/// The databases of the pair.
+type Databases = (Held<AnyDb<u64, u64>>, Held<KeylessDb<u64>>);
+
+/// A batch over the pair that may still change.
+type Drafted = (AnyUnmerkleized<u64, u64>, KeylessUnmerkleized<u64>);
+
+/// A sealed batch over the pair.
+type Sealed = (AnyMerkleized<u64, u64>, KeylessMerkleized<u64>);
+
 impl World for Pair {
     ghost use Rattle.stateful_pair_bank.specs.Pair.{pair_rules, HoldsPair};
 
-    type Databases = PairDatabases;
+    type Databases = Databases;
 
     ghost rules = { pair_rules };
 
@@ -33,10 +41,10 @@ impl World for Pair {
 
     fn balance(
         batch: &Drafted,
-        databases: &PairDatabases,
+        databases: &Databases,
         account: u16,
     ) -> Result<Option<u64>, OutOfMemory> {
-        Ok(balance(&batch.0, &databases.both.0, account)?)
+        Ok(balance(&batch.0, &databases.0, account)?)
     }
 
     fn set_balance(batch: Drafted, account: u16, balance: u64) -> Result<Drafted, OutOfMemory> {
@@ -47,12 +55,12 @@ impl World for Pair {
 
     fn complete(
         batch: Drafted,
-        databases: &PairDatabases,
+        databases: &Databases,
         ops: &[Op],
         height: Height,
     ) -> Result<Option<Drafted>, OutOfMemory> {
         let (balances, amounts) = batch;
-        match complete_amounts(amounts, &databases.both.1, ops, height)? {
+        match complete_amounts(amounts, &databases.1, ops, height)? {
             Some((amounts, _)) => Ok(Some((complete_balances(balances, height), amounts))),
             None => Ok(None),
         }
@@ -86,12 +94,10 @@ impl Fresh for Pair {
 
     ghost commits = { refl };
 
-    fn empty(alloc: Global) -> PairDatabases {
+    fn empty(alloc: Global) -> Databases {
         let balances = Held::Closed(AnyMedium::empty(alloc, Vec::new(alloc)));
         let amounts = Held::Closed(KeylessMedium::empty(alloc, Vec::new(alloc)));
-        PairDatabases {
-            both: (balances, amounts),
-        }
+        (balances, amounts)
     }
 
     fn config() -> ((), ()) {

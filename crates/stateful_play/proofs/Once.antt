@@ -19,5 +19,5 @@ module _ (one : HasOneList ℕ nat_cmp) where
 
   pub shown_once : AreShownOnce
   shown_once (databases.Plain d) shown others x y = x ∙ sym y
-  shown_once (databases.Pair d) shown others x y = rw (x.2, y.2, keys_once (balances_member d.both.0) x.0 y.0 x.1 y.1) refl
+  shown_once (databases.Pair d) shown others x y = rw (x.2, y.2, keys_once (balances_member d.0) x.0 y.0 x.1 y.1) refl
   shown_once (databases.Triple d) shown others x y = rw (x.2, y.2, keys_once (balances_member d.0) x.0 y.0 x.1 y.1) refl

@@ -31,8 +31,8 @@ abbrev pub AreShown : Databases → List Shown → Type 0
 AreShown (databases.Plain d) shown = shown ≡ whole_of (member_of d) ∷ []
 AreShown (databases.Pair d) shown =
     (keys : Shown)
-    × ShowsKeys (balances_member d.both.0) keys
-    × (shown ≡ keys ∷ range_of (amounts_member d.both.1) ∷ [])
+    × ShowsKeys (balances_member d.0) keys
+    × (shown ≡ keys ∷ range_of (amounts_member d.1) ∷ [])
 AreShown (databases.Triple d) shown =
     (keys : Shown)
     × ShowsKeys (balances_member d.0) keys

@@ -11,7 +11,8 @@ use stateful_any::AnyDb;
 use stateful_bank::{Ask, BankBlock};
 use stateful_db::Held;
 use stateful_history::Entry;
-use stateful_pair_bank::{Pair, PairDatabases};
+use stateful_keyless::KeylessDb;
+use stateful_pair_bank::Pair;
 use stateful_plain::Plain;
 use stateful_script::{Script, World};
 use stateful_single_bank::Single;
@@ -33,7 +34,7 @@ pub enum History {
 #[derive(Drop)]
 pub enum Databases {
     Plain(Held<Plain>),
-    Pair(PairDatabases),
+    Pair((Held<AnyDb<u64, u64>>, Held<KeylessDb<u64>>)),
     Triple((Held<AnyDb<u64, u64>>, AmountLogs)),
 }
 

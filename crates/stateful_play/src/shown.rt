@@ -105,9 +105,9 @@ pub fn shown(alloc: Global, databases: &Databases) -> Result<Vec<Shown>, OutOfMe
     let mut list = Vec::new(alloc);
     match databases {
         Databases::Plain(database) => list.push(whole(alloc, database)?)?,
-        Databases::Pair(databases) => {
-            list.push(keys(alloc, &databases.both.0)?)?;
-            list.push(range(&databases.both.1))?;
+        Databases::Pair((balances, amounts)) => {
+            list.push(keys(alloc, balances)?)?;
+            list.push(range(amounts))?;
         }
         Databases::Triple((balances, logs)) => {
             list.push(keys(alloc, balances)?)?;
