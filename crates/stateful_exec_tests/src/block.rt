@@ -17,7 +17,7 @@ pub enum End {
 
 /// A block that changes no entry. Its bytes are its name alone, so that blocks of one name have one
 /// digest.
-#[derive(Clone, Copy, Debug, PartialEq, Eq)]
+#[derive(Clone, Copy)]
 pub struct FakeBlock {
     pub name: u8,
     pub parent: Digest,

@@ -17,12 +17,12 @@ use stateful_types::{
 };
 
 /// An application whose blocks and orders say what becomes of them.
-#[derive(Clone, Copy, Debug, PartialEq, Eq)]
+#[derive(Clone, Copy)]
 pub struct Fake;
 
 /// What a build is ordered to do: so many turns before the last one, how it ends, and what it hands
 /// over then.
-#[derive(Clone, Copy, Debug, PartialEq, Eq)]
+#[derive(Clone, Copy)]
 pub struct Order {
     pub turns: u8,
     pub end: End,
@@ -51,7 +51,7 @@ impl Faulty for FakeBuild {
 }
 
 /// A hook, by the turns that are left of it.
-#[derive(Clone, Copy, Debug, PartialEq, Eq)]
+#[derive(Clone, Copy)]
 pub struct FakeHook {
     left: u8,
     end: End,
