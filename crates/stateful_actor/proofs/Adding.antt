@@ -8,13 +8,13 @@ use Rattle.stateful_history.specs.declared.entry.Entry.{Entry}
 use Rattle.stateful_history.specs.declared.mark.Mark.{Mark}
 use Rattle.stateful_history.proofs.Marks.{after_all-push}
 use Rattle.stateful_exec.specs.Workings.{Workings}
-use Rattle.stateful_register.specs.Register.{RegisterStands}
-use Rattle.stateful_register.specs.declared.register.Register.{Register}
-use Rattle.stateful_processing.specs.Intake.{Counts}
-use Rattle.stateful_processing.specs.Moments.{Moment}
-use Rattle.stateful_whole.specs.Entering.{Steps}
-use Rattle.stateful_whole.specs.Machine.{numbered}
-use Rattle.stateful_whole.specs.Steps.{IsStep}
+use Rattle.stateful_actor_register.specs.Register.{RegisterStands}
+use Rattle.stateful_actor_register.specs.declared.register.Register.{Register}
+use Rattle.stateful_loop.specs.Intake.{Counts}
+use Rattle.stateful_loop.specs.Moments.{Moment}
+use Rattle.stateful_actor_laws.specs.Entering.{Steps}
+use Rattle.stateful_actor_laws.specs.Machine.{numbered}
+use Rattle.stateful_actor_laws.specs.Steps.{IsStep}
 
 -- the events of a history, one more
 events-append : {B C I : Type 0} (history : List (Entry B C I)) (entry : Entry B C I) → map (λ (e : Entry B C I). e.event)

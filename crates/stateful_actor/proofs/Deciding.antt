@@ -5,7 +5,7 @@ use Rattle.stateful_history.specs.Opening.{is_down}
 use Rattle.stateful_history.specs.Past.{Past}
 use Rattle.stateful_history.specs.declared.event.Event.{Event}
 use Rattle.stateful_history.specs.declared.event.Event.TheVariants.{Verify, Prepare, Propose, Finalized, Subscribe, Cancel, Fetched, Turn, Flushed, Progress, Stop, Restart}
-use Rattle.stateful_whole.specs.Machine.{is_restart}
+use Rattle.stateful_actor_laws.specs.Machine.{is_restart}
 
 module _ {B C I : Type 0} (count : ℕ) (p : Past B C I) where
   -- to a machine that is down none may come but a restart

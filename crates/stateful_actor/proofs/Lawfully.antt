@@ -13,35 +13,35 @@ use Rattle.stateful_history.specs.declared.entry.Entry.{Entry}
 use Rattle.stateful_history.specs.declared.event.Event.{Event}
 use Rattle.stateful_history.specs.declared.event.Event.TheVariants.{Restart}
 use Rattle.stateful_exec.specs.Workings.{Workings}
-use Rattle.stateful_register.specs.Register.{RegisterStands}
-use Rattle.stateful_register.specs.declared.register.Register.{Register}
-use Rattle.stateful_standing.specs.Building.{BuildsTakeTurns}
-use Rattle.stateful_standing.specs.Fronting.{RunsTakeTurns}
-use Rattle.stateful_standing.specs.Setting.{setting}
-use Rattle.stateful_standing.specs.Storing.{IsStoredNow}
-use Rattle.stateful_keeping.specs.Stands.{IsUpAt}
-use Rattle.stateful_keeping.proofs.TakenIn.{may_come-live}
-use Rattle.stateful_processing.specs.Intake.{Counts}
-use Rattle.stateful_processing.specs.Moments.{Moment}
-use Rattle.stateful_processing.specs.declared.error.StepError.{StepError}
-use Rattle.stateful_processing.specs.declared.error.StepError.TheVariants.{OutOfMemory, Failed, BadEvent, Exhausted, Application, DatabaseFault}
-use Rattle.stateful_whole.specs.Entering.{Steps}
-use Rattle.stateful_whole.specs.Machine.{numbered, is_restart, IsNew}
-use Rattle.stateful_whole.specs.Stands.{StandsAt, Stands}
-use Rattle.stateful_whole.specs.Steps.{IsStep}
-use Rattle.stateful_whole.specs.StepBehind.{StepBehind, EachStands}
-use Rattle.stateful_whole.proofs.LiveFlushes.{numbered_le, names_live-more}
-use Rattle.stateful_whole.proofs.HistoryStands.{IsStoredNow-new, EachStands-last}
-use Rattle.stateful_whole.proofs.StepsStand.{StandsAt-new}
-use Rattle.stateful_whole.proofs.StoresBefore.{StoresFinalized-before_item, StoresFinalized-before_marks}
-use Rattle.stateful_whole.proofs.StepStands.{step-behind}
-use Rattle.stateful_whole.proofs.Stepping.{may_come-up}
-use Rattle.stateful_lawful.specs.Ahead.{IsAhead, IsAheadLawfully}
-use Rattle.stateful_lawful.specs.Completeness.{ComesLawfully}
-use Rattle.stateful_lawful.specs.Outside.{IsOutside}
-use Rattle.stateful_lawful.proofs.AheadHistory.{ahead-new, StandsAhead, steps-ahead}
-use Rattle.stateful_lawful.proofs.AheadSteps.{ahead-step}
-use Rattle.stateful_lawful.proofs.Completeness.{intake-outside, going-outside}
+use Rattle.stateful_actor_register.specs.Register.{RegisterStands}
+use Rattle.stateful_actor_register.specs.declared.register.Register.{Register}
+use Rattle.stateful_exec_laws.specs.Building.{BuildsTakeTurns}
+use Rattle.stateful_exec_laws.specs.Fronting.{RunsTakeTurns}
+use Rattle.stateful_exec_laws.specs.Setting.{setting}
+use Rattle.stateful_exec_laws.specs.Storing.{IsStoredNow}
+use Rattle.stateful_loop_laws.specs.Stands.{IsUpAt}
+use Rattle.stateful_loop_laws.proofs.TakenIn.{may_come-live}
+use Rattle.stateful_loop.specs.Intake.{Counts}
+use Rattle.stateful_loop.specs.Moments.{Moment}
+use Rattle.stateful_loop.specs.declared.error.StepError.{StepError}
+use Rattle.stateful_loop.specs.declared.error.StepError.TheVariants.{OutOfMemory, Failed, BadEvent, Exhausted, Application, DatabaseFault}
+use Rattle.stateful_actor_laws.specs.Entering.{Steps}
+use Rattle.stateful_actor_laws.specs.Machine.{numbered, is_restart, IsNew}
+use Rattle.stateful_actor_laws.specs.Stands.{StandsAt, Stands}
+use Rattle.stateful_actor_laws.specs.Steps.{IsStep}
+use Rattle.stateful_actor_laws.specs.StepBehind.{StepBehind, EachStands}
+use Rattle.stateful_actor_laws.proofs.LiveFlushes.{numbered_le, names_live-more}
+use Rattle.stateful_actor_laws.proofs.HistoryStands.{IsStoredNow-new, EachStands-last}
+use Rattle.stateful_actor_laws.proofs.StepsStand.{StandsAt-new}
+use Rattle.stateful_actor_laws.proofs.StoresBefore.{StoresFinalized-before_item, StoresFinalized-before_marks}
+use Rattle.stateful_actor_laws.proofs.StepStands.{step-behind}
+use Rattle.stateful_actor_laws.proofs.Stepping.{may_come-up}
+use Rattle.stateful_actor_laws.specs.Ahead.{IsAhead, IsAheadLawfully}
+use Rattle.stateful_actor_laws.specs.Completeness.{ComesLawfully}
+use Rattle.stateful_actor_laws.specs.Outside.{IsOutside}
+use Rattle.stateful_actor_laws.proofs.AheadHistory.{ahead-new, StandsAhead, steps-ahead}
+use Rattle.stateful_actor_laws.proofs.AheadSteps.{ahead-step}
+use Rattle.stateful_actor_laws.proofs.Completeness.{intake-outside, going-outside}
 use Rattle.stateful_actor.proofs.Counts.{HasNotFallen-further}
 use Rattle.stateful_actor.specs.Faults.{Tally, FaultsPlay, memory, taking, going, FaultsStep, IsCause, failed_before, unlawful, fault}
 use Rattle.stateful_actor.specs.Faults as cause

@@ -6,11 +6,11 @@ use Rattle.stateful_history.specs.Restarts.{reopened_height}
 use Rattle.stateful_history.specs.declared.event.Event.{Event}
 use Rattle.stateful_history.specs.declared.event.Event.TheVariants.{Restart}
 use Rattle.stateful_exec.specs.Workings.{Workings}
-use Rattle.stateful_keeping.specs.Media.{KeepsReopenable}
-use Rattle.stateful_register.specs.declared.register.Register.{Register}
-use Rattle.stateful_processing.specs.Intake.{Counts}
-use Rattle.stateful_processing.specs.Moments.{Moment}
-use Rattle.stateful_whole.specs.Media.{behind_refusal, MediaStand, LeavesMedia}
+use Rattle.stateful_loop_laws.specs.Media.{KeepsReopenable}
+use Rattle.stateful_actor_register.specs.declared.register.Register.{Register}
+use Rattle.stateful_loop.specs.Intake.{Counts}
+use Rattle.stateful_loop.specs.Moments.{Moment}
+use Rattle.stateful_actor_laws.specs.Media.{behind_refusal, MediaStand, LeavesMedia}
 use Rattle.stateful_actor.specs.Driving.{KeepsMedia}
 
 module _ {B C I P R D H G U : Type 0} (w : Workings B C I P R D H G U) (stored : ℕ → Option (Named B)) where

@@ -10,22 +10,22 @@ use Rattle.stateful_history.specs.declared.event.Event.{Event}
 use Rattle.stateful_history.specs.declared.mark.Mark.{Mark}
 use Rattle.stateful_history.proofs.Marks.{TrueNames-before_all}
 use Rattle.stateful_exec.specs.Workings.{Workings}
-use Rattle.stateful_register.specs.Register.{RegisterStands}
-use Rattle.stateful_register.specs.declared.register.Register.{Register}
-use Rattle.stateful_standing.specs.Building.{BuildsTakeTurns}
-use Rattle.stateful_standing.specs.Fronting.{RunsTakeTurns}
-use Rattle.stateful_standing.specs.Setting.{setting}
-use Rattle.stateful_standing.specs.Storing.{IsStoredNow}
-use Rattle.stateful_keeping.specs.Media.{TargetsRise}
-use Rattle.stateful_processing.specs.Intake.{Counts}
-use Rattle.stateful_processing.specs.Moments.{Moment}
-use Rattle.stateful_whole.specs.Entering.{Steps}
-use Rattle.stateful_whole.specs.Machine.{numbered, IsNew}
-use Rattle.stateful_whole.specs.Media.{behind_refusal, MediaStand, StandsOnMedia}
-use Rattle.stateful_whole.proofs.HistoryStands.{IsStoredNow-new, EachStands-last, EachStands-constant}
-use Rattle.stateful_whole.proofs.StepsStand.{StandsAt-new}
-use Rattle.stateful_whole.proofs.StoresBefore.{StoresFinalized-before_all, StoresFinalized-before_item}
-use Rattle.stateful_lawful.proofs.AheadHistory.{ahead-new, StandsAhead, steps-ahead}
+use Rattle.stateful_actor_register.specs.Register.{RegisterStands}
+use Rattle.stateful_actor_register.specs.declared.register.Register.{Register}
+use Rattle.stateful_exec_laws.specs.Building.{BuildsTakeTurns}
+use Rattle.stateful_exec_laws.specs.Fronting.{RunsTakeTurns}
+use Rattle.stateful_exec_laws.specs.Setting.{setting}
+use Rattle.stateful_exec_laws.specs.Storing.{IsStoredNow}
+use Rattle.stateful_loop_laws.specs.Media.{TargetsRise}
+use Rattle.stateful_loop.specs.Intake.{Counts}
+use Rattle.stateful_loop.specs.Moments.{Moment}
+use Rattle.stateful_actor_laws.specs.Entering.{Steps}
+use Rattle.stateful_actor_laws.specs.Machine.{numbered, IsNew}
+use Rattle.stateful_actor_laws.specs.Media.{behind_refusal, MediaStand, StandsOnMedia}
+use Rattle.stateful_actor_laws.proofs.HistoryStands.{IsStoredNow-new, EachStands-last, EachStands-constant}
+use Rattle.stateful_actor_laws.proofs.StepsStand.{StandsAt-new}
+use Rattle.stateful_actor_laws.proofs.StoresBefore.{StoresFinalized-before_all, StoresFinalized-before_item}
+use Rattle.stateful_actor_laws.proofs.AheadHistory.{ahead-new, StandsAhead, steps-ahead}
 use Rattle.stateful_actor.specs.Driving.{KeepsMedia, KeepsMediaAfter}
 
 module _ {B C I P R D H G U : Type 0} (w : Workings B C I P R D H G U) (laws : Laws w.kind) (stored : ℕ → Option (Named B))

@@ -11,20 +11,20 @@ use Rattle.stateful_history.specs.declared.mark.How.TheVariants.{Cancelled}
 use Rattle.stateful_history.specs.declared.mark.Mark.{Mark}
 use Rattle.stateful_history.specs.declared.mark.Mark.TheVariants.{Applied, Ended, Declined, Dropped}
 use Rattle.stateful_exec.specs.Workings.{Workings}
-use Rattle.stateful_register.specs.Ends.{withdrawn, cancelled, declined, dropped}
-use Rattle.stateful_register.specs.Register.{RegisterStands}
-use Rattle.stateful_register.specs.declared.register.Register.{Register}
-use Rattle.stateful_processing.specs.Intake.{Counts, TakesIn, enters, cancels, fetched, turns, flushes, stops, progresses, restarts, TurnsJob, build, hook, run}
-use Rattle.stateful_processing.specs.Moments.{Moment}
-use Rattle.stateful_processing.specs.Noted.{noted_all, unobserved, NotesFollow, NotesMayFollow}
-use Rattle.stateful_processing.specs.Sound.{Sound}
-use Rattle.stateful_processing.specs.declared.tables.Finalizing.{Finalizing}
-use Rattle.stateful_processing.proofs.AppliedMarks.{applied_in-append, AppliesNone, AppliesNone-made, withdrawn_none}
-use Rattle.stateful_processing.proofs.NotesFollowing.{noted_all-append, leaves_follow}
-use Rattle.stateful_processing.proofs.Observing.{leaves_front, settled_observed}
-use Rattle.stateful_keeping.proofs.PlainMarks.{IsPlain, taken_in_plain}
-use Rattle.stateful_whole.specs.Machine.{numbered, is_restart}
-use Rattle.stateful_whole.specs.Steps.{EndsWork, Settles}
+use Rattle.stateful_actor_register.specs.Ends.{withdrawn, cancelled, declined, dropped}
+use Rattle.stateful_actor_register.specs.Register.{RegisterStands}
+use Rattle.stateful_actor_register.specs.declared.register.Register.{Register}
+use Rattle.stateful_loop.specs.Intake.{Counts, TakesIn, enters, cancels, fetched, turns, flushes, stops, progresses, restarts, TurnsJob, build, hook, run}
+use Rattle.stateful_loop.specs.Moments.{Moment}
+use Rattle.stateful_loop.specs.Noted.{noted_all, unobserved, NotesFollow, NotesMayFollow}
+use Rattle.stateful_loop.specs.Sound.{Sound}
+use Rattle.stateful_loop.specs.declared.tables.Finalizing.{Finalizing}
+use Rattle.stateful_loop.proofs.AppliedMarks.{applied_in-append, AppliesNone, AppliesNone-made, withdrawn_none}
+use Rattle.stateful_loop.proofs.NotesFollowing.{noted_all-append, leaves_follow}
+use Rattle.stateful_loop.proofs.Observing.{leaves_front, settled_observed}
+use Rattle.stateful_loop_laws.proofs.PlainMarks.{IsPlain, taken_in_plain}
+use Rattle.stateful_actor_laws.specs.Machine.{numbered, is_restart}
+use Rattle.stateful_actor_laws.specs.Steps.{EndsWork, Settles}
 use Rattle.stateful_actor.specs.Notes.{NotesAlong, NotesReached, NotesSettling, NotesPlay, going, NotesRefused}
 
 module _ {B : Type 0} where

@@ -3,18 +3,18 @@ use Rattle.std.proofs.Common.{◌≡◌, inl, inr, ℕ, Bool, true, false, Optio
 use Rattle.stateful_types.specs.Names.{Named}
 use Rattle.stateful_history.specs.declared.event.Event.{Event}
 use Rattle.stateful_exec.specs.Workings.{Workings}
-use Rattle.stateful_requests.specs.declared.error.ExecError.{ExecError}
-use Rattle.stateful_requests.specs.declared.error.ExecError.TheVariants as exec
-use Rattle.stateful_processing.specs.Causes.{Via, FaultsBarrier, FaultsFlush, FaultsApply, FaultsMessage, FaultsRule}
-use Rattle.stateful_processing.specs.Causes as rule
-use Rattle.stateful_processing.specs.Errors.{error_of_exec}
-use Rattle.stateful_processing.specs.Intake.{Counts, FaultsIntake}
-use Rattle.stateful_processing.specs.Intake as intake
-use Rattle.stateful_processing.specs.Moments.{Moment}
-use Rattle.stateful_processing.specs.declared.error.StepError.{StepError}
-use Rattle.stateful_processing.specs.declared.error.StepError.TheVariants.{BadEvent}
-use Rattle.stateful_processing.specs.declared.message.Message.{Message}
-use Rattle.stateful_processing.specs.declared.message.Message.TheVariants as message
+use Rattle.stateful_exec_tables.specs.declared.error.ExecError.{ExecError}
+use Rattle.stateful_exec_tables.specs.declared.error.ExecError.TheVariants as exec
+use Rattle.stateful_loop.specs.Causes.{Via, FaultsBarrier, FaultsFlush, FaultsApply, FaultsMessage, FaultsRule}
+use Rattle.stateful_loop.specs.Causes as rule
+use Rattle.stateful_loop.specs.Errors.{error_of_exec}
+use Rattle.stateful_loop.specs.Intake.{Counts, FaultsIntake}
+use Rattle.stateful_loop.specs.Intake as intake
+use Rattle.stateful_loop.specs.Moments.{Moment}
+use Rattle.stateful_loop.specs.declared.error.StepError.{StepError}
+use Rattle.stateful_loop.specs.declared.error.StepError.TheVariants.{BadEvent}
+use Rattle.stateful_loop.specs.declared.message.Message.{Message}
+use Rattle.stateful_loop.specs.declared.message.Message.TheVariants as message
 use Rattle.stateful_actor.specs.Faults.{memory, taking, going, Tally, FaultsPlay}
 
 exec_other : (fault : ExecError) → error_of_exec fault ≡ BadEvent → ⊥

@@ -9,15 +9,15 @@ use Rattle.stateful_history.specs.Restarts.{reopened_height, CanReopen, Finds}
 use Rattle.stateful_history.specs.declared.event.Event.{Event}
 use Rattle.stateful_history.specs.declared.event.Event.TheVariants.{Restart}
 use Rattle.stateful_exec.specs.Workings.{Workings}
-use Rattle.stateful_register.specs.declared.register.Register.{Register}
-use Rattle.stateful_standing.specs.Setting.{setting}
-use Rattle.stateful_processing.specs.Intake.{Counts}
-use Rattle.stateful_processing.specs.Moments.{Moment}
-use Rattle.stateful_processing.specs.declared.error.StepError.{StepError}
-use Rattle.stateful_processing.specs.declared.error.StepError.TheVariants.{OutOfMemory}
-use Rattle.stateful_whole.specs.Media.{MediaStand, TargetsName, OpensOn}
-use Rattle.stateful_whole.specs.Steps.{IsStep}
-use Rattle.stateful_whole.proofs.MediaRefused.{reopens-memory, reopens-on}
+use Rattle.stateful_actor_register.specs.declared.register.Register.{Register}
+use Rattle.stateful_exec_laws.specs.Setting.{setting}
+use Rattle.stateful_loop.specs.Intake.{Counts}
+use Rattle.stateful_loop.specs.Moments.{Moment}
+use Rattle.stateful_loop.specs.declared.error.StepError.{StepError}
+use Rattle.stateful_loop.specs.declared.error.StepError.TheVariants.{OutOfMemory}
+use Rattle.stateful_actor_laws.specs.Media.{MediaStand, TargetsName, OpensOn}
+use Rattle.stateful_actor_laws.specs.Steps.{IsStep}
+use Rattle.stateful_actor_laws.proofs.MediaRefused.{reopens-memory, reopens-on}
 use Rattle.stateful_actor.specs.Faults.{Tally, FaultsStep}
 
 module _ {B C I P R D H G U : Type 0} (w : Workings B C I P R D H G U) (laws : Laws w.kind) (stored stored_now : ℕ → Option (Named B))

@@ -13,25 +13,25 @@ use Rattle.stateful_history.specs.declared.event.Event.{Event}
 use Rattle.stateful_history.specs.declared.event.Event.TheVariants as event
 use Rattle.stateful_history.specs.declared.event.Event.TheVariants.{Restart}
 use Rattle.stateful_exec.specs.Workings.{Workings}
-use Rattle.stateful_register.specs.Register.{RegisterStands}
-use Rattle.stateful_register.specs.declared.register.Register.{Register}
-use Rattle.stateful_keeping.specs.Stands.{IsUpAt}
-use Rattle.stateful_keeping.proofs.MediaOpens.{refused-memory}
-use Rattle.stateful_keeping.proofs.TakenIn.{may_come-live}
-use Rattle.stateful_processing.specs.Barriers.{awaiting}
-use Rattle.stateful_processing.specs.Intake.{Counts}
-use Rattle.stateful_processing.specs.Moments.{Moment}
-use Rattle.stateful_processing.specs.Opening.{FaultsOpening}
-use Rattle.stateful_processing.specs.Sound.{Sound}
-use Rattle.stateful_processing.specs.declared.error.StepError.{StepError}
-use Rattle.stateful_processing.specs.declared.error.StepError.TheVariants as error
-use Rattle.stateful_whole.specs.Machine.{numbered, is_restart}
-use Rattle.stateful_whole.specs.Stands.{StandsAt}
-use Rattle.stateful_whole.proofs.LiveFlushes.{numbered_le, names_live-more}
-use Rattle.stateful_whole.proofs.Stepping.{may_come-up}
-use Rattle.stateful_lawful.specs.Outside.{IsNotFailed}
-use Rattle.stateful_lawful.specs.Restarting.{RestartsLawfully}
-use Rattle.stateful_lawful.proofs.NeverFailed.{intake-not_failed, going-not_failed}
+use Rattle.stateful_actor_register.specs.Register.{RegisterStands}
+use Rattle.stateful_actor_register.specs.declared.register.Register.{Register}
+use Rattle.stateful_loop_laws.specs.Stands.{IsUpAt}
+use Rattle.stateful_loop_laws.proofs.MediaOpens.{refused-memory}
+use Rattle.stateful_loop_laws.proofs.TakenIn.{may_come-live}
+use Rattle.stateful_loop.specs.Barriers.{awaiting}
+use Rattle.stateful_loop.specs.Intake.{Counts}
+use Rattle.stateful_loop.specs.Moments.{Moment}
+use Rattle.stateful_loop.specs.Opening.{FaultsOpening}
+use Rattle.stateful_loop.specs.Sound.{Sound}
+use Rattle.stateful_loop.specs.declared.error.StepError.{StepError}
+use Rattle.stateful_loop.specs.declared.error.StepError.TheVariants as error
+use Rattle.stateful_actor_laws.specs.Machine.{numbered, is_restart}
+use Rattle.stateful_actor_laws.specs.Stands.{StandsAt}
+use Rattle.stateful_actor_laws.proofs.LiveFlushes.{numbered_le, names_live-more}
+use Rattle.stateful_actor_laws.proofs.Stepping.{may_come-up}
+use Rattle.stateful_actor_laws.specs.Outside.{IsNotFailed}
+use Rattle.stateful_actor_laws.specs.Restarting.{RestartsLawfully}
+use Rattle.stateful_actor_laws.proofs.NeverFailed.{intake-not_failed, going-not_failed}
 use Rattle.stateful_actor.specs.Faults.{Tally, FaultsPlay, memory, taking, going, FaultsStep, IsCause, failed_before, unlawful, fault}
 use Rattle.stateful_actor.specs.Faults as cause
 use Rattle.stateful_actor.proofs.Lawfully.{isnt_restart}

@@ -11,25 +11,25 @@ use Rattle.stateful_history.specs.declared.event.Event.{Event}
 use Rattle.stateful_history.specs.declared.event.Event.TheVariants.{Restart}
 use Rattle.stateful_history.specs.declared.mark.Mark.{Mark}
 use Rattle.stateful_exec.specs.Workings.{Workings}
-use Rattle.stateful_register.specs.Register.{RegisterStands}
-use Rattle.stateful_register.specs.declared.register.Register.{Register}
-use Rattle.stateful_standing.specs.Setting.{setting}
-use Rattle.stateful_standing.specs.Storing.{IsStoredNow}
-use Rattle.stateful_keeping.specs.Media.{TargetsRise}
-use Rattle.stateful_processing.specs.Intake.{Counts}
-use Rattle.stateful_processing.specs.Moments.{Moment}
-use Rattle.stateful_processing.specs.declared.error.StepError.{StepError}
-use Rattle.stateful_processing.specs.declared.error.StepError.TheVariants.{BadEvent, Failed}
-use Rattle.stateful_processing.specs.declared.error.StepError.TheVariants.{OutOfMemory}
+use Rattle.stateful_actor_register.specs.Register.{RegisterStands}
+use Rattle.stateful_actor_register.specs.declared.register.Register.{Register}
+use Rattle.stateful_exec_laws.specs.Setting.{setting}
+use Rattle.stateful_exec_laws.specs.Storing.{IsStoredNow}
+use Rattle.stateful_loop_laws.specs.Media.{TargetsRise}
+use Rattle.stateful_loop.specs.Intake.{Counts}
+use Rattle.stateful_loop.specs.Moments.{Moment}
+use Rattle.stateful_loop.specs.declared.error.StepError.{StepError}
+use Rattle.stateful_loop.specs.declared.error.StepError.TheVariants.{BadEvent, Failed}
+use Rattle.stateful_loop.specs.declared.error.StepError.TheVariants.{OutOfMemory}
 use Rattle.stateful_actor.specs.Faults.{Tally, HasNotFallen, IsCause}
-use Rattle.stateful_whole.specs.Left.{LeavesPlay, LeavesBehind}
-use Rattle.stateful_whole.specs.Machine.{numbered, is_restart}
-use Rattle.stateful_whole.specs.Media.{behind_refusal, MediaStand, StandsOnMedia}
-use Rattle.stateful_whole.specs.Entering.{Steps}
-use Rattle.stateful_whole.specs.StepBehind.{EachStands}
-use Rattle.stateful_lawful.specs.Completeness.{ComesLawfully}
-use Rattle.stateful_lawful.specs.Outside.{IsOutside}
-use Rattle.stateful_lawful.specs.Restarting.{RestartsLawfully}
+use Rattle.stateful_actor_laws.specs.Left.{LeavesPlay, LeavesBehind}
+use Rattle.stateful_actor_laws.specs.Machine.{numbered, is_restart}
+use Rattle.stateful_actor_laws.specs.Media.{behind_refusal, MediaStand, StandsOnMedia}
+use Rattle.stateful_actor_laws.specs.Entering.{Steps}
+use Rattle.stateful_actor_laws.specs.StepBehind.{EachStands}
+use Rattle.stateful_actor_laws.specs.Completeness.{ComesLawfully}
+use Rattle.stateful_actor_laws.specs.Outside.{IsOutside}
+use Rattle.stateful_actor_laws.specs.Restarting.{RestartsLawfully}
 
 module _ {B C I P R D H G U : Type 0} (w : Workings B C I P R D H G U)
     (stored : ℕ → Option (Named B)) where

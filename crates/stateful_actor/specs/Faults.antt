@@ -8,17 +8,17 @@ use Rattle.stateful_history.specs.Past.{Past}
 use Rattle.stateful_history.specs.declared.event.Event.{Event}
 use Rattle.stateful_history.specs.declared.event.Event.TheVariants.{Restart}
 use Rattle.stateful_exec.specs.Workings.{Workings}
-use Rattle.stateful_register.specs.Register.{RegisterStands}
-use Rattle.stateful_register.specs.declared.register.Register.{Register}
-use Rattle.stateful_processing.specs.Causes.{FaultsRule}
-use Rattle.stateful_processing.specs.Intake.{Counts, TakesIn, FaultsIntake}
-use Rattle.stateful_processing.specs.Moments.{Moment}
-use Rattle.stateful_processing.specs.Opening.{FaultsOpening}
-use Rattle.stateful_processing.specs.Rules.{Along}
-use Rattle.stateful_processing.specs.declared.error.StepError.{StepError}
-use Rattle.stateful_processing.specs.declared.error.StepError.TheVariants.{BadEvent, Failed}
-use Rattle.stateful_processing.specs.declared.error.StepError.TheVariants.{OutOfMemory}
-use Rattle.stateful_whole.specs.Machine.{numbered, is_restart}
+use Rattle.stateful_actor_register.specs.Register.{RegisterStands}
+use Rattle.stateful_actor_register.specs.declared.register.Register.{Register}
+use Rattle.stateful_loop.specs.Causes.{FaultsRule}
+use Rattle.stateful_loop.specs.Intake.{Counts, TakesIn, FaultsIntake}
+use Rattle.stateful_loop.specs.Moments.{Moment}
+use Rattle.stateful_loop.specs.Opening.{FaultsOpening}
+use Rattle.stateful_loop.specs.Rules.{Along}
+use Rattle.stateful_loop.specs.declared.error.StepError.{StepError}
+use Rattle.stateful_loop.specs.declared.error.StepError.TheVariants.{BadEvent, Failed}
+use Rattle.stateful_loop.specs.declared.error.StepError.TheVariants.{OutOfMemory}
+use Rattle.stateful_actor_laws.specs.Machine.{numbered, is_restart}
 
 -- how often the application has failed, and the database of each number
 pub record Tally : Type 0 where

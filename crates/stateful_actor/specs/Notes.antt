@@ -7,12 +7,12 @@ use Rattle.stateful_history.specs.declared.event.Event.{Event}
 use Rattle.stateful_history.specs.declared.event.Event.TheVariants.{Restart}
 use Rattle.stateful_history.specs.declared.mark.Mark.{Mark}
 use Rattle.stateful_exec.specs.Workings.{Workings}
-use Rattle.stateful_processing.specs.Intake.{Counts, TakesIn}
-use Rattle.stateful_processing.specs.Moments.{Moment}
-use Rattle.stateful_processing.specs.Noted.{noted_all, unobserved}
-use Rattle.stateful_processing.specs.Rules.{Along}
-use Rattle.stateful_processing.specs.declared.tables.Finalizing.{Finalizing}
-use Rattle.stateful_whole.specs.Entering.{Steps}
+use Rattle.stateful_loop.specs.Intake.{Counts, TakesIn}
+use Rattle.stateful_loop.specs.Moments.{Moment}
+use Rattle.stateful_loop.specs.Noted.{noted_all, unobserved}
+use Rattle.stateful_loop.specs.Rules.{Along}
+use Rattle.stateful_loop.specs.declared.tables.Finalizing.{Finalizing}
+use Rattle.stateful_actor_laws.specs.Entering.{Steps}
 
 -- the blocks that were applied over a history, in their order
 abbrev pub applied_along : {B C I : Type 0} → List (Entry B C I) → List (Named B)

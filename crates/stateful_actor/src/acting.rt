@@ -5,30 +5,30 @@
 //! can (`playing.rt`). Either way the marks are appended in the order in which things are done.
 //!
 //! The register is read here and never changed: an event that fails in the middle isn't in it.
-//! `IsStep` of `stateful_whole/specs/Steps.antt` says what is done.
+//! `IsStep` of `stateful_actor_laws/specs/Steps.antt` says what is done.
 
 ghost use Rattle.std.specs.Prelude.{◌≡◌, ◌≤◌, [], ℕ, true, false, List, OnOk, OnErr, IfErr};
-ghost use Rattle.stateful_requests.specs.Tables.{Rises};
-ghost use Rattle.stateful_processing.specs.Moments.{executing, moment};
-ghost use Rattle.stateful_processing.specs.Noted.{unobserved};
-ghost use Rattle.stateful_processing.specs.Sound.{Sound};
+ghost use Rattle.stateful_exec_tables.specs.Tables.{Rises};
+ghost use Rattle.stateful_loop.specs.Moments.{executing, moment};
+ghost use Rattle.stateful_loop.specs.Noted.{unobserved};
+ghost use Rattle.stateful_loop.specs.Sound.{Sound};
 ghost use Rattle.stateful_actor.specs.Faults.{tally, FaultsStep};
 ghost use Rattle.stateful_actor.specs.Notes.{NotesAlong, NotesRefused};
 ghost use Rattle.stateful_history.specs.Past.{Past};
 ghost use Rattle.stateful_history.specs.declared.mark.Mark.{Mark as Marked};
-ghost use Rattle.stateful_register.specs.Register.{RegisterStands};
-ghost use Rattle.stateful_whole.specs.Left.{LeavesPlay};
-ghost use Rattle.stateful_whole.specs.Machine.{is_restart, numbered};
-ghost use Rattle.stateful_whole.specs.Media.{LeavesRestart};
-ghost use Rattle.stateful_whole.specs.Steps.{IsStep};
+ghost use Rattle.stateful_actor_register.specs.Register.{RegisterStands};
+ghost use Rattle.stateful_actor_laws.specs.Left.{LeavesPlay};
+ghost use Rattle.stateful_actor_laws.specs.Machine.{is_restart, numbered};
+ghost use Rattle.stateful_actor_laws.specs.Media.{LeavesRestart};
+ghost use Rattle.stateful_actor_laws.specs.Steps.{IsStep};
 
 use crate::playing::play;
 use crate::restarting::restart;
+use stateful_actor_register::Register;
 use stateful_db::{Application, DatabaseSet};
 use stateful_exec::{Handler, Worked};
 use stateful_history::{Event, Mark};
-use stateful_processing::{ProcessingOf, StepError};
-use stateful_register::Register;
+use stateful_loop::{ProcessingOf, StepError};
 use stateful_types::BlockStore;
 
 /// Does what an event does. The register stays as it is.

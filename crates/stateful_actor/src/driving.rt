@@ -9,7 +9,7 @@
 //! caller may go on with `step` as if that event hadn't come. After any other error a restart comes
 //! next.
 //!
-//! `Steps` of `stateful_whole/specs/Entering.antt` says what a history is, and `IsRefused` of
+//! `Steps` of `stateful_actor_laws/specs/Entering.antt` says what a history is, and `IsRefused` of
 //! `specs/Driving.antt` why it ends. docs/RULES.md says it in words, "One event".
 
 ghost use Rattle.std.specs.Prelude.{◌≡◌, ◌<◌, ◌≤◌, ◌++◌, ◌∷◌, [], ℕ, List, Option, true, false};
@@ -21,29 +21,29 @@ ghost use Rattle.stateful_history.specs.declared.event.Event.{Event as Happening
 ghost use Rattle.stateful_history.specs.declared.mark.Mark.{Mark as Marked};
 ghost use Rattle.stateful_history.specs.Live.{may_come};
 ghost use Rattle.stateful_history.specs.Honest.{HasHonestStore};
-ghost use Rattle.stateful_register.specs.Register.{RegisterStands};
-ghost use Rattle.stateful_standing.specs.Setting.{setting};
-ghost use Rattle.stateful_standing.specs.Storing.{IsStoredNow};
-ghost use Rattle.stateful_keeping.specs.Media.{TargetsRise};
-ghost use Rattle.stateful_processing.specs.Moments.{moment};
-ghost use Rattle.stateful_processing.specs.Noted.{noted_all};
-ghost use Rattle.stateful_whole.specs.Entering.{Steps};
+ghost use Rattle.stateful_actor_register.specs.Register.{RegisterStands};
+ghost use Rattle.stateful_exec_laws.specs.Setting.{setting};
+ghost use Rattle.stateful_exec_laws.specs.Storing.{IsStoredNow};
+ghost use Rattle.stateful_loop_laws.specs.Media.{TargetsRise};
+ghost use Rattle.stateful_loop.specs.Moments.{moment};
+ghost use Rattle.stateful_loop.specs.Noted.{noted_all};
+ghost use Rattle.stateful_actor_laws.specs.Entering.{Steps};
 ghost use Rattle.stateful_actor.specs.Driving.{IsRefused, RefusesRestart};
 ghost use Rattle.stateful_actor.specs.Driving.{KeepsMedia, KeepsMediaAfter};
 ghost use Rattle.stateful_actor.specs.Faults.{tally, HasNotFallen, IsCause};
 ghost use Rattle.stateful_actor.specs.Notes.{HasObserved, applied_along, NotesRefused, NotesAfter};
-ghost use Rattle.stateful_whole.specs.Left.{LeavesFurther};
-ghost use Rattle.stateful_whole.specs.Machine.{is_restart, IsSafe, IsNew, numbered};
-ghost use Rattle.stateful_whole.specs.Media.{MediaStand, StandsOnMedia};
-ghost use Rattle.stateful_whole.specs.Stands.{StandsAsWell};
-ghost use Rattle.stateful_whole.specs.StepBehind.{EachStands, StandsAndHolds};
-ghost use Rattle.stateful_whole.specs.Steps.{IsStep};
+ghost use Rattle.stateful_actor_laws.specs.Left.{LeavesFurther};
+ghost use Rattle.stateful_actor_laws.specs.Machine.{is_restart, IsSafe, IsNew, numbered};
+ghost use Rattle.stateful_actor_laws.specs.Media.{MediaStand, StandsOnMedia};
+ghost use Rattle.stateful_actor_laws.specs.Stands.{StandsAsWell};
+ghost use Rattle.stateful_actor_laws.specs.StepBehind.{EachStands, StandsAndHolds};
+ghost use Rattle.stateful_actor_laws.specs.Steps.{IsStep};
 
 use crate::stateful::Stateful;
 use stateful_db::{Application, DatabaseSet};
 use stateful_exec::Worked;
 use stateful_history::{Entry, Event};
-use stateful_processing::StepError;
+use stateful_loop::StepError;
 use stateful_types::{BlockStore, Items, Share};
 use std::alloc::Global;
 

@@ -5,8 +5,8 @@ ghost use Rattle.stateful_types.specs.Names.{Named};
 ghost use Rattle.stateful_types.specs.declared.digest.Digest.{Digest};
 ghost use Rattle.stateful_history.specs.Past.{Past};
 ghost use Rattle.stateful_exec.specs.Workings.{Point};
-ghost use Rattle.stateful_requests.specs.declared.state.Tables.{Tables};
-ghost use Rattle.stateful_standing.specs.Depth.{RunsAreAsDeep, BuildsAreAsDeep};
+ghost use Rattle.stateful_exec_tables.specs.declared.state.Tables.{Tables};
+ghost use Rattle.stateful_exec_laws.specs.Depth.{RunsAreAsDeep, BuildsAreAsDeep};
 
 use stateful_db::{Application, DatabaseSet};
 use stateful_exec::Worked;

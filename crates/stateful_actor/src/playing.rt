@@ -5,29 +5,29 @@
 //! Then `play` ends all work and marks that the machine has stopped (`stopping.rt`).
 //!
 //! So a stop is told after all that the event has done, and its marks are the last ones of the
-//! entry. `Plays` and `Advances` of `stateful_whole/specs/Steps.antt` say what is done.
+//! entry. `Plays` and `Advances` of `stateful_actor_laws/specs/Steps.antt` say what is done.
 
 ghost use Rattle.std.specs.Prelude.{◌≡◌, ◌≤◌, [], ℕ, List, OnOk, OnErr, IfErr};
-ghost use Rattle.stateful_requests.specs.Tables.{Rises};
-ghost use Rattle.stateful_processing.specs.Moments.{executing, moment};
-ghost use Rattle.stateful_processing.specs.Noted.{unobserved, NotesFollow};
-ghost use Rattle.stateful_processing.specs.Sound.{IsUp, Sound};
+ghost use Rattle.stateful_exec_tables.specs.Tables.{Rises};
+ghost use Rattle.stateful_loop.specs.Moments.{executing, moment};
+ghost use Rattle.stateful_loop.specs.Noted.{unobserved, NotesFollow};
+ghost use Rattle.stateful_loop.specs.Sound.{IsUp, Sound};
 ghost use Rattle.stateful_actor.specs.Faults.{tally, FaultsPlay};
 ghost use Rattle.stateful_actor.specs.Notes.{NotesAlong, NotesPlay};
 ghost use Rattle.stateful_history.specs.Past.{Past};
 ghost use Rattle.stateful_history.specs.declared.mark.Mark.{Mark as Marked};
-ghost use Rattle.stateful_register.specs.Register.{RegisterStands};
-ghost use Rattle.stateful_whole.specs.Left.{LeavesPlay};
-ghost use Rattle.stateful_whole.specs.Machine.{numbered};
-ghost use Rattle.stateful_whole.specs.Steps.{Advances, Plays};
+ghost use Rattle.stateful_actor_register.specs.Register.{RegisterStands};
+ghost use Rattle.stateful_actor_laws.specs.Left.{LeavesPlay};
+ghost use Rattle.stateful_actor_laws.specs.Machine.{numbered};
+ghost use Rattle.stateful_actor_laws.specs.Steps.{Advances, Plays};
 
 use crate::settling::settle;
 use crate::stopping::stop;
+use stateful_actor_register::Register;
 use stateful_db::{Application, DatabaseSet};
 use stateful_exec::{Handler, Worked};
 use stateful_history::{Event, Mark};
-use stateful_processing::{ProcessingOf, StepError, take_in};
-use stateful_register::Register;
+use stateful_loop::{ProcessingOf, StepError, take_in};
 use stateful_types::BlockStore;
 
 /// Takes an event in, and lets go on what can.

@@ -2,33 +2,33 @@
 //!
 //! First all work ends that was live after the last event that was taken in: its marks are made
 //! while the register still has it. Then execution and the loop are cleared, and the databases are
-//! opened (`opening.rt` of `stateful_processing`). The mark `Opened` is the last one.
+//! opened (`opening.rt` of `stateful_loop`). The mark `Opened` is the last one.
 //!
 //! It is done alike whether the machine is up, down or has failed. Numbers of jobs, fetches and
 //! barriers go on from where they stood, so none is used twice. Where the opening is refused no
 //! mark is answered, and the machine takes a restart alone.
 //!
-//! `Restarts` of `stateful_whole/specs/Steps.antt` says what is done, and docs/RULES.md has it in
+//! `Restarts` of `stateful_actor_laws/specs/Steps.antt` says what is done, and docs/RULES.md has it in
 //! words, "Stops and restarts".
 
 ghost use Rattle.std.specs.Prelude.{◌≡◌, ◌≤◌, ◌⊎◌, [], ℕ, OnOk, OnErr, IfErr};
 ghost use Rattle.stateful_history.specs.Past.{Past};
-ghost use Rattle.stateful_requests.specs.Tables.{Rises};
-ghost use Rattle.stateful_register.specs.Register.{RegisterStands};
-ghost use Rattle.stateful_processing.specs.Left.{LeavesOpening};
-ghost use Rattle.stateful_processing.specs.Moments.{executing, moment};
-ghost use Rattle.stateful_processing.specs.Opening.{FaultsOpening};
-ghost use Rattle.stateful_processing.specs.Sound.{Sound};
+ghost use Rattle.stateful_exec_tables.specs.Tables.{Rises};
+ghost use Rattle.stateful_actor_register.specs.Register.{RegisterStands};
+ghost use Rattle.stateful_loop.specs.Left.{LeavesOpening};
+ghost use Rattle.stateful_loop.specs.Moments.{executing, moment};
+ghost use Rattle.stateful_loop.specs.Opening.{FaultsOpening};
+ghost use Rattle.stateful_loop.specs.Sound.{Sound};
 ghost use Rattle.stateful_actor.specs.Notes.{NotesAlong};
-ghost use Rattle.stateful_whole.specs.Machine.{numbered};
-ghost use Rattle.stateful_whole.specs.Steps.{Restarts};
+ghost use Rattle.stateful_actor_laws.specs.Machine.{numbered};
+ghost use Rattle.stateful_actor_laws.specs.Steps.{Restarts};
 
 use crate::stopping::end_work;
+use stateful_actor_register::Register;
 use stateful_db::{Application, DatabaseSet};
 use stateful_exec::{Handler, Worked};
 use stateful_history::{Event, Mark};
-use stateful_processing::{ProcessingOf, StepError, clear, open};
-use stateful_register::Register;
+use stateful_loop::{ProcessingOf, StepError, clear, open};
 use stateful_types::{BlockStore, Floor};
 
 /// Ends all that is live, drops what goes on, and opens the databases on what a crash has left of

@@ -1,19 +1,19 @@
 //! One thing after another goes on.
 
 ghost use Rattle.std.specs.Prelude.{◌≡◌, ◌≤◌, ℕ, true, OnOk, OnErr, IfErr};
-ghost use Rattle.stateful_requests.specs.Tables.{Rises};
-ghost use Rattle.stateful_processing.specs.Moments.{executing, moment};
-ghost use Rattle.stateful_processing.specs.Noted.{NotesFollow};
-ghost use Rattle.stateful_processing.specs.Sound.{IsUp, Sound};
+ghost use Rattle.stateful_exec_tables.specs.Tables.{Rises};
+ghost use Rattle.stateful_loop.specs.Moments.{executing, moment};
+ghost use Rattle.stateful_loop.specs.Noted.{NotesFollow};
+ghost use Rattle.stateful_loop.specs.Sound.{IsUp, Sound};
 ghost use Rattle.stateful_actor.specs.Faults.{tally, FaultsSettling};
 ghost use Rattle.stateful_actor.specs.Notes.{NotesSettling};
-ghost use Rattle.stateful_whole.specs.Left.{LeavesSettling};
-ghost use Rattle.stateful_whole.specs.Steps.{Settles};
+ghost use Rattle.stateful_actor_laws.specs.Left.{LeavesSettling};
+ghost use Rattle.stateful_actor_laws.specs.Steps.{Settles};
 
 use stateful_db::{Application, DatabaseSet};
 use stateful_exec::{Handler, Worked};
 use stateful_history::Mark;
-use stateful_processing::{ProcessingOf, StepError, go_on};
+use stateful_loop::{ProcessingOf, StepError, go_on};
 use stateful_types::BlockStore;
 
 /// Lets one thing after another go on, until nothing can without another event.

@@ -2,16 +2,16 @@
 
 ghost use Rattle.std.specs.Prelude.{◌≡◌, [], ℕ, Option, IfOk};
 ghost use Rattle.stateful_types.specs.Names.{Named};
-ghost use Rattle.stateful_processing.specs.Moments.{moment};
-ghost use Rattle.stateful_lawful.specs.Ahead.{IsAheadLawfully};
+ghost use Rattle.stateful_loop.specs.Moments.{moment};
+ghost use Rattle.stateful_actor_laws.specs.Ahead.{IsAheadLawfully};
 ghost use Rattle.stateful_actor.specs.Notes.{HasObserved};
-ghost use Rattle.stateful_whole.specs.Machine.{IsNew, IsSafe};
-ghost use Rattle.stateful_whole.specs.Media.{IsAsAtStart, MediaStand};
+ghost use Rattle.stateful_actor_laws.specs.Machine.{IsNew, IsSafe};
+ghost use Rattle.stateful_actor_laws.specs.Media.{IsAsAtStart, MediaStand};
 
+use stateful_actor_register::Register;
 use stateful_db::{Application, DatabaseSet};
 use stateful_exec::{Handler, Processor, Worked};
-use stateful_processing::{Processing, ProcessingOf};
-use stateful_register::Register;
+use stateful_loop::{Processing, ProcessingOf};
 use stateful_types::{Anchor, Digest, Epoch, Height, OutOfMemory, Round, View};
 use std::alloc::Global;
 use std::marker::Model;
@@ -57,8 +57,8 @@ impl<A: Application + Drop> Model for Stateful<A> {
     ghost use Rattle.std_collections.specs.Layout.BTreeMap.{btree_map_code};
     ghost use Rattle.stateful_actor.specs.Machine.{Machine};
     ghost use Rattle.stateful_exec.specs.State.{Owner};
-    ghost use Rattle.stateful_processing.specs.Moments.{Executing, executing};
-    ghost use Rattle.stateful_processing.specs.declared.tables.Processing.{Processing};
+    ghost use Rattle.stateful_loop.specs.Moments.{Executing, executing};
+    ghost use Rattle.stateful_loop.specs.declared.tables.Processing.{Processing};
 
     ghost Value = { Machine A (Executing A.Block A.Context A.Input A.Run A.Build A.Hook A.Databases.Merkleized)
         (Processing A.Block A.Context A.Input A.Captured) A.Provider A.Databases.Config };

@@ -11,7 +11,7 @@
 //! An event that is refused after it was taken on has no marks and isn't in the register, though
 //! databases may have changed. A restart ends what is live by the register.
 //!
-//! `IsStep` of `stateful_whole/specs/Steps.antt` says what an event does, `IsCause` of
+//! `IsStep` of `stateful_actor_laws/specs/Steps.antt` says what an event does, `IsCause` of
 //! `specs/Faults.antt` why it is refused, and docs/RULES.md both in words, "One event".
 
 ghost use Rattle.std.specs.Prelude.{◌≡◌, ◌≤◌, ◌<◌, ◌^◌, ◌⊎◌, ◌∷◌, [], ℕ, List, Option, Some, true};
@@ -25,35 +25,35 @@ ghost use Rattle.stateful_history.specs.Opening.{is_down, base_after};
 ghost use Rattle.stateful_history.specs.Past.{Past, Came, after_entry};
 ghost use Rattle.stateful_history.specs.Restarts.{reopened_height, CanReopen, Finds};
 ghost use Rattle.stateful_history.specs.Honest.{HasHonestStore};
-ghost use Rattle.stateful_requests.specs.Tables.{Rises};
-ghost use Rattle.stateful_register.specs.Register.{RegisterStands};
-ghost use Rattle.stateful_standing.specs.Setting.{setting};
-ghost use Rattle.stateful_standing.specs.Storing.{IsStoredNow};
-ghost use Rattle.stateful_keeping.specs.Media.{TargetsRise};
-ghost use Rattle.stateful_processing.specs.Moments.{moment};
-ghost use Rattle.stateful_processing.specs.Noted.{noted_all};
-ghost use Rattle.stateful_lawful.specs.Ahead.{IsAheadLawfully};
-ghost use Rattle.stateful_lawful.specs.Completeness.{ComesLawfully};
-ghost use Rattle.stateful_lawful.specs.Outside.{IsOutside};
-ghost use Rattle.stateful_lawful.specs.Restarting.{RestartsLawfully};
+ghost use Rattle.stateful_exec_tables.specs.Tables.{Rises};
+ghost use Rattle.stateful_actor_register.specs.Register.{RegisterStands};
+ghost use Rattle.stateful_exec_laws.specs.Setting.{setting};
+ghost use Rattle.stateful_exec_laws.specs.Storing.{IsStoredNow};
+ghost use Rattle.stateful_loop_laws.specs.Media.{TargetsRise};
+ghost use Rattle.stateful_loop.specs.Moments.{moment};
+ghost use Rattle.stateful_loop.specs.Noted.{noted_all};
+ghost use Rattle.stateful_actor_laws.specs.Ahead.{IsAheadLawfully};
+ghost use Rattle.stateful_actor_laws.specs.Completeness.{ComesLawfully};
+ghost use Rattle.stateful_actor_laws.specs.Outside.{IsOutside};
+ghost use Rattle.stateful_actor_laws.specs.Restarting.{RestartsLawfully};
 ghost use Rattle.stateful_actor.specs.Faults.{tally, IsCause};
 ghost use Rattle.stateful_actor.specs.Machine.{faults_after};
 ghost use Rattle.stateful_actor.specs.Notes.{HasObserved, NotesRefused};
-ghost use Rattle.stateful_whole.specs.Left.{LeavesFurther};
-ghost use Rattle.stateful_whole.specs.Machine.{IsSafe, numbered, is_restart};
-ghost use Rattle.stateful_whole.specs.Media.{MediaStand, StandsOnMedia, TargetsName, OpensOn};
-ghost use Rattle.stateful_whole.specs.Media.{LeavesMedia};
-ghost use Rattle.stateful_whole.specs.Stands.{Stands, StandsAsWell};
-ghost use Rattle.stateful_whole.specs.StepBehind.{Continues};
-ghost use Rattle.stateful_whole.specs.Steps.{IsStep};
+ghost use Rattle.stateful_actor_laws.specs.Left.{LeavesFurther};
+ghost use Rattle.stateful_actor_laws.specs.Machine.{IsSafe, numbered, is_restart};
+ghost use Rattle.stateful_actor_laws.specs.Media.{MediaStand, StandsOnMedia, TargetsName, OpensOn};
+ghost use Rattle.stateful_actor_laws.specs.Media.{LeavesMedia};
+ghost use Rattle.stateful_actor_laws.specs.Stands.{Stands, StandsAsWell};
+ghost use Rattle.stateful_actor_laws.specs.StepBehind.{Continues};
+ghost use Rattle.stateful_actor_laws.specs.Steps.{IsStep};
 
 use crate::acting::act;
 use crate::stateful::Stateful;
+use stateful_actor_register::Register;
 use stateful_db::{Application, DatabaseSet};
 use stateful_exec::Worked;
 use stateful_history::{Event, Mark};
-use stateful_processing::{ProcessingOf, StepError};
-use stateful_register::Register;
+use stateful_loop::{ProcessingOf, StepError};
 use stateful_types::{BlockStore, Floor};
 
 /// Whether an event is a restart.

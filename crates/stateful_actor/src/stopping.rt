@@ -6,20 +6,20 @@
 //!
 //! The register itself takes in all these marks at the end of the event, and is empty then. A
 //! stopped machine refuses every event but a restart. `EndsWork` and `Stops` of
-//! `stateful_whole/specs/Steps.antt` say what is done.
+//! `stateful_actor_laws/specs/Steps.antt` say what is done.
 
 ghost use Rattle.std.specs.Prelude.{◌≡◌, ◌≤◌, ◌++◌, ◌∷◌, [], ℕ, OnOk, IfErr, List};
 ghost use Rattle.stateful_history.specs.declared.mark.Mark.{Mark as Marked};
 ghost use Rattle.stateful_history.specs.declared.mark.Mark.TheVariants as mark;
-ghost use Rattle.stateful_processing.specs.Clearing.{IsCleared};
-ghost use Rattle.stateful_processing.specs.Moments.{executing, moment};
-ghost use Rattle.stateful_whole.specs.Steps.{EndsWork};
+ghost use Rattle.stateful_loop.specs.Clearing.{IsCleared};
+ghost use Rattle.stateful_loop.specs.Moments.{executing, moment};
+ghost use Rattle.stateful_actor_laws.specs.Steps.{EndsWork};
 
+use stateful_actor_register::Register;
 use stateful_db::{Application, DatabaseSet};
 use stateful_exec::{Handler, Worked};
 use stateful_history::{Event, Mark};
-use stateful_processing::{ProcessingOf, StepError, clear};
-use stateful_register::Register;
+use stateful_loop::{ProcessingOf, StepError, clear};
 use stateful_types::OutOfMemory;
 
 /// Ends all that is live after an event with its marks so far. The register stays as it is: it

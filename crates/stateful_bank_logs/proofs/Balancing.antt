@@ -6,11 +6,11 @@ use Rattle.std.specs.BTreeMap.{insert_entry, is_at}
 use Rattle.std.specs.Map.{lookup}
 use Rattle.std.proofs.lemmas.Cmp.{nat_cmp_total}
 use Rattle.stateful_types.specs.Number.{u64_format}
-use Rattle.stateful_any.specs.declared.op.AnyOp.{AnyOp}
-use Rattle.stateful_any.specs.declared.op.AnyOp.TheVariants.{Commit}
-use Rattle.stateful_any.specs.Any.{State, size_of, value_at, ops_for, after, sealed, begun}
-use Rattle.stateful_any.specs.Shown.{Draft, DraftShows}
-use Rattle.stateful_any.proofs.Values.{sealed_value}
+use Rattle.stateful_db_any.specs.declared.op.AnyOp.{AnyOp}
+use Rattle.stateful_db_any.specs.declared.op.AnyOp.TheVariants.{Commit}
+use Rattle.stateful_db_any.specs.Any.{State, size_of, value_at, ops_for, after, sealed, begun}
+use Rattle.stateful_db_any.specs.Shown.{Draft, DraftShows}
+use Rattle.stateful_db_any.proofs.Values.{sealed_value}
 use Rattle.stateful_bank_logs.specs.Balances.{Writes, live_on, HoldsWrites}
 use Rattle.stateful_bank_logs.proofs.Writing.{ops_for-same, in_order-insert, in_order-none, sorted-insert}
 

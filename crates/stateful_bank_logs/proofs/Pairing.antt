@@ -2,7 +2,7 @@
 use Rattle.std.proofs.Common.{◌≡◌, List, [], ◌∷◌, map, Option, None, Some, inl, inr, refl, ap, subst}
 use Rattle.stateful_db.specs.Chain.{IsPoint}
 use Rattle.stateful_db.specs.Pair.{left, right, both}
-use Rattle.stateful_bank_world.specs.Draft.{IsAmong}
+use Rattle.stateful_bank_app.specs.Draft.{IsAmong}
 
 -- a point that is known
 pub among_here : {P : Type 0} (here : P) (place : Option P) (c : List P) → place ≡ Some here → IsAmong place c → IsPoint here c

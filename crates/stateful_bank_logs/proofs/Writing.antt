@@ -8,9 +8,9 @@ use Rattle.std.specs.List.Sorted.{IsStrictlySortedBy}
 use Rattle.std.specs.BTreeMap.{insert_entry}
 use Rattle.std.specs.Map.{keys_of}
 use Rattle.std.proofs.lemmas.Cmp.{ranked}
-use Rattle.stateful_any.specs.declared.op.AnyOp.{AnyOp}
-use Rattle.stateful_any.specs.declared.op.AnyOp.TheVariants.{Update, Delete}
-use Rattle.stateful_any.specs.Any.{ops_for}
+use Rattle.stateful_db_any.specs.declared.op.AnyOp.{AnyOp}
+use Rattle.stateful_db_any.specs.declared.op.AnyOp.TheVariants.{Update, Delete}
+use Rattle.stateful_db_any.specs.Any.{ops_for}
 use Rattle.stateful_bank_logs.specs.Balances.{Writes, key_of, AreBeyond, IsInOrder}
 
 Ops : Type 0

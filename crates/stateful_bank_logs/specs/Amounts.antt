@@ -4,10 +4,10 @@ use Rattle.stateful_types.specs.Number.{u64_format}
 use Rattle.stateful_types.specs.declared.number.Location.{Location}
 use Rattle.stateful_bank.specs.declared.op.Op.{Op}
 use Rattle.stateful_bank.specs.Op.{amount_of}
-use Rattle.stateful_keyless.specs.Ops.{Changes}
-use Rattle.stateful_keyless.specs.Keyless as keyless
-use Rattle.stateful_keyless.specs.declared.keyless.batch.KeylessUnmerkleized.{KeylessUnmerkleized}
-use Rattle.stateful_keyless.specs.KeylessShown.{DraftShows}
+use Rattle.stateful_db_keyless.specs.Ops.{Changes}
+use Rattle.stateful_db_keyless.specs.Keyless as keyless
+use Rattle.stateful_db_keyless.specs.declared.keyless.batch.KeylessUnmerkleized.{KeylessUnmerkleized}
+use Rattle.stateful_db_keyless.specs.KeylessShown.{DraftShows}
 
 -- what a batch changes on this state: each operation's amount is appended, and the commit has the
 -- height, and the location of the batch's first operation as its floor

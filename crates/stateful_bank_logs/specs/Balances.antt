@@ -6,11 +6,11 @@ use Rattle.std.specs.List.Sorted.{IsStrictlySortedBy}
 use Rattle.std.specs.BTreeMap.{insert_entry, is_at}
 use Rattle.std.specs.Map.{lookup, keys_of}
 use Rattle.stateful_types.specs.Number.{u64_format}
-use Rattle.stateful_overlay.specs.Chains.{Stands}
-use Rattle.stateful_any.specs.declared.op.AnyOp.{AnyOp}
-use Rattle.stateful_any.specs.declared.op.AnyOp.TheVariants.{Commit, Update, Delete}
-use Rattle.stateful_any.specs.Any as any
-use Rattle.stateful_any.specs.Shown.{Draft, After}
+use Rattle.stateful_db_overlay.specs.Chains.{Stands}
+use Rattle.stateful_db_any.specs.declared.op.AnyOp.{AnyOp}
+use Rattle.stateful_db_any.specs.declared.op.AnyOp.TheVariants.{Commit, Update, Delete}
+use Rattle.stateful_db_any.specs.Any as any
+use Rattle.stateful_db_any.specs.Shown.{Draft, After}
 
 -- the accounts that were written, by ascending numbers: each with its balance, or with none for 0
 abbrev pub Writes : Type 0

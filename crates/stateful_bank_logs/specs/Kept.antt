@@ -15,22 +15,22 @@ use Rattle.stateful_db.specs.Single.{single}
 use Rattle.stateful_db.specs.declared.database.DbCall.{DbCall}
 use Rattle.stateful_db.specs.declared.held.Held.{Held}
 use Rattle.stateful_db.specs.declared.held.Held.TheVariants as held
-use Rattle.stateful_medium.specs.declared.calls.Calls.{Calls}
-use Rattle.stateful_any.specs.Any as any
-use Rattle.stateful_any.specs.Shown.{Draft, Seal}
-use Rattle.stateful_any.specs.Stored as any_stored
-use Rattle.stateful_any.specs.declared.database.AnyDb.{AnyDb}
-use Rattle.stateful_any.specs.declared.medium.AnyMedium.{AnyMedium}
-use Rattle.stateful_any.specs.declared.pass.AnyPass.{AnyPass}
-use Rattle.stateful_keyless.specs.Keyless as keyless
-use Rattle.stateful_keyless.specs.KeylessStored as keyless_stored
-use Rattle.stateful_keyless.specs.declared.keyless.batch.KeylessMerkleized.{KeylessMerkleized}
-use Rattle.stateful_keyless.specs.declared.keyless.batch.KeylessUnmerkleized.{KeylessUnmerkleized}
-use Rattle.stateful_keyless.specs.declared.keyless.database.KeylessDb.{KeylessDb}
-use Rattle.stateful_keyless.specs.declared.keyless.medium.KeylessMedium.{KeylessMedium}
-use Rattle.stateful_keyless.specs.declared.keyless.pass.KeylessPass.{KeylessPass}
-use Rattle.stateful_bank_world.specs.Fresh.{AreEmpty}
-use Rattle.stateful_bank_world.specs.EmptyMedia.{empty_on, one_empty}
+use Rattle.stateful_db_medium.specs.declared.calls.Calls.{Calls}
+use Rattle.stateful_db_any.specs.Any as any
+use Rattle.stateful_db_any.specs.Shown.{Draft, Seal}
+use Rattle.stateful_db_any.specs.Stored as any_stored
+use Rattle.stateful_db_any.specs.declared.database.AnyDb.{AnyDb}
+use Rattle.stateful_db_any.specs.declared.medium.AnyMedium.{AnyMedium}
+use Rattle.stateful_db_any.specs.declared.pass.AnyPass.{AnyPass}
+use Rattle.stateful_db_keyless.specs.Keyless as keyless
+use Rattle.stateful_db_keyless.specs.KeylessStored as keyless_stored
+use Rattle.stateful_db_keyless.specs.declared.keyless.batch.KeylessMerkleized.{KeylessMerkleized}
+use Rattle.stateful_db_keyless.specs.declared.keyless.batch.KeylessUnmerkleized.{KeylessUnmerkleized}
+use Rattle.stateful_db_keyless.specs.declared.keyless.database.KeylessDb.{KeylessDb}
+use Rattle.stateful_db_keyless.specs.declared.keyless.medium.KeylessMedium.{KeylessMedium}
+use Rattle.stateful_db_keyless.specs.declared.keyless.pass.KeylessPass.{KeylessPass}
+use Rattle.stateful_bank_app.specs.Fresh.{AreEmpty}
+use Rattle.stateful_bank_app.specs.EmptyMedia.{empty_on, one_empty}
 
 -- Of a database that is here, or of its medium.
 module _ {D S U E C T M P : Type 0} where

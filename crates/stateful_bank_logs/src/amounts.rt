@@ -6,16 +6,16 @@ ghost use Rattle.stateful_types.specs.Number.{u64_format};
 ghost use Rattle.stateful_db.specs.Chain.{IsPoint};
 ghost use Rattle.stateful_db.specs.Disk.{point};
 ghost use Rattle.stateful_bank.specs.Op.{amount_of};
-ghost use Rattle.stateful_keyless.specs.Ops.{Changes};
-ghost use Rattle.stateful_keyless.specs.Keyless.{State, size_of};
-ghost use Rattle.stateful_keyless.specs.KeylessShown.{Holds, DraftShows};
-ghost use Rattle.stateful_keyless.specs.KeylessStored.{standing_of};
-ghost use Rattle.stateful_bank_world.specs.Draft.{IsAmong};
+ghost use Rattle.stateful_db_keyless.specs.Ops.{Changes};
+ghost use Rattle.stateful_db_keyless.specs.Keyless.{State, size_of};
+ghost use Rattle.stateful_db_keyless.specs.KeylessShown.{Holds, DraftShows};
+ghost use Rattle.stateful_db_keyless.specs.KeylessStored.{standing_of};
+ghost use Rattle.stateful_bank_app.specs.Draft.{IsAmong};
 ghost use Rattle.stateful_bank_logs.specs.Amounts.{HoldsNothing, IsCompleted};
 
 use stateful_bank::Op;
 use stateful_db::{BatchError, DatabaseSet, Held};
-use stateful_keyless::{KeylessDb, KeylessUnmerkleized};
+use stateful_db_keyless::{KeylessDb, KeylessUnmerkleized};
 use stateful_types::{Height, Location, OutOfMemory};
 
 /// Two closer bounds of the location of a batch's first operation, where it has no values. None

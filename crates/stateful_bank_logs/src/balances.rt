@@ -5,15 +5,15 @@ ghost use Rattle.std.specs.Ordering.{nat_cmp};
 ghost use Rattle.stateful_types.specs.Number.{u64_format};
 ghost use Rattle.stateful_db.specs.Chain.{IsPoint};
 ghost use Rattle.stateful_db.specs.Disk.{point};
-ghost use Rattle.stateful_any.specs.Any.{State};
-ghost use Rattle.stateful_any.specs.Shown.{DraftShows};
-ghost use Rattle.stateful_any.specs.Stored.{standing_of};
-ghost use Rattle.stateful_bank_world.specs.Draft.{IsAmong};
+ghost use Rattle.stateful_db_any.specs.Any.{State};
+ghost use Rattle.stateful_db_any.specs.Shown.{DraftShows};
+ghost use Rattle.stateful_db_any.specs.Stored.{standing_of};
+ghost use Rattle.stateful_bank_app.specs.Draft.{IsAmong};
 ghost use Rattle.stateful_bank_logs.specs.Balances.{Writes, balance_on, with_balance, HoldsWrites};
 ghost use Rattle.stateful_bank_logs.specs.Balances.{balances_after};
 
-use stateful_any::{AnyDb, AnyUnmerkleized};
 use stateful_db::{BatchError, DatabaseSet, Held};
+use stateful_db_any::{AnyDb, AnyUnmerkleized};
 use stateful_types::{Height, OutOfMemory};
 
 /// What the account has, over a database that is here. None where the batch is stale.

@@ -1,15 +1,15 @@
 //! A block's way: it is judged, built, applied and made durable.
 
 ghost use Rattle.std.specs.Prelude.{[]};
-ghost use Rattle.stateful_processing.specs.Moments.{moment};
-ghost use Rattle.stateful_whole.specs.Machine.{IsSafe};
+ghost use Rattle.stateful_loop.specs.Moments.{moment};
+ghost use Rattle.stateful_actor_laws.specs.Machine.{IsSafe};
 
 use stateful_actor::{Application, Config, DatabaseSet, Entry, Event, Stateful};
-use stateful_counter::{Add, Counter, CounterBlock};
 use stateful_db::{Flushed, Held};
+use stateful_db_plain::{Plain, PlainMedium, PlainState};
 use stateful_exec::Worked;
-use stateful_plain::{Plain, PlainMedium, PlainState};
-use stateful_text::{End, Label, transcript};
+use stateful_script_text::{End, Label, transcript};
+use stateful_simple_counter::{Add, Counter, CounterBlock};
 use stateful_types::{
     Ancestry, Digested, Epoch, Floor, Height, Items, MemoryStore, Round, Share, Target, View,
 };

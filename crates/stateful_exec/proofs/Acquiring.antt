@@ -5,19 +5,19 @@ use Rattle.stateful_types.specs.Names.{Named}
 use Rattle.stateful_types.specs.declared.digest.Digest.{Digest}
 use Rattle.stateful_history.specs.declared.mark.Mark.{Mark}
 use Rattle.stateful_history.specs.declared.mark.Mark.TheVariants as mark
-use Rattle.stateful_requests.specs.Path.{Path}
+use Rattle.stateful_exec_tables.specs.Path.{Path}
 use Rattle.stateful_exec.specs.Workings.{Workings}
 use Rattle.stateful_exec.specs.Moments.{Moment, moment}
-use Rattle.stateful_requests.specs.Tables.{IsLeft}
-use Rattle.stateful_requests.specs.Tables.{moved}
+use Rattle.stateful_exec_tables.specs.Tables.{IsLeft}
+use Rattle.stateful_exec_tables.specs.Tables.{moved}
 use Rattle.stateful_exec.specs.Rules.{Needs, Acquires, asks}
 use Rattle.stateful_exec.specs.Causes.{FaultsAdvance, FaultsAcquire, memory, no_fetch, running}
-use Rattle.stateful_requests.specs.declared.error.ExecError.{ExecError}
-use Rattle.stateful_requests.specs.declared.error.ExecError.TheVariants.{OutOfMemory, Exhausted}
-use Rattle.stateful_requests.specs.declared.state.Tables.{Tables}
-use Rattle.stateful_requests.specs.declared.tables.Phase.TheVariants.{Fetching}
-use Rattle.stateful_requests.specs.declared.tables.Requested.{Requested}
-use Rattle.stateful_requests.specs.declared.walk.Acquired.TheVariants.{Ask, Ready}
+use Rattle.stateful_exec_tables.specs.declared.error.ExecError.{ExecError}
+use Rattle.stateful_exec_tables.specs.declared.error.ExecError.TheVariants.{OutOfMemory, Exhausted}
+use Rattle.stateful_exec_tables.specs.declared.state.Tables.{Tables}
+use Rattle.stateful_exec_tables.specs.declared.tables.Phase.TheVariants.{Fetching}
+use Rattle.stateful_exec_tables.specs.declared.tables.Requested.{Requested}
+use Rattle.stateful_exec_tables.specs.declared.walk.Acquired.TheVariants.{Ask, Ready}
 
 module _ {B C I P R D H G U : Type 0} (w : Workings B C I P R D H G U) (stored : ℕ → Option (Named B)) (members : w.kind.Members) (next : w.Ids) (old new : Tables B C I R U) (before after : List (Mark B)) (t : ℕ) (r : Requested B C I) (digest : Digest) where
   pub asked : Needs w stored (moment w old members next before) r (Ask digest) → IsLeft old.next_fetch

@@ -6,21 +6,21 @@ use Rattle.stateful_types.specs.Names.{Named}
 use Rattle.stateful_history.specs.declared.mark.Mark.{Mark}
 use Rattle.stateful_history.specs.declared.mark.Mark.TheVariants as mark
 use Rattle.stateful_history.specs.declared.mark.JobKind.TheVariants as job
-use Rattle.stateful_requests.specs.Path.{Path}
+use Rattle.stateful_exec_tables.specs.Path.{Path}
 use Rattle.stateful_exec.specs.Workings.{Workings}
 use Rattle.stateful_exec.specs.Moments.{Moment, moment, Becomes}
 use Rattle.stateful_exec.specs.Starting.{StartsRun}
-use Rattle.stateful_requests.specs.Tables.{requested, told, moved, ended}
-use Rattle.stateful_requests.specs.Meeting.{Skips, to_end, to_left, to_met}
+use Rattle.stateful_exec_tables.specs.Tables.{requested, told, moved, ended}
+use Rattle.stateful_exec_tables.specs.Meeting.{Skips, to_end, to_left, to_met}
 use Rattle.stateful_exec.specs.Rules.{Advances, arrives, leaves, joins, starts, misses}
 use Rattle.stateful_exec.specs.Causes.{FaultsStart, FaultsAdvance, starting}
-use Rattle.stateful_requests.specs.declared.error.ExecError.{ExecError}
-use Rattle.stateful_requests.specs.declared.request.Request.{Request}
-use Rattle.stateful_requests.specs.declared.request.Verdict.TheVariants.{Valid, Invalid}
-use Rattle.stateful_requests.specs.declared.state.Tables.{Tables}
-use Rattle.stateful_requests.specs.declared.tables.Phase.TheVariants.{Executing}
-use Rattle.stateful_requests.specs.declared.met.Met.{Met}
-use Rattle.stateful_requests.specs.declared.met.Met.TheVariants.{Arrived, Left, Known, Run, Unrun, Missed}
+use Rattle.stateful_exec_tables.specs.declared.error.ExecError.{ExecError}
+use Rattle.stateful_exec_tables.specs.declared.request.Request.{Request}
+use Rattle.stateful_exec_tables.specs.declared.request.Verdict.TheVariants.{Valid, Invalid}
+use Rattle.stateful_exec_tables.specs.declared.state.Tables.{Tables}
+use Rattle.stateful_exec_tables.specs.declared.tables.Phase.TheVariants.{Executing}
+use Rattle.stateful_exec_tables.specs.declared.met.Met.{Met}
+use Rattle.stateful_exec_tables.specs.declared.met.Met.TheVariants.{Arrived, Left, Known, Run, Unrun, Missed}
 
 module _ {B C I P R D H G U : Type 0} (w : Workings B C I P R D H G U) (members : w.kind.Members) (next : w.Ids) (old new : Tables B C I R U) (before after : List (Mark B)) (t : ℕ) (request : Request B C I) (path q : Path B) where
   -- the request goes so along its path

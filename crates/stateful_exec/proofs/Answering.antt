@@ -5,18 +5,18 @@ use Rattle.stateful_types.specs.Names.{Named}
 use Rattle.stateful_history.specs.declared.mark.Mark.{Mark}
 use Rattle.stateful_exec.specs.Workings.{Workings}
 use Rattle.stateful_exec.specs.Moments.{Moment, moment}
-use Rattle.stateful_requests.specs.Tables.{taken, moved, ended, told}
+use Rattle.stateful_exec_tables.specs.Tables.{taken, moved, ended, told}
 use Rattle.stateful_exec.specs.Rules.{Acquires}
 use Rattle.stateful_exec.specs.Causes.{FaultsAcquire}
-use Rattle.stateful_requests.specs.Fetching.{IsVerification, Fetches, with_block}
+use Rattle.stateful_exec_tables.specs.Fetching.{IsVerification, Fetches, with_block}
 use Rattle.stateful_exec.specs.Fetching.{serving, IsFetched, found, waits, declines, FaultsFetched, acquiring}
-use Rattle.stateful_requests.specs.declared.error.ExecError.{ExecError}
-use Rattle.stateful_requests.specs.declared.request.Request.{Request}
-use Rattle.stateful_requests.specs.declared.request.Request.TheVariants.{Verify, Recover}
-use Rattle.stateful_requests.specs.declared.request.Verdict.TheVariants.{Invalid}
-use Rattle.stateful_requests.specs.declared.state.Tables.{Tables}
-use Rattle.stateful_requests.specs.declared.tables.Phase.TheVariants.{Waiting}
-use Rattle.stateful_requests.specs.declared.tables.Requested.{Requested}
+use Rattle.stateful_exec_tables.specs.declared.error.ExecError.{ExecError}
+use Rattle.stateful_exec_tables.specs.declared.request.Request.{Request}
+use Rattle.stateful_exec_tables.specs.declared.request.Request.TheVariants.{Verify, Recover}
+use Rattle.stateful_exec_tables.specs.declared.request.Verdict.TheVariants.{Invalid}
+use Rattle.stateful_exec_tables.specs.declared.state.Tables.{Tables}
+use Rattle.stateful_exec_tables.specs.declared.tables.Phase.TheVariants.{Waiting}
+use Rattle.stateful_exec_tables.specs.declared.tables.Requested.{Requested}
 
 module _ {B C I P R D H G U : Type 0} (w : Workings B C I P R D H G U) (stored : ℕ → Option (Named B)) (m now : Moment w) (fetch t : ℕ) (r : Requested B C I) (answer : Option (Named B)) (b : Named B) (fetches : Fetches m.state fetch t r) (is : answer ≡ Some b) where
   pub answered : {T E : Type 0} (result : Result T E) → OnOk result (Acquires w stored (serving w m t) t (with_block r b) now) → OnOk result (IsFetched w stored m fetch answer now)

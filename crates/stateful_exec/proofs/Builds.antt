@@ -14,13 +14,13 @@ use Rattle.stateful_db.specs.declared.application.ProposedBlock.{ProposedBlock}
 use Rattle.stateful_history.specs.declared.mark.Decision.{Decision}
 use Rattle.stateful_history.specs.declared.mark.Mark.{Mark}
 use Rattle.stateful_history.specs.declared.mark.Mark.TheVariants as mark
-use Rattle.stateful_requests.specs.Errors.{error_of_app}
+use Rattle.stateful_exec_tables.specs.Errors.{error_of_app}
 use Rattle.stateful_exec.specs.Workings.{Workings, Point}
 use Rattle.stateful_exec.specs.Moments.{Moment, moment}
 use Rattle.stateful_exec.specs.Built.{decided, IsBuilt, Gives, EndsBuild, FaultsGiven, HasTurn, IsLiveBuild, TurnsBuild, FaultsTurn, goes_on, ends, failed, ending}
 use Rattle.stateful_exec.specs.declared.building.Building.{Building}
-use Rattle.stateful_requests.specs.declared.error.ExecError.{ExecError}
-use Rattle.stateful_requests.specs.declared.state.Tables.{Tables}
+use Rattle.stateful_exec_tables.specs.declared.error.ExecError.{ExecError}
+use Rattle.stateful_exec_tables.specs.declared.state.Tables.{Tables}
 
 module _ {B C I P R D H G U : Type 0} (w : Workings B C I P R D H G U) (b : Building B C D) (old new : Tables B C I R U) (p : ProposedBlock B U) (block : Named B) where
   pub gives : (before mid after : List (Mark B)) (handed decision : Decision) (shared : Named B) → shared ≡ block → IsBuilt w b old.anchor p block old.cache new.cache → new ≡ record old { cache = new.cache }

@@ -3,9 +3,9 @@ use Rattle.std.proofs.Common.{◌≡◌, ◌≢◌, ◌++◌, ℕ, List, Option,
 use Rattle.stateful_history.specs.declared.mark.Mark.{Mark}
 use Rattle.stateful_exec.specs.Built.{GivesUp, asking}
 use Rattle.stateful_exec.specs.declared.building.Building.{Building}
-use Rattle.stateful_requests.specs.declared.state.Tables.{Tables}
-use Rattle.stateful_requests.proofs.Releasing.{some-injective}
-use Rattle.stateful_requests.proofs.Cancelling.{HasCancelled}
+use Rattle.stateful_exec_tables.specs.declared.state.Tables.{Tables}
+use Rattle.stateful_exec_tables.proofs.Releasing.{some-injective}
+use Rattle.stateful_exec_tables.proofs.Cancelling.{HasCancelled}
 
 -- the live build isn't for the request, which is given up
 module _ {B C I R U D : Type 0} (old new : Tables B C I R U) (t : ℕ) (before after : List (Mark B)) (build now : Option (Building B C D)) where

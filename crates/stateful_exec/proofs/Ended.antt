@@ -7,10 +7,10 @@ use Rattle.stateful_table.specs.Table.{at, without}
 use Rattle.stateful_exec.specs.Workings.{Workings}
 use Rattle.stateful_exec.specs.Moments.{moment}
 use Rattle.stateful_exec.specs.Ending.{IsTold, EndsRun}
-use Rattle.stateful_requests.specs.Fates.{Crosses}
-use Rattle.stateful_requests.specs.declared.pause.Pause.{Pause}
-use Rattle.stateful_requests.specs.declared.state.Tables.{Tables}
-use Rattle.stateful_requests.specs.declared.tables.LiveRun.{LiveRun}
+use Rattle.stateful_exec_tables.specs.Fates.{Crosses}
+use Rattle.stateful_exec_tables.specs.declared.pause.Pause.{Pause}
+use Rattle.stateful_exec_tables.specs.declared.state.Tables.{Tables}
+use Rattle.stateful_exec_tables.specs.declared.tables.LiveRun.{LiveRun}
 
 module _ {B C I P R D H G U : Type 0} (w : Workings B C I P R D H G U) (old taken mid new : Tables B C I R U) (before after : List (Mark B)) (j : ℕ) (live : LiveRun B R) (ended : Option U) (how : How) where
   -- its run is taken out, its end is told, and its block goes on over a finalization or not

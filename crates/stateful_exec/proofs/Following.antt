@@ -5,18 +5,18 @@ use Rattle.std.proofs.lemmas.Result.{err_from_is_err_and}
 use Rattle.stateful_types.specs.Causes.{Rose}
 use Rattle.stateful_types.specs.Names.{Named}
 use Rattle.stateful_exec.specs.Workings.{Workings}
-use Rattle.stateful_requests.specs.Path.{Path}
+use Rattle.stateful_exec_tables.specs.Path.{Path}
 use Rattle.stateful_exec.specs.Moments.{Moment}
-use Rattle.stateful_requests.specs.Tables.{Rises}
+use Rattle.stateful_exec_tables.specs.Tables.{Rises}
 use Rattle.stateful_exec.specs.Ending.{InTurn, StopsAt}
 use Rattle.stateful_exec.specs.Ending.InTurn.{none, next}
 use Rattle.stateful_exec.specs.Causes.{FaultsStart, FaultsAdvance, FaultsAcquire}
 use Rattle.stateful_exec.specs.Causes.FaultsAcquire.{memory as no_memory, no_fetch, running}
 use Rattle.stateful_exec.specs.Causes.FaultsAdvance.{memory, starting}
-use Rattle.stateful_requests.specs.declared.error.ExecError.{ExecError}
-use Rattle.stateful_requests.specs.declared.error.ExecError.TheVariants.{Lost, SkippedHeight, NotExtending, ConflictAtAnchor, FinalizedRejected, FinalizedMismatch, ProposalMismatch, ProposalStale, PendingChanged, Application, Exhausted, OutOfMemory}
-use Rattle.stateful_requests.specs.declared.state.Tables.{Tables}
-use Rattle.stateful_requests.specs.declared.tables.Requested.{Requested}
+use Rattle.stateful_exec_tables.specs.declared.error.ExecError.{ExecError}
+use Rattle.stateful_exec_tables.specs.declared.error.ExecError.TheVariants.{Lost, SkippedHeight, NotExtending, ConflictAtAnchor, FinalizedRejected, FinalizedMismatch, ProposalMismatch, ProposalStale, PendingChanged, Application, Exhausted, OutOfMemory}
+use Rattle.stateful_exec_tables.specs.declared.state.Tables.{Tables}
+use Rattle.stateful_exec_tables.specs.declared.tables.Requested.{Requested}
 
 pub Rose-earlier : (a b c : ℕ) → a ≤ b → Rose b c → Rose a c
 Rose-earlier a b c before rose = omega arith

@@ -5,7 +5,7 @@ use Rattle.stateful_db.specs.declared.application.Hooked.{Hooked}
 use Rattle.stateful_db.specs.declared.application.Hooked.TheVariants as hooked
 use Rattle.stateful_exec.specs.Workings.{Workings}
 use Rattle.stateful_exec.specs.Finalizing.{front_at, IsLeftBehind, FaultsHooksOn, FaultsObserve, memory, no_job}
-use Rattle.stateful_requests.specs.declared.error.ExecError.{ExecError}
+use Rattle.stateful_exec_tables.specs.declared.error.ExecError.{ExecError}
 use Rattle.stateful_exec.specs.declared.front.Front.{Front}
 use Rattle.stateful_exec.specs.declared.front.Stage.{Stage}
 

@@ -6,23 +6,23 @@ use Rattle.stateful_types.specs.Names.{Named}
 use Rattle.stateful_history.specs.declared.mark.Mark.{Mark}
 use Rattle.stateful_history.specs.declared.mark.Mark.TheVariants as mark
 use Rattle.stateful_history.specs.declared.mark.JobKind.TheVariants as job
-use Rattle.stateful_requests.specs.Path.{Path}
+use Rattle.stateful_exec_tables.specs.Path.{Path}
 use Rattle.stateful_exec.specs.Workings.{Workings}
 use Rattle.stateful_exec.specs.Moments.{Moment, moment, Becomes}
 use Rattle.stateful_exec.specs.Starting.{StartsRun}
-use Rattle.stateful_requests.specs.Tables.{requested, taken, told, moved, ended}
-use Rattle.stateful_requests.specs.Meeting.{JoinsAs}
+use Rattle.stateful_exec_tables.specs.Tables.{requested, taken, told, moved, ended}
+use Rattle.stateful_exec_tables.specs.Meeting.{JoinsAs}
 use Rattle.stateful_exec.specs.Causes.{FaultsStart}
-use Rattle.stateful_requests.specs.Stepping.{IsParked}
-use Rattle.stateful_requests.specs.Stepping.{IsAbout}
+use Rattle.stateful_exec_tables.specs.Stepping.{IsParked}
+use Rattle.stateful_exec_tables.specs.Stepping.{IsAbout}
 use Rattle.stateful_exec.specs.Verifying.{Processes, passes, joins_run, starts_run, ends, FaultsProcess, not_started}
-use Rattle.stateful_requests.specs.declared.error.ExecError.{ExecError}
-use Rattle.stateful_requests.specs.declared.error.ExecError.TheVariants.{OutOfMemory}
-use Rattle.stateful_requests.specs.declared.request.Request.{Request}
-use Rattle.stateful_requests.specs.declared.request.Verdict.TheVariants.{Invalid}
-use Rattle.stateful_requests.specs.declared.state.Tables.{Tables}
-use Rattle.stateful_requests.specs.declared.tables.Phase.TheVariants.{Executing, Parked}
-use Rattle.stateful_requests.specs.declared.met.Met.TheVariants as met
+use Rattle.stateful_exec_tables.specs.declared.error.ExecError.{ExecError}
+use Rattle.stateful_exec_tables.specs.declared.error.ExecError.TheVariants.{OutOfMemory}
+use Rattle.stateful_exec_tables.specs.declared.request.Request.{Request}
+use Rattle.stateful_exec_tables.specs.declared.request.Verdict.TheVariants.{Invalid}
+use Rattle.stateful_exec_tables.specs.declared.state.Tables.{Tables}
+use Rattle.stateful_exec_tables.specs.declared.tables.Phase.TheVariants.{Executing, Parked}
+use Rattle.stateful_exec_tables.specs.declared.met.Met.TheVariants as met
 use Rattle.stateful_exec.specs.declared.verifying.Joined.TheVariants.{Known, Run, Missed}
 
 module _ {B C I P R D H G U : Type 0} (w : Workings B C I P R D H G U) (members left : w.kind.Members) (next now : w.Ids) (old new : Tables B C I R U) (before after : List (Mark B)) (t : ℕ) (request : Request B C I) (path q : Path B) (parked : IsParked old t request path) (parts : path.blocks ≡ q.blocks ++ q.parent ∷ []) where

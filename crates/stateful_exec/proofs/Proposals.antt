@@ -2,19 +2,19 @@
 use Rattle.std.proofs.Common.{◌≡◌, ◌⊎◌, ℕ, List, Option, Some, None, refl, ap, ◌∙◌, subst, inl, inr}
 use Rattle.stateful_types.specs.Names.{Named}
 use Rattle.stateful_exec.specs.Workings.{Workings, Point}
-use Rattle.stateful_requests.specs.Tables.{IsLeft}
+use Rattle.stateful_exec_tables.specs.Tables.{IsLeft}
 use Rattle.stateful_exec.specs.Starting.{IsOver}
 use Rattle.stateful_exec.specs.Causes.{FaultsStart}
-use Rattle.stateful_requests.specs.Queueing.{IsReady, Unqueues}
+use Rattle.stateful_exec_tables.specs.Queueing.{IsReady, Unqueues}
 use Rattle.stateful_exec.specs.Building.{IsNewBuild, Proposes, FaultsPropose, starts, declines, memory, starting}
-use Rattle.stateful_requests.specs.Queueing.Unqueues.{ready, declined}
+use Rattle.stateful_exec_tables.specs.Queueing.Unqueues.{ready, declined}
 use Rattle.stateful_exec.specs.declared.building.Building.{Building}
 use Rattle.stateful_exec.specs.declared.building.BuildStart.TheVariants.{Started, Declined}
-use Rattle.stateful_requests.specs.declared.error.ExecError.{ExecError}
-use Rattle.stateful_requests.specs.declared.error.ExecError.TheVariants.{OutOfMemory, Exhausted}
-use Rattle.stateful_requests.specs.declared.queued.Queued.{Queued}
-use Rattle.stateful_requests.specs.declared.request.Proposal.{Proposal}
-use Rattle.stateful_requests.specs.declared.state.Tables.{Tables}
+use Rattle.stateful_exec_tables.specs.declared.error.ExecError.{ExecError}
+use Rattle.stateful_exec_tables.specs.declared.error.ExecError.TheVariants.{OutOfMemory, Exhausted}
+use Rattle.stateful_exec_tables.specs.declared.queued.Queued.{Queued}
+use Rattle.stateful_exec_tables.specs.declared.request.Proposal.{Proposal}
+use Rattle.stateful_exec_tables.specs.declared.state.Tables.{Tables}
 
 module _ {B C I P R D H G U : Type 0} (w : Workings B C I P R D H G U) (t : ℕ) (provider : P) (m : w.kind.Members) (next : w.Ids) (old new : Tables B C I R U) (before : Option (Building B C D)) where
   pub not_started : (found : Option (Queued B C I)) → found ≡ None → Unqueues old t new found → Proposes w t provider m next next old new before before Declined

@@ -4,16 +4,16 @@ use Rattle.stateful_types.specs.Names.{Named}
 use Rattle.stateful_history.specs.declared.mark.Mark.{Mark}
 use Rattle.stateful_exec.specs.Workings.{Workings}
 use Rattle.stateful_exec.specs.Moments.{Moment, moment}
-use Rattle.stateful_requests.specs.Phase.{parked_in, not_parked, unacquired_in, not_unacquired}
+use Rattle.stateful_exec_tables.specs.Phase.{parked_in, not_parked, unacquired_in, not_unacquired}
 use Rattle.stateful_exec.specs.Ending.{InTurn, StopsAt}
 use Rattle.stateful_exec.specs.Pausing.{GoesAlong, AcquiresAnew, Resumes, FaultsAnew, FaultsResume, anew, unparked, unsettled}
-use Rattle.stateful_requests.specs.declared.error.ExecError.{ExecError}
-use Rattle.stateful_requests.specs.declared.pause.Pause.TheVariants.{Free}
-use Rattle.stateful_requests.specs.declared.state.Tables.{Tables}
-use Rattle.stateful_requests.specs.declared.tables.Released.{Released}
-use Rattle.stateful_requests.specs.declared.tables.Requested.{Requested}
+use Rattle.stateful_exec_tables.specs.declared.error.ExecError.{ExecError}
+use Rattle.stateful_exec_tables.specs.declared.pause.Pause.TheVariants.{Free}
+use Rattle.stateful_exec_tables.specs.declared.state.Tables.{Tables}
+use Rattle.stateful_exec_tables.specs.declared.tables.Released.{Released}
+use Rattle.stateful_exec_tables.specs.declared.tables.Requested.{Requested}
 use Rattle.stateful_exec.proofs.Following.{FaultsAcquire-later}
-use Rattle.stateful_requests.specs.Tables.{requested}
+use Rattle.stateful_exec_tables.specs.Tables.{requested}
 use Rattle.stateful_exec.specs.Rules.{Acquires}
 use Rattle.stateful_exec.specs.Causes.{FaultsAcquire}
 

@@ -8,14 +8,14 @@ use Rattle.stateful_history.specs.declared.mark.How.{How}
 use Rattle.stateful_history.specs.declared.mark.Mark.{Mark}
 use Rattle.stateful_exec.specs.Workings.{Workings}
 use Rattle.stateful_exec.specs.Moments.{Moment, moment}
-use Rattle.stateful_requests.specs.Phase.{released_on}
+use Rattle.stateful_exec_tables.specs.Phase.{released_on}
 use Rattle.stateful_exec.specs.Ending.{InTurn, Follows, EndsRun, SettlesBy}
-use Rattle.stateful_requests.specs.Fates.{released}
+use Rattle.stateful_exec_tables.specs.Fates.{released}
 use Rattle.stateful_exec.specs.Causes.{FaultsFollow, FaultsAnswer}
 use Rattle.stateful_exec.specs.Causes.FaultsSettle.{following}
-use Rattle.stateful_requests.specs.declared.error.ExecError.{ExecError}
-use Rattle.stateful_requests.specs.declared.state.Tables.{Tables}
-use Rattle.stateful_requests.specs.declared.tables.Released.{Released}
+use Rattle.stateful_exec_tables.specs.declared.error.ExecError.{ExecError}
+use Rattle.stateful_exec_tables.specs.declared.state.Tables.{Tables}
+use Rattle.stateful_exec_tables.specs.declared.tables.Released.{Released}
 
 module _ {B C I P R D H G U : Type 0} (w : Workings B C I P R D H G U) (members : w.kind.Members) (next : w.Ids) (old mid freed : Tables B C I R U) (before after : List (Mark B)) (j : ℕ) (answer : Result (Moved (Option U)) AppFault) (moved : Moved (Option U)) (ended : Option U)
     (b : Named B) (how : How) (all : List (Released B C I)) (ok : answer ≡ Ok moved) (done : moved ≡ Done ended)

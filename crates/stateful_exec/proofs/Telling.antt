@@ -2,12 +2,12 @@
 use Rattle.std.proofs.Common.{◌≡◌, ◌↔◌, ◌∷◌, List, Bool, true, false, Option, Some, None, IsTrue, refl}
 use Rattle.stateful_types.specs.Names.{Named}
 use Rattle.stateful_types.specs.declared.anchor.Anchor.{Anchor}
-use Rattle.stateful_cache.specs.declared.cache.Cached.{Cached}
+use Rattle.stateful_exec_cache.specs.declared.cache.Cached.{Cached}
 use Rattle.stateful_history.specs.declared.mark.How.{How}
 use Rattle.stateful_history.specs.declared.mark.How.TheVariants.{Rejected, Mismatched}
 use Rattle.stateful_exec.specs.Workings.{Workings, Point}
 use Rattle.stateful_exec.specs.Ending.{IsTold}
-use Rattle.stateful_requests.specs.Keeping.{Takes}
+use Rattle.stateful_exec_tables.specs.Keeping.{Takes}
 use Rattle.stateful_exec.specs.Ending.IsTold.{rejected, mismatched, agreed}
 
 module _ {B C I P R D H G U : Type 0} (w : Workings B C I P R D H G U) (anchor : Anchor) (b : Named B) (cache new : List (Cached U)) (ended : Option U) where

@@ -12,8 +12,8 @@ use Rattle.stateful_table.specs.Table.{at, put, without}
 use Rattle.stateful_table.proofs.Tables.{at-put}
 use Rattle.stateful_exec.specs.Workings.{Workings, Point}
 use Rattle.stateful_exec.specs.Ending.{Turns, TurnsRun}
-use Rattle.stateful_requests.specs.declared.state.Tables.{Tables}
-use Rattle.stateful_requests.specs.declared.tables.LiveRun.{LiveRun}
+use Rattle.stateful_exec_tables.specs.declared.state.Tables.{Tables}
+use Rattle.stateful_exec_tables.specs.declared.tables.LiveRun.{LiveRun}
 
 -- what is put in a table is there
 pub put_there : {V : Type 0} (table now : List (ℕ × V)) (t : ℕ) (v : V) → now ≡ put table t v → IsSome (at now t)

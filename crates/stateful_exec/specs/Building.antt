@@ -3,17 +3,17 @@ use Rattle.std.specs.Prelude.{◌≡◌, ◌+◌, ℕ, Option, Some, None, List}
 use Rattle.stateful_db.specs.Works.{Asked, asked_for, build_of}
 use Rattle.stateful_table.specs.Table.{at, without}
 use Rattle.stateful_exec.specs.Workings.{Workings, Point}
-use Rattle.stateful_requests.specs.Tables.{IsLeft}
+use Rattle.stateful_exec_tables.specs.Tables.{IsLeft}
 use Rattle.stateful_exec.specs.Starting.{IsOver}
 use Rattle.stateful_exec.specs.Causes.{FaultsStart}
 use Rattle.stateful_exec.specs.declared.building.Building.{Building}
 use Rattle.stateful_exec.specs.declared.building.BuildStart.{BuildStart}
 use Rattle.stateful_exec.specs.declared.building.BuildStart.TheVariants.{Started, Declined}
-use Rattle.stateful_requests.specs.declared.error.ExecError.{ExecError}
-use Rattle.stateful_requests.specs.declared.error.ExecError.TheVariants.{OutOfMemory}
-use Rattle.stateful_requests.specs.declared.request.Proposal.{Proposal}
-use Rattle.stateful_requests.specs.declared.state.Tables.{Tables}
-use Rattle.stateful_requests.specs.Queueing.{unqueued, IsReady}
+use Rattle.stateful_exec_tables.specs.declared.error.ExecError.{ExecError}
+use Rattle.stateful_exec_tables.specs.declared.error.ExecError.TheVariants.{OutOfMemory}
+use Rattle.stateful_exec_tables.specs.declared.request.Proposal.{Proposal}
+use Rattle.stateful_exec_tables.specs.declared.state.Tables.{Tables}
+use Rattle.stateful_exec_tables.specs.Queueing.{unqueued, IsReady}
 
 -- what a proposal asks for
 abbrev pub asked_by : {B C I : Type 0} → Proposal B C I → Asked B C I

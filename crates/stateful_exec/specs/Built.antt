@@ -21,19 +21,19 @@ use Rattle.stateful_history.specs.declared.mark.Decision.TheVariants as decision
 use Rattle.stateful_history.specs.declared.mark.How.TheVariants.{Kept, Nothing, Cancelled}
 use Rattle.stateful_history.specs.declared.mark.Mark.{Mark}
 use Rattle.stateful_history.specs.declared.mark.Mark.TheVariants as mark
-use Rattle.stateful_cache.specs.declared.cache.Cached.{Cached}
-use Rattle.stateful_requests.specs.Errors.{error_of_app}
+use Rattle.stateful_exec_cache.specs.declared.cache.Cached.{Cached}
+use Rattle.stateful_exec_tables.specs.Errors.{error_of_app}
 use Rattle.stateful_exec.specs.Workings.{Workings, Point}
 use Rattle.stateful_exec.specs.Moments.{Moment, Becomes}
-use Rattle.stateful_requests.specs.Keeping.{Takes}
-use Rattle.stateful_requests.specs.Cancelling.{Cancels}
-use Rattle.stateful_requests.specs.declared.state.Tables.{Tables}
+use Rattle.stateful_exec_tables.specs.Keeping.{Takes}
+use Rattle.stateful_exec_tables.specs.Cancelling.{Cancels}
+use Rattle.stateful_exec_tables.specs.declared.state.Tables.{Tables}
 use Rattle.stateful_exec.specs.declared.building.Building.{Building}
-use Rattle.stateful_requests.specs.declared.error.ExecError.{ExecError}
-use Rattle.stateful_requests.specs.declared.error.ExecError.TheVariants.{OutOfMemory, ProposalMismatch}
-use Rattle.stateful_requests.specs.declared.error.ProposalFault.{ProposalFault}
-use Rattle.stateful_requests.specs.declared.error.ProposalFault.TheVariants.{Targets, Parent, Round}
-use Rattle.stateful_requests.specs.Keeping.{FaultsKeep}
+use Rattle.stateful_exec_tables.specs.declared.error.ExecError.{ExecError}
+use Rattle.stateful_exec_tables.specs.declared.error.ExecError.TheVariants.{OutOfMemory, ProposalMismatch}
+use Rattle.stateful_exec_tables.specs.declared.error.ProposalFault.{ProposalFault}
+use Rattle.stateful_exec_tables.specs.declared.error.ProposalFault.TheVariants.{Targets, Parent, Round}
+use Rattle.stateful_exec_tables.specs.Keeping.{FaultsKeep}
 
 -- how a block is answered: as it was handed over, where it was to be prepared
 abbrev pub decided : ProposalKind → Decision → Decision

@@ -7,26 +7,26 @@ use Rattle.stateful_types.specs.declared.outcome.Moved.TheVariants.{Pending, Don
 use Rattle.stateful_db.specs.declared.application.AppFault.{AppFault}
 use Rattle.stateful_history.specs.declared.mark.How.{How}
 use Rattle.stateful_table.specs.Table.{at}
-use Rattle.stateful_requests.specs.Errors.{error_of_app}
-use Rattle.stateful_requests.specs.Path.{Path}
-use Rattle.stateful_requests.specs.Phase.{released_on}
+use Rattle.stateful_exec_tables.specs.Errors.{error_of_app}
+use Rattle.stateful_exec_tables.specs.Path.{Path}
+use Rattle.stateful_exec_tables.specs.Phase.{released_on}
 use Rattle.stateful_exec.specs.Workings.{Workings}
 use Rattle.stateful_exec.specs.Moments.{Moment}
-use Rattle.stateful_requests.specs.Tables.{IsLeft}
+use Rattle.stateful_exec_tables.specs.Tables.{IsLeft}
 use Rattle.stateful_exec.specs.Ending.{StopsAt, EndsRun, Follows, TurnsRun}
-use Rattle.stateful_requests.specs.Keeping.{FaultsTake}
-use Rattle.stateful_requests.specs.Fates.{released}
-use Rattle.stateful_requests.specs.Tables.{Knows, RunsNone}
-use Rattle.stateful_requests.specs.Meeting.{GoesOn}
-use Rattle.stateful_requests.specs.Meeting.{Reaches}
+use Rattle.stateful_exec_tables.specs.Keeping.{FaultsTake}
+use Rattle.stateful_exec_tables.specs.Fates.{released}
+use Rattle.stateful_exec_tables.specs.Tables.{Knows, RunsNone}
+use Rattle.stateful_exec_tables.specs.Meeting.{GoesOn}
+use Rattle.stateful_exec_tables.specs.Meeting.{Reaches}
 use Rattle.stateful_exec.specs.Rules.{Needs}
-use Rattle.stateful_requests.specs.declared.error.ExecError.{ExecError}
-use Rattle.stateful_requests.specs.declared.error.ExecError.TheVariants.{Lost, Application, Exhausted}
-use Rattle.stateful_requests.specs.declared.error.ExecError.TheVariants.{OutOfMemory}
-use Rattle.stateful_requests.specs.declared.state.Tables.{Tables}
-use Rattle.stateful_requests.specs.declared.tables.Released.{Released}
-use Rattle.stateful_requests.specs.declared.tables.Requested.{Requested}
-use Rattle.stateful_requests.specs.declared.walk.Acquired.TheVariants as acquired
+use Rattle.stateful_exec_tables.specs.declared.error.ExecError.{ExecError}
+use Rattle.stateful_exec_tables.specs.declared.error.ExecError.TheVariants.{Lost, Application, Exhausted}
+use Rattle.stateful_exec_tables.specs.declared.error.ExecError.TheVariants.{OutOfMemory}
+use Rattle.stateful_exec_tables.specs.declared.state.Tables.{Tables}
+use Rattle.stateful_exec_tables.specs.declared.tables.Released.{Released}
+use Rattle.stateful_exec_tables.specs.declared.tables.Requested.{Requested}
+use Rattle.stateful_exec_tables.specs.declared.walk.Acquired.TheVariants as acquired
 
 module _ {B C I P R D H G U : Type 0} (w : Workings B C I P R D H G U) where
   -- no batches were made: a database isn't here, or has no batch id left

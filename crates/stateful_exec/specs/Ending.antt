@@ -15,23 +15,23 @@ use Rattle.stateful_db.specs.declared.application.AppFault.TheVariants.{Failed}
 use Rattle.stateful_history.specs.declared.mark.How.{How}
 use Rattle.stateful_history.specs.declared.mark.How.TheVariants.{Rejected, Mismatched}
 use Rattle.stateful_history.specs.declared.mark.Mark.TheVariants as mark
-use Rattle.stateful_cache.specs.Cache.{IsIn}
-use Rattle.stateful_cache.specs.declared.cache.Cached.{Cached}
+use Rattle.stateful_exec_cache.specs.Cache.{IsIn}
+use Rattle.stateful_exec_cache.specs.declared.cache.Cached.{Cached}
 use Rattle.stateful_table.specs.Table.{at, put, without}
-use Rattle.stateful_requests.specs.Phase.{released_on}
+use Rattle.stateful_exec_tables.specs.Phase.{released_on}
 use Rattle.stateful_exec.specs.Workings.{Workings, Point}
 use Rattle.stateful_exec.specs.Moments.{Moment, Becomes}
-use Rattle.stateful_requests.specs.Tables.{moved, requested}
+use Rattle.stateful_exec_tables.specs.Tables.{moved, requested}
 use Rattle.stateful_exec.specs.Rules.{Concludes, Advances}
-use Rattle.stateful_requests.specs.declared.pause.Pause.{Pause}
-use Rattle.stateful_requests.specs.declared.pause.Pause.TheVariants.{Pruning}
-use Rattle.stateful_requests.specs.declared.request.Verdict.TheVariants.{Invalid}
-use Rattle.stateful_requests.specs.declared.state.Tables.{Tables}
-use Rattle.stateful_requests.specs.declared.tables.LiveRun.{LiveRun}
-use Rattle.stateful_requests.specs.declared.tables.Phase.TheVariants.{Parked}
-use Rattle.stateful_requests.specs.declared.tables.Released.{Released}
-use Rattle.stateful_requests.specs.Keeping.{Takes}
-use Rattle.stateful_requests.specs.Fates.{Crosses, IsGivenUp, AwaitsBoundary, released}
+use Rattle.stateful_exec_tables.specs.declared.pause.Pause.{Pause}
+use Rattle.stateful_exec_tables.specs.declared.pause.Pause.TheVariants.{Pruning}
+use Rattle.stateful_exec_tables.specs.declared.request.Verdict.TheVariants.{Invalid}
+use Rattle.stateful_exec_tables.specs.declared.state.Tables.{Tables}
+use Rattle.stateful_exec_tables.specs.declared.tables.LiveRun.{LiveRun}
+use Rattle.stateful_exec_tables.specs.declared.tables.Phase.TheVariants.{Parked}
+use Rattle.stateful_exec_tables.specs.declared.tables.Released.{Released}
+use Rattle.stateful_exec_tables.specs.Keeping.{Takes}
+use Rattle.stateful_exec_tables.specs.Fates.{Crosses, IsGivenUp, AwaitsBoundary, released}
 
 -- one relation after another, for each of these
 pub data InTurn {X M : Type 0} (R : X → M → M → Type 0) : List X → M → M → Type 0 where

@@ -3,15 +3,15 @@ use Rattle.std.specs.Prelude.{◌≡◌, [], ℕ, Option, Some, None}
 use Rattle.stateful_types.specs.Names.{Named}
 use Rattle.stateful_exec.specs.Workings.{Workings}
 use Rattle.stateful_exec.specs.Moments.{Moment, Becomes}
-use Rattle.stateful_requests.specs.Tables.{taken, moved}
+use Rattle.stateful_exec_tables.specs.Tables.{taken, moved}
 use Rattle.stateful_exec.specs.Rules.{Concludes, Acquires}
 use Rattle.stateful_exec.specs.Causes.{FaultsAcquire}
-use Rattle.stateful_requests.specs.declared.error.ExecError.{ExecError}
-use Rattle.stateful_requests.specs.declared.error.ExecError.TheVariants.{OutOfMemory}
-use Rattle.stateful_requests.specs.declared.request.Verdict.TheVariants.{Invalid}
-use Rattle.stateful_requests.specs.declared.tables.Phase.TheVariants.{Waiting}
-use Rattle.stateful_requests.specs.declared.tables.Requested.{Requested}
-use Rattle.stateful_requests.specs.Fetching.{IsVerification, Fetches, IsLiveFetch, with_block}
+use Rattle.stateful_exec_tables.specs.declared.error.ExecError.{ExecError}
+use Rattle.stateful_exec_tables.specs.declared.error.ExecError.TheVariants.{OutOfMemory}
+use Rattle.stateful_exec_tables.specs.declared.request.Verdict.TheVariants.{Invalid}
+use Rattle.stateful_exec_tables.specs.declared.tables.Phase.TheVariants.{Waiting}
+use Rattle.stateful_exec_tables.specs.declared.tables.Requested.{Requested}
+use Rattle.stateful_exec_tables.specs.Fetching.{IsVerification, Fetches, IsLiveFetch, with_block}
 
 module _ {B C I P R D H G U : Type 0} (w : Workings B C I P R D H G U) where
   -- the request of a ticket is served

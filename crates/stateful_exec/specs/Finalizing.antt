@@ -20,28 +20,28 @@ use Rattle.stateful_history.specs.declared.mark.How.TheVariants as how
 use Rattle.stateful_history.specs.declared.mark.JobKind.TheVariants as job
 use Rattle.stateful_history.specs.declared.mark.Mark.{Mark}
 use Rattle.stateful_history.specs.declared.mark.Mark.TheVariants as mark
-use Rattle.stateful_cache.specs.Cache.{IsIn}
-use Rattle.stateful_cache.specs.Cut.{IsCutTo, IsRootOf}
-use Rattle.stateful_cache.specs.declared.cache.Cached.{Cached}
+use Rattle.stateful_exec_cache.specs.Cache.{IsIn}
+use Rattle.stateful_exec_cache.specs.Cut.{IsCutTo, IsRootOf}
+use Rattle.stateful_exec_cache.specs.declared.cache.Cached.{Cached}
 use Rattle.stateful_table.specs.Table.{at}
-use Rattle.stateful_requests.specs.Errors.{error_of_app}
+use Rattle.stateful_exec_tables.specs.Errors.{error_of_app}
 use Rattle.stateful_exec.specs.Workings.{Workings, Point}
 use Rattle.stateful_exec.specs.Moments.{Moment}
-use Rattle.stateful_requests.specs.Tables.{IsLeft}
+use Rattle.stateful_exec_tables.specs.Tables.{IsLeft}
 use Rattle.stateful_exec.specs.Causes.{FaultsAnswer, FaultsStep}
 use Rattle.stateful_exec.specs.Built.{CommitsElse}
 use Rattle.stateful_exec.specs.Ending.{Turns, Agrees, SettlesBy, Steps}
-use Rattle.stateful_requests.specs.declared.error.ExecError.{ExecError}
-use Rattle.stateful_requests.specs.declared.error.ExecError.TheVariants.{ConflictAtAnchor}
-use Rattle.stateful_requests.specs.declared.error.ExecError.TheVariants.{SkippedHeight, NotExtending}
-use Rattle.stateful_requests.specs.declared.error.ExecError.TheVariants.{FinalizedRejected}
-use Rattle.stateful_requests.specs.declared.error.ExecError.TheVariants.{FinalizedMismatch, Application}
-use Rattle.stateful_requests.specs.declared.error.ExecError.TheVariants.{Exhausted, OutOfMemory}
-use Rattle.stateful_requests.specs.declared.error.ProposalFault.TheVariants.{Targets}
+use Rattle.stateful_exec_tables.specs.declared.error.ExecError.{ExecError}
+use Rattle.stateful_exec_tables.specs.declared.error.ExecError.TheVariants.{ConflictAtAnchor}
+use Rattle.stateful_exec_tables.specs.declared.error.ExecError.TheVariants.{SkippedHeight, NotExtending}
+use Rattle.stateful_exec_tables.specs.declared.error.ExecError.TheVariants.{FinalizedRejected}
+use Rattle.stateful_exec_tables.specs.declared.error.ExecError.TheVariants.{FinalizedMismatch, Application}
+use Rattle.stateful_exec_tables.specs.declared.error.ExecError.TheVariants.{Exhausted, OutOfMemory}
+use Rattle.stateful_exec_tables.specs.declared.error.ProposalFault.TheVariants.{Targets}
 use Rattle.stateful_exec.specs.declared.front.Front.{Front}
 use Rattle.stateful_exec.specs.declared.front.Stage.{Stage}
 use Rattle.stateful_exec.specs.declared.front.Stage.TheVariants.{Running, Ran, Advanced, Hooking}
-use Rattle.stateful_requests.specs.declared.state.Tables.{Tables}
+use Rattle.stateful_exec_tables.specs.declared.state.Tables.{Tables}
 
 module _ {B : Type 0} (header : Header B) (anchor : Anchor) (b : Named B) where
   -- no higher than the anchor, and at its height the anchor itself

@@ -2,7 +2,7 @@
 use Rattle.std.specs.Prelude.{◌≡◌, ◌++◌, List}
 use Rattle.stateful_history.specs.declared.mark.Mark.{Mark}
 use Rattle.stateful_exec.specs.Workings.{Workings}
-use Rattle.stateful_requests.specs.declared.state.Tables.{Tables}
+use Rattle.stateful_exec_tables.specs.declared.state.Tables.{Tables}
 
 pub record Moment {B C I P R D H G U : Type 0} (w : Workings B C I P R D H G U) : Type 0 where
   pub state : Tables B C I R U

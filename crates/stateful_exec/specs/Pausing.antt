@@ -1,18 +1,18 @@
 -- Pauses for a finalization or a prune, and what resumes behind them.
 use Rattle.std.specs.Prelude.{◌≡◌, ℕ, Option}
 use Rattle.stateful_types.specs.Names.{Named}
-use Rattle.stateful_requests.specs.Phase.{parked_in, not_parked, unacquired_in, not_unacquired}
+use Rattle.stateful_exec_tables.specs.Phase.{parked_in, not_parked, unacquired_in, not_unacquired}
 use Rattle.stateful_exec.specs.Workings.{Workings}
 use Rattle.stateful_exec.specs.Moments.{Moment}
-use Rattle.stateful_requests.specs.Tables.{requested}
+use Rattle.stateful_exec_tables.specs.Tables.{requested}
 use Rattle.stateful_exec.specs.Rules.{Advances, Acquires}
 use Rattle.stateful_exec.specs.Causes.{FaultsAdvance, FaultsAcquire}
 use Rattle.stateful_exec.specs.Ending.{InTurn, StopsAt}
-use Rattle.stateful_requests.specs.declared.error.ExecError.{ExecError}
-use Rattle.stateful_requests.specs.declared.error.ExecError.TheVariants.{OutOfMemory}
-use Rattle.stateful_requests.specs.declared.pause.Pause.TheVariants.{Free}
-use Rattle.stateful_requests.specs.declared.tables.Released.{Released}
-use Rattle.stateful_requests.specs.declared.tables.Requested.{Requested}
+use Rattle.stateful_exec_tables.specs.declared.error.ExecError.{ExecError}
+use Rattle.stateful_exec_tables.specs.declared.error.ExecError.TheVariants.{OutOfMemory}
+use Rattle.stateful_exec_tables.specs.declared.pause.Pause.TheVariants.{Free}
+use Rattle.stateful_exec_tables.specs.declared.tables.Released.{Released}
+use Rattle.stateful_exec_tables.specs.declared.tables.Requested.{Requested}
 
 module _ {B C I P R D H G U : Type 0} (w : Workings B C I P R D H G U) where
   -- a parked request goes along its path

@@ -4,22 +4,22 @@ use Rattle.stateful_types.specs.Names.{Named}
 use Rattle.stateful_types.specs.declared.digest.Digest.{Digest}
 use Rattle.stateful_history.specs.declared.mark.Mark.TheVariants as mark
 use Rattle.stateful_history.specs.declared.mark.JobKind.TheVariants as job
-use Rattle.stateful_requests.specs.Path.{Path}
-use Rattle.stateful_requests.specs.declared.state.Tables.{Tables}
-use Rattle.stateful_requests.specs.Walk.{IsPrepared}
+use Rattle.stateful_exec_tables.specs.Path.{Path}
+use Rattle.stateful_exec_tables.specs.declared.state.Tables.{Tables}
+use Rattle.stateful_exec_tables.specs.Walk.{IsPrepared}
 use Rattle.stateful_exec.specs.Workings.{Workings}
 use Rattle.stateful_exec.specs.Moments.{Moment, Becomes}
-use Rattle.stateful_requests.specs.Tables.{IsLeft}
+use Rattle.stateful_exec_tables.specs.Tables.{IsLeft}
 use Rattle.stateful_exec.specs.Starting.{StartsRun}
-use Rattle.stateful_requests.specs.declared.request.Verdict.{Verdict}
-use Rattle.stateful_requests.specs.declared.request.Verdict.TheVariants.{Valid, Invalid}
-use Rattle.stateful_requests.specs.declared.tables.Phase.TheVariants.{Fetching, Waiting}
-use Rattle.stateful_requests.specs.declared.tables.Phase.TheVariants.{Executing}
-use Rattle.stateful_requests.specs.declared.tables.Requested.{Requested}
-use Rattle.stateful_requests.specs.declared.walk.Acquired.{Acquired}
-use Rattle.stateful_requests.specs.declared.walk.Acquired.TheVariants as acquired
-use Rattle.stateful_requests.specs.Tables.{requested, told, moved, ended, Knows, HasRun, RunsNone}
-use Rattle.stateful_requests.specs.Meeting.{GoesOn, IsPassed, Reaches}
+use Rattle.stateful_exec_tables.specs.declared.request.Verdict.{Verdict}
+use Rattle.stateful_exec_tables.specs.declared.request.Verdict.TheVariants.{Valid, Invalid}
+use Rattle.stateful_exec_tables.specs.declared.tables.Phase.TheVariants.{Fetching, Waiting}
+use Rattle.stateful_exec_tables.specs.declared.tables.Phase.TheVariants.{Executing}
+use Rattle.stateful_exec_tables.specs.declared.tables.Requested.{Requested}
+use Rattle.stateful_exec_tables.specs.declared.walk.Acquired.{Acquired}
+use Rattle.stateful_exec_tables.specs.declared.walk.Acquired.TheVariants as acquired
+use Rattle.stateful_exec_tables.specs.Tables.{requested, told, moved, ended, Knows, HasRun, RunsNone}
+use Rattle.stateful_exec_tables.specs.Meeting.{GoesOn, IsPassed, Reaches}
 
 module _ {B C I P R D H G U : Type 0} (w : Workings B C I P R D H G U) where
   -- a request ends

@@ -6,11 +6,11 @@ use Rattle.stateful_types.specs.declared.digest.Digest.{Digest}
 use Rattle.stateful_types.specs.declared.outcome.Finality.{Finality}
 use Rattle.stateful_types.specs.declared.outcome.Finality.TheVariants.{Candidate}
 use Rattle.stateful_db.specs.Works.{run_of}
-use Rattle.stateful_cache.specs.declared.cache.Cached.{Cached}
+use Rattle.stateful_exec_cache.specs.declared.cache.Cached.{Cached}
 use Rattle.stateful_table.specs.Table.{put}
 use Rattle.stateful_exec.specs.Workings.{Workings, Point}
-use Rattle.stateful_requests.specs.declared.state.Tables.{Tables}
-use Rattle.stateful_requests.specs.Tables.{IsLeft}
+use Rattle.stateful_exec_tables.specs.declared.state.Tables.{Tables}
+use Rattle.stateful_exec_tables.specs.Tables.{IsLeft}
 
 module _ {B C I P R D H G U : Type 0} (w : Workings B C I P R D H G U) where
   -- Something holds over the states of the block of a digest: over those of the databases, where it

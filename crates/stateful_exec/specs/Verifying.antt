@@ -3,19 +3,19 @@ use Rattle.std.specs.Prelude.{◌≡◌, [], ℕ, Option, Some, None, List}
 use Rattle.stateful_types.specs.Names.{Named}
 use Rattle.stateful_exec.specs.Workings.{Workings}
 use Rattle.stateful_exec.specs.Moments.{Moment, Becomes}
-use Rattle.stateful_requests.specs.Tables.{requested, taken, moved, Knows, HasRun, RunsNone}
+use Rattle.stateful_exec_tables.specs.Tables.{requested, taken, moved, Knows, HasRun, RunsNone}
 use Rattle.stateful_exec.specs.Rules.{Concludes}
 use Rattle.stateful_exec.specs.Rules.{Launches}
 use Rattle.stateful_exec.specs.Fetching.{serving}
 use Rattle.stateful_exec.specs.Causes.{FaultsStart}
-use Rattle.stateful_requests.specs.declared.error.ExecError.{ExecError}
-use Rattle.stateful_requests.specs.declared.error.ExecError.TheVariants.{OutOfMemory}
-use Rattle.stateful_requests.specs.declared.request.Request.{Request}
-use Rattle.stateful_requests.specs.declared.request.Verdict.TheVariants.{Invalid}
-use Rattle.stateful_requests.specs.declared.tables.Phase.TheVariants.{Executing, Parked}
+use Rattle.stateful_exec_tables.specs.declared.error.ExecError.{ExecError}
+use Rattle.stateful_exec_tables.specs.declared.error.ExecError.TheVariants.{OutOfMemory}
+use Rattle.stateful_exec_tables.specs.declared.request.Request.{Request}
+use Rattle.stateful_exec_tables.specs.declared.request.Verdict.TheVariants.{Invalid}
+use Rattle.stateful_exec_tables.specs.declared.tables.Phase.TheVariants.{Executing, Parked}
 use Rattle.stateful_exec.specs.declared.verifying.Joined.{Joined}
 use Rattle.stateful_exec.specs.declared.verifying.Joined.TheVariants.{Known, Run, Missed}
-use Rattle.stateful_requests.specs.Stepping.{IsAbout, HasNext}
+use Rattle.stateful_exec_tables.specs.Stepping.{IsAbout, HasNext}
 
 module _ {B C I P R D H G U : Type 0} (w : Workings B C I P R D H G U) where
   -- What becomes of a request with its next block: the block is known, and left behind; or the

@@ -17,12 +17,12 @@ ghost use Rattle.std.specs.Prelude.{IfErr, IfSome, IfNone, IsErrOf, OnErr};
 ghost use Rattle.stateful_types.specs.Anchor.{anchor_by};
 ghost use Rattle.stateful_types.specs.Causes.{Rose};
 ghost use Rattle.stateful_types.specs.Names.{Named};
-ghost use Rattle.stateful_cache.specs.Cut.{IsCutTo};
+ghost use Rattle.stateful_exec_cache.specs.Cut.{IsCutTo};
 ghost use Rattle.stateful_exec.specs.Finalizing.{front_at, HasStates, IsRoot, Moves, FaultsMove};
 ghost use Rattle.stateful_exec.specs.Finalizing.{Observes, HooksOn, FaultsHooksOn, FaultsObserve};
 ghost use Rattle.stateful_exec.specs.Finalizing.{IsHookLive, SettlesHook, FaultsSettleHook};
 ghost use Rattle.stateful_exec.specs.Finalizing.{TurnsHook, FaultsHook};
-ghost use Rattle.stateful_requests.specs.Tables.{Rises};
+ghost use Rattle.stateful_exec_tables.specs.Tables.{Rises};
 ghost use Rattle.stateful_exec.specs.declared.front.Stage.TheVariants as stage;
 
 use crate::finalizing::FrontOf;
@@ -30,8 +30,8 @@ use crate::front::{Front, Stage};
 use crate::running::TablesOf;
 use crate::worked::Worked;
 use stateful_db::{AppFault, Application, Batch, DatabaseSet, Hooked};
+use stateful_exec_tables::ExecError;
 use stateful_history::{How, JobKind, Mark};
-use stateful_requests::ExecError;
 use stateful_types::{Block, Digested, Moved, OutOfMemory, Share};
 use std::mem;
 

@@ -18,14 +18,14 @@ ghost use Rattle.stateful_exec.specs.Built.{FaultsBuilt, Gives, EndsBuild, Fault
 ghost use Rattle.stateful_exec.specs.Built.{FaultsTurn, GivesUp};
 ghost use Rattle.stateful_history.specs.declared.mark.Mark.{Mark as Marked};
 ghost use Rattle.stateful_exec.specs.Moments.{moment};
-ghost use Rattle.stateful_requests.specs.Tables.{Rises};
+ghost use Rattle.stateful_exec_tables.specs.Tables.{Rises};
 
 use crate::proposing::BuildingOf;
 use crate::running::TablesOf;
 use crate::worked::Worked;
 use stateful_db::{Application, DatabaseSet, ProposalKind, Proposed, ProposedBlock};
+use stateful_exec_tables::{ExecError, ProposalFault};
 use stateful_history::{Decision, How, Mark};
-use stateful_requests::{ExecError, ProposalFault};
 use stateful_types::{Block, Digested, Handoff, Moved, OutOfMemory, Rounded, Share};
 use std::mem;
 

@@ -16,18 +16,18 @@ ghost use Rattle.std.specs.Prelude.{◌≡◌, ◌≤◌, ℕ, IsSome, OnOk, IfO
 ghost use Rattle.stateful_types.specs.Causes.{Rose};
 ghost use Rattle.stateful_table.specs.Table.{at};
 ghost use Rattle.stateful_exec.specs.Moments.{moment};
-ghost use Rattle.stateful_requests.specs.Tables.{Rises};
+ghost use Rattle.stateful_exec_tables.specs.Tables.{Rises};
 ghost use Rattle.stateful_exec.specs.Causes.{FaultsEnd, FaultsAdvance, FaultsFollow, FaultsAnswer};
 ghost use Rattle.stateful_exec.specs.Causes.{FaultsStep};
 ghost use Rattle.stateful_exec.specs.Ending.{InTurn, IsTold, EndsRun, TurnsRun};
-ghost use Rattle.stateful_requests.specs.Keeping.{FaultsTake};
+ghost use Rattle.stateful_exec_tables.specs.Keeping.{FaultsTake};
 ghost use Rattle.stateful_exec.specs.Ending.{Follows, SettlesBy, Steps};
 
 use crate::running::{TablesOf, advance};
 use crate::worked::Worked;
 use stateful_db::{AppFault, Application, Batch, DatabaseSet};
+use stateful_exec_tables::{ExecError, Fate, Released, Verdict};
 use stateful_history::{How, Mark};
-use stateful_requests::{ExecError, Fate, Released, Verdict};
 use stateful_types::{Digested, Moved, OutOfMemory};
 
 /// The requests of an application that have waited for a run.

@@ -26,15 +26,15 @@ ghost use Rattle.stateful_exec.specs.Finalizing.{SettlesFinal, FaultsSettleFinal
 ghost use Rattle.stateful_exec.specs.Finalizing.{Completes};
 ghost use Rattle.stateful_exec.specs.Finalizing.{FaultsComplete, SettlesRun, FaultsSettleRun};
 ghost use Rattle.stateful_exec.specs.Moments.{moment};
-ghost use Rattle.stateful_requests.specs.Tables.{Rises};
+ghost use Rattle.stateful_exec_tables.specs.Tables.{Rises};
 
 use crate::ending::{Turned, complete, settle};
 use crate::front::{Front, Stage};
 use crate::running::TablesOf;
 use crate::worked::Worked;
 use stateful_db::{Application, Batch, DatabaseSet};
+use stateful_exec_tables::ExecError;
 use stateful_history::{How, JobKind, Mark};
-use stateful_requests::ExecError;
 use stateful_types::{Ancestry, Anchor, Block, Digested, Finality, Height, Items, Moved, Share};
 use std::mem;
 

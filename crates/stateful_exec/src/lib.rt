@@ -21,10 +21,10 @@ pub use front::{Front, Stage};
 pub use handler::{Handler, Handling};
 pub use processor::{Execution, Processing, Processor};
 pub use stateful_db::ProposalKind;
-pub use stateful_history::{Entry, Mark};
-pub use stateful_requests::{
+pub use stateful_exec_tables::{
     Acquired, Disposition, ExecError, ExecutionStep, FinalizationBoundary, LiveRun, Pause, Phase,
     Proposal, ProposalFault, Released, ReplayPath, Request, Requested, Tables, Verdict,
 };
+pub use stateful_history::{Entry, Mark};
 pub use verifying::{Joined, Verifier};
 pub use worked::Worked;

@@ -12,25 +12,25 @@
 //!
 //! What goes on stands in `front`, and the live build in `build` (`propose`, `turn_build`). The
 //! contracts say of each call what it does to both. That the calls come in this order is the loop's
-//! to see to (`finalizing.rt` of `stateful_processing`).
+//! to see to (`finalizing.rt` of `stateful_loop`).
 
 ghost use Rattle.std.specs.Prelude.{◌≡◌, ◌↔◌, ◌<◌, ◌≤◌, ◌++◌, ◌∷◌, ◌⊎◌, [], ℕ, true, false, None};
 ghost use Rattle.std.specs.Prelude.{OnOk, OnErr, IfOk, IfErr, IsErrOf, IsTrue};
 ghost use Rattle.std.specs.Option.{option_copied};
 ghost use Rattle.stateful_types.specs.Causes.{Rose};
-ghost use Rattle.stateful_cache.specs.Cache.{IsIn};
+ghost use Rattle.stateful_exec_cache.specs.Cache.{IsIn};
 ghost use Rattle.stateful_history.specs.declared.mark.JobKind.TheVariants as job;
 ghost use Rattle.stateful_history.specs.declared.mark.Mark.TheVariants.{Started};
 ghost use Rattle.stateful_exec.specs.Building.{Proposes, FaultsPropose};
 ghost use Rattle.stateful_exec.specs.Built.{TurnsBuild, FaultsTurn};
 ghost use Rattle.stateful_exec.specs.Causes.{FaultsStart};
 ghost use Rattle.stateful_exec.specs.Finalizing.{IsRedelivered, Conflicts, MayBegin, FaultsBegin};
-ghost use Rattle.stateful_requests.specs.Boundary.{IsBoundaryOf};
+ghost use Rattle.stateful_exec_tables.specs.Boundary.{IsBoundaryOf};
 ghost use Rattle.stateful_exec.specs.Finalizing.{front_at, RunsFinal, Moves};
 ghost use Rattle.stateful_exec.specs.Finalizing.{FaultsMove, Observes, FaultsObserve, TurnsHook};
 ghost use Rattle.stateful_exec.specs.Finalizing.{FaultsHook};
 ghost use Rattle.stateful_exec.specs.Moments.{moment};
-ghost use Rattle.stateful_requests.specs.Tables.{Rises};
+ghost use Rattle.stateful_exec_tables.specs.Tables.{Rises};
 
 use crate::anchoring::{advance_to, observe, turn_hook};
 use crate::building::BuildStart;
@@ -41,8 +41,8 @@ use crate::proposing::{BuildingOf, propose};
 use crate::running::TablesOf;
 use crate::worked::Worked;
 use stateful_db::{Application, Batch, DatabaseSet};
+use stateful_exec_tables::{ExecError, FinalizationBoundary, Tables};
 use stateful_history::Mark;
-use stateful_requests::{ExecError, FinalizationBoundary, Tables};
 use stateful_types::{Anchor, Digest, Digested, OutOfMemory};
 use std::alloc::Global;
 use std::marker::{Model, PhantomData};
@@ -70,7 +70,7 @@ impl<A: Application + Drop, M> Model for Execution<A, M> {
     ghost use Rattle.std.specs.Prelude.{Option};
     ghost use Rattle.stateful_exec.specs.declared.building.Building.{Building};
     ghost use Rattle.stateful_exec.specs.declared.front.Front.{Front};
-    ghost use Rattle.stateful_requests.specs.declared.state.Tables.{Tables};
+    ghost use Rattle.stateful_exec_tables.specs.declared.state.Tables.{Tables};
 
     ghost Value = { Owner A (Tables A.Block A.Context A.Input A.Run A.Databases.Merkleized)
         (Option (Building A.Block A.Context A.Build))

@@ -18,15 +18,15 @@ ghost use Rattle.stateful_db.specs.Works.{build_of};
 ghost use Rattle.stateful_exec.specs.Building.{asked_by, IsNewBuild};
 ghost use Rattle.stateful_exec.specs.Building.{Proposes, FaultsPropose};
 ghost use Rattle.stateful_exec.specs.Causes.{FaultsStart};
-ghost use Rattle.stateful_requests.specs.Tables.{Knows};
-ghost use Rattle.stateful_requests.specs.Tables.{IsLeft, Rises};
+ghost use Rattle.stateful_exec_tables.specs.Tables.{Knows};
+ghost use Rattle.stateful_exec_tables.specs.Tables.{IsLeft, Rises};
 ghost use Rattle.stateful_exec.specs.Starting.{IsOver};
 
 use crate::building::{BuildStart, Building};
 use crate::running::{TablesOf, begin};
 use crate::worked::Worked;
 use stateful_db::{AppFault, Application, DatabaseSet, Input, OpenBatch, ProposalKind};
-use stateful_requests::{ExecError, Proposal, Queued};
+use stateful_exec_tables::{ExecError, Proposal, Queued};
 use stateful_types::{Block, Digested, Share};
 
 /// A build of an application.

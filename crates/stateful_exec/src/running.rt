@@ -20,23 +20,23 @@ ghost use Rattle.stateful_history.specs.declared.mark.Mark.TheVariants.{Started}
 ghost use Rattle.stateful_history.specs.declared.mark.JobKind.TheVariants as job;
 ghost use Rattle.stateful_types.specs.Causes.{Rose};
 ghost use Rattle.stateful_types.specs.declared.outcome.Finality.TheVariants.{Candidate};
-ghost use Rattle.stateful_cache.specs.Cache.{IsAtHand};
+ghost use Rattle.stateful_exec_cache.specs.Cache.{IsAtHand};
 ghost use Rattle.stateful_exec.specs.Moments.{moment};
 ghost use Rattle.stateful_exec.specs.Starting.{IsOver, IsFresh, StartsRun};
-ghost use Rattle.stateful_requests.specs.Tables.{Rises};
-ghost use Rattle.stateful_requests.specs.Tables.{requested, Knows};
+ghost use Rattle.stateful_exec_tables.specs.Tables.{Rises};
+ghost use Rattle.stateful_exec_tables.specs.Tables.{requested, Knows};
 ghost use Rattle.stateful_exec.specs.Rules.{Advances, Acquires};
 ghost use Rattle.stateful_exec.specs.Fetching.{IsFetched, FaultsFetched};
 ghost use Rattle.stateful_exec.specs.Causes.{FaultsBatches, FaultsStart, FaultsAdvance};
 ghost use Rattle.stateful_exec.specs.Causes.{FaultsAcquire};
 
 use crate::worked::Worked;
-use stateful_cache::Cache;
 use stateful_db::{Application, Batch, DatabaseSet, OpenBatch};
-use stateful_history::{JobKind, Mark};
-use stateful_requests::{
+use stateful_exec_cache::Cache;
+use stateful_exec_tables::{
     Acquired, ExecError, Met, Phase, ReplayPath, Request, Requested, Tables, Verdict, prepare,
 };
+use stateful_history::{JobKind, Mark};
 use stateful_types::{
     Ancestry, Anchor, Block, BlockStore, Digested, Finality, Items, OutOfMemory, Share,
 };

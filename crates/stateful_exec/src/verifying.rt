@@ -17,11 +17,11 @@ ghost use Rattle.std.specs.Prelude.{◌≡◌, ◌≤◌, ℕ};
 ghost use Rattle.std.specs.Prelude.{IfOk, IfErr, IfSome, IfNone, IsErrOf};
 ghost use Rattle.stateful_types.specs.Causes.{Rose};
 ghost use Rattle.stateful_types.specs.Names.{Named};
-ghost use Rattle.stateful_requests.specs.Boundary.{step_by};
+ghost use Rattle.stateful_exec_tables.specs.Boundary.{step_by};
 ghost use Rattle.stateful_exec.specs.Moments.{moment};
-ghost use Rattle.stateful_requests.specs.Tables.{Rises};
-ghost use Rattle.stateful_requests.specs.Stepping.{HasNext, SetsOut};
-ghost use Rattle.stateful_requests.specs.Stepping.{Prepares};
+ghost use Rattle.stateful_exec_tables.specs.Tables.{Rises};
+ghost use Rattle.stateful_exec_tables.specs.Stepping.{HasNext, SetsOut};
+ghost use Rattle.stateful_exec_tables.specs.Stepping.{Prepares};
 ghost use Rattle.stateful_exec.specs.Verifying.{Processes, FaultsProcess};
 
 use crate::handler::{Handler, Handling};
@@ -29,8 +29,8 @@ use crate::processor::Execution;
 use crate::running::{TablesOf, launch};
 use crate::worked::Worked;
 use stateful_db::{Application, DatabaseSet};
+use stateful_exec_tables::{Acquired, ExecError, ExecutionStep, Met, ReplayPath, Verdict, prepare};
 use stateful_history::Mark;
-use stateful_requests::{Acquired, ExecError, ExecutionStep, Met, ReplayPath, Verdict, prepare};
 use stateful_types::{Block, BlockStore, OutOfMemory};
 
 /// An application with its requests, whose paths are taken a block at a time.

@@ -5,10 +5,10 @@ use Rattle.stateful_history.specs.declared.mark.Mark.{Mark}
 use Rattle.stateful_table.specs.Table.{at, without}
 use Rattle.stateful_table.proofs.Tables.{at-without}
 use Rattle.stateful_exec.specs.Built.{GivesUp, building, asking}
-use Rattle.stateful_requests.specs.Cancelling.{Cancels}
-use Rattle.stateful_requests.specs.Cancelling.{idle, withdraws, leaves, ends, unqueued}
+use Rattle.stateful_exec_tables.specs.Cancelling.{Cancels}
+use Rattle.stateful_exec_tables.specs.Cancelling.{idle, withdraws, leaves, ends, unqueued}
 use Rattle.stateful_exec.specs.declared.building.Building.{Building}
-use Rattle.stateful_requests.specs.declared.state.Tables.{Tables}
+use Rattle.stateful_exec_tables.specs.declared.state.Tables.{Tables}
 
 none_at : {V : Type 0} (table : List (ℕ × V)) (t : ℕ) → at (without table t) t ≡ None
 none_at table t =

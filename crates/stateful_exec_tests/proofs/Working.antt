@@ -10,9 +10,9 @@ use Rattle.stateful_types.specs.declared.outcome.Handoff.TheVariants.{Wait, Vote
 use Rattle.stateful_db.specs.Chain.{IsPoint}
 use Rattle.stateful_db.specs.Works.{block_of, run_chain, BuildEnds}
 use Rattle.stateful_db.specs.declared.application.ProposedBlock.{ProposedBlock}
-use Rattle.stateful_plain.specs.Whole.{Whole, begun}
-use Rattle.stateful_plain.specs.Shown.{SealShows}
-use Rattle.stateful_plain.specs.declared.batch.PlainMerkleized.{PlainMerkleized}
+use Rattle.stateful_db_plain.specs.Whole.{Whole, begun}
+use Rattle.stateful_db_plain.specs.Shown.{SealShows}
+use Rattle.stateful_db_plain.specs.declared.batch.PlainMerkleized.{PlainMerkleized}
 use Rattle.stateful_exec_tests.specs.Fake.{led, fake_meaning}
 use Rattle.stateful_exec_tests.specs.Works.{Stands, EndsWith, FakeRunOf, IsRun, FakeBuildOf, IsBuild, IsHanded, fake_works}
 use Rattle.stateful_exec_tests.specs.declared.block.End.{End}

@@ -3,7 +3,7 @@ use Rattle.std.specs.Prelude.{[], ◌∷◌, true, Option, Some, None}
 use Rattle.stateful_types.specs.Names.{Header}
 use Rattle.stateful_types.specs.declared.target.Target.{Target}
 use Rattle.stateful_db.specs.Meaning.{Meaning}
-use Rattle.stateful_plain.specs.Whole.{Whole, begun}
+use Rattle.stateful_db_plain.specs.Whole.{Whole, begun}
 use Rattle.stateful_exec_tests.specs.declared.block.End.{End}
 use Rattle.stateful_exec_tests.specs.declared.block.End.TheVariants.{States, Nothing, Fails}
 use Rattle.stateful_exec_tests.specs.declared.block.FakeBlock.{FakeBlock}

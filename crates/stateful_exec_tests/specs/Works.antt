@@ -9,9 +9,9 @@ use Rattle.stateful_types.specs.declared.outcome.Handoff.{Handoff}
 use Rattle.stateful_types.specs.declared.outcome.Handoff.TheVariants.{Wait, Vote, Stage}
 use Rattle.stateful_db.specs.declared.application.ProposedBlock.{ProposedBlock}
 use Rattle.stateful_db.specs.Works.{Works, TakesTurns, RunOf, BuildOf, block_of}
-use Rattle.stateful_plain.specs.Whole.{Whole, begun}
-use Rattle.stateful_plain.specs.Shown.{DraftShows, SealShows}
-use Rattle.stateful_plain.specs.declared.batch.PlainMerkleized.{PlainMerkleized}
+use Rattle.stateful_db_plain.specs.Whole.{Whole, begun}
+use Rattle.stateful_db_plain.specs.Shown.{DraftShows, SealShows}
+use Rattle.stateful_db_plain.specs.declared.batch.PlainMerkleized.{PlainMerkleized}
 use Rattle.stateful_exec_tests.specs.Fake.{fake_meaning}
 use Rattle.stateful_exec_tests.specs.declared.block.End.{End}
 use Rattle.stateful_exec_tests.specs.declared.block.End.TheVariants.{Nothing}

@@ -1,8 +1,8 @@
 //! The fake application.
 
 ghost use Rattle.std.specs.Prelude.{◌≡◌, ◌≢◌, ℕ, List, ◌∷◌, IfOk, IsOk};
-ghost use Rattle.stateful_plain.specs.Whole.{Whole, begun};
-ghost use Rattle.stateful_plain.specs.Shown.{DraftShows};
+ghost use Rattle.stateful_db_plain.specs.Whole.{Whole, begun};
+ghost use Rattle.stateful_db_plain.specs.Shown.{DraftShows};
 ghost use Rattle.stateful_db.specs.Works.{run_of, build_of, asked_for};
 ghost use Rattle.stateful_db.specs.declared.application.ProposalKind.{ProposalKind};
 ghost use Rattle.stateful_exec_tests.specs.Works.{IsRun, IsBuild, IsHanded, FakeBuildOf};
@@ -10,7 +10,7 @@ ghost use Rattle.stateful_exec_tests.specs.Works.{IsRun, IsBuild, IsHanded, Fake
 use crate::block::{End, FakeBlock};
 use crate::work::Work;
 use stateful_db::{AppFault, Application, Held, Hooked, Input, ManagedDb, ProposedBlock};
-use stateful_plain::{Plain, PlainMerkleized, PlainUnmerkleized};
+use stateful_db_plain::{Plain, PlainMerkleized, PlainUnmerkleized};
 use stateful_types::{
     Ancestry, Digest, Epoch, Faulty, Finality, Handoff, Height, Moved, OutOfMemory, Round, Share,
     Target, View, VoteScheme,
@@ -106,8 +106,8 @@ fn hand_over(
 impl Application for Fake {
     ghost use Rattle.std.specs.Prelude.{◌≡◌, ◌∷◌, ℕ, List, IfOk, IsOk};
     ghost use Rattle.stateful_db.specs.Works.{asked_for, run_of, build_of};
-    ghost use Rattle.stateful_plain.specs.Whole.{Whole, begun};
-    ghost use Rattle.stateful_plain.specs.Shown.{DraftShows};
+    ghost use Rattle.stateful_db_plain.specs.Whole.{Whole, begun};
+    ghost use Rattle.stateful_db_plain.specs.Shown.{DraftShows};
     ghost use Rattle.stateful_exec_tests.specs.Works.{fake_works, fake_takes_turns, IsRun, IsBuild};
 
     type SigningScheme = VoteScheme;

@@ -4,14 +4,14 @@ ghost use Rattle.std.specs.Prelude.{◌≡◌, ◌≢◌, ◌≤◌, ℕ, List, 
 ghost use Rattle.stateful_types.specs.Causes.{Rose};
 ghost use Rattle.stateful_db.specs.Chain.{IsPoint};
 ghost use Rattle.stateful_db.specs.Disk.{point};
-ghost use Rattle.stateful_plain.specs.Whole.{Whole, begun};
-ghost use Rattle.stateful_plain.specs.Stored.{standing_of};
-ghost use Rattle.stateful_plain.specs.Shown.{DraftShows, SealShows};
+ghost use Rattle.stateful_db_plain.specs.Whole.{Whole, begun};
+ghost use Rattle.stateful_db_plain.specs.Stored.{standing_of};
+ghost use Rattle.stateful_db_plain.specs.Shown.{DraftShows, SealShows};
 ghost use Rattle.stateful_exec_tests.specs.Works.{Stands, EndsWith};
 
 use crate::block::End;
 use stateful_db::{AppFault, BatchError, Unmerkleized};
-use stateful_plain::{Plain, PlainMerkleized, PlainUnmerkleized};
+use stateful_db_plain::{Plain, PlainMerkleized, PlainUnmerkleized};
 use stateful_types::{Faulty, Moved};
 
 /// Some turns that change nothing, and an end behind them.

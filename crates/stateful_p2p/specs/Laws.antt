@@ -11,8 +11,8 @@ use Rattle.stateful_types.specs.Response.{response_format}
 use Rattle.stateful_types.specs.declared.request.Request.{Request}
 use Rattle.stateful_types.specs.declared.request.Request.TheVariants as requests
 use Rattle.stateful_types.specs.declared.response.Response.{Response}
-use Rattle.stateful_source.specs.declared.source.ServeFault.{ServeFault}
-use Rattle.stateful_source.specs.declared.source.ServeFault.TheVariants as faults
+use Rattle.stateful_db_source.specs.declared.source.ServeFault.{ServeFault}
+use Rattle.stateful_db_source.specs.declared.source.ServeFault.TheVariants as faults
 use Rattle.stateful_p2p.specs.Inbox.{Inbox, waiting_for}
 use Rattle.stateful_p2p.specs.Tickets.{is_dropped}
 use Rattle.stateful_p2p.specs.Reading.{IsResponse}

@@ -11,8 +11,8 @@ use Rattle.stateful_types.specs.Response.{response_format}
 use Rattle.stateful_types.specs.declared.request.Request.{Request}
 use Rattle.stateful_types.specs.declared.request.Request.TheVariants as asked
 use Rattle.stateful_types.specs.declared.response.Response.{Response}
-use Rattle.stateful_source.specs.declared.source.ServeFault.{ServeFault}
-use Rattle.stateful_source.specs.declared.source.ServeFault.TheVariants as faults
+use Rattle.stateful_db_source.specs.declared.source.ServeFault.{ServeFault}
+use Rattle.stateful_db_source.specs.declared.source.ServeFault.TheVariants as faults
 use Rattle.stateful_table.specs.Table.{at, without}
 use Rattle.stateful_p2p.specs.Subscribing.{subscribed}
 use Rattle.stateful_p2p.specs.Tickets.{is_live, ended}

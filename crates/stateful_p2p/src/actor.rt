@@ -33,7 +33,7 @@ use crate::mailbox::Mailbox;
 use crate::message::Message;
 use crate::state::State;
 use bytes::Bytes;
-use stateful_source::SyncSource;
+use stateful_db_source::SyncSource;
 use stateful_types::{OutOfMemory, Request};
 use std::alloc::Global;
 use std::num::NonZeroU64;

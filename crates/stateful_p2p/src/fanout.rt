@@ -33,7 +33,7 @@ use crate::mailbox::Mailbox;
 use crate::reading::read_response;
 use crate::state::{State, Verdicts};
 use bytes::Bytes;
-use stateful_source::SyncSource;
+use stateful_db_source::SyncSource;
 use stateful_table::Table;
 use stateful_types::{OutOfMemory, Request, Response, Share};
 use std::alloc::Global;

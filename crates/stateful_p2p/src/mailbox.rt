@@ -24,7 +24,7 @@ ghost use Rattle.stateful_p2p.specs.Inbox.{taken_out, waiting_for};
 use crate::error::ResponseDropped;
 use crate::message::{Message, NotOf, Pending};
 use crate::tickets::Tickets;
-use stateful_source::{AttachableResolver, SyncSource};
+use stateful_db_source::{AttachableResolver, SyncSource};
 use stateful_table::Table;
 use stateful_types::{Bounded, DrawError, Feedback, Moved, OutOfMemory, Request, Response};
 use std::alloc::Global;

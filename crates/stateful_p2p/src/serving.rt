@@ -14,7 +14,7 @@ ghost use Rattle.stateful_p2p.specs.declared.event.ActorOut.{ActorOut};
 use crate::event::ActorOut;
 use crate::state::State;
 use bytes::Bytes;
-use stateful_source::{ServeFault, SyncSource};
+use stateful_db_source::{ServeFault, SyncSource};
 use stateful_types::{OutOfMemory, Request};
 use std::alloc::Global;
 

@@ -8,8 +8,8 @@ use Rattle.stateful_play.specs.declared.status.Status.{Status}
 use Rattle.stateful_play.specs.declared.status.Status.TheVariants.{Done, Usage, ReadFault, WriteFault, NoMemory}
 use Rattle.stateful_play.specs.declared.status.Status.TheVariants as status
 use Rattle.stateful_script.specs.declared.script.Script.{Script}
-use Rattle.stateful_text.specs.declared.shown.Label.{Label}
-use Rattle.stateful_text.specs.declared.shown.Shown.{Shown}
+use Rattle.stateful_script_text.specs.declared.shown.Label.{Label}
+use Rattle.stateful_script_text.specs.declared.shown.Shown.{Shown}
 use Rattle.stateful_play.specs.Shown.{AreShown, text_of}
 use Rattle.stateful_play.specs.Play.{IsPlayOf}
 use Rattle.stateful_play.specs.Status.{Known, HoldsPrefix, HoldsPart, Writes, AsksFor, IsLoaded, IsPlayed, IsHaltedAt, status_by}

@@ -2,9 +2,9 @@
 use Rattle.std.proofs.Common.{◌≡◌, ℕ, refl, sym, ◌∙◌}
 use Rattle.std.specs.Ordering.{nat_cmp}
 use Rattle.stateful_db.specs.Member.{Member, here, closed, lost, away}
-use Rattle.stateful_any.specs.Any.{State}
-use Rattle.stateful_any.specs.Entries.{HasOneList}
-use Rattle.stateful_text.specs.declared.shown.Shown.{Shown}
+use Rattle.stateful_db_any.specs.Any.{State}
+use Rattle.stateful_db_any.specs.Entries.{HasOneList}
+use Rattle.stateful_script_text.specs.declared.shown.Shown.{Shown}
 use Rattle.stateful_play.specs.declared.play.Databases.TheVariants as databases
 use Rattle.stateful_play.specs.Database.{ShowsKeys}
 use Rattle.stateful_play.specs.Shown.{AreShownOnce}

@@ -2,14 +2,14 @@
 use Rattle.std.specs.Prelude.{◌≡◌, ℕ, ◌-◌, List}
 use Rattle.std.specs.Ordering.{nat_cmp}
 use Rattle.stateful_db.specs.Member.{Member, here, closed, lost, away}
-use Rattle.stateful_plain.specs.Whole.{Whole}
-use Rattle.stateful_any.specs.Any as any
-use Rattle.stateful_any.specs.Entries.{AreLive}
-use Rattle.stateful_keyless.specs.Keyless as keyless
-use Rattle.stateful_keyless.specs.Compacted as compact
-use Rattle.stateful_text.specs.declared.shown.Shown.{Shown}
-use Rattle.stateful_text.specs.declared.shown.Shown.TheVariants.{Balances, Range, Size, Closed}
-use Rattle.stateful_text.specs.declared.shown.Shown.TheVariants.{Lost, Away}
+use Rattle.stateful_db_plain.specs.Whole.{Whole}
+use Rattle.stateful_db_any.specs.Any as any
+use Rattle.stateful_db_any.specs.Entries.{AreLive}
+use Rattle.stateful_db_keyless.specs.Keyless as keyless
+use Rattle.stateful_db_keyless.specs.Compacted as compact
+use Rattle.stateful_script_text.specs.declared.shown.Shown.{Shown}
+use Rattle.stateful_script_text.specs.declared.shown.Shown.TheVariants.{Balances, Range, Size, Closed}
+use Rattle.stateful_script_text.specs.declared.shown.Shown.TheVariants.{Lost, Away}
 
 -- of one that is kept whole: the range and the balances of the newest state
 abbrev pub whole_of : Member Whole → Shown

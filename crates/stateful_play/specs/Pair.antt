@@ -8,16 +8,16 @@ use Rattle.stateful_types.specs.Number.{u64_format}
 use Rattle.stateful_types.specs.declared.target.Target.{Target}
 use Rattle.stateful_db.specs.Pair.{left, right, by_number}
 use Rattle.stateful_db.specs.Pair as two
-use Rattle.stateful_any.specs.Shown.{Draft, Seal}
-use Rattle.stateful_any.specs.Shown as any
-use Rattle.stateful_keyless.specs.KeylessShown as keyless
-use Rattle.stateful_keyless.specs.declared.keyless.batch.KeylessMerkleized.{KeylessMerkleized}
-use Rattle.stateful_keyless.specs.declared.keyless.batch.KeylessUnmerkleized.{KeylessUnmerkleized}
+use Rattle.stateful_db_any.specs.Shown.{Draft, Seal}
+use Rattle.stateful_db_any.specs.Shown as any
+use Rattle.stateful_db_keyless.specs.KeylessShown as keyless
+use Rattle.stateful_db_keyless.specs.declared.keyless.batch.KeylessMerkleized.{KeylessMerkleized}
+use Rattle.stateful_db_keyless.specs.declared.keyless.batch.KeylessUnmerkleized.{KeylessUnmerkleized}
 use Rattle.stateful_bank_logs.specs.Kept.{balances, balances_member, balances_next, balances_failed}
 use Rattle.stateful_bank_logs.specs.Kept.{amounts, amounts_member, amounts_next, amounts_failed}
-use Rattle.stateful_pair_bank.specs.Blank.{PairDatabases, AreBlank}
-use Rattle.stateful_pair_bank.specs.Pair.{States, pair_rules, HoldsPair}
-use Rattle.stateful_world_play.specs.Grounds.{Grounds}
+use Rattle.stateful_bank_pair.specs.Blank.{PairDatabases, AreBlank}
+use Rattle.stateful_bank_pair.specs.Pair.{States, pair_rules, HoldsPair}
+use Rattle.stateful_play_world.specs.Grounds.{Grounds}
 
 module _ {o : ord.Ghosts ℕ} {e : eq.Ghosts ℕ} {p : partial.Ghosts ℕ} where
   abbrev pub pair : Grounds (Draft ℕ ℕ × KeylessUnmerkleized ℕ) (Seal ℕ ℕ × KeylessMerkleized ℕ)

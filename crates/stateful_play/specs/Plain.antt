@@ -3,13 +3,13 @@ use Rattle.std.specs.Prelude.{ℕ}
 use Rattle.stateful_types.specs.declared.target.Target.{Target}
 use Rattle.stateful_db.specs.Single.{single}
 use Rattle.stateful_db.specs.declared.held.Held.TheVariants as held
-use Rattle.stateful_plain.specs.Shown.{SealShows}
-use Rattle.stateful_plain.specs.Whole.{Whole, begun, initial, target_of}
-use Rattle.stateful_plain.specs.declared.batch.PlainMerkleized.{PlainMerkleized}
-use Rattle.stateful_plain.specs.declared.batch.PlainUnmerkleized.{PlainUnmerkleized}
-use Rattle.stateful_single_bank.specs.Single.{single_rules, HoldsEntries}
-use Rattle.stateful_single_bank.specs.Blank.{OneDatabase, member_of, next_of, IsBlank}
-use Rattle.stateful_world_play.specs.Grounds.{Grounds}
+use Rattle.stateful_db_plain.specs.Shown.{SealShows}
+use Rattle.stateful_db_plain.specs.Whole.{Whole, begun, initial, target_of}
+use Rattle.stateful_db_plain.specs.declared.batch.PlainMerkleized.{PlainMerkleized}
+use Rattle.stateful_db_plain.specs.declared.batch.PlainUnmerkleized.{PlainUnmerkleized}
+use Rattle.stateful_bank_plain.specs.Single.{single_rules, HoldsEntries}
+use Rattle.stateful_bank_plain.specs.Blank.{OneDatabase, member_of, next_of, IsBlank}
+use Rattle.stateful_play_world.specs.Grounds.{Grounds}
 
 -- how often the database has failed
 abbrev pub failed_of : OneDatabase → ℕ → ℕ

@@ -3,8 +3,8 @@ use Rattle.std.specs.Prelude.{◌≡◌, List, Option, unwrap_or}
 use Rattle.stateful_actor.specs.declared.driving.Halted.{Halted}
 use Rattle.stateful_script.specs.declared.script.Script.{Script}
 use Rattle.stateful_script.specs.declared.script.World.TheVariants as world
-use Rattle.stateful_text.specs.declared.shown.Label.{Label}
-use Rattle.stateful_world_play.specs.Play.{IsPlayOn}
+use Rattle.stateful_script_text.specs.declared.shown.Label.{Label}
+use Rattle.stateful_play_world.specs.Play.{IsPlayOn}
 use Rattle.stateful_play.specs.Plain.{plain}
 use Rattle.stateful_play.specs.Pair.{pair}
 use Rattle.stateful_play.specs.Triple.{triple}

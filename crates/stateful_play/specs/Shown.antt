@@ -4,21 +4,21 @@ use Rattle.stateful_types.specs.declared.round.Round.{Round}
 use Rattle.stateful_bank.specs.declared.ask.Ask.{Ask}
 use Rattle.stateful_bank.specs.declared.block.BankBlock.{BankBlock}
 use Rattle.stateful_history.specs.declared.entry.Entry.{Entry}
-use Rattle.stateful_processing.specs.declared.error.StepError.{StepError}
-use Rattle.stateful_processing.specs.declared.error.StepError.TheVariants as error
+use Rattle.stateful_loop.specs.declared.error.StepError.{StepError}
+use Rattle.stateful_loop.specs.declared.error.StepError.TheVariants as error
 use Rattle.stateful_actor.specs.declared.driving.Halted.{Halted}
-use Rattle.stateful_text.specs.declared.shown.Label.{Label}
-use Rattle.stateful_text.specs.declared.shown.Shown.{Shown}
-use Rattle.stateful_text.specs.Transcript.{Ending, WithLast, HaltedAt, transcript}
+use Rattle.stateful_script_text.specs.declared.shown.Label.{Label}
+use Rattle.stateful_script_text.specs.declared.shown.Shown.{Shown}
+use Rattle.stateful_script_text.specs.Transcript.{Ending, WithLast, HaltedAt, transcript}
 use Rattle.stateful_play.specs.declared.play.Databases.{Databases}
 use Rattle.stateful_play.specs.declared.play.Databases.TheVariants as databases
 use Rattle.stateful_play.specs.declared.play.History.{History}
 use Rattle.stateful_play.specs.declared.play.History.TheVariants as history
 use Rattle.stateful_play.specs.declared.play.Played.{Played}
 use Rattle.stateful_play.specs.Database.{whole_of, ShowsKeys, range_of, size_of}
-use Rattle.stateful_single_bank.specs.Blank.{member_of}
+use Rattle.stateful_bank_plain.specs.Blank.{member_of}
 use Rattle.stateful_bank_logs.specs.Kept.{balances_member, amounts_member}
-use Rattle.stateful_triple_bank.specs.Blank.{latest_member}
+use Rattle.stateful_bank_triple.specs.Blank.{latest_member}
 
 -- the entries of a play
 abbrev pub entries_of : History → List (Entry BankBlock Round Ask)

@@ -8,9 +8,9 @@ use Rattle.std.specs.Io.KnownBytes.{Consumes, Appends, IsAtEnd}
 use Rattle.stateful_actor.specs.declared.driving.Halted.{Halted}
 use Rattle.stateful_script.specs.Script.{script_or_line}
 use Rattle.stateful_script.specs.declared.script.Script.{Script}
-use Rattle.stateful_text.specs.Transcript.{usage_line, script_line}
-use Rattle.stateful_text.specs.declared.shown.Label.{Label}
-use Rattle.stateful_text.specs.declared.shown.Shown.{Shown}
+use Rattle.stateful_script_text.specs.Transcript.{usage_line, script_line}
+use Rattle.stateful_script_text.specs.declared.shown.Label.{Label}
+use Rattle.stateful_script_text.specs.declared.shown.Shown.{Shown}
 use Rattle.stateful_play.specs.declared.play.Played.{Played}
 use Rattle.stateful_play.specs.declared.status.Status.{Status}
 use Rattle.stateful_play.specs.declared.status.Status.TheVariants as status

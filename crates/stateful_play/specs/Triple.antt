@@ -8,21 +8,21 @@ use Rattle.std.specs.declared.cmp.PartialOrd as partial
 use Rattle.stateful_types.specs.Number.{u64_format}
 use Rattle.stateful_db.specs.Pair.{left, right, by_number}
 use Rattle.stateful_db.specs.Pair as two
-use Rattle.stateful_any.specs.Shown.{Draft, Seal}
-use Rattle.stateful_any.specs.Shown as any
-use Rattle.stateful_keyless.specs.KeylessShown as keyless
-use Rattle.stateful_keyless.specs.CompactShown as compact
-use Rattle.stateful_keyless.specs.declared.compact.batch.KeylessUnjournaledMerkleized.{KeylessUnjournaledMerkleized}
-use Rattle.stateful_keyless.specs.declared.compact.batch.KeylessUnjournaledUnmerkleized.{KeylessUnjournaledUnmerkleized}
-use Rattle.stateful_keyless.specs.declared.keyless.batch.KeylessMerkleized.{KeylessMerkleized}
-use Rattle.stateful_keyless.specs.declared.keyless.batch.KeylessUnmerkleized.{KeylessUnmerkleized}
+use Rattle.stateful_db_any.specs.Shown.{Draft, Seal}
+use Rattle.stateful_db_any.specs.Shown as any
+use Rattle.stateful_db_keyless.specs.KeylessShown as keyless
+use Rattle.stateful_db_keyless.specs.CompactShown as compact
+use Rattle.stateful_db_keyless.specs.declared.compact.batch.KeylessUnjournaledMerkleized.{KeylessUnjournaledMerkleized}
+use Rattle.stateful_db_keyless.specs.declared.compact.batch.KeylessUnjournaledUnmerkleized.{KeylessUnjournaledUnmerkleized}
+use Rattle.stateful_db_keyless.specs.declared.keyless.batch.KeylessMerkleized.{KeylessMerkleized}
+use Rattle.stateful_db_keyless.specs.declared.keyless.batch.KeylessUnmerkleized.{KeylessUnmerkleized}
 use Rattle.stateful_bank_logs.specs.Kept.{balances, balances_member, balances_next, balances_failed}
 use Rattle.stateful_bank_logs.specs.Kept.{amounts, amounts_member, amounts_next, amounts_failed}
-use Rattle.stateful_triple_bank.specs.Blank.{TripleDatabases, AreBlank}
-use Rattle.stateful_triple_bank.specs.Blank.{latest_member, latest_next, latest_failed}
-use Rattle.stateful_triple_bank.specs.Logs.{latest}
-use Rattle.stateful_triple_bank.specs.Triple.{States, Targets, triple_rules, HoldsTriple}
-use Rattle.stateful_world_play.specs.Grounds.{Grounds}
+use Rattle.stateful_bank_triple.specs.Blank.{TripleDatabases, AreBlank}
+use Rattle.stateful_bank_triple.specs.Blank.{latest_member, latest_next, latest_failed}
+use Rattle.stateful_bank_triple.specs.Logs.{latest}
+use Rattle.stateful_bank_triple.specs.Triple.{States, Targets, triple_rules, HoldsTriple}
+use Rattle.stateful_play_world.specs.Grounds.{Grounds}
 
 module _ {o : ord.Ghosts ℕ} {e : eq.Ghosts ℕ} {p : partial.Ghosts ℕ} where
   abbrev pub triple : Grounds

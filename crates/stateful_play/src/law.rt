@@ -2,7 +2,7 @@
 
 ghost use Rattle.stateful_play.specs.Shown.{AreShownOnce};
 
-use stateful_any::entries_are_one;
+use stateful_db_any::entries_are_one;
 
 /// What is shown of the databases of a play is pinned: no other list is shown of them.
 pub fn databases_are_shown_once()

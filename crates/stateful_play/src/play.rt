@@ -7,19 +7,19 @@ ghost use Rattle.stateful_play.specs.Shown.{AreShown};
 
 use crate::shown::shown;
 use stateful_actor::Halted;
-use stateful_any::AnyDb;
 use stateful_bank::{Ask, BankBlock};
+use stateful_bank_pair::Pair;
+use stateful_bank_plain::Single;
+use stateful_bank_triple::{AmountLogs, Triple};
 use stateful_db::Held;
+use stateful_db_any::AnyDb;
+use stateful_db_keyless::KeylessDb;
+use stateful_db_plain::Plain;
 use stateful_history::Entry;
-use stateful_keyless::KeylessDb;
-use stateful_pair_bank::Pair;
-use stateful_plain::Plain;
+use stateful_play_world::play_in;
 use stateful_script::{Script, World};
-use stateful_single_bank::Single;
-use stateful_text::{Label, Shown};
-use stateful_triple_bank::{AmountLogs, Triple};
+use stateful_script_text::{Label, Shown};
 use stateful_types::{OutOfMemory, Round};
-use stateful_world_play::play_in;
 use std::alloc::Global;
 
 /// The entries of a play, by its world.

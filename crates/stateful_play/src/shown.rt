@@ -1,18 +1,18 @@
 //! What is shown of databases.
 
 ghost use Rattle.std.specs.Prelude.{◌≡◌, ◌∷◌, [], IfOk};
-ghost use Rattle.stateful_single_bank.specs.Blank.{member_of};
+ghost use Rattle.stateful_bank_plain.specs.Blank.{member_of};
 ghost use Rattle.stateful_bank_logs.specs.Kept.{balances_member, amounts_member};
-ghost use Rattle.stateful_triple_bank.specs.Blank.{latest_member};
+ghost use Rattle.stateful_bank_triple.specs.Blank.{latest_member};
 ghost use Rattle.stateful_play.specs.Database.{whole_of, ShowsKeys, range_of, size_of};
 ghost use Rattle.stateful_play.specs.Shown.{AreShown};
 
 use crate::play::Databases;
-use stateful_any::AnyDb;
 use stateful_db::Held;
-use stateful_keyless::{CompactDb, KeylessDb};
-use stateful_plain::Plain;
-use stateful_text::Shown;
+use stateful_db_any::AnyDb;
+use stateful_db_keyless::{CompactDb, KeylessDb};
+use stateful_db_plain::Plain;
+use stateful_script_text::Shown;
 use stateful_types::{Items, OutOfMemory};
 use std::alloc::Global;
 use std::collections::BTreeMap;

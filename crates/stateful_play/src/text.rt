@@ -1,12 +1,12 @@
 //! The text of a play.
 
 ghost use Rattle.std.specs.Prelude.{◌≡◌, IfOk};
-ghost use Rattle.stateful_text.specs.Transcript.{ending_of};
+ghost use Rattle.stateful_script_text.specs.Transcript.{ending_of};
 ghost use Rattle.stateful_play.specs.Shown.{error_name, ending_by, text_of};
 
 use crate::play::{History, Told};
 use stateful_actor::{Halted, StepError};
-use stateful_text::{End, transcript};
+use stateful_script_text::{End, transcript};
 use stateful_types::OutOfMemory;
 use std::alloc::Global;
 

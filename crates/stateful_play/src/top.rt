@@ -7,7 +7,7 @@ ghost use Rattle.std.specs.List.{list_all};
 ghost use Rattle.std.specs.Str.{bytes_eq};
 ghost use Rattle.std.specs.Io.KnownBytes.{Appends};
 ghost use Rattle.stateful_types.specs.Causes.{Rose};
-ghost use Rattle.stateful_text.specs.Transcript.{usage_line, script_line};
+ghost use Rattle.stateful_script_text.specs.Transcript.{usage_line, script_line};
 ghost use Rattle.stateful_play.specs.declared.play.Played.{Played};
 ghost use Rattle.stateful_play.specs.Status.{asks_play, IsLoaded, IsUnread, Stops, IsPlayed, AsksFor};
 ghost use Rattle.stateful_play.specs.Status.{HoldsPrefix, HoldsPart, IsHaltedAt, status_by, Writes};
@@ -19,7 +19,7 @@ use crate::play::{Played, Told, play};
 use crate::status::{Outcome, Status};
 use crate::text::text_of;
 use stateful_script::{Script, ScriptError, read_script};
-use stateful_text::{script_line, usage_line};
+use stateful_script_text::{script_line, usage_line};
 use stateful_types::{OutOfMemory, ReadError, Sink, SinkFault, Source, read_all, write_all};
 use std::alloc::Global;
 

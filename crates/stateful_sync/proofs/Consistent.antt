@@ -12,8 +12,8 @@ use Rattle.stateful_types.specs.declared.anchor.Anchor.{Anchor}
 use Rattle.stateful_types.specs.declared.digest.Digest.{Digest}
 use Rattle.stateful_sync.specs.Classify.{anchored, height_at, Passes, below, again, further, Leads, Refuses, conflicts, skips, RefusesAt, IsByHeight, IsConsistent}
 use Rattle.stateful_sync.specs.declared.handover.Point.{Point}
-use Rattle.stateful_plan.specs.declared.error.SyncError.{SyncError}
-use Rattle.stateful_plan.specs.declared.error.SyncError.TheVariants.{OutOfMemory}
+use Rattle.stateful_sync_plan.specs.declared.error.SyncError.{SyncError}
+use Rattle.stateful_sync_plan.specs.declared.error.SyncError.TheVariants.{OutOfMemory}
 
 contained : {X : Type 0} (P : X → Type 0) (xs : List X) (x : X) → Contains xs x → P x → Any P xs
 contained P xs x (k, lt, is) p = (k, x, lt, is, p)

@@ -10,8 +10,8 @@ use Rattle.stateful_types.specs.declared.anchor.Anchor.{Anchor}
 use Rattle.stateful_sync.specs.Classify.{anchored, place_of, Passes, below, again, further, Refuses, conflicts, skips, Leads, RefusesAt, IsByHeight, IsRefusal, IsClassified, height_at, handover_at, handover_by, retained_of}
 use Rattle.stateful_sync.specs.declared.handover.Handover.{Handover}
 use Rattle.stateful_sync.specs.declared.handover.Point.{Point}
-use Rattle.stateful_plan.specs.declared.error.SyncError.{SyncError}
-use Rattle.stateful_plan.specs.declared.error.SyncError.TheVariants.{Database, TargetMismatch, MissingBlock, CompletedConflict, SkippedHeight, ConflictAtAnchor, OutOfMemory}
+use Rattle.stateful_sync_plan.specs.declared.error.SyncError.{SyncError}
+use Rattle.stateful_sync_plan.specs.declared.error.SyncError.TheVariants.{Database, TargetMismatch, MissingBlock, CompletedConflict, SkippedHeight, ConflictAtAnchor, OutOfMemory}
 use Rattle.stateful_sync.proofs.Sorting.{one_by_height}
 
 module _ {B : Type 0} (header : Header B) (anchor : Anchor) where

@@ -10,9 +10,9 @@ use Rattle.stateful_types.specs.declared.anchor.Anchor.{Anchor}
 use Rattle.stateful_sync.specs.declared.handover.Point.{Point}
 use Rattle.stateful_sync.specs.declared.handover.Handover.{Handover}
 use Rattle.stateful_sync.specs.declared.handover.Handover.TheVariants.{Covered, Reflected, Apply}
-use Rattle.stateful_plan.specs.declared.error.SyncError.{SyncError}
-use Rattle.stateful_plan.specs.declared.error.SyncError.TheVariants.{SkippedHeight}
-use Rattle.stateful_plan.specs.declared.error.SyncError.TheVariants.{ConflictAtAnchor}
+use Rattle.stateful_sync_plan.specs.declared.error.SyncError.{SyncError}
+use Rattle.stateful_sync_plan.specs.declared.error.SyncError.TheVariants.{SkippedHeight}
+use Rattle.stateful_sync_plan.specs.declared.error.SyncError.TheVariants.{ConflictAtAnchor}
 
 -- the anchor's place
 abbrev pub anchored : Anchor → Point

@@ -20,7 +20,7 @@ ghost use Rattle.stateful_sync.specs.Classify.{Passes, Leads, Refuses, RefusesAt
 ghost use Rattle.stateful_sync.specs.Classify.{IsClassified, IsRefusal, IsConsistent};
 
 use crate::handover::{Handover, Point};
-use stateful_plan::SyncError;
+use stateful_sync_plan::SyncError;
 use stateful_types::{Anchor, Block, Digested, Height};
 use std::alloc::Global;
 use std::cmp::Ordering;

@@ -7,7 +7,7 @@
 //! block was recorded or the sync had ended by then. Once the databases have converged,
 //! [`classify`] says which of the retained blocks they already hold, and which are to be applied.
 //!
-//! What a node remembers of its sync, and from which block one starts, is `stateful_plan`'s. Its
+//! What a node remembers of its sync, and from which block one starts, is `stateful_sync_plan`'s. Its
 //! items are handed on, so that this crate is the one to import.
 #![tactic(auto)]
 
@@ -23,7 +23,7 @@ pub use classification::classify;
 pub use coordinator::CoordinatorState;
 pub use handover::Handover;
 pub use mailbox::Mailbox;
-pub use stateful_plan::{
+pub use stateful_sync_plan::{
     MemoryPlanStore, Missing, PlanCall, PlanError, PlanStore, Resolved, Start, StoreFault,
     SyncError, SyncPlan, SyncState, no_state_begins_another, open_set, resolve, resolve_fetched,
 };

@@ -1,7 +1,7 @@
 //! The blocks of the tests, by their places.
 
 use crate::{End, FakeBlock};
-use stateful_plain::PlainState;
+use stateful_db_plain::PlainState;
 use stateful_types::{Digest, Digested, Epoch, Height, Round, Target, View};
 use std::alloc::Global;
 use std::collections::BTreeMap;

@@ -2,16 +2,16 @@
 
 ghost use Rattle.std.specs.Prelude.{◌≡◌, None, IfOk};
 ghost use Rattle.stateful_table.specs.Table.{at};
-ghost use Rattle.stateful_requests.specs.Request.{ticket_by};
+ghost use Rattle.stateful_exec_tables.specs.Request.{ticket_by};
 
 use super::blocks::{COUNT, blocks, round};
 use crate::{End, Fake, FakeBlock, Order};
 use stateful_db::{DatabaseSet, Held, ProposalKind};
+use stateful_db_plain::{Plain, PlainMedium};
 use stateful_exec::{
     Acquired, BuildStart, ExecError, Joined, Processor, ProposalFault, Request, Verifier,
 };
 use stateful_history::{Decision, How, JobKind, Mark};
-use stateful_plain::{Plain, PlainMedium};
 use stateful_types::{
     Ancestry, Anchor, Digest, Digested, Handoff, Items, MemoryStore, Moved, OutOfMemory, Round,
     Share,

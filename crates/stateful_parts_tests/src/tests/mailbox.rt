@@ -3,8 +3,8 @@
 ghost use Rattle.std.specs.Prelude.{◌≤◌};
 
 use super::letter::{Letter, ancestry, block};
+use stateful_actor_mailbox::{Mailbox, Reply, Stopped};
 use stateful_history::{Decision, Event, Mark};
-use stateful_mailbox::{Mailbox, Reply, Stopped};
 use stateful_types::{DrawError, Feedback, Handoff, Height, Moved, OutOfMemory};
 use std::alloc::Global;
 use std::process::Abort;

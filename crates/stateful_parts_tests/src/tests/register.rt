@@ -1,9 +1,9 @@
 //! Which events a register takes, and how all live work ends.
 
 use super::letter::{Letter, ancestry, block};
+use stateful_actor_register::Register;
 use stateful_db::Flushed;
 use stateful_history::{Event, How, JobKind, Mark};
-use stateful_register::Register;
 use stateful_types::{Digest, Floor, Height, Items, OutOfMemory};
 use std::alloc::Global;
 use std::process::Abort;

@@ -2,7 +2,7 @@
 
 use super::letter::{Letter, block};
 use stateful_history::{Decision, Entry, Event, How, JobKind, Mark};
-use stateful_text::{End, Label, Shown, script_line, transcript, usage_line};
+use stateful_script_text::{End, Label, Shown, script_line, transcript, usage_line};
 use stateful_types::{Anchor, Digest, Digested, Height, Items, OutOfMemory, Share};
 use std::alloc::Global;
 use std::test::Fail;

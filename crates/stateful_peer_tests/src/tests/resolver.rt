@@ -1,11 +1,11 @@
 //! Runs of a resolver, told as tables.
 
 use bytes::Bytes;
+use stateful_db_source::{AttachableResolverSet, ServeFault, SyncSource};
 use stateful_p2p::{
     Actor, ActorEvent, ActorOut, Config, Mailbox, Request, Response, ResponseDropped, TooManyOps,
     max_payload_size,
 };
-use stateful_source::{AttachableResolverSet, ServeFault, SyncSource};
 use stateful_types::{
     CodecError, Digest, Failed, Faulty, Items, Location, Moved, Operation, OutOfMemory, Share,
     read_u8, read_u64, write_u8, write_u64,

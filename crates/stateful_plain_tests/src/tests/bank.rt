@@ -1,12 +1,12 @@
 //! Blocks that the bank builds and runs, with their roots and turns.
 
 use stateful_bank::{Ask, BankBlock, Op};
-use stateful_bank_world::Bank;
+use stateful_bank_app::Bank;
+use stateful_bank_plain::{Single, step};
 use stateful_db::{
     Application, DatabaseSet, Held, Hooked, Input, Merkleized, ProposalKind, Proposed,
 };
-use stateful_plain::{Plain, PlainMedium, PlainMerkleized, PlainState};
-use stateful_single_bank::{Single, step};
+use stateful_db_plain::{Plain, PlainMedium, PlainMerkleized, PlainState};
 use stateful_types::{
     Ancestry, Digest, Digested, Epoch, Finality, Handoff, Height, Items, Moved, Round, Target, View,
 };

@@ -1,11 +1,11 @@
 //! Openings over a medium that keeps the empty state alone.
 
 use stateful_bank::BankBlock;
-use stateful_bank_world::Bank;
+use stateful_bank_app::Bank;
+use stateful_bank_plain::Single;
 use stateful_db::{DatabaseSet, Held};
-use stateful_plain::{PlainMedium, PlainState};
-use stateful_plan::{Missing, SyncError, open_set};
-use stateful_single_bank::Single;
+use stateful_db_plain::{PlainMedium, PlainState};
+use stateful_sync_plan::{Missing, SyncError, open_set};
 use stateful_types::{
     Anchor, Digest, Digested, Epoch, Height, Items, MemoryStore, Round, Target, View,
 };

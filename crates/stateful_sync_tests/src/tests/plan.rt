@@ -3,7 +3,7 @@
 ghost use Rattle.std.specs.Prelude.{◌≡◌};
 
 use bytes::Bytes;
-use stateful_plan::{
+use stateful_sync_plan::{
     MemoryPlanStore, Missing, PlanCall, PlanError, Resolved, Start, SyncError, SyncPlan, SyncState,
     resolve, resolve_fetched,
 };

@@ -1,7 +1,7 @@
 //! Runs and builds of the bank over any world.
 
 use stateful_bank::{Ask, BankBlock, Op};
-use stateful_bank_world::{Bank, BankBuild, Drafted, Fresh, Sealed, World};
+use stateful_bank_app::{Bank, BankBuild, Drafted, Fresh, Sealed, World};
 use stateful_db::{Application, DatabaseSet, Input};
 use stateful_types::{
     Ancestry, Digested, Epoch, Finality, Handoff, Height, Items, Moved, Round, Target, View,

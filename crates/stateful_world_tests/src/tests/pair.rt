@@ -2,8 +2,8 @@
 
 use super::bank::{Layered, build, depths, is_refused, run_both};
 use super::roots::{FIRST_AMOUNTS, FIRST_BALANCES, SECOND_AMOUNTS, SECOND_BALANCES, range};
-use stateful_bank_world::Sealed;
-use stateful_pair_bank::Pair;
+use stateful_bank_app::Sealed;
+use stateful_bank_pair::Pair;
 use stateful_types::Digest;
 use std::test::Fail;
 

@@ -2,8 +2,8 @@
 
 use super::bank::{Layered, build, run_both};
 use super::roots::{FIRST_AMOUNTS, FIRST_BALANCES, SECOND_AMOUNTS, SECOND_BALANCES, range};
-use stateful_bank_world::Sealed;
-use stateful_triple_bank::Triple;
+use stateful_bank_app::Sealed;
+use stateful_bank_triple::Triple;
 use stateful_types::Digest;
 use std::test::Fail;
 

@@ -2,18 +2,18 @@ use Rattle.std.proofs.Common.{[], Bool, false, refl, sym, ap, ◌∙◌, subst}
 use Rattle.stateful_history.specs.Met.{TrueNames}
 use Rattle.stateful_history.specs.Past.{after_all}
 use Rattle.stateful_history.specs.Honest.{HasHonestStore}
-use Rattle.stateful_standing.specs.Setting.{setting}
-use Rattle.stateful_standing.specs.Storing.{IsStoredNow}
-use Rattle.stateful_keeping.specs.Media.{TargetsRise}
-use Rattle.stateful_whole.specs.Media.{MediaStand, StandsOnMedia}
-use Rattle.stateful_cache.proofs.Cutting.{one_over, none_over}
+use Rattle.stateful_exec_laws.specs.Setting.{setting}
+use Rattle.stateful_exec_laws.specs.Storing.{IsStoredNow}
+use Rattle.stateful_loop_laws.specs.Media.{TargetsRise}
+use Rattle.stateful_actor_laws.specs.Media.{MediaStand, StandsOnMedia}
+use Rattle.stateful_exec_cache.proofs.Cutting.{one_over, none_over}
 use Rattle.stateful_exec.specs.Workings.{workings}
-use Rattle.stateful_register.proofs.Entries.{RegisterStands-none}
-use Rattle.stateful_processing.specs.Moments.{moment}
-use Rattle.stateful_whole.specs.Stands.{Stands}
-use Rattle.stateful_whole.proofs.HistoryStands.{EachStands-constant, history-registered, history-leaves}
-use Rattle.stateful_whole.proofs.RefusedBehind.{leaves-behind}
-use Rattle.stateful_processing.specs.Noted.{noted_all, unobserved}
+use Rattle.stateful_actor_register.proofs.Entries.{RegisterStands-none}
+use Rattle.stateful_loop.specs.Moments.{moment}
+use Rattle.stateful_actor_laws.specs.Stands.{Stands}
+use Rattle.stateful_actor_laws.proofs.HistoryStands.{EachStands-constant, history-registered, history-leaves}
+use Rattle.stateful_actor_laws.proofs.RefusedBehind.{leaves-behind}
+use Rattle.stateful_loop.specs.Noted.{noted_all, unobserved}
 use Rattle.stateful_actor.specs.Faults.{tally}
 use Rattle.stateful_actor.specs.Notes.{applied_along, NotesRefused}
 use Rattle.stateful_actor.proofs.Adding.{event_at, events-push, longer-past, Steps-push}

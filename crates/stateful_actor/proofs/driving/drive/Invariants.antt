@@ -2,17 +2,17 @@ use Rattle.std.proofs.Common.{◌≡◌, ◌++◌, false, [], map}
 use Rattle.stateful_history.specs.Met.{TrueNames}
 use Rattle.stateful_history.specs.Past.{after_all}
 use Rattle.stateful_history.specs.Honest.{HasHonestStore}
-use Rattle.stateful_standing.specs.Setting.{setting}
-use Rattle.stateful_keeping.specs.Media.{TargetsRise}
-use Rattle.stateful_register.specs.Register.{RegisterStands}
+use Rattle.stateful_exec_laws.specs.Setting.{setting}
+use Rattle.stateful_loop_laws.specs.Media.{TargetsRise}
+use Rattle.stateful_actor_register.specs.Register.{RegisterStands}
 use Rattle.stateful_exec.specs.Workings.{workings}
-use Rattle.stateful_processing.specs.Moments.{moment}
-use Rattle.stateful_processing.specs.Noted.{noted_all}
-use Rattle.stateful_whole.specs.Entering.{Steps}
+use Rattle.stateful_loop.specs.Moments.{moment}
+use Rattle.stateful_loop.specs.Noted.{noted_all}
+use Rattle.stateful_actor_laws.specs.Entering.{Steps}
 use Rattle.stateful_actor.specs.Faults.{tally, HasNotFallen}
 use Rattle.stateful_actor.specs.Notes.{HasObserved, applied_along}
-use Rattle.stateful_whole.specs.Machine.{IsSafe, numbered}
-use Rattle.stateful_whole.specs.Media.{MediaStand}
+use Rattle.stateful_actor_laws.specs.Machine.{IsSafe, numbered}
+use Rattle.stateful_actor_laws.specs.Media.{MediaStand}
 use Rattle.stateful_actor.proofs.driving.drive.Given as goal
 
 abbrev pub invariant-loop-event : goal.invariant-loop-event

@@ -1,11 +1,11 @@
 use Rattle.std.proofs.Common.{rules, ◌≡◌, [], Err, ◌∙◌, refl, ap}
 use Rattle.stateful_history.specs.Past.{after_all}
 use Rattle.stateful_exec.specs.Workings.{workings}
-use Rattle.stateful_processing.proofs.Handing.{converted, err_holds}
-use Rattle.stateful_processing.specs.Moments.{moment}
-use Rattle.stateful_processing.specs.declared.error.StepError.TheVariants.{OutOfMemory}
-use Rattle.stateful_whole.specs.Stands.{StandsAsWell}
-use Rattle.stateful_whole.proofs.LeftFurther.{unmoved-further}
+use Rattle.stateful_loop.proofs.Handing.{converted, err_holds}
+use Rattle.stateful_loop.specs.Moments.{moment}
+use Rattle.stateful_loop.specs.declared.error.StepError.TheVariants.{OutOfMemory}
+use Rattle.stateful_actor_laws.specs.Stands.{StandsAsWell}
+use Rattle.stateful_actor_laws.proofs.LeftFurther.{unmoved-further}
 use Rattle.stateful_actor.proofs.Adding.{registered-longer, longer-past, added}
 use Rattle.stateful_actor.proofs.MediaKept.{keeps-unchanged, keeps-left}
 use Rattle.stateful_actor.proofs.OtherErrors.{only_bad}

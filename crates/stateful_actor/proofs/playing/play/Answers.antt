@@ -1,15 +1,15 @@
 use Rattle.std.proofs.Common.{inl, inr, refl, arith, ap}
 use Rattle.stateful_exec.specs.Workings.{workings}
-use Rattle.stateful_processing.specs.Left.{keeps}
-use Rattle.stateful_processing.specs.Moments.{executing, moment}
-use Rattle.stateful_processing.proofs.Handing.{converted, err_holds}
-use Rattle.stateful_processing.proofs.Leaving.{keeps_same}
-use Rattle.stateful_processing.proofs.SoundingOpenings.{cleared_sound}
-use Rattle.stateful_whole.specs.Left.{going}
+use Rattle.stateful_loop.specs.Left.{keeps}
+use Rattle.stateful_loop.specs.Moments.{executing, moment}
+use Rattle.stateful_loop.proofs.Handing.{converted, err_holds}
+use Rattle.stateful_loop.proofs.Leaving.{keeps_same}
+use Rattle.stateful_loop.proofs.SoundingOpenings.{cleared_sound}
+use Rattle.stateful_actor_laws.specs.Left.{going}
 use Rattle.stateful_actor.proofs.OtherErrors.{play_other}
 use Rattle.stateful_actor.proofs.NotesOfEvents.{ends_none, follow_along, NotesAlong-further, NotesAlong-same}
-use Rattle.stateful_processing.proofs.AppliedMarks.{AppliesNone-made, AppliesNone-then}
-use Rattle.stateful_processing.specs.Noted.{unobserved}
+use Rattle.stateful_loop.proofs.AppliedMarks.{AppliesNone-made, AppliesNone-then}
+use Rattle.stateful_loop.specs.Noted.{unobserved}
 use Rattle.stateful_actor.proofs.playing.play.Goals as goal
 
 pub returns-in_err-advance-clause-other : goal.returns-in_err-advance-clause-other

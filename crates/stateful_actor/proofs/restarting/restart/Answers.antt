@@ -1,10 +1,10 @@
 use Rattle.std.proofs.Common.{[], inr, arith, refl, ap, ◌∙◌}
 use Rattle.stateful_exec.specs.Workings.{workings}
-use Rattle.stateful_processing.specs.Moments.{executing, moment}
-use Rattle.stateful_processing.proofs.Handing.{err_holds}
-use Rattle.stateful_processing.proofs.SoundingOpenings.{opens_sound}
+use Rattle.stateful_loop.specs.Moments.{executing, moment}
+use Rattle.stateful_loop.proofs.Handing.{err_holds}
+use Rattle.stateful_loop.proofs.SoundingOpenings.{opens_sound}
 use Rattle.stateful_actor.proofs.NotesOfEvents.{ends_none, NotesAlong-none}
-use Rattle.stateful_processing.proofs.AppliedMarks.{AppliesNone-made, AppliesNone-then}
+use Rattle.stateful_loop.proofs.AppliedMarks.{AppliesNone-made, AppliesNone-then}
 use Rattle.stateful_actor.proofs.restarting.restart.Goals as goal
 
 pub returns-in_err-open-clause-numbers : goal.returns-in_err-open-clause-numbers

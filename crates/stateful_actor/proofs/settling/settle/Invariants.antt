@@ -1,12 +1,12 @@
 use Rattle.std.proofs.Common.{◌≤◌}
-use Rattle.stateful_requests.specs.Tables.{Rises}
+use Rattle.stateful_exec_tables.specs.Tables.{Rises}
 use Rattle.stateful_exec.specs.Workings.{workings}
-use Rattle.stateful_processing.specs.Moments.{executing, moment}
-use Rattle.stateful_processing.specs.Rules.{Along}
-use Rattle.stateful_processing.specs.Sound.{Sound}
-use Rattle.stateful_processing.proofs.Falling.{weight}
+use Rattle.stateful_loop.specs.Moments.{executing, moment}
+use Rattle.stateful_loop.specs.Rules.{Along}
+use Rattle.stateful_loop.specs.Sound.{Sound}
+use Rattle.stateful_loop.proofs.Falling.{weight}
 use Rattle.stateful_actor.specs.Faults.{tally, HasNotFallen}
-use Rattle.stateful_processing.specs.Noted.{NotesFollow}
+use Rattle.stateful_loop.specs.Noted.{NotesFollow}
 use Rattle.stateful_actor.proofs.settling.settle.Given as goal
 
 abbrev pub invariant-rules : goal.invariant-rules

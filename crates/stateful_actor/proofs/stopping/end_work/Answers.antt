@@ -1,9 +1,9 @@
 use Rattle.std.proofs.Common.{ℕ, List, sym, subst}
 use Rattle.stateful_history.specs.Past.{after_entry}
 use Rattle.stateful_history.specs.declared.mark.Mark.{Mark}
-use Rattle.stateful_register.specs.Register.{RegisterStands}
-use Rattle.stateful_register.proofs.Entries.{RegisterStands-same}
-use Rattle.stateful_whole.specs.Machine.{numbered}
+use Rattle.stateful_actor_register.specs.Register.{RegisterStands}
+use Rattle.stateful_actor_register.proofs.Entries.{RegisterStands-same}
+use Rattle.stateful_actor_laws.specs.Machine.{numbered}
 use Rattle.stateful_actor.proofs.stopping.end_work.Goals as goal
 
 pub returns : goal.returns

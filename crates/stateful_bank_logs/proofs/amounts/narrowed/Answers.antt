@@ -2,7 +2,7 @@ use Rattle.std.proofs.Common.{◌∷◌, Err, ap, sym, ◌∙◌, arith}
 use Rattle.std.proofs.lemmas.Bool.{false≢true}
 use Rattle.stateful_db.specs.Disk.{point}
 use Rattle.stateful_db.proofs.Chains.{has_id-point}
-use Rattle.stateful_keyless.specs.KeylessStored.{standing_of}
+use Rattle.stateful_db_keyless.specs.KeylessStored.{standing_of}
 use Rattle.stateful_bank_logs.proofs.Appending.{below_cause, outside_cause, inside_parent, below_parent, outside_parent}
 use Rattle.stateful_bank_logs.proofs.amounts.narrowed.Goals as goal
 

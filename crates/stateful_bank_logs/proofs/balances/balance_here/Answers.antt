@@ -6,8 +6,8 @@ use Rattle.std.proofs.lemmas.Bool.{false≢true}
 use Rattle.stateful_db.specs.Disk.{point}
 use Rattle.stateful_db.proofs.Chains.{has_id-point}
 use Rattle.stateful_types.specs.Number.{u64_format}
-use Rattle.stateful_any.specs.Any.{value_at, sealed}
-use Rattle.stateful_any.specs.Stored.{standing_of}
+use Rattle.stateful_db_any.specs.Any.{value_at, sealed}
+use Rattle.stateful_db_any.specs.Stored.{standing_of}
 use Rattle.stateful_bank_logs.proofs.Balancing.{shows_after, value_after}
 use Rattle.stateful_bank_logs.proofs.balances.balance_here.Goals as goal
 

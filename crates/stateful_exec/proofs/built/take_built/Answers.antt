@@ -1,6 +1,6 @@
 use Rattle.std.proofs.Common.{refl}
 use Rattle.stateful_exec.specs.Built.FaultsBuilt.{other, not_kept}
-use Rattle.stateful_requests.proofs.Queues.{handed_on}
+use Rattle.stateful_exec_tables.proofs.Queues.{handed_on}
 use Rattle.stateful_exec.proofs.built.take_built.Goals as goal
 
 pub returns-in-Some-clause-fault : goal.returns-in-Some-clause-fault

@@ -1,6 +1,6 @@
-use Rattle.stateful_requests.specs.Errors.{error_of_app}
+use Rattle.stateful_exec_tables.specs.Errors.{error_of_app}
 use Rattle.stateful_exec.specs.Workings.{workings}
-use Rattle.stateful_requests.proofs.Queues.{handed_on}
+use Rattle.stateful_exec_tables.proofs.Queues.{handed_on}
 use Rattle.stateful_exec.proofs.Builds.{turned_on, turned_out, not_taken, not_turned}
 use Rattle.stateful_exec.proofs.built.turn_build.Goals as goal
 

@@ -1,6 +1,6 @@
 use Rattle.std.proofs.Common.{ap}
 use Rattle.stateful_exec.specs.Workings.{workings}
-use Rattle.stateful_requests.specs.declared.state.Tables.{Tables}
+use Rattle.stateful_exec_tables.specs.declared.state.Tables.{Tables}
 use Rattle.stateful_exec.proofs.Turning.{turns_run, put_there}
 use Rattle.stateful_exec.proofs.ending.turn.Goals as goal
 

@@ -1,5 +1,5 @@
 use Rattle.stateful_exec.specs.Workings.{workings}
-use Rattle.stateful_requests.proofs.Queues.{handed_on}
+use Rattle.stateful_exec_tables.proofs.Queues.{handed_on}
 use Rattle.stateful_exec.proofs.Proposals.{not_started, started, not_begun, not_unqueued}
 use Rattle.stateful_exec.proofs.proposing.propose.Goals as goal
 

@@ -1,5 +1,5 @@
 use Rattle.std.proofs.Common.{◌≡◌, ◌≤◌, ℕ}
-use Rattle.stateful_requests.specs.Tables.{Rises}
+use Rattle.stateful_exec_tables.specs.Tables.{Rises}
 use Rattle.stateful_exec.specs.Workings.{workings}
 use Rattle.stateful_exec.specs.Moments.{moment}
 use Rattle.stateful_exec.specs.Pausing.{AcquiresAnew}

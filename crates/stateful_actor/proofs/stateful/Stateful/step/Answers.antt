@@ -1,16 +1,16 @@
 use Rattle.std.proofs.Common.{[], refl, true, sym, ap, ◌∙◌, ⊎_elim, true≢false}
 use Rattle.stateful_exec.specs.Workings.{workings}
-use Rattle.stateful_processing.proofs.Handing.{converted}
-use Rattle.stateful_processing.proofs.SoundingKept.{Sound-kept}
-use Rattle.stateful_processing.specs.Moments.{executing, moment}
-use Rattle.stateful_processing.specs.declared.error.StepError.TheVariants.{OutOfMemory}
-use Rattle.stateful_whole.specs.Stands.{StandsAsWell}
-use Rattle.stateful_whole.specs.Machine.{is_restart}
-use Rattle.stateful_whole.proofs.LeftFurther.{step-leaves, leaves-further}
-use Rattle.stateful_whole.proofs.MediaRefused.{step-restart, leaves-unchanged, leaves-media}
-use Rattle.stateful_whole.proofs.MediaSteps.{step-media}
-use Rattle.stateful_whole.proofs.StepStands.{step-stands}
-use Rattle.stateful_whole.proofs.StillStands.{still-stands}
+use Rattle.stateful_loop.proofs.Handing.{converted}
+use Rattle.stateful_loop.proofs.SoundingKept.{Sound-kept}
+use Rattle.stateful_loop.specs.Moments.{executing, moment}
+use Rattle.stateful_loop.specs.declared.error.StepError.TheVariants.{OutOfMemory}
+use Rattle.stateful_actor_laws.specs.Stands.{StandsAsWell}
+use Rattle.stateful_actor_laws.specs.Machine.{is_restart}
+use Rattle.stateful_actor_laws.proofs.LeftFurther.{step-leaves, leaves-further}
+use Rattle.stateful_actor_laws.proofs.MediaRefused.{step-restart, leaves-unchanged, leaves-media}
+use Rattle.stateful_actor_laws.proofs.MediaSteps.{step-media}
+use Rattle.stateful_actor_laws.proofs.StepStands.{step-stands}
+use Rattle.stateful_actor_laws.proofs.StillStands.{still-stands}
 use Rattle.stateful_actor.specs.Faults.{fault}
 use Rattle.stateful_actor.proofs.Arms.{refused_at_once}
 use Rattle.stateful_actor.proofs.Lawfully.{step-ahead, admit-lawful, cause-outside}

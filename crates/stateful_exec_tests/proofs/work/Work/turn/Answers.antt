@@ -1,5 +1,5 @@
 use Rattle.std.proofs.Common.{◌≢◌, ◌∷◌, inr, sym, ◌∙◌}
-use Rattle.stateful_plain.specs.Whole.{begun}
+use Rattle.stateful_db_plain.specs.Whole.{begun}
 use Rattle.stateful_exec_tests.specs.declared.block.End.TheVariants.{Nothing}
 use Rattle.stateful_exec_tests.proofs.Working.{sealed_ends}
 use Rattle.stateful_exec_tests.proofs.work.Work.turn.Goals as goal

@@ -1,9 +1,0 @@
-//! The states of a log of keys.
-
-use crate::op::AnyOp;
-use stateful_medium::Checkpoint;
-use stateful_types::Items;
-
-/// A log from its floor on: the root with the range, and the operations of the range. A database
-/// keeps them otherwise.
-pub type AnyState<K, V> = Checkpoint<Items<AnyOp<K, V>>>;

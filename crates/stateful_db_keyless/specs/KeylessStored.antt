@@ -1,0 +1,27 @@
+-- A keyless medium and database, as the layer above sees them.
+use Rattle.std.specs.Prelude.{ℕ}
+use Rattle.stateful_db.specs.Disk.{Disk, Standing}
+use Rattle.stateful_db_log.specs.Logs as logs
+use Rattle.stateful_db_medium.specs.declared.calls.Calls.{Calls}
+use Rattle.stateful_db_keyless.specs.Keyless.{State}
+use Rattle.stateful_db_keyless.specs.declared.keyless.medium.KeylessMedium.{KeylessMedium}
+use Rattle.stateful_db_keyless.specs.declared.keyless.database.KeylessDb.{KeylessDb}
+
+module _ {V : Type 0} where
+  abbrev pub disk_of : KeylessMedium V → Disk (State V)
+  disk_of m = logs.disk_of m.medium
+
+  abbrev pub next_of : KeylessMedium V → ℕ
+  next_of m = logs.next_of m.medium
+
+  abbrev pub calls_of : KeylessMedium V → Calls
+  calls_of m = logs.calls_of m.medium
+
+  abbrev pub standing_of : KeylessDb V → Standing (State V)
+  standing_of d = logs.standing_of d.log
+
+  abbrev pub next_here : KeylessDb V → ℕ
+  next_here d = logs.next_here d.log
+
+  abbrev pub calls_here : KeylessDb V → Calls
+  calls_here d = logs.calls_here d.log

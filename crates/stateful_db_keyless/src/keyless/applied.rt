@@ -1,0 +1,38 @@
+//! A batch that is applied to a log.
+
+ghost use Rattle.std.specs.Prelude.{◌≡◌, ◌≤◌, ◌↔◌, IfOk, IfErr, IsErrAnd};
+ghost use Rattle.stateful_types.specs.Causes.{Rose};
+ghost use Rattle.stateful_db.specs.Disk.{applied};
+ghost use Rattle.stateful_db_medium.specs.Called.{IsListed, Called};
+ghost use Rattle.stateful_db_log.specs.Logs.{extended, disk_of, next_of, calls_of, standing_of};
+ghost use Rattle.stateful_db_log.specs.Logs.{next_here, calls_here};
+
+use super::batch::KeylessMerkleized;
+use crate::op::KeylessOp;
+use stateful_db::{Broken, DbCall, Why};
+use stateful_db_log::{Field, LogMedium, OpenLog};
+
+/// The log with the operations of the batch behind it.
+pub(crate) fn apply_to<V: Field>(
+    log: OpenLog<KeylessOp<V>>,
+    batch: KeylessMerkleized<V>,
+) -> Result<OpenLog<KeylessOp<V>>, Broken<LogMedium<KeylessOp<V>>>>
+    ensures ok { let s = standing_of log in IfOk result (λ o. standing_of o ≡ record s {
+      id = batch.layer.0;
+      disk = applied s.disk (extended s.disk.newest batch.layer.1.ops.items batch.layer.1.target);
+    }) }
+    ensures ok_next { IfOk result (λ o. next_here o ≡ next_here log) }
+    ensures ok_count { IfOk result (λ o. (calls_here log).faults ≤ (calls_here o).faults) }
+    ensures ok_called { IfOk result (λ o. Called DbCall.Apply (calls_here log) (calls_here o)) }
+    ensures err { IfErr result (λ b. disk_of b.medium ≡ (standing_of log).disk) }
+    ensures err_next { IfErr result (λ b. next_of b.medium ≡ next_here log) }
+    ensures err_count { IfErr result (λ b. (calls_here log).faults ≤ (calls_of b.medium).faults) }
+    ensures err_called { IfErr result (λ b. Called DbCall.Apply (calls_here log) (calls_of b.medium)) }
+    ensures failed { IfErr result (λ b.
+        b.why ≡ Why.Failed → Rose (calls_here log).faults (calls_of b.medium).faults) }
+    ensures listed { IsErrAnd result (λ b. b.why ≡ Why.Failed)
+        ↔ IsListed (calls_here log) DbCall.Apply }
+{
+    let changes = batch.layer.changes();
+    log.apply(batch.layer.id(), changes.ops.as_slice(), changes.target)
+}

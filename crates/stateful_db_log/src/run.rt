@@ -1,0 +1,131 @@
+//! Operations that stand one behind another, and are kept once.
+
+ghost use Rattle.std.specs.Prelude.{◌≡◌, ◌++◌, ◌∷◌, ◌-◌, ◌^◌, List, [], min, length, take, drop};
+ghost use Rattle.std.specs.Prelude.{slice_get, OnOk, OnErr};
+ghost use Rattle.std.specs.Option.{option_copied};
+
+use stateful_types::{OutOfMemory, Share};
+use std::alloc::Global;
+use std::marker::Model;
+
+/// Operations in order. The first of all may stand apart, so that a run of one operation takes no
+/// memory.
+#[derive(Drop)]
+pub struct Run<Op> {
+    apart: Option<Op>,
+    rest: Vec<Op>,
+}
+
+impl<Op> Model for Run<Op> {
+    ghost use Rattle.std.specs.Prelude.{List};
+    ghost use Rattle.stateful_db_log.specs.Runs.{run_of};
+
+    ghost Value = { List Op };
+
+    ghost view = { λ a. run_of a.apart a.rest.items };
+}
+
+impl<Op: Drop> Run<Op> {
+    /// One operation alone. It takes no memory.
+    pub fn one(alloc: Global, op: Op) -> Run<Op>
+        ensures { result ≡ op ∷ [] }
+    {
+        Run {
+            apart: Some(op),
+            rest: Vec::new(alloc),
+        }
+    }
+
+    /// How many there are.
+    pub fn len(&self) -> u64
+        ensures { result ≡ min (length self.now) (2 ^ 64 - 1) }
+    {
+        let rest = self.rest.len() as u64;
+        match self.apart {
+            Some(_) => rest.saturating_add(1),
+            None => rest,
+        }
+    }
+
+    /// The one of this number.
+    pub fn get(&self, number: u64) -> Option<&Op>
+        ensures { option_copied result ≡ slice_get self.now number }
+    {
+        match &self.apart {
+            Some(op) if number == 0 => Some(op),
+            Some(_) => self.rest.get((number - 1) as usize),
+            None => self.rest.get(number as usize),
+        }
+    }
+
+    /// Drops all but so many of the first.
+    pub fn truncate(&mut self, count: u64)
+        ensures { self.new ≡ take count self.old }
+    {
+        let mut count = count as usize;
+        if self.apart.is_some() {
+            if count == 0 {
+                self.apart = None;
+            } else {
+                count -= 1;
+            }
+        }
+        self.rest.truncate(count);
+    }
+
+    /// Drops so many of the first.
+    pub fn drop_first(&mut self, count: u64)
+        ensures { self.new ≡ drop count self.old }
+    {
+        let mut count = count as usize;
+        if count > 0 && self.apart.is_some() {
+            self.apart = None;
+            count -= 1;
+        }
+        drop_front(&mut self.rest, count);
+    }
+
+    /// Appends copies of these operations, or none of them.
+    pub fn append(&mut self, more: &[Op]) -> Result<(), OutOfMemory>
+    where
+        Op: Share,
+        ensures ok { OnOk result (self.new ≡ self.old ++ more.now) }
+        ensures err { OnErr result (self.new ≡ self.old) }
+    {
+        append_all(&mut self.rest, more)
+    }
+}
+
+/// Drops so many of the first.
+fn drop_front<Op: Drop>(ops: &mut Vec<Op>, count: usize)
+    ensures { ops.new.items ≡ drop count ops.old.items }
+{
+    let count = count.min(ops.len());
+    ops.drain(..count);
+}
+
+/// Appends copies of these operations, or none of them.
+fn append_all<Op: Share + Drop>(ops: &mut Vec<Op>, more: &[Op]) -> Result<(), OutOfMemory>
+    ensures ok { OnOk result (ops.new.items ≡ ops.old.items ++ more.now) }
+    ensures err { OnErr result (ops.new.items ≡ ops.old.items) }
+{
+    let count = ops.len();
+    match append_each(ops, more) {
+        Ok(()) => Ok(()),
+        Err(refused) => {
+            ops.truncate(count);
+            Err(refused)
+        }
+    }
+}
+
+/// Appends copies of these operations. A refusal may leave some of them.
+fn append_each<Op: Share + Drop>(ops: &mut Vec<Op>, more: &[Op]) -> Result<(), OutOfMemory>
+    ensures ok { OnOk result (ops.new.items ≡ ops.old.items ++ more.now) }
+    ensures kept { (some : List Op) × (ops.new.items ≡ ops.old.items ++ some) }
+{
+    for op in more {
+        ops.push(op.share()?)?;
+    }
+    Ok(())
+}

@@ -1,0 +1,64 @@
+use Rattle.std.proofs.Common.{◌++◌, ◌∷◌, [], ℕ, not, sym, ap, subst, ◌∙◌, List}
+use Rattle.std.specs.Ordering.{nat_cmp}
+use Rattle.std.specs.Map.{keys_of}
+use Rattle.std.specs.List.Sorted.{IsStrictlySortedBy}
+use Rattle.stateful_table.specs.Table.{put}
+use Rattle.stateful_exec_tables.specs.declared.state.Tables.{Tables}
+use Rattle.stateful_exec_tables.specs.Phase.{is_unacquired, unacquired_in, not_unacquired}
+use Rattle.stateful_exec_tables.specs.declared.tables.Requested.{Requested}
+use Rattle.stateful_exec_tables.proofs.Rebuilding.{Goes-first, Goes-next, Goes-last, put_back, left_out, taken_out}
+use Rattle.stateful_exec_tables.proofs.Pauses.{same_numbers, rebuilt}
+use Rattle.stateful_exec_tables.proofs.state.Tables.take_unacquired.Goals as goal
+
+pub loop-ticket-init : goal.loop-ticket-init
+loop-ticket-init g c =
+    let given = c.into_iter-ticket-iterator.ensures.into_iter_gives in
+    let whole = c.into_entries-ticket-items.ensures ∙ c.replace-requests.ensures.value in
+    record {
+      goes = Goes-first c.args.self.now.requests _ (given.0 ∙ whole) (subst (λ (l : List (ℕ × Requested g.row.B.Denot g.row.C.Denot g.row.I.Denot)). IsStrictlySortedBy nat_cmp (keys_of l)) whole given.5);
+      out = c.new-out.ensures.items;
+      kept = ap (λ rs. record c.args.self.now { requests = rs }) (c.replace-requests.ensures.after ∙ c.new.ensures);
+    }
+
+pub loop-ticket-preserved-in-Continue-1 : goal.loop-ticket-preserved-in-Continue-1
+loop-ticket-preserved-in-Continue-1 g c =
+    let i = c.loop-ticket.invariant in
+    let on = sym c.is_unacquired.ensures ∙ c.if-is_unacquired.true in
+    record {
+      goes = Goes-next c.args.self.now.requests c.loop-ticket.yielded _ _ c.in-Some.ticket c.in-Some.requested i.goes c.in-Some.ensures.steps;
+      out = c.in_ok-push.ensures.items ∙ ap (λ l. l ++ (c.in-Some.ticket, c.in-Some.requested) ∷ []) i.out
+          ∙ taken_out c.args.self.now.requests c.loop-ticket.yielded _ _ c.in-Some.ticket c.in-Some.requested i.goes c.in-Some.ensures.steps (λ e. is_unacquired e.1.phase) on;
+      kept = i.kept ∙ ap (λ rs. record c.args.self.now { requests = rs })
+          (left_out c.args.self.now.requests c.loop-ticket.yielded _ _ c.in-Some.ticket c.in-Some.requested i.goes c.in-Some.ensures.steps (λ e. not (is_unacquired e.1.phase)) (ap not on));
+    }
+
+pub returns-in_err-push-clause-numbers : goal.returns-in_err-push-clause-numbers
+returns-in_err-push-clause-numbers g c = same_numbers c.args.self.now c.loop-ticket.self _ c.loop-ticket.invariant.kept
+
+pub loop-ticket-preserved : goal.loop-ticket-preserved
+loop-ticket-preserved g c =
+    let i = c.loop-ticket.invariant in
+    let off = sym c.is_unacquired.ensures ∙ c.if-is_unacquired.false in
+    record {
+      goes = Goes-next c.args.self.now.requests c.loop-ticket.yielded _ _ c.in-Some.ticket c.in-Some.requested i.goes c.in-Some.ensures.steps;
+      out = i.out ∙ left_out c.args.self.now.requests c.loop-ticket.yielded _ _ c.in-Some.ticket c.in-Some.requested i.goes c.in-Some.ensures.steps (λ e. is_unacquired e.1.phase) off;
+      kept = rebuilt c.args.self.now c.loop-ticket.self _ _ _ i.kept
+          (c.in_ok-put.ensures.ok ∙ ap (λ (v : Tables g.row.B.Denot g.row.C.Denot g.row.I.Denot g.row.R.Denot g.row.U.Denot). put v.requests c.in-Some.ticket c.in-Some.requested) i.kept
+          ∙ put_back c.args.self.now.requests c.loop-ticket.yielded _ _ c.in-Some.ticket c.in-Some.requested i.goes c.in-Some.ensures.steps (λ e. not (is_unacquired e.1.phase)) (ap not off));
+    }
+
+pub returns-in_err-put-clause-numbers : goal.returns-in_err-put-clause-numbers
+returns-in_err-put-clause-numbers g c = same_numbers c.args.self.now c.loop-ticket.self _ c.loop-ticket.invariant.kept
+
+pub returns-clause-out : goal.returns-clause-out
+returns-clause-out g c =
+    let i = c.loop-ticket.invariant in
+    i.out ∙ ap (λ l. unacquired_in l) (Goes-last c.args.self.now.requests c.loop-ticket.yielded _ i.goes c.in-None.ensures.steps.0)
+
+pub returns-clause-rest : goal.returns-clause-rest
+returns-clause-rest g c =
+    let i = c.loop-ticket.invariant in
+    i.kept ∙ ap (λ l. record c.args.self.now { requests = not_unacquired l }) (Goes-last c.args.self.now.requests c.loop-ticket.yielded _ i.goes c.in-None.ensures.steps.0)
+
+pub returns-clause-numbers : goal.returns-clause-numbers
+returns-clause-numbers g c = same_numbers c.args.self.now c.loop-ticket.self _ c.loop-ticket.invariant.kept

@@ -1,0 +1,51 @@
+-- Pauses for a finalization or a prune.
+use Rattle.std.specs.Prelude.{◌≡◌, ◌↔◌, ◌+◌, ◌∷◌, [], ℕ, Option, Some, None, List, map, Contains}
+use Rattle.std.specs.List.Sorted.{IsStrictlySortedBy}
+use Rattle.std.specs.Ordering.{nat_cmp}
+use Rattle.stateful_types.specs.Names.{Header, Named}
+use Rattle.stateful_history.specs.declared.mark.Mark.{Mark}
+use Rattle.stateful_exec_tables.specs.Boundary.{Boundary, step_by, IsRetained}
+use Rattle.stateful_exec_tables.specs.Phase.{dropped}
+use Rattle.stateful_exec_tables.specs.Fetching.{IsLiveFetch}
+use Rattle.stateful_exec_tables.specs.declared.pause.Pause.{Pause}
+use Rattle.stateful_exec_tables.specs.declared.pause.Pause.TheVariants.{Free, Finalizing, Pruning}
+use Rattle.stateful_exec_tables.specs.declared.state.Tables.{Tables}
+use Rattle.stateful_exec_tables.specs.declared.tables.LiveRun.{LiveRun}
+use Rattle.stateful_history.specs.declared.mark.Mark.TheVariants as mark
+
+-- what execution is paused for: a finalization, or a prune
+abbrev pub pause_for : Option Boundary → Pause
+pause_for None = Pruning
+pause_for (Some boundary) = Finalizing boundary
+
+-- The pause waits for the end of a run of the block: before a prune of each run, and before a
+-- finalization of each that doesn't go on over it.
+abbrev pub IsAwaited : {B : Type 0} → Header B → Pause → Named B → Type 0
+IsAwaited header Free b = ⊥
+IsAwaited header Pruning b = Unit {0}
+IsAwaited header (Finalizing boundary) b = IsRetained boundary (step_by header b) → ⊥
+
+-- so many of these have the property
+pub data IsCount {T : Type 0} (P : T → Type 0) : List T → ℕ → Type 0 where
+  none : IsCount P [] 0
+  one : {x : T} {xs : List T} {n : ℕ} → P x → IsCount P xs n → IsCount P (x ∷ xs) (n + 1)
+  other : {x : T} {xs : List T} {n : ℕ} → (P x → ⊥) → IsCount P xs n → IsCount P (x ∷ xs) n
+
+-- how many live runs the pause waits for
+abbrev pub AwaitsRuns : {B C I R U : Type 0} → Header B → Tables B C I R U → ℕ → Type 0
+AwaitsRuns header v n =
+    IsCount (λ (e : ℕ × LiveRun _ _). IsAwaited header v.pause e.1.block) v.runs n
+
+-- these are the numbers of the live fetches, ascending
+pub record AreFetches {B C I R U : Type 0} (v : Tables B C I R U) (fetches : List ℕ) : Type 0 where
+  pub ascending : IsStrictlySortedBy nat_cmp fetches
+  pub each : (f : ℕ) → Contains fetches f ↔ IsLiveFetch v f
+
+-- Execution is paused: the live fetches are withdrawn, by ascending numbers, and what their
+-- requests need is to be found anew.
+pub record Pauses {B C I R U : Type 0} (boundary : Option Boundary) (old new : Tables B C I R U)
+    (marks : List (Mark B)) : Type 0 where
+  pub fetches : List ℕ
+  pub are : AreFetches old fetches
+  pub marks_are : marks ≡ map (λ f. mark.Withdrawn f) fetches
+  pub state : new ≡ record old { requests = map dropped old.requests; pause = pause_for boundary }

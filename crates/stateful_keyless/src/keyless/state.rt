@@ -1,9 +1,0 @@
-//! The states of a keyless log.
-
-use crate::op::KeylessOp;
-use stateful_medium::Checkpoint;
-use stateful_types::Items;
-
-/// A log from its floor on: the root with the range, and the operations of the range. A database
-/// keeps them otherwise.
-pub type KeylessState<V> = Checkpoint<Items<KeylessOp<V>>>;

@@ -1,6 +1,0 @@
--- The range of a kept checkpoint.
-use Rattle.stateful_types.specs.declared.target.Target.{Target}
-use Rattle.stateful_medium.specs.declared.checkpoints.Checkpoint.{Checkpoint}
-
-abbrev pub range_of : {X : Type 0} → Checkpoint X → Target
-range_of s = s.target

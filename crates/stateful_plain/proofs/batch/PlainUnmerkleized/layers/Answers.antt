@@ -1,6 +1,0 @@
-use Rattle.std.proofs.Common.{◌∙◌}
-use Rattle.stateful_plain.proofs.Showing.{draft_layers}
-use Rattle.stateful_plain.proofs.batch.PlainUnmerkleized.layers.Goals as goal
-
-pub returns : goal.returns
-returns c = λ chain shown. c.above.ensures ∙ draft_layers c.args.self.now chain shown

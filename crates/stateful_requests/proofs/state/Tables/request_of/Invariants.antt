@@ -1,7 +1,0 @@
-use Rattle.std.proofs.Common.{◌≡◌}
-use Rattle.stateful_requests.specs.declared.tables.Phase.TheVariants.{Fetching}
-use Rattle.stateful_requests.proofs.Entries.{Searches}
-use Rattle.stateful_requests.proofs.state.Tables.request_of.Given as goal
-
-abbrev pub invariant-loop-ticket : goal.invariant-loop-ticket
-invariant-loop-ticket g l = Searches l.self.requests (λ r. r.phase ≡ Fetching l.fetch) l.ticket-iterator

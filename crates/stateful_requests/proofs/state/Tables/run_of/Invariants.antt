@@ -1,6 +1,0 @@
-use Rattle.std.proofs.Common.{◌≡◌}
-use Rattle.stateful_requests.proofs.Entries.{Searches}
-use Rattle.stateful_requests.proofs.state.Tables.run_of.Given as goal
-
-abbrev pub invariant-loop-job : goal.invariant-loop-job
-invariant-loop-job g l = Searches l.self.runs (λ run. run.block.digest ≡ l.digest) l.job-iterator

@@ -1,6 +1,0 @@
-use Rattle.std.proofs.Common.{◌≡◌, take}
-use Rattle.stateful_world_plan.specs.Plan.{labels_of}
-use Rattle.stateful_world_plan.proofs.label.label_blocks.Given as goal
-
-abbrev pub invariant-loop-place : goal.invariant-loop-place
-invariant-loop-place l = l.labels.items ≡ take l.place (labels_of l.names l.planned)
