@@ -1,6 +1,6 @@
 -- Histories of steps, an entry longer.
 use Rattle.std.proofs.Common.{◌≡◌, ◌++◌, ℕ, true, List, [], ◌∷◌, map, Option, refl, sym, ◌∙◌, ap, subst}
-use Rattle.stateful_types.specs.Names.{Named}
+use Rattle.stateful_base.specs.Names.{Named}
 use Rattle.stateful_history.specs.Live.{may_come}
 use Rattle.stateful_history.specs.Past.{Past, after_entry, after_all}
 use Rattle.stateful_history.specs.declared.event.Event.{Event}

@@ -1,7 +1,7 @@
 -- Where a lawful event other than a restart is refused the reason lies outside of the machine.
 use Rattle.std.proofs.Common.{◌≡◌, ◌⊎◌, inl, inr, ◌<◌, ◌≤◌, ◌^◌, ◌∷◌, [], ℕ, Bool, true, false, not, Option, List, refl, sym, ap, ◌∙◌, subst, true≢false, arith}
-use Rattle.stateful_types.specs.Causes.{Rose}
-use Rattle.stateful_types.specs.Names.{Named}
+use Rattle.stateful_base.specs.Causes.{Rose}
+use Rattle.stateful_base.specs.Names.{Named}
 use Rattle.stateful_db.specs.Laws.{Laws}
 use Rattle.stateful_history.specs.Live.{may_come, names_live}
 use Rattle.stateful_history.specs.Met.{TrueNames}

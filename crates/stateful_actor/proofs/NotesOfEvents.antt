@@ -1,8 +1,8 @@
 -- How the notes of an application follow what was applied over an event.
 use Rattle.std.proofs.Common.{◌≡◌, inl, inr, ◌++◌, ◌∷◌, [], ℕ, false, List, Option, All, map, refl, sym, ap, ◌∙◌, subst, append-nil, append_assoc, true≢false}
 use Rattle.std.proofs.lemmas.List.Elements.{All-head, All-tail}
-use Rattle.stateful_types.specs.Names.{Named}
-use Rattle.stateful_types.specs.declared.floor.Floor.{Floor}
+use Rattle.stateful_base.specs.Names.{Named}
+use Rattle.stateful_base.specs.declared.floor.Floor.{Floor}
 use Rattle.stateful_history.specs.Finalizations.{applied_in}
 use Rattle.stateful_history.specs.Past.{Past}
 use Rattle.stateful_history.specs.declared.event.Event.{Event}

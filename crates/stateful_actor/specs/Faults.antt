@@ -1,7 +1,7 @@
 -- Why an event is refused.
 use Rattle.std.specs.Prelude.{◌≡◌, ◌≤◌, ℕ, Bool, true, false, not, Option}
-use Rattle.stateful_types.specs.Causes.{Rose}
-use Rattle.stateful_types.specs.Names.{Named}
+use Rattle.stateful_base.specs.Causes.{Rose}
+use Rattle.stateful_base.specs.Names.{Named}
 use Rattle.stateful_history.specs.Live.{may_come}
 use Rattle.stateful_history.specs.Opening.{is_down}
 use Rattle.stateful_history.specs.Past.{Past}

@@ -25,11 +25,11 @@ ghost use Rattle.stateful_actor_laws.specs.Steps.{IsStep};
 use crate::playing::play;
 use crate::restarting::restart;
 use stateful_actor_register::Register;
+use stateful_base::BlockStore;
 use stateful_db::{Application, DatabaseSet};
 use stateful_exec::{Handler, Worked};
 use stateful_history::{Event, Mark};
 use stateful_loop::{ProcessingOf, StepError};
-use stateful_types::BlockStore;
 
 /// Does what an event does. The register stays as it is.
 pub(crate) fn act<A: Application + Drop, S: BlockStore<A::Block>>(

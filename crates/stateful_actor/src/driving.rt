@@ -40,11 +40,11 @@ ghost use Rattle.stateful_actor_laws.specs.StepBehind.{EachStands, StandsAndHold
 ghost use Rattle.stateful_actor_laws.specs.Steps.{IsStep};
 
 use crate::stateful::Stateful;
+use stateful_base::{BlockStore, Items, Share};
 use stateful_db::{Application, DatabaseSet};
 use stateful_exec::Worked;
 use stateful_history::{Entry, Event};
 use stateful_loop::StepError;
-use stateful_types::{BlockStore, Items, Share};
 use std::alloc::Global;
 
 /// What came of events that were all taken in: the machine, the databases, and the history.

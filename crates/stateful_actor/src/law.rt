@@ -1,8 +1,8 @@
 //! What holds of runs and builds, whatever the machine is asked.
 
 ghost use Rattle.std.specs.Prelude.{ℕ, Option};
-ghost use Rattle.stateful_types.specs.Names.{Named};
-ghost use Rattle.stateful_types.specs.declared.digest.Digest.{Digest};
+ghost use Rattle.stateful_base.specs.Names.{Named};
+ghost use Rattle.stateful_base.specs.declared.digest.Digest.{Digest};
 ghost use Rattle.stateful_history.specs.Past.{Past};
 ghost use Rattle.stateful_exec.specs.Workings.{Point};
 ghost use Rattle.stateful_exec_tables.specs.declared.state.Tables.{Tables};

@@ -21,16 +21,16 @@ pub use driving::{Driven, Halt, Halted, drive};
 pub use law::forks_are_as_deep_as_their_paths;
 pub use stateful::{Config, NewError, Stateful};
 pub use stateful_actor_mailbox::{Reply, Stopped};
+pub use stateful_base::{
+    Ancestry, Block, BlockStore, Digest, Digested, Faulty, Finality, Height, MemoryStore, Moved,
+    OutOfMemory, Round, Rounded, Target,
+};
 pub use stateful_db::{
     AppFault, Application, DatabaseSet, Held, Hooked, Input, ManagedDb, Merkleized, ProposedBlock,
     Unmerkleized,
 };
 pub use stateful_history::{Decision, Entry, Event, How, JobKind, Mark};
 pub use stateful_loop::StepError;
-pub use stateful_types::{
-    Ancestry, Block, BlockStore, Digest, Digested, Faulty, Finality, Height, MemoryStore, Moved,
-    OutOfMemory, Round, Rounded, Target,
-};
 
 /// The mailbox of a machine: what a consensus engine asks, and what became of it.
 pub type Mailbox<A> = stateful_actor_mailbox::Mailbox<

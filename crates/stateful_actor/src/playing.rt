@@ -24,11 +24,11 @@ ghost use Rattle.stateful_actor_laws.specs.Steps.{Advances, Plays};
 use crate::settling::settle;
 use crate::stopping::stop;
 use stateful_actor_register::Register;
+use stateful_base::BlockStore;
 use stateful_db::{Application, DatabaseSet};
 use stateful_exec::{Handler, Worked};
 use stateful_history::{Event, Mark};
 use stateful_loop::{ProcessingOf, StepError, take_in};
-use stateful_types::BlockStore;
 
 /// Takes an event in, and lets go on what can.
 fn advance<A: Application + Drop, S: BlockStore<A::Block>>(

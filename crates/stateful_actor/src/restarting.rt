@@ -25,11 +25,11 @@ ghost use Rattle.stateful_actor_laws.specs.Steps.{Restarts};
 
 use crate::stopping::end_work;
 use stateful_actor_register::Register;
+use stateful_base::{BlockStore, Floor};
 use stateful_db::{Application, DatabaseSet};
 use stateful_exec::{Handler, Worked};
 use stateful_history::{Event, Mark};
 use stateful_loop::{ProcessingOf, StepError, clear, open};
-use stateful_types::{BlockStore, Floor};
 
 /// Ends all that is live, drops what goes on, and opens the databases on what a crash has left of
 /// them.

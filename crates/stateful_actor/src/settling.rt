@@ -10,11 +10,11 @@ ghost use Rattle.stateful_actor.specs.Notes.{NotesSettling};
 ghost use Rattle.stateful_actor_laws.specs.Left.{LeavesSettling};
 ghost use Rattle.stateful_actor_laws.specs.Steps.{Settles};
 
+use stateful_base::BlockStore;
 use stateful_db::{Application, DatabaseSet};
 use stateful_exec::{Handler, Worked};
 use stateful_history::Mark;
 use stateful_loop::{ProcessingOf, StepError, go_on};
-use stateful_types::BlockStore;
 
 /// Lets one thing after another go on, until nothing can without another event.
 pub(crate) fn settle<A: Application + Drop, S: BlockStore<A::Block>>(

@@ -1,7 +1,7 @@
 //! The machine.
 
 ghost use Rattle.std.specs.Prelude.{◌≡◌, [], ℕ, Option, IfOk};
-ghost use Rattle.stateful_types.specs.Names.{Named};
+ghost use Rattle.stateful_base.specs.Names.{Named};
 ghost use Rattle.stateful_loop.specs.Moments.{moment};
 ghost use Rattle.stateful_actor_laws.specs.Ahead.{IsAheadLawfully};
 ghost use Rattle.stateful_actor.specs.Notes.{HasObserved};
@@ -9,10 +9,10 @@ ghost use Rattle.stateful_actor_laws.specs.Machine.{IsNew, IsSafe};
 ghost use Rattle.stateful_actor_laws.specs.Media.{IsAsAtStart, MediaStand};
 
 use stateful_actor_register::Register;
+use stateful_base::{Anchor, Digest, Epoch, Height, OutOfMemory, Round, View};
 use stateful_db::{Application, DatabaseSet};
 use stateful_exec::{Handler, Processor, Worked};
 use stateful_loop::{Processing, ProcessingOf};
-use stateful_types::{Anchor, Digest, Epoch, Height, OutOfMemory, Round, View};
 use std::alloc::Global;
 use std::marker::Model;
 use thiserror::Error;

@@ -16,8 +16,8 @@
 
 ghost use Rattle.std.specs.Prelude.{◌≡◌, ◌≤◌, ◌<◌, ◌^◌, ◌⊎◌, ◌∷◌, [], ℕ, List, Option, Some, true};
 ghost use Rattle.std.specs.Prelude.{false, not, MatchResult, IfOk, IfErr, OnOk, OnErr, IsErrOf};
-ghost use Rattle.stateful_types.specs.Causes.{Rose};
-ghost use Rattle.stateful_types.specs.Names.{Named};
+ghost use Rattle.stateful_base.specs.Causes.{Rose};
+ghost use Rattle.stateful_base.specs.Names.{Named};
 ghost use Rattle.stateful_history.specs.Finalizations.{applied_in};
 ghost use Rattle.stateful_history.specs.Live.{may_come};
 ghost use Rattle.stateful_history.specs.Met.{TrueNames};
@@ -50,11 +50,11 @@ ghost use Rattle.stateful_actor_laws.specs.Steps.{IsStep};
 use crate::acting::act;
 use crate::stateful::Stateful;
 use stateful_actor_register::Register;
+use stateful_base::{BlockStore, Floor};
 use stateful_db::{Application, DatabaseSet};
 use stateful_exec::Worked;
 use stateful_history::{Event, Mark};
 use stateful_loop::{ProcessingOf, StepError};
-use stateful_types::{BlockStore, Floor};
 
 /// Whether an event is a restart.
 fn is_restart<B, C, I>(event: &Event<B, C, I>) -> bool

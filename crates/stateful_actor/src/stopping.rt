@@ -16,11 +16,11 @@ ghost use Rattle.stateful_loop.specs.Moments.{executing, moment};
 ghost use Rattle.stateful_actor_laws.specs.Steps.{EndsWork};
 
 use stateful_actor_register::Register;
+use stateful_base::OutOfMemory;
 use stateful_db::{Application, DatabaseSet};
 use stateful_exec::{Handler, Worked};
 use stateful_history::{Event, Mark};
 use stateful_loop::{ProcessingOf, StepError, clear};
-use stateful_types::OutOfMemory;
 
 /// Ends all that is live after an event with its marks so far. The register stays as it is: it
 /// hasn't taken in the event yet.

@@ -1,10 +1,10 @@
 -- The finalized blocks that wait stay in their order behind each step, where each event since the last restart was lawful.
 use Rattle.std.proofs.Common.{◌≡◌, ◌≤◌, ◌⊎◌, inl, inr, ◌++◌, ◌∷◌, [], ℕ, Bool, true, false, not, if◌then◌else◌, Option, Some, None, List, refl, sym, ap, ◌∙◌, subst, append_assoc, true≢false, arith}
 use Rattle.std.proofs.lemmas.List.{append_cancel_left}
-use Rattle.stateful_types.specs.Names.{Named}
-use Rattle.stateful_types.specs.Anchor.{anchor_by}
-use Rattle.stateful_types.specs.declared.anchor.Anchor.{Anchor}
-use Rattle.stateful_types.specs.declared.floor.Floor.{Floor}
+use Rattle.stateful_base.specs.Names.{Named}
+use Rattle.stateful_base.specs.Anchor.{anchor_by}
+use Rattle.stateful_base.specs.declared.anchor.Anchor.{Anchor}
+use Rattle.stateful_base.specs.declared.floor.Floor.{Floor}
 use Rattle.stateful_db.specs.Laws.{Laws}
 use Rattle.stateful_history.specs.Lawful.{IsLawful, LawfulSince}
 use Rattle.stateful_history.specs.Live.{live_ticket, may_come, names_live}

@@ -1,7 +1,7 @@
 -- Where a lawful event that is no restart is refused by a machine that is up, the reason lies outside.
 use Rattle.std.proofs.Common.{◌≡◌, ◌<◌, ◌^◌, ◌⊎◌, inl, inr, ◌++◌, ◌∷◌, [], ℕ, true, Option, Some, None, List, refl, sym, ap, ◌∙◌, subst}
 use Rattle.std.specs.Prelude.{IsSome, MatchOption}
-use Rattle.stateful_types.specs.Names.{Named}
+use Rattle.stateful_base.specs.Names.{Named}
 use Rattle.stateful_db.specs.Laws.{Laws}
 use Rattle.stateful_history.specs.Joined.{Matches}
 use Rattle.stateful_history.specs.Lawful.{BringsTruth, IsLawful}

@@ -1,6 +1,6 @@
 -- What stands behind a step are the promises that each entry keeps, where the world is trusted and no prune comes due.
 use Rattle.std.proofs.Common.{ℕ, [], ◌∷◌, Option, None, List, sym, subst}
-use Rattle.stateful_types.specs.Names.{Named}
+use Rattle.stateful_base.specs.Names.{Named}
 use Rattle.stateful_history.specs.Answers.{EndsLive, AnsweredIsBuilt, NamesNoCancelled}
 use Rattle.stateful_history.specs.Barriers.{GoodIsInOrder, BarrierIsOver}
 use Rattle.stateful_history.specs.Declines.{DeclinedHasReason}

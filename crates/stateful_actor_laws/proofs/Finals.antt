@@ -1,6 +1,6 @@
 -- The finalized blocks among messages and actions, as these come and go.
 use Rattle.std.proofs.Common.{◌≡◌, ◌++◌, ◌∷◌, [], ℕ, Bool, true, false, not, ◌==◌, List, filter, refl, sym, ap, ◌∙◌, append_assoc, append-nil}
-use Rattle.stateful_types.specs.Names.{Named}
+use Rattle.stateful_base.specs.Names.{Named}
 use Rattle.stateful_loop.specs.Message.{asks_of, asks_for}
 use Rattle.stateful_loop.specs.declared.message.Action.{Action}
 use Rattle.stateful_loop.specs.declared.message.Action.TheVariants as action

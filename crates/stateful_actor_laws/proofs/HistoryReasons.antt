@@ -1,6 +1,6 @@
 -- Where the world is trusted with a whole history, false verdicts and declined proposals of each entry have their reasons.
 use Rattle.std.proofs.Common.{◌≡◌, ◌∷◌, [], ℕ, List, Option, sym, subst}
-use Rattle.stateful_types.specs.Names.{Named}
+use Rattle.stateful_base.specs.Names.{Named}
 use Rattle.stateful_history.specs.Past.{Past, Came, EachMark, after_entry, after_all}
 use Rattle.stateful_history.specs.declared.entry.Entry.{Entry}
 use Rattle.stateful_history.specs.declared.mark.Mark.{Mark}

@@ -1,7 +1,7 @@
 -- A history from the start of a new machine on: each entry keeps the rules, and at its end the machine stands for it.
 use Rattle.std.proofs.Common.{◌≡◌, ◌∷◌, [], ℕ, Bool, false, nat_lt, List, Option, refl, subst, arith}
 use Rattle.std.proofs.lemmas.Grind.{common_steps}
-use Rattle.stateful_types.specs.Names.{Named}
+use Rattle.stateful_base.specs.Names.{Named}
 use Rattle.stateful_db.specs.Laws.{Laws}
 use Rattle.stateful_history.specs.Holding.{Holds}
 use Rattle.stateful_history.specs.Met.{TrueNames}

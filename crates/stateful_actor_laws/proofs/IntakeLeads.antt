@@ -1,11 +1,11 @@
 -- An event that is taken in: the finalized blocks that wait lead up to the top behind it, too, and one more waits where the
 -- event hands it over.
 use Rattle.std.proofs.Common.{◌≡◌, ◌++◌, ◌∷◌, [], ℕ, Option, Some, None, Result, Ok, Err, List, not, filter, refl, sym, ap, ◌∙◌, subst, append-nil}
-use Rattle.stateful_types.specs.Names.{Named}
-use Rattle.stateful_types.specs.Anchor.{anchor_by}
-use Rattle.stateful_types.specs.declared.anchor.Anchor.{Anchor}
-use Rattle.stateful_types.specs.declared.outcome.Moved.{Moved}
-use Rattle.stateful_types.specs.declared.outcome.Moved.TheVariants.{Pending, Done}
+use Rattle.stateful_base.specs.Names.{Named}
+use Rattle.stateful_base.specs.Anchor.{anchor_by}
+use Rattle.stateful_base.specs.declared.anchor.Anchor.{Anchor}
+use Rattle.stateful_base.specs.declared.outcome.Moved.{Moved}
+use Rattle.stateful_base.specs.declared.outcome.Moved.TheVariants.{Pending, Done}
 use Rattle.stateful_db.specs.declared.application.AppFault.{AppFault}
 use Rattle.stateful_history.specs.Finalizations.{IsChildOf}
 use Rattle.stateful_history.specs.Joined.{Matches}

@@ -1,8 +1,8 @@
 -- Behind each step every live job was turned less often than it takes turns.
 use Rattle.std.proofs.Common.{◌≡◌, ℕ, Bool, true, false, Option, Some, None, List, refl, sym, ap, ◌∙◌, subst, true≢false}
 use Rattle.std.specs.Prelude.{IfSome, IsSome, MatchOption}
-use Rattle.stateful_types.specs.Names.{Named}
-use Rattle.stateful_types.specs.declared.digest.Digest.{Digest}
+use Rattle.stateful_base.specs.Names.{Named}
+use Rattle.stateful_base.specs.declared.digest.Digest.{Digest}
 use Rattle.stateful_history.specs.Finalizations.{finalized_since}
 use Rattle.stateful_history.specs.Jobs.{IsLiveJob, JobOf, job_of, IsOutstandingCandidate, IsOutstandingFinalized, IsOutstandingBuild, IsOutstandingHook}
 use Rattle.stateful_history.specs.Past.{Past}

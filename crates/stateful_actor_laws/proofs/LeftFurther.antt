@@ -1,6 +1,6 @@
 -- What the databases hold after an event that was refused, whatever past the machine stood for.
 use Rattle.std.proofs.Common.{◌≡◌, ◌⊎◌, ◌++◌, ◌∷◌, [], inl, inr, ℕ, true, false, List, Option, refl, sym, ap, ◌∙◌}
-use Rattle.stateful_types.specs.Names.{Named}
+use Rattle.stateful_base.specs.Names.{Named}
 use Rattle.stateful_db.specs.Laws.{Laws}
 use Rattle.stateful_history.specs.Live.{may_come}
 use Rattle.stateful_history.specs.Met.{TrueNames}

@@ -1,7 +1,7 @@
 -- The marks by which all live work ends have their reasons: a proposal is declined since the machine stops or starts.
 use Rattle.std.proofs.Common.{◌≡◌, ◌∷◌, [], inl, inr, ℕ, List, All, map, Option, Some, MatchOption, get_or, sym, subst}
 use Rattle.std.proofs.lemmas.List.Elements.{All-head, All-tail, All-same, All-append, All-map, All-weaker, Contains-get_or}
-use Rattle.stateful_types.specs.Names.{Named}
+use Rattle.stateful_base.specs.Names.{Named}
 use Rattle.stateful_history.specs.Declines.{MayDecline}
 use Rattle.stateful_history.specs.Past.{Past, Made, EachMark}
 use Rattle.stateful_history.specs.Requests.{Proposal, proposed}

@@ -1,6 +1,6 @@
 -- What the databases hold after a history, and an event that was refused behind it.
 use Rattle.std.proofs.Common.{◌≡◌, ◌∷◌, [], ℕ, Bool, false, List, Option, subst}
-use Rattle.stateful_types.specs.Names.{Named}
+use Rattle.stateful_base.specs.Names.{Named}
 use Rattle.stateful_db.specs.Laws.{Laws}
 use Rattle.stateful_history.specs.Past.{Past, Came, after_entry, after_all}
 use Rattle.stateful_history.specs.Refusals.{HoldsFurther}

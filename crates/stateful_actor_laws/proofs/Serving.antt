@@ -1,6 +1,6 @@
 -- Where a database isn't served what execution asks of it, or a request isn't, the reason lies outside: the databases are here.
 use Rattle.std.proofs.Common.{◌≡◌, ◌∷◌, [], ℕ, Option, Some, None, List, refl, sym, ap, ◌∙◌, subst}
-use Rattle.stateful_types.specs.Names.{Named}
+use Rattle.stateful_base.specs.Names.{Named}
 use Rattle.stateful_history.specs.declared.mark.How.{How}
 use Rattle.stateful_exec.specs.Building.{FaultsPropose}
 use Rattle.stateful_exec.specs.Building as building

@@ -1,6 +1,6 @@
 -- No run is cancelled for which another live request waits, unless the machine stops or starts.
 use Rattle.std.proofs.Common.{◌≡◌, ◌++◌, ◌∷◌, [], inr, ℕ, true, not, List, Option, sym, ap, ◌∙◌}
-use Rattle.stateful_types.specs.Names.{Named}
+use Rattle.stateful_base.specs.Names.{Named}
 use Rattle.stateful_db.specs.Laws.{Laws}
 use Rattle.stateful_history.specs.Live.{may_come}
 use Rattle.stateful_history.specs.Met.{TrueNames}

@@ -1,6 +1,6 @@
 -- Behind one step of the machine, whatever the event, it stands for the past with the entry.
 use Rattle.std.proofs.Common.{◌≡◌, ◌⊎◌, ◌∷◌, [], inl, inr, ℕ, Bool, true, false, Option, refl, sym, subst}
-use Rattle.stateful_types.specs.Names.{Named}
+use Rattle.stateful_base.specs.Names.{Named}
 use Rattle.stateful_db.specs.Laws.{Laws}
 use Rattle.stateful_history.specs.Live.{may_come}
 use Rattle.stateful_history.specs.Met.{TrueNames}

@@ -1,6 +1,6 @@
 -- Behind steps of the machine, one after another, it stands for the past with their entries, as a new one does for the empty past.
 use Rattle.std.proofs.Common.{◌≡◌, ◌∷◌, [], ℕ, Bool, List, Option, refl, sym, ◌∙◌, subst, true≢false}
-use Rattle.stateful_types.specs.Names.{Named}
+use Rattle.stateful_base.specs.Names.{Named}
 use Rattle.stateful_db.specs.Laws.{Laws}
 use Rattle.stateful_history.specs.Holding.{Holds}
 use Rattle.stateful_history.specs.Met.{TrueNames}

@@ -1,6 +1,6 @@
 -- A machine that refused an event stands for the past as it was: it may be restarted, and where nothing has changed it stands as before.
 use Rattle.std.proofs.Common.{◌≡◌, ◌≢◌, ◌≤◌, ◌<◌, [], ℕ, Bool, true, false, Option, None, arith, sym, ◌∙◌, true≢false}
-use Rattle.stateful_types.specs.Names.{Named}
+use Rattle.stateful_base.specs.Names.{Named}
 use Rattle.stateful_history.specs.Past.{Past}
 use Rattle.stateful_exec_tables.specs.Tables.{Rises}
 use Rattle.stateful_exec.specs.Workings.{Workings}

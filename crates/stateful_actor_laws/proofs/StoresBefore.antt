@@ -1,6 +1,6 @@
 -- Where the store has the finalized blocks of a history, or none, at their heights, it does so for the pasts within it.
 use Rattle.std.proofs.Common.{◌∷◌, [], ℕ, List, Option}
-use Rattle.stateful_types.specs.Names.{Header, Named}
+use Rattle.stateful_base.specs.Names.{Header, Named}
 use Rattle.stateful_history.specs.Past.{Past, Item, Came, Made, after, after_entry, after_all}
 use Rattle.stateful_history.specs.Honest.{StoresFinalized}
 use Rattle.stateful_history.specs.declared.entry.Entry.{Entry}

@@ -1,7 +1,7 @@
 -- A machine that has failed stands for its past with a restart that was tried.
 use Rattle.std.proofs.Common.{◌≡◌, ◌∷◌, ℕ, Bool, true, Option, sym, ◌∙◌, true≢false}
-use Rattle.stateful_types.specs.Names.{Named}
-use Rattle.stateful_types.specs.declared.number.Height.{Height}
+use Rattle.stateful_base.specs.Names.{Named}
+use Rattle.stateful_base.specs.declared.number.Height.{Height}
 use Rattle.stateful_history.specs.Past.{Past, Tried}
 use Rattle.stateful_history.specs.declared.event.Event.{Event}
 use Rattle.stateful_history.specs.declared.event.Event.TheVariants.{Restart}

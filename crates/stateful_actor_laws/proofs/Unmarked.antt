@@ -1,6 +1,6 @@
 -- What a machine stands for doesn't depend on the marks that it has made.
 use Rattle.std.proofs.Common.{ℕ, List, Option}
-use Rattle.stateful_types.specs.Names.{Named}
+use Rattle.stateful_base.specs.Names.{Named}
 use Rattle.stateful_history.specs.Past.{Past}
 use Rattle.stateful_history.specs.declared.mark.Mark.{Mark}
 use Rattle.stateful_exec.specs.Workings.{Workings}

@@ -1,7 +1,7 @@
 -- The marks by which all live work ends keep the rules on jobs and fetches, where the machine stops or starts.
 use Rattle.std.proofs.Common.{◌≡◌, ◌∷◌, [], inl, inr, ℕ, true, None, Some, Option, List, All, MatchOption, refl, sym, subst}
 use Rattle.std.proofs.lemmas.List.Elements.{All-nil, All-cons}
-use Rattle.stateful_types.specs.Names.{Named}
+use Rattle.stateful_base.specs.Names.{Named}
 use Rattle.stateful_history.specs.Jobs.{JobOf, started_for}
 use Rattle.stateful_history.specs.Live.{live_job}
 use Rattle.stateful_history.specs.Past.{Past, Made, EachMark}

@@ -1,7 +1,7 @@
 -- The marks by which all live work ends are in their places, and what a past keeps is kept behind them.
 use Rattle.std.proofs.Common.{◌≡◌, ◌≢◌, ◌∷◌, [], inl, ℕ, false, None, Some, Option, List, All, refl, ◌∙◌}
 use Rattle.std.proofs.lemmas.List.Elements.{All-nil, All-cons}
-use Rattle.stateful_types.specs.Names.{Named}
+use Rattle.stateful_base.specs.Names.{Named}
 use Rattle.stateful_history.specs.Answers.{was_cancelled}
 use Rattle.stateful_history.specs.Live.{live_ticket}
 use Rattle.stateful_history.specs.Opening.{is_handing_over}

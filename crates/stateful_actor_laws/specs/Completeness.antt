@@ -1,8 +1,8 @@
 -- Which events are refused for reasons outside of the machine alone.
 use Rattle.std.specs.Prelude.{◌≡◌, ◌∷◌, ◌<◌, ◌^◌, ℕ, Option, Some}
 use Rattle.sha2.specs.Sha256.{sha256}
-use Rattle.stateful_types.specs.Names.{Named}
-use Rattle.stateful_types.specs.declared.outcome.Handoff.{Handoff}
+use Rattle.stateful_base.specs.Names.{Named}
+use Rattle.stateful_base.specs.declared.outcome.Handoff.{Handoff}
 use Rattle.stateful_history.specs.Jobs.{IsLiveJob}
 use Rattle.stateful_history.specs.Lawful.{handed_block, IsLawful, LawfulSince}
 use Rattle.stateful_history.specs.Met.{TrueNames}

@@ -1,6 +1,6 @@
 -- Histories that events add to, one after another.
 use Rattle.std.specs.Prelude.{◌≡◌, ℕ, true, Option, List, [], ◌∷◌}
-use Rattle.stateful_types.specs.Names.{Named}
+use Rattle.stateful_base.specs.Names.{Named}
 use Rattle.stateful_history.specs.Live.{may_come}
 use Rattle.stateful_history.specs.Past.{Past, after_entry}
 use Rattle.stateful_history.specs.declared.entry.Entry.{Entry}

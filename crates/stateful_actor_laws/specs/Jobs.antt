@@ -1,7 +1,7 @@
 -- What holds of all live jobs at the end of an entry.
 use Rattle.std.specs.Prelude.{◌≡◌, ℕ, Option}
-use Rattle.stateful_types.specs.Names.{Named}
-use Rattle.stateful_types.specs.declared.digest.Digest.{Digest}
+use Rattle.stateful_base.specs.Names.{Named}
+use Rattle.stateful_base.specs.declared.digest.Digest.{Digest}
 use Rattle.stateful_history.specs.Jobs.{IsLiveJob, IsOutstandingCandidate, IsOutstandingFinalized}
 use Rattle.stateful_history.specs.Jobs.{IsOutstandingBuild, IsOutstandingHook}
 use Rattle.stateful_history.specs.Past.{Past}

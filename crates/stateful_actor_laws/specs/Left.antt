@@ -1,6 +1,6 @@
 -- What an event that was refused leaves of the databases.
 use Rattle.std.specs.Prelude.{◌≡◌, ◌∷◌, [], ℕ, false, Option, List}
-use Rattle.stateful_types.specs.Names.{Named}
+use Rattle.stateful_base.specs.Names.{Named}
 use Rattle.stateful_history.specs.Met.{TrueNames}
 use Rattle.stateful_history.specs.Past.{Past, Came, after_entry, after_all}
 use Rattle.stateful_history.specs.Refusals.{HoldsFurther}

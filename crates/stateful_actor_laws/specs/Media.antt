@@ -1,6 +1,6 @@
 -- What the media stand for between two events, and after an event that was refused.
 use Rattle.std.specs.Prelude.{◌≡◌, ◌⊎◌, ◌<◌, ◌^◌, ◌∷◌, [], ℕ, Bool, true, false, Option, Some, List}
-use Rattle.stateful_types.specs.Names.{Named}
+use Rattle.stateful_base.specs.Names.{Named}
 use Rattle.stateful_history.specs.Met.{TrueNames}
 use Rattle.stateful_history.specs.Opening.{opening, base_after}
 use Rattle.stateful_history.specs.Past.{Past, Came, Tried, after_entry}

@@ -1,6 +1,6 @@
 -- Refusals whose reason lies outside of the machine, and that of a machine that has failed.
 use Rattle.std.specs.Prelude.{ℕ}
-use Rattle.stateful_types.specs.Causes.{Rose}
+use Rattle.stateful_base.specs.Causes.{Rose}
 use Rattle.stateful_loop.specs.declared.error.StepError.{StepError}
 use Rattle.stateful_loop.specs.declared.error.StepError.TheVariants.{Application, Exhausted}
 use Rattle.stateful_loop.specs.declared.error.StepError.TheVariants.{DatabaseFault, Failed}

@@ -1,7 +1,7 @@
 -- Which restarts are refused for want of memory alone.
 use Rattle.std.specs.Prelude.{◌≡◌, ◌≤◌, ◌<◌, ℕ, Option, Some, List}
-use Rattle.stateful_types.specs.Names.{Named}
-use Rattle.stateful_types.specs.declared.floor.Floor.{Floor}
+use Rattle.stateful_base.specs.Names.{Named}
+use Rattle.stateful_base.specs.declared.floor.Floor.{Floor}
 use Rattle.stateful_history.specs.Restarts.{reopened_height}
 use Rattle.stateful_exec.specs.Workings.{Workings}
 use Rattle.stateful_loop_laws.specs.Media.{KeepsSome}

@@ -1,6 +1,6 @@
 -- What the machine stands for between two events.
 use Rattle.std.specs.Prelude.{◌≡◌, ℕ, Bool, true, false, not, Option, []}
-use Rattle.stateful_types.specs.Names.{Named}
+use Rattle.stateful_base.specs.Names.{Named}
 use Rattle.stateful_history.specs.Opening.{is_down}
 use Rattle.stateful_history.specs.Past.{Past}
 use Rattle.stateful_history.specs.Stops.{NothingLive}

@@ -1,6 +1,6 @@
 -- What stands behind a step, and behind steps one after another.
 use Rattle.std.specs.Prelude.{◌≡◌, ℕ, Bool, false, Option, Some, List, [], ◌∷◌, All}
-use Rattle.stateful_types.specs.Names.{Named}
+use Rattle.stateful_base.specs.Names.{Named}
 use Rattle.stateful_history.specs.Canonical.{pruned_below}
 use Rattle.stateful_history.specs.Holding.{Holds}
 use Rattle.stateful_history.specs.Joined.{TrueIsEarned}

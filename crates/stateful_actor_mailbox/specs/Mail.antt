@@ -4,8 +4,8 @@ use Rattle.std.specs.Prelude.{Result, Ok, Err, List, [], ◌∷◌, ◌++◌, fi
 use Rattle.std.specs.List.{filter_map}
 use Rattle.stateful_types.specs.Mailbox.{Queues, queues, messages, IsFilled}
 use Rattle.stateful_types.specs.declared.mailbox.Feedback.{Feedback}
-use Rattle.stateful_types.specs.declared.outcome.Moved.{Moved}
-use Rattle.stateful_types.specs.declared.outcome.Moved.TheVariants.{Pending, Done}
+use Rattle.stateful_base.specs.declared.outcome.Moved.{Moved}
+use Rattle.stateful_base.specs.declared.outcome.Moved.TheVariants.{Pending, Done}
 use Rattle.stateful_history.specs.declared.event.Event.{Event}
 use Rattle.stateful_history.specs.declared.event.Event.TheVariants.{Cancel}
 use Rattle.stateful_history.specs.declared.mark.Mark.{Mark}

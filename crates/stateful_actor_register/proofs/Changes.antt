@@ -1,8 +1,8 @@
 -- A past with one item more, and what its change makes of what was live.
 use Rattle.std.proofs.Common.{◌≡◌, ℕ, Bool, true, false, not, eqb, ltb, cond, ◌&&◌, ◌||◌, Option, Some, None, [], ◌∷◌, refl, sym}
 use Rattle.std.proofs.lemmas.Bool.{and_right, or_from}
-use Rattle.stateful_types.specs.declared.floor.Floor.{Floor}
-use Rattle.stateful_types.specs.declared.items.Items.{Items}
+use Rattle.stateful_base.specs.declared.floor.Floor.{Floor}
+use Rattle.stateful_base.specs.declared.items.Items.{Items}
 use Rattle.stateful_history.specs.Past.{Past, Came, Made}
 use Rattle.stateful_history.specs.Opening.{is_down}
 use Rattle.stateful_history.specs.Live.{live_ticket, live_job, live_fetch, live_flush, bound_of, seeking, is_request, names_live, may_come}

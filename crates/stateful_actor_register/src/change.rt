@@ -19,8 +19,8 @@ ghost use Rattle.std.specs.List.{list_any};
 ghost use Rattle.stateful_actor_register.specs.Change.{change_by_event, change_by_mark, changes_of};
 ghost use Rattle.stateful_actor_register.specs.Change.{begins_barrier};
 
+use stateful_base::OutOfMemory;
 use stateful_history::{Event, Mark, Ticket};
-use stateful_types::OutOfMemory;
 use std::alloc::Global;
 
 /// One change of the live work.

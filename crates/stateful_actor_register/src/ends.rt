@@ -19,8 +19,8 @@ ghost use Rattle.stateful_actor_register.specs.Ends.{EndsAll, LeavesNothing, wit
 ghost use Rattle.stateful_actor_register.specs.Ends.{declined, dropped};
 
 use crate::register::Register;
+use stateful_base::OutOfMemory;
 use stateful_history::{How, Mark};
-use stateful_types::OutOfMemory;
 
 /// Marks that each of these fetches is given up.
 fn withdraw<B: Drop>(fetches: &[u64], marks: &mut Vec<Mark<B>>) -> Result<(), OutOfMemory>

@@ -7,7 +7,7 @@ ghost use Rattle.stateful_actor_register.specs.Change.{begins_barrier};
 ghost use Rattle.stateful_actor_register.specs.Flushes.{is_waiting, WaitsAlike, FlushesApply};
 
 use crate::change::{Change, begins_some_barrier};
-use stateful_types::OutOfMemory;
+use stateful_base::OutOfMemory;
 use std::alloc::Global;
 use std::collections::BTreeMap;
 

@@ -3,8 +3,8 @@
 ghost use Rattle.std.specs.Prelude.{◌≡◌, ◌==◌, ℕ, if◌then◌else◌, is_some, IfOk, OnOk};
 ghost use Rattle.stateful_actor_register.specs.Live.{entry, HasRoom, IsListOf};
 
+use stateful_base::OutOfMemory;
 use stateful_history::Ticket;
-use stateful_types::OutOfMemory;
 use std::alloc::Global;
 use std::collections::BTreeMap;
 

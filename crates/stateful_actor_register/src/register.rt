@@ -24,8 +24,8 @@ ghost use Rattle.stateful_actor_register.specs.declared.change.Change.{Change};
 use crate::change::{Change, changes_of};
 use crate::flushes::Flushes;
 use crate::live::Live;
+use stateful_base::OutOfMemory;
 use stateful_history::{Event, Mark, Ticket};
-use stateful_types::OutOfMemory;
 use std::alloc::Global;
 
 /// The live work of a machine: tickets with what they stand for, those of them that ask to build,

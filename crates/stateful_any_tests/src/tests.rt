@@ -1,8 +1,8 @@
 //! A map that is kept as a log, with roots by the reference's program.
 
+use stateful_base::{Digest, Location, Target};
 use stateful_db::{DatabaseSet, Held, ManagedDb, Unmerkleized};
 use stateful_db_any::{AnyDb, AnyMedium, AnyMerkleized, AnyUnmerkleized, Slot};
-use stateful_types::{Digest, Location, Target};
 use std::alloc::Global;
 use std::ops::Range;
 use std::test::Fail;

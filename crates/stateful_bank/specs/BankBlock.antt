@@ -1,13 +1,13 @@
 -- Blocks of the bank.
 use Rattle.std.specs.Prelude.{ℕ, ◌+◌, List, [], ◌∷◌, ◌++◌, length, replicate}
 use Rattle.std.specs.List.{flat_map}
-use Rattle.stateful_types.specs.Names.{Header}
-use Rattle.stateful_types.specs.declared.digest.Digest.{Digest}
-use Rattle.stateful_types.specs.declared.round.Round.{Round}
-use Rattle.stateful_types.specs.declared.target.Target.{Target}
-use Rattle.stateful_types.specs.Number.{u32_format, height_format, location_format}
-use Rattle.stateful_types.specs.Round.{round_format}
-use Rattle.stateful_types.specs.Digest.{digest_format}
+use Rattle.stateful_base.specs.Names.{Header}
+use Rattle.stateful_base.specs.declared.digest.Digest.{Digest}
+use Rattle.stateful_base.specs.declared.round.Round.{Round}
+use Rattle.stateful_base.specs.declared.target.Target.{Target}
+use Rattle.stateful_base.specs.Number.{u32_format, height_format, location_format}
+use Rattle.stateful_base.specs.Round.{round_format}
+use Rattle.stateful_base.specs.Digest.{digest_format}
 use Rattle.stateful_bank.specs.declared.op.Op.{Op}
 use Rattle.stateful_bank.specs.declared.block.BankBlock.{BankBlock}
 use Rattle.stateful_bank.specs.Op.{op_bytes}

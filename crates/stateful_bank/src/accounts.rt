@@ -4,7 +4,7 @@ ghost use Rattle.std.specs.Prelude.{◌≡◌, IfOk};
 ghost use Rattle.stateful_bank.specs.Accounts.{Becomes, withdrawn, deposited, do_op, do_ops};
 
 use crate::op::Op;
-use stateful_types::OutOfMemory;
+use stateful_base::OutOfMemory;
 
 /// What keeps the balances of accounts. Contracts see it as states, which tell what each account
 /// has.

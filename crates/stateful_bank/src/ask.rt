@@ -1,7 +1,7 @@
 //! Requests to build a block.
 
 use crate::op::Op;
-use stateful_types::{Handoff, Items, OutOfMemory, Share};
+use stateful_base::{Handoff, Items, OutOfMemory, Share};
 
 /// What a request to build brings: how a prepared block is handed over, and its operations.
 #[derive(Debug, Drop)]

@@ -6,7 +6,7 @@ ghost use Rattle.stateful_bank.specs.Balances.{do_ops};
 
 use crate::accounts::{Accounts, do_ops};
 use crate::op::Op;
-use stateful_types::OutOfMemory;
+use stateful_base::OutOfMemory;
 use std::collections::BTreeMap;
 
 impl Accounts for BTreeMap<u64, u64> {

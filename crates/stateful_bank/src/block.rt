@@ -3,13 +3,13 @@
 ghost use Rattle.std.specs.Prelude.{◌≡◌, ◌++◌, ◌+◌, ◌^◌, ◌<◌, ◌∷◌, [], OnOk, IfOk, length};
 ghost use Rattle.std.specs.Option.{SomeIff};
 ghost use Rattle.std.specs.List.{flat_map};
-ghost use Rattle.stateful_types.specs.Number.{u32_format};
+ghost use Rattle.stateful_base.specs.Number.{u32_format};
 ghost use Rattle.stateful_bank.specs.Op.{op_bytes};
 ghost use Rattle.stateful_bank.specs.BankBlock.{block_header, block_bytes, head_bytes};
 ghost use Rattle.stateful_bank.specs.BankBlock.{target_bytes, genesis_block, child_block};
 
 use crate::op::Op;
-use stateful_types::{
+use stateful_base::{
     Block, Digest, Epoch, Height, Items, OutOfMemory, Round, Target, View, write_u8, write_u32,
 };
 use std::alloc::Global;

@@ -3,7 +3,7 @@
 ghost use Rattle.std.specs.Prelude.{◌≡◌, ◌++◌, OnOk};
 ghost use Rattle.stateful_bank.specs.Op.{accept, account_bytes, amount_of, op_bytes};
 
-use stateful_types::{OutOfMemory, write_u64};
+use stateful_base::{OutOfMemory, write_u64};
 
 /// What a block does to the balances of accounts.
 #[derive(Clone, Copy, Debug, PartialEq, Eq)]

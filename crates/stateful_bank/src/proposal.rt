@@ -1,13 +1,13 @@
 //! Builds of blocks.
 
 ghost use Rattle.std.specs.Prelude.{◌≡◌, ◌↔◌, IsTrue, List, Option};
-ghost use Rattle.stateful_types.specs.declared.target.Target.{Target};
+ghost use Rattle.stateful_base.specs.declared.target.Target.{Target};
 ghost use Rattle.stateful_bank.specs.declared.block.BankBlock.{BankBlock};
 ghost use Rattle.stateful_bank.specs.Proposal.{IsDeclined, built_block, GivesOne};
 
 use crate::block::{BankBlock, MAX_OPS};
 use crate::op::Op;
-use stateful_types::{Digest, Handoff, Height, Items, Round, Target};
+use stateful_base::{Digest, Handoff, Height, Items, Round, Target};
 
 /// What a build is asked for: how its block is handed over, the height and the digest of its
 /// parent, its round, and its operations. A block that is proposed, and not prepared, is handed

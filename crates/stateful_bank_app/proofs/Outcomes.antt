@@ -1,8 +1,8 @@
 -- What runs end with.
 use Rattle.std.proofs.Common.{◌≡◌, true, false, Option, Some, None, refl, ap}
 use Rattle.std.specs.Option.{option_map}
-use Rattle.stateful_types.specs.declared.outcome.Finality.{Finality}
-use Rattle.stateful_types.specs.declared.outcome.Finality.TheVariants.{Candidate, Finalized}
+use Rattle.stateful_base.specs.declared.outcome.Finality.{Finality}
+use Rattle.stateful_base.specs.declared.outcome.Finality.TheVariants.{Candidate, Finalized}
 use Rattle.stateful_db.specs.Meaning.{outcome}
 use Rattle.stateful_bank.specs.declared.block.BankBlock.{BankBlock}
 use Rattle.stateful_bank.specs.Op.{accept}

@@ -1,6 +1,6 @@
 -- One turn of a run.
 use Rattle.std.proofs.Common.{◌≡◌, ℕ, ◌+◌, ◌<◌, List, ◌∷◌, Option, Some, None, IsSomeAnd, ap, sym, ◌∙◌, subst}
-use Rattle.stateful_types.specs.declared.outcome.Moved.TheVariants.{Done}
+use Rattle.stateful_base.specs.declared.outcome.Moved.TheVariants.{Done}
 use Rattle.stateful_db.specs.Meaning.{outcome, Ends}
 use Rattle.stateful_db.specs.Works.{block_of, run_chain}
 use Rattle.stateful_bank.specs.declared.op.Op.{Op}

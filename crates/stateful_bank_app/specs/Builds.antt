@@ -1,12 +1,12 @@
 -- Builds of blocks: what is asked for, and what they stand on.
 use Rattle.std.specs.Prelude.{◌≡◌, ℕ, List, ◌∷◌, Option, Some}
 use Rattle.sha2.specs.Sha256.{sha256}
-use Rattle.stateful_types.specs.declared.round.Round.{Round}
-use Rattle.stateful_types.specs.declared.target.Target.{Target}
-use Rattle.stateful_types.specs.declared.outcome.Handoff.{Handoff}
-use Rattle.stateful_types.specs.declared.outcome.Handoff.TheVariants.{Wait, Vote, Stage}
-use Rattle.stateful_types.specs.declared.outcome.Moved.{Moved}
-use Rattle.stateful_types.specs.declared.outcome.Moved.TheVariants.{Pending, Done}
+use Rattle.stateful_base.specs.declared.round.Round.{Round}
+use Rattle.stateful_base.specs.declared.target.Target.{Target}
+use Rattle.stateful_base.specs.declared.outcome.Handoff.{Handoff}
+use Rattle.stateful_base.specs.declared.outcome.Handoff.TheVariants.{Wait, Vote, Stage}
+use Rattle.stateful_base.specs.declared.outcome.Moved.{Moved}
+use Rattle.stateful_base.specs.declared.outcome.Moved.TheVariants.{Pending, Done}
 use Rattle.stateful_db.specs.Chain.{IsPoint}
 use Rattle.stateful_db.specs.Works.{Asked, BuildOf}
 use Rattle.stateful_db.specs.declared.application.ProposalKind.{ProposalKind}

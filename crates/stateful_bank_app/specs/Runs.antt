@@ -1,11 +1,11 @@
 -- Runs of blocks: what they stand on, and what they count.
 use Rattle.std.specs.Prelude.{◌≡◌, ℕ, ◌+◌, ◌-◌, ◌^◌, List, ◌∷◌, min, false, Option, None, Some}
 use Rattle.std.specs.Prelude.{Result, Ok, Err}
-use Rattle.stateful_types.specs.declared.round.Round.{Round}
-use Rattle.stateful_types.specs.declared.outcome.Finality.{Finality}
-use Rattle.stateful_types.specs.declared.outcome.Finality.TheVariants.{Candidate, Finalized}
-use Rattle.stateful_types.specs.declared.outcome.Moved.{Moved}
-use Rattle.stateful_types.specs.declared.outcome.Moved.TheVariants.{Pending, Done}
+use Rattle.stateful_base.specs.declared.round.Round.{Round}
+use Rattle.stateful_base.specs.declared.outcome.Finality.{Finality}
+use Rattle.stateful_base.specs.declared.outcome.Finality.TheVariants.{Candidate, Finalized}
+use Rattle.stateful_base.specs.declared.outcome.Moved.{Moved}
+use Rattle.stateful_base.specs.declared.outcome.Moved.TheVariants.{Pending, Done}
 use Rattle.stateful_db.specs.Chain.{IsPoint}
 use Rattle.stateful_db.specs.Works.{RunOf, block_of}
 use Rattle.stateful_db.specs.declared.application.AppFault.{AppFault}

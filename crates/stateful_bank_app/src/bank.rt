@@ -97,7 +97,7 @@ impl<W> Faulty for Bank<W> {
 
 impl<W: World + Drop> Application for Bank<W> {
     ghost use Rattle.std.specs.Prelude.{◌≡◌, ◌≤◌, ◌-◌, ◌+◌, ◌∷◌, ℕ, List, Some, IsOk, IfOk, IsErrOf};
-    ghost use Rattle.stateful_types.specs.Causes.{Rose};
+    ghost use Rattle.stateful_base.specs.Causes.{Rose};
     ghost use Rattle.stateful_db.specs.Meaning.{outcome, Ends};
     ghost use Rattle.stateful_db.specs.Hooks.{left};
     ghost use Rattle.stateful_db.specs.Works.{asked_for, run_of, build_of, block_of, run_chain};

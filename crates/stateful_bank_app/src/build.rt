@@ -2,7 +2,7 @@
 
 ghost use Rattle.std.specs.Prelude.{◌≡◌, ℕ, ◌+◌, ◌≤◌, List, ◌∷◌, IfOk, IsErrOf};
 ghost use Rattle.std.specs.Prelude.{Some};
-ghost use Rattle.stateful_types.specs.declared.outcome.Moved.{Moved};
+ghost use Rattle.stateful_base.specs.declared.outcome.Moved.{Moved};
 ghost use Rattle.stateful_db.specs.Works.{BuildEnds, Costs};
 ghost use Rattle.stateful_bank_app.specs.Draft.{IsAmong};
 ghost use Rattle.stateful_bank_app.specs.Rules.{turns_of};

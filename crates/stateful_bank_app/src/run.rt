@@ -2,7 +2,7 @@
 
 ghost use Rattle.std.specs.Prelude.{◌≡◌, ℕ, ◌+◌, ◌≤◌, List, ◌∷◌, IfOk, IsErrOf};
 ghost use Rattle.std.specs.Prelude.{IsTrue, ◌↔◌, Some};
-ghost use Rattle.stateful_types.specs.declared.outcome.Finality.{Finality};
+ghost use Rattle.stateful_base.specs.declared.outcome.Finality.{Finality};
 ghost use Rattle.stateful_db.specs.Meaning.{outcome, Ends};
 ghost use Rattle.stateful_db.specs.Works.{block_of, run_chain, Costs};
 ghost use Rattle.stateful_bank_app.specs.Rules.{bank_meaning, turns_of, stepped};

@@ -1,8 +1,8 @@
 -- What batches of amounts hold.
 use Rattle.std.proofs.Common.{◌≡◌, ℕ, zero, suc, ◌+◌, append_assoc, take, slice_get, ◌<◌, ◌≤◌, ◌⊎◌, inl, inr, true, false, Bool, List, [], ◌∷◌, ◌++◌, length, map, Option, None, Some, nat_lt, refl, sym, ap, ◌∙◌, subst, arith}
 use Rattle.std.proofs.lemmas.Bool.Decides.{nat_tests}
-use Rattle.stateful_types.specs.Number.{u64_format}
-use Rattle.stateful_types.specs.declared.number.Location.{Location}
+use Rattle.stateful_base.specs.Number.{u64_format}
+use Rattle.stateful_base.specs.declared.number.Location.{Location}
 use Rattle.stateful_db.specs.declared.batch.BatchError.{BatchError}
 use Rattle.stateful_db.specs.declared.batch.BatchError.TheVariants.{StaleRead, OutOfMemory, LocationOutOfBounds, BelowInactivityFloor}
 use Rattle.stateful_bank.specs.declared.op.Op.{Op}

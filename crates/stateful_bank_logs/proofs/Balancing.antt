@@ -5,7 +5,7 @@ use Rattle.std.specs.List.Sorted.{IsStrictlySortedBy}
 use Rattle.std.specs.BTreeMap.{insert_entry, is_at}
 use Rattle.std.specs.Map.{lookup}
 use Rattle.std.proofs.lemmas.Cmp.{nat_cmp_total}
-use Rattle.stateful_types.specs.Number.{u64_format}
+use Rattle.stateful_base.specs.Number.{u64_format}
 use Rattle.stateful_db_any.specs.declared.op.AnyOp.{AnyOp}
 use Rattle.stateful_db_any.specs.declared.op.AnyOp.TheVariants.{Commit}
 use Rattle.stateful_db_any.specs.Any.{State, size_of, value_at, ops_for, after, sealed, begun}

@@ -1,7 +1,7 @@
 -- Amounts in a keyless database, and what batches append there.
 use Rattle.std.specs.Prelude.{◌≡◌, ℕ, List, ◌∷◌, Some, map}
-use Rattle.stateful_types.specs.Number.{u64_format}
-use Rattle.stateful_types.specs.declared.number.Location.{Location}
+use Rattle.stateful_base.specs.Number.{u64_format}
+use Rattle.stateful_base.specs.declared.number.Location.{Location}
 use Rattle.stateful_bank.specs.declared.op.Op.{Op}
 use Rattle.stateful_bank.specs.Op.{amount_of}
 use Rattle.stateful_db_keyless.specs.Ops.{Changes}

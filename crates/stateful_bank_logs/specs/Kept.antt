@@ -6,8 +6,8 @@ use Rattle.std.specs.declared.cmp.Ord as ord
 use Rattle.std.specs.declared.cmp.PartialEq as eq
 use Rattle.std.specs.declared.cmp.PartialOrd as partial
 use Rattle.std.proofs.Common.{sym, subst}
-use Rattle.stateful_types.specs.Number.{u64_format}
-use Rattle.stateful_types.specs.declared.target.Target.{Target}
+use Rattle.stateful_base.specs.Number.{u64_format}
+use Rattle.stateful_base.specs.declared.target.Target.{Target}
 use Rattle.stateful_db.specs.Databases.{Databases}
 use Rattle.stateful_db.specs.Disk.{Disk, Standing}
 use Rattle.stateful_db.specs.Member.{Member, here, closed, lost, away}

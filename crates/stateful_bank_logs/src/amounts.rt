@@ -2,7 +2,7 @@
 
 ghost use Rattle.std.specs.Prelude.{◌≡◌, ℕ, ◌-◌, ◌^◌, ◌<◌, ◌≤◌, List, ◌∷◌, [], ◌++◌, IfOk};
 ghost use Rattle.std.specs.Prelude.{IfSome, IfNone, IsSomeAnd, Some, map};
-ghost use Rattle.stateful_types.specs.Number.{u64_format};
+ghost use Rattle.stateful_base.specs.Number.{u64_format};
 ghost use Rattle.stateful_db.specs.Chain.{IsPoint};
 ghost use Rattle.stateful_db.specs.Disk.{point};
 ghost use Rattle.stateful_bank.specs.Op.{amount_of};
@@ -14,9 +14,9 @@ ghost use Rattle.stateful_bank_app.specs.Draft.{IsAmong};
 ghost use Rattle.stateful_bank_logs.specs.Amounts.{HoldsNothing, IsCompleted};
 
 use stateful_bank::Op;
+use stateful_base::{Height, Location, OutOfMemory};
 use stateful_db::{BatchError, DatabaseSet, Held};
 use stateful_db_keyless::{KeylessDb, KeylessUnmerkleized};
-use stateful_types::{Height, Location, OutOfMemory};
 
 /// Two closer bounds of the location of a batch's first operation, where it has no values. None
 /// where the batch is stale.

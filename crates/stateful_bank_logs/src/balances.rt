@@ -2,7 +2,7 @@
 
 ghost use Rattle.std.specs.Prelude.{◌≡◌, ℕ, ◌==◌, if◌then◌else◌, List, ◌∷◌, IfOk, Some, None};
 ghost use Rattle.std.specs.Ordering.{nat_cmp};
-ghost use Rattle.stateful_types.specs.Number.{u64_format};
+ghost use Rattle.stateful_base.specs.Number.{u64_format};
 ghost use Rattle.stateful_db.specs.Chain.{IsPoint};
 ghost use Rattle.stateful_db.specs.Disk.{point};
 ghost use Rattle.stateful_db_any.specs.Any.{State};
@@ -12,9 +12,9 @@ ghost use Rattle.stateful_bank_app.specs.Draft.{IsAmong};
 ghost use Rattle.stateful_bank_logs.specs.Balances.{Writes, balance_on, with_balance, HoldsWrites};
 ghost use Rattle.stateful_bank_logs.specs.Balances.{balances_after};
 
+use stateful_base::{Height, OutOfMemory};
 use stateful_db::{BatchError, DatabaseSet, Held};
 use stateful_db_any::{AnyDb, AnyUnmerkleized};
-use stateful_types::{Height, OutOfMemory};
 
 /// What the account has, over a database that is here. None where the batch is stale.
 fn balance_here(

@@ -1,7 +1,7 @@
 -- Balances in a database of keys, before the amounts of all operations in a keyless one.
 use Rattle.std.specs.Prelude.{ℕ, List, [], ◌∷◌, map}
-use Rattle.stateful_types.specs.Number.{u64_format}
-use Rattle.stateful_types.specs.declared.target.Target.{Target}
+use Rattle.stateful_base.specs.Number.{u64_format}
+use Rattle.stateful_base.specs.declared.target.Target.{Target}
 use Rattle.stateful_db.specs.Pair.{left, right}
 use Rattle.stateful_db_any.specs.Any as any
 use Rattle.stateful_db_any.specs.Shown.{Draft}

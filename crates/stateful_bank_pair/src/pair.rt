@@ -6,10 +6,10 @@ ghost use Rattle.stateful_bank_pair.specs.Pair.{two_targets};
 use stateful_bank::Op;
 use stateful_bank_app::{Fresh, World};
 use stateful_bank_logs::{balance, complete_amounts, complete_balances, set_balance};
+use stateful_base::{Height, Items, OutOfMemory, Target};
 use stateful_db::{Held, ManagedDb};
 use stateful_db_any::{AnyDb, AnyMedium, AnyMerkleized, AnyUnmerkleized};
 use stateful_db_keyless::{KeylessDb, KeylessMedium, KeylessMerkleized, KeylessUnmerkleized};
-use stateful_types::{Height, Items, OutOfMemory, Target};
 use std::alloc::Global;
 
 /// Balances in a database of keys, and behind it the amounts of all operations in a keyless one.

@@ -1,6 +1,6 @@
 -- The one database, wherever it is, and when it is empty.
 use Rattle.std.proofs.Common.{◌≡◌, ℕ, List, [], sym, subst}
-use Rattle.stateful_types.specs.declared.target.Target.{Target}
+use Rattle.stateful_base.specs.declared.target.Target.{Target}
 use Rattle.stateful_db.specs.Member.{Member, here, closed, lost, away}
 use Rattle.stateful_db.specs.Single.{single}
 use Rattle.stateful_db.specs.declared.database.DbCall.{DbCall}

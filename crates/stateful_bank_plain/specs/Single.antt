@@ -1,6 +1,6 @@
 -- Balances in one database that is kept whole.
 use Rattle.std.specs.Prelude.{ℕ, ◌+◌, List, [], ◌∷◌}
-use Rattle.stateful_types.specs.declared.target.Target.{Target}
+use Rattle.stateful_base.specs.declared.target.Target.{Target}
 use Rattle.stateful_bank.specs.Balances.{balance_of, with_balance}
 use Rattle.stateful_db_plain.specs.Whole.{Whole, initial, target_of}
 use Rattle.stateful_db_plain.specs.Shown.{DraftShows}

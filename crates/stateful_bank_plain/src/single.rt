@@ -10,9 +10,9 @@ ghost use Rattle.stateful_bank_plain.specs.Single.{one_target, HoldsEntries};
 
 use stateful_bank::Op;
 use stateful_bank_app::{Fresh, World};
+use stateful_base::{Height, Items, OutOfMemory, Target};
 use stateful_db::{Held, ManagedDb};
 use stateful_db_plain::{Plain, PlainMedium, PlainMerkleized, PlainUnmerkleized};
-use stateful_types::{Height, Items, OutOfMemory, Target};
 use std::alloc::Global;
 
 /// Balances in a database that is kept whole, and nothing else. There is no value of it.

@@ -5,8 +5,8 @@ ghost use Rattle.stateful_bank_app.specs.Rules.{stepped};
 ghost use Rattle.stateful_bank_plain.specs.Single.{single_rules};
 
 use stateful_bank::{Op, apply_ops};
+use stateful_base::OutOfMemory;
 use stateful_db_plain::PlainState;
-use stateful_types::OutOfMemory;
 
 /// The state after a block of these operations, whatever its height. None exactly where one of them
 /// isn't allowed. A state whose range would end past the last number is refused as want of memory.

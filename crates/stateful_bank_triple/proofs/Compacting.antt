@@ -1,6 +1,6 @@
 -- What batches of a compact database hold.
 use Rattle.std.proofs.Common.{◌≡◌, ℕ, ◌+◌, List, [], ◌∷◌, ◌++◌, length, map, Some, refl, sym, ap, ◌∙◌, arith}
-use Rattle.stateful_types.specs.Number.{u64_format}
+use Rattle.stateful_base.specs.Number.{u64_format}
 use Rattle.stateful_bank.specs.declared.op.Op.{Op}
 use Rattle.stateful_bank.specs.Op.{amount_of}
 use Rattle.stateful_db_keyless.specs.Ops.{Changes}

@@ -2,7 +2,7 @@
 use Rattle.std.proofs.Common.{◌≡◌, ℕ, List, Option, None, Some, subst}
 use Rattle.std.proofs.lemmas.Option.{same_Some}
 use Rattle.std.specs.Option.{option_map}
-use Rattle.stateful_types.specs.Number.{u64_format}
+use Rattle.stateful_base.specs.Number.{u64_format}
 use Rattle.stateful_bank.specs.declared.op.Op.{Op}
 use Rattle.stateful_db_keyless.specs.Follows.{Follows}
 use Rattle.stateful_db_keyless.proofs.Following as both

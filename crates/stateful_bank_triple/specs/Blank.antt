@@ -3,7 +3,7 @@ use Rattle.std.specs.Prelude.{ℕ, refl}
 use Rattle.std.specs.declared.cmp.Ord as ord
 use Rattle.std.specs.declared.cmp.PartialEq as eq
 use Rattle.std.specs.declared.cmp.PartialOrd as partial
-use Rattle.stateful_types.specs.declared.target.CompactTarget.{CompactTarget}
+use Rattle.stateful_base.specs.declared.target.CompactTarget.{CompactTarget}
 use Rattle.stateful_db.specs.Member.{Member}
 use Rattle.stateful_db.specs.Pair.{pair}
 use Rattle.stateful_db.specs.Targeted.{compact_target}

@@ -1,6 +1,6 @@
 -- What batches of a compact database append.
 use Rattle.std.specs.Prelude.{ℕ, List, ◌∷◌}
-use Rattle.stateful_types.specs.Number.{u64_format}
+use Rattle.stateful_base.specs.Number.{u64_format}
 use Rattle.stateful_bank.specs.declared.op.Op.{Op}
 use Rattle.stateful_db_keyless.specs.Keyless as keyless
 use Rattle.stateful_db_keyless.specs.Compacted as compact

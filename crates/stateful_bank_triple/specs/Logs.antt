@@ -1,7 +1,7 @@
 -- The two logs of amounts as one set: what each is by itself, and that the laws of sets hold of both.
 use Rattle.std.specs.Prelude.{ℕ, refl}
-use Rattle.stateful_types.specs.Number.{u64_format}
-use Rattle.stateful_types.specs.declared.target.CompactTarget.{CompactTarget}
+use Rattle.stateful_base.specs.Number.{u64_format}
+use Rattle.stateful_base.specs.declared.target.CompactTarget.{CompactTarget}
 use Rattle.stateful_db.specs.Databases.{Databases}
 use Rattle.stateful_db.specs.Laws.{Laws}
 use Rattle.stateful_db.specs.Single.{single}

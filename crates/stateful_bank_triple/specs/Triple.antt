@@ -1,9 +1,9 @@
 -- Balances in a database of keys, then the amounts of all operations in a keyless one, and then the
 -- same amounts in a compact one.
 use Rattle.std.specs.Prelude.{ℕ, ◌-◌, ◌==◌, if◌then◌else◌, List, [], ◌∷◌, map}
-use Rattle.stateful_types.specs.Number.{u64_format}
-use Rattle.stateful_types.specs.declared.target.Target.{Target}
-use Rattle.stateful_types.specs.declared.target.CompactTarget.{CompactTarget}
+use Rattle.stateful_base.specs.Number.{u64_format}
+use Rattle.stateful_base.specs.declared.target.Target.{Target}
+use Rattle.stateful_base.specs.declared.target.CompactTarget.{CompactTarget}
 use Rattle.stateful_db.specs.Pair.{left, right}
 use Rattle.stateful_db.specs.Targeted.{compact_target}
 use Rattle.stateful_db_any.specs.Any as any

@@ -1,7 +1,7 @@
 //! The amounts of operations in a compact database.
 
 ghost use Rattle.std.specs.Prelude.{◌≡◌, ℕ, List, ◌∷◌, ◌++◌, IfOk, Some, map};
-ghost use Rattle.stateful_types.specs.Number.{u64_format};
+ghost use Rattle.stateful_base.specs.Number.{u64_format};
 ghost use Rattle.stateful_bank.specs.Op.{amount_of};
 ghost use Rattle.stateful_db_keyless.specs.Ops.{Changes};
 ghost use Rattle.stateful_db_keyless.specs.Compacted.{State, sealed};
@@ -9,8 +9,8 @@ ghost use Rattle.stateful_db_keyless.specs.CompactShown.{Holds, DraftShows};
 ghost use Rattle.stateful_bank_triple.specs.Compact.{HoldsNothing};
 
 use stateful_bank::Op;
+use stateful_base::{Height, Location, OutOfMemory};
 use stateful_db_keyless::KeylessUnjournaledUnmerkleized;
-use stateful_types::{Height, Location, OutOfMemory};
 
 /// The batch with each operation's amount appended.
 fn append_amounts(

@@ -6,15 +6,15 @@
 
 ghost use Rattle.std.specs.Prelude.{◌≡◌, ℕ, ◌^◌, ◌<◌, ◌≤◌, OnOk, OnErr, IfErr, Some};
 ghost use Rattle.stateful_db.specs.Databases.{IsOpening};
-ghost use Rattle.stateful_types.specs.declared.target.Target.{Target};
-ghost use Rattle.stateful_types.specs.declared.target.CompactTarget.{CompactTarget};
+ghost use Rattle.stateful_base.specs.declared.target.Target.{Target};
+ghost use Rattle.stateful_base.specs.declared.target.CompactTarget.{CompactTarget};
 
+use stateful_base::{CompactTarget, Items, Target};
 use stateful_db::{BatchError, DatabaseSet, FlushToken, Held, SetError, SetInit, SetLost};
 use stateful_db_keyless::{
     CompactDb, KeylessDb, KeylessMerkleized, KeylessUnjournaledMerkleized,
     KeylessUnjournaledUnmerkleized, KeylessUnmerkleized,
 };
-use stateful_types::{CompactTarget, Items, Target};
 
 /// The logs: of all amounts, and of the latest commit of the same amounts.
 type Both = (Held<KeylessDb<u64>>, Held<CompactDb<u64>>);

@@ -9,13 +9,13 @@ use crate::logs::AmountLogs;
 use stateful_bank::Op;
 use stateful_bank_app::{Fresh, World};
 use stateful_bank_logs::{balance, complete_amounts, complete_balances, set_balance};
+use stateful_base::{CompactTarget, Height, Items, OutOfMemory, Target};
 use stateful_db::{Held, ManagedDb, Targeted};
 use stateful_db_any::{AnyDb, AnyMedium, AnyMerkleized, AnyUnmerkleized};
 use stateful_db_keyless::{
     CompactDb, CompactMedium, KeylessDb, KeylessMedium, KeylessMerkleized,
     KeylessUnjournaledMerkleized, KeylessUnjournaledUnmerkleized, KeylessUnmerkleized,
 };
-use stateful_types::{CompactTarget, Height, Items, OutOfMemory, Target};
 use std::alloc::Global;
 
 /// Balances in a database of keys, then the amounts of all operations in a keyless one, and then

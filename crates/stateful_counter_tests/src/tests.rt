@@ -5,14 +5,14 @@ ghost use Rattle.stateful_loop.specs.Moments.{moment};
 ghost use Rattle.stateful_actor_laws.specs.Machine.{IsSafe};
 
 use stateful_actor::{Application, Config, DatabaseSet, Entry, Event, Stateful};
+use stateful_base::{
+    Ancestry, Digested, Epoch, Floor, Height, Items, MemoryStore, Round, Share, Target, View,
+};
 use stateful_db::{Flushed, Held};
 use stateful_db_plain::{Plain, PlainMedium, PlainState};
 use stateful_exec::Worked;
 use stateful_script_text::{End, Label, transcript};
 use stateful_simple_counter::{Add, Counter, CounterBlock};
-use stateful_types::{
-    Ancestry, Digested, Epoch, Floor, Height, Items, MemoryStore, Round, Share, Target, View,
-};
 use std::alloc::Global;
 use std::collections::BTreeMap;
 use std::test::Fail;

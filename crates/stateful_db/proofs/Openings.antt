@@ -1,7 +1,7 @@
 -- A database of a set that was opened at a target.
 use Rattle.std.proofs.Common.{◌≡◌, ℕ, ◌-◌, ◌<◌, [], ◌∷◌, length, Option, Some, None, refl, arith}
 use Rattle.std.proofs.lemmas.List.{drop_at}
-use Rattle.stateful_types.specs.declared.target.Target.{Target}
+use Rattle.stateful_base.specs.declared.target.Target.{Target}
 use Rattle.stateful_db.specs.Databases.{IsOpening}
 use Rattle.stateful_db.specs.Disk.{Disk, Standing, place}
 use Rattle.stateful_db.specs.Member.{here, MemberKeeps}

@@ -1,7 +1,7 @@
 -- Answers of a set that has one database before the others, by those of its parts.
 use Rattle.std.proofs.Common.{◌≡◌, ℕ, zero, suc, ◌+◌, ◌-◌, ◌^◌, ◌<◌, ◌≤◌, ◌⊎◌, ◌↔◌, inl, inr, Bool, true, false, List, [], ◌∷◌, ◌++◌, map, min, Option, Some, None, Result, Err, refl, sym, ap, subst, ◌∙◌, arith, IsTrue}
 use Rattle.std.proofs.lemmas.List.{map-append}
-use Rattle.stateful_types.specs.declared.target.Target.{Target}
+use Rattle.stateful_base.specs.declared.target.Target.{Target}
 use Rattle.stateful_db.specs.Chain.{IsPoint, AllBelow, ids}
 use Rattle.stateful_db.specs.Databases.{Databases, IsOpening}
 use Rattle.stateful_db.specs.Disk.{Disk, Standing}

@@ -9,7 +9,7 @@ use Rattle.std.specs.List.{prefix_len, position_or_len}
 use Rattle.std.proofs.lemmas.List.Quantifiers.{position-Some}
 use Rattle.std.proofs.lemmas.Option.{slice_get-get_or, slice_get_within, get_or_from_slice_get}
 use Rattle.std.proofs.lemmas.Bool.Decides.{nat_tests}
-use Rattle.stateful_types.specs.declared.target.Target.{Target}
+use Rattle.stateful_base.specs.declared.target.Target.{Target}
 use Rattle.stateful_db.specs.Disk.{Disk, Standing, all, place, HasAt, applied, flushed, cut}
 use Rattle.stateful_db.specs.Disk.{IsCrash, IsOpened, IsEither, IsSound}
 use Rattle.stateful_db.specs.Reopening.{with_end, Is_at, Reopens, OpensAt, HasNone, Differs}

@@ -1,7 +1,7 @@
 -- What a medium keeps, and what a database adds to it.
 use Rattle.std.specs.Prelude.{◌≡◌, ℕ, ◌+◌, ◌-◌, ◌<◌, ◌≤◌, List, [], ◌∷◌, ◌++◌, ◌⊎◌, length, take}
 use Rattle.std.specs.Prelude.{drop, min, max, slice_get, Some}
-use Rattle.stateful_types.specs.declared.target.Target.{Target}
+use Rattle.stateful_base.specs.declared.target.Target.{Target}
 
 -- The kept checkpoints, oldest first, with the place of the last durable one. Places count the
 -- pruned ones too.

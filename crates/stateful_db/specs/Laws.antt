@@ -1,7 +1,7 @@
 -- What holds of every set of databases, whatever its members are.
 use Rattle.std.specs.Prelude.{◌≡◌, ℕ, ◌+◌, ◌<◌, ◌≤◌, ◌⊎◌, max, List, [], ◌∷◌, ◌++◌, length}
 use Rattle.std.specs.Prelude.{slice_get, Option, Some, None}
-use Rattle.stateful_types.specs.Causes.{Rose}
+use Rattle.stateful_base.specs.Causes.{Rose}
 use Rattle.stateful_db.specs.Tokens.{without}
 use Rattle.stateful_db.specs.Databases.{Databases, EndsWithin, Preserves}
 use Rattle.stateful_db.specs.declared.database.InitError.{InitError}

@@ -1,9 +1,9 @@
 -- What an application means.
 use Rattle.std.specs.Prelude.{◌≡◌, Bool, true, false, Option, Some, None}
-use Rattle.stateful_types.specs.declared.outcome.Finality.{Finality}
-use Rattle.stateful_types.specs.declared.outcome.Finality.TheVariants.{Candidate, Finalized}
-use Rattle.stateful_types.specs.declared.outcome.Moved.{Moved}
-use Rattle.stateful_types.specs.declared.outcome.Moved.TheVariants.{Pending, Done}
+use Rattle.stateful_base.specs.declared.outcome.Finality.{Finality}
+use Rattle.stateful_base.specs.declared.outcome.Finality.TheVariants.{Candidate, Finalized}
+use Rattle.stateful_base.specs.declared.outcome.Moved.{Moved}
+use Rattle.stateful_base.specs.declared.outcome.Moved.TheVariants.{Pending, Done}
 
 pub record Meaning (Block States Targets : Type 0) : Type 0 where
   -- the states after a block, where it leads from the states before to any

@@ -1,8 +1,8 @@
 -- A database of a set, wherever it is.
 use Rattle.std.specs.Prelude.{◌≡◌, ℕ, ◌+◌, ◌-◌, ◌<◌, ◌⊎◌, List, [], ◌∷◌, ◌++◌, drop, length, Bool}
 use Rattle.std.specs.Prelude.{true, Option, Some, None}
-use Rattle.stateful_types.specs.Causes.{Rose}
-use Rattle.stateful_types.specs.declared.target.Target.{Target}
+use Rattle.stateful_base.specs.Causes.{Rose}
+use Rattle.stateful_base.specs.declared.target.Target.{Target}
 use Rattle.stateful_db.specs.Disk.{Disk, Standing, HasAt, IsSound, IsEither, IsCrash, all, applied}
 use Rattle.stateful_db.specs.Disk.{point, place, flushed}
 use Rattle.stateful_db.specs.Tokens.{without}

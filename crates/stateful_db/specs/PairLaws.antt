@@ -5,7 +5,7 @@ use Rattle.std.proofs.Common.{arith}
 use Rattle.std.specs.Prelude.{slice_get}
 use Rattle.std.proofs.lemmas.List.{map-append}
 use Rattle.std.proofs.lemmas.Option.{slice_get-map}
-use Rattle.stateful_types.specs.Causes.{Rose}
+use Rattle.stateful_base.specs.Causes.{Rose}
 use Rattle.stateful_db.specs.Tokens.{without}
 use Rattle.stateful_db.specs.Databases.{Databases, EndsWithin, Preserves}
 use Rattle.stateful_db.specs.Pair.{left, right, both, first_of, others_of, by_number, LostInOrder}

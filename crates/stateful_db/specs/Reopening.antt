@@ -1,7 +1,7 @@
 -- How a database opens on its medium, and why it doesn't.
 use Rattle.std.specs.Prelude.{◌≡◌, ◌≢◌, ℕ, ◌+◌, ◌≤◌, ◌==◌, ◌⊎◌, length, [], Option, Some, None}
 use Rattle.std.specs.Prelude.{position, slice_get, unwrap_or}
-use Rattle.stateful_types.specs.declared.target.Target.{Target}
+use Rattle.stateful_base.specs.declared.target.Target.{Target}
 use Rattle.stateful_db.specs.Disk.{Disk, Standing, IsOpened, all, cut}
 use Rattle.stateful_db.specs.declared.database.InitError.{InitError}
 use Rattle.stateful_db.specs.declared.database.InitError.TheVariants as error

@@ -1,7 +1,7 @@
 -- The laws of a set of one database.
 use Rattle.std.proofs.Common.{◌≡◌, ℕ, ◌+◌, ◌≤◌, refl, arith}
 use Rattle.std.specs.Prelude.{slice_get}
-use Rattle.stateful_types.specs.declared.target.Target.{Target}
+use Rattle.stateful_base.specs.declared.target.Target.{Target}
 use Rattle.stateful_db.specs.Chain.{ids}
 use Rattle.stateful_db.specs.Databases.{Preserves}
 use Rattle.stateful_db.specs.Member.{Member}

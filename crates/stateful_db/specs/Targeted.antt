@@ -1,7 +1,7 @@
 -- Targets of compact databases, as a root with a range.
 use Rattle.std.specs.Prelude.{◌-◌}
-use Rattle.stateful_types.specs.declared.target.Target.{Target}
-use Rattle.stateful_types.specs.declared.target.CompactTarget.{CompactTarget}
+use Rattle.stateful_base.specs.declared.target.Target.{Target}
+use Rattle.stateful_base.specs.declared.target.CompactTarget.{CompactTarget}
 
 -- the last operation alone, or nothing
 abbrev pub compact_target : CompactTarget → Target

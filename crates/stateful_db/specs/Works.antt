@@ -1,12 +1,12 @@
 -- How an application works: what its blocks do to states, what its builds may give, and what its
 -- runs, builds and hooks are of.
 use Rattle.std.specs.Prelude.{◌≡◌, ℕ, ◌+◌, ◌<◌, Option, Some, None, List, ◌∷◌}
-use Rattle.stateful_types.specs.declared.block.Ancestry.{Ancestry}
-use Rattle.stateful_types.specs.declared.outcome.Finality.{Finality}
-use Rattle.stateful_types.specs.declared.outcome.Handoff.{Handoff}
-use Rattle.stateful_types.specs.declared.outcome.Handoff.TheVariants as handed
-use Rattle.stateful_types.specs.declared.outcome.Moved.{Moved}
-use Rattle.stateful_types.specs.declared.outcome.Moved.TheVariants as moved
+use Rattle.stateful_base.specs.declared.block.Ancestry.{Ancestry}
+use Rattle.stateful_base.specs.declared.outcome.Finality.{Finality}
+use Rattle.stateful_base.specs.declared.outcome.Handoff.{Handoff}
+use Rattle.stateful_base.specs.declared.outcome.Handoff.TheVariants as handed
+use Rattle.stateful_base.specs.declared.outcome.Moved.{Moved}
+use Rattle.stateful_base.specs.declared.outcome.Moved.TheVariants as moved
 use Rattle.stateful_db.specs.Meaning.{Meaning}
 use Rattle.stateful_db.specs.declared.application.Hooked.{Hooked}
 use Rattle.stateful_db.specs.declared.application.Hooked.TheVariants as hooked

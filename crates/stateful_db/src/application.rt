@@ -1,7 +1,7 @@
 //! What a blockchain does with its databases.
 
 use crate::set::DatabaseSet;
-use stateful_types::{Ancestry, Block, Faulty, Finality, Handoff, Moved, Rounded, Scheme, Share};
+use stateful_base::{Ancestry, Block, Faulty, Finality, Handoff, Moved, Rounded, Scheme, Share};
 use thiserror::Error;
 
 /// A sealed batch over an application's databases.
@@ -72,7 +72,7 @@ pub enum Hooked<H> {
 pub trait Application: Faulty + Sized {
     ghost use Rattle.std.specs.Prelude.{◌≡◌, ℕ, List, ◌∷◌, ◌≤◌, ◌+◌, ◌⊎◌, OnOk, IfOk, IsErrOf};
     ghost use Rattle.std.specs.Prelude.{Some};
-    ghost use Rattle.stateful_types.specs.Causes.{Rose};
+    ghost use Rattle.stateful_base.specs.Causes.{Rose};
     ghost use Rattle.stateful_db.specs.Chain.{IsPoint};
     ghost use Rattle.stateful_db.specs.Meaning.{outcome, Ends};
     ghost use Rattle.stateful_db.specs.Hooks.{left};

@@ -13,7 +13,7 @@ ghost use Rattle.stateful_db.specs.Barrier.{unanswered, open_at, answered, Polle
 ghost use Rattle.stateful_db.specs.declared.barrier.Handle.{Handle};
 
 use crate::database::FlushToken;
-use stateful_types::OutOfMemory;
+use stateful_base::OutOfMemory;
 use std::marker::Model;
 
 /// How a flush went.

@@ -3,7 +3,7 @@
 ghost use Rattle.std.specs.Prelude.{◌≡◌, ℕ, List, ◌∷◌, [], IfOk, IsErrOf, true, false, ◌↔◌, ◌<◌};
 ghost use Rattle.stateful_db.specs.Chain.{has_id, IsPoint};
 
-use stateful_types::{Digest, Location, OutOfMemory};
+use stateful_base::{Digest, Location, OutOfMemory};
 use std::alloc::{AllocError, AllocFailed};
 use thiserror::Error;
 
@@ -141,7 +141,7 @@ pub trait Unmerkleized: Sized {
 /// A sealed batch.
 pub trait Merkleized: Sized {
     ghost use Rattle.std.specs.Prelude.{◌≡◌, ℕ, List, ◌∷◌, [], IfOk, ◌<◌};
-    ghost use Rattle.stateful_types.specs.declared.digest.Digest.{Digest};
+    ghost use Rattle.stateful_base.specs.declared.digest.Digest.{Digest};
 
     type State;
 

@@ -3,7 +3,7 @@
 ghost use Rattle.std.specs.Prelude.{◌≡◌};
 
 use crate::batch::{BatchContext, Merkleized, Unmerkleized};
-use stateful_types::{CompactTarget, Faulty, Location, OutOfMemory, Target};
+use stateful_base::{CompactTarget, Faulty, Location, OutOfMemory, Target};
 use thiserror::Error;
 
 /// A kind of call on a database, as failing lists name it.
@@ -57,7 +57,7 @@ pub struct Exhausted;
 
 /// What can be told as a root with a range.
 pub trait Targeted {
-    ghost use Rattle.stateful_types.specs.declared.target.Target.{Target};
+    ghost use Rattle.stateful_base.specs.declared.target.Target.{Target};
 
     ghost targeted: { Self → Target };
 
@@ -93,7 +93,7 @@ impl Targeted for CompactTarget {
 pub trait ManagedDb: Faulty + Sized + Drop {
     ghost use Rattle.std.specs.Prelude.{◌≡◌, ℕ, ◌+◌, ◌-◌, ◌^◌, ◌≤◌, ◌<◌, List, ◌∷◌, ◌++◌, [], IfOk};
     ghost use Rattle.std.specs.Prelude.{IfErr, ◌↔◌, IsTrue, Contains, length};
-    ghost use Rattle.stateful_types.specs.Causes.{Rose};
+    ghost use Rattle.stateful_base.specs.Causes.{Rose};
     ghost use Rattle.stateful_db.specs.Disk.{Disk, Standing, IsSound, IsCrash, IsEither, place};
     ghost use Rattle.stateful_db.specs.Disk.{applied, flushed, point};
     ghost use Rattle.stateful_db.specs.Tokens.{without};

@@ -18,13 +18,13 @@ ghost use Rattle.stateful_db.specs.Chain.{AllBelow, ids};
 ghost use Rattle.stateful_db.specs.Disk.{point};
 ghost use Rattle.stateful_db.specs.Reopening.{Loses};
 ghost use Rattle.stateful_db.specs.Member.{IsOpenable, member_closed_if};
-ghost use Rattle.stateful_types.specs.Causes.{Rose};
+ghost use Rattle.stateful_base.specs.Causes.{Rose};
 ghost use Rattle.stateful_db.specs.declared.database.DbCall.{DbCall};
 
 use crate::batch::{BatchContext, BatchError, Unmerkleized};
 use crate::database::{Broken, DbCall, FlushToken, InitError, ManagedDb, Targeted, Why};
 use crate::set::{DatabaseSet, SetError, SetInit, SetLost};
-use stateful_types::{Faulty, Items, Target};
+use stateful_base::{Faulty, Items, Target};
 use std::mem;
 
 /// A database that is here, or its medium. It is away only inside a call.

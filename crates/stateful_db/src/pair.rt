@@ -19,7 +19,7 @@ use crate::batch::BatchError;
 use crate::database::{FlushToken, ManagedDb};
 use crate::held::Held;
 use crate::set::{DatabaseSet, SetError, SetInit, SetLost};
-use stateful_types::{Items, Target};
+use stateful_base::{Items, Target};
 
 impl<A: ManagedDb, R: DatabaseSet> DatabaseSet for (Held<A>, R) {
     ghost use Rattle.std.specs.Prelude.{ℕ, map, refl};

@@ -3,7 +3,7 @@
 use crate::barrier::Barrier;
 use crate::batch::BatchError;
 use crate::database::{DbCall, FlushToken, InitError};
-use stateful_types::{Items, OutOfMemory, Target};
+use stateful_base::{Items, OutOfMemory, Target};
 use std::alloc::{AllocError, AllocFailed, Global};
 use thiserror::Error;
 
@@ -45,7 +45,7 @@ pub trait DatabaseSet: Sized {
     ghost use Rattle.std.specs.Prelude.{OnErr, IsErrOf, IsNone, Option, Some, None, ◌↔◌, is_some};
     ghost use Rattle.std.specs.Prelude.{◌<◌, ◌≤◌, ◌-◌, ◌^◌, map, ◌++◌, ◌⊎◌, IsTrue, Contains};
     ghost use Rattle.std.specs.Prelude.{length, min};
-    ghost use Rattle.stateful_types.specs.Causes.{Rose};
+    ghost use Rattle.stateful_base.specs.Causes.{Rose};
     ghost use Rattle.stateful_db.specs.Chain.{IsPoint};
     ghost use Rattle.stateful_db.specs.Databases.{Databases, IsOpening};
     ghost use Rattle.stateful_db.specs.Laws.{Laws};

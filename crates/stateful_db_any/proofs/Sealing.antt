@@ -7,8 +7,8 @@ use Rattle.std.specs.Option.{option_map, unwrap_or}
 use Rattle.std.specs.declared.cmp.Ordering.{Ordering}
 use Rattle.std.specs.Cmp.{IsTotalOrder}
 use Rattle.std.specs.BTreeMap.{is_at}
-use Rattle.stateful_types.specs.declared.digest.Digest.{Digest}
-use Rattle.stateful_types.specs.declared.target.Target.{Target}
+use Rattle.stateful_base.specs.declared.digest.Digest.{Digest}
+use Rattle.stateful_base.specs.declared.target.Target.{Target}
 use Rattle.stateful_db.specs.Chain.{IsPoint, has_id}
 use Rattle.stateful_db_overlay.specs.Stack.{has_layer, above, cut_at}
 use Rattle.stateful_db_overlay.specs.Chains.{Stands, Leads, has_id-layers, leads-above, stands-cut}

@@ -1,7 +1,7 @@
 -- The chains on which batches of keys stand.
 use Rattle.std.specs.Prelude.{◌≡◌, ℕ, ◌<◌, List, [], ◌∷◌}
 use Rattle.std.specs.declared.cmp.Ordering.{Ordering}
-use Rattle.stateful_types.specs.declared.target.Target.{Target}
+use Rattle.stateful_base.specs.declared.target.Target.{Target}
 use Rattle.stateful_db_overlay.specs.Stack.{Stack}
 use Rattle.stateful_db_overlay.specs.Chains.{Stands}
 use Rattle.stateful_db_any.specs.Ops.{Changes}

@@ -17,10 +17,10 @@ use crate::op::{duplicate, link_each};
 use crate::reads::value_in;
 use crate::seal::{first_kept, write_all};
 use crate::state::AnyState;
+use stateful_base::{Digest, Location, OutOfMemory, Target};
 use stateful_db::{BatchError, Merkleized, Unmerkleized};
 use stateful_db_log::Field;
 use stateful_db_overlay::{Layer, Layers};
-use stateful_types::{Digest, Location, OutOfMemory, Target};
 use std::collections::BTreeMap;
 use std::marker::Model;
 

@@ -8,8 +8,8 @@ ghost use Rattle.std.specs.BTreeMap.{is_at};
 ghost use Rattle.stateful_db_any.specs.Through.{IsIndexed};
 
 use crate::op::AnyOp;
+use stateful_base::{OutOfMemory, Target};
 use stateful_db_log::Field;
-use stateful_types::{OutOfMemory, Target};
 use std::alloc::Global;
 use std::collections::BTreeMap;
 use std::marker::Model;

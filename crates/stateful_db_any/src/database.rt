@@ -11,13 +11,13 @@ use crate::op::AnyOp;
 use crate::pass::AnyPass;
 use crate::reads::value_in;
 use crate::state::AnyState;
+use stateful_base::{Digest, Faulty, Items, Location, OutOfMemory, Target};
 use stateful_db::{
     BatchContext, BatchError, Broken, DbCall, Exhausted, FlushToken, InitError, ManagedDb,
     Merkleized, Why,
 };
 use stateful_db_log::{Field, LogMedium, OpenLog};
 use stateful_db_overlay::Layers;
-use stateful_types::{Digest, Faulty, Items, Location, OutOfMemory, Target};
 use std::alloc::Global;
 use std::collections::BTreeMap;
 use std::ops::Range;
@@ -124,7 +124,7 @@ impl<K: Field, V: Field> ManagedDb for AnyDb<K, V> {
     ghost use Rattle.std.specs.Prelude.{◌≡◌, ◌≢◌, ℕ, ◌+◌, ◌-◌, ◌^◌, ◌≤◌, ◌<◌, List, ◌∷◌, ◌++◌, []};
     ghost use Rattle.std.specs.Prelude.{IfOk, IfErr, IsErrAnd, Option, ◌↔◌, ◌⊎◌, Contains, length};
     ghost use Rattle.std.specs.Prelude.{refl};
-    ghost use Rattle.stateful_types.specs.Causes.{Rose};
+    ghost use Rattle.stateful_base.specs.Causes.{Rose};
     ghost use Rattle.stateful_db.specs.Disk.{IsEither, IsCrash, place, applied, flushed, point};
     ghost use Rattle.stateful_db.specs.Reopening.{Reopens, FailsToReopen, HasNone, KeepsDurable};
     ghost use Rattle.stateful_db.specs.Reopening.{pruned_to};

@@ -11,8 +11,8 @@ ghost use Rattle.stateful_db_any.specs.declared.op.AnyOp.{AnyOp};
 ghost use Rattle.stateful_db_any.specs.Live.{written, last_write};
 
 use crate::op::AnyOp;
+use stateful_base::OutOfMemory;
 use stateful_db_log::{Field, LogMedium};
-use stateful_types::OutOfMemory;
 use std::alloc::Global;
 use std::collections::BTreeMap;
 

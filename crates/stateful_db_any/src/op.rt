@@ -4,8 +4,8 @@ ghost use Rattle.std.specs.Prelude.{◌≡◌, ◌++◌, IfOk, OnOk};
 ghost use Rattle.stateful_db_log.specs.Chained.{linked, chained};
 ghost use Rattle.stateful_db_any.specs.Ops.{op_bytes};
 
+use stateful_base::{Digest, OutOfMemory, Share};
 use stateful_db_log::{Field, link};
-use stateful_types::{Digest, OutOfMemory, Share};
 use std::alloc::Global;
 
 /// An operation of a log of keys.

@@ -2,7 +2,7 @@
 
 use crate::medium::AnyMedium;
 use crate::state::AnyState;
-use stateful_types::{Faulty, Target};
+use stateful_base::{Faulty, Target};
 
 /// A sync that isn't finished: the medium as it was before, the target that it leads to, and the
 /// state that was fetched for it, if one was.

@@ -13,9 +13,9 @@ ghost use Rattle.stateful_db_any.specs.Through.{op_over, op_through, place_over,
 use crate::changes::AnyChanges;
 use crate::database::AnyDb;
 use crate::op::AnyOp;
+use stateful_base::OutOfMemory;
 use stateful_db_log::Field;
 use stateful_db_overlay::Layer;
-use stateful_types::OutOfMemory;
 
 /// The location of the last write of a key, where it is live.
 pub(crate) fn place_in<K: Field, V: Field>(

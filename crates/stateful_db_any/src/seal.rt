@@ -20,9 +20,9 @@ use crate::changes::{AnyChanges, AnyWritten};
 use crate::database::AnyDb;
 use crate::op::AnyOp;
 use crate::reads::{op_in, place_in};
+use stateful_base::OutOfMemory;
 use stateful_db_log::Field;
 use stateful_db_overlay::Layer;
-use stateful_types::OutOfMemory;
 use std::collections::BTreeMap;
 
 /// The operations of written keys, from a location on.

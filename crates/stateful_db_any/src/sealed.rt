@@ -16,10 +16,10 @@ use crate::changes::{AnyChanges, AnyWritten};
 use crate::database::AnyDb;
 use crate::op::AnyOp;
 use crate::seal::{op_of, place_of};
+use stateful_base::OutOfMemory;
 use stateful_db::BatchError;
 use stateful_db_log::{Bounds, Field};
 use stateful_db_overlay::Layer;
-use stateful_types::OutOfMemory;
 
 /// The value at a key, behind operations over sealed batches and a database.
 fn value_over<K: Field, V: Field>(

@@ -15,9 +15,9 @@ use crate::batch::{AnyMerkleized, AnyUnmerkleized};
 use crate::database::AnyDb;
 use crate::op::duplicate;
 use crate::slot::Slot;
+use stateful_base::OutOfMemory;
 use stateful_db::{BatchError, Unmerkleized};
 use stateful_db_log::Field;
-use stateful_types::OutOfMemory;
 use std::marker::Model;
 use std::ops::Range;
 

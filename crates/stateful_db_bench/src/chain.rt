@@ -1,9 +1,9 @@
 //! A chain of sealed batches that are held.
 
 use anyhow::Error;
+use stateful_base::Location;
 use stateful_db::{DatabaseSet, Held};
 use stateful_db_keyless::{KeylessDb, KeylessMedium, KeylessMerkleized};
-use stateful_types::Location;
 use std::alloc::Global;
 use std::fmt;
 

@@ -1,9 +1,9 @@
 //! Sets of one database, from numbers to numbers.
 
+use stateful_base::OutOfMemory;
 use stateful_db::{DatabaseSet, Held};
 use stateful_db_any::{AnyDb, AnyMedium, AnyUnmerkleized};
 use stateful_db_plain::{Plain, PlainMedium, PlainUnmerkleized};
-use stateful_types::OutOfMemory;
 use std::alloc::Global;
 
 /// A set of one database, from numbers to numbers.

@@ -1,6 +1,6 @@
 -- a compact database follows the keyless one
 use Rattle.std.proofs.Common.{◌≡◌, ℕ, ◌+◌, List, length, refl, sym, ap, ◌∙◌, arith}
-use Rattle.stateful_types.specs.declared.digest.Digest.{Digest}
+use Rattle.stateful_base.specs.declared.digest.Digest.{Digest}
 use Rattle.stateful_db_log.specs.Chained.{linked, chained}
 use Rattle.stateful_db_keyless.specs.Ops.{Changes, raised, append_bytes, commit_bytes}
 use Rattle.stateful_db_keyless.specs.Keyless as keyless

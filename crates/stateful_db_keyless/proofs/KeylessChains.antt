@@ -1,8 +1,8 @@
 -- chains of keyless batches
 use Rattle.std.proofs.Common.{◌≡◌, ◌≢◌, inl, inr, true, false, Option, ℕ, ◌+◌, ◌-◌, ◌^◌, ◌<◌, ◌≤◌, ◌==◌, ◌||◌, Bool, List, [], ◌∷◌, ◌++◌, length, map, max, min, None, refl, sym, ap, ◌∙◌, subst, arith, length-append}
 use Rattle.stateful_db.specs.Chain.{has_id, IsPoint}
-use Rattle.stateful_types.specs.declared.number.Location.{Location}
-use Rattle.stateful_types.specs.declared.digest.Digest.{Digest}
+use Rattle.stateful_base.specs.declared.number.Location.{Location}
+use Rattle.stateful_base.specs.declared.digest.Digest.{Digest}
 use Rattle.stateful_db_overlay.specs.Stack.{has_layer, above, cut_at}
 use Rattle.stateful_db_overlay.specs.Chains.{Stands, Leads, has_id-layers, leads-above, stands-cut}
 use Rattle.stateful_db_medium.specs.Mapped.{length-mapped}

@@ -2,7 +2,7 @@
 use Rattle.std.proofs.Common.{◌≡◌, ℕ, zero, suc, ◌+◌, ◌≤◌, nat_lt, inl, inr, List, [], ◌∷◌, length, drop, take, map, ◌++◌, Option, Some, None, refl, sym, ap, ◌∙◌, arith, slice_get}
 use Rattle.std.specs.Bool.{if◌then◌else◌}
 use Rattle.std.specs.Option.{option_or}
-use Rattle.stateful_types.specs.declared.number.Location.{Location}
+use Rattle.stateful_base.specs.declared.number.Location.{Location}
 use Rattle.stateful_db.specs.declared.batch.BatchError.TheVariants.{LocationOutOfBounds, BelowInactivityFloor}
 use Rattle.stateful_db_log.proofs.Slices.{cases, test-false}
 use Rattle.stateful_db_keyless.specs.Reads.{out_of_order, unreadable, first_unreadable, refusal}

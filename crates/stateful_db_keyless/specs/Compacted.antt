@@ -1,7 +1,7 @@
 -- What a compact database keeps of a checkpoint, and what a batch makes of it.
 use Rattle.std.specs.Prelude.{ℕ, ◌+◌, ◌-◌, List, Option, None, length}
-use Rattle.stateful_types.specs.declared.digest.Digest.{Digest}
-use Rattle.stateful_types.specs.declared.target.CompactTarget.{CompactTarget}
+use Rattle.stateful_base.specs.declared.digest.Digest.{Digest}
+use Rattle.stateful_base.specs.declared.target.CompactTarget.{CompactTarget}
 use Rattle.stateful_db_medium.specs.declared.checkpoints.Checkpoint.{Checkpoint}
 use Rattle.stateful_db_log.specs.Chained.{linked, chained, unlinked}
 use Rattle.stateful_db_keyless.specs.declared.compact.state.Commit.{Commit}

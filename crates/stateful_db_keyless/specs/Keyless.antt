@@ -1,6 +1,6 @@
 -- The states of a keyless log, and what a batch makes of them.
 use Rattle.std.specs.Prelude.{ℕ, ◌+◌, List, [], ◌∷◌, ◌++◌, None, length, map}
-use Rattle.stateful_types.specs.declared.target.Target.{Target}
+use Rattle.stateful_base.specs.declared.target.Target.{Target}
 use Rattle.stateful_db_medium.specs.declared.checkpoints.Checkpoint.{Checkpoint}
 use Rattle.stateful_db_log.specs.Chained.{chained, unlinked}
 use Rattle.stateful_db_log.specs.Logs.{extended}

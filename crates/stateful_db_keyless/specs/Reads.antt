@@ -2,7 +2,7 @@
 use Rattle.std.specs.Prelude.{ℕ, ◌+◌, ◌-◌, nat_lt, if◌then◌else◌, List, [], ◌∷◌, ◌++◌, Option, Some}
 use Rattle.std.specs.Prelude.{None, option_map, length, map, slice_get}
 use Rattle.std.specs.Option.{option_or}
-use Rattle.stateful_types.specs.declared.number.Location.{Location}
+use Rattle.stateful_base.specs.declared.number.Location.{Location}
 use Rattle.stateful_db.specs.declared.batch.BatchError.{BatchError}
 use Rattle.stateful_db.specs.declared.batch.BatchError.TheVariants.{LocationOutOfBounds}
 use Rattle.stateful_db.specs.declared.batch.BatchError.TheVariants.{LocationOutOfOrder}

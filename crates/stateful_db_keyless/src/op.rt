@@ -4,8 +4,8 @@ ghost use Rattle.std.specs.Prelude.{◌≡◌, ◌++◌, IfOk, OnOk};
 ghost use Rattle.stateful_db_log.specs.Chained.{linked};
 ghost use Rattle.stateful_db_keyless.specs.Ops.{commit_bytes, append_bytes};
 
+use stateful_base::{Digest, OutOfMemory, Share};
 use stateful_db_log::{Field, link};
-use stateful_types::{Digest, OutOfMemory, Share};
 use std::alloc::Global;
 
 /// An operation of a keyless log.

@@ -1,7 +1,7 @@
 -- The chain of digests over the operations of a log.
 use Rattle.std.specs.Prelude.{ℕ, List, [], ◌∷◌, ◌++◌}
 use Rattle.sha2.specs.Sha256.{sha256}
-use Rattle.stateful_types.specs.declared.digest.Digest.{Digest}
+use Rattle.stateful_base.specs.declared.digest.Digest.{Digest}
 
 -- behind an operation of these bytes
 abbrev pub linked : Digest → List ℕ → Digest

@@ -1,6 +1,6 @@
 -- The digest behind lists of operations that are joined.
 use Rattle.std.proofs.Common.{◌≡◌, ℕ, List, [], ◌∷◌, ◌++◌, refl}
-use Rattle.stateful_types.specs.declared.digest.Digest.{Digest}
+use Rattle.stateful_base.specs.declared.digest.Digest.{Digest}
 use Rattle.stateful_db_log.specs.Chained.{linked, chained}
 
 module _ {Op : Type 0} (spell : Op → List ℕ) where

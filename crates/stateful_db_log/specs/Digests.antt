@@ -2,10 +2,10 @@
 use Rattle.std.proofs.Common.{◌≡◌, ap}
 use Rattle.std.proofs.lemmas.Map.Lookups.{exact_bytes}
 use Rattle.std.specs.declared.cmp.Ordering.TheVariants.{Equal}
-use Rattle.stateful_types.specs.Format.{IsFormat}
-use Rattle.stateful_types.specs.FixedLaws.{bytes_alone}
-use Rattle.stateful_types.specs.Digest.{digest_format, digest_cmp}
-use Rattle.stateful_types.specs.declared.digest.Digest.{Digest}
+use Rattle.stateful_base.specs.Format.{IsFormat}
+use Rattle.stateful_base.specs.FixedLaws.{bytes_alone}
+use Rattle.stateful_base.specs.Digest.{digest_format, digest_cmp}
+use Rattle.stateful_base.specs.declared.digest.Digest.{Digest}
 
 pub digest_alone : IsFormat digest_format
 digest_alone =

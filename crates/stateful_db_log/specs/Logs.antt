@@ -1,6 +1,6 @@
 -- Logs, and where they are kept.
 use Rattle.std.specs.Prelude.{ℕ, ◌-◌, List, ◌++◌, drop}
-use Rattle.stateful_types.specs.declared.target.Target.{Target}
+use Rattle.stateful_base.specs.declared.target.Target.{Target}
 use Rattle.stateful_db.specs.Disk.{Disk, Standing}
 use Rattle.stateful_db_medium.specs.declared.checkpoints.Checkpoint.{Checkpoint}
 use Rattle.stateful_db_medium.specs.declared.calls.Calls.{Calls}

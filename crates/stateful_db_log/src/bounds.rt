@@ -1,6 +1,6 @@
 //! The range of a sealed batch.
 
-use stateful_types::Location;
+use stateful_base::Location;
 
 /// Where the range of a sealed batch begins and ends.
 #[derive(Clone, Copy, Debug, PartialEq, Eq)]

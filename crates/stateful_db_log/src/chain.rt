@@ -4,7 +4,7 @@ ghost use Rattle.std.specs.Prelude.{◌≡◌};
 ghost use Rattle.stateful_db_log.specs.Chained.{linked};
 
 use sha2::{Digest as Hasher, Sha256};
-use stateful_types::Digest;
+use stateful_base::Digest;
 
 /// The digest behind one operation more: the SHA-256 of the digest before it, and its bytes.
 pub fn link(before: Digest, operation: &[u8]) -> Digest

@@ -3,14 +3,14 @@
 ghost use Rattle.std.specs.Prelude.{◌≡◌, IfOk};
 
 use bytes::Bytes;
-use stateful_types::{CodecError, Digest, OutOfMemory, read_u64, write_u64};
+use stateful_base::{CodecError, Digest, OutOfMemory, read_u64, write_u64};
 use std::alloc::Global;
 
 /// A key or a value of an operation, with its bytes.
 pub trait Field: Ord + Sized + Drop {
     ghost use Rattle.std.specs.Prelude.{◌≡◌, IfOk};
     ghost use Rattle.std.specs.declared.cmp.Ordering.TheVariants.{Equal};
-    ghost use Rattle.stateful_types.specs.Format.{Format, Reads, Writes, IsFormat};
+    ghost use Rattle.stateful_base.specs.Format.{Format, Reads, Writes, IsFormat};
 
     /// How fields are spelled.
     ghost fields: { Format Self };
@@ -35,8 +35,8 @@ pub trait Field: Ord + Sized + Drop {
 }
 
 impl Field for u64 {
-    ghost use Rattle.stateful_types.specs.Number.{u64_format};
-    ghost use Rattle.stateful_types.specs.FixedLaws.{u64_alone};
+    ghost use Rattle.stateful_base.specs.Number.{u64_format};
+    ghost use Rattle.stateful_base.specs.FixedLaws.{u64_alone};
     ghost use Rattle.std.proofs.lemmas.Map.Lookups.{exact_unsigned};
 
     ghost fields = { u64_format };
@@ -59,7 +59,7 @@ impl Field for u64 {
 }
 
 impl Field for Digest {
-    ghost use Rattle.stateful_types.specs.Digest.{digest_format};
+    ghost use Rattle.stateful_base.specs.Digest.{digest_format};
     ghost use Rattle.stateful_db_log.specs.Digests.{digest_alone, digest_exact};
 
     ghost fields = { digest_format };

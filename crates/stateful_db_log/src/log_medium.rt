@@ -7,9 +7,9 @@ ghost use Rattle.stateful_db_medium.specs.declared.checkpoints.Checkpoint.{Check
 
 use crate::open_log::OpenLog;
 use crate::run::Run;
+use stateful_base::{Digest, Faulty, Location, Target};
 use stateful_db::{DbCall, InitError};
 use stateful_db_medium::{Checkpoint, Medium};
-use stateful_types::{Digest, Faulty, Location, Target};
 use std::alloc::Global;
 
 /// The checkpoints, and the operations from the location `first` up to the end of the newest one.
@@ -36,7 +36,7 @@ impl<Op> Faulty for LogMedium<Op> {
 
 impl<Op: Drop> LogMedium<Op> {
     ghost use Rattle.std.specs.Prelude.{◌≢◌, ◌⊎◌, ◌<◌, [], ◌∷◌, IfOk, IfErr, IsErrAnd};
-    ghost use Rattle.stateful_types.specs.Causes.{Rose};
+    ghost use Rattle.stateful_base.specs.Causes.{Rose};
     ghost use Rattle.stateful_db.specs.Disk.{IsCrash};
     ghost use Rattle.stateful_db.specs.Reopening.{FailsToReopen, HasNone, OpensAt};
     ghost use Rattle.stateful_db.specs.declared.database.DbCall.{DbCall};

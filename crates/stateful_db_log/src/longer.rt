@@ -7,8 +7,8 @@ ghost use Rattle.stateful_db_log.specs.Logs.{next_here, calls_here};
 
 use crate::log_medium::LogMedium;
 use crate::open_log::OpenLog;
+use stateful_base::{Share, Target};
 use stateful_db_medium::Checkpoint;
-use stateful_types::{Share, Target};
 
 /// The log with these operations behind it, and with their checkpoint. It is given back where
 /// memory is wanting, or the range isn't that of a batch on it.

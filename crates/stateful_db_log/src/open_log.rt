@@ -10,9 +10,9 @@ ghost use Rattle.stateful_db_medium.specs.declared.checkpoints.Checkpoint.{Check
 use crate::log_medium::LogMedium;
 use crate::longer::longer;
 use crate::run::Run;
+use stateful_base::{Faulty, Location, Share, Target};
 use stateful_db::{Broken, DbCall, Exhausted, FlushToken, Why};
 use stateful_db_medium::{Medium, Opened};
-use stateful_types::{Faulty, Location, Share, Target};
 use std::alloc::Global;
 
 /// An open database, and the operations from the location `first` up to the end of the newest
@@ -41,7 +41,7 @@ impl<Op> Faulty for OpenLog<Op> {
 impl<Op: Drop> OpenLog<Op> {
     ghost use Rattle.std.specs.Prelude.{◌≢◌, ◌<◌, ◌-◌, ◌^◌, ◌++◌, ◌∷◌, [], ◌==◌, ◌↔◌, position};
     ghost use Rattle.std.specs.Prelude.{Contains, IfOk, IfErr, IsErrAnd};
-    ghost use Rattle.stateful_types.specs.Causes.{Rose};
+    ghost use Rattle.stateful_base.specs.Causes.{Rose};
     ghost use Rattle.stateful_db.specs.Disk.{place, flushed, cut};
     ghost use Rattle.stateful_db.specs.Tokens.{without};
     ghost use Rattle.stateful_db.specs.declared.database.DbCall.{DbCall};
@@ -215,7 +215,7 @@ impl<Op: Drop> OpenLog<Op> {
 
 impl<Op: Share + Drop> OpenLog<Op> {
     ghost use Rattle.std.specs.Prelude.{◌≢◌, ◌↔◌, IfOk, IfErr, IsErrAnd};
-    ghost use Rattle.stateful_types.specs.Causes.{Rose};
+    ghost use Rattle.stateful_base.specs.Causes.{Rose};
     ghost use Rattle.stateful_db.specs.Disk.{applied};
     ghost use Rattle.stateful_db.specs.declared.database.DbCall.{DbCall};
     ghost use Rattle.stateful_db_medium.specs.Called.{IsListed, Called};

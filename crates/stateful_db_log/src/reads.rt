@@ -8,7 +8,7 @@ ghost use Rattle.stateful_db_log.specs.Logs.{disk_of, standing_of};
 
 use crate::log_medium::LogMedium;
 use crate::open_log::OpenLog;
-use stateful_types::Target;
+use stateful_base::Target;
 
 impl<Op: Drop> OpenLog<Op> {
     /// The operation at a location of the newest checkpoint's range. None outside of the range.

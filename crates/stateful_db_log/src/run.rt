@@ -4,7 +4,7 @@ ghost use Rattle.std.specs.Prelude.{◌≡◌, ◌++◌, ◌∷◌, ◌-◌, ◌
 ghost use Rattle.std.specs.Prelude.{slice_get, OnOk, OnErr};
 ghost use Rattle.std.specs.Option.{option_copied};
 
-use stateful_types::{OutOfMemory, Share};
+use stateful_base::{OutOfMemory, Share};
 use std::alloc::Global;
 use std::marker::Model;
 

@@ -1,6 +1,6 @@
 -- lists of checkpoints whose ranges ascend
 use Rattle.std.proofs.Common.{ℕ, zero, suc, ◌+◌, ◌<◌, ◌≤◌, List, [], ◌∷◌, ◌++◌, length, take, drop, arith}
-use Rattle.stateful_types.specs.declared.target.Target.{Target}
+use Rattle.stateful_base.specs.declared.target.Target.{Target}
 use Rattle.stateful_db_medium.specs.Orders.{Ascend}
 
 module _ {S : Type 0} (range : S → Target) where

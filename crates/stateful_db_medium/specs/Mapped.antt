@@ -6,7 +6,7 @@ use Rattle.std.proofs.Common.{arith, inl, inr, position, slice_get}
 use Rattle.std.specs.List.{position_from}
 use Rattle.std.proofs.lemmas.List.{take-map, drop-map}
 use Rattle.std.proofs.lemmas.Iterator.Adapters.{position_from-zero}
-use Rattle.stateful_types.specs.declared.target.Target.{Target}
+use Rattle.stateful_base.specs.declared.target.Target.{Target}
 use Rattle.stateful_db.specs.Disk.{Disk, Standing, all, applied, cut, IsCrash, IsOpened, IsSound}
 use Rattle.stateful_db.specs.Reopening.{with_end, HasNone, FailsToReopen}
 use Rattle.stateful_db.specs.declared.database.InitError.{InitError}

@@ -1,7 +1,7 @@
 -- The checkpoint at which a database opens.
 use Rattle.std.proofs.Common.{◌≡◌, ℕ, zero, suc, List, [], ◌∷◌, ◌++◌, take, length, Option, Some}
 use Rattle.std.proofs.Common.{None, ap, ◌∙◌, subst, slice_get, add-one}
-use Rattle.stateful_types.specs.declared.target.Target.{Target}
+use Rattle.stateful_base.specs.declared.target.Target.{Target}
 use Rattle.stateful_db.specs.Disk.{Disk, Standing, IsOpened, all}
 use Rattle.stateful_db.specs.Reopening.{with_end, OpensAt, Reopens}
 

@@ -2,7 +2,7 @@
 use Rattle.std.specs.Prelude.{◌≡◌, ℕ, zero, suc, ◌+◌, ◌<◌, ◌≤◌, List, [], ◌∷◌, ⊤, slice_get, Some}
 use Rattle.std.specs.Coded.{×_prop, Unit-prop, le_prop}
 use Rattle.std.proofs.Common.{arith, ap}
-use Rattle.stateful_types.specs.declared.target.Target.{Target}
+use Rattle.stateful_base.specs.declared.target.Target.{Target}
 
 -- The range of each ends behind that of the one before, and doesn't start before it. The first ends
 -- behind `end` and doesn't start before `start`.

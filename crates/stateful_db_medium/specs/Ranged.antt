@@ -1,5 +1,5 @@
 -- The range of a kept checkpoint.
-use Rattle.stateful_types.specs.declared.target.Target.{Target}
+use Rattle.stateful_base.specs.declared.target.Target.{Target}
 use Rattle.stateful_db_medium.specs.declared.checkpoints.Checkpoint.{Checkpoint}
 
 abbrev pub range_of : {X : Type 0} → Checkpoint X → Target

@@ -1,7 +1,7 @@
 //! The calls on a medium, by kind and by number, and the faults among them.
 
 ghost use Rattle.std.specs.Prelude.{◌≡◌, ◌≤◌, ◌↔◌, IsTrue, Contains, ℕ};
-ghost use Rattle.stateful_types.specs.Causes.{Rose};
+ghost use Rattle.stateful_base.specs.Causes.{Rose};
 ghost use Rattle.stateful_db_medium.specs.Called.{number_of, passed, IsListed, Called};
 
 use stateful_db::DbCall;

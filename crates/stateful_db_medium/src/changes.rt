@@ -3,7 +3,7 @@
 
 ghost use Rattle.std.specs.Prelude.{◌≡◌, ◌≢◌, ◌≤◌, ◌<◌, ◌+◌, ◌∷◌, ◌++◌, [], ◌↔◌, length, Contains};
 ghost use Rattle.std.specs.Prelude.{IfOk, IfErr, IsErrAnd};
-ghost use Rattle.stateful_types.specs.Causes.{Rose};
+ghost use Rattle.stateful_base.specs.Causes.{Rose};
 ghost use Rattle.stateful_db.specs.Disk.{place, applied, flushed, cut};
 ghost use Rattle.stateful_db.specs.Tokens.{without};
 ghost use Rattle.stateful_db_medium.specs.Called.{IsListed, Called};

@@ -5,8 +5,8 @@ ghost use Rattle.std.specs.Prelude.{take, OnOk, OnErr, IsTrue, ◌↔◌};
 ghost use Rattle.stateful_db_medium.specs.Orders.{Ascend, Ascend-prop};
 ghost use Rattle.stateful_db_medium.specs.Ranged.{range_of};
 
+use stateful_base::{Location, Target};
 use stateful_db::InitError;
-use stateful_types::{Location, Target};
 use std::alloc::{AllocError, Global};
 use std::mem;
 

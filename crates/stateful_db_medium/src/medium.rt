@@ -5,8 +5,8 @@ ghost use Rattle.std.specs.Prelude.{◌<◌};
 use crate::calls::Calls;
 use crate::checkpoints::{Checkpoint, Checkpoints};
 use crate::opened::Opened;
+use stateful_base::{Faulty, Location, Target};
 use stateful_db::{DbCall, InitError, Tokens};
-use stateful_types::{Faulty, Location, Target};
 use std::alloc::Global;
 
 /// The kept checkpoints, and the next batch id. Of the calls of databases that are made on it,
@@ -30,7 +30,7 @@ impl<X: Drop> Faulty for Medium<X> {
 impl<X: Drop> Medium<X> {
     ghost use Rattle.std.specs.Prelude.{◌≡◌, ◌≢◌, ◌↔◌, ◌⊎◌, ◌+◌, ◌≤◌, [], length, slice_get, Some};
     ghost use Rattle.std.specs.Prelude.{◌==◌, position, IsTrue, IfOk, IfErr, IsErrAnd};
-    ghost use Rattle.stateful_types.specs.Causes.{Rose};
+    ghost use Rattle.stateful_base.specs.Causes.{Rose};
     ghost use Rattle.stateful_db.specs.Disk.{all, IsCrash};
     ghost use Rattle.stateful_db.specs.Reopening.{FailsToReopen, HasNone, OpensAt};
     ghost use Rattle.stateful_db.specs.declared.database.DbCall.{DbCall};

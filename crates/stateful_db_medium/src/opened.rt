@@ -4,8 +4,8 @@ ghost use Rattle.std.specs.Prelude.{◌≤◌, ◌+◌, ℕ, length, Contains};
 
 use crate::checkpoints::Checkpoint;
 use crate::medium::Medium;
+use stateful_base::{Faulty, Location};
 use stateful_db::{Broken, DbCall, Exhausted, FlushToken, Tokens, Why};
-use stateful_types::{Faulty, Location};
 use std::alloc::{AllocError, Global};
 
 /// The id of the last applied batch, the tokens that are out, which name places of kept
@@ -32,7 +32,7 @@ impl<X: Drop> Opened<X> {
     ghost use Rattle.std.specs.Prelude.{slice_get, Some, IfOk, IfErr, OnOk, OnErr};
     ghost use Rattle.stateful_db.specs.Disk.{all, place, applied, flushed, cut};
     ghost use Rattle.stateful_db.specs.Tokens.{without};
-    ghost use Rattle.stateful_types.specs.Causes.{Rose};
+    ghost use Rattle.stateful_base.specs.Causes.{Rose};
     ghost use Rattle.stateful_db.specs.declared.database.DbCall.{DbCall};
     ghost use Rattle.stateful_db_medium.specs.Called.{IsListed, Called};
     ghost use Rattle.stateful_db_medium.specs.Kept.{disk_of, next_of, calls_of, medium_of};

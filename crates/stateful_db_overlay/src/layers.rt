@@ -5,7 +5,7 @@ ghost use Rattle.std.specs.Prelude.{position};
 ghost use Rattle.stateful_db_overlay.specs.Stack.{Stack, above, cut_at, has_layer};
 
 use crate::layer::Layer;
-use stateful_types::OutOfMemory;
+use stateful_base::OutOfMemory;
 use std::alloc::Global;
 use std::marker::Model;
 

@@ -1,6 +1,6 @@
 -- the state at which a database opens
 use Rattle.std.proofs.Common.{◌≡◌, ℕ, zero, suc, List, [], ◌∷◌, ◌++◌, take, Option, Some, None, ap, ◌∙◌, subst, slice_get, add-one}
-use Rattle.stateful_types.specs.declared.target.Target.{Target}
+use Rattle.stateful_base.specs.declared.target.Target.{Target}
 use Rattle.stateful_db.specs.Disk.{Disk, Standing, IsOpened, all}
 use Rattle.stateful_db.specs.Reopening.{OpensAt, Reopens}
 use Rattle.stateful_db_plain.specs.Whole.{Whole, target_of}

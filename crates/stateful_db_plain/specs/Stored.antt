@@ -4,7 +4,7 @@ use Rattle.stateful_db.specs.Disk.{Disk, Standing, all}
 use Rattle.stateful_db_plain.specs.declared.checkpoints.Checkpoints.{Checkpoints}
 use Rattle.stateful_db_plain.specs.declared.medium.PlainMedium.{PlainMedium}
 use Rattle.stateful_db_plain.specs.declared.database.Plain.{Plain}
-use Rattle.stateful_types.specs.declared.target.Target.{Target}
+use Rattle.stateful_base.specs.declared.target.Target.{Target}
 use Rattle.stateful_db.specs.Reopening.{with_end}
 use Rattle.stateful_db_plain.specs.Whole.{Whole, target_of}
 

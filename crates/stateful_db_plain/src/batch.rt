@@ -13,9 +13,9 @@ ghost use Rattle.stateful_db_plain.specs.Shown.{DraftShows, SealShows};
 use crate::changes::{PlainChanges, Writes, all_writes, changed, value_in};
 use crate::database::Plain;
 use crate::state::PlainState;
+use stateful_base::{Digest, OutOfMemory, Target};
 use stateful_db::{BatchError, Merkleized, Unmerkleized};
 use stateful_db_overlay::{Layer, Layers};
-use stateful_types::{Digest, OutOfMemory, Target};
 use std::collections::BTreeMap;
 
 /// A batch that may still change: its id, the layers below it, the state of the database on which

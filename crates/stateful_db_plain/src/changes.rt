@@ -6,8 +6,8 @@ ghost use Rattle.std.specs.BTreeMap.{is_at};
 ghost use Rattle.stateful_db_plain.specs.Whole.{value_at};
 ghost use Rattle.stateful_db_plain.specs.Writes.{IsInOrder, value_over, value_through};
 
+use stateful_base::{OutOfMemory, Target};
 use stateful_db_overlay::Layer;
-use stateful_types::{OutOfMemory, Target};
 use std::alloc::Global;
 use std::collections::BTreeMap;
 use std::marker::Model;

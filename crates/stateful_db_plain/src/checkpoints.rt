@@ -6,8 +6,8 @@ ghost use Rattle.stateful_db_plain.specs.Sizes.{Ascend, Ascend-prop};
 
 use crate::changes::{PlainChanges, changed};
 use crate::state::PlainState;
+use stateful_base::{Location, OutOfMemory, Target};
 use stateful_db::InitError;
-use stateful_types::{Location, OutOfMemory, Target};
 use std::alloc::{AllocError, Global};
 use std::mem;
 

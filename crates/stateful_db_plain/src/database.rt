@@ -6,12 +6,12 @@ use crate::batch::{PlainMerkleized, PlainUnmerkleized};
 use crate::medium::PlainMedium;
 use crate::pass::PlainPass;
 use crate::state::PlainState;
+use stateful_base::{Digest, Faulty, Location, OutOfMemory, Target};
 use stateful_db::{
     BatchContext, Broken, DbCall, Exhausted, FlushToken, InitError, ManagedDb, Merkleized, Tokens,
     Why,
 };
 use stateful_db_overlay::Layers;
-use stateful_types::{Digest, Faulty, Location, OutOfMemory, Target};
 use std::alloc::Global;
 use std::collections::BTreeMap;
 use std::ops::Range;
@@ -81,7 +81,7 @@ impl ManagedDb for Plain {
     ghost use Rattle.std.specs.Prelude.{IfOk, IfErr, IsErrAnd, Option, ◌↔◌, ◌⊎◌, Contains, length};
     ghost use Rattle.std.specs.Prelude.{refl, false};
     ghost use Rattle.stateful_db.specs.Chain.{has_id};
-    ghost use Rattle.stateful_types.specs.Causes.{Rose};
+    ghost use Rattle.stateful_base.specs.Causes.{Rose};
     ghost use Rattle.stateful_db.specs.Disk.{IsEither, IsCrash, place, applied, flushed, point};
     ghost use Rattle.stateful_db.specs.Reopening.{Reopens, FailsToReopen, HasNone, KeepsDurable};
     ghost use Rattle.stateful_db.specs.Reopening.{pruned_to};

@@ -4,8 +4,8 @@ ghost use Rattle.std.specs.Prelude.{◌<◌};
 
 use crate::calls::Calls;
 use crate::checkpoints::Checkpoints;
+use stateful_base::Faulty;
 use stateful_db::DbCall;
-use stateful_types::Faulty;
 use std::alloc::Global;
 
 /// The kept checkpoints, and the next batch id. Of the calls of databases that are made on it,

@@ -6,7 +6,7 @@ ghost use Rattle.stateful_db_plain.specs.Whole.{initial};
 ghost use Rattle.sha2.specs.Hashers.{Holds256};
 
 use sha2::{Digest as Hasher, Sha256};
-use stateful_types::{Digest, Location, OutOfMemory, Target};
+use stateful_base::{Digest, Location, OutOfMemory, Target};
 use std::alloc::Global;
 use std::collections::BTreeMap;
 use std::marker::Model;

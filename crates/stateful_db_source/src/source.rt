@@ -19,7 +19,7 @@ pub enum ServeFault {
 /// What answers the requests of a syncing database.
 pub trait SyncSource: Faulty + Sized + Drop {
     ghost use Rattle.std.specs.Prelude.{Result, IsErrOf, ◌≤◌};
-    ghost use Rattle.stateful_types.specs.Causes.{Rose};
+    ghost use Rattle.stateful_base.specs.Causes.{Rose};
     ghost use Rattle.stateful_types.specs.declared.request.Request.{Request};
     ghost use Rattle.stateful_types.specs.declared.response.Response.{Response};
     ghost use Rattle.stateful_db_source.specs.declared.source.ServeFault.{ServeFault};

@@ -5,7 +5,7 @@ use Rattle.std.specs.Option.{ForSome}
 use Rattle.std.specs.List.Sorted.{IsStrictlyIncreasing}
 use Rattle.std.proofs.lemmas.List.Elements.{All-drop}
 use Rattle.std.proofs.lemmas.Option.{slice_get_within, get_or_from_slice_get}
-use Rattle.stateful_types.specs.declared.number.Height.{Height}
+use Rattle.stateful_base.specs.declared.number.Height.{Height}
 use Rattle.stateful_durability.specs.declared.durability.Durability.TheInside.{Inside}
 use Rattle.stateful_durability.specs.Shown.{open_barriers, coverage, IsSound}
 use Rattle.stateful_durability.specs.Durability.{Coverage, IsInOrder, after_completion}

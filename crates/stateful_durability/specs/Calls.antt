@@ -1,7 +1,7 @@
 -- What becomes of receipts over many calls.
 use Rattle.std.specs.Prelude.{◌≡◌, ℕ, ◌<◌, Option, List, [], ◌∷◌, ◌++◌, All}
 use Rattle.std.specs.List.Sorted.{IsPermutation}
-use Rattle.stateful_types.specs.declared.number.Height.{Height}
+use Rattle.stateful_base.specs.declared.number.Height.{Height}
 use Rattle.stateful_durability.specs.Durability.{Coverage, after_completion, with_duplicate}
 use Rattle.stateful_durability.specs.Durability.{Releases}
 

@@ -3,7 +3,7 @@ use Rattle.std.specs.Prelude.{◌≡◌, ℕ, ◌≤◌, nat_le, nat_lt, Option,
 use Rattle.std.specs.Prelude.{◌++◌, length, drop, All, filter}
 use Rattle.std.specs.List.{last_or}
 use Rattle.std.specs.List.Sorted.{IsNonDecreasingBy, IsStrictlyIncreasing}
-use Rattle.stateful_types.specs.declared.number.Height.{Height}
+use Rattle.stateful_base.specs.declared.number.Height.{Height}
 
 -- the durable height, the last applied one, those of the open barriers, the oldest first, and the
 -- receipts that wait, each as its height and its ticket

@@ -1,6 +1,6 @@
 -- What the fields show.
 use Rattle.std.specs.Prelude.{◌≡◌, ℕ, Option, Some, None, List, [], ◌∷◌, map}
-use Rattle.stateful_types.specs.declared.number.Height.{Height}
+use Rattle.stateful_base.specs.declared.number.Height.{Height}
 use Rattle.stateful_durability.specs.declared.durability.Receipt.{Receipt}
 use Rattle.stateful_durability.specs.Durability.{Coverage, IsInOrder}
 

@@ -23,7 +23,7 @@ ghost use Rattle.stateful_durability.specs.Durability.{covered_receipts, after_c
 ghost use Rattle.stateful_durability.specs.Durability.{IsInOrder, Releases};
 ghost use Rattle.stateful_durability.specs.Calls.{ReleasesExactly, KeepsReceipts};
 
-use stateful_types::{Height, OutOfMemory};
+use stateful_base::{Height, OutOfMemory};
 use std::alloc::Global;
 use std::collections::VecDeque;
 use std::marker::Model;

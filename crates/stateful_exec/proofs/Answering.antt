@@ -1,7 +1,7 @@
 -- What becomes of a request whose fetch is answered.
 use Rattle.std.proofs.Common.{◌≡◌, ◌++◌, ℕ, Option, Some, None, List, Result, Ok, Err, OnOk, IfErr, refl}
 use Rattle.std.proofs.lemmas.List.{append-nil}
-use Rattle.stateful_types.specs.Names.{Named}
+use Rattle.stateful_base.specs.Names.{Named}
 use Rattle.stateful_history.specs.declared.mark.Mark.{Mark}
 use Rattle.stateful_exec.specs.Workings.{Workings}
 use Rattle.stateful_exec.specs.Moments.{Moment, moment}

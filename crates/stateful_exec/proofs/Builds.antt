@@ -1,11 +1,11 @@
 -- How the blocks of builds are taken.
 use Rattle.std.proofs.Common.{◌≡◌, ◌+◌, ◌++◌, ◌∷◌, [], ℕ, List, Option, Some, None, Result, Ok, Err, OnOk, IfErr, IsErrOf, refl, sym, ap, ◌∙◌, subst}
 use Rattle.std.proofs.lemmas.List.{append_assoc}
-use Rattle.stateful_types.specs.Causes.{Rose}
-use Rattle.stateful_types.specs.Names.{Named}
-use Rattle.stateful_types.specs.declared.outcome.Handoff.{Handoff}
-use Rattle.stateful_types.specs.declared.outcome.Moved.{Moved}
-use Rattle.stateful_types.specs.declared.outcome.Moved.TheVariants.{Pending, Done}
+use Rattle.stateful_base.specs.Causes.{Rose}
+use Rattle.stateful_base.specs.Names.{Named}
+use Rattle.stateful_base.specs.declared.outcome.Handoff.{Handoff}
+use Rattle.stateful_base.specs.declared.outcome.Moved.{Moved}
+use Rattle.stateful_base.specs.declared.outcome.Moved.TheVariants.{Pending, Done}
 use Rattle.stateful_db.specs.Chain.{IsPoint}
 use Rattle.stateful_db.specs.Works.{BuildOf, BuildEnds, Costs}
 use Rattle.stateful_db.specs.declared.application.AppFault.{AppFault}

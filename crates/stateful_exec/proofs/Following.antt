@@ -2,8 +2,8 @@
 use Rattle.std.proofs.Common.{◌≡◌, ◌≤◌, ◌++◌, ◌∷◌, [], ℕ, Option, List, Result, Ok, Err, IsErrAnd, IsErrOf, IfErr, length, sym, ap, ◌∙◌, subst, arith}
 use Rattle.std.proofs.lemmas.List.{append_assoc, append-nil, nil_from_length}
 use Rattle.std.proofs.lemmas.Result.{err_from_is_err_and}
-use Rattle.stateful_types.specs.Causes.{Rose}
-use Rattle.stateful_types.specs.Names.{Named}
+use Rattle.stateful_base.specs.Causes.{Rose}
+use Rattle.stateful_base.specs.Names.{Named}
 use Rattle.stateful_exec.specs.Workings.{Workings}
 use Rattle.stateful_exec_tables.specs.Path.{Path}
 use Rattle.stateful_exec.specs.Moments.{Moment}

@@ -1,6 +1,6 @@
 -- Finalizations that go on: their runs, their hooks and their batches.
 use Rattle.std.proofs.Common.{◌≡◌, inl, inr, Bool, true, false, is_some, Option, Some, None, IfNone, ℕ, refl, sym, ◌∙◌, ap, subst}
-use Rattle.stateful_types.specs.Names.{Named}
+use Rattle.stateful_base.specs.Names.{Named}
 use Rattle.stateful_db.specs.declared.application.Hooked.{Hooked}
 use Rattle.stateful_db.specs.declared.application.Hooked.TheVariants as hooked
 use Rattle.stateful_exec.specs.Workings.{Workings}

@@ -1,6 +1,6 @@
 -- How builds are started.
 use Rattle.std.proofs.Common.{◌≡◌, ◌⊎◌, ℕ, List, Option, Some, None, refl, ap, ◌∙◌, subst, inl, inr}
-use Rattle.stateful_types.specs.Names.{Named}
+use Rattle.stateful_base.specs.Names.{Named}
 use Rattle.stateful_exec.specs.Workings.{Workings, Point}
 use Rattle.stateful_exec_tables.specs.Tables.{IsLeft}
 use Rattle.stateful_exec.specs.Starting.{IsOver}

@@ -1,6 +1,6 @@
 -- What goes on behind a pause, from the parts of a resume.
 use Rattle.std.proofs.Common.{◌≡◌, ℕ, Option, List, ◌∙◌, ap, subst}
-use Rattle.stateful_types.specs.Names.{Named}
+use Rattle.stateful_base.specs.Names.{Named}
 use Rattle.stateful_history.specs.declared.mark.Mark.{Mark}
 use Rattle.stateful_exec.specs.Workings.{Workings}
 use Rattle.stateful_exec.specs.Moments.{Moment, moment}

@@ -1,8 +1,8 @@
 -- What a turn's answer leads to.
 use Rattle.std.proofs.Common.{◌≡◌, ℕ, List, Option, Result, Ok, subst}
-use Rattle.stateful_types.specs.Names.{Named}
-use Rattle.stateful_types.specs.declared.outcome.Moved.{Moved}
-use Rattle.stateful_types.specs.declared.outcome.Moved.TheVariants.{Done}
+use Rattle.stateful_base.specs.Names.{Named}
+use Rattle.stateful_base.specs.declared.outcome.Moved.{Moved}
+use Rattle.stateful_base.specs.declared.outcome.Moved.TheVariants.{Done}
 use Rattle.stateful_db.specs.declared.application.AppFault.{AppFault}
 use Rattle.stateful_history.specs.declared.mark.How.{How}
 use Rattle.stateful_history.specs.declared.mark.Mark.{Mark}

@@ -1,6 +1,6 @@
 -- What holds over the states of a known block.
 use Rattle.std.proofs.Common.{◌∷◌, List, ◌++◌, []}
-use Rattle.stateful_types.specs.declared.digest.Digest.{Digest}
+use Rattle.stateful_base.specs.declared.digest.Digest.{Digest}
 use Rattle.stateful_exec_cache.specs.declared.cache.Cached.{Cached}
 use Rattle.stateful_exec.specs.Workings.{Workings, Point}
 use Rattle.stateful_exec.specs.Starting.{IsOver, databases, batch}

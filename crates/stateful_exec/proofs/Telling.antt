@@ -1,7 +1,7 @@
 -- How the ends of runs are told.
 use Rattle.std.proofs.Common.{◌≡◌, ◌↔◌, ◌∷◌, List, Bool, true, false, Option, Some, None, IsTrue, refl}
-use Rattle.stateful_types.specs.Names.{Named}
-use Rattle.stateful_types.specs.declared.anchor.Anchor.{Anchor}
+use Rattle.stateful_base.specs.Names.{Named}
+use Rattle.stateful_base.specs.declared.anchor.Anchor.{Anchor}
 use Rattle.stateful_exec_cache.specs.declared.cache.Cached.{Cached}
 use Rattle.stateful_history.specs.declared.mark.How.{How}
 use Rattle.stateful_history.specs.declared.mark.How.TheVariants.{Rejected, Mismatched}

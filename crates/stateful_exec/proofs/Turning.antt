@@ -1,8 +1,8 @@
 -- Turns of runs.
 use Rattle.std.proofs.Common.{◌≡◌, ◌+◌, ◌∷◌, ℕ, List, Option, Some, Result, Ok, Err, IfOk, IsErrOf, IsSome, refl, ap, ◌∙◌}
 use Rattle.std.proofs.lemmas.Bool.{eq-eqb}
-use Rattle.stateful_types.specs.Causes.{Rose}
-use Rattle.stateful_types.specs.declared.outcome.Moved.{Moved}
+use Rattle.stateful_base.specs.Causes.{Rose}
+use Rattle.stateful_base.specs.declared.outcome.Moved.{Moved}
 use Rattle.stateful_db.specs.Chain.{IsPoint}
 use Rattle.stateful_db.specs.Meaning.{outcome, Ends}
 use Rattle.stateful_db.specs.Works.{RunOf, block_of, run_chain, Costs}

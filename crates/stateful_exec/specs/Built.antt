@@ -1,14 +1,14 @@
 -- Turns of a build, and what becomes of the block that it gives.
 use Rattle.std.specs.Prelude.{◌≡◌, ◌≢◌, ◌+◌, ◌<◌, ◌^◌, ◌∷◌, [], ℕ, Option, Some, None, Result, Ok}
 use Rattle.std.specs.Prelude.{Err, List, IfOk, IsErrOf}
-use Rattle.stateful_types.specs.Causes.{Rose}
-use Rattle.stateful_types.specs.Names.{Named}
+use Rattle.stateful_base.specs.Causes.{Rose}
+use Rattle.stateful_base.specs.Names.{Named}
 use Rattle.sha2.specs.Sha256.{sha256}
-use Rattle.stateful_types.specs.declared.anchor.Anchor.{Anchor}
-use Rattle.stateful_types.specs.declared.outcome.Handoff.{Handoff}
-use Rattle.stateful_types.specs.declared.outcome.Handoff.TheVariants.{Wait, Vote, Stage}
-use Rattle.stateful_types.specs.declared.outcome.Moved.{Moved}
-use Rattle.stateful_types.specs.declared.outcome.Moved.TheVariants.{Pending, Done}
+use Rattle.stateful_base.specs.declared.anchor.Anchor.{Anchor}
+use Rattle.stateful_base.specs.declared.outcome.Handoff.{Handoff}
+use Rattle.stateful_base.specs.declared.outcome.Handoff.TheVariants.{Wait, Vote, Stage}
+use Rattle.stateful_base.specs.declared.outcome.Moved.{Moved}
+use Rattle.stateful_base.specs.declared.outcome.Moved.TheVariants.{Pending, Done}
 use Rattle.stateful_db.specs.Chain.{IsPoint}
 use Rattle.stateful_db.specs.Works.{BuildOf, BuildEnds, Costs}
 use Rattle.stateful_db.specs.declared.application.AppFault.{AppFault}

@@ -1,6 +1,6 @@
 -- Answers of fetches, and cancels.
 use Rattle.std.specs.Prelude.{◌≡◌, [], ℕ, Option, Some, None}
-use Rattle.stateful_types.specs.Names.{Named}
+use Rattle.stateful_base.specs.Names.{Named}
 use Rattle.stateful_exec.specs.Workings.{Workings}
 use Rattle.stateful_exec.specs.Moments.{Moment, Becomes}
 use Rattle.stateful_exec_tables.specs.Tables.{taken, moved}

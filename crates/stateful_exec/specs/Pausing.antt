@@ -1,6 +1,6 @@
 -- Pauses for a finalization or a prune, and what resumes behind them.
 use Rattle.std.specs.Prelude.{◌≡◌, ℕ, Option}
-use Rattle.stateful_types.specs.Names.{Named}
+use Rattle.stateful_base.specs.Names.{Named}
 use Rattle.stateful_exec_tables.specs.Phase.{parked_in, not_parked, unacquired_in, not_unacquired}
 use Rattle.stateful_exec.specs.Workings.{Workings}
 use Rattle.stateful_exec.specs.Moments.{Moment}

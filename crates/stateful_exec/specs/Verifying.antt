@@ -1,6 +1,6 @@
 -- A request's path, taken a block at a time.
 use Rattle.std.specs.Prelude.{◌≡◌, [], ℕ, Option, Some, None, List}
-use Rattle.stateful_types.specs.Names.{Named}
+use Rattle.stateful_base.specs.Names.{Named}
 use Rattle.stateful_exec.specs.Workings.{Workings}
 use Rattle.stateful_exec.specs.Moments.{Moment, Becomes}
 use Rattle.stateful_exec_tables.specs.Tables.{requested, taken, moved, Knows, HasRun, RunsNone}

@@ -1,7 +1,7 @@
 -- How an application works, and how its blocks, batches and databases are seen.
 use Rattle.std.specs.Prelude.{List}
-use Rattle.stateful_types.specs.Names.{Header}
-use Rattle.stateful_types.specs.declared.round.Round.{Round}
+use Rattle.stateful_base.specs.Names.{Header}
+use Rattle.stateful_base.specs.declared.round.Round.{Round}
 use Rattle.stateful_db.specs.Databases.{Databases}
 use Rattle.stateful_db.specs.Works.{Works}
 

@@ -14,9 +14,9 @@
 
 ghost use Rattle.std.specs.Prelude.{◌≡◌, ◌≤◌, ◌⊎◌, true, false, Some, None, OnOk, IfOk};
 ghost use Rattle.std.specs.Prelude.{IfErr, IfSome, IfNone, IsErrOf, OnErr};
-ghost use Rattle.stateful_types.specs.Anchor.{anchor_by};
-ghost use Rattle.stateful_types.specs.Causes.{Rose};
-ghost use Rattle.stateful_types.specs.Names.{Named};
+ghost use Rattle.stateful_base.specs.Anchor.{anchor_by};
+ghost use Rattle.stateful_base.specs.Causes.{Rose};
+ghost use Rattle.stateful_base.specs.Names.{Named};
 ghost use Rattle.stateful_exec_cache.specs.Cut.{IsCutTo};
 ghost use Rattle.stateful_exec.specs.Finalizing.{front_at, HasStates, IsRoot, Moves, FaultsMove};
 ghost use Rattle.stateful_exec.specs.Finalizing.{Observes, HooksOn, FaultsHooksOn, FaultsObserve};
@@ -29,10 +29,10 @@ use crate::finalizing::FrontOf;
 use crate::front::{Front, Stage};
 use crate::running::TablesOf;
 use crate::worked::Worked;
+use stateful_base::{Block, Digested, Moved, OutOfMemory, Share};
 use stateful_db::{AppFault, Application, Batch, DatabaseSet, Hooked};
 use stateful_exec_tables::ExecError;
 use stateful_history::{How, JobKind, Mark};
-use stateful_types::{Block, Digested, Moved, OutOfMemory, Share};
 use std::mem;
 
 /// Takes the batch that the run of a finalized block has led to, if there is one.

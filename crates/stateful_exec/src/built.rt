@@ -23,10 +23,10 @@ ghost use Rattle.stateful_exec_tables.specs.Tables.{Rises};
 use crate::proposing::BuildingOf;
 use crate::running::TablesOf;
 use crate::worked::Worked;
+use stateful_base::{Block, Digested, Handoff, Moved, OutOfMemory, Rounded, Share};
 use stateful_db::{Application, DatabaseSet, ProposalKind, Proposed, ProposedBlock};
 use stateful_exec_tables::{ExecError, ProposalFault};
 use stateful_history::{Decision, How, Mark};
-use stateful_types::{Block, Digested, Handoff, Moved, OutOfMemory, Rounded, Share};
 use std::mem;
 
 /// How a block is answered that was handed over so.

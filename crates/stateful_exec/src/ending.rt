@@ -13,7 +13,7 @@
 //! in words, "The end of a run" and "After a run".
 
 ghost use Rattle.std.specs.Prelude.{◌≡◌, ◌≤◌, ℕ, IsSome, OnOk, IfOk, IfErr, IsErrOf};
-ghost use Rattle.stateful_types.specs.Causes.{Rose};
+ghost use Rattle.stateful_base.specs.Causes.{Rose};
 ghost use Rattle.stateful_table.specs.Table.{at};
 ghost use Rattle.stateful_exec.specs.Moments.{moment};
 ghost use Rattle.stateful_exec_tables.specs.Tables.{Rises};
@@ -25,10 +25,10 @@ ghost use Rattle.stateful_exec.specs.Ending.{Follows, SettlesBy, Steps};
 
 use crate::running::{TablesOf, advance};
 use crate::worked::Worked;
+use stateful_base::{Digested, Moved, OutOfMemory};
 use stateful_db::{AppFault, Application, Batch, DatabaseSet};
 use stateful_exec_tables::{ExecError, Fate, Released, Verdict};
 use stateful_history::{How, Mark};
-use stateful_types::{Digested, Moved, OutOfMemory};
 
 /// The requests of an application that have waited for a run.
 pub type ReleasedOf<A> = Released<

@@ -14,8 +14,8 @@
 
 ghost use Rattle.std.specs.Prelude.{◌≡◌, ◌<◌, ◌≤◌, ◌++◌, ◌∷◌, [], ℕ, true, false, OnOk, OnErr};
 ghost use Rattle.std.specs.Prelude.{IfOk, IfErr, IfSome, IfNone, IsErrOf};
-ghost use Rattle.stateful_types.specs.Names.{Named};
-ghost use Rattle.stateful_types.specs.Causes.{Rose};
+ghost use Rattle.stateful_base.specs.Names.{Named};
+ghost use Rattle.stateful_base.specs.Causes.{Rose};
 ghost use Rattle.stateful_history.specs.declared.mark.JobKind.TheVariants as job;
 ghost use Rattle.stateful_history.specs.declared.mark.Mark.TheVariants.{Started};
 ghost use Rattle.stateful_exec.specs.Causes.{FaultsStart};
@@ -32,10 +32,10 @@ use crate::ending::{Turned, complete, settle};
 use crate::front::{Front, Stage};
 use crate::running::TablesOf;
 use crate::worked::Worked;
+use stateful_base::{Ancestry, Anchor, Block, Digested, Finality, Height, Items, Moved, Share};
 use stateful_db::{Application, Batch, DatabaseSet};
 use stateful_exec_tables::ExecError;
 use stateful_history::{How, JobKind, Mark};
-use stateful_types::{Ancestry, Anchor, Block, Digested, Finality, Height, Items, Moved, Share};
 use std::mem;
 
 /// A finalization of an application's block.

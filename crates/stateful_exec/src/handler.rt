@@ -2,7 +2,7 @@
 
 ghost use Rattle.std.specs.Prelude.{◌≡◌, ◌++◌, ◌∷◌, [], ◌≤◌, ℕ, List, None, OnOk, IfOk, IfErr};
 ghost use Rattle.std.specs.Prelude.{IfSome, IfNone, IsErrOf};
-ghost use Rattle.stateful_types.specs.Causes.{Rose};
+ghost use Rattle.stateful_base.specs.Causes.{Rose};
 ghost use Rattle.stateful_history.specs.declared.mark.Mark.{Mark as Marked};
 ghost use Rattle.stateful_exec.specs.Moments.{moment};
 ghost use Rattle.stateful_exec_tables.specs.Request.{ticket_by};
@@ -26,10 +26,10 @@ use crate::processor::{Execution, Processor};
 use crate::resuming::resume;
 use crate::running::{acquire, fetched};
 use crate::worked::Worked;
+use stateful_base::{Anchor, BlockStore, Digested, OutOfMemory};
 use stateful_db::{Application, DatabaseSet};
 use stateful_exec_tables::{ExecError, FinalizationBoundary, Pause, Request, Requested, Tables};
 use stateful_history::Mark;
-use stateful_types::{Anchor, BlockStore, Digested, OutOfMemory};
 use std::marker::PhantomData;
 
 /// Offers the calls on requests too.

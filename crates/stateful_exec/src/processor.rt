@@ -17,7 +17,7 @@
 ghost use Rattle.std.specs.Prelude.{◌≡◌, ◌↔◌, ◌<◌, ◌≤◌, ◌++◌, ◌∷◌, ◌⊎◌, [], ℕ, true, false, None};
 ghost use Rattle.std.specs.Prelude.{OnOk, OnErr, IfOk, IfErr, IsErrOf, IsTrue};
 ghost use Rattle.std.specs.Option.{option_copied};
-ghost use Rattle.stateful_types.specs.Causes.{Rose};
+ghost use Rattle.stateful_base.specs.Causes.{Rose};
 ghost use Rattle.stateful_exec_cache.specs.Cache.{IsIn};
 ghost use Rattle.stateful_history.specs.declared.mark.JobKind.TheVariants as job;
 ghost use Rattle.stateful_history.specs.declared.mark.Mark.TheVariants.{Started};
@@ -40,10 +40,10 @@ use crate::front::Stage;
 use crate::proposing::{BuildingOf, propose};
 use crate::running::TablesOf;
 use crate::worked::Worked;
+use stateful_base::{Anchor, Digest, Digested, OutOfMemory};
 use stateful_db::{Application, Batch, DatabaseSet};
 use stateful_exec_tables::{ExecError, FinalizationBoundary, Tables};
 use stateful_history::Mark;
-use stateful_types::{Anchor, Digest, Digested, OutOfMemory};
 use std::alloc::Global;
 use std::marker::{Model, PhantomData};
 

@@ -13,7 +13,7 @@
 
 ghost use Rattle.std.specs.Prelude.{◌≡◌, ◌≤◌, ◌∷◌, ℕ, List, None, OnOk, IfOk};
 ghost use Rattle.std.specs.Prelude.{IfErr, IsErrOf};
-ghost use Rattle.stateful_types.specs.Causes.{Rose};
+ghost use Rattle.stateful_base.specs.Causes.{Rose};
 ghost use Rattle.stateful_db.specs.Works.{build_of};
 ghost use Rattle.stateful_exec.specs.Building.{asked_by, IsNewBuild};
 ghost use Rattle.stateful_exec.specs.Building.{Proposes, FaultsPropose};
@@ -25,9 +25,9 @@ ghost use Rattle.stateful_exec.specs.Starting.{IsOver};
 use crate::building::{BuildStart, Building};
 use crate::running::{TablesOf, begin};
 use crate::worked::Worked;
+use stateful_base::{Block, Digested, Share};
 use stateful_db::{AppFault, Application, DatabaseSet, Input, OpenBatch, ProposalKind};
 use stateful_exec_tables::{ExecError, Proposal, Queued};
-use stateful_types::{Block, Digested, Share};
 
 /// A build of an application.
 pub type BuildingOf<A> = Building<

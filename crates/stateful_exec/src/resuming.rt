@@ -11,7 +11,7 @@
 //! pause".
 
 ghost use Rattle.std.specs.Prelude.{◌≡◌, ◌≤◌, ℕ, OnOk, IfErr, IsErrOf};
-ghost use Rattle.stateful_types.specs.Causes.{Rose};
+ghost use Rattle.stateful_base.specs.Causes.{Rose};
 ghost use Rattle.stateful_exec.specs.Moments.{moment};
 ghost use Rattle.stateful_exec_tables.specs.Tables.{Rises};
 ghost use Rattle.stateful_exec.specs.Ending.{InTurn, StopsAt};
@@ -21,10 +21,10 @@ ghost use Rattle.stateful_exec.specs.Pausing.{FaultsAnew, FaultsResume};
 use crate::ending::ReleasedOf;
 use crate::running::{TablesOf, acquire, advance};
 use crate::worked::Worked;
+use stateful_base::BlockStore;
 use stateful_db::{Application, DatabaseSet};
 use stateful_exec_tables::{ExecError, Released, Requested};
 use stateful_history::Mark;
-use stateful_types::BlockStore;
 
 /// The requests of an application that are to acquire anew what they need.
 type UnacquiredOf<A> = (

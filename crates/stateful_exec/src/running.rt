@@ -18,8 +18,8 @@ ghost use Rattle.std.specs.Prelude.{◌≡◌, ◌≢◌, ◌≤◌, ◌++◌, �
 ghost use Rattle.std.specs.Prelude.{IfErr, IsErrOf};
 ghost use Rattle.stateful_history.specs.declared.mark.Mark.TheVariants.{Started};
 ghost use Rattle.stateful_history.specs.declared.mark.JobKind.TheVariants as job;
-ghost use Rattle.stateful_types.specs.Causes.{Rose};
-ghost use Rattle.stateful_types.specs.declared.outcome.Finality.TheVariants.{Candidate};
+ghost use Rattle.stateful_base.specs.Causes.{Rose};
+ghost use Rattle.stateful_base.specs.declared.outcome.Finality.TheVariants.{Candidate};
 ghost use Rattle.stateful_exec_cache.specs.Cache.{IsAtHand};
 ghost use Rattle.stateful_exec.specs.Moments.{moment};
 ghost use Rattle.stateful_exec.specs.Starting.{IsOver, IsFresh, StartsRun};
@@ -31,15 +31,15 @@ ghost use Rattle.stateful_exec.specs.Causes.{FaultsBatches, FaultsStart, FaultsA
 ghost use Rattle.stateful_exec.specs.Causes.{FaultsAcquire};
 
 use crate::worked::Worked;
+use stateful_base::{
+    Ancestry, Anchor, Block, BlockStore, Digested, Finality, Items, OutOfMemory, Share,
+};
 use stateful_db::{Application, Batch, DatabaseSet, OpenBatch};
 use stateful_exec_cache::Cache;
 use stateful_exec_tables::{
     Acquired, ExecError, Met, Phase, ReplayPath, Request, Requested, Tables, Verdict, prepare,
 };
 use stateful_history::{JobKind, Mark};
-use stateful_types::{
-    Ancestry, Anchor, Block, BlockStore, Digested, Finality, Items, OutOfMemory, Share,
-};
 use std::alloc::Global;
 
 /// The tables of an application.

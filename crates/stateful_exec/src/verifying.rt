@@ -15,8 +15,8 @@
 
 ghost use Rattle.std.specs.Prelude.{◌≡◌, ◌≤◌, ℕ};
 ghost use Rattle.std.specs.Prelude.{IfOk, IfErr, IfSome, IfNone, IsErrOf};
-ghost use Rattle.stateful_types.specs.Causes.{Rose};
-ghost use Rattle.stateful_types.specs.Names.{Named};
+ghost use Rattle.stateful_base.specs.Causes.{Rose};
+ghost use Rattle.stateful_base.specs.Names.{Named};
 ghost use Rattle.stateful_exec_tables.specs.Boundary.{step_by};
 ghost use Rattle.stateful_exec.specs.Moments.{moment};
 ghost use Rattle.stateful_exec_tables.specs.Tables.{Rises};
@@ -28,10 +28,10 @@ use crate::handler::{Handler, Handling};
 use crate::processor::Execution;
 use crate::running::{TablesOf, launch};
 use crate::worked::Worked;
+use stateful_base::{Block, BlockStore, OutOfMemory};
 use stateful_db::{Application, DatabaseSet};
 use stateful_exec_tables::{Acquired, ExecError, ExecutionStep, Met, ReplayPath, Verdict, prepare};
 use stateful_history::Mark;
-use stateful_types::{Block, BlockStore, OutOfMemory};
 
 /// An application with its requests, whose paths are taken a block at a time.
 pub type Verifier<A> = Handler<A>;

@@ -1,7 +1,7 @@
 -- What a search in the cache finds.
 use Rattle.std.proofs.Common.{◌≡◌, ◌≢◌, ◌↔◌, List, All, Any, Option, None, Some, Bool, true, false, refl, sym, subst, is_some, IsTrue, IfSome, IfNone, Bor, option_copied}
 use Rattle.std.specs.List.{Contains}
-use Rattle.stateful_types.specs.declared.digest.Digest.{Digest}
+use Rattle.stateful_base.specs.declared.digest.Digest.{Digest}
 use Rattle.stateful_exec_cache.specs.declared.cache.Cached.{Cached}
 
 module _ {U : Type 0} (cache : List (Cached U)) (d : Digest) where

@@ -6,8 +6,8 @@ use Rattle.std.specs.Map.{lookup}
 use Rattle.std.proofs.lemmas.Map.Text.{is_eq-slice_cmp}
 use Rattle.std.proofs.lemmas.Slice.Eq.{bytes_eq-Decides}
 use Rattle.std.proofs.lemmas.List.Elements.{All-weaker, All-push}
-use Rattle.stateful_types.specs.declared.digest.Digest.{Digest}
-use Rattle.stateful_types.specs.Digest.{digest_cmp}
+use Rattle.stateful_base.specs.declared.digest.Digest.{Digest}
+use Rattle.stateful_base.specs.Digest.{digest_cmp}
 use Rattle.stateful_exec_cache.specs.Index.{IsIndex}
 use Rattle.stateful_exec_cache.proofs.Digests.{same_digest}
 use Rattle.stateful_exec_cache.specs.declared.cache.Cached.{Cached}

@@ -1,8 +1,8 @@
 -- By which index the entries of a cache are found.
 use Rattle.std.specs.Prelude.{◌≡◌, ◌≢◌, ℕ, Some, None, List, All, MatchOption, slice_get}
 use Rattle.std.specs.BTreeMap.{BTreeMap, get}
-use Rattle.stateful_types.specs.Digest.{digest_cmp}
-use Rattle.stateful_types.specs.declared.digest.Digest.{Digest}
+use Rattle.stateful_base.specs.Digest.{digest_cmp}
+use Rattle.stateful_base.specs.declared.digest.Digest.{Digest}
 use Rattle.stateful_exec_cache.specs.declared.cache.Cached.{Cached}
 
 -- the place of a digest is that of an entry of this digest, and the digest of each entry has a

@@ -17,7 +17,7 @@ ghost use Rattle.std.specs.Option.{option_copied};
 ghost use Rattle.std.specs.BTreeSet.{keys};
 ghost use Rattle.stateful_exec_cache.specs.Cut.{IsCutTo, IsRootOf, GoesOn, DescendsFrom, AreDescendants};
 
-use stateful_types::{Anchor, Digest, OutOfMemory, Round};
+use stateful_base::{Anchor, Digest, OutOfMemory, Round};
 use std::alloc::Global;
 use std::collections::{BTreeMap, BTreeSet};
 use std::marker::Model;

@@ -6,7 +6,7 @@ ghost use Rattle.stateful_exec_cache.specs.Judgement.{IsJudged};
 ghost use Rattle.stateful_exec_cache.specs.Judgement.{IsOpen};
 
 use crate::cache::Cache;
-use stateful_types::{Anchor, Block, BlockStore, Digest, Digested, OutOfMemory};
+use stateful_base::{Anchor, Block, BlockStore, Digest, Digested, OutOfMemory};
 
 /// How a block is judged without a run of it.
 #[derive(Clone, Copy, Debug, PartialEq, Eq)]

@@ -2,7 +2,7 @@
 use Rattle.std.proofs.Common.{◌≡◌, ◌++◌, ℕ, List, [], ◌∷◌, All, Option, refl, sym, ap, ◌∙◌, subst}
 use Rattle.std.proofs.lemmas.List.{append_assoc}
 use Rattle.std.proofs.lemmas.List.Elements.{All-nil, All-cons, All-head, All-tail}
-use Rattle.stateful_types.specs.Names.{Header, Named}
+use Rattle.stateful_base.specs.Names.{Header, Named}
 use Rattle.stateful_history.specs.Setting.{parent_of}
 use Rattle.stateful_history.specs.Past.{Past}
 use Rattle.stateful_history.specs.Met.{Met}

@@ -1,8 +1,8 @@
 -- The tables stand after the anchor's move to the finalized block, once it is applied.
 use Rattle.std.proofs.Common.{◌≡◌, inr, ℕ, List, ◌∷◌, All, Contains, Option, Some, get_or, refl, sym, ◌∙◌, subst}
-use Rattle.stateful_types.specs.Names.{Named}
-use Rattle.stateful_types.specs.Anchor.{anchor_by}
-use Rattle.stateful_types.specs.declared.digest.Digest.{Digest}
+use Rattle.stateful_base.specs.Names.{Named}
+use Rattle.stateful_base.specs.Anchor.{anchor_by}
+use Rattle.stateful_base.specs.declared.digest.Digest.{Digest}
 use Rattle.stateful_history.specs.Past.{Past, Made}
 use Rattle.stateful_history.specs.Finalizations.{begun}
 use Rattle.stateful_history.specs.Met.{TrueNames}

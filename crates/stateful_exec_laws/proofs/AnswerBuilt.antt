@@ -1,11 +1,11 @@
 -- Marks after the last turn of a build that gave a block: it was a live build, and its live proposal is answered with what it gave.
 use Rattle.std.proofs.Common.{◌≡◌, inl, inr, ℕ, List, [], ◌∷◌, Option, Some, Ok, MatchOption, refl, sym, subst}
-use Rattle.stateful_types.specs.Names.{Named}
-use Rattle.stateful_types.specs.declared.anchor.Anchor.{Anchor}
-use Rattle.stateful_types.specs.declared.digest.Digest.{Digest}
-use Rattle.stateful_types.specs.declared.outcome.Handoff.{Handoff}
-use Rattle.stateful_types.specs.declared.outcome.Handoff.TheVariants as handed
-use Rattle.stateful_types.specs.declared.outcome.Moved.TheVariants.{Done}
+use Rattle.stateful_base.specs.Names.{Named}
+use Rattle.stateful_base.specs.declared.anchor.Anchor.{Anchor}
+use Rattle.stateful_base.specs.declared.digest.Digest.{Digest}
+use Rattle.stateful_base.specs.declared.outcome.Handoff.{Handoff}
+use Rattle.stateful_base.specs.declared.outcome.Handoff.TheVariants as handed
+use Rattle.stateful_base.specs.declared.outcome.Moved.TheVariants.{Done}
 use Rattle.stateful_db.specs.Works.{build_of}
 use Rattle.stateful_db.specs.declared.application.ProposalKind.{ProposalKind}
 use Rattle.stateful_db.specs.declared.application.ProposalKind.TheVariants as kinds

@@ -1,8 +1,8 @@
 -- The tables stand behind a block that is asked for.
 use Rattle.std.proofs.Common.{◌≡◌, ◌≢◌, ◌==◌, ◌+◌, ◌<◌, ℕ, Bool, true, false, ◌∷◌, All, Option, Some, None, MatchOption, get_or, inr, refl, sym, ap, ◌∙◌, subst, arith}
 use Rattle.std.proofs.lemmas.Bool.{eqb-true, eq-eqb}
-use Rattle.stateful_types.specs.Names.{Named}
-use Rattle.stateful_types.specs.declared.digest.Digest.{Digest}
+use Rattle.stateful_base.specs.Names.{Named}
+use Rattle.stateful_base.specs.declared.digest.Digest.{Digest}
 use Rattle.stateful_history.specs.Past.{Past, Item, Made}
 use Rattle.stateful_history.specs.Met.{Met}
 use Rattle.stateful_history.specs.Asked.{asked_for}

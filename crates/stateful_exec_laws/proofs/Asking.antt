@@ -1,7 +1,7 @@
 -- Requests stand for a longer past, where the item that is added leaves them as they are.
 use Rattle.std.proofs.Common.{◌≡◌, inr, ℕ, List, ◌∷◌, Option, refl, ◌∙◌}
 use Rattle.std.proofs.lemmas.List.Elements.{All-weaker}
-use Rattle.stateful_types.specs.Names.{Named}
+use Rattle.stateful_base.specs.Names.{Named}
 use Rattle.stateful_history.specs.Past.{Past, Item}
 use Rattle.stateful_history.specs.Met.{Met}
 use Rattle.stateful_history.specs.Live.{live_fetch, live_ticket}

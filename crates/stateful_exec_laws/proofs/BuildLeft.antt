@@ -1,8 +1,8 @@
 -- The live build stands behind what says nothing of it.
 use Rattle.std.proofs.Common.{◌<◌, ◌≡◌, ℕ, List, ◌∷◌, Option, Some, None, IfSome, refl, sym, ◌∙◌, subst}
-use Rattle.stateful_types.specs.Names.{Named}
-use Rattle.stateful_types.specs.declared.anchor.Anchor.{Anchor}
-use Rattle.stateful_types.specs.declared.digest.Digest.{Digest}
+use Rattle.stateful_base.specs.Names.{Named}
+use Rattle.stateful_base.specs.declared.anchor.Anchor.{Anchor}
+use Rattle.stateful_base.specs.declared.digest.Digest.{Digest}
 use Rattle.stateful_db.specs.Works.{build_of}
 use Rattle.stateful_history.specs.Past.{Past, Item}
 use Rattle.stateful_history.specs.Jobs.{IsLiveJob, started_for, turns}

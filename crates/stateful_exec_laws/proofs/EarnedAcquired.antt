@@ -1,7 +1,7 @@
 -- True verdicts are earned: those of a request that acquires what it needs, where what is at hand is known.
 use Rattle.std.proofs.Common.{◌≡◌, [], ℕ, List, All, Option, refl, subst, sym}
-use Rattle.stateful_types.specs.Names.{Named}
-use Rattle.stateful_types.specs.declared.digest.Digest.{Digest}
+use Rattle.stateful_base.specs.Names.{Named}
+use Rattle.stateful_base.specs.declared.digest.Digest.{Digest}
 use Rattle.stateful_history.specs.Known.{Known}
 use Rattle.stateful_history.specs.Met.{Met}
 use Rattle.stateful_history.specs.Past.{Past}

@@ -1,8 +1,8 @@
 -- What true verdicts are earned by is carried from a request that is served to the next one.
 use Rattle.std.proofs.Common.{◌≡◌, ◌++◌, ℕ, List, [], ◌∷◌, All, Option, ◌∙◌, refl}
 use Rattle.std.proofs.lemmas.List.Elements.{All-head, All-tail}
-use Rattle.stateful_types.specs.Names.{Header, Named}
-use Rattle.stateful_types.specs.declared.anchor.Anchor.{Anchor}
+use Rattle.stateful_base.specs.Names.{Header, Named}
+use Rattle.stateful_base.specs.declared.anchor.Anchor.{Anchor}
 use Rattle.stateful_history.specs.Anchors.{applied, anchor_of, tip_of}
 use Rattle.stateful_history.specs.Canonical.{pruned_below}
 use Rattle.stateful_history.specs.Past.{Past, Made, after}

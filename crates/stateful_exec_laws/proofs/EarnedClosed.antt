@@ -1,12 +1,12 @@
 -- Each cached block that goes on over a finalization is compatible with it: from its beginning on, and after the end of a run.
 use Rattle.std.proofs.Common.{◌≡◌, ◌≢◌, ◌⊎◌, inl, inr, ℕ, List, All, Contains, Option, refl, sym, ap, ◌∙◌, subst}
 use Rattle.std.proofs.lemmas.List.Elements.{All-push, All-weaker, All-contains, All-contains_itself}
-use Rattle.stateful_types.specs.Names.{Header, Named}
-use Rattle.stateful_types.specs.Anchor.{anchor_by}
-use Rattle.stateful_types.specs.Round.{IsLater}
-use Rattle.stateful_types.specs.declared.anchor.Anchor.{Anchor}
-use Rattle.stateful_types.specs.declared.digest.Digest.{Digest}
-use Rattle.stateful_types.specs.declared.round.Round.{Round}
+use Rattle.stateful_base.specs.Names.{Header, Named}
+use Rattle.stateful_base.specs.Anchor.{anchor_by}
+use Rattle.stateful_base.specs.Round.{IsLater}
+use Rattle.stateful_base.specs.declared.anchor.Anchor.{Anchor}
+use Rattle.stateful_base.specs.declared.digest.Digest.{Digest}
+use Rattle.stateful_base.specs.declared.round.Round.{Round}
 use Rattle.stateful_history.specs.Met.{Met, TrueNames}
 use Rattle.stateful_history.specs.Past.{Past}
 use Rattle.stateful_history.specs.declared.mark.How.{How}

@@ -1,9 +1,9 @@
 -- A block that is judged valid without a run is joined to the anchor, or the finalized one of its height.
 use Rattle.std.proofs.Common.{◌≡◌, ◌≢◌, ◌<◌, ◌⊎◌, inl, inr, ℕ, Option, None, Some, Bool, true, false, nat_lt, ◌==◌, if◌then◌else◌, sym, ◌∙◌, ap, subst, arith, refl, option_map}
 use Rattle.std.proofs.lemmas.Grind.{common_steps}
-use Rattle.stateful_types.specs.Names.{Named}
-use Rattle.stateful_types.specs.declared.anchor.Anchor.{Anchor}
-use Rattle.stateful_types.specs.declared.digest.Digest.{Digest}
+use Rattle.stateful_base.specs.Names.{Named}
+use Rattle.stateful_base.specs.declared.anchor.Anchor.{Anchor}
+use Rattle.stateful_base.specs.declared.digest.Digest.{Digest}
 use Rattle.stateful_history.specs.Anchors.{anchor_of, tip_of}
 use Rattle.stateful_history.specs.Canonical.{canonical, canonical_by, kept_at, pruned_below, IsCanonical}
 use Rattle.stateful_history.specs.Joined.{Joined}

@@ -1,9 +1,9 @@
 -- True verdicts are earned: those of a request that acquires what it needs, and of one that goes along its path.
 use Rattle.std.proofs.Common.{◌≡◌, ◌⊎◌, ◌++◌, inl, ℕ, List, [], ◌∷◌, All, Option, MatchOption, refl, sym, ap, ◌∙◌, subst}
 use Rattle.std.proofs.lemmas.List.Elements.{All-head}
-use Rattle.stateful_types.specs.Names.{Named}
-use Rattle.stateful_types.specs.declared.anchor.Anchor.{Anchor}
-use Rattle.stateful_types.specs.declared.digest.Digest.{Digest}
+use Rattle.stateful_base.specs.Names.{Named}
+use Rattle.stateful_base.specs.declared.anchor.Anchor.{Anchor}
+use Rattle.stateful_base.specs.declared.digest.Digest.{Digest}
 use Rattle.stateful_history.specs.Canonical.{IsCanonical}
 use Rattle.stateful_history.specs.Joined.{Joined, TrueIsEarned}
 use Rattle.stateful_history.specs.Known.{Known}

@@ -2,7 +2,7 @@
 use Rattle.std.proofs.Common.{◌≡◌, ◌++◌, ℕ, true, List, [], ◌∷◌, All, Option, sym, ap, ◌∙◌, subst}
 use Rattle.std.proofs.lemmas.List.{append_assoc, append-nil, append_cancel_left}
 use Rattle.std.proofs.lemmas.List.Elements.{All-head, All-tail}
-use Rattle.stateful_types.specs.Names.{Named}
+use Rattle.stateful_base.specs.Names.{Named}
 use Rattle.stateful_history.specs.Joined.{TrueIsEarned}
 use Rattle.stateful_history.specs.Past.{Past, Made, after}
 use Rattle.stateful_history.specs.declared.mark.Mark.{Mark}

@@ -1,10 +1,10 @@
 -- What is at hand goes over to a longer past and to points that agree there, with the runs that are left.
 use Rattle.std.proofs.Common.{◌≡◌, ◌≢◌, ◌==◌, not, ℕ, List, [], ◌∷◌, false, Option, IsSome, get_or, refl, sym, ◌∙◌, subst}
 use Rattle.std.proofs.lemmas.List.Kept.{AllPairs-filter}
-use Rattle.stateful_types.specs.Names.{Named}
-use Rattle.stateful_types.specs.declared.anchor.Anchor.{Anchor}
-use Rattle.stateful_types.specs.declared.digest.Digest.{Digest}
-use Rattle.stateful_types.specs.declared.outcome.Finality.TheVariants as finality
+use Rattle.stateful_base.specs.Names.{Named}
+use Rattle.stateful_base.specs.declared.anchor.Anchor.{Anchor}
+use Rattle.stateful_base.specs.declared.digest.Digest.{Digest}
+use Rattle.stateful_base.specs.declared.outcome.Finality.TheVariants as finality
 use Rattle.stateful_db.specs.Works.{run_of}
 use Rattle.stateful_history.specs.Past.{Past, Came, Made}
 use Rattle.stateful_history.specs.Jobs.{started_for, turns}

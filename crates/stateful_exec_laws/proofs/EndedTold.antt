@@ -1,10 +1,10 @@
 -- The tables stand after the end of a run as it is told, where no finalization goes on.
 use Rattle.std.proofs.Common.{◌≡◌, ◌+◌, ◌↔◌, inr, ℕ, List, [], ◌∷◌, Any, Option, Some, refl, ap}
-use Rattle.stateful_types.specs.Names.{Named}
-use Rattle.stateful_types.specs.declared.anchor.Anchor.{Anchor}
-use Rattle.stateful_types.specs.declared.digest.Digest.{Digest}
-use Rattle.stateful_types.specs.declared.outcome.Finality.TheVariants.{Candidate}
-use Rattle.stateful_types.specs.declared.outcome.Moved.TheVariants.{Done}
+use Rattle.stateful_base.specs.Names.{Named}
+use Rattle.stateful_base.specs.declared.anchor.Anchor.{Anchor}
+use Rattle.stateful_base.specs.declared.digest.Digest.{Digest}
+use Rattle.stateful_base.specs.declared.outcome.Finality.TheVariants.{Candidate}
+use Rattle.stateful_base.specs.declared.outcome.Moved.TheVariants.{Done}
 use Rattle.stateful_db.specs.Meaning.{outcome, Ends}
 use Rattle.stateful_db.specs.Works.{run_of}
 use Rattle.stateful_history.specs.Anchors.{tip_of}

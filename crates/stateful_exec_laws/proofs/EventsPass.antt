@@ -1,7 +1,7 @@
 -- The live build and the finalization that goes on stand behind items that say nothing of jobs.
 use Rattle.std.proofs.Common.{◌≡◌, ◌≢◌, ◌⊎◌, ℕ, ◌∷◌, Option, Some, None, IfSome, sym, ◌∙◌}
-use Rattle.stateful_types.specs.Names.{Named}
-use Rattle.stateful_types.specs.declared.digest.Digest.{Digest}
+use Rattle.stateful_base.specs.Names.{Named}
+use Rattle.stateful_base.specs.declared.digest.Digest.{Digest}
 use Rattle.stateful_history.specs.Past.{Past, Item}
 use Rattle.stateful_history.specs.Finalizations.{begun}
 use Rattle.stateful_history.specs.Jobs.{IsLiveJob}
@@ -14,7 +14,7 @@ use Rattle.stateful_exec_tables.specs.declared.state.Tables.{Tables}
 use Rattle.stateful_exec_laws.specs.Setting.{setting}
 use Rattle.stateful_exec_laws.specs.Building.{BuildStands}
 use Rattle.stateful_exec_laws.specs.Fronting.{RunsAs, HooksAs, FrontStands}
-use Rattle.stateful_types.specs.declared.anchor.Anchor.{Anchor}
+use Rattle.stateful_base.specs.declared.anchor.Anchor.{Anchor}
 use Rattle.stateful_exec_laws.proofs.Calm.{IsCalm, LeavesJob}
 use Rattle.stateful_exec_laws.proofs.Asking.{LeavesTicket}
 use Rattle.stateful_exec_laws.proofs.ConcludeStands.{TellsOf}

@@ -1,11 +1,11 @@
 -- A finalization goes on once it has begun, and for later pasts with the same tip.
 use Rattle.std.proofs.Common.{◌≡◌, ◌≢◌, inl, inr, ℕ, List, [], ◌∷◌, Contains, Option, MatchOption, map, sym, ap, ◌∙◌, subst, arith, refl}
 use Rattle.std.proofs.lemmas.List.Elements.{All-contains}
-use Rattle.stateful_types.specs.Names.{Named}
-use Rattle.stateful_types.specs.Round.{IsLater}
-use Rattle.stateful_types.specs.declared.anchor.Anchor.{Anchor}
-use Rattle.stateful_types.specs.declared.digest.Digest.{Digest}
-use Rattle.stateful_types.specs.declared.round.Round.{Round}
+use Rattle.stateful_base.specs.Names.{Named}
+use Rattle.stateful_base.specs.Round.{IsLater}
+use Rattle.stateful_base.specs.declared.anchor.Anchor.{Anchor}
+use Rattle.stateful_base.specs.declared.digest.Digest.{Digest}
+use Rattle.stateful_base.specs.declared.round.Round.{Round}
 use Rattle.stateful_history.specs.Anchors.{tip_of}
 use Rattle.stateful_history.specs.Finalizations.{IsChildOf}
 use Rattle.stateful_history.specs.Met.{Met}

@@ -1,9 +1,9 @@
 -- The finalization that goes on stands behind what says nothing of it; and what its begin says of the past.
 use Rattle.std.proofs.Common.{◌≡◌, ◌⊎◌, inl, inr, ℕ, List, ◌∷◌, [], Option, Some, None, IfSome, refl, ap, ◌∙◌, subst}
-use Rattle.stateful_types.specs.Names.{Header, Named}
-use Rattle.stateful_types.specs.Anchor.{anchor_by}
-use Rattle.stateful_types.specs.declared.anchor.Anchor.{Anchor}
-use Rattle.stateful_types.specs.declared.digest.Digest.{Digest}
+use Rattle.stateful_base.specs.Names.{Header, Named}
+use Rattle.stateful_base.specs.Anchor.{anchor_by}
+use Rattle.stateful_base.specs.declared.anchor.Anchor.{Anchor}
+use Rattle.stateful_base.specs.declared.digest.Digest.{Digest}
 use Rattle.stateful_history.specs.Setting.{Setting}
 use Rattle.stateful_history.specs.Past.{Past, Item, Came, Made}
 use Rattle.stateful_history.specs.Anchors.{tip_of}

@@ -1,7 +1,7 @@
 -- The marks of finalizations keep their rules.
 use Rattle.std.proofs.Common.{◌≡◌, ◌≤◌, inr, ℕ, [], ◌∷◌, List, Option, Some, None, refl, arith}
-use Rattle.stateful_types.specs.Names.{Named}
-use Rattle.stateful_types.specs.declared.anchor.Anchor.{Anchor}
+use Rattle.stateful_base.specs.Names.{Named}
+use Rattle.stateful_base.specs.declared.anchor.Anchor.{Anchor}
 use Rattle.stateful_history.specs.Anchors.{tip_of}
 use Rattle.stateful_history.specs.Finalizations.{finalized_since, IsChildOf, FinalizesInOrder}
 use Rattle.stateful_history.specs.Past.{Past, Came, EachMark}

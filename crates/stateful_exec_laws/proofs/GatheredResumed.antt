@@ -1,9 +1,9 @@
 -- What came with the requests that acquire anew what they need, after a pause, is linked.
 use Rattle.std.proofs.Common.{◌≡◌, ◌++◌, ℕ, List, [], ◌∷◌, All, Option, Some, get_or, is_none}
 use Rattle.std.proofs.lemmas.List.Elements.{All-filter, All-weaker}
-use Rattle.stateful_types.specs.Names.{Named}
-use Rattle.stateful_types.specs.declared.anchor.Anchor.{Anchor}
-use Rattle.stateful_types.specs.declared.digest.Digest.{Digest}
+use Rattle.stateful_base.specs.Names.{Named}
+use Rattle.stateful_base.specs.declared.anchor.Anchor.{Anchor}
+use Rattle.stateful_base.specs.declared.digest.Digest.{Digest}
 use Rattle.stateful_history.specs.Honest.{IsHonest, IsAnswered}
 use Rattle.stateful_history.specs.Numbers.{NumberIsNew}
 use Rattle.stateful_history.specs.Past.{Past, Made, EachMark, after}

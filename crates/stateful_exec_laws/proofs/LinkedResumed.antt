@@ -3,9 +3,9 @@ use Rattle.std.proofs.Common.{◌≡◌, ◌≢◌, ◌++◌, ℕ, not, get_or, 
 use Rattle.std.proofs.lemmas.List.{append_assoc}
 use Rattle.std.proofs.lemmas.List.Elements.{All-nil, All-filter}
 use Rattle.std.proofs.lemmas.List.Kept.{AllPairs-filter}
-use Rattle.stateful_types.specs.Names.{Named}
-use Rattle.stateful_types.specs.declared.anchor.Anchor.{Anchor}
-use Rattle.stateful_types.specs.declared.digest.Digest.{Digest}
+use Rattle.stateful_base.specs.Names.{Named}
+use Rattle.stateful_base.specs.declared.anchor.Anchor.{Anchor}
+use Rattle.stateful_base.specs.declared.digest.Digest.{Digest}
 use Rattle.stateful_history.specs.Honest.{IsHonest, IsAnswered}
 use Rattle.stateful_history.specs.Met.{Met, TrueNames}
 use Rattle.stateful_history.specs.Past.{Past, Made, EachMark, after}

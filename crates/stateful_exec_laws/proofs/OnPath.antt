@@ -1,7 +1,7 @@
 -- The blocks of a way are the first one of its request and ancestors of it.
 use Rattle.std.proofs.Common.{◌≡◌, ◌++◌, ℕ, List, [], ◌∷◌, All, Option, None, Some, MatchOption, refl, sym, ◌∙◌, subst}
 use Rattle.std.proofs.lemmas.List.Elements.{All-head, All-tail}
-use Rattle.stateful_types.specs.Names.{Named}
+use Rattle.stateful_base.specs.Names.{Named}
 use Rattle.stateful_history.specs.Ancestors.{Up, itself, above, IsOnPath}
 use Rattle.stateful_history.specs.Asked.{verified}
 use Rattle.stateful_history.specs.Met.{Met}

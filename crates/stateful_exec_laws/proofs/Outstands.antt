@@ -1,8 +1,8 @@
 -- The run and the hook of a finalization, and the live build, are outstanding work.
 use Rattle.std.proofs.Common.{◌≡◌, inl, inr, ℕ, Option, Some, None, refl, sym, subst}
-use Rattle.stateful_types.specs.Names.{Named}
-use Rattle.stateful_types.specs.declared.anchor.Anchor.{Anchor}
-use Rattle.stateful_types.specs.declared.digest.Digest.{Digest}
+use Rattle.stateful_base.specs.Names.{Named}
+use Rattle.stateful_base.specs.declared.anchor.Anchor.{Anchor}
+use Rattle.stateful_base.specs.declared.digest.Digest.{Digest}
 use Rattle.stateful_history.specs.Asked.{verified}
 use Rattle.stateful_history.specs.Jobs.{IsOutstandingFinalized, IsOutstandingHook, IsOutstandingBuild}
 use Rattle.stateful_history.specs.Met.{Met}

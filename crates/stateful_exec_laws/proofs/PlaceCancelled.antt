@@ -1,7 +1,7 @@
 -- The marks of a cancel have their cause, and so does the mark that a run ended.
 use Rattle.std.proofs.Common.{◌≡◌, inl, inr, ℕ, List, ◌∷◌, true, Option, None, Some, MatchOption, refl, sym, subst}
-use Rattle.stateful_types.specs.Names.{Named}
-use Rattle.stateful_types.specs.declared.digest.Digest.{Digest}
+use Rattle.stateful_base.specs.Names.{Named}
+use Rattle.stateful_base.specs.declared.digest.Digest.{Digest}
 use Rattle.stateful_history.specs.Ancestors.{Up, itself, above, IsOnPath}
 use Rattle.stateful_history.specs.Fetches.{WithdrawnHasCause}
 use Rattle.stateful_history.specs.Jobs.{JobOf, job_of, started_for}

@@ -8,7 +8,7 @@ use Rattle.stateful_history.specs.Numbers.{NumberIsNew}
 use Rattle.stateful_history.specs.Past.{Past, EachMark}
 use Rattle.stateful_history.specs.Runs.{StartsWell}
 use Rattle.stateful_history.specs.declared.mark.Mark.{Mark}
-use Rattle.stateful_types.specs.Names.{Named}
+use Rattle.stateful_base.specs.Names.{Named}
 use Rattle.stateful_exec.specs.Moments.{Moment}
 use Rattle.stateful_exec_tables.specs.Tables.{told}
 use Rattle.stateful_exec.specs.Rules.{Concludes}

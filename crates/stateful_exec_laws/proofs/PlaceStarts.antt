@@ -1,8 +1,8 @@
 -- The runs that are started for requests may run.
 use Rattle.std.proofs.Common.{◌≡◌, ◌≢◌, inl, inr, ℕ, false, List, [], All, Option, None, Some, IsSome, option_map, refl, sym, ap, ◌∙◌, subst}
-use Rattle.stateful_types.specs.Names.{Named}
-use Rattle.stateful_types.specs.declared.anchor.Anchor.{Anchor}
-use Rattle.stateful_types.specs.declared.digest.Digest.{Digest}
+use Rattle.stateful_base.specs.Names.{Named}
+use Rattle.stateful_base.specs.declared.anchor.Anchor.{Anchor}
+use Rattle.stateful_base.specs.declared.digest.Digest.{Digest}
 use Rattle.stateful_history.specs.Answers.{was_cancelled}
 use Rattle.stateful_history.specs.Jobs.{JobOf, job_of, IsLiveJob}
 use Rattle.stateful_history.specs.Known.{Known, IsUnknown}

@@ -1,9 +1,9 @@
 -- Marks stand in their places: the rule of the last turn of a run, and of what follows it.
 use Rattle.std.proofs.Common.{◌≡◌, ◌++◌, ℕ, Bool, true, false, ◌==◌, List, [], ◌∷◌, Option, None, Some, Ok, refl, subst}
-use Rattle.stateful_types.specs.Names.{Named}
-use Rattle.stateful_types.specs.declared.anchor.Anchor.{Anchor}
-use Rattle.stateful_types.specs.declared.digest.Digest.{Digest}
-use Rattle.stateful_types.specs.declared.outcome.Moved.TheVariants.{Done}
+use Rattle.stateful_base.specs.Names.{Named}
+use Rattle.stateful_base.specs.declared.anchor.Anchor.{Anchor}
+use Rattle.stateful_base.specs.declared.digest.Digest.{Digest}
+use Rattle.stateful_base.specs.declared.outcome.Moved.TheVariants.{Done}
 use Rattle.stateful_history.specs.Jobs.{job_of, started_for}
 use Rattle.stateful_history.specs.Past.{Past, Came, Made, EachMark, after}
 use Rattle.stateful_history.specs.declared.event.Event.TheVariants.{Turn}

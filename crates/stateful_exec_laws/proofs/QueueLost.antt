@@ -1,8 +1,8 @@
 -- A queued proposal whose parent isn't known any more is declined for a reason: its parent is lost, and stays so.
 use Rattle.std.proofs.Common.{◌≡◌, ◌≤◌, ◌⊎◌, inl, inr, ℕ, List, ◌∷◌, All, Option, Some, MatchOption, refl, sym, ◌∙◌, subst}
-use Rattle.stateful_types.specs.Names.{Named}
-use Rattle.stateful_types.specs.declared.anchor.Anchor.{Anchor}
-use Rattle.stateful_types.specs.declared.digest.Digest.{Digest}
+use Rattle.stateful_base.specs.Names.{Named}
+use Rattle.stateful_base.specs.declared.anchor.Anchor.{Anchor}
+use Rattle.stateful_base.specs.declared.digest.Digest.{Digest}
 use Rattle.stateful_history.specs.Anchors.{tip_of}
 use Rattle.stateful_history.specs.Declines.{IsOutOfReach, MayDecline, DeclinedHasReason}
 use Rattle.stateful_history.specs.Known.{Known, is_tip, kept, stays, IsUnknown, IsPastTip}

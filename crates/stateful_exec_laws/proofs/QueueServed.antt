@@ -1,7 +1,7 @@
 -- The parents of queued proposals are known or lost behind a request that is served.
 use Rattle.std.proofs.Common.{◌≡◌, ◌==◌, ◌⊎◌, if◌then◌else◌, inl, inr, ℕ, Bool, true, false, List, [], ◌∷◌, All, Option, Some, sym, ap}
 use Rattle.std.proofs.lemmas.List.Elements.{All-weaker}
-use Rattle.stateful_types.specs.Names.{Named}
+use Rattle.stateful_base.specs.Names.{Named}
 use Rattle.stateful_history.specs.Met.{Met, TrueNames}
 use Rattle.stateful_history.specs.Past.{Past, Came, Made, after}
 use Rattle.stateful_history.specs.Requests as requests

@@ -1,7 +1,7 @@
 -- A path that is ready to be run goes down to a block at hand.
 use Rattle.std.proofs.Common.{ℕ, List, Option}
-use Rattle.stateful_types.specs.Names.{Header, Named}
-use Rattle.stateful_types.specs.declared.anchor.Anchor.{Anchor}
+use Rattle.stateful_base.specs.Names.{Header, Named}
+use Rattle.stateful_base.specs.declared.anchor.Anchor.{Anchor}
 use Rattle.stateful_exec_cache.specs.Cache.{IsAtHand}
 use Rattle.stateful_exec_cache.specs.declared.cache.Cached.{Cached}
 use Rattle.stateful_exec_tables.specs.Path.{Path}

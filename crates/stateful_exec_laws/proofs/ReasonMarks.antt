@@ -1,7 +1,7 @@
 -- False verdicts and declines have their reasons: the rule on both, and what is told of a request that ends.
 use Rattle.std.proofs.Common.{◌≢◌, ℕ, List, Option, MatchOption, inl, inr, refl, sym, subst}
-use Rattle.stateful_types.specs.Names.{Named}
-use Rattle.stateful_types.specs.declared.anchor.Anchor.{Anchor}
+use Rattle.stateful_base.specs.Names.{Named}
+use Rattle.stateful_base.specs.declared.anchor.Anchor.{Anchor}
 use Rattle.stateful_history.specs.Canonical.{IsCanonical}
 use Rattle.stateful_history.specs.Declines.{MayDecline, DeclinedHasReason}
 use Rattle.stateful_history.specs.Past.{Past, EachMark}

@@ -1,8 +1,8 @@
 -- Where nothing pauses, each request in the tables waits for outstanding work.
 use Rattle.std.proofs.Common.{◌≡◌, ℕ, Option, None, Some, MatchOption, refl, sym, ◌∙◌, subst}
-use Rattle.stateful_types.specs.Names.{Named}
-use Rattle.stateful_types.specs.declared.anchor.Anchor.{Anchor}
-use Rattle.stateful_types.specs.declared.digest.Digest.{Digest}
+use Rattle.stateful_base.specs.Names.{Named}
+use Rattle.stateful_base.specs.declared.anchor.Anchor.{Anchor}
+use Rattle.stateful_base.specs.declared.digest.Digest.{Digest}
 use Rattle.stateful_history.specs.Fetches.{Abstains}
 use Rattle.stateful_history.specs.Jobs.{IsOutstandingCandidate, HasOutstandingBuild}
 use Rattle.stateful_history.specs.Past.{Past}

@@ -1,8 +1,8 @@
 -- The tables stand behind the parked requests that go along their paths.
 use Rattle.std.proofs.Common.{◌≡◌, is_none, ℕ, get_or, false, List, [], ◌∷◌, All, Option, Some, refl, subst}
 use Rattle.std.proofs.lemmas.List.Elements.{All-nil}
-use Rattle.stateful_types.specs.Names.{Named}
-use Rattle.stateful_types.specs.declared.digest.Digest.{Digest}
+use Rattle.stateful_base.specs.Names.{Named}
+use Rattle.stateful_base.specs.declared.digest.Digest.{Digest}
 use Rattle.stateful_history.specs.Past.{Past}
 use Rattle.stateful_history.specs.Met.{Met, TrueNames}
 use Rattle.stateful_exec.specs.Ending.{InTurn}

@@ -6,10 +6,10 @@ use Rattle.std.specs.declared.cmp.Ordering.TheVariants.{Less, Equal, Greater}
 use Rattle.std.proofs.lemmas.Cmp.{ranked}
 use Rattle.std.proofs.lemmas.List.Elements.{All-cons, All-nil, All-weaker, Contains-push, Contains-append_left, Contains-append_right}
 use Rattle.std.proofs.lemmas.Map.Made.{Contains-tail}
-use Rattle.stateful_types.specs.Names.{Header}
-use Rattle.stateful_types.specs.Round.{IsLater}
-use Rattle.stateful_types.specs.declared.digest.Digest.{Digest}
-use Rattle.stateful_types.specs.declared.round.Round.{Round}
+use Rattle.stateful_base.specs.Names.{Header}
+use Rattle.stateful_base.specs.Round.{IsLater}
+use Rattle.stateful_base.specs.declared.digest.Digest.{Digest}
+use Rattle.stateful_base.specs.declared.round.Round.{Round}
 use Rattle.stateful_exec_tables.specs.Boundary.{Boundary, step_by, IsRetained}
 use Rattle.stateful_exec_tables.specs.Pausing.{IsAwaited, IsCount, none, one, other, AwaitsRuns}
 use Rattle.stateful_exec_tables.specs.declared.boundary.ExecutionStep.{ExecutionStep}

@@ -1,7 +1,7 @@
 -- Chains from a block on that is next to the first: what follows it goes on from it.
 use Rattle.std.proofs.Common.{◌≡◌, ◌≢◌, List, ◌∷◌, ap, ◌∙◌, subst}
-use Rattle.stateful_types.specs.Names.{Named}
-use Rattle.stateful_types.specs.declared.digest.Digest.{Digest}
+use Rattle.stateful_base.specs.Names.{Named}
+use Rattle.stateful_base.specs.declared.digest.Digest.{Digest}
 use Rattle.stateful_exec.specs.Workings.{Workings, Point}
 use Rattle.stateful_exec_laws.specs.Chains.{Stacked, here, further}
 

@@ -2,9 +2,9 @@
 use Rattle.std.proofs.Common.{rules, ◌≡◌, ◌≢◌, ◌==◌, not, ℕ, true, false, List, [], ◌∷◌, All, Option, Some, None, IsSome, MatchOption, get_or, refl, sym, ap, ◌∙◌, subst}
 use Rattle.std.proofs.lemmas.Bool.{eq-eqb}
 use Rattle.std.proofs.lemmas.List.Kept.{AllPairs-filter}
-use Rattle.stateful_types.specs.Names.{Named}
-use Rattle.stateful_types.specs.declared.anchor.Anchor.{Anchor}
-use Rattle.stateful_types.specs.declared.digest.Digest.{Digest}
+use Rattle.stateful_base.specs.Names.{Named}
+use Rattle.stateful_base.specs.declared.anchor.Anchor.{Anchor}
+use Rattle.stateful_base.specs.declared.digest.Digest.{Digest}
 use Rattle.stateful_history.specs.Past.{Past, Item, Came, Made}
 use Rattle.stateful_history.specs.Live.{live_job}
 use Rattle.stateful_history.specs.declared.event.Event.TheVariants.{Cancel}

@@ -2,11 +2,11 @@
 use Rattle.std.proofs.Common.{◌≡◌, ◌<◌, ◌+◌, ◌==◌, inl, inr, option_map, ℕ, Bool, true, false, List, [], ◌∷◌, Option, None, Some, Ok, get_or, refl, sym, ap, ◌∙◌, subst}
 use Rattle.std.proofs.lemmas.Bool.{eqb-true, eq-eqb}
 use Rattle.std.proofs.lemmas.List.Elements.{All-weaker}
-use Rattle.stateful_types.specs.Names.{Named}
-use Rattle.stateful_types.specs.declared.anchor.Anchor.{Anchor}
-use Rattle.stateful_types.specs.declared.digest.Digest.{Digest}
-use Rattle.stateful_types.specs.declared.outcome.Finality.TheVariants as finality
-use Rattle.stateful_types.specs.declared.outcome.Moved.TheVariants.{Pending}
+use Rattle.stateful_base.specs.Names.{Named}
+use Rattle.stateful_base.specs.declared.anchor.Anchor.{Anchor}
+use Rattle.stateful_base.specs.declared.digest.Digest.{Digest}
+use Rattle.stateful_base.specs.declared.outcome.Finality.TheVariants as finality
+use Rattle.stateful_base.specs.declared.outcome.Moved.TheVariants.{Pending}
 use Rattle.stateful_db.specs.Works.{run_of, Costs}
 use Rattle.stateful_history.specs.Jobs.{JobOf, job_of, started_for, turns}
 use Rattle.stateful_history.specs.Met.{Met, TrueNames}

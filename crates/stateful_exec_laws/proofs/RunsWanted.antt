@@ -1,7 +1,7 @@
 -- Each candidate run has a live request that stands on its block.
 use Rattle.std.proofs.Common.{◌≡◌, ◌≢◌, ℕ, zero, suc, eqb-true, Bool, true, false, List, [], ◌∷◌, All, Any, Option, None, Some, IsSome, option_map, refl, sym, ap, ◌∙◌, subst, arith}
-use Rattle.stateful_types.specs.Names.{Named}
-use Rattle.stateful_types.specs.declared.digest.Digest.{Digest}
+use Rattle.stateful_base.specs.Names.{Named}
+use Rattle.stateful_base.specs.declared.digest.Digest.{Digest}
 use Rattle.stateful_history.specs.Jobs.{JobOf, job_of, IsLiveJob}
 use Rattle.stateful_history.specs.Past.{Past}
 use Rattle.stateful_history.specs.Requests.{StandsOn, IsLiveRequest}

@@ -1,9 +1,9 @@
 -- A longer past with the same anchor, tip and blocks: what is told of states and of final blocks stays.
 use Rattle.std.proofs.Common.{◌≡◌, ◌↔◌, ℕ, List, [], ◌∷◌, All, Option, None, Some, refl, ap, ◌∙◌}
 use Rattle.std.proofs.lemmas.List.Elements.{All-head, All-tail}
-use Rattle.stateful_types.specs.Names.{Named}
-use Rattle.stateful_types.specs.declared.anchor.Anchor.{Anchor}
-use Rattle.stateful_types.specs.declared.digest.Digest.{Digest}
+use Rattle.stateful_base.specs.Names.{Named}
+use Rattle.stateful_base.specs.declared.anchor.Anchor.{Anchor}
+use Rattle.stateful_base.specs.declared.digest.Digest.{Digest}
 use Rattle.stateful_history.specs.Anchors.{applied, anchor_of, tip_of}
 use Rattle.stateful_history.specs.Canonical.{canonical, canonical_by, pruned_below}
 use Rattle.stateful_history.specs.Met.{Met}

@@ -1,8 +1,8 @@
 -- A request in hand is served, and the others in hand stay so.
 use Rattle.std.proofs.Common.{◌≡◌, ◌≢◌, ◌↔◌, inl, inr, ℕ, true, false, List, [], ◌∷◌, All, Option, refl, ◌∙◌}
 use Rattle.std.proofs.lemmas.List.Elements.{All-weaker}
-use Rattle.stateful_types.specs.Names.{Named}
-use Rattle.stateful_types.specs.declared.digest.Digest.{Digest}
+use Rattle.stateful_base.specs.Names.{Named}
+use Rattle.stateful_base.specs.declared.digest.Digest.{Digest}
 use Rattle.stateful_history.specs.Past.{Past, Item, Made, after}
 use Rattle.stateful_history.specs.Fetches.{Abstains}
 use Rattle.stateful_history.specs.Met.{Met, Brings}

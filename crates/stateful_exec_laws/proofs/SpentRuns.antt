@@ -1,7 +1,7 @@
 -- A run that ended in vain is started again only for another request: that is kept over the marks of requests.
 use Rattle.std.proofs.Common.{◌≡◌, ◌≢◌, ◌⊎◌, ◌++◌, inl, inr, ℕ, zero, suc, List, [], ◌∷◌, Any, Option, None, Some, option_map, MatchOption, refl, sym, ap, ◌∙◌, subst, arith}
-use Rattle.stateful_types.specs.Names.{Named}
-use Rattle.stateful_types.specs.declared.digest.Digest.{Digest}
+use Rattle.stateful_base.specs.Names.{Named}
+use Rattle.stateful_base.specs.declared.digest.Digest.{Digest}
 use Rattle.stateful_history.specs.Ancestors.{IsOnPath}
 use Rattle.stateful_history.specs.Jobs.{JobOf, job_of, started_for}
 use Rattle.stateful_history.specs.Known.{Known, IsUnknown}

@@ -1,8 +1,8 @@
 -- What comes under a ticket tells of it alone, and so does what answers it; barriers and prunes tell of none.
 use Rattle.std.proofs.Common.{ℕ, Bool, Option, refl, sym, ◌∙◌}
-use Rattle.stateful_types.specs.Names.{Named}
-use Rattle.stateful_types.specs.declared.block.Ancestry.{Ancestry}
-use Rattle.stateful_types.specs.declared.number.Height.{Height}
+use Rattle.stateful_base.specs.Names.{Named}
+use Rattle.stateful_base.specs.declared.block.Ancestry.{Ancestry}
+use Rattle.stateful_base.specs.declared.number.Height.{Height}
 use Rattle.stateful_history.specs.Setting.{Setting}
 use Rattle.stateful_history.specs.Past.{Past, Item, Came, Made}
 use Rattle.stateful_history.specs.declared.event.Event.TheVariants.{Verify, Prepare, Propose, Subscribe, Finalized}

@@ -1,7 +1,7 @@
 -- What is still to come of the finalization that goes on.
 use Rattle.std.specs.Prelude.{◌≡◌, false, Option, Some, None, List}
-use Rattle.stateful_types.specs.Names.{Named}
-use Rattle.stateful_types.specs.declared.digest.Digest.{Digest}
+use Rattle.stateful_base.specs.Names.{Named}
+use Rattle.stateful_base.specs.declared.digest.Digest.{Digest}
 use Rattle.stateful_history.specs.Setting.{Setting}
 use Rattle.stateful_history.specs.Past.{Past}
 use Rattle.stateful_history.specs.Finalizations.{begun}

@@ -1,7 +1,7 @@
 -- What tickets and runs of a past keep, whatever the tables are.
 use Rattle.std.specs.Prelude.{◌≡◌, ℕ, false, Option}
-use Rattle.stateful_types.specs.Names.{Named}
-use Rattle.stateful_types.specs.declared.digest.Digest.{Digest}
+use Rattle.stateful_base.specs.Names.{Named}
+use Rattle.stateful_base.specs.declared.digest.Digest.{Digest}
 use Rattle.stateful_history.specs.Answers.{was_cancelled}
 use Rattle.stateful_history.specs.Past.{Past}
 use Rattle.stateful_history.specs.Requests.{IsLiveRequest}

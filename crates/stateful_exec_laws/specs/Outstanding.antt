@@ -1,7 +1,7 @@
 -- What the tables keep beside, for all that is unanswered to wait for outstanding work.
 use Rattle.std.specs.Prelude.{◌≡◌, ◌≢◌, ◌<◌, ℕ, Option, None, Some, List, All}
-use Rattle.stateful_types.specs.Names.{Named}
-use Rattle.stateful_types.specs.declared.outcome.Finality.TheVariants as finality
+use Rattle.stateful_base.specs.Names.{Named}
+use Rattle.stateful_base.specs.declared.outcome.Finality.TheVariants as finality
 use Rattle.stateful_history.specs.Asked.{verified}
 use Rattle.stateful_history.specs.Jobs.{turns}
 use Rattle.stateful_history.specs.Past.{Past}

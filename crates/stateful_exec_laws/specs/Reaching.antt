@@ -1,6 +1,6 @@
 -- What the queue keeps beside: the parent of each proposal is known, or can't be made known.
 use Rattle.std.specs.Prelude.{◌⊎◌, ℕ, Option, List, All}
-use Rattle.stateful_types.specs.Names.{Named}
+use Rattle.stateful_base.specs.Names.{Named}
 use Rattle.stateful_history.specs.Known.{Known, IsPastTip}
 use Rattle.stateful_history.specs.Met.{Met}
 use Rattle.stateful_history.specs.Past.{Past}

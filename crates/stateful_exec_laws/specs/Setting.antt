@@ -1,6 +1,6 @@
 -- How execution's workings are seen by the definitions over pasts.
 use Rattle.std.specs.Prelude.{ℕ, Option}
-use Rattle.stateful_types.specs.Names.{Named}
+use Rattle.stateful_base.specs.Names.{Named}
 use Rattle.stateful_history.specs.Setting.{Setting}
 use Rattle.stateful_exec.specs.Workings.{Workings}
 

@@ -1,6 +1,6 @@
 -- What the store has.
 use Rattle.std.proofs.Common.{◌≡◌, ℕ, Option, None, nat_lt, if◌then◌else◌}
-use Rattle.stateful_types.specs.Names.{Named}
+use Rattle.stateful_base.specs.Names.{Named}
 use Rattle.stateful_history.specs.Canonical.{pruned_below}
 use Rattle.stateful_history.specs.Past.{Past}
 

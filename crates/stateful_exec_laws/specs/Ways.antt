@@ -1,8 +1,8 @@
 -- What requests keep that go along their ways: nothing that is final stands on these.
 use Rattle.std.specs.Prelude.{◌≡◌, ◌≢◌, ℕ, Option, List, All}
-use Rattle.stateful_types.specs.Names.{Named}
-use Rattle.stateful_types.specs.declared.anchor.Anchor.{Anchor}
-use Rattle.stateful_types.specs.declared.digest.Digest.{Digest}
+use Rattle.stateful_base.specs.Names.{Named}
+use Rattle.stateful_base.specs.declared.anchor.Anchor.{Anchor}
+use Rattle.stateful_base.specs.declared.digest.Digest.{Digest}
 use Rattle.stateful_history.specs.Canonical.{IsCanonical}
 use Rattle.stateful_history.specs.Past.{Past}
 use Rattle.stateful_exec_cache.specs.Cache.{IsIn, IsAtHand}

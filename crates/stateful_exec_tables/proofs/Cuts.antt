@@ -1,7 +1,7 @@
 -- Cuts of the cache, and boundaries.
 use Rattle.std.proofs.Common.{◌≡◌, ◌≢◌, ◌↔◌, ◌⊎◌, inl, inr, Option, Some, None, IfNone, MatchOption, List, All, subst}
-use Rattle.stateful_types.specs.declared.digest.Digest.{Digest}
-use Rattle.stateful_types.specs.declared.anchor.Anchor.{Anchor}
+use Rattle.stateful_base.specs.declared.digest.Digest.{Digest}
+use Rattle.stateful_base.specs.declared.anchor.Anchor.{Anchor}
 use Rattle.stateful_exec_cache.specs.Cut.{IsRootOf}
 use Rattle.stateful_exec_cache.specs.declared.cache.Cached.{Cached}
 

@@ -1,6 +1,6 @@
 -- What becomes of a request that has waited for a run.
 use Rattle.std.proofs.Common.{◌↔◌, inl, inr}
-use Rattle.stateful_types.specs.Names.{Header, Named}
+use Rattle.stateful_base.specs.Names.{Header, Named}
 use Rattle.stateful_history.specs.declared.mark.How.{How}
 use Rattle.stateful_exec_tables.specs.Fates.{IsFate}
 use Rattle.stateful_exec_tables.specs.declared.pause.Pause.{Pause}

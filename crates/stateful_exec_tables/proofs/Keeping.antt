@@ -2,9 +2,9 @@
 use Rattle.std.proofs.Common.{◌≡◌, ◌≢◌, ◌++◌, ◌∷◌, [], List, All, refl, sym, ◌∙◌, ap, subst, inl, inr}
 use Rattle.std.specs.List.{Contains}
 use Rattle.std.proofs.lemmas.List.Elements.{All-contains}
-use Rattle.stateful_types.specs.Names.{Header, Named}
-use Rattle.stateful_types.specs.Round.{IsLater}
-use Rattle.stateful_types.specs.declared.anchor.Anchor.{Anchor}
+use Rattle.stateful_base.specs.Names.{Header, Named}
+use Rattle.stateful_base.specs.Round.{IsLater}
+use Rattle.stateful_base.specs.declared.anchor.Anchor.{Anchor}
 use Rattle.stateful_exec_cache.specs.Cache.{IsIn, IsAtHand}
 use Rattle.stateful_exec_cache.specs.declared.cache.Cached.{Cached}
 use Rattle.stateful_history.specs.declared.mark.How.TheVariants.{Kept, Missed}

@@ -1,7 +1,7 @@
 -- Proposals that leave the queue.
 use Rattle.std.proofs.Common.{◌≡◌, ◌+◌, ℕ, List, Some, None, Result, IfErr, IsErrAnd, sym, ap, ◌∙◌, subst}
 use Rattle.std.proofs.lemmas.Result.{err_from_is_err_and}
-use Rattle.stateful_types.specs.Names.{Named}
+use Rattle.stateful_base.specs.Names.{Named}
 use Rattle.stateful_table.specs.Table.{at, without}
 use Rattle.stateful_exec_tables.specs.Tables.{IsLeft}
 use Rattle.stateful_exec_tables.specs.Tables.{Knows}

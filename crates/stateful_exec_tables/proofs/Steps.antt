@@ -1,6 +1,6 @@
 -- The next step of a request's path.
 use Rattle.std.proofs.Common.{◌≡◌, ◌≢◌, ◌++◌, ◌∷◌, [], ℕ, List, Option, Some, None, IfSome, IfNone, refl, sym, ap, subst, ◌∙◌}
-use Rattle.stateful_types.specs.Names.{Header, Named}
+use Rattle.stateful_base.specs.Names.{Header, Named}
 use Rattle.stateful_table.specs.Table.{at}
 use Rattle.stateful_exec_tables.specs.Cancelling.{IsIdle}
 use Rattle.stateful_exec_tables.specs.Path.{Path, IsLastOf}

@@ -1,11 +1,11 @@
 -- How runs cross a finalization.
 use Rattle.std.specs.Prelude.{◌≡◌, ◌≢◌, ◌↔◌, ◌⊎◌, List, Contains}
-use Rattle.stateful_types.specs.Names.{Header, Named}
-use Rattle.stateful_types.specs.Round.{IsLater}
-use Rattle.stateful_types.specs.declared.digest.Digest.{Digest}
-use Rattle.stateful_types.specs.declared.round.Round.{Round}
+use Rattle.stateful_base.specs.Names.{Header, Named}
+use Rattle.stateful_base.specs.Round.{IsLater}
+use Rattle.stateful_base.specs.declared.digest.Digest.{Digest}
+use Rattle.stateful_base.specs.declared.round.Round.{Round}
 use Rattle.stateful_exec_tables.specs.declared.boundary.ExecutionStep.{ExecutionStep}
-use Rattle.stateful_types.specs.Anchor.{anchor_by}
+use Rattle.stateful_base.specs.Anchor.{anchor_by}
 use Rattle.stateful_exec_cache.specs.Cache.{IsIn}
 use Rattle.stateful_exec_cache.specs.Cut.{IsCutTo}
 use Rattle.stateful_exec_cache.specs.declared.cache.Cached.{Cached}

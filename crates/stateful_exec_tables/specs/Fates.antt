@@ -1,6 +1,6 @@
 -- What the end of a run leads to, under a pause.
 use Rattle.std.specs.Prelude.{◌≡◌, ◌≢◌, ◌⊎◌, ℕ}
-use Rattle.stateful_types.specs.Names.{Header, Named}
+use Rattle.stateful_base.specs.Names.{Header, Named}
 use Rattle.stateful_history.specs.declared.mark.How.{How}
 use Rattle.stateful_history.specs.declared.mark.How.TheVariants.{Kept}
 use Rattle.stateful_exec_tables.specs.Boundary.{step_by, IsRetained, Completes}

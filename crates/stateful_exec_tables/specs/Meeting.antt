@@ -1,6 +1,6 @@
 -- What a request meets on its path.
 use Rattle.std.specs.Prelude.{◌≡◌, ◌≢◌, ◌+◌, ◌++◌, ◌∷◌, [], List, All}
-use Rattle.stateful_types.specs.Names.{Header, Named}
+use Rattle.stateful_base.specs.Names.{Header, Named}
 use Rattle.stateful_exec_tables.specs.Boundary.{step_by, IsRetained}
 use Rattle.stateful_exec_tables.specs.Path.{Path, IsLastOf}
 use Rattle.stateful_exec_tables.specs.declared.state.Tables.{Tables}

@@ -2,7 +2,7 @@
 use Rattle.std.specs.Prelude.{◌≡◌, ◌↔◌, ◌+◌, ◌∷◌, [], ℕ, Option, Some, None, List, map, Contains}
 use Rattle.std.specs.List.Sorted.{IsStrictlySortedBy}
 use Rattle.std.specs.Ordering.{nat_cmp}
-use Rattle.stateful_types.specs.Names.{Header, Named}
+use Rattle.stateful_base.specs.Names.{Header, Named}
 use Rattle.stateful_history.specs.declared.mark.Mark.{Mark}
 use Rattle.stateful_exec_tables.specs.Boundary.{Boundary, step_by, IsRetained}
 use Rattle.stateful_exec_tables.specs.Phase.{dropped}

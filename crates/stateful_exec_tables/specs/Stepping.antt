@@ -1,6 +1,6 @@
 -- The next step of a request's path.
 use Rattle.std.specs.Prelude.{◌≡◌, ◌++◌, ◌∷◌, [], ℕ, Bool, true, false, Option, Some, None, List}
-use Rattle.stateful_types.specs.Names.{Header, Named}
+use Rattle.stateful_base.specs.Names.{Header, Named}
 use Rattle.stateful_table.specs.Table.{at}
 use Rattle.stateful_exec_tables.specs.Path.{Path, IsLastOf}
 use Rattle.stateful_exec_tables.specs.Walk.{IsPrepared}

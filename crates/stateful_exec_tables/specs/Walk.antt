@@ -1,8 +1,8 @@
 -- What a walk from a block through its ancestors finds.
 use Rattle.std.specs.Prelude.{◌≡◌, ◌≢◌, ◌⊎◌, ◌++◌, ◌∷◌, [], ℕ, Option, List, take}
-use Rattle.stateful_types.specs.Names.{Header, Named}
-use Rattle.stateful_types.specs.declared.digest.Digest.{Digest}
-use Rattle.stateful_types.specs.declared.anchor.Anchor.{Anchor}
+use Rattle.stateful_base.specs.Names.{Header, Named}
+use Rattle.stateful_base.specs.declared.digest.Digest.{Digest}
+use Rattle.stateful_base.specs.declared.anchor.Anchor.{Anchor}
 use Rattle.stateful_exec_cache.specs.Cache.{IsAtHand}
 use Rattle.stateful_exec_cache.specs.Judgement.{IsJudged}
 use Rattle.stateful_exec_cache.specs.declared.cache.Cached.{Cached}

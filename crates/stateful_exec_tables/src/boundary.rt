@@ -16,8 +16,8 @@ ghost use Rattle.std.specs.Prelude.{◌≡◌, ◌↔◌, IsTrue, IfOk, OnOk, On
 ghost use Rattle.stateful_exec_tables.specs.Boundary.{step_by, Completes, IsRetained};
 ghost use Rattle.stateful_exec_tables.specs.Boundary.{IsBoundaryOf};
 
+use stateful_base::{Anchor, Block, Digest, Digested, OutOfMemory, Round};
 use stateful_exec_cache::Cache;
-use stateful_types::{Anchor, Block, Digest, Digested, OutOfMemory, Round};
 use std::alloc::Global;
 use std::collections::BTreeSet;
 use std::marker::Model;

@@ -1,13 +1,13 @@
 //! The cut of the cache to a new anchor.
 
 ghost use Rattle.std.specs.Prelude.{◌≡◌, ◌≢◌, All, OnOk, IfOk, IfSome, IfNone};
-ghost use Rattle.stateful_types.specs.Anchor.{anchor_by};
+ghost use Rattle.stateful_base.specs.Anchor.{anchor_by};
 ghost use Rattle.stateful_exec_cache.specs.Cut.{IsCutTo, IsRootOf};
 ghost use Rattle.stateful_exec_tables.specs.Tables.{Rises};
 
 use crate::state::Tables;
+use stateful_base::{Anchor, Block, Digested, OutOfMemory};
 use stateful_exec_cache::{Cache, Cut};
-use stateful_types::{Anchor, Block, Digested, OutOfMemory};
 use std::mem;
 
 impl<B: Block + Drop, C: Copy, I: Drop, R: Drop, U: Drop> Tables<B, C, I, R, U> {

@@ -1,6 +1,6 @@
 //! What a request meets on its path.
 
-use stateful_types::Digested;
+use stateful_base::Digested;
 
 /// What a request meets on its path.
 #[derive(Drop)]

@@ -13,7 +13,7 @@ ghost use Rattle.std.specs.Prelude.{◌≡◌, ◌≢◌, ◌++◌, ◌∷◌, [
 ghost use Rattle.std.specs.Option.{option_copied};
 ghost use Rattle.stateful_exec_tables.specs.Path.{IsLastOf};
 
-use stateful_types::{Digested, OutOfMemory, Share};
+use stateful_base::{Digested, OutOfMemory, Share};
 use std::alloc::Global;
 use std::marker::Model;
 use std::mem;

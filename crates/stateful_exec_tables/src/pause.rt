@@ -5,8 +5,8 @@ ghost use Rattle.stateful_exec_tables.specs.Fates.{Crosses, IsFate};
 
 use crate::boundary::{Disposition, ExecutionStep, FinalizationBoundary};
 use crate::tables::Fate;
+use stateful_base::{Block, Digested, OutOfMemory};
 use stateful_history::How;
-use stateful_types::{Block, Digested, OutOfMemory};
 
 /// Whether execution is paused, and for what.
 #[derive(Drop)]

@@ -27,9 +27,9 @@ use crate::pause::Pause;
 use crate::request::Request;
 use crate::state::Tables;
 use crate::tables::{Phase, Released, Requested};
+use stateful_base::{Block, Digested, OutOfMemory};
 use stateful_history::Mark;
 use stateful_table::Table;
-use stateful_types::{Block, Digested, OutOfMemory};
 use std::collections::BTreeSet;
 use std::mem;
 

@@ -9,8 +9,8 @@ use crate::error::ExecError;
 use crate::queued::Queued;
 use crate::request::Proposal;
 use crate::state::Tables;
+use stateful_base::{Block, Digested, Rounded, Share};
 use stateful_history::How;
-use stateful_types::{Block, Digested, Rounded, Share};
 
 impl<B: Block + Drop, C: Copy, I: Drop, R: Drop, U: Drop> Tables<B, C, I, R, U> {
     /// The number of the next job is drawn. `Exhausted` exactly where that is the last one.

@@ -15,8 +15,8 @@
 ghost use Rattle.std.specs.Prelude.{◌≡◌};
 ghost use Rattle.stateful_exec_tables.specs.Request.{ticket_by};
 
+use stateful_base::Ancestry;
 use stateful_db::ProposalKind;
-use stateful_types::Ancestry;
 
 /// A request, over blocks `B`, contexts `C` and inputs `I`.
 #[derive(Drop)]

@@ -28,8 +28,8 @@ ghost use Rattle.stateful_exec_tables.specs.declared.tables.Phase.TheVariants as
 use crate::request::{Request, Verdict};
 use crate::state::Tables;
 use crate::tables::{Phase, Requested};
+use stateful_base::{Block, Digested, OutOfMemory};
 use stateful_history::{How, Mark};
-use stateful_types::{Block, Digested, OutOfMemory};
 
 impl<B, C, I> Requested<B, C, I> {
     /// With one block more that was fetched for it.

@@ -27,10 +27,10 @@ use crate::pause::Pause;
 use crate::request::{Proposal, Request, Verdict};
 use crate::tables::{Fate, LiveRun, Phase, Released, Requested};
 use crate::tickets::Tickets;
+use stateful_base::{Anchor, Block, Digest, Digested, Items, OutOfMemory, Share};
 use stateful_exec_cache::{Cache, Cached, knows};
 use stateful_history::{How, Mark};
 use stateful_table::Table;
-use stateful_types::{Anchor, Block, Digest, Digested, Items, OutOfMemory, Share};
 use std::alloc::Global;
 
 /// What execution keeps, over blocks `B`, contexts `C`, inputs `I`, runs `R` and sealed batches

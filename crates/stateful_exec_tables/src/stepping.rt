@@ -2,7 +2,7 @@
 
 ghost use Rattle.std.specs.Prelude.{◌≡◌, ◌≢◌, ◌↔◌, ◌++◌, ◌∷◌, [], IsTrue, IfOk, IfSome, IfNone};
 ghost use Rattle.std.specs.Option.{option_copied};
-ghost use Rattle.stateful_types.specs.Names.{Named};
+ghost use Rattle.stateful_base.specs.Names.{Named};
 ghost use Rattle.stateful_exec_tables.specs.Boundary.{step_by};
 ghost use Rattle.stateful_exec_tables.specs.Cancelling.{IsIdle};
 ghost use Rattle.stateful_exec_tables.specs.Meeting.{JoinsAs, MeetsOnKnown};
@@ -18,7 +18,7 @@ use crate::request::Request;
 use crate::state::Tables;
 use crate::tables::{Phase, Requested};
 use crate::walk::{Acquired, prepare};
-use stateful_types::{Block, BlockStore, Digested, OutOfMemory};
+use stateful_base::{Block, BlockStore, Digested, OutOfMemory};
 
 impl<B> Phase<B> {
     /// Whether the request waits for no run and no fetch.

@@ -18,7 +18,7 @@ ghost use Rattle.stateful_exec_tables.specs.Tables.{requested};
 
 use crate::path::ReplayPath;
 use crate::request::Request;
-use stateful_types::{Digested, Items};
+use stateful_base::{Digested, Items};
 use std::alloc::Global;
 
 /// A candidate run that goes on.

@@ -19,8 +19,8 @@ ghost use Rattle.stateful_exec_tables.specs.Walk.{Walks, StandsAt, IsNeeded, IsP
 
 use crate::path::ReplayPath;
 use crate::request::Request;
+use stateful_base::{Ancestry, Anchor, Block, BlockStore, Digest, Digested, OutOfMemory, Share};
 use stateful_exec_cache::{Cache, Judgement, judge, knows};
-use stateful_types::{Ancestry, Anchor, Block, BlockStore, Digest, Digested, OutOfMemory, Share};
 use std::alloc::Global;
 
 /// What a request needs.

@@ -1,12 +1,12 @@
 -- What turns end with.
 use Rattle.std.proofs.Common.{◌≡◌, ◌≢◌, ℕ, ◌+◌, List, ◌∷◌, Option, Some, None, IsSomeAnd, sym, ◌∙◌, refl, ap, subst}
-use Rattle.stateful_types.specs.declared.outcome.Finality.{Finality}
-use Rattle.stateful_types.specs.declared.outcome.Finality.TheVariants.{Candidate, Finalized}
-use Rattle.stateful_types.specs.declared.outcome.Moved.{Moved}
-use Rattle.stateful_types.specs.declared.outcome.Moved.TheVariants.{Pending, Done}
+use Rattle.stateful_base.specs.declared.outcome.Finality.{Finality}
+use Rattle.stateful_base.specs.declared.outcome.Finality.TheVariants.{Candidate, Finalized}
+use Rattle.stateful_base.specs.declared.outcome.Moved.{Moved}
+use Rattle.stateful_base.specs.declared.outcome.Moved.TheVariants.{Pending, Done}
 use Rattle.stateful_db.specs.Meaning.{outcome, Ends}
-use Rattle.stateful_types.specs.declared.outcome.Handoff.{Handoff}
-use Rattle.stateful_types.specs.declared.outcome.Handoff.TheVariants.{Wait, Vote, Stage}
+use Rattle.stateful_base.specs.declared.outcome.Handoff.{Handoff}
+use Rattle.stateful_base.specs.declared.outcome.Handoff.TheVariants.{Wait, Vote, Stage}
 use Rattle.stateful_db.specs.Chain.{IsPoint}
 use Rattle.stateful_db.specs.Works.{block_of, run_chain, BuildEnds}
 use Rattle.stateful_db.specs.declared.application.ProposedBlock.{ProposedBlock}

@@ -1,7 +1,7 @@
 -- What fake blocks say of themselves, and what they do.
 use Rattle.std.specs.Prelude.{[], ◌∷◌, true, Option, Some, None}
-use Rattle.stateful_types.specs.Names.{Header}
-use Rattle.stateful_types.specs.declared.target.Target.{Target}
+use Rattle.stateful_base.specs.Names.{Header}
+use Rattle.stateful_base.specs.declared.target.Target.{Target}
 use Rattle.stateful_db.specs.Meaning.{Meaning}
 use Rattle.stateful_db_plain.specs.Whole.{Whole, begun}
 use Rattle.stateful_exec_tests.specs.declared.block.End.{End}

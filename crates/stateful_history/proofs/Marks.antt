@@ -1,7 +1,7 @@
 -- Marks and entries one after another, and what a longer past keeps of a shorter one.
 use Rattle.std.proofs.Common.{◌≡◌, ℕ, ◌+◌, ◌<◌, ◌++◌, List, [], ◌∷◌, length, get_or, take, refl, inr, arith}
 use Rattle.std.proofs.lemmas.Grind.{common_steps}
-use Rattle.stateful_types.specs.Names.{Named}
+use Rattle.stateful_base.specs.Names.{Named}
 use Rattle.stateful_history.specs.Setting.{Setting}
 use Rattle.stateful_history.specs.Past.{Past, Item, Came, Made, after, after_entry, after_all, EachMark, EachEntry}
 use Rattle.stateful_history.specs.Met.{Met, TrueNames}

@@ -1,8 +1,8 @@
 -- Marks that end requests and receipts, and what a build is answered with.
 use Rattle.std.specs.Prelude.{◌≡◌, ◌≢◌, ◌⊎◌, ℕ, ◌==◌, Bool, false, ◌||◌, Option, Some, None, []}
 use Rattle.std.specs.Prelude.{◌∷◌, MatchOption}
-use Rattle.stateful_types.specs.Names.{Named}
-use Rattle.stateful_types.specs.declared.outcome.Handoff.TheVariants as handed
+use Rattle.stateful_base.specs.Names.{Named}
+use Rattle.stateful_base.specs.declared.outcome.Handoff.TheVariants as handed
 use Rattle.stateful_db.specs.declared.application.ProposalKind.{ProposalKind}
 use Rattle.stateful_db.specs.declared.application.ProposalKind.TheVariants as kinds
 use Rattle.stateful_history.specs.Setting.{Setting, height_of}

@@ -1,8 +1,8 @@
 -- Barriers: which are live or outstanding, and the rules on them.
 use Rattle.std.specs.Prelude.{◌≡◌, ◌<◌, ℕ, ◌==◌, ◌⊎◌, Bool, true, false, not, ◌&&◌, ◌||◌}
 use Rattle.std.specs.Prelude.{if◌then◌else◌, Option, Some, None, [], ◌∷◌, MatchOption}
-use Rattle.stateful_types.specs.Names.{Header}
-use Rattle.stateful_types.specs.declared.number.Height.{Height}
+use Rattle.stateful_base.specs.Names.{Header}
+use Rattle.stateful_base.specs.declared.number.Height.{Height}
 use Rattle.stateful_history.specs.Past.{Past, Came, Made}
 use Rattle.stateful_history.specs.Anchors.{anchor_of}
 use Rattle.stateful_history.specs.Durable.{durable}

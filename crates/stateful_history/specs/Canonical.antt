@@ -1,9 +1,9 @@
 -- The finalized block of a height.
 use Rattle.std.specs.Prelude.{◌≡◌, ℕ, ◌==◌, nat_lt, max, if◌then◌else◌, Option, Some, None, [], ◌∷◌}
 use Rattle.std.specs.Prelude.{option_map}
-use Rattle.stateful_types.specs.Names.{Named}
-use Rattle.stateful_types.specs.declared.digest.Digest.{Digest}
-use Rattle.stateful_types.specs.declared.anchor.Anchor.{Anchor}
+use Rattle.stateful_base.specs.Names.{Named}
+use Rattle.stateful_base.specs.declared.digest.Digest.{Digest}
+use Rattle.stateful_base.specs.declared.anchor.Anchor.{Anchor}
 use Rattle.stateful_history.specs.Setting.{Setting, height_of}
 use Rattle.stateful_history.specs.Past.{Past, Made, Unmarked}
 use Rattle.stateful_history.specs.Anchors.{tip_of, anchor_of}

@@ -1,7 +1,7 @@
 -- Why a request to build is declined.
 use Rattle.std.specs.Prelude.{◌≡◌, ◌≢◌, ◌⊎◌, ◌+◌, ℕ, Some, None, List, ◌∷◌, MatchOption}
-use Rattle.stateful_types.specs.Names.{Named}
-use Rattle.stateful_types.specs.declared.outcome.Handoff.TheVariants as handed
+use Rattle.stateful_base.specs.Names.{Named}
+use Rattle.stateful_base.specs.declared.outcome.Handoff.TheVariants as handed
 use Rattle.stateful_history.specs.Setting.{Setting, parent_of, height_of}
 use Rattle.stateful_history.specs.Telling.{Telling}
 use Rattle.stateful_history.specs.Past.{Past, Made}

@@ -1,6 +1,6 @@
 -- Durable heights, and the rules on barriers and acknowledgements.
 use Rattle.std.specs.Prelude.{◌≡◌, ℕ, ◌≤◌, ◌<◌, ◌⊎◌, true, max, [], ◌∷◌, MatchOption}
-use Rattle.stateful_types.specs.Names.{Header}
+use Rattle.stateful_base.specs.Names.{Header}
 use Rattle.stateful_history.specs.Past.{Past, Came, Made}
 use Rattle.stateful_history.specs.Opening.{opening}
 use Rattle.stateful_history.specs.declared.event.Event.TheVariants.{Flushed, Restart}

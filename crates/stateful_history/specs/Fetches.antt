@@ -1,8 +1,8 @@
 -- Fetches: which are outstanding, and the rules on them.
 use Rattle.std.specs.Prelude.{◌≡◌, ◌<◌, ℕ, ◌⊎◌, true, Option, Some, None, List, [], ◌∷◌, Any}
 use Rattle.std.specs.Prelude.{MatchOption}
-use Rattle.stateful_types.specs.Names.{Named}
-use Rattle.stateful_types.specs.declared.digest.Digest.{Digest}
+use Rattle.stateful_base.specs.Names.{Named}
+use Rattle.stateful_base.specs.declared.digest.Digest.{Digest}
 use Rattle.stateful_history.specs.Setting.{Setting, parent_of, height_of}
 use Rattle.stateful_history.specs.Past.{Past, Came, Made}
 use Rattle.stateful_history.specs.Anchors.{tip_of}

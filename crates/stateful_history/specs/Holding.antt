@@ -1,8 +1,8 @@
 -- What the databases hold.
 use Rattle.std.specs.Prelude.{◌≡◌, ◌≤◌, ℕ, ◌+◌, ◌-◌, ◌<◌, ◌⊎◌, ◌++◌, ◌∷◌, [], Option, Some, None}
 use Rattle.std.specs.Prelude.{MatchOption, List}
-use Rattle.stateful_types.specs.Names.{Named}
-use Rattle.stateful_types.specs.declared.anchor.Anchor.{Anchor}
+use Rattle.stateful_base.specs.Names.{Named}
+use Rattle.stateful_base.specs.declared.anchor.Anchor.{Anchor}
 use Rattle.stateful_db.specs.Databases.{Databases}
 use Rattle.stateful_history.specs.Setting.{Setting}
 use Rattle.stateful_history.specs.Past.{Past, Came, Made}

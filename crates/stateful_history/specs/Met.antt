@@ -1,7 +1,7 @@
 -- The blocks of a history.
 use Rattle.std.specs.Prelude.{◌≡◌, ℕ, ◌⊎◌, Some, [], ◌∷◌, Contains}
-use Rattle.stateful_types.specs.Names.{Named}
-use Rattle.stateful_types.specs.declared.block.Ancestry.{Ancestry}
+use Rattle.stateful_base.specs.Names.{Named}
+use Rattle.stateful_base.specs.declared.block.Ancestry.{Ancestry}
 use Rattle.stateful_history.specs.Setting.{Setting}
 use Rattle.stateful_history.specs.Past.{Past, Item, Came, Made}
 use Rattle.stateful_history.specs.declared.event.Event.TheVariants.{Verify, Prepare, Propose}

@@ -1,8 +1,8 @@
 -- Prunes: which is due, and the rules on them.
 use Rattle.std.specs.Prelude.{◌≡◌, ◌≤◌, ◌⊎◌, ℕ, ◌++◌, nat_lt, true, false, if◌then◌else◌, Option}
 use Rattle.std.specs.Prelude.{Some, None, List, [], ◌∷◌, map}
-use Rattle.stateful_types.specs.Names.{Named}
-use Rattle.stateful_types.specs.declared.digest.Digest.{Digest}
+use Rattle.stateful_base.specs.Names.{Named}
+use Rattle.stateful_base.specs.declared.digest.Digest.{Digest}
 use Rattle.stateful_pruning.specs.Rule.{Schedule, Entry, IsDue, IsPrune}
 use Rattle.stateful_pruning.specs.declared.pruning.Prune.{Prune}
 use Rattle.stateful_history.specs.Setting.{Setting, height_of}

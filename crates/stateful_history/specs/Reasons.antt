@@ -1,7 +1,7 @@
 -- Why a block is judged false.
 use Rattle.std.specs.Prelude.{◌≡◌, ◌≢◌, ◌≤◌, ◌+◌, ◌⊎◌, false, Some, None, MatchOption}
-use Rattle.stateful_types.specs.Names.{Named}
-use Rattle.stateful_types.specs.declared.digest.Digest.{Digest}
+use Rattle.stateful_base.specs.Names.{Named}
+use Rattle.stateful_base.specs.declared.digest.Digest.{Digest}
 use Rattle.stateful_history.specs.Setting.{Setting, parent_of, height_of, step_of}
 use Rattle.stateful_history.specs.Past.{Past}
 use Rattle.stateful_history.specs.Anchors.{tip_of}

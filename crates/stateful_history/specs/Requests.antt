@@ -1,8 +1,8 @@
 -- What requests ask for, and which of them are live.
 use Rattle.std.specs.Prelude.{◌≡◌, ℕ, ◌==◌, Bool, true, false, ◌||◌, if◌then◌else◌, Option, Some}
 use Rattle.std.specs.Prelude.{None, [], ◌∷◌, option_map, MatchOption}
-use Rattle.stateful_types.specs.Names.{Named}
-use Rattle.stateful_types.specs.declared.digest.Digest.{Digest}
+use Rattle.stateful_base.specs.Names.{Named}
+use Rattle.stateful_base.specs.declared.digest.Digest.{Digest}
 use Rattle.stateful_db.specs.Works as works
 use Rattle.stateful_db.specs.declared.application.ProposalKind.{ProposalKind}
 use Rattle.stateful_db.specs.declared.application.ProposalKind.TheVariants as kinds

@@ -1,9 +1,9 @@
 -- Restarts: at which heights the databases can be opened again, and what they then hold.
 use Rattle.std.specs.Prelude.{◌≡◌, ◌≤◌, ◌⊎◌, ◌+◌, ℕ, Some, None, [], ◌∷◌, unwrap_or, option_map}
-use Rattle.stateful_types.specs.Names.{Named}
-use Rattle.stateful_types.specs.Anchor.{anchor_by}
-use Rattle.stateful_types.specs.declared.floor.Floor.{Floor}
-use Rattle.stateful_types.specs.declared.number.Height.{Height}
+use Rattle.stateful_base.specs.Names.{Named}
+use Rattle.stateful_base.specs.Anchor.{anchor_by}
+use Rattle.stateful_base.specs.declared.floor.Floor.{Floor}
+use Rattle.stateful_base.specs.declared.number.Height.{Height}
 use Rattle.stateful_history.specs.Setting.{Setting, step_of}
 use Rattle.stateful_history.specs.Past.{Past, Came, Made, Cut, Tried}
 use Rattle.stateful_history.specs.Opening.{opening}

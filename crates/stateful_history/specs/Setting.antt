@@ -1,8 +1,8 @@
 -- What the definitions over a history take beside it.
 use Rattle.std.specs.Prelude.{ℕ, Option}
-use Rattle.stateful_types.specs.Names.{Header, Named}
-use Rattle.stateful_types.specs.declared.digest.Digest.{Digest}
-use Rattle.stateful_types.specs.declared.round.Round.{Round}
+use Rattle.stateful_base.specs.Names.{Header, Named}
+use Rattle.stateful_base.specs.declared.digest.Digest.{Digest}
+use Rattle.stateful_base.specs.declared.round.Round.{Round}
 use Rattle.stateful_db.specs.Meaning.{Meaning}
 
 -- blocks, an application over states, and the finalized blocks that a store was handed

@@ -1,8 +1,8 @@
 -- The states of blocks: what was applied is folded, and blocks above it follow child by child.
 use Rattle.std.specs.Prelude.{◌≡◌, ◌≢◌, Option, Some, None, List, [], ◌∷◌}
-use Rattle.stateful_types.specs.Names.{Named}
-use Rattle.stateful_types.specs.declared.digest.Digest.{Digest}
-use Rattle.stateful_types.specs.declared.anchor.Anchor.{Anchor}
+use Rattle.stateful_base.specs.Names.{Named}
+use Rattle.stateful_base.specs.declared.digest.Digest.{Digest}
+use Rattle.stateful_base.specs.declared.anchor.Anchor.{Anchor}
 use Rattle.stateful_history.specs.Setting.{Setting, parent_of, step_of}
 use Rattle.stateful_history.specs.Past.{Past}
 use Rattle.stateful_history.specs.Anchors.{applied, anchor_of}

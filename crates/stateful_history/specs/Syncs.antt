@@ -1,6 +1,6 @@
 -- Marks of a sync and of the handover behind it.
 use Rattle.std.specs.Prelude.{◌≡◌, true, None, MatchOption}
-use Rattle.stateful_types.specs.Names.{Header}
+use Rattle.stateful_base.specs.Names.{Header}
 use Rattle.stateful_history.specs.Past.{Past}
 use Rattle.stateful_history.specs.Opening.{IsSyncing, is_handing_over}
 use Rattle.stateful_history.specs.Anchors.{anchor_of}

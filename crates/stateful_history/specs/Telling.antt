@@ -1,8 +1,8 @@
 -- What an application tells of its builds, of the turns that its jobs take, and of what it keeps of
 -- finalized blocks.
 use Rattle.std.specs.Prelude.{ℕ, Option}
-use Rattle.stateful_types.specs.declared.outcome.Finality.{Finality}
-use Rattle.stateful_types.specs.declared.outcome.Handoff.{Handoff}
+use Rattle.stateful_base.specs.declared.outcome.Finality.{Finality}
+use Rattle.stateful_base.specs.declared.outcome.Handoff.{Handoff}
 use Rattle.stateful_db.specs.Works.{Works, Asked}
 
 pub record Telling (B C I S : Type 0) : Type 1 where

@@ -2,7 +2,7 @@
 
 use crate::event::Event;
 use crate::mark::Mark;
-use stateful_types::Items;
+use stateful_base::Items;
 
 /// An event, and the marks that were made of it, in their order.
 #[derive(Debug, Drop)]

@@ -2,8 +2,8 @@
 
 ghost use Rattle.std.specs.Prelude.{◌≡◌, IfOk};
 
+use stateful_base::{Ancestry, Digested, Floor, Items, OutOfMemory, Share};
 use stateful_db::Flushed;
-use stateful_types::{Ancestry, Digested, Floor, Items, OutOfMemory, Share};
 
 /// One event, over blocks `B`, contexts `C` and inputs `I`. A ticket names a request or a receipt,
 /// and is greater than every earlier one.

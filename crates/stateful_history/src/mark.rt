@@ -1,6 +1,6 @@
 //! What the machine did.
 
-use stateful_types::{Anchor, Digest, Digested, Height};
+use stateful_base::{Anchor, Digest, Digested, Height};
 
 /// What a job is.
 #[derive(Clone, Copy, Debug, PartialEq, Eq)]

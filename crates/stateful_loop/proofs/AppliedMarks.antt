@@ -1,6 +1,6 @@
 -- Marks that say of no block that it was applied: those of requests, of what resumes, and of hooks that begin.
 use Rattle.std.proofs.Common.{◌≡◌, ◌++◌, ◌∷◌, [], ℕ, Bool, List, Option, map, refl, sym, ap, ◌∙◌, append-nil, append_assoc}
-use Rattle.stateful_types.specs.Names.{Named}
+use Rattle.stateful_base.specs.Names.{Named}
 use Rattle.stateful_db.specs.declared.application.Hooked.{Hooked}
 use Rattle.stateful_db.specs.declared.application.Hooked.TheVariants as hooked
 use Rattle.stateful_history.specs.Finalizations.{applied_in}

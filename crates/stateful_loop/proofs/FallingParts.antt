@@ -2,7 +2,7 @@
 use Rattle.std.proofs.Common.{◌≡◌, ◌≤◌, ◌<◌, ◌+◌, ◌*◌, ℕ, Bool, true, false, if◌then◌else◌, nat_lt, Option, Some, None, List, [], ◌∷◌, ◌++◌, length, sum_by, unwrap_or, refl, ap, ◌∙◌, arith}
 use Rattle.std.specs.List.{last_or}
 use Rattle.std.proofs.lemmas.Bool.{lt-ltb, le-ltb}
-use Rattle.stateful_types.specs.Names.{Named}
+use Rattle.stateful_base.specs.Names.{Named}
 use Rattle.stateful_durability.specs.Durability.{Coverage, covered_by_barriers}
 use Rattle.stateful_exec.specs.Finalizing.{front_at}
 use Rattle.stateful_exec.specs.Workings.{Workings}

@@ -2,9 +2,9 @@
 use Rattle.std.proofs.Common.{◌≡◌, ◌⊎◌, inl, inr, ℕ, Bool, true, false, ◌<◌, Option, Some, None, List, [], ◌∷◌, ◌++◌, refl, sym, ap, ◌∙◌, subst, arith, All}
 use Rattle.std.proofs.lemmas.Bool.{true≢false}
 use Rattle.std.specs.Prelude.{IsSome, ◌↔◌}
-use Rattle.stateful_types.specs.Names.{Named}
-use Rattle.stateful_types.specs.declared.digest.Digest.{Digest}
-use Rattle.stateful_types.specs.declared.number.Height.{Height}
+use Rattle.stateful_base.specs.Names.{Named}
+use Rattle.stateful_base.specs.declared.digest.Digest.{Digest}
+use Rattle.stateful_base.specs.declared.number.Height.{Height}
 use Rattle.stateful_db.specs.Databases.{Databases}
 use Rattle.stateful_db.specs.declared.database.DbCall.{DbCall}
 use Rattle.stateful_db.specs.declared.database.DbCall.TheVariants as call

@@ -1,6 +1,6 @@
 -- What is first among the actions and the messages is taken.
 use Rattle.std.proofs.Common.{◌≡◌, ◌∷◌, ◌++◌, ◌⊎◌, [], ℕ, true, false, List, Option, IsSome, inl, inr, sym, ap, ◌∙◌}
-use Rattle.stateful_types.specs.Names.{Named}
+use Rattle.stateful_base.specs.Names.{Named}
 use Rattle.stateful_exec.specs.Causes.{FaultsAcquire}
 use Rattle.stateful_exec_tables.specs.Tables.{requested}
 use Rattle.stateful_exec.specs.Workings.{Workings}

@@ -1,6 +1,6 @@
 -- What a fault leaves of the databases.
 use Rattle.std.proofs.Common.{◌≡◌, ◌⊎◌, ◌<◌, ◌≤◌, ◌^◌, inl, inr, ◌∷◌, ℕ, List, Some, ap, ◌∙◌, refl, sym, subst, arith}
-use Rattle.stateful_types.specs.Names.{Named}
+use Rattle.stateful_base.specs.Names.{Named}
 use Rattle.stateful_db.specs.Databases.{Databases, Preserves}
 use Rattle.stateful_db.specs.Laws.{Laws}
 use Rattle.stateful_db.specs.declared.database.DbCall.{DbCall}

@@ -1,7 +1,7 @@
 -- Why databases that don't open are answered as errors.
 use Rattle.std.proofs.Common.{ℕ, List, Option}
-use Rattle.stateful_types.specs.Names.{Named}
-use Rattle.stateful_types.specs.declared.floor.Floor.{Floor}
+use Rattle.stateful_base.specs.Names.{Named}
+use Rattle.stateful_base.specs.declared.floor.Floor.{Floor}
 use Rattle.stateful_db.specs.declared.database.InitError.{InitError}
 use Rattle.stateful_db.specs.declared.database.InitError.TheVariants as init
 use Rattle.stateful_exec.specs.Workings.{Workings}

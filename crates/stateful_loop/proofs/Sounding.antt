@@ -1,6 +1,6 @@
 -- Every rule keeps a sound moment sound.
 use Rattle.std.proofs.Common.{◌≡◌, ℕ, Option, refl, ap, ◌∙◌}
-use Rattle.stateful_types.specs.Names.{Named}
+use Rattle.stateful_base.specs.Names.{Named}
 use Rattle.stateful_db.specs.Laws.{Laws}
 use Rattle.stateful_exec.specs.Workings.{Workings}
 use Rattle.stateful_loop.proofs.SoundingBarriers.{begins_sound, completes_sound}

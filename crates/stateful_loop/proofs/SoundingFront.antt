@@ -1,6 +1,6 @@
 -- How far a finalization has come, in the loop and in execution.
 use Rattle.std.proofs.Common.{◌≡◌, ◌≤◌, ℕ, List, All, length, map, Option, Some, None, sym, ap, ◌∙◌, subst}
-use Rattle.stateful_types.specs.Names.{Named}
+use Rattle.stateful_base.specs.Names.{Named}
 use Rattle.stateful_durability.specs.Durability.{Coverage}
 use Rattle.stateful_exec.specs.Finalizing.{front_at}
 use Rattle.stateful_exec.specs.Workings.{Workings}

@@ -1,6 +1,6 @@
 -- A moment that has what a sound one has of the anchor, the databases, the front and the barriers is sound.
 use Rattle.std.proofs.Common.{◌≡◌, ℕ, Option, refl, sym, subst}
-use Rattle.stateful_types.specs.Names.{Named}
+use Rattle.stateful_base.specs.Names.{Named}
 use Rattle.stateful_exec.specs.Moments as exec
 use Rattle.stateful_exec_tables.specs.Request.{ticket_by}
 use Rattle.stateful_exec_tables.specs.Tables.{requested}

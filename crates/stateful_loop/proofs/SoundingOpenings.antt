@@ -1,8 +1,8 @@
 -- Behind an opening the machine is sound, and so it is once all that went on is dropped.
 use Rattle.std.proofs.Common.{◌≡◌, ◌≤◌, ℕ, List, All, [], length, map, Option, None, inl, sym, ap, ◌∙◌, subst, true≢false, arith}
 use Rattle.std.proofs.lemmas.List.Elements.{All-nil}
-use Rattle.stateful_types.specs.Names.{Named}
-use Rattle.stateful_types.specs.declared.floor.Floor.{Floor}
+use Rattle.stateful_base.specs.Names.{Named}
+use Rattle.stateful_base.specs.declared.floor.Floor.{Floor}
 use Rattle.stateful_db.specs.Laws.{Laws}
 use Rattle.stateful_durability.specs.Durability.{Coverage}
 use Rattle.stateful_exec.specs.Workings.{Workings}

@@ -1,6 +1,6 @@
 -- The rules of a finalization in front keep a sound moment sound.
 use Rattle.std.proofs.Common.{◌≡◌, ◌≤◌, ◌+◌, ◌∷◌, ◌++◌, inl, inr, ⊎_elim, ℕ, List, [], Bool, Option, Some, None, refl, sym, ap, ◌∙◌, subst, arith}
-use Rattle.stateful_types.specs.Names.{Named}
+use Rattle.stateful_base.specs.Names.{Named}
 use Rattle.stateful_db.specs.Laws.{Laws}
 use Rattle.stateful_db.specs.declared.application.Hooked.{Hooked}
 use Rattle.stateful_db.specs.declared.application.Hooked.TheVariants as hooked

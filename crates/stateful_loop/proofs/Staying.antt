@@ -1,6 +1,6 @@
 -- What the rules of requests leave as it is: the anchor and the databases.
 use Rattle.std.proofs.Common.{◌≡◌, ℕ, Option, List, refl, ap, ◌∙◌}
-use Rattle.stateful_types.specs.Names.{Named}
+use Rattle.stateful_base.specs.Names.{Named}
 use Rattle.stateful_exec.specs.Ending.{InTurn, none, next}
 use Rattle.stateful_exec.specs.Moments as exec
 use Rattle.stateful_exec_tables.specs.Path.{Path}

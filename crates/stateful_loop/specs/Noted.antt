@@ -1,6 +1,6 @@
 -- What becomes of the notes of an application: it is told of each block that was applied.
 use Rattle.std.specs.Prelude.{◌≡◌, ◌++◌, ◌∷◌, ◌⊎◌, [], Option, Some, None, List, fold}
-use Rattle.stateful_types.specs.Names.{Named}
+use Rattle.stateful_base.specs.Names.{Named}
 use Rattle.stateful_history.specs.Finalizations.{applied_in}
 use Rattle.stateful_history.specs.declared.mark.Mark.{Mark}
 use Rattle.stateful_loop.specs.declared.tables.Finalizing.{Finalizing}

@@ -1,8 +1,8 @@
 -- How the databases are opened behind a crash, and why they aren't.
 use Rattle.std.specs.Prelude.{◌≡◌, ◌<◌, ◌++◌, ◌∷◌, ◌^◌, [], ℕ, true, Option, Some, None, List}
-use Rattle.stateful_types.specs.Names.{Named}
-use Rattle.stateful_types.specs.Anchor.{anchor_by}
-use Rattle.stateful_types.specs.declared.floor.Floor.{Floor}
+use Rattle.stateful_base.specs.Names.{Named}
+use Rattle.stateful_base.specs.Anchor.{anchor_by}
+use Rattle.stateful_base.specs.declared.floor.Floor.{Floor}
 use Rattle.stateful_db.specs.Databases.{IsOpening}
 use Rattle.stateful_db.specs.declared.database.InitError.{InitError}
 use Rattle.stateful_db.specs.declared.database.InitError.TheVariants as init

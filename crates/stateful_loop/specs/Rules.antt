@@ -1,7 +1,7 @@
 -- What goes on without another event, a constructor a rule.
 use Rattle.std.specs.Prelude.{◌≡◌, ◌≢◌, ◌<◌, ◌≤◌, ◌+◌, ◌⊎◌, ◌++◌, ◌∷◌, [], ℕ, Bool, true, false}
 use Rattle.std.specs.Prelude.{Option, Some, None, IsSome, List, map, length, drop, All}
-use Rattle.stateful_types.specs.Names.{Named}
+use Rattle.stateful_base.specs.Names.{Named}
 use Rattle.stateful_db.specs.Barrier.{open_at}
 use Rattle.stateful_db.specs.declared.barrier.Handle.{Handle}
 use Rattle.stateful_durability.specs.Durability.{Coverage, covered_by_barriers, after_completion}

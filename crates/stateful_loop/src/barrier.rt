@@ -32,10 +32,10 @@ ghost use Rattle.stateful_loop.specs.Rules.{acknowledged};
 use crate::barriers::Active;
 use crate::error::StepError;
 use crate::tables::ProcessingOf;
+use stateful_base::Height;
 use stateful_db::{Application, DatabaseSet, Flushed};
 use stateful_exec::Worked;
 use stateful_history::Mark;
-use stateful_types::Height;
 
 /// A barrier over all that is applied begins, under the next number, with the tokens of all
 /// databases. `Exhausted` exactly where the number is the last one.

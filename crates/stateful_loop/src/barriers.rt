@@ -18,8 +18,8 @@ ghost use Rattle.stateful_loop.specs.Barriers.{is_broken, is_flushed, awaits, nu
 ghost use Rattle.stateful_loop.specs.Barriers.{broken, flushed, awaiting, answered_by};
 ghost use Rattle.stateful_loop.specs.Barriers.{with_answer};
 
+use stateful_base::Height;
 use stateful_db::{Barrier, BarrierPoll, FlushToken, Flushed};
-use stateful_types::Height;
 use std::marker::Model;
 
 /// An open barrier: its number, its height, and the tokens of the databases with their answers.

@@ -1,8 +1,8 @@
 //! Why an event was refused.
 
+use stateful_base::{Digest, Height, OutOfMemory, Round, Target};
 use stateful_db::{DbCall, InitError, SetError, SetInit};
 use stateful_exec::{ExecError, ExecutionStep, ProposalFault};
-use stateful_types::{Digest, Height, OutOfMemory, Round, Target};
 use std::alloc::{AllocError, AllocFailed};
 use thiserror::Error;
 

@@ -16,8 +16,8 @@
 ghost use Rattle.std.specs.Prelude.{◌≡◌, ◌≢◌, ◌<◌, ◌≤◌, ◌∷◌, ◌++◌, ◌⊎◌, [], ℕ, Bool, true, false};
 ghost use Rattle.std.specs.Prelude.{Option, Some, None, List, OnOk, OnErr, IfOk, IfErr, All};
 ghost use Rattle.std.specs.Prelude.{length, IsErrOf};
-ghost use Rattle.stateful_types.specs.Causes.{Rose};
-ghost use Rattle.stateful_types.specs.Names.{Named};
+ghost use Rattle.stateful_base.specs.Causes.{Rose};
+ghost use Rattle.stateful_base.specs.Names.{Named};
 ghost use Rattle.stateful_exec.specs.Causes.{FaultsStart};
 ghost use Rattle.stateful_exec.specs.Finalizing.{front_at, FaultsBegin, FaultsMove, FaultsObserve};
 ghost use Rattle.stateful_exec_tables.specs.Pausing.{AwaitsRuns};
@@ -40,10 +40,10 @@ use crate::barrier::begin_barrier;
 use crate::error::StepError;
 use crate::reached::Reached;
 use crate::tables::{Finalizing, ProcessingOf};
+use stateful_base::{BlockStore, Digested, Share};
 use stateful_db::{Application, DatabaseSet};
 use stateful_exec::{Handler, Stage, Worked};
 use stateful_history::Mark;
-use stateful_types::{BlockStore, Digested, Share};
 
 /// The finalization of a block begins, and execution pauses for it.
 pub(crate) fn begin_finalization<A: Application + Drop>(

@@ -16,7 +16,7 @@
 
 ghost use Rattle.std.specs.Prelude.{◌≡◌, ◌≢◌, ◌<◌, ◌≤◌, ◌∷◌, ◌++◌, ◌⊎◌, [], ℕ, Bool, true, false};
 ghost use Rattle.std.specs.Prelude.{Option, Some, None, List, OnOk, OnErr, IfOk, IfErr, IsErrOf};
-ghost use Rattle.stateful_types.specs.Causes.{Rose};
+ghost use Rattle.stateful_base.specs.Causes.{Rose};
 ghost use Rattle.stateful_history.specs.declared.mark.Mark.TheVariants as mark;
 ghost use Rattle.stateful_exec_tables.specs.Tables.{Rises};
 ghost use Rattle.stateful_loop.specs.Causes.{FaultsRule};
@@ -32,10 +32,10 @@ use crate::finalizing::go_on_finalizing;
 use crate::message::Action;
 use crate::tables::ProcessingOf;
 use crate::taking::{drain_first, take_first};
+use stateful_base::{BlockStore, Height};
 use stateful_db::{Application, DatabaseSet};
 use stateful_exec::{Handler, Worked};
 use stateful_history::Mark;
-use stateful_types::{BlockStore, Height};
 
 /// A barrier of which a flush was interrupted breaks, and nothing goes on any more.
 fn break_barrier<A: Application>(

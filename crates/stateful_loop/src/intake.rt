@@ -16,8 +16,8 @@ ghost use Rattle.std.specs.Prelude.{◌≡◌, ◌≢◌, ◌<◌, ◌≤◌, �
 ghost use Rattle.std.specs.Prelude.{not, filter, Option, Some, None, List, OnOk, OnErr, IfOk};
 ghost use Rattle.std.specs.Prelude.{IfErr, IsErrOf, IsTrue, ◌↔◌, Contains, option_and_then, IsSome};
 ghost use Rattle.std.specs.Option.{ForSome};
-ghost use Rattle.stateful_types.specs.Causes.{Rose};
-ghost use Rattle.stateful_types.specs.Names.{Named};
+ghost use Rattle.stateful_base.specs.Causes.{Rose};
+ghost use Rattle.stateful_base.specs.Names.{Named};
 ghost use Rattle.stateful_db.specs.Barrier.{open_at};
 ghost use Rattle.stateful_exec_tables.specs.Tables.{Rises};
 ghost use Rattle.stateful_exec.specs.Built.{IsLiveBuild};
@@ -35,10 +35,10 @@ use crate::barrier::flushed;
 use crate::error::StepError;
 use crate::message::Message;
 use crate::tables::ProcessingOf;
+use stateful_base::{BlockStore, Digested, OutOfMemory, Share};
 use stateful_db::{Application, DatabaseSet, ProposalKind};
 use stateful_exec::{Handler, Request, Stage, Worked};
 use stateful_history::{Event, Mark};
-use stateful_types::{BlockStore, Digested, OutOfMemory, Share};
 
 /// What an event puts into the mailbox.
 fn message_of<B: Drop, C: Copy, I: Share + Drop>(

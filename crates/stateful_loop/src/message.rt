@@ -4,8 +4,8 @@ ghost use Rattle.std.specs.Prelude.{◌≡◌};
 ghost use Rattle.stateful_loop.specs.Message.{asks_of, asks_for, is_verification};
 
 use crate::queue::Asks;
+use stateful_base::Digested;
 use stateful_exec::Request;
-use stateful_types::Digested;
 
 /// What came and waits, over blocks `B`, contexts `C` and inputs `I`.
 #[derive(Drop)]

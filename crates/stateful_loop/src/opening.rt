@@ -21,11 +21,11 @@ ghost use Rattle.stateful_loop.specs.Opening.{Opens, FaultsOpening};
 
 use crate::error::StepError;
 use crate::tables::ProcessingOf;
+use stateful_base::{Anchor, BlockStore, Floor, Height};
 use stateful_db::{Application, DatabaseSet};
 use stateful_durability::Durability;
 use stateful_exec::{Handler, Worked};
 use stateful_history::Mark;
-use stateful_types::{Anchor, BlockStore, Floor, Height};
 
 /// The height at which the databases open: the last one that was processed, or 0.
 fn start_of(floor: &Floor) -> Height

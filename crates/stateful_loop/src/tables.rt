@@ -5,9 +5,9 @@ ghost use Rattle.std.specs.Prelude.{◌≡◌, [], None, false};
 use crate::barriers::Barriers;
 use crate::message::{Action, Message};
 use crate::queue::Queue;
+use stateful_base::{Digested, Height};
 use stateful_db::Application;
 use stateful_durability::Durability;
-use stateful_types::{Digested, Height};
 use std::alloc::Global;
 
 /// The finalization that goes on.

@@ -16,8 +16,8 @@
 ghost use Rattle.std.specs.Prelude.{◌≡◌, ◌≢◌, ◌<◌, ◌≤◌, ◌∷◌, ◌++◌, ◌⊎◌, [], ℕ, Bool, true, false};
 ghost use Rattle.std.specs.Prelude.{Option, Some, None, List, OnOk, OnErr, IfOk, IfErr, IfSome};
 ghost use Rattle.std.specs.Prelude.{IsSome, Any, All, IsErrOf};
-ghost use Rattle.stateful_types.specs.Causes.{Rose};
-ghost use Rattle.stateful_types.specs.Names.{Named};
+ghost use Rattle.stateful_base.specs.Causes.{Rose};
+ghost use Rattle.stateful_base.specs.Names.{Named};
 ghost use Rattle.stateful_exec.specs.Building.{FaultsPropose};
 ghost use Rattle.stateful_exec.specs.Causes.{FaultsAcquire};
 ghost use Rattle.stateful_exec.specs.Finalizing.{IsRedelivered};
@@ -36,10 +36,10 @@ use crate::error::StepError;
 use crate::finalizing::begin_finalization;
 use crate::message::{Action, Message};
 use crate::tables::ProcessingOf;
+use stateful_base::{BlockStore, Digested};
 use stateful_db::{Application, DatabaseSet};
 use stateful_exec::{BuildStart, Handler, Request, Worked};
 use stateful_history::{JobKind, Mark};
-use stateful_types::{BlockStore, Digested};
 
 /// A request acquires what it needs.
 pub(crate) fn schedule<A: Application + Drop, S: BlockStore<A::Block>>(

@@ -1,7 +1,7 @@
 -- A verification that waits for nothing that was begun still does behind mild marks, and after an event that is no restart.
 use Rattle.std.proofs.Common.{inl, inr, ℕ, List, [], ◌∷◌, All, None, Some}
 use Rattle.std.proofs.lemmas.List.Elements.{All-head, All-tail}
-use Rattle.stateful_types.specs.Names.{Named}
+use Rattle.stateful_base.specs.Names.{Named}
 use Rattle.stateful_history.specs.Fetches.{Abstains}
 use Rattle.stateful_history.specs.Past.{Past, Came, Made, after}
 use Rattle.stateful_history.specs.Setting.{Setting}

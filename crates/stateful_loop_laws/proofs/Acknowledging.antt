@@ -1,7 +1,7 @@
 -- Marks that end receipts and subscriptions name live ones, and the begin of a finalization names its block.
 use Rattle.std.proofs.Common.{◌≡◌, ◌≢◌, ◌⊎◌, inl, inr, AllPairs, ◌==◌, if◌then◌else◌, nat_le, true, ℕ, Bool, false, List, [], ◌∷◌, map, All, Option, Some, MatchOption, get_or, refl, sym, ◌∙◌, subst, arith}
 use Rattle.std.proofs.lemmas.List.Elements.{All-head, All-tail, All-filter}
-use Rattle.stateful_types.specs.Names.{Named}
+use Rattle.stateful_base.specs.Names.{Named}
 use Rattle.stateful_durability.specs.Durability.{receipts_up_to}
 use Rattle.stateful_history.specs.Answers.{EndsLive}
 use Rattle.stateful_history.specs.Asked.{finalized}

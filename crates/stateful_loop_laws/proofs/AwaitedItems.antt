@@ -6,7 +6,7 @@ use Rattle.stateful_db.specs.Barrier.{open_at, answered}
 use Rattle.stateful_db.specs.declared.barrier.Flushed.{Flushed as Answer}
 use Rattle.stateful_db.specs.declared.barrier.Handle.{Handle}
 use Rattle.stateful_db.specs.declared.database.FlushToken.{FlushToken}
-use Rattle.stateful_types.specs.declared.number.Height.{Height}
+use Rattle.stateful_base.specs.declared.number.Height.{Height}
 use Rattle.stateful_history.specs.Barriers.{live_barrier}
 use Rattle.stateful_history.specs.Live.{live_flush}
 use Rattle.stateful_history.specs.Past.{Past, Item, Came, Made}

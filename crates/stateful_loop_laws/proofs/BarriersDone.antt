@@ -4,8 +4,8 @@ use Rattle.std.specs.Prelude.{All, Any, slice_get}
 use Rattle.std.specs.List.{list_all}
 use Rattle.std.proofs.lemmas.Bool.{and_parts, and_from, not-true, not_from_false, eqb-false, ne_eqb, cases_eq, false≢true}
 use Rattle.std.proofs.lemmas.List.Elements.{All-head, All-tail}
-use Rattle.stateful_types.specs.Names.{Header}
-use Rattle.stateful_types.specs.declared.anchor.Anchor.{Anchor}
+use Rattle.stateful_base.specs.Names.{Header}
+use Rattle.stateful_base.specs.declared.anchor.Anchor.{Anchor}
 use Rattle.stateful_db.specs.Databases.{Databases}
 use Rattle.stateful_db.specs.declared.barrier.Flushed.{Flushed}
 use Rattle.stateful_db.specs.declared.barrier.Flushed.TheVariants.{Good, Interrupted}

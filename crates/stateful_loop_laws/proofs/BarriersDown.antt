@@ -1,14 +1,14 @@
 -- From a stop or a restart on no barrier is live until one begins, and the numbers so far stay below the next one.
 use Rattle.std.proofs.Common.{◌≡◌, ◌≢◌, ◌<◌, ◌∷◌, [], ℕ, false, List, All, None, ◌∙◌, refl}
 use Rattle.std.proofs.lemmas.List.Elements.{All-head, All-tail}
-use Rattle.stateful_types.specs.Names.{Header}
+use Rattle.stateful_base.specs.Names.{Header}
 use Rattle.stateful_history.specs.Barriers.{live_barrier, begun_over}
 use Rattle.stateful_history.specs.Past.{Past, Item, Came, Made, after}
 use Rattle.stateful_history.specs.declared.event.Event.TheVariants.{Restart}
 use Rattle.stateful_history.specs.declared.mark.Mark.{Mark}
 use Rattle.stateful_history.specs.declared.mark.Mark.TheVariants.{BarrierDone, Stopped}
-use Rattle.stateful_types.specs.declared.floor.Floor.{Floor}
-use Rattle.stateful_types.specs.declared.number.Height.{Height}
+use Rattle.stateful_base.specs.declared.floor.Floor.{Floor}
+use Rattle.stateful_base.specs.declared.number.Height.{Height}
 use Rattle.stateful_loop_laws.proofs.CalmItems.{IsCalmItem, IsCalmMark, IsCalmItem-mark, LeavesLoop-calm}
 
 -- each barrier so far has a number below this one

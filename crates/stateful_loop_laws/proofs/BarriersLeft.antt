@@ -1,8 +1,8 @@
 -- The open barriers stand behind items that say nothing of them.
 use Rattle.std.proofs.Common.{◌≤◌, ◌<◌, ◌-◌, ◌∷◌, ⊎_elim, inl, inr, ℕ, List, sym, ◌∙◌, arith}
 use Rattle.std.proofs.lemmas.List.Elements.{All-weaker}
-use Rattle.stateful_types.specs.Names.{Header}
-use Rattle.stateful_types.specs.declared.anchor.Anchor.{Anchor}
+use Rattle.stateful_base.specs.Names.{Header}
+use Rattle.stateful_base.specs.declared.anchor.Anchor.{Anchor}
 use Rattle.stateful_db.specs.Databases.{Databases}
 use Rattle.stateful_db.specs.declared.barrier.Handle.{Handle}
 use Rattle.stateful_history.specs.Past.{Past, Item}

@@ -1,8 +1,8 @@
 -- Execution stands after a turn of the live build.
 use Rattle.std.proofs.Common.{◌≡◌, ℕ, List, [], ◌∷◌, All, Option, None, Some, IsSome, refl, sym, ap, ◌∙◌, subst}
 use Rattle.std.proofs.lemmas.List.{append_cancel_left}
-use Rattle.stateful_types.specs.Names.{Named}
-use Rattle.stateful_types.specs.declared.digest.Digest.{Digest}
+use Rattle.stateful_base.specs.Names.{Named}
+use Rattle.stateful_base.specs.declared.digest.Digest.{Digest}
 use Rattle.stateful_history.specs.Jobs.{IsLiveJob}
 use Rattle.stateful_history.specs.Past.{Past, Came, after}
 use Rattle.stateful_history.specs.declared.event.Event.TheVariants.{Turn}

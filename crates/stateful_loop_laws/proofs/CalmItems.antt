@@ -1,7 +1,7 @@
 -- What an item leaves of barriers, openings and applied blocks.
 use Rattle.std.proofs.Common.{◌≡◌, ◌≢◌, inl, inr, ℕ, ◌==◌, ◌∷◌, [], Bool, true, false, if◌then◌else◌, Option, Some, None, refl}
 use Rattle.std.proofs.lemmas.Bool.{false≢true, eq-eqb}
-use Rattle.stateful_types.specs.Names.{Header}
+use Rattle.stateful_base.specs.Names.{Header}
 use Rattle.stateful_db.specs.declared.barrier.Flushed.{Flushed as Answer}
 use Rattle.stateful_db.specs.declared.barrier.Flushed.TheVariants.{Good, Interrupted}
 use Rattle.stateful_history.specs.Anchors.{applied}

@@ -1,9 +1,9 @@
 -- What the databases keep stands behind items that apply nothing, after an apply, and after an opening.
 use Rattle.std.proofs.Common.{◌≡◌, ◌≤◌, ◌<◌, ◌+◌, ◌-◌, ◌++◌, ⊎_elim, inl, inr, ℕ, List, [], ◌∷◌, length, Option, Some, None, refl, ap, ◌∙◌, arith, length-append}
 use Rattle.std.proofs.lemmas.Bool.{cases_lt}
-use Rattle.stateful_types.specs.Anchor.{anchor_by}
-use Rattle.stateful_types.specs.Names.{Named}
-use Rattle.stateful_types.specs.declared.anchor.Anchor.{Anchor}
+use Rattle.stateful_base.specs.Anchor.{anchor_by}
+use Rattle.stateful_base.specs.Names.{Named}
+use Rattle.stateful_base.specs.declared.anchor.Anchor.{Anchor}
 use Rattle.stateful_db.specs.Databases.{Databases, IsOpening}
 use Rattle.stateful_db.specs.Laws.{ApplyLaws}
 use Rattle.stateful_history.specs.Anchors.{applied}

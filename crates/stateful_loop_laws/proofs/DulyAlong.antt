@@ -1,7 +1,7 @@
 -- Marks of jobs, answers to builds, withdrawn fetches and finalizations keep their rules after a whole event, but for a restart.
 use Rattle.std.proofs.Common.{◌≡◌, ◌∷◌, ℕ, true, List, Option, refl, sym, ◌∙◌, subst}
 use Rattle.std.proofs.lemmas.List.{append_cancel_left}
-use Rattle.stateful_types.specs.Names.{Named}
+use Rattle.stateful_base.specs.Names.{Named}
 use Rattle.stateful_db.specs.Laws.{Laws}
 use Rattle.stateful_history.specs.Live.{names_live}
 use Rattle.stateful_history.specs.Past.{Past, Came, after}

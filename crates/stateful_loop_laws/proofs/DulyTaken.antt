@@ -1,7 +1,7 @@
 -- Marks of jobs, answers to builds, withdrawn fetches and finalizations keep their rules after every event that is taken in, but for a
 -- restart.
 use Rattle.std.proofs.Common.{◌≡◌, ◌++◌, ◌∷◌, [], inl, inr, ℕ, List, Option, Some, None, refl, sym, ap, ◌∙◌, subst, append-nil}
-use Rattle.stateful_types.specs.Names.{Named}
+use Rattle.stateful_base.specs.Names.{Named}
 use Rattle.stateful_history.specs.Past.{Past, Came, EachMark}
 use Rattle.stateful_history.specs.Prunes.{PruneRule}
 use Rattle.stateful_history.specs.Requests.{Proposal, IsLiveProposal, proposed}

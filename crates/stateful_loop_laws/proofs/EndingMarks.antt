@@ -1,7 +1,7 @@
 -- Marks by which live work ends are no verdicts, barriers or acknowledgements, and leave what the databases hold.
 use Rattle.std.proofs.Common.{◌≡◌, ◌∷◌, [], List, All, Option, Some, None, MatchOption, refl, sym, ap, ◌∙◌, subst}
 use Rattle.std.proofs.lemmas.List.Elements.{All-head, All-tail}
-use Rattle.stateful_types.specs.declared.anchor.Anchor.{Anchor}
+use Rattle.stateful_base.specs.declared.anchor.Anchor.{Anchor}
 use Rattle.stateful_db.specs.Databases.{Databases}
 use Rattle.stateful_history.specs.Anchors.{applied}
 use Rattle.stateful_history.specs.Durable.{durable}

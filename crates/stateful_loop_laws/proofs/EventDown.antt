@@ -1,6 +1,6 @@
 -- After a stop, and after an event in which a barrier broke, the machine is down.
 use Rattle.std.proofs.Common.{◌≡◌, ◌++◌, ℕ, List, All, Option, sym, ap, ◌∙◌, subst, append_assoc}
-use Rattle.stateful_types.specs.Names.{Named}
+use Rattle.stateful_base.specs.Names.{Named}
 use Rattle.stateful_history.specs.Holding.{Holds}
 use Rattle.stateful_history.specs.Joined.{TrueIsEarned}
 use Rattle.stateful_history.specs.Past.{Past, after}

@@ -1,8 +1,8 @@
 -- After a restart the machine is up, whether it was up or down before.
 use Rattle.std.proofs.Common.{◌++◌, ◌∷◌, [], ℕ, List, All, Option, sym, ap, ◌∙◌, subst, append_assoc}
-use Rattle.stateful_types.specs.Anchor.{anchor_by}
-use Rattle.stateful_types.specs.Names.{Named}
-use Rattle.stateful_types.specs.declared.floor.Floor.{Floor}
+use Rattle.stateful_base.specs.Anchor.{anchor_by}
+use Rattle.stateful_base.specs.Names.{Named}
+use Rattle.stateful_base.specs.declared.floor.Floor.{Floor}
 use Rattle.stateful_db.specs.Laws.{Laws}
 use Rattle.stateful_history.specs.Joined.{TrueIsEarned}
 use Rattle.stateful_history.specs.Met.{TrueNames}

@@ -1,9 +1,9 @@
 -- Execution stands after the apply of a finalized block.
 use Rattle.std.proofs.Common.{◌≡◌, ◌++◌, inl, inr, ℕ, List, [], ◌∷◌, All, Option, Some, None, refl, sym, ap, ◌∙◌, subst}
-use Rattle.stateful_types.specs.Names.{Named}
-use Rattle.stateful_types.specs.Anchor.{anchor_by}
-use Rattle.stateful_types.specs.declared.anchor.Anchor.{Anchor}
-use Rattle.stateful_types.specs.declared.digest.Digest.{Digest}
+use Rattle.stateful_base.specs.Names.{Named}
+use Rattle.stateful_base.specs.Anchor.{anchor_by}
+use Rattle.stateful_base.specs.declared.anchor.Anchor.{Anchor}
+use Rattle.stateful_base.specs.declared.digest.Digest.{Digest}
 use Rattle.stateful_db.specs.Laws.{Laws}
 use Rattle.stateful_history.specs.Anchors.{applied}
 use Rattle.stateful_history.specs.Jobs.{IsLiveJob}

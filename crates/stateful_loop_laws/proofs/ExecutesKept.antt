@@ -1,6 +1,6 @@
 -- Execution stands for a longer past, where what is added says nothing of it, or tells of a ticket that it doesn't have.
 use Rattle.std.proofs.Common.{◌≡◌, ◌≢◌, inl, inr, ℕ, ◌∷◌, Option, None, Some, IfSome, ◌∙◌}
-use Rattle.stateful_types.specs.Names.{Named}
+use Rattle.stateful_base.specs.Names.{Named}
 use Rattle.stateful_history.specs.Anchors.{applied, anchor_of}
 use Rattle.stateful_history.specs.Finalizations.{begun}
 use Rattle.stateful_history.specs.Met.{Brings, Met, TrueNames}

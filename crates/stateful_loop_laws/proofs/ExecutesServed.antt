@@ -2,8 +2,8 @@
 use Rattle.std.proofs.Common.{◌≡◌, ◌≢◌, ◌++◌, ℕ, List, [], ◌∷◌, All, Option, None, Some, IfSome, refl, sym, ◌∙◌, subst}
 use Rattle.std.proofs.lemmas.List.{append_cancel_left}
 use Rattle.std.proofs.lemmas.List.Elements.{All-nil}
-use Rattle.stateful_types.specs.Names.{Named}
-use Rattle.stateful_types.specs.declared.digest.Digest.{Digest}
+use Rattle.stateful_base.specs.Names.{Named}
+use Rattle.stateful_base.specs.declared.digest.Digest.{Digest}
 use Rattle.stateful_db.specs.Laws.{Laws}
 use Rattle.stateful_history.specs.Joined.{TrueIsEarned}
 use Rattle.stateful_history.specs.Fetches.{Abstains}

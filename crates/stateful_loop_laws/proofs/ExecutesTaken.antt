@@ -1,6 +1,6 @@
 -- Execution stands after every event that is taken in, but for a restart.
 use Rattle.std.proofs.Common.{◌≡◌, ◌∷◌, ℕ, true, Option, Some}
-use Rattle.stateful_types.specs.Names.{Named}
+use Rattle.stateful_base.specs.Names.{Named}
 use Rattle.stateful_db.specs.Laws.{Laws}
 use Rattle.stateful_history.specs.Live.{names_live}
 use Rattle.stateful_history.specs.Past.{Past, Came}

@@ -1,8 +1,8 @@
 -- Execution stands after the marks that the loop makes beside it.
 use Rattle.std.proofs.Common.{◌≡◌, ◌≢◌, ◌++◌, suc, ℕ, List, [], ◌∷◌, map, All, AllPairs, Option, None, Some, IfSome, refl, sym, ◌∙◌, arith, get_or}
 use Rattle.std.proofs.lemmas.List.Elements.{All-head, All-tail}
-use Rattle.stateful_types.specs.Names.{Named}
-use Rattle.stateful_types.specs.declared.digest.Digest.{Digest}
+use Rattle.stateful_base.specs.Names.{Named}
+use Rattle.stateful_base.specs.declared.digest.Digest.{Digest}
 use Rattle.stateful_history.specs.Joined.{TrueIsEarned}
 use Rattle.stateful_history.specs.Live.{live_ticket}
 use Rattle.stateful_history.specs.Past.{Past, Made, EachMark, after}

@@ -1,9 +1,9 @@
 -- Where no request fetches, none does after a turn of a candidate run; and where execution is paused, every fetch is given up.
 use Rattle.std.proofs.Common.{◌≡◌, not, ℕ, List, [], ◌∷◌, get_or, Option, Result, Ok, Err}
 use Rattle.std.proofs.lemmas.List.Elements.{All-filter, All-map}
-use Rattle.stateful_types.specs.Names.{Named}
-use Rattle.stateful_types.specs.declared.outcome.Moved.{Moved}
-use Rattle.stateful_types.specs.declared.outcome.Moved.TheVariants.{Pending, Done}
+use Rattle.stateful_base.specs.Names.{Named}
+use Rattle.stateful_base.specs.declared.outcome.Moved.{Moved}
+use Rattle.stateful_base.specs.declared.outcome.Moved.TheVariants.{Pending, Done}
 use Rattle.stateful_db.specs.declared.application.AppFault.{AppFault}
 use Rattle.stateful_history.specs.declared.mark.How.{How}
 use Rattle.stateful_history.specs.declared.mark.Mark.{Mark}

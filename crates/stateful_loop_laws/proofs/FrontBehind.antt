@@ -1,7 +1,7 @@
 -- Execution stands after a rule of a finalization: what its tables and its front stand for, with where it is placed.
 use Rattle.std.proofs.Common.{◌≡◌, ℕ, [], ◌∷◌, All, true, false, Option, None, Some, IsSome, refl, sym, ap, ◌∙◌, subst}
-use Rattle.stateful_types.specs.Names.{Named}
-use Rattle.stateful_types.specs.declared.digest.Digest.{Digest}
+use Rattle.stateful_base.specs.Names.{Named}
+use Rattle.stateful_base.specs.declared.digest.Digest.{Digest}
 use Rattle.stateful_history.specs.Jobs.{IsLiveJob}
 use Rattle.stateful_history.specs.Past.{Past, after}
 use Rattle.stateful_history.specs.declared.mark.JobKind.TheVariants.{Build}

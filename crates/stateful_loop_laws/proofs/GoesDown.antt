@@ -1,6 +1,6 @@
 -- A new machine is down, and so is one at which all live work was ended and all that went on is dropped.
 use Rattle.std.proofs.Common.{◌≤◌, ◌∷◌, [], ℕ, List, All, refl, sym, ◌∙◌, true≢false}
-use Rattle.stateful_types.specs.declared.floor.Floor.{Floor}
+use Rattle.stateful_base.specs.declared.floor.Floor.{Floor}
 use Rattle.stateful_history.specs.Past.{Past, Came, after}
 use Rattle.stateful_history.specs.Stops.{NothingLive}
 use Rattle.stateful_history.specs.declared.event.Event.TheVariants.{Restart}

@@ -1,7 +1,7 @@
 -- What the tables of execution hold are live requests, which no receipt is.
 use Rattle.std.proofs.Common.{◌≡◌, ◌≢◌, ℕ, All, Option, Some, None, IfSome, IsSome, refl, sym, ◌∙◌, subst}
-use Rattle.stateful_types.specs.Names.{Named}
-use Rattle.stateful_types.specs.declared.digest.Digest.{Digest}
+use Rattle.stateful_base.specs.Names.{Named}
+use Rattle.stateful_base.specs.declared.digest.Digest.{Digest}
 use Rattle.stateful_history.specs.Past.{Past}
 use Rattle.stateful_history.specs.Requests.{IsLiveRequest, IsLiveReceipt, IsLiveProposal}
 use Rattle.stateful_history.specs.declared.ticket.Ticket.TheVariants as ticket

@@ -1,7 +1,7 @@
 -- After a whole event, but for a restart, all that is live is in hand, and goes on.
 use Rattle.std.proofs.Common.{◌≡◌, ◌++◌, ◌∷◌, [], ℕ, true, List, Option, sym, ap, ◌∙◌, subst, append_assoc, append-nil}
 use Rattle.std.proofs.lemmas.List.{append_cancel_left}
-use Rattle.stateful_types.specs.Names.{Named}
+use Rattle.stateful_base.specs.Names.{Named}
 use Rattle.stateful_db.specs.Laws.{Laws}
 use Rattle.stateful_history.specs.Live.{names_live}
 use Rattle.stateful_history.specs.Past.{Past, Came, after}

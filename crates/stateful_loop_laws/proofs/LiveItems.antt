@@ -3,7 +3,7 @@ use Rattle.std.proofs.Common.{◌≡◌, ◌<◌, ◌∷◌, ◌++◌, ◌==◌,
 use Rattle.std.specs.Prelude.{is_some}
 use Rattle.std.proofs.lemmas.Bool.{and_parts, and_from, or_left, or_right, not_from_false, and_left, and_right, eqb-true, eq-eqb, ne_eqb, lt-ltb, cases_eq, false≢true}
 use Rattle.std.proofs.lemmas.List.Elements.{All-head, All-tail}
-use Rattle.stateful_types.specs.declared.number.Height.{Height}
+use Rattle.stateful_base.specs.declared.number.Height.{Height}
 use Rattle.stateful_db.specs.Barrier.{open_at, answered}
 use Rattle.stateful_db.specs.declared.barrier.Flushed.{Flushed as Answer}
 use Rattle.stateful_db.specs.declared.barrier.Handle.{Handle}

@@ -2,8 +2,8 @@
 -- request that waits waited before, or it was found that it has to.
 use Rattle.std.proofs.Common.{◌≡◌, ◌≤◌, ◌+◌, ◌++◌, ◌⊎◌, inl, inr, ℕ, true, false, List, [], ◌∷◌, map, All, Option, sym, ap, ◌∙◌, subst, append-nil, arith}
 use Rattle.std.proofs.lemmas.List.Elements.{All-nil, All-cons}
-use Rattle.stateful_types.specs.Names.{Named}
-use Rattle.stateful_types.specs.declared.anchor.Anchor.{Anchor}
+use Rattle.stateful_base.specs.Names.{Named}
+use Rattle.stateful_base.specs.declared.anchor.Anchor.{Anchor}
 use Rattle.stateful_db.specs.declared.application.Hooked.{Hooked}
 use Rattle.stateful_db.specs.declared.application.Hooked.TheVariants as hooked
 use Rattle.stateful_durability.specs.Durability.{receipts_up_to}

@@ -1,7 +1,7 @@
 -- What the loop keeps stands after every event that is taken in, but for a restart.
 use Rattle.std.proofs.Common.{◌≡◌, ◌∷◌, [], ℕ, Option, Some, refl, sym, ap, ◌∙◌}
 use Rattle.std.proofs.lemmas.List.{append-nil}
-use Rattle.stateful_types.specs.Names.{Named}
+use Rattle.stateful_base.specs.Names.{Named}
 use Rattle.stateful_db.specs.Laws.{Laws}
 use Rattle.stateful_history.specs.Past.{Past, Came}
 use Rattle.stateful_history.specs.Stops.{IsRestart}

@@ -2,10 +2,10 @@
 use Rattle.std.proofs.Common.{◌≡◌, ◌∷◌, [], ℕ, List, Option, Some, MatchOption, sym, ap, ◌∙◌, subst, arith}
 use Rattle.std.proofs.lemmas.Bool.{false≢true}
 use Rattle.std.proofs.lemmas.List.Elements.{All-nil}
-use Rattle.stateful_types.specs.Anchor.{anchor_by}
-use Rattle.stateful_types.specs.Names.{Named}
-use Rattle.stateful_types.specs.declared.anchor.Anchor.{Anchor}
-use Rattle.stateful_types.specs.declared.floor.Floor.{Floor}
+use Rattle.stateful_base.specs.Anchor.{anchor_by}
+use Rattle.stateful_base.specs.Names.{Named}
+use Rattle.stateful_base.specs.declared.anchor.Anchor.{Anchor}
+use Rattle.stateful_base.specs.declared.floor.Floor.{Floor}
 use Rattle.stateful_history.specs.Anchors.{applied}
 use Rattle.stateful_history.specs.Holding.{HoldsSince, Holds}
 use Rattle.stateful_history.specs.Past.{Past, Made}

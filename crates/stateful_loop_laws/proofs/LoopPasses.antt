@@ -1,6 +1,6 @@
 -- What the loop keeps stands after the rules of execution, which say nothing of it, and where receipts are held.
 use Rattle.std.proofs.Common.{◌≡◌, ℕ, Option, refl}
-use Rattle.stateful_types.specs.Names.{Named}
+use Rattle.stateful_base.specs.Names.{Named}
 use Rattle.stateful_durability.specs.Durability.{with_duplicate}
 use Rattle.stateful_history.specs.Past.{Past}
 use Rattle.stateful_history.specs.declared.mark.Mark.{Mark}

@@ -1,6 +1,6 @@
 -- What each rule of the loop, and each event that is taken in, changes of the databases.
 use Rattle.std.proofs.Common.{◌≡◌, ◌++◌, ◌∷◌, [], ℕ, Bool, false, List, Option, refl, ap, ◌∙◌}
-use Rattle.stateful_types.specs.Names.{Named}
+use Rattle.stateful_base.specs.Names.{Named}
 use Rattle.stateful_db.specs.declared.application.Hooked.{Hooked}
 use Rattle.stateful_db.specs.declared.application.Hooked.TheVariants as hooked
 use Rattle.stateful_db.specs.declared.barrier.Flushed.TheVariants.{Good, Interrupted}

@@ -1,10 +1,10 @@
 -- What the media keep is kept where the databases are opened, and where they aren't; and what keeps them from being opened.
 use Rattle.std.proofs.Common.{◌≡◌, ◌≤◌, ◌<◌, ◌^◌, ◌⊎◌, ◌∷◌, inl, inr, ℕ, List, All, Option, Some, None, refl, sym, ap, ◌∙◌, subst, arith}
-use Rattle.stateful_types.specs.Anchor.{anchor_by}
-use Rattle.stateful_types.specs.Causes.{Rose}
-use Rattle.stateful_types.specs.Names.{Named}
-use Rattle.stateful_types.specs.declared.anchor.Anchor.{Anchor}
-use Rattle.stateful_types.specs.declared.floor.Floor.{Floor}
+use Rattle.stateful_base.specs.Anchor.{anchor_by}
+use Rattle.stateful_base.specs.Causes.{Rose}
+use Rattle.stateful_base.specs.Names.{Named}
+use Rattle.stateful_base.specs.declared.anchor.Anchor.{Anchor}
+use Rattle.stateful_base.specs.declared.floor.Floor.{Floor}
 use Rattle.stateful_db.specs.Databases.{Databases, EndsWithin}
 use Rattle.stateful_db.specs.Laws.{Laws, KeepsUpTo}
 use Rattle.stateful_db.specs.declared.database.InitError.{InitError}

@@ -5,7 +5,7 @@ use Rattle.std.specs.List.Sorted.{IsNonDecreasingBy, IsStrictlyIncreasing}
 use Rattle.std.proofs.Math.Seq.{drop-append_seam}
 use Rattle.std.proofs.lemmas.List.Elements.{All-push, All-weaker, All-filter}
 use Rattle.std.proofs.lemmas.List.Sorted.{IsNonDecreasingBy-drop}
-use Rattle.stateful_types.specs.Names.{Named}
+use Rattle.stateful_base.specs.Names.{Named}
 use Rattle.stateful_durability.specs.Durability.{Coverage, IsInOrder, receipts_up_to, receipts_above, after_completion}
 use Rattle.stateful_durability.proofs.Barriers.{completion_keeps_order}
 use Rattle.stateful_durability.proofs.Order.{with_duplicate_keeps_order, push_keeps_order}

@@ -1,7 +1,7 @@
 -- No request is parked behind requests that are served where none was, nor after a pause's begin.
 use Rattle.std.proofs.Common.{◌≡◌, ℕ, get_or, true, is_none, List, Option, subst}
 use Rattle.std.proofs.lemmas.List.Elements.{filter_passes}
-use Rattle.stateful_types.specs.Names.{Named}
+use Rattle.stateful_base.specs.Names.{Named}
 use Rattle.stateful_history.specs.declared.mark.How.{How}
 use Rattle.stateful_table.specs.Table.{put}
 use Rattle.stateful_exec.specs.Ending.{Follows, given_up, at_boundary, failed, parked, goes_on}

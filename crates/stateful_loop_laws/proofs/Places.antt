@@ -1,8 +1,8 @@
 -- What execution is paused for stays so behind what leaves the anchor, the cache, the pause and the tip.
 use Rattle.std.proofs.Common.{◌≡◌, inr, ℕ, List, ◌∷◌, All, Option, None, Some, refl, ◌∙◌, subst}
-use Rattle.stateful_types.specs.Names.{Named}
-use Rattle.stateful_types.specs.declared.anchor.Anchor.{Anchor}
-use Rattle.stateful_types.specs.declared.digest.Digest.{Digest}
+use Rattle.stateful_base.specs.Names.{Named}
+use Rattle.stateful_base.specs.declared.anchor.Anchor.{Anchor}
+use Rattle.stateful_base.specs.declared.digest.Digest.{Digest}
 use Rattle.stateful_history.specs.Anchors.{applied, anchor_of, tip_of}
 use Rattle.stateful_history.specs.Met.{Met, TrueNames}
 use Rattle.stateful_history.specs.Past.{Past, Item, after}

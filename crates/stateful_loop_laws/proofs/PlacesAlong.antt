@@ -1,7 +1,7 @@
 -- Marks are in their places after a whole event, but for a restart: it is taken in, and rules go one after another.
 use Rattle.std.proofs.Common.{◌≡◌, ◌++◌, ◌∷◌, [], ℕ, true, List, Option, sym, ap, ◌∙◌, subst, append_assoc, append-nil}
 use Rattle.std.proofs.lemmas.List.{append_cancel_left}
-use Rattle.stateful_types.specs.Names.{Named}
+use Rattle.stateful_base.specs.Names.{Named}
 use Rattle.stateful_db.specs.Laws.{Laws}
 use Rattle.stateful_history.specs.Live.{names_live}
 use Rattle.stateful_history.specs.Past.{Past, Came, EachMark, after}

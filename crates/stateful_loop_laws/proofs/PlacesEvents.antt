@@ -2,7 +2,7 @@
 use Rattle.std.proofs.Common.{◌≡◌, ◌≢◌, ◌++◌, ◌==◌, inl, ℕ, true, List, [], ◌∷◌, All, Option, Some, IfSome, refl, sym, ap, ◌∙◌, subst, append-nil}
 use Rattle.std.proofs.lemmas.Bool.{eq-eqb}
 use Rattle.std.proofs.lemmas.List.Elements.{All-nil, All-cons}
-use Rattle.stateful_types.specs.Names.{Named}
+use Rattle.stateful_base.specs.Names.{Named}
 use Rattle.stateful_history.specs.Live.{names_live, live_ticket}
 use Rattle.stateful_history.specs.Past.{Past, Came, EachMark, after}
 use Rattle.stateful_history.specs.Requests.{IsLiveRequest}

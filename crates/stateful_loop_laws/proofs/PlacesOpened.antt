@@ -1,9 +1,9 @@
 -- What is kept for marks to be in their places is kept where a machine is opened, behind what a past keeps.
 use Rattle.std.proofs.Common.{◌≡◌, ◌∷◌, ℕ, Option, Some, None, List, refl, sym, ap, ◌∙◌, subst}
 use Rattle.std.proofs.lemmas.List.Elements.{All-nil}
-use Rattle.stateful_types.specs.Names.{Named}
-use Rattle.stateful_types.specs.Anchor.{anchor_by}
-use Rattle.stateful_types.specs.declared.floor.Floor.{Floor}
+use Rattle.stateful_base.specs.Names.{Named}
+use Rattle.stateful_base.specs.Anchor.{anchor_by}
+use Rattle.stateful_base.specs.declared.floor.Floor.{Floor}
 use Rattle.stateful_history.specs.Past.{Past, Made}
 use Rattle.stateful_history.specs.Stops.{NothingLive}
 use Rattle.stateful_history.specs.declared.mark.Mark.TheVariants.{Opened}

@@ -1,8 +1,8 @@
 -- What a past keeps for marks to be in their places is kept after marks of rules and after events.
 use Rattle.std.proofs.Common.{◌≡◌, ◌++◌, ◌<◌, ◌==◌, if◌then◌else◌, inl, inr, ℕ, Bool, suc, true, false, List, [], ◌∷◌, All, Any, Option, None, Some, MatchOption, refl, sym, ◌∙◌, subst, arith}
 use Rattle.std.proofs.lemmas.List.Elements.{All-head, All-tail}
-use Rattle.stateful_types.specs.Names.{Named}
-use Rattle.stateful_types.specs.declared.digest.Digest.{Digest}
+use Rattle.stateful_base.specs.Names.{Named}
+use Rattle.stateful_base.specs.declared.digest.Digest.{Digest}
 use Rattle.stateful_history.specs.Ancestors.{IsOnPath}
 use Rattle.stateful_history.specs.Fetches.{WasAsked}
 use Rattle.stateful_history.specs.Live.{live_ticket, bound_of}

@@ -1,7 +1,7 @@
 -- What is kept for marks to be in their places is kept where execution has no part.
 use Rattle.std.proofs.Common.{◌≡◌, ◌≢◌, ◌++◌, ◌<◌, ℕ, true, List, [], ◌∷◌, All, Option, None, Some, IfSome, map, refl, sym, ◌∙◌, subst, arith}
 use Rattle.std.proofs.lemmas.List.Elements.{All-head, All-tail}
-use Rattle.stateful_types.specs.Names.{Named}
+use Rattle.stateful_base.specs.Names.{Named}
 use Rattle.stateful_durability.specs.Durability.{receipts_up_to}
 use Rattle.stateful_history.specs.Answers.{EndsLive}
 use Rattle.stateful_history.specs.Barriers.{begun_over}

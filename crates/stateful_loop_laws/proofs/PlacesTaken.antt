@@ -1,9 +1,9 @@
 -- Marks are in their places after every event that is taken in, but for a restart.
 use Rattle.std.proofs.Common.{◌≡◌, ◌∷◌, [], ℕ, true, Option, Ok, Err, Result, refl, sym, ap, ◌∙◌, subst, append-nil}
 use Rattle.std.proofs.lemmas.List.Elements.{All-nil}
-use Rattle.stateful_types.specs.Names.{Named}
-use Rattle.stateful_types.specs.declared.outcome.Moved.{Moved}
-use Rattle.stateful_types.specs.declared.outcome.Moved.TheVariants.{Pending, Done}
+use Rattle.stateful_base.specs.Names.{Named}
+use Rattle.stateful_base.specs.declared.outcome.Moved.{Moved}
+use Rattle.stateful_base.specs.declared.outcome.Moved.TheVariants.{Pending, Done}
 use Rattle.stateful_db.specs.Laws.{Laws}
 use Rattle.stateful_history.specs.Live.{live_job, names_live}
 use Rattle.stateful_history.specs.Past.{Past, Came}

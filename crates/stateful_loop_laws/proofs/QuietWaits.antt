@@ -2,8 +2,8 @@
 use Rattle.std.proofs.Common.{zero, suc, ◌≡◌, ◌≢◌, ◌<◌, ◌≤◌, ◌+◌, ◌∷◌, inl, inr, ℕ, Bool, true, false, List, [], map, All, Option, Some, None, IfSome, IsSome, MatchOption, refl, sym, ap, ◌∙◌, subst, arith, cond, ◌==◌}
 use Rattle.std.proofs.lemmas.Bool.{eqb-true, true≢false, false≢true}
 use Rattle.std.proofs.lemmas.List.Elements.{All-head, All-tail}
-use Rattle.stateful_types.specs.Names.{Named}
-use Rattle.stateful_types.specs.declared.digest.Digest.{Digest}
+use Rattle.stateful_base.specs.Names.{Named}
+use Rattle.stateful_base.specs.declared.digest.Digest.{Digest}
 use Rattle.stateful_history.specs.Asked.{verified}
 use Rattle.stateful_history.specs.Finalizations.{finalized_since}
 use Rattle.stateful_history.specs.Jobs.{IsOutstandingCandidate}

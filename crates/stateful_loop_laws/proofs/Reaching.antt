@@ -1,7 +1,7 @@
 -- At which heights the databases can be opened again, after marks and events.
 use Rattle.std.proofs.Common.{◌≡◌, ◌≤◌, ◌⊎◌, inl, inr, ℕ, true, false, List, [], ◌∷◌, All, Option, Some, None, MatchOption, refl, ◌∙◌, subst, arith}
 use Rattle.std.proofs.lemmas.List.Elements.{All-head, All-tail}
-use Rattle.stateful_types.specs.declared.anchor.Anchor.{Anchor}
+use Rattle.stateful_base.specs.declared.anchor.Anchor.{Anchor}
 use Rattle.stateful_history.specs.Durable.{durable, WasRecorded}
 use Rattle.stateful_history.specs.Opening.{opening}
 use Rattle.stateful_history.specs.Past.{Past, Came, Made, Cut, Tried, EachMark, after}

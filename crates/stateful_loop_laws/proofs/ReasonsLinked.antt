@@ -2,7 +2,7 @@
 use Rattle.std.proofs.Common.{◌≡◌, ◌++◌, ◌∷◌, [], ℕ, not, take, List, Option, Some, MatchOption, All, sym, ap, ◌∙◌, subst}
 use Rattle.std.proofs.lemmas.List.{append_cancel_left}
 use Rattle.std.proofs.lemmas.List.Elements.{All-head, All-tail, All-append, All-filter, All-cons, All-nil}
-use Rattle.stateful_types.specs.Names.{Named}
+use Rattle.stateful_base.specs.Names.{Named}
 use Rattle.stateful_history.specs.Honest.{IsHonest, Descends}
 use Rattle.stateful_history.specs.Past.{Past, Came, EachMark}
 use Rattle.stateful_history.specs.declared.event.Event.{Event}

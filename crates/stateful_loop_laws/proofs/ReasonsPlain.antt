@@ -1,7 +1,7 @@
 -- Marks that are neither false verdicts nor declines have nothing to account for.
 use Rattle.std.proofs.Common.{◌≡◌, ◌++◌, ℕ, true, false, List, [], ◌∷◌, All, Option, sym, ap, ◌∙◌, append-nil}
 use Rattle.std.proofs.lemmas.List.Elements.{All-head, All-tail, All-nil, All-cons}
-use Rattle.stateful_types.specs.Names.{Named}
+use Rattle.stateful_base.specs.Names.{Named}
 use Rattle.stateful_history.specs.Declines.{DeclinedHasReason}
 use Rattle.stateful_history.specs.Past.{Past, EachMark, Made}
 use Rattle.stateful_history.specs.Reasons.{FalseHasReason}

@@ -1,7 +1,7 @@
 -- False verdicts and declines have their reasons, and what is kept for reasons is kept: after a whole event, but for a restart.
 use Rattle.std.proofs.Common.{◌≡◌, ◌∷◌, ℕ, true, List, Option, sym, ◌∙◌, subst}
 use Rattle.std.proofs.lemmas.List.{append_cancel_left}
-use Rattle.stateful_types.specs.Names.{Named}
+use Rattle.stateful_base.specs.Names.{Named}
 use Rattle.stateful_db.specs.Laws.{Laws}
 use Rattle.stateful_history.specs.Live.{names_live}
 use Rattle.stateful_history.specs.Met.{TrueNames}

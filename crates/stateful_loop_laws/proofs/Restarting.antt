@@ -1,9 +1,9 @@
 -- A restart in whole: all live work is ended, all that went on is dropped, and the databases are opened.
 use Rattle.std.proofs.Common.{◌≡◌, ◌∷◌, [], ℕ, List, All, Option, refl, ◌∙◌}
 use Rattle.std.proofs.lemmas.List.Elements.{All-head, All-tail}
-use Rattle.stateful_types.specs.Anchor.{anchor_by}
-use Rattle.stateful_types.specs.Names.{Named}
-use Rattle.stateful_types.specs.declared.floor.Floor.{Floor}
+use Rattle.stateful_base.specs.Anchor.{anchor_by}
+use Rattle.stateful_base.specs.Names.{Named}
+use Rattle.stateful_base.specs.declared.floor.Floor.{Floor}
 use Rattle.stateful_db.specs.Laws.{Laws}
 use Rattle.stateful_history.specs.Canonical.{pruned_below}
 use Rattle.stateful_history.specs.Met.{Brings, TrueNames}

@@ -1,7 +1,7 @@
 -- What marks of rules leave of a past: whether the machine is down, the opening, what was pruned, and with it what the store has.
 use Rattle.std.proofs.Common.{◌≡◌, ◌∷◌, [], ℕ, false, List, All, Option, refl, ◌∙◌}
 use Rattle.std.proofs.lemmas.List.Elements.{All-head, All-tail}
-use Rattle.stateful_types.specs.Names.{Named}
+use Rattle.stateful_base.specs.Names.{Named}
 use Rattle.stateful_history.specs.Canonical.{pruned_below}
 use Rattle.stateful_history.specs.Opening.{is_down, opening, opens}
 use Rattle.stateful_history.specs.Past.{Past, Made, after}

@@ -1,8 +1,8 @@
 -- A machine that is up stands after each rule of its loop.
 use Rattle.std.proofs.Common.{◌≡◌, ◌++◌, ℕ, All, List, Option, MatchOption, sym, ◌∙◌, subst}
 use Rattle.std.proofs.lemmas.List.{append_cancel_left}
-use Rattle.stateful_types.specs.Names.{Named}
-use Rattle.stateful_types.specs.declared.anchor.Anchor.{Anchor}
+use Rattle.stateful_base.specs.Names.{Named}
+use Rattle.stateful_base.specs.declared.anchor.Anchor.{Anchor}
 use Rattle.stateful_db.specs.Laws.{Laws}
 use Rattle.stateful_durability.specs.Durability.{IsInOrder}
 use Rattle.stateful_history.specs.Holding.{HoldsSince, Holds}

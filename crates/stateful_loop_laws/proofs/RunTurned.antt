@@ -1,7 +1,7 @@
 -- Execution stands after a turn of a run: of a candidate, or of the finalized block.
 use Rattle.std.proofs.Common.{All, ◌≡◌, ℕ, ◌∷◌, true, false, Option, None, Some, IsSome, MatchOption, refl, sym, ap, ◌∙◌, subst}
-use Rattle.stateful_types.specs.Names.{Named}
-use Rattle.stateful_types.specs.declared.digest.Digest.{Digest}
+use Rattle.stateful_base.specs.Names.{Named}
+use Rattle.stateful_base.specs.declared.digest.Digest.{Digest}
 use Rattle.stateful_db.specs.Laws.{Laws}
 use Rattle.stateful_history.specs.Jobs.{JobOf, IsLiveJob, started_for}
 use Rattle.stateful_history.specs.Live.{live_job}

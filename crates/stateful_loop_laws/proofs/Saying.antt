@@ -1,7 +1,7 @@
 -- Marks and events of other tickets leave what a past says of some tickets.
 use Rattle.std.proofs.Common.{◌≡◌, ◌==◌, inr, if◌then◌else◌, ℕ, List, [], ◌∷◌, All, refl, sym, ◌∙◌, subst}
 use Rattle.std.proofs.lemmas.List.Elements.{All-head, All-tail, All-weaker}
-use Rattle.stateful_types.specs.Names.{Named}
+use Rattle.stateful_base.specs.Names.{Named}
 use Rattle.stateful_history.specs.Asked.{verified}
 use Rattle.stateful_history.specs.Finalizations.{finalized_since}
 use Rattle.stateful_history.specs.Live.{live_ticket}

@@ -1,9 +1,9 @@
 -- After each event that is taken in, where nothing pauses, what each request needs was looked for.
 use Rattle.std.proofs.Common.{◌≡◌, ℕ, List, Option, refl, sym, ap, ◌∙◌, subst}
 use Rattle.std.proofs.lemmas.List.Elements.{All-filter}
-use Rattle.stateful_types.specs.Names.{Header, Named}
-use Rattle.stateful_types.specs.declared.outcome.Handoff.{Handoff}
-use Rattle.stateful_types.specs.declared.outcome.Handoff.TheVariants.{Wait, Vote, Stage}
+use Rattle.stateful_base.specs.Names.{Header, Named}
+use Rattle.stateful_base.specs.declared.outcome.Handoff.{Handoff}
+use Rattle.stateful_base.specs.declared.outcome.Handoff.TheVariants.{Wait, Vote, Stage}
 use Rattle.stateful_db.specs.declared.application.ProposedBlock.{ProposedBlock}
 use Rattle.stateful_history.specs.declared.event.Event.{Event}
 use Rattle.stateful_history.specs.declared.mark.Mark.{Mark}

@@ -1,6 +1,6 @@
 -- After each rule of the loop, where nothing pauses, what each request needs was looked for.
 use Rattle.std.proofs.Common.{◌≡◌, ℕ, Option, sym, ap, ◌∙◌, subst}
-use Rattle.stateful_types.specs.Names.{Named}
+use Rattle.stateful_base.specs.Names.{Named}
 use Rattle.stateful_exec.specs.Finalizing.{HooksOn}
 use Rattle.stateful_exec_tables.specs.Tables.{requested}
 use Rattle.stateful_exec_tables.specs.Request.{ticket_by}

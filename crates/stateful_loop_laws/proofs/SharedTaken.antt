@@ -1,8 +1,8 @@
 -- A cancel that is taken in cancels no run for which another live request waits.
 use Rattle.std.proofs.Common.{◌≡◌, ◌≢◌, ◌==◌, ◌∷◌, [], inl, inr, ℕ, Bool, true, false, List, Option, Some, None, if◌then◌else◌, option_map, refl, sym, ap, ◌∙◌, subst, true≢false}
 use Rattle.std.proofs.lemmas.Bool.{eqb-false, eq-eqb}
-use Rattle.stateful_types.specs.Names.{Named}
-use Rattle.stateful_types.specs.declared.digest.Digest.{Digest}
+use Rattle.stateful_base.specs.Names.{Named}
+use Rattle.stateful_base.specs.declared.digest.Digest.{Digest}
 use Rattle.stateful_history.specs.Jobs.{JobOf, job_of}
 use Rattle.stateful_history.specs.Live.{live_ticket}
 use Rattle.stateful_history.specs.Past.{Past, Came, EachMark}

@@ -1,6 +1,6 @@
 -- Whatever event is taken in, but a restart, what waits stands behind it.
 use Rattle.std.proofs.Common.{◌≡◌, ℕ, true, [], ◌∷◌, Option}
-use Rattle.stateful_types.specs.Names.{Named}
+use Rattle.stateful_base.specs.Names.{Named}
 use Rattle.stateful_history.specs.Live.{names_live}
 use Rattle.stateful_history.specs.Past.{Past, Came}
 use Rattle.stateful_history.specs.Stops.{IsRestart}

@@ -1,6 +1,6 @@
 -- After each rule of the loop what waits stands.
 use Rattle.std.proofs.Common.{◌≡◌, ℕ, [], Option, None, refl, sym, ap, ◌∙◌, subst}
-use Rattle.stateful_types.specs.Names.{Named}
+use Rattle.stateful_base.specs.Names.{Named}
 use Rattle.stateful_history.specs.Past.{Past}
 use Rattle.stateful_exec.specs.Workings.{Workings}
 use Rattle.stateful_loop.specs.Moments.{Moment, Executing, with_loop}

@@ -1,8 +1,8 @@
 -- Where nothing waits, all that waits stands, as after an opening.
 use Rattle.std.proofs.Common.{◌≡◌, ℕ, List, [], Option, Some, None, IfSome, sym, ap, ◌∙◌, subst}
 use Rattle.std.proofs.lemmas.List.Elements.{All-nil}
-use Rattle.stateful_types.specs.Names.{Named}
-use Rattle.stateful_types.specs.declared.floor.Floor.{Floor}
+use Rattle.stateful_base.specs.Names.{Named}
+use Rattle.stateful_base.specs.declared.floor.Floor.{Floor}
 use Rattle.stateful_history.specs.Finalizations.{finalized_since}
 use Rattle.stateful_history.specs.Past.{Past}
 use Rattle.stateful_history.specs.Requests.{IsLiveReceipt}

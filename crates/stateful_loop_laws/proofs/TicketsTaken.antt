@@ -2,7 +2,7 @@
 use Rattle.std.proofs.Common.{◌≡◌, ◌≢◌, ◌++◌, ℕ, List, ◌∷◌, All, Option, sym, ap, ◌∙◌, subst, arith}
 use Rattle.std.proofs.lemmas.List.{append_cancel_left}
 use Rattle.std.proofs.lemmas.List.Elements.{All-head, All-tail, All-weaker}
-use Rattle.stateful_types.specs.Names.{Named}
+use Rattle.stateful_base.specs.Names.{Named}
 use Rattle.stateful_history.specs.Past.{Past, after}
 use Rattle.stateful_history.specs.declared.mark.Mark.{Mark}
 use Rattle.stateful_exec.specs.Workings.{Workings}

@@ -1,6 +1,6 @@
 -- What is trusted of the world for a longer past is trusted for a shorter one.
 use Rattle.std.proofs.Common.{◌≡◌, ◌++◌, inr, ℕ, List, [], ◌∷◌, Option, ◌∙◌, ap, subst, append_assoc}
-use Rattle.stateful_types.specs.Names.{Named}
+use Rattle.stateful_base.specs.Names.{Named}
 use Rattle.stateful_history.specs.Past.{Past, Item, Came, Made, after, after_all}
 use Rattle.stateful_history.specs.declared.entry.Entry.{Entry}
 use Rattle.stateful_history.specs.declared.event.Event.TheVariants.{Finalized}

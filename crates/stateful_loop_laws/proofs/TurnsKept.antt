@@ -1,6 +1,6 @@
 -- Execution stands after a turn of a job, be it the live build, the hook or a run, and true verdicts are earned.
 use Rattle.std.proofs.Common.{◌≡◌, ℕ, ◌∷◌, true, Option}
-use Rattle.stateful_types.specs.Names.{Named}
+use Rattle.stateful_base.specs.Names.{Named}
 use Rattle.stateful_db.specs.Laws.{Laws}
 use Rattle.stateful_history.specs.Live.{live_job}
 use Rattle.stateful_history.specs.Past.{Past, Came}

@@ -1,9 +1,9 @@
 -- A request that has to wait abstains: its block is below the anchor, and the store has no block of its height.
 use Rattle.std.proofs.Common.{◌≡◌, ◌≢◌, ◌<◌, ◌==◌, inr, ℕ, Bool, true, false, nat_lt, if◌then◌else◌, List, Option, Some, None, option_map, MatchOption, refl, sym, ◌∙◌, subst, arith}
 use Rattle.std.proofs.lemmas.Grind.{common_steps}
-use Rattle.stateful_types.specs.Names.{Named}
-use Rattle.stateful_types.specs.declared.anchor.Anchor.{Anchor}
-use Rattle.stateful_types.specs.declared.digest.Digest.{Digest}
+use Rattle.stateful_base.specs.Names.{Named}
+use Rattle.stateful_base.specs.declared.anchor.Anchor.{Anchor}
+use Rattle.stateful_base.specs.declared.digest.Digest.{Digest}
 use Rattle.stateful_history.specs.Anchors.{anchor_of, tip_of}
 use Rattle.stateful_history.specs.Canonical.{canonical, pruned_below}
 use Rattle.stateful_history.specs.Fetches.{IsUndecided, Abstains}

@@ -1,7 +1,7 @@
 -- Where nothing can go on without another event, a live request that has nothing else to wait for waits for a candidate run.
 use Rattle.std.proofs.Common.{◌≡◌, ◌<◌, inl, inr, ℕ, true, List, [], map, Option, Some, None, IsSome, MatchOption, refl, sym, ◌∙◌, subst, arith}
-use Rattle.stateful_types.specs.Names.{Named}
-use Rattle.stateful_types.specs.declared.digest.Digest.{Digest}
+use Rattle.stateful_base.specs.Names.{Named}
+use Rattle.stateful_base.specs.declared.digest.Digest.{Digest}
 use Rattle.stateful_history.specs.Asked.{verified}
 use Rattle.stateful_history.specs.Fetches.{HasFetch, Abstains}
 use Rattle.stateful_history.specs.Finalizations.{begun}

@@ -1,6 +1,6 @@
 -- The ways of requests are kept after an event that is taken in.
 use Rattle.std.proofs.Common.{◌≡◌, ◌∷◌, ℕ, Option, ap}
-use Rattle.stateful_types.specs.Names.{Named}
+use Rattle.stateful_base.specs.Names.{Named}
 use Rattle.stateful_db.specs.Laws.{Laws}
 use Rattle.stateful_history.specs.Met.{TrueNames}
 use Rattle.stateful_history.specs.Past.{Past, Came}

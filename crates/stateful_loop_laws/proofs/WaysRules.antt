@@ -2,7 +2,7 @@
 use Rattle.std.proofs.Common.{◌≡◌, ◌==◌, ◌++◌, ℕ, Bool, true, false, if◌then◌else◌, IfSome, Some, List, [], ◌∷◌, All, Option, None, refl, sym, ap, ◌∙◌, subst}
 use Rattle.std.proofs.lemmas.List.{append-nil}
 use Rattle.std.proofs.lemmas.List.Elements.{All-cons, All-map, All-nil}
-use Rattle.stateful_types.specs.Names.{Header, Named}
+use Rattle.stateful_base.specs.Names.{Header, Named}
 use Rattle.stateful_db.specs.Laws.{Laws}
 use Rattle.stateful_durability.specs.Durability.{receipts_up_to}
 use Rattle.stateful_history.specs.Finalizations.{finalized_since}

@@ -1,8 +1,8 @@
 -- The ways of requests are kept behind a request that is scheduled, and behind the answer of a fetch.
 use Rattle.std.proofs.Common.{◌≡◌, ◌==◌, not, inl, ℕ, [], ◌∷◌, All, Option, None, refl, sym, ◌∙◌, subst}
 use Rattle.std.proofs.lemmas.List.Elements.{All-filter, All-nil, All-push}
-use Rattle.stateful_types.specs.Names.{Named}
-use Rattle.stateful_types.specs.declared.digest.Digest.{Digest}
+use Rattle.stateful_base.specs.Names.{Named}
+use Rattle.stateful_base.specs.declared.digest.Digest.{Digest}
 use Rattle.stateful_db.specs.Laws.{Laws}
 use Rattle.stateful_history.specs.Met.{Met, TrueNames}
 use Rattle.stateful_history.specs.Past.{Past, Came}

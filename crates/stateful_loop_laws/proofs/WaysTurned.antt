@@ -2,11 +2,11 @@
 use Rattle.std.proofs.Common.{◌≡◌, ◌++◌, ℕ, not, get_or, List, [], ◌∷◌, All, Option, MatchOption, Result, length, ◌<◌, Ok, Err, refl, sym, ap, ◌∙◌, subst}
 use Rattle.std.proofs.lemmas.List.{append_assoc, append-nil}
 use Rattle.std.proofs.lemmas.List.Elements.{All-append, All-cons, All-filter, All-head, All-nil, All-tail, All-weaker}
-use Rattle.stateful_types.specs.Names.{Header, Named}
-use Rattle.stateful_types.specs.declared.anchor.Anchor.{Anchor}
-use Rattle.stateful_types.specs.declared.digest.Digest.{Digest}
-use Rattle.stateful_types.specs.declared.outcome.Moved.{Moved}
-use Rattle.stateful_types.specs.declared.outcome.Moved.TheVariants.{Pending, Done}
+use Rattle.stateful_base.specs.Names.{Header, Named}
+use Rattle.stateful_base.specs.declared.anchor.Anchor.{Anchor}
+use Rattle.stateful_base.specs.declared.digest.Digest.{Digest}
+use Rattle.stateful_base.specs.declared.outcome.Moved.{Moved}
+use Rattle.stateful_base.specs.declared.outcome.Moved.TheVariants.{Pending, Done}
 use Rattle.stateful_db.specs.declared.application.AppFault.{AppFault}
 use Rattle.stateful_history.specs.Past.{Past}
 use Rattle.stateful_history.specs.declared.mark.How.{How}

@@ -1,6 +1,6 @@
 -- What stands after a rule of the loop of a machine that was up.
 use Rattle.std.specs.Prelude.{◌≡◌, ◌≢◌, ◌<◌, ℕ, true, Option, None, List, ◌++◌, All}
-use Rattle.stateful_types.specs.Names.{Named}
+use Rattle.stateful_base.specs.Names.{Named}
 use Rattle.stateful_durability.specs.Durability.{IsInOrder}
 use Rattle.stateful_history.specs.Barriers.{begun_over}
 use Rattle.stateful_history.specs.Holding.{Holds}

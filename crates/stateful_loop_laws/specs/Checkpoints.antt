@@ -1,6 +1,6 @@
 -- What the databases keep since the opening, place by place.
 use Rattle.std.specs.Prelude.{◌≡◌, ◌≤◌, ℕ, ◌+◌, ◌-◌, ◌<◌, Some, length}
-use Rattle.stateful_types.specs.declared.anchor.Anchor.{Anchor}
+use Rattle.stateful_base.specs.declared.anchor.Anchor.{Anchor}
 use Rattle.stateful_db.specs.Databases.{Databases}
 use Rattle.stateful_history.specs.Setting.{Setting}
 use Rattle.stateful_history.specs.Past.{Past}

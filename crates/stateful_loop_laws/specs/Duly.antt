@@ -1,6 +1,6 @@
 -- The rules on marks of jobs, of answers to builds, of withdrawn fetches and of finalizations.
 use Rattle.std.specs.Prelude.{◌≡◌, ℕ, Option, List, ◌++◌, All, Contains}
-use Rattle.stateful_types.specs.Names.{Named}
+use Rattle.stateful_base.specs.Names.{Named}
 use Rattle.stateful_history.specs.Answers.{AnsweredIsBuilt}
 use Rattle.stateful_history.specs.Fetches.{WithdrawnHasCause}
 use Rattle.stateful_history.specs.Finalizations.{FinalizesInOrder}

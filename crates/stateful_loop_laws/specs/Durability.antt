@@ -1,6 +1,6 @@
 -- The rules on marks of barriers and of acknowledgements, and what the loop keeps after marks.
 use Rattle.std.specs.Prelude.{◌≡◌, ℕ, Option, List, ◌++◌}
-use Rattle.stateful_types.specs.Names.{Named}
+use Rattle.stateful_base.specs.Names.{Named}
 use Rattle.stateful_history.specs.Barriers.{BarrierIsOver, GoodIsInOrder}
 use Rattle.stateful_history.specs.Durable.{GoodIsFlushed, AcknowledgedIsDurable}
 use Rattle.stateful_history.specs.Finalizations.{AcknowledgedIsApplied}

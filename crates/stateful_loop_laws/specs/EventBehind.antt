@@ -1,7 +1,7 @@
 -- What stands after a whole event: it is taken in by a machine that is up, and rules go until
 -- nothing can go on; or it is a restart.
 use Rattle.std.specs.Prelude.{◌≡◌, ℕ, true, Option, List, ◌++◌, All}
-use Rattle.stateful_types.specs.Names.{Named}
+use Rattle.stateful_base.specs.Names.{Named}
 use Rattle.stateful_history.specs.Holding.{Holds}
 use Rattle.stateful_history.specs.Joined.{TrueIsEarned}
 use Rattle.stateful_history.specs.Past.{Past, EachMark, after}

@@ -1,7 +1,7 @@
 -- That all that is live at a moment is in hand: it stands in execution, or waits in the loop.
 use Rattle.std.specs.Prelude.{◌≡◌, ◌≢◌, ◌<◌, ◌++◌, ℕ, false, Option, None, IfSome, IsSome}
 use Rattle.std.specs.Prelude.{MatchOption, List, map, All}
-use Rattle.stateful_types.specs.Names.{Named}
+use Rattle.stateful_base.specs.Names.{Named}
 use Rattle.stateful_history.specs.Asked.{verified}
 use Rattle.stateful_history.specs.Finalizations.{finalized_since}
 use Rattle.stateful_history.specs.Live.{live_ticket}

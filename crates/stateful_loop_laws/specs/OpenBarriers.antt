@@ -1,8 +1,8 @@
 -- The open barriers stand for a past, and agree with the databases.
 use Rattle.std.specs.Prelude.{◌≡◌, ◌≢◌, ◌≤◌, ◌<◌, ◌+◌, ◌-◌, ◌⊎◌, ℕ, true, Some, None, IsSome, List}
 use Rattle.std.specs.Prelude.{All, AllPairs, Any, slice_get}
-use Rattle.stateful_types.specs.Names.{Header}
-use Rattle.stateful_types.specs.declared.anchor.Anchor.{Anchor}
+use Rattle.stateful_base.specs.Names.{Header}
+use Rattle.stateful_base.specs.declared.anchor.Anchor.{Anchor}
 use Rattle.stateful_db.specs.Databases.{Databases}
 use Rattle.stateful_db.specs.declared.barrier.Handle.{Handle}
 use Rattle.stateful_db.specs.declared.barrier.Flushed.TheVariants.{Good, Interrupted}

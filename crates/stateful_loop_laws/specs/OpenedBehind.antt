@@ -1,7 +1,7 @@
 -- What stands after an opening.
 use Rattle.std.specs.Prelude.{◌≡◌, ℕ, true, Option, ◌++◌, ◌∷◌, []}
-use Rattle.stateful_types.specs.Names.{Named}
-use Rattle.stateful_types.specs.declared.anchor.Anchor.{Anchor}
+use Rattle.stateful_base.specs.Names.{Named}
+use Rattle.stateful_base.specs.declared.anchor.Anchor.{Anchor}
 use Rattle.stateful_history.specs.Joined.{TrueIsEarned}
 use Rattle.stateful_history.specs.Past.{Past, Made, EachMark}
 use Rattle.stateful_history.specs.declared.mark.Mark.TheVariants.{Opened}

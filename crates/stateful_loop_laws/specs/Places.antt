@@ -1,7 +1,7 @@
 -- Marks in their places, and what is kept for them beside what a machine that is up stands for.
 use Rattle.std.specs.Prelude.{◌≡◌, ◌⊎◌, ◌<◌, ℕ, true, false, Option, Some, None, List, ◌++◌}
-use Rattle.stateful_types.specs.Names.{Named}
-use Rattle.stateful_types.specs.declared.digest.Digest.{Digest}
+use Rattle.stateful_base.specs.Names.{Named}
+use Rattle.stateful_base.specs.declared.digest.Digest.{Digest}
 use Rattle.stateful_history.specs.Answers.{EndsLive, was_cancelled, NamesNoCancelled}
 use Rattle.stateful_history.specs.Fetches.{AskedIsNeeded, WasAsked}
 use Rattle.stateful_history.specs.Jobs.{job_of, started_for}

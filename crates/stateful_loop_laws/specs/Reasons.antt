@@ -1,7 +1,7 @@
 -- Why verdicts are false and why proposals are declined, and what is trusted and kept beside for
 -- that.
 use Rattle.std.specs.Prelude.{◌≡◌, ℕ, false, Option, List, [], ◌++◌, All}
-use Rattle.stateful_types.specs.Names.{Named}
+use Rattle.stateful_base.specs.Names.{Named}
 use Rattle.stateful_history.specs.Declines.{DeclinedHasReason}
 use Rattle.stateful_history.specs.Honest.{IsHonest, IsAnswered}
 use Rattle.stateful_history.specs.Past.{Past, EachMark, after}

@@ -1,7 +1,7 @@
 -- Rounds of finalized blocks.
 use Rattle.std.specs.Prelude.{◌≡◌, ℕ, Contains}
-use Rattle.stateful_types.specs.Names.{Named}
-use Rattle.stateful_types.specs.Round.{IsLater}
+use Rattle.stateful_base.specs.Names.{Named}
+use Rattle.stateful_base.specs.Round.{IsLater}
 use Rattle.stateful_history.specs.Met.{Met}
 use Rattle.stateful_history.specs.Past.{Past, Came}
 use Rattle.stateful_history.specs.Setting.{Setting, parent_of, round_of}

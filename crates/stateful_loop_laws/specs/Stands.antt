@@ -1,7 +1,7 @@
 -- What a machine that is up stands for.
 use Rattle.std.specs.Prelude.{◌≡◌, ℕ, Option, IfSome}
-use Rattle.stateful_types.specs.Names.{Named}
-use Rattle.stateful_types.specs.declared.anchor.Anchor.{Anchor}
+use Rattle.stateful_base.specs.Names.{Named}
+use Rattle.stateful_base.specs.declared.anchor.Anchor.{Anchor}
 use Rattle.stateful_durability.specs.Durability.{IsInOrder}
 use Rattle.stateful_history.specs.Durable.{durable}
 use Rattle.stateful_history.specs.Past.{Past}

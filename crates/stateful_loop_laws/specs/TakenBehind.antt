@@ -1,6 +1,6 @@
 -- What stands after an event that is taken in while the machine is up.
 use Rattle.std.specs.Prelude.{◌≡◌, ℕ, Option, List, ◌++◌, All}
-use Rattle.stateful_types.specs.Names.{Named}
+use Rattle.stateful_base.specs.Names.{Named}
 use Rattle.stateful_history.specs.Joined.{TrueIsEarned}
 use Rattle.stateful_history.specs.Past.{Past, EachMark, after}
 use Rattle.stateful_history.specs.declared.mark.Mark.{Mark}

@@ -1,7 +1,7 @@
 -- The ways of requests, as they are kept while the machine is up.
 use Rattle.std.specs.Prelude.{◌≡◌, ℕ, Option, Some, List, ◌++◌, All}
-use Rattle.stateful_types.specs.Names.{Named}
-use Rattle.stateful_types.specs.declared.anchor.Anchor.{Anchor}
+use Rattle.stateful_base.specs.Names.{Named}
+use Rattle.stateful_base.specs.declared.anchor.Anchor.{Anchor}
 use Rattle.stateful_history.specs.Anchors.{anchor_of, tip_of}
 use Rattle.stateful_history.specs.Past.{Past, after}
 use Rattle.stateful_history.specs.declared.mark.Mark.{Mark}

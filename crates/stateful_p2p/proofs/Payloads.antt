@@ -6,8 +6,8 @@ use Rattle.std.specs.Int.{w32, w64, to_be_bytes}
 use Rattle.std.specs.Int.NonZero.{non_zero_u64_get}
 use Rattle.std.proofs.lemmas.List.Elements.{All-head, All-tail}
 use Rattle.std.proofs.Math.Nat.{suc-mul, mul-le-mul_right}
-use Rattle.stateful_types.specs.Format.{Format}
-use Rattle.stateful_types.specs.FixedLaws.{wide32, wide64}
+use Rattle.stateful_base.specs.Format.{Format}
+use Rattle.stateful_base.specs.FixedLaws.{wide32, wide64}
 use Rattle.stateful_types.specs.Request.{request_bytes}
 use Rattle.stateful_types.specs.declared.request.Request.{Request}
 use Rattle.stateful_types.specs.declared.request.Request.TheVariants as asked

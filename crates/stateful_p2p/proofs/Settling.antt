@@ -24,7 +24,7 @@ use Rattle.stateful_p2p.specs.Fanout as fanout
 use Rattle.stateful_p2p.specs.Laws.{is_answer_to}
 use Rattle.stateful_p2p.specs.declared.state.State.{State}
 use Rattle.stateful_p2p.specs.declared.state.Verdicts.{Verdicts}
-use Rattle.stateful_types.specs.Format.{Format}
+use Rattle.stateful_base.specs.Format.{Format}
 use Rattle.stateful_p2p.specs.Subscribing.{subscribed}
 use Rattle.stateful_p2p.specs.Inbox.{Inbox}
 use Rattle.stateful_p2p.specs.Resolving.{Setup, Hears, Judges, Leaves, Produces, Does}

@@ -8,7 +8,7 @@ use Rattle.std.specs.declared.num.NonZeroU64.{NonZeroU64}
 use Rattle.std.proofs.Math.Bridge.{le_prop}
 use Rattle.std.specs.Int.NonZero.{non_zero_u64_get}
 use Rattle.std.proofs.lemmas.Map.Lookups.{exact_unsigned}
-use Rattle.stateful_types.specs.declared.number.Location.{Location}
+use Rattle.stateful_base.specs.declared.number.Location.{Location}
 use Rattle.stateful_types.specs.declared.request.Request.{Request}
 use Rattle.stateful_types.specs.declared.request.Request.TheVariants.{Operations, Boundary}
 use Rattle.stateful_types.specs.Request.{request_cmp}

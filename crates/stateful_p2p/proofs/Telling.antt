@@ -7,7 +7,7 @@ use Rattle.std.specs.List.Sorted.{IsStrictlySortedBy}
 use Rattle.std.proofs.lemmas.Bool.{eq-eqb}
 use Rattle.std.proofs.lemmas.List.Kept.{IsStrictlySortedBy-filter}
 use Rattle.std.proofs.lemmas.List.Elements.{All-nil, All-append, All-contains, filter_passes, Contains-append_right}
-use Rattle.stateful_types.specs.Format.{Format}
+use Rattle.stateful_base.specs.Format.{Format}
 use Rattle.stateful_types.specs.declared.request.Request.{Request}
 use Rattle.stateful_table.specs.Table.{at}
 use Rattle.stateful_p2p.specs.Inbox.{Inbox}

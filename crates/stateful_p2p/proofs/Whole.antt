@@ -2,13 +2,13 @@
 use Rattle.std.proofs.Common.{rules, ◌≡◌, ℕ, ◌%◌, ◌^◌, Result, Ok, Err, List, [], ◌∷◌, ◌++◌, length, refl, sym, ap, subst, ◌∙◌, inl, inr, append-nil}
 use Rattle.std.specs.List.{flat_map}
 use Rattle.std.specs.Result.{IsErrOf}
-use Rattle.stateful_types.specs.Format.{Format, Reads, end_of}
-use Rattle.stateful_types.specs.FormatLaws.{same_first}
-use Rattle.stateful_types.specs.FixedLaws.{u32_alone}
-use Rattle.stateful_types.specs.Number.{u32_format}
+use Rattle.stateful_base.specs.Format.{Format, Reads, end_of}
+use Rattle.stateful_base.specs.FormatLaws.{same_first}
+use Rattle.stateful_base.specs.FixedLaws.{u32_alone}
+use Rattle.stateful_base.specs.Number.{u32_format}
 use Rattle.stateful_types.specs.Response.{response_format, Allows, IsAllowed, HasTooMany}
-use Rattle.stateful_types.specs.declared.codec.CodecError.{CodecError}
-use Rattle.stateful_types.specs.declared.codec.CodecError.TheVariants.{InvalidEnum, EndOfBuffer, OutOfMemory}
+use Rattle.stateful_base.specs.declared.codec.CodecError.{CodecError}
+use Rattle.stateful_base.specs.declared.codec.CodecError.TheVariants.{InvalidEnum, EndOfBuffer, OutOfMemory}
 use Rattle.stateful_types.specs.declared.request.Request.{Request}
 use Rattle.stateful_types.specs.declared.response.Response.{Response}
 use Rattle.stateful_types.specs.declared.response.Response.TheVariants.{Operations, Boundary}

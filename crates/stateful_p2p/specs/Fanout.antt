@@ -2,7 +2,7 @@
 use Rattle.std.specs.Prelude.{◌≡◌, ◌≢◌, ℕ, ◌+◌, ◌-◌, ◌≤◌, ◌==◌, Bool, false, not, if◌then◌else◌}
 use Rattle.std.specs.Prelude.{Option, Some, None, is_some, List, [], ◌∷◌, ◌++◌, map, filter, length}
 use Rattle.std.specs.Prelude.{option_to_list}
-use Rattle.stateful_types.specs.Format.{Format}
+use Rattle.stateful_base.specs.Format.{Format}
 use Rattle.stateful_types.specs.declared.request.Request.{Request}
 use Rattle.stateful_types.specs.declared.response.Response.{Response}
 use Rattle.stateful_table.specs.Table.{at, put, without, put_each, total}

@@ -1,7 +1,7 @@
 -- Messages between resolvers in bytes, and how long they are.
 use Rattle.std.specs.Prelude.{ℕ, ◌+◌, ◌*◌, ◌≤◌, max, List, [], ◌∷◌, ◌++◌, length, All}
-use Rattle.stateful_types.specs.Format.{Format}
-use Rattle.stateful_types.specs.Number.{u64_format}
+use Rattle.stateful_base.specs.Format.{Format}
+use Rattle.stateful_base.specs.Number.{u64_format}
 use Rattle.stateful_types.specs.Request.{request_format}
 use Rattle.stateful_types.specs.Response.{response_format}
 use Rattle.stateful_types.specs.declared.request.Request.{Request}

@@ -5,7 +5,7 @@ use Rattle.std.specs.Prelude.{◌&&◌, Option, Some, None, is_some, Result, Ok,
 use Rattle.std.specs.Prelude.{◌++◌, option_to_list}
 use Rattle.std.specs.List.Sorted.{IsPermutation, IsNonDecreasing}
 use Rattle.std.specs.Int.NonZero.{non_zero_u64_get}
-use Rattle.stateful_types.specs.Format.{Format}
+use Rattle.stateful_base.specs.Format.{Format}
 use Rattle.stateful_types.specs.Mailbox.{messages, HandsOut}
 use Rattle.stateful_types.specs.Response.{response_format}
 use Rattle.stateful_types.specs.declared.request.Request.{Request}

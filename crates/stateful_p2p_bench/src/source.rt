@@ -15,9 +15,9 @@ pub(crate) struct Number {
 
 impl Operation for Number {
     ghost use Rattle.std.specs.Prelude.{refl};
-    ghost use Rattle.stateful_types.specs.Number.{u64_format};
-    ghost use Rattle.stateful_types.specs.FixedLaws.{u64_alone};
-    ghost use Rattle.stateful_types.specs.FormatLaws.{Rest-format};
+    ghost use Rattle.stateful_base.specs.Number.{u64_format};
+    ghost use Rattle.stateful_base.specs.FixedLaws.{u64_alone};
+    ghost use Rattle.stateful_base.specs.FormatLaws.{Rest-format};
     ghost use Rattle.stateful_p2p_bench.specs.declared.source.Number.{Number};
 
     ghost operations = { record {

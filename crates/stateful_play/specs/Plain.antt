@@ -1,6 +1,6 @@
 -- The grounds of plays over one database of balances.
 use Rattle.std.specs.Prelude.{ℕ}
-use Rattle.stateful_types.specs.declared.target.Target.{Target}
+use Rattle.stateful_base.specs.declared.target.Target.{Target}
 use Rattle.stateful_db.specs.Single.{single}
 use Rattle.stateful_db.specs.declared.held.Held.TheVariants as held
 use Rattle.stateful_db_plain.specs.Shown.{SealShows}

@@ -5,7 +5,7 @@ use Rattle.std.specs.Ordering.{nat_cmp}
 use Rattle.std.specs.declared.cmp.Ord as ord
 use Rattle.std.specs.declared.cmp.PartialEq as eq
 use Rattle.std.specs.declared.cmp.PartialOrd as partial
-use Rattle.stateful_types.specs.Number.{u64_format}
+use Rattle.stateful_base.specs.Number.{u64_format}
 use Rattle.stateful_db.specs.Pair.{left, right, by_number}
 use Rattle.stateful_db.specs.Pair as two
 use Rattle.stateful_db_any.specs.Shown.{Draft, Seal}

@@ -6,7 +6,7 @@ ghost use Rattle.std.specs.Prelude.{string_bytes};
 ghost use Rattle.std.specs.List.{list_all};
 ghost use Rattle.std.specs.Str.{bytes_eq};
 ghost use Rattle.std.specs.Io.KnownBytes.{Appends};
-ghost use Rattle.stateful_types.specs.Causes.{Rose};
+ghost use Rattle.stateful_base.specs.Causes.{Rose};
 ghost use Rattle.stateful_script_text.specs.Transcript.{usage_line, script_line};
 ghost use Rattle.stateful_play.specs.declared.play.Played.{Played};
 ghost use Rattle.stateful_play.specs.Status.{asks_play, IsLoaded, IsUnread, Stops, IsPlayed, AsksFor};

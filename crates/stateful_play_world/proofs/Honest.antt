@@ -1,9 +1,9 @@
 -- The ancestries of a script's requests: a block, and its parent if it has one.
 use Rattle.std.proofs.Common.{ℕ, Bool, true, false, List, [], ◌∷◌, Option, None, Some, All, map, get_or, zero, suc, refl}
 use Rattle.std.proofs.lemmas.List.Elements.{All-nil, All-cons, All-head, All-tail, All-push, All-take, All-map}
-use Rattle.stateful_types.specs.Names.{Named}
-use Rattle.stateful_types.specs.declared.round.Round.{Round}
-use Rattle.stateful_types.specs.declared.target.Target.{Target}
+use Rattle.stateful_base.specs.Names.{Named}
+use Rattle.stateful_base.specs.declared.round.Round.{Round}
+use Rattle.stateful_base.specs.declared.target.Target.{Target}
 use Rattle.stateful_bank.specs.declared.ask.Ask.{Ask}
 use Rattle.stateful_bank.specs.declared.block.BankBlock.{BankBlock}
 use Rattle.stateful_history.specs.Past.{Past, Came, Made, after, after_all}

@@ -1,7 +1,7 @@
 -- What was played of a script, from a new machine over blank databases on.
 use Rattle.std.proofs.Common.{◌≡◌, ℕ, Bool, List, [], Option, subst}
-use Rattle.stateful_types.specs.Names.{Named}
-use Rattle.stateful_types.specs.declared.round.Round.{Round}
+use Rattle.stateful_base.specs.Names.{Named}
+use Rattle.stateful_base.specs.declared.round.Round.{Round}
 use Rattle.stateful_bank.specs.declared.ask.Ask.{Ask}
 use Rattle.stateful_bank.specs.declared.block.BankBlock.{BankBlock}
 use Rattle.stateful_bank_app.specs.Fresh.{AreEmpty}

@@ -1,6 +1,6 @@
 -- What a play takes of a world.
 use Rattle.std.specs.Prelude.{ℕ, List}
-use Rattle.stateful_types.specs.declared.round.Round.{Round}
+use Rattle.stateful_base.specs.declared.round.Round.{Round}
 use Rattle.stateful_db.specs.Databases.{Databases}
 use Rattle.stateful_bank.specs.BankBlock.{block_header}
 use Rattle.stateful_bank.specs.declared.ask.Ask.{Ask}

@@ -1,7 +1,7 @@
 -- What was played of a script over the databases of a world.
 use Rattle.std.specs.Prelude.{◌≡◌, ℕ, Bool, false, All, List, [], Option, Some, None, IfSome, map}
-use Rattle.stateful_types.specs.Names.{Named}
-use Rattle.stateful_types.specs.declared.round.Round.{Round}
+use Rattle.stateful_base.specs.Names.{Named}
+use Rattle.stateful_base.specs.declared.round.Round.{Round}
 use Rattle.stateful_bank.specs.BankBlock.{block_header}
 use Rattle.stateful_bank.specs.declared.ask.Ask.{Ask}
 use Rattle.stateful_bank.specs.declared.block.BankBlock.{BankBlock}

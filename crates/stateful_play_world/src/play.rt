@@ -1,7 +1,7 @@
 //! A script's play.
 
 ghost use Rattle.std.specs.Prelude.{◌≡◌, ℕ, [], Option, IfOk};
-ghost use Rattle.stateful_types.specs.Names.{Named};
+ghost use Rattle.stateful_base.specs.Names.{Named};
 ghost use Rattle.stateful_bank.specs.declared.block.BankBlock.{BankBlock as Block};
 ghost use Rattle.stateful_script.specs.Laws.{IsPlan};
 ghost use Rattle.stateful_loop.specs.Moments.{moment};
@@ -15,11 +15,11 @@ use crate::grounds::Grounded;
 use stateful_actor::{Config, DatabaseSet, Halted, NewError, Stateful};
 use stateful_bank::{Ask, BankBlock};
 use stateful_bank_app::{Bank, Fresh};
+use stateful_base::{OutOfMemory, Round};
 use stateful_history::Entry;
 use stateful_script::Script;
 use stateful_script_plan::{events, label_blocks, plan_blocks, store_of};
 use stateful_script_text::Label;
-use stateful_types::{OutOfMemory, Round};
 use std::alloc::Global;
 
 /// What was played over the databases of a world: the names of the blocks, the entries, the

@@ -1,8 +1,8 @@
 -- That a peer is blocked for nothing but a bad message, and a subscription closed by nothing but a stop or in service.
 use Rattle.std.proofs.Common.{◌≡◌, ℕ, true, false, Option, Some, None, List, ◌∷◌, All, Contains, refl, sym, ap, subst, ◌∙◌}
 use Rattle.std.proofs.lemmas.List.Elements.{All-nil, All-map, All-contains}
-use Rattle.stateful_types.specs.declared.round.Round.{Round}
-use Rattle.stateful_types.specs.declared.finalization.Finalization.{Finalization}
+use Rattle.stateful_base.specs.declared.round.Round.{Round}
+use Rattle.stateful_base.specs.declared.finalization.Finalization.{Finalization}
 use Rattle.stateful_probe.specs.Setup.{Setup, committee, is_one_of, scheme_at, Counts}
 use Rattle.stateful_probe.specs.Reply.{IsRequest, IsTagged, IsHeader, HasHeader, IsForeign, IsCounted, IsMalformed, IsGood, IsAtFault, malformed, outsider, uncertified, IsIgnored}
 use Rattle.stateful_probe.specs.Reply as replies

@@ -2,7 +2,7 @@
 use Rattle.std.proofs.Common.{◌≡◌, ℕ, ◌<◌, true, false, Option, Some, None, List, length, refl, sym, ap, ◌∙◌, arith}
 use Rattle.std.specs.Prelude.{option_map, IsTrue, nat_lt, ◌↔◌}
 use Rattle.std.proofs.lemmas.Bool.{ltb-true, lt-ltb}
-use Rattle.stateful_types.specs.declared.number.Epoch.{Epoch}
+use Rattle.stateful_base.specs.declared.number.Epoch.{Epoch}
 use Rattle.stateful_probe.specs.Setup.{Setup, scheme_at, committee, membership, is_one_of, Counts}
 use Rattle.stateful_probe.specs.Judgement.{IsHopeless, foreign, outsider, oversized}
 use Rattle.stateful_probe.proofs.Known.{one_value}

@@ -6,7 +6,7 @@ use Rattle.stateful_probe.specs.Sample.{has_replied}
 use Rattle.stateful_probe.specs.Probe.{IsNew}
 use Rattle.stateful_probe.specs.Laws.{Brought, KeepsLaws, asked_count}
 use Rattle.stateful_probe.specs.declared.state.State.{State}
-use Rattle.stateful_types.specs.declared.finalization.Finalization.{Finalization}
+use Rattle.stateful_base.specs.declared.finalization.Finalization.{Finalization}
 use Rattle.stateful_probe.proofs.Known.{AreKeys}
 use Rattle.stateful_probe.proofs.Runs.{kept}
 use Rattle.stateful_probe.proofs.Trust.{IsSound, sound_empty, step_sound, floor_trusted, floors_handed}

@@ -1,14 +1,14 @@
 -- The formats of tags and of messages, by their two cases.
 use Rattle.std.proofs.Common.{◌≡◌, ℕ, List, [], ◌∷◌, ◌++◌, length, Ok, refl, ap, ◌∙◌, inl, inr, lit<, arith, length-append}
 use Rattle.std.specs.Prelude.{◌⊎◌}
-use Rattle.stateful_types.specs.declared.finalization.Finalization.{Finalization}
-use Rattle.stateful_types.specs.Format.{Format, Begins, EndsInside, IsFormat, Reads}
-use Rattle.stateful_types.specs.FormatLaws.{Rest}
+use Rattle.stateful_base.specs.declared.finalization.Finalization.{Finalization}
+use Rattle.stateful_base.specs.Format.{Format, Begins, EndsInside, IsFormat, Reads}
+use Rattle.stateful_base.specs.FormatLaws.{Rest}
 use Rattle.stateful_types.specs.Cases.{nothing, two_cases, IsTaggedBy}
 use Rattle.stateful_types.specs.CasesLaws.{nothing_alone, HasTwoCases, two_tags, first_case, second_case}
-use Rattle.stateful_types.specs.Finalization.{finalization_format}
+use Rattle.stateful_base.specs.Finalization.{finalization_format}
 use Rattle.stateful_types.proofs.Tags.{IsHead}
-use Rattle.stateful_types.proofs.Values.{finalization_alone}
+use Rattle.stateful_base.proofs.Values.{finalization_alone}
 use Rattle.stateful_probe.specs.Wire.{tag_byte, tag_format, message_fits, message_format}
 use Rattle.stateful_probe.specs.declared.wire.Tag.{Tag}
 use Rattle.stateful_probe.specs.declared.wire.Tag.TheVariants as tags

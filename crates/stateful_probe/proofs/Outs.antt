@@ -1,7 +1,7 @@
 -- What holds of all that is put out at once.
 use Rattle.std.proofs.Common.{◌≡◌, ℕ, Option, Some, None, List, [], ◌∷◌, All, refl}
 use Rattle.std.proofs.lemmas.List.Elements.{All-nil, All-cons, All-map, All-same}
-use Rattle.stateful_types.specs.declared.finalization.Finalization.{Finalization}
+use Rattle.stateful_base.specs.declared.finalization.Finalization.{Finalization}
 use Rattle.stateful_probe.specs.Setup.{Setup}
 use Rattle.stateful_probe.specs.Probe.{Sends, asked, handed_out}
 use Rattle.stateful_probe.specs.declared.event.Out.{Out}

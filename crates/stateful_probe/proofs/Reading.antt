@@ -4,18 +4,18 @@ use Rattle.std.specs.Prelude.{IsErrAnd, IsTrue, option_map}
 use Rattle.std.proofs.lemmas.Bool.{false≢true}
 use Rattle.std.proofs.lemmas.Option.{same_Some}
 use Rattle.std.proofs.lemmas.List.{append-nil}
-use Rattle.stateful_types.specs.declared.codec.CodecError.{CodecError}
-use Rattle.stateful_types.specs.declared.codec.CodecError.TheVariants.{InvalidEnum, EndOfBuffer, OutOfMemory}
-use Rattle.stateful_types.specs.declared.number.View.{View}
-use Rattle.stateful_types.specs.declared.digest.Digest.{Digest}
-use Rattle.stateful_types.specs.declared.round.Round.{Round}
-use Rattle.stateful_types.specs.declared.finalization.Finalization.{Finalization}
-use Rattle.stateful_types.specs.Format.{Format, Stands, Reads, UnlessMemory, end_of}
-use Rattle.stateful_types.specs.Number.{u64_format, view_format}
-use Rattle.stateful_types.specs.Digest.{digest_format}
-use Rattle.stateful_types.specs.Round.{round_format}
-use Rattle.stateful_types.proofs.Formats.{Met, met, reads, both_ok, stands_alone}
-use Rattle.stateful_types.proofs.Values.{round_alone, place_format, place_alone, proposal_format, proposal_alone}
+use Rattle.stateful_base.specs.declared.codec.CodecError.{CodecError}
+use Rattle.stateful_base.specs.declared.codec.CodecError.TheVariants.{InvalidEnum, EndOfBuffer, OutOfMemory}
+use Rattle.stateful_base.specs.declared.number.View.{View}
+use Rattle.stateful_base.specs.declared.digest.Digest.{Digest}
+use Rattle.stateful_base.specs.declared.round.Round.{Round}
+use Rattle.stateful_base.specs.declared.finalization.Finalization.{Finalization}
+use Rattle.stateful_base.specs.Format.{Format, Stands, Reads, UnlessMemory, end_of}
+use Rattle.stateful_base.specs.Number.{u64_format, view_format}
+use Rattle.stateful_base.specs.Digest.{digest_format}
+use Rattle.stateful_base.specs.Round.{round_format}
+use Rattle.stateful_base.proofs.Formats.{Met, met, reads, both_ok, stands_alone}
+use Rattle.stateful_base.proofs.Values.{round_alone, place_format, place_alone, proposal_format, proposal_alone}
 use Rattle.stateful_probe.proofs.Known.{one_value}
 use Rattle.stateful_probe.specs.Wire.{tag_format}
 use Rattle.stateful_probe.specs.Setup.{Setup, committee, is_one_of, scheme_at, Counts}

@@ -1,7 +1,7 @@
 -- What holds over many events, by what holds of each.
 use Rattle.std.proofs.Common.{Option, List, [], ◌∷◌, All, sym, subst}
 use Rattle.std.proofs.lemmas.List.Elements.{All-nil, All-cons}
-use Rattle.stateful_types.specs.declared.finalization.Finalization.{Finalization}
+use Rattle.stateful_base.specs.declared.finalization.Finalization.{Finalization}
 use Rattle.stateful_probe.specs.Setup.{Setup}
 use Rattle.stateful_probe.specs.Probe.{Steps}
 use Rattle.stateful_probe.specs.Laws.{Turn, Runs}

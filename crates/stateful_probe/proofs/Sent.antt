@@ -5,7 +5,7 @@ use Rattle.std.specs.BTreeMap.{is_at, insert_entry}
 use Rattle.std.proofs.lemmas.Bool.{and_parts}
 use Rattle.std.proofs.lemmas.List.Elements.{All-nil, All-same, All-map, All-push, All-weaker, All-contains, All-contains_itself, Contains-append_left}
 use Rattle.std.proofs.lemmas.List.Quantifiers.{Any-push}
-use Rattle.stateful_types.specs.declared.finalization.Finalization.{Finalization}
+use Rattle.stateful_base.specs.declared.finalization.Finalization.{Finalization}
 use Rattle.stateful_probe.specs.Sample.{Sampled, has_replied, still_counts, with_reply, with_floor}
 use Rattle.stateful_probe.specs.Setup.{Setup, committee}
 use Rattle.stateful_probe.specs.Reply.{IsGood}

@@ -3,10 +3,10 @@ use Rattle.std.proofs.Common.{◌≡◌, ◌≢◌, ℕ, true, false, Option, So
 use Rattle.std.specs.Result.{OnOk}
 use Rattle.std.proofs.Common.{Bor}
 use Rattle.std.specs.Option.{is_some, option_copied}
-use Rattle.stateful_types.specs.Format.{Reads}
-use Rattle.stateful_types.specs.declared.codec.CodecError.{CodecError}
-use Rattle.stateful_types.specs.declared.codec.CodecError.TheVariants.{InvalidEnum, EndOfBuffer, OutOfMemory}
-use Rattle.stateful_types.specs.declared.finalization.Finalization.{Finalization}
+use Rattle.stateful_base.specs.Format.{Reads}
+use Rattle.stateful_base.specs.declared.codec.CodecError.{CodecError}
+use Rattle.stateful_base.specs.declared.codec.CodecError.TheVariants.{InvalidEnum, EndOfBuffer, OutOfMemory}
+use Rattle.stateful_base.specs.declared.finalization.Finalization.{Finalization}
 use Rattle.stateful_probe.specs.Setup.{Setup, committee}
 use Rattle.stateful_probe.specs.Sample.{Sampled, still_counts, with_reply}
 use Rattle.stateful_probe.specs.Wire.{tag_format}

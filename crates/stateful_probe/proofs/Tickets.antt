@@ -4,7 +4,7 @@ use Rattle.std.specs.List.{list_any}
 use Rattle.std.proofs.lemmas.Bool.{and_parts, not-true, leb-true, eqb-true, eqb-false}
 use Rattle.std.proofs.lemmas.List.Sums.{sum_by-cons, sum_by-append}
 use Rattle.std.proofs.lemmas.List.Elements.{All-head, All-tail}
-use Rattle.stateful_types.specs.declared.finalization.Finalization.{Finalization}
+use Rattle.stateful_base.specs.declared.finalization.Finalization.{Finalization}
 use Rattle.stateful_probe.specs.Setup.{Setup, committee}
 use Rattle.stateful_probe.specs.Probe.{may_come, names_live, is_waiting, left_waiting, asked, handed_out, Steps, answered, closed, begins_round, waits, leaves, asks_again, recorded, served, stops}
 use Rattle.stateful_probe.specs.Laws.{Turn, Runs, asks, takes_back, ends, asked_count, cancelled_count, answered_count}

@@ -5,10 +5,10 @@ use Rattle.std.specs.BTreeMap.{insert_entry}
 use Rattle.std.proofs.lemmas.Bool.{and_parts, not-true}
 use Rattle.std.proofs.lemmas.List.{length-map}
 use Rattle.std.proofs.lemmas.List.Elements.{All-nil, All-cons, All-append, All-weaker, All-map, All-same, All-contains, Contains-append_right}
-use Rattle.stateful_types.specs.Round.{IsLater}
-use Rattle.stateful_types.specs.Vote.{max_faults}
-use Rattle.stateful_types.specs.declared.round.Round.{Round}
-use Rattle.stateful_types.specs.declared.finalization.Finalization.{Finalization}
+use Rattle.stateful_base.specs.Round.{IsLater}
+use Rattle.stateful_base.specs.Scheme.{max_faults}
+use Rattle.stateful_base.specs.declared.round.Round.{Round}
+use Rattle.stateful_base.specs.declared.finalization.Finalization.{Finalization}
 use Rattle.stateful_probe.specs.Sample.{Sampled, has_replied, still_counts, with_reply, with_floor, cleared, IsHighest, judged, Selects}
 use Rattle.stateful_probe.specs.Setup.{Setup, committee, is_one_of, is_judgeable, Counts, TakesPart}
 use Rattle.stateful_probe.specs.Reply.{IsGood}

@@ -1,10 +1,10 @@
 -- What a finalization of an epoch that counts is worth.
 use Rattle.std.proofs.Common.{◌≡◌, ℕ, Some, None, List, [], drop, sym, ap, subst, ◌∙◌, append-nil}
 use Rattle.std.specs.Prelude.{option_map}
-use Rattle.stateful_types.specs.Format.{IsFormat}
-use Rattle.stateful_types.specs.Finalization.{finalization_format}
-use Rattle.stateful_types.proofs.Values.{finalization_alone}
-use Rattle.stateful_types.specs.declared.finalization.Finalization.{Finalization}
+use Rattle.stateful_base.specs.Format.{IsFormat}
+use Rattle.stateful_base.specs.Finalization.{finalization_format}
+use Rattle.stateful_base.proofs.Values.{finalization_alone}
+use Rattle.stateful_base.specs.declared.finalization.Finalization.{Finalization}
 use Rattle.stateful_probe.specs.Setup.{Setup, scheme_at, committee}
 use Rattle.stateful_probe.specs.Reply.{IsWhole, IsGood, IsAtFault, uncertified, IsIgnored, unjudged}
 use Rattle.stateful_probe.specs.Judgement.{IsCounting}

@@ -1,6 +1,6 @@
 -- What a selection of the floor changes.
 use Rattle.std.specs.Prelude.{◌≡◌, ℕ, Option, List, ◌++◌}
-use Rattle.stateful_types.specs.declared.finalization.Finalization.{Finalization}
+use Rattle.stateful_base.specs.declared.finalization.Finalization.{Finalization}
 use Rattle.stateful_probe.specs.Sample.{with_floor, Selects}
 use Rattle.stateful_probe.specs.Setup.{Setup, is_judgeable}
 use Rattle.stateful_probe.specs.Probe.{left_waiting, handed_out}

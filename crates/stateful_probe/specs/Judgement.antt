@@ -1,10 +1,10 @@
 -- What the functions that read and judge a message answer.
 use Rattle.std.specs.Prelude.{◌≡◌, ◌⊎◌, ℕ, ◌<◌, true, false, Option, Some, None, Result, Ok, Err}
 use Rattle.std.specs.Prelude.{List, length}
-use Rattle.stateful_types.specs.declared.codec.CodecError.{CodecError}
-use Rattle.stateful_types.specs.declared.codec.CodecError.TheVariants.{OutOfMemory}
-use Rattle.stateful_types.specs.declared.number.Epoch.{Epoch}
-use Rattle.stateful_types.specs.declared.finalization.Finalization.{Finalization}
+use Rattle.stateful_base.specs.declared.codec.CodecError.{CodecError}
+use Rattle.stateful_base.specs.declared.codec.CodecError.TheVariants.{OutOfMemory}
+use Rattle.stateful_base.specs.declared.number.Epoch.{Epoch}
+use Rattle.stateful_base.specs.declared.finalization.Finalization.{Finalization}
 use Rattle.stateful_probe.specs.Setup.{Setup, committee, membership, is_one_of, Counts}
 use Rattle.stateful_probe.specs.Reply.{IsRequest, IsForeign, IsWhole, IsMalformed, IsGood}
 use Rattle.stateful_probe.specs.Reply.{IsAtFault, IsIgnored}

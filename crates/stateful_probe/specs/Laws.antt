@@ -3,9 +3,9 @@ use Rattle.std.specs.Prelude.{◌≡◌, ◌≢◌, ℕ, ◌+◌, ◌≤◌, ◌
 use Rattle.std.specs.Prelude.{None, List, [], ◌∷◌, ◌++◌, All, Any, Contains, count_by, sum_by}
 use Rattle.std.specs.Prelude.{length}
 use Rattle.std.specs.Map.{values_of}
-use Rattle.stateful_types.specs.Round.{IsLater}
-use Rattle.stateful_types.specs.Vote.{max_faults}
-use Rattle.stateful_types.specs.declared.finalization.Finalization.{Finalization}
+use Rattle.stateful_base.specs.Round.{IsLater}
+use Rattle.stateful_base.specs.Scheme.{max_faults}
+use Rattle.stateful_base.specs.declared.finalization.Finalization.{Finalization}
 use Rattle.stateful_probe.specs.Setup.{Setup, committee, tolerated, is_one_of, Counts}
 use Rattle.stateful_probe.specs.Sample.{has_replied, still_counts}
 use Rattle.stateful_probe.specs.Reply.{IsRequest, IsTagged, IsGood, IsIgnored}

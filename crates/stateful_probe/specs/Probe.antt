@@ -2,9 +2,9 @@
 use Rattle.std.specs.Prelude.{◌≡◌, ◌≢◌, ◌⊎◌, ℕ, ◌+◌, ◌-◌, ◌^◌, ◌==◌, nat_le, Bool, true, false, not}
 use Rattle.std.specs.Prelude.{◌&&◌, Option, Some, None, List, [], ◌∷◌, ◌++◌, map, filter, length}
 use Rattle.std.specs.List.{list_any}
-use Rattle.stateful_types.specs.Format.{Format}
-use Rattle.stateful_types.specs.declared.number.Epoch.{Epoch}
-use Rattle.stateful_types.specs.declared.finalization.Finalization.{Finalization}
+use Rattle.stateful_base.specs.Format.{Format}
+use Rattle.stateful_base.specs.declared.number.Epoch.{Epoch}
+use Rattle.stateful_base.specs.declared.finalization.Finalization.{Finalization}
 use Rattle.stateful_probe.specs.Wire.{message_format}
 use Rattle.stateful_probe.specs.Sample.{still_counts, with_reply, with_floor, cleared, Selects}
 use Rattle.stateful_probe.specs.Setup.{Setup, committee, is_judgeable}

@@ -1,12 +1,12 @@
 -- What the bytes that a peer sent are.
 use Rattle.std.specs.Prelude.{◌≡◌, ℕ, false, Some, None, List, ◌∷◌, ◌++◌}
-use Rattle.stateful_types.specs.Number.{view_format}
-use Rattle.stateful_types.specs.Digest.{digest_format}
-use Rattle.stateful_types.specs.Round.{round_format}
-use Rattle.stateful_types.specs.declared.number.View.{View}
-use Rattle.stateful_types.specs.declared.digest.Digest.{Digest}
-use Rattle.stateful_types.specs.declared.round.Round.{Round}
-use Rattle.stateful_types.specs.declared.finalization.Finalization.{Finalization}
+use Rattle.stateful_base.specs.Number.{view_format}
+use Rattle.stateful_base.specs.Digest.{digest_format}
+use Rattle.stateful_base.specs.Round.{round_format}
+use Rattle.stateful_base.specs.declared.number.View.{View}
+use Rattle.stateful_base.specs.declared.digest.Digest.{Digest}
+use Rattle.stateful_base.specs.declared.round.Round.{Round}
+use Rattle.stateful_base.specs.declared.finalization.Finalization.{Finalization}
 use Rattle.stateful_probe.specs.Wire.{message_format}
 use Rattle.stateful_probe.specs.Setup.{Setup, committee, is_one_of, Counts, TakesPart}
 use Rattle.stateful_probe.specs.declared.wire.Message.TheVariants.{Response}

@@ -6,11 +6,11 @@ use Rattle.std.specs.List.{Any}
 use Rattle.std.specs.Map.{values_of, lookup}
 use Rattle.std.specs.BTreeMap.{is_at, insert_entry}
 use Rattle.std.specs.declared.cmp.Ordering.{Ordering}
-use Rattle.stateful_types.specs.Round.{IsLater}
-use Rattle.stateful_types.specs.Vote.{max_faults}
-use Rattle.stateful_types.specs.declared.number.Epoch.{Epoch}
-use Rattle.stateful_types.specs.declared.round.Round.{Round}
-use Rattle.stateful_types.specs.declared.finalization.Finalization.{Finalization}
+use Rattle.stateful_base.specs.Round.{IsLater}
+use Rattle.stateful_base.specs.Scheme.{max_faults}
+use Rattle.stateful_base.specs.declared.number.Epoch.{Epoch}
+use Rattle.stateful_base.specs.declared.round.Round.{Round}
+use Rattle.stateful_base.specs.declared.finalization.Finalization.{Finalization}
 
 -- the lowest epoch that counts, the first reply of each peer since the last reset, by ascending
 -- keys, and the floor

@@ -1,7 +1,7 @@
 -- What a probe that serves answers.
 use Rattle.std.specs.Prelude.{◌≡◌, ℕ, Option, Some, None, List}
-use Rattle.stateful_types.specs.Format.{Format}
-use Rattle.stateful_types.specs.declared.finalization.Finalization.{Finalization}
+use Rattle.stateful_base.specs.Format.{Format}
+use Rattle.stateful_base.specs.declared.finalization.Finalization.{Finalization}
 use Rattle.stateful_probe.specs.Wire.{message_format}
 use Rattle.stateful_probe.specs.declared.wire.Message.TheVariants.{Response}
 

@@ -4,10 +4,10 @@ use Rattle.std.specs.Prelude.{option_map, is_some}
 use Rattle.std.specs.List.{list_any}
 use Rattle.std.specs.Map.{lookup}
 use Rattle.std.specs.declared.cmp.Ordering.{Ordering}
-use Rattle.stateful_types.specs.Format.{Format}
-use Rattle.stateful_types.specs.Vote.{max_faults}
-use Rattle.stateful_types.specs.declared.number.Epoch.{Epoch}
-use Rattle.stateful_types.specs.declared.finalization.Finalization.{Finalization}
+use Rattle.stateful_base.specs.Format.{Format}
+use Rattle.stateful_base.specs.Scheme.{max_faults}
+use Rattle.stateful_base.specs.declared.number.Epoch.{Epoch}
+use Rattle.stateful_base.specs.declared.finalization.Finalization.{Finalization}
 use Rattle.stateful_probe.specs.declared.probe.Config.{Config}
 
 -- how keys compare and certificates are spelled, what schemes are, which schemes are known, and

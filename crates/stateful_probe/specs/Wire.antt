@@ -1,7 +1,7 @@
 -- What peers send each other, in bytes.
 use Rattle.std.specs.Prelude.{ℕ, List, [], ◌∷◌, ◌++◌}
-use Rattle.stateful_types.specs.Format.{Format}
-use Rattle.stateful_types.specs.Finalization.{finalization_format}
+use Rattle.stateful_base.specs.Format.{Format}
+use Rattle.stateful_base.specs.Finalization.{finalization_format}
 use Rattle.stateful_probe.specs.declared.wire.Tag.{Tag}
 use Rattle.stateful_probe.specs.declared.wire.Tag.TheVariants as tags
 use Rattle.stateful_probe.specs.declared.wire.Message.{Message}

@@ -14,7 +14,7 @@
 
 ghost use Rattle.std.specs.Prelude.{◌≡◌, ◌<◌, ◌-◌, ◌^◌, ◌++◌, List, [], false, Option, Some};
 ghost use Rattle.std.specs.Prelude.{is_some, OnOk, length};
-ghost use Rattle.stateful_types.specs.declared.finalization.Finalization.{Finalization};
+ghost use Rattle.stateful_base.specs.declared.finalization.Finalization.{Finalization};
 ghost use Rattle.stateful_probe.specs.Setup.{setup, scheme_in, committee};
 ghost use Rattle.stateful_probe.specs.Probe.{Steps, asked, restarted, handed_out, is_serving};
 ghost use Rattle.stateful_probe.specs.Discovery.{Chooses};

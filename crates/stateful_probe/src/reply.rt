@@ -5,8 +5,8 @@ ghost use Rattle.std.specs.Prelude.{length};
 ghost use Rattle.stateful_probe.specs.Setup.{setup, Counts};
 ghost use Rattle.stateful_probe.specs.Reply.{IsHeader, HasHeader};
 ghost use Rattle.stateful_probe.specs.Judgement.{IsHopeless, IsReadAs, IsDecodedAs, IsJudgedAs};
-ghost use Rattle.stateful_types.specs.declared.round.Round.{Round};
-ghost use Rattle.stateful_types.specs.declared.number.Epoch.{Epoch};
+ghost use Rattle.stateful_base.specs.declared.round.Round.{Round};
+ghost use Rattle.stateful_base.specs.declared.number.Epoch.{Epoch};
 
 use crate::schemes::Schemes;
 use crate::wire::Tag;

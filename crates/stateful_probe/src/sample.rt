@@ -18,9 +18,9 @@ ghost use Rattle.std.specs.Option.{option_copied};
 ghost use Rattle.std.specs.Fn.{FnReturnsAt};
 ghost use Rattle.std.specs.List.Sorted.{IsStrictlySortedBy};
 ghost use Rattle.std.specs.Map.{keys_of};
-ghost use Rattle.stateful_types.specs.declared.finalization.Finalization.{Finalization};
-ghost use Rattle.stateful_types.specs.Round.{IsLater};
-ghost use Rattle.stateful_types.specs.Vote.{max_faults};
+ghost use Rattle.stateful_base.specs.declared.finalization.Finalization.{Finalization};
+ghost use Rattle.stateful_base.specs.Round.{IsLater};
+ghost use Rattle.stateful_base.specs.Scheme.{max_faults};
 ghost use Rattle.stateful_probe.specs.Sample.{awaits, with_reply, with_floor, cleared, IsHighest};
 ghost use Rattle.stateful_probe.specs.Sample.{IsHighestRound, Selects};
 

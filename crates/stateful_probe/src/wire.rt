@@ -1,8 +1,8 @@
 //! What peers send each other.
 
 ghost use Rattle.std.specs.Prelude.{◌≡◌, ◌+◌, ◌≤◌, length, IsErrOf};
-ghost use Rattle.stateful_types.specs.Format.{Reads, Writes, IsFormat};
-ghost use Rattle.stateful_types.specs.declared.finalization.Finalization.{Finalization};
+ghost use Rattle.stateful_base.specs.Format.{Reads, Writes, IsFormat};
+ghost use Rattle.stateful_base.specs.declared.finalization.Finalization.{Finalization};
 ghost use Rattle.stateful_probe.specs.Wire.{tag_format, message_format};
 
 use bytes::Bytes;

@@ -24,7 +24,7 @@ ghost use Rattle.stateful_pruning.specs.Calls.{Extends, KeepsWindow, AnswersByAl
 ghost use Rattle.stateful_pruning.specs.Shown.{entry_of};
 
 use crate::config::{InvalidPruneConfig, PruneConfig};
-use stateful_types::{Height, OutOfMemory};
+use stateful_base::{Height, OutOfMemory};
 use std::alloc::Global;
 use std::collections::VecDeque;
 use std::marker::Model;

@@ -3,7 +3,7 @@ use Rattle.std.proofs.Common.{◌≡◌, ℕ, ◌+◌, ◌<◌, ◌≤◌, ◌^�
 use Rattle.std.specs.List.{list_all}
 use Rattle.std.proofs.lemmas.Grind.{common_steps}
 use Rattle.std.proofs.lemmas.Option.{cond_some}
-use Rattle.stateful_types.specs.declared.number.Height.{Height}
+use Rattle.stateful_base.specs.declared.number.Height.{Height}
 use Rattle.stateful_script.specs.Fields.{Fields, field_as, field_at, after_word, number_at}
 use Rattle.stateful_script.specs.Named.{is_free, block_at, height_in}
 use Rattle.stateful_script.specs.BlockItems.{items_of, is_for_builds, said_of}

@@ -16,7 +16,7 @@
 use Rattle.std.specs.Prelude.{ℕ, List, [], ◌∷◌, ◌++◌, Option, Some, None, option_map, zero, suc}
 use Rattle.std.specs.Prelude.{if◌then◌else◌, codes}
 use Rattle.std.specs.Str.{bytes_eq}
-use Rattle.stateful_types.specs.declared.number.Height.{Height}
+use Rattle.stateful_base.specs.declared.number.Height.{Height}
 use Rattle.stateful_script.specs.Fields.{Fields, field_as, number, number_at, last_word, ◌>>=◌}
 use Rattle.stateful_script.specs.Named.{place, block_at, databases_in}
 use Rattle.stateful_script.specs.declared.script.PlannedEvent.{PlannedEvent}

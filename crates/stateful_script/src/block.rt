@@ -14,7 +14,7 @@ use crate::field::{after_word, name, next_number};
 use crate::item::BlockItems;
 use crate::name::Name;
 use crate::script::{PlannedBlock, Script};
-use stateful_types::{Epoch, Handoff, Height, Round, View};
+use stateful_base::{Epoch, Handoff, Height, Round, View};
 use std::alloc::Global;
 
 /// What a line says of a block first: `NAME on PARENT view V`.

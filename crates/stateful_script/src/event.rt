@@ -13,7 +13,7 @@ use crate::cursor::Cursor;
 use crate::error::LineError;
 use crate::field::{last_word, next_number, number};
 use crate::script::{PlannedEvent, Script};
-use stateful_types::{Height, Items};
+use stateful_base::{Height, Items};
 use std::alloc::Global;
 
 /// The height that a field spells, or none where it spells `none`.

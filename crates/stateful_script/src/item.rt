@@ -14,7 +14,7 @@ use crate::cursor::Cursor;
 use crate::error::LineError;
 use crate::field::{next_account, next_number, next_turns};
 use stateful_bank::{MAX_OPS, Op};
-use stateful_types::Items;
+use stateful_base::Items;
 use std::alloc::{AllocError, Global};
 
 /// What a line lists of a block.

@@ -20,7 +20,7 @@ use crate::field::{is_at_end, is_name};
 use crate::item::{Item, parse_build_items, parse_items, said};
 use crate::name::Name;
 use crate::script::{PlannedBlock, PlannedEvent, Script, ScriptError, World};
-use stateful_types::Items;
+use stateful_base::Items;
 use std::alloc::{AllocError, Global};
 
 /// The most blocks that lines name.

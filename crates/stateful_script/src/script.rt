@@ -6,7 +6,7 @@ ghost use Rattle.stateful_script.specs.declared.script.ScriptError.TheVariants.{
 
 use crate::name::Name;
 use stateful_bank::Op;
-use stateful_types::{Handoff, Height, Items, Round};
+use stateful_base::{Handoff, Height, Items, Round};
 use std::alloc::AllocError;
 use thiserror::Error;
 

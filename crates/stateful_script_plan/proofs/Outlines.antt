@@ -7,7 +7,7 @@ use Rattle.std.proofs.lemmas.Option.{same_Some, slice_get_within, slice_get_read
 use Rattle.sha2.specs.Sha256.{sha256}
 use Rattle.stateful_bank.specs.BankBlock.{block_bytes}
 use Rattle.stateful_bank_app.specs.Rules.{Rules}
-use Rattle.stateful_types.specs.declared.target.Target.{Target}
+use Rattle.stateful_base.specs.declared.target.Target.{Target}
 use Rattle.stateful_script.specs.Named.{height_in}
 use Rattle.stateful_script.proofs.Got.{got_before, got_behind, height_stays}
 use Rattle.stateful_script.specs.declared.script.PlannedBlock.{PlannedBlock}

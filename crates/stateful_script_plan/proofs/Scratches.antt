@@ -1,6 +1,6 @@
 -- States after blocks, over databases that stay where they were opened.
 use Rattle.std.proofs.Common.{◌≡◌, inl, inr, List, [], ◌∷◌, ◌++◌, Option, Some, None, MatchOption, option_and_then, refl, sym, ap, ◌∙◌, subst}
-use Rattle.stateful_types.specs.declared.target.Target.{Target}
+use Rattle.stateful_base.specs.declared.target.Target.{Target}
 use Rattle.stateful_db.specs.Chain.{IsPoint}
 use Rattle.stateful_db.specs.Databases.{Databases}
 use Rattle.stateful_db.specs.Laws.{IdLaws}

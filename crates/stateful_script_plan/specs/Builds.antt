@@ -1,8 +1,8 @@
 -- The blocks that a script's builds give.
 use Rattle.std.specs.Prelude.{◌≡◌, ◌⊎◌, ℕ, List, Some, slice_index_or}
-use Rattle.stateful_types.specs.declared.outcome.Handoff.{Handoff}
-use Rattle.stateful_types.specs.declared.outcome.Handoff.TheVariants.{Vote, Stage}
-use Rattle.stateful_types.specs.declared.round.Round.{Round}
+use Rattle.stateful_base.specs.declared.outcome.Handoff.{Handoff}
+use Rattle.stateful_base.specs.declared.outcome.Handoff.TheVariants.{Vote, Stage}
+use Rattle.stateful_base.specs.declared.round.Round.{Round}
 use Rattle.stateful_db.specs.Works.{Asked}
 use Rattle.stateful_db.specs.declared.application.ProposalKind.{ProposalKind}
 use Rattle.stateful_db.specs.declared.application.ProposalKind.TheVariants.{Prepare, Propose}

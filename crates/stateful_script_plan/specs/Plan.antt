@@ -3,8 +3,8 @@ use Rattle.std.specs.Prelude.{ℕ, ◌≡◌, Bool, if◌then◌else◌, List, [
 use Rattle.std.specs.Prelude.{option_and_then, slice_get, map, replicate}
 use Rattle.std.specs.List.{zip}
 use Rattle.sha2.specs.Sha256.{sha256}
-use Rattle.stateful_types.specs.Names.{Named}
-use Rattle.stateful_types.specs.declared.target.Target.{Target}
+use Rattle.stateful_base.specs.Names.{Named}
+use Rattle.stateful_base.specs.declared.target.Target.{Target}
 use Rattle.stateful_bank.specs.declared.block.BankBlock.{BankBlock}
 use Rattle.stateful_bank.specs.BankBlock.{block_bytes, genesis_block}
 use Rattle.stateful_bank_app.specs.Rules.{Rules, stepped}

@@ -1,7 +1,7 @@
 -- The finalized blocks that the store of a script hands out.
 use Rattle.std.specs.Prelude.{ℕ, ◌≡◌, ◌==◌, List, ◌∷◌, Option, Some, None, find}
 use Rattle.std.specs.List.{filter_map}
-use Rattle.stateful_types.specs.Names.{Named}
+use Rattle.stateful_base.specs.Names.{Named}
 use Rattle.stateful_bank.specs.declared.block.BankBlock.{BankBlock}
 use Rattle.stateful_script.specs.declared.script.PlannedEvent.{PlannedEvent}
 use Rattle.stateful_script.specs.declared.script.PlannedEvent.TheVariants as line

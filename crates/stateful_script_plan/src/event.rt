@@ -9,12 +9,10 @@ ghost use Rattle.stateful_script_plan.specs.Events.{events_of};
 
 use crate::plan::Planned;
 use stateful_bank::{Ask, BankBlock};
+use stateful_base::{Ancestry, Digested, Floor, Handoff, Height, Items, OutOfMemory, Round, Share};
 use stateful_db::Flushed;
 use stateful_history::Event;
 use stateful_script::PlannedEvent;
-use stateful_types::{
-    Ancestry, Digested, Floor, Handoff, Height, Items, OutOfMemory, Round, Share,
-};
 use std::alloc::Global;
 
 /// The events of the bank.

@@ -4,9 +4,9 @@ ghost use Rattle.std.specs.Prelude.{◌≡◌, ◌+◌, IfOk, length};
 ghost use Rattle.stateful_script_plan.specs.Plan.{labels_of};
 
 use crate::plan::Planned;
+use stateful_base::{Items, OutOfMemory};
 use stateful_script::Name;
 use stateful_script_text::Label;
-use stateful_types::{Items, OutOfMemory};
 use std::alloc::Global;
 
 /// A name with the digest of its block.

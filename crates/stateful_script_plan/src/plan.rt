@@ -7,8 +7,8 @@ ghost use Rattle.stateful_script_plan.specs.Plan.{committed, genesis, child, Hav
 use crate::scratch::{After, scratch, step, targets_of};
 use stateful_bank::BankBlock;
 use stateful_bank_app::Fresh;
+use stateful_base::{Digest, Digested, Items, OutOfMemory, Share, Target};
 use stateful_script::PlannedBlock;
-use stateful_types::{Digest, Digested, Items, OutOfMemory, Share, Target};
 use std::alloc::Global;
 
 /// A block, and its parent if it has one.

@@ -7,8 +7,8 @@ ghost use Rattle.stateful_script_plan.specs.Scratch.{IsScratch, Begins, Keeps};
 
 use stateful_bank::Op;
 use stateful_bank_app::{Drafted, Fresh, Sealed, World, seal_block};
+use stateful_base::{Height, Items, OutOfMemory, Target};
 use stateful_db::DatabaseSet;
-use stateful_types::{Height, Items, OutOfMemory, Target};
 use std::alloc::Global;
 
 /// What there is after a block.

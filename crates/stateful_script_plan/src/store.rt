@@ -1,15 +1,15 @@
 //! The block store of a script.
 
 ghost use Rattle.std.specs.Prelude.{◌≡◌, ◌<◌, ◌++◌, ◌∷◌, [], ℕ, List, IfOk, OnOk, All, length};
-ghost use Rattle.stateful_types.specs.Names.{Named};
+ghost use Rattle.stateful_base.specs.Names.{Named};
 ghost use Rattle.stateful_bank.specs.declared.block.BankBlock.{BankBlock};
 ghost use Rattle.stateful_script.specs.Laws.{IsNamedBelow};
 ghost use Rattle.stateful_script_plan.specs.Store.{Keeps, finalized, store_of};
 
 use crate::plan::Planned;
 use stateful_bank::BankBlock;
+use stateful_base::{BlockStore, Digested, MemoryStore, OutOfMemory, Share};
 use stateful_script::PlannedEvent;
-use stateful_types::{BlockStore, Digested, MemoryStore, OutOfMemory, Share};
 use std::alloc::Global;
 
 /// Keeps a block at its height, where none is kept there.

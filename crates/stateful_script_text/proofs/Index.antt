@@ -6,8 +6,8 @@ use Rattle.std.proofs.lemmas.Option.{slice_get_read}
 use Rattle.std.specs.List.{find, position_from}
 use Rattle.std.specs.BTreeMap.{BTreeMap, get, Updates}
 use Rattle.std.proofs.lemmas.Map.Text.{is_eq-slice_cmp}
-use Rattle.stateful_types.specs.declared.digest.Digest.{Digest}
-use Rattle.stateful_types.specs.Digest.{digest_cmp}
+use Rattle.stateful_base.specs.declared.digest.Digest.{Digest}
+use Rattle.stateful_base.specs.Digest.{digest_cmp}
 use Rattle.stateful_script_text.specs.LabelIndex.{is_of, IsIndexFrom}
 use Rattle.stateful_script_text.specs.declared.shown.Label.{Label}
 

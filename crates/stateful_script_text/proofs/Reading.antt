@@ -4,10 +4,10 @@ use Rattle.std.specs.Prelude.{codes, IfSome}
 use Rattle.std.specs.Fmt.{decimal}
 use Rattle.std.specs.Str.{bytes_eq}
 use Rattle.std.proofs.lemmas.Bool.{lt-ltb, cond-true}
-use Rattle.stateful_types.specs.declared.digest.Digest.{Digest}
-use Rattle.stateful_types.specs.declared.anchor.Anchor.{Anchor}
-use Rattle.stateful_types.specs.declared.number.Height.{Height}
-use Rattle.stateful_types.specs.Names.{Named}
+use Rattle.stateful_base.specs.declared.digest.Digest.{Digest}
+use Rattle.stateful_base.specs.declared.anchor.Anchor.{Anchor}
+use Rattle.stateful_base.specs.declared.number.Height.{Height}
+use Rattle.stateful_base.specs.Names.{Named}
 use Rattle.stateful_history.specs.declared.mark.JobKind.{JobKind}
 use Rattle.stateful_history.specs.declared.mark.JobKind.TheVariants.{Candidate, Finalized, Build, Hook}
 use Rattle.stateful_history.specs.declared.mark.How.{How}

@@ -5,7 +5,7 @@ ghost use Rattle.std.specs.Fmt.{decimal};
 ghost use Rattle.stateful_script_text.specs.Line.{hex_of, name_of, field_text, line};
 
 use crate::label::Labels;
-use stateful_types::{Digest, OutOfMemory};
+use stateful_base::{Digest, OutOfMemory};
 use std::alloc::Global;
 
 pub fn push(out: &mut Vec<u8>, piece: &[u8]) -> Result<(), OutOfMemory>

@@ -5,8 +5,8 @@ ghost use Rattle.stateful_script_text.specs.Mark.{kind_word, how_word, decision_
 ghost use Rattle.stateful_script_text.specs.Mark.{done_word, mark_line};
 
 use crate::line::{Field, Lines};
+use stateful_base::{Block, OutOfMemory};
 use stateful_history::{Decision, How, JobKind, Mark};
-use stateful_types::{Block, OutOfMemory};
 
 fn kind_word(kind: JobKind) -> &'static str
     ensures { result.now ≡ kind_word kind }

@@ -1,6 +1,6 @@
 //! What a transcript shows besides marks.
 
-use stateful_types::{Digest, Items};
+use stateful_base::{Digest, Items};
 
 /// A name, and the digest of the block that it names.
 #[derive(Debug, Drop)]

@@ -13,8 +13,8 @@ use crate::label::Labels;
 use crate::line::{Lines, push, push_number};
 use crate::mark::push_mark;
 use crate::shown::{End, Label, Shown};
+use stateful_base::{Block, OutOfMemory};
 use stateful_history::Entry;
-use stateful_types::{Block, OutOfMemory};
 use std::alloc::Global;
 
 fn push_entry<B: Block, C, I>(

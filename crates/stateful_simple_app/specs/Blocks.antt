@@ -1,10 +1,10 @@
 -- What blocks say of themselves.
 use Rattle.std.specs.Prelude.{ℕ, List, ◌++◌, replicate}
-use Rattle.stateful_types.specs.Names.{Header}
-use Rattle.stateful_types.specs.Number.{u64_format, height_format, location_format}
-use Rattle.stateful_types.specs.Round.{round_format}
-use Rattle.stateful_types.specs.Digest.{digest_format}
-use Rattle.stateful_types.specs.declared.target.Target.{Target}
+use Rattle.stateful_base.specs.Names.{Header}
+use Rattle.stateful_base.specs.Number.{u64_format, height_format, location_format}
+use Rattle.stateful_base.specs.Round.{round_format}
+use Rattle.stateful_base.specs.Digest.{digest_format}
+use Rattle.stateful_base.specs.declared.target.Target.{Target}
 use Rattle.stateful_db_plain.specs.Whole.{initial, target_of}
 use Rattle.stateful_simple_app.specs.declared.block.PayloadBlock.{PayloadBlock}
 

@@ -1,9 +1,9 @@
 -- Rules: what blocks do to the entries of a state, by what they carry.
 use Rattle.std.specs.Prelude.{ℕ, ◌+◌, Bool, List, Option, None, if◌then◌else◌}
 use Rattle.std.specs.Option.{option_map}
-use Rattle.stateful_types.specs.declared.outcome.Finality.{Finality}
-use Rattle.stateful_types.specs.declared.outcome.Finality.TheVariants.{Candidate, Finalized}
-use Rattle.stateful_types.specs.declared.target.Target.{Target}
+use Rattle.stateful_base.specs.declared.outcome.Finality.{Finality}
+use Rattle.stateful_base.specs.declared.outcome.Finality.TheVariants.{Candidate, Finalized}
+use Rattle.stateful_base.specs.declared.target.Target.{Target}
 use Rattle.stateful_db.specs.Meaning.{Meaning}
 use Rattle.stateful_db_plain.specs.Whole.{Whole}
 use Rattle.stateful_simple_app.specs.declared.block.PayloadBlock.{PayloadBlock}

@@ -4,11 +4,11 @@ use Rattle.std.specs.Prelude.{option_and_then}
 use Rattle.std.specs.Option.{option_map}
 use Rattle.std.proofs.lemmas.Option.{same_Some}
 use Rattle.sha2.specs.Sha256.{sha256}
-use Rattle.stateful_types.specs.declared.round.Round.{Round}
-use Rattle.stateful_types.specs.declared.target.Target.{Target}
-use Rattle.stateful_types.specs.declared.outcome.Finality.TheVariants.{Candidate}
-use Rattle.stateful_types.specs.declared.outcome.Handoff.{Handoff}
-use Rattle.stateful_types.specs.declared.outcome.Handoff.TheVariants.{Wait, Vote, Stage}
+use Rattle.stateful_base.specs.declared.round.Round.{Round}
+use Rattle.stateful_base.specs.declared.target.Target.{Target}
+use Rattle.stateful_base.specs.declared.outcome.Finality.TheVariants.{Candidate}
+use Rattle.stateful_base.specs.declared.outcome.Handoff.{Handoff}
+use Rattle.stateful_base.specs.declared.outcome.Handoff.TheVariants.{Wait, Vote, Stage}
 use Rattle.stateful_db.specs.declared.application.Hooked.TheVariants.{Done}
 use Rattle.stateful_db.specs.Works.{Works, Asked, RunOf, BuildOf, TakesTurns}
 use Rattle.stateful_db_plain.specs.Whole.{Whole, begun, target_of}

@@ -1,7 +1,7 @@
 //! Builds, and what each does in its one turn.
 
 ghost use Rattle.std.specs.Prelude.{◌≡◌, ◌∷◌, ℕ, List, IfOk, IsErrOf};
-ghost use Rattle.stateful_types.specs.declared.outcome.Moved.{Moved};
+ghost use Rattle.stateful_base.specs.declared.outcome.Moved.{Moved};
 ghost use Rattle.stateful_db.specs.Works.{BuildEnds};
 ghost use Rattle.stateful_db_plain.specs.Whole.{Whole, target_of};
 ghost use Rattle.stateful_db_plain.specs.Shown.{SealShows};

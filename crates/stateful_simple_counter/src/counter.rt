@@ -1,9 +1,9 @@
 //! The counter's rules.
 
+use stateful_base::{OutOfMemory, Share};
 use stateful_simple_app::{
     Draft, OneTurn, OneTurnApplication, Payload, PayloadBlock, write_number,
 };
-use stateful_types::{OutOfMemory, Share};
 use std::alloc::Global;
 
 /// The key of the count.

@@ -5,8 +5,8 @@ use Rattle.std.specs.Ordering.{nat_cmp}
 use Rattle.std.specs.declared.cmp.Ordering.{Ordering}
 use Rattle.std.specs.declared.cmp.Ordering.TheVariants.{Less, Equal, Greater}
 use Rattle.std.specs.List.Sorted.{IsPermutation}
-use Rattle.stateful_types.specs.Names.{Header, Named}
-use Rattle.stateful_types.specs.declared.anchor.Anchor.{Anchor}
+use Rattle.stateful_base.specs.Names.{Header, Named}
+use Rattle.stateful_base.specs.declared.anchor.Anchor.{Anchor}
 use Rattle.stateful_sync.specs.Classify.{anchored, place_of, Passes, below, again, further, Refuses, conflicts, skips, Leads, RefusesAt, IsByHeight, IsRefusal, IsClassified, height_at, handover_at, handover_by, retained_of}
 use Rattle.stateful_sync.specs.declared.handover.Handover.{Handover}
 use Rattle.stateful_sync.specs.declared.handover.Point.{Point}

@@ -4,7 +4,7 @@ use Rattle.std.specs.Prelude.{slice_get}
 use Rattle.std.proofs.lemmas.List.{nil_from_length, length-replicate, get_or-replicate}
 use Rattle.std.proofs.lemmas.List.Elements.{All-nil, All-replicate}
 use Rattle.std.proofs.lemmas.Option.{none-some, slice_get-get_or, slice_get_within, get_or_from_slice_get}
-use Rattle.stateful_types.specs.declared.anchor.Anchor.{Anchor}
+use Rattle.stateful_base.specs.declared.anchor.Anchor.{Anchor}
 use Rattle.stateful_sync.specs.Assigned.{generation_of}
 use Rattle.stateful_sync.specs.Coordinator.{Coordination, Acts, goes_to_all, converges, regroups, goes_to_seeking, waits, Steps, reached, tipped, acted, marked, Call, height_of, tip_of, latest, next_generation, AllReached, IsInOrder}
 use Rattle.stateful_sync.specs.Laws.{Turn, Runs, tips, dispatches, dispatched, last_dispatch, Follows, again, further, HasConverged, at_start, KeepsLaws}

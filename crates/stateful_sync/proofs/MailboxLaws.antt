@@ -7,7 +7,7 @@ use Rattle.std.proofs.lemmas.Bool.{cases_eq}
 use Rattle.std.proofs.lemmas.List.{length-map, length_push}
 use Rattle.std.proofs.lemmas.List.Elements.{All-nil, All-head, All-tail}
 use Rattle.std.proofs.lemmas.Option.{none-some, same_Some, slice_get-map, slice_get_within, some_pair_parts}
-use Rattle.stateful_types.specs.declared.anchor.Anchor.{Anchor}
+use Rattle.stateful_base.specs.declared.anchor.Anchor.{Anchor}
 use Rattle.stateful_sync.specs.Mailbox.{Mail, numbered, made, once_answered, once_recorded, HandsOut, nothing, newest, Responds, goes_on, ends, Observes, records, drops, Call, retarget, next, observed, poll, Steps, drawn, handed, responded, seen, polled}
 use Rattle.stateful_sync.specs.MailboxLaws.{Runs, Gives, IsToBeSent, when_made, when_dropped, Takes, takes, KeepsLaws}
 use Rattle.stateful_sync.specs.declared.tip.TipUpdate.{TipUpdate}

@@ -7,8 +7,8 @@ use Rattle.std.proofs.lemmas.Bool.{and_parts}
 use Rattle.std.proofs.lemmas.List.{append-nil, map_push, map-set, length_push}
 use Rattle.std.proofs.lemmas.List.Concat.{flat_map-append}
 use Rattle.std.proofs.lemmas.Option.{none-some, same_Some, slice_get-map}
-use Rattle.stateful_types.specs.declared.anchor.Anchor.{Anchor}
-use Rattle.stateful_types.specs.declared.outcome.Moved.{Moved}
+use Rattle.stateful_base.specs.declared.anchor.Anchor.{Anchor}
+use Rattle.stateful_base.specs.declared.outcome.Moved.{Moved}
 use Rattle.stateful_sync.specs.Mailbox.{Mail, WaitsWithin, made, once_answered, once_recorded, Draws, HandsOut, nothing, newest, Responds, goes_on, ends, Observes, records, drops, Polls, recorded, ended, waits, Call, retarget, next, respond, observed, poll, Steps, drawn, handed, responded, seen, polled}
 use Rattle.stateful_sync.specs.MailboxLaws as laws
 use Rattle.stateful_sync.specs.MailboxLaws.{Runs, IsRecorded, Gives}

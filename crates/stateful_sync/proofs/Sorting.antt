@@ -11,7 +11,7 @@ use Rattle.std.proofs.lemmas.List.Elements.{All-head, All-tail, filter_agree}
 use Rattle.std.proofs.lemmas.List.Sorted.{IsNonDecreasingBy-from_sort, IsNonDecreasingBy-drop}
 use denote.Param.Members.{Mut}
 use denote.Ref.{Bor}
-use Rattle.stateful_types.specs.Names.{Header, Named}
+use Rattle.stateful_base.specs.Names.{Header, Named}
 use Rattle.stateful_sync.specs.Classify.{height_at, IsByHeight}
 
 is_lt_is : (a b : ℕ) → is_lt (nat_cmp a b) ≡ nat_lt a b

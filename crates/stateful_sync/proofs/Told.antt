@@ -5,7 +5,7 @@ use Rattle.std.proofs.lemmas.Bool.{eqb-true}
 use Rattle.std.proofs.lemmas.List.{append-nil, length-map}
 use Rattle.std.proofs.lemmas.List.Elements.{All-nil, All-append, All-cons, All-weaker, Contains-push, Contains-append_left}
 use Rattle.std.proofs.lemmas.Option.{none-some, same_Some}
-use Rattle.stateful_types.specs.declared.anchor.Anchor.{Anchor}
+use Rattle.stateful_base.specs.declared.anchor.Anchor.{Anchor}
 use Rattle.stateful_sync.specs.Assigned.{generation_of, once_reached, once_marked, unless_reached, unless_assigned}
 use Rattle.stateful_sync.specs.Coordinator.{Coordination, IsInOrder, ChangesAt, TakesTip, takes, ignores, Acts, goes_to_all, converges, regroups, goes_to_seeking, waits, Steps, reached, tipped, acted, marked, Call, record_reached, record_tip_update, next_action, mark_reached_same_target, height_of, tip_of, latest, next_generation, dispatch}
 use Rattle.stateful_sync.specs.Laws.{Turn, tips, recorded, dispatches, dispatched, last_of, last_dispatch, IsGiven, at_start, by_dispatch, HasReached, by_itself, by_target}

@@ -2,7 +2,7 @@
 use Rattle.std.specs.Prelude.{◌≡◌, ◌⊎◌, ℕ, ◌+◌, ◌<◌, ◌≤◌, true, false, Option, Some, None}
 use Rattle.std.specs.Prelude.{unwrap_or, List, map, slice_get, slice_set, All}
 use Rattle.std.specs.List.{Any}
-use Rattle.stateful_types.specs.declared.anchor.Anchor.{Anchor}
+use Rattle.stateful_base.specs.declared.anchor.Anchor.{Anchor}
 use Rattle.stateful_sync.specs.Assigned.{generation_of, is_reached, once_reached, once_marked}
 use Rattle.stateful_sync.specs.Assigned.{unless_reached, unless_assigned}
 use Rattle.stateful_sync.specs.declared.tip.Tip.{Tip}

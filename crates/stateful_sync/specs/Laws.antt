@@ -2,7 +2,7 @@
 use Rattle.std.specs.Prelude.{◌≡◌, ℕ, ◌<◌, ◌≤◌, Option, Some, None, List, [], ◌∷◌, ◌++◌, length}
 use Rattle.std.specs.Prelude.{slice_get, All, Contains}
 use Rattle.std.specs.List.{flat_map}
-use Rattle.stateful_types.specs.declared.anchor.Anchor.{Anchor}
+use Rattle.stateful_base.specs.declared.anchor.Anchor.{Anchor}
 use Rattle.stateful_sync.specs.Coordinator.{Coordination, Call, record_reached, record_tip_update}
 use Rattle.stateful_sync.specs.Coordinator.{mark_reached_same_target, height_of, tip_of}
 use Rattle.stateful_sync.specs.Coordinator.{next_generation, AllReached, Steps}

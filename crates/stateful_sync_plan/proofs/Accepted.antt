@@ -2,10 +2,10 @@
 use Rattle.std.proofs.Common.{◌≡◌, Bool, true, false, not, Option, Some, Result, Ok, Err, OnOk, OnErr, sym, ap, subst, ◌∙◌, refl}
 use Rattle.std.specs.Prelude.{IsTrue, IsErrAnd}
 use Rattle.std.proofs.lemmas.Option.{same_Some}
-use Rattle.stateful_types.specs.Round.{IsLater}
-use Rattle.stateful_types.specs.declared.finalization.Finalization.{Finalization}
-use Rattle.stateful_types.specs.declared.number.Height.{Height}
-use Rattle.stateful_types.specs.declared.digest.Digest.{Digest}
+use Rattle.stateful_base.specs.Round.{IsLater}
+use Rattle.stateful_base.specs.declared.finalization.Finalization.{Finalization}
+use Rattle.stateful_base.specs.declared.number.Height.{Height}
+use Rattle.stateful_base.specs.declared.digest.Digest.{Digest}
 use Rattle.stateful_sync_plan.specs.Plan.{floor_of, completion_of, IsNew, IsIgnored, completed, not_later, taken, MayComplete}
 use Rattle.stateful_sync_plan.specs.Laws.{Call, takes_floor, completes, changes_nothing}
 use Rattle.stateful_sync_plan.specs.declared.error.PlanError.{PlanError}

@@ -2,11 +2,11 @@
 use Rattle.std.proofs.Common.{◌≡◌, ℕ, Option, Some, None, is_some, refl, sym, ap, subst, ◌∙◌, inl, inr, arith}
 use Rattle.std.specs.Prelude.{◌⊎◌, IsSome}
 use Rattle.std.proofs.lemmas.Option.{same_Some}
-use Rattle.stateful_types.specs.Round.{IsLater}
-use Rattle.stateful_types.specs.declared.round.Round.{Round}
-use Rattle.stateful_types.specs.declared.finalization.Finalization.{Finalization}
-use Rattle.stateful_types.specs.declared.number.Height.{Height}
-use Rattle.stateful_types.specs.declared.digest.Digest.{Digest}
+use Rattle.stateful_base.specs.Round.{IsLater}
+use Rattle.stateful_base.specs.declared.round.Round.{Round}
+use Rattle.stateful_base.specs.declared.finalization.Finalization.{Finalization}
+use Rattle.stateful_base.specs.declared.number.Height.{Height}
+use Rattle.stateful_base.specs.declared.digest.Digest.{Digest}
 use Rattle.stateful_sync_plan.specs.Plan.{floor_of, completion_of, digest_of, TakesFloor, taken, ignored, Completes}
 use Rattle.stateful_sync_plan.specs.Laws.{Call, takes_floor, completes, changes_nothing, Calls, none, further, IsAhead, NeverFallsBack}
 use Rattle.stateful_sync_plan.specs.declared.state.SyncState.{SyncState}

@@ -2,11 +2,11 @@
 use Rattle.std.proofs.Common.{◌≡◌, ℕ, ◌+◌, Option, Some, None, Result, Ok, Err, refl, sym, ap, subst, ◌∙◌}
 use Rattle.std.specs.Prelude.{IsErrAnd, MatchOption}
 use Rattle.std.proofs.lemmas.Option.{same_Some}
-use Rattle.stateful_types.specs.Names.{Named}
-use Rattle.stateful_types.specs.declared.digest.Digest.{Digest}
-use Rattle.stateful_types.specs.declared.floor.Floor.{Floor}
-use Rattle.stateful_types.specs.declared.number.Height.{Height}
-use Rattle.stateful_types.specs.declared.round.Round.{Round}
+use Rattle.stateful_base.specs.Names.{Named}
+use Rattle.stateful_base.specs.declared.digest.Digest.{Digest}
+use Rattle.stateful_base.specs.declared.floor.Floor.{Floor}
+use Rattle.stateful_base.specs.declared.number.Height.{Height}
+use Rattle.stateful_base.specs.declared.round.Round.{Round}
 use Rattle.stateful_sync_plan.specs.Choice.{IsCovered, IsBehind, IsNext, HasNext, IsStored, there, Resolves, next, fetch, ResolvesFetched, unanswered, itself, overtaken, overtaken_missing}
 use Rattle.stateful_sync_plan.specs.Choice as choice
 use Rattle.stateful_sync_plan.specs.Refusals.{UnlessMemory}

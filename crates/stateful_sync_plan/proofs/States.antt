@@ -1,17 +1,17 @@
 -- The format of states, by its three cases.
 use Rattle.std.proofs.Common.{◌≡◌, Some, None, [], ◌∷◌, refl, inl, inr, lit<}
 use Rattle.std.specs.Prelude.{◌⊎◌}
-use Rattle.stateful_types.specs.declared.finalization.Finalization.{Finalization}
-use Rattle.stateful_types.specs.declared.number.Height.{Height}
-use Rattle.stateful_types.specs.declared.digest.Digest.{Digest}
-use Rattle.stateful_types.specs.Format.{Format, IsFormat}
-use Rattle.stateful_types.specs.FormatLaws.{Rest, both, IsFormat-both}
+use Rattle.stateful_base.specs.declared.finalization.Finalization.{Finalization}
+use Rattle.stateful_base.specs.declared.number.Height.{Height}
+use Rattle.stateful_base.specs.declared.digest.Digest.{Digest}
+use Rattle.stateful_base.specs.Format.{Format, IsFormat}
+use Rattle.stateful_base.specs.FormatLaws.{Rest, both, IsFormat-both}
 use Rattle.stateful_types.specs.Cases.{tagged, either, two_cases, IsTaggedBy}
 use Rattle.stateful_types.specs.CasesLaws.{HasThreeCases, three_tags, first_of_three, second_of_three, third_of_three}
-use Rattle.stateful_types.specs.Number.{height_format}
-use Rattle.stateful_types.specs.Digest.{digest_format}
-use Rattle.stateful_types.specs.Finalization.{finalization_format}
-use Rattle.stateful_types.proofs.Values.{height_alone, digest_alone, finalization_alone}
+use Rattle.stateful_base.specs.Number.{height_format}
+use Rattle.stateful_base.specs.Digest.{digest_format}
+use Rattle.stateful_base.specs.Finalization.{finalization_format}
+use Rattle.stateful_base.proofs.Values.{height_alone, digest_alone, finalization_alone}
 use Rattle.stateful_sync_plan.specs.State.{state_fits, state_format}
 use Rattle.stateful_sync_plan.specs.declared.state.SyncState.{SyncState}
 use Rattle.stateful_sync_plan.specs.declared.state.SyncState.TheVariants.{InProgress, Complete}

@@ -2,11 +2,11 @@
 use Rattle.std.proofs.Common.{◌≡◌, ℕ, Option, Some, None, List, [], ◌∷◌, ◌++◌, Result, Ok, Err, refl, sym, ap, subst, ◌∙◌, inl, inr}
 use Rattle.std.proofs.lemmas.List.{append-nil, append_cancel_left}
 use Rattle.std.specs.Prelude.{IsErrAnd, IfSome}
-use Rattle.stateful_types.specs.declared.codec.CodecError.{CodecError}
-use Rattle.stateful_types.specs.declared.codec.CodecError.TheVariants.{InvalidEnum, EndOfBuffer, OutOfMemory}
-use Rattle.stateful_types.specs.Format.{Format, EndsInside, IsWrong, IsFormat, Reads, UnlessMemory, end_of}
-use Rattle.stateful_types.specs.FormatLaws.{same_first}
-use Rattle.stateful_types.proofs.Formats.{not_inside, not_wrong, inside_not_wrong, one_wrong}
+use Rattle.stateful_base.specs.declared.codec.CodecError.{CodecError}
+use Rattle.stateful_base.specs.declared.codec.CodecError.TheVariants.{InvalidEnum, EndOfBuffer, OutOfMemory}
+use Rattle.stateful_base.specs.Format.{Format, EndsInside, IsWrong, IsFormat, Reads, UnlessMemory, end_of}
+use Rattle.stateful_base.specs.FormatLaws.{same_first}
+use Rattle.stateful_base.proofs.Formats.{not_inside, not_wrong, inside_not_wrong, one_wrong}
 use Rattle.stateful_sync_plan.specs.Worth.{IsLeftOver, IsWhole, IsWorth}
 
 -- a value was read, and bytes were left over

@@ -1,7 +1,7 @@
 -- Which error a lower one becomes.
 use Rattle.std.specs.Prelude.{ℕ}
-use Rattle.stateful_types.specs.declared.codec.CodecError.{CodecError}
-use Rattle.stateful_types.specs.declared.codec.CodecError.TheVariants as codec
+use Rattle.stateful_base.specs.declared.codec.CodecError.{CodecError}
+use Rattle.stateful_base.specs.declared.codec.CodecError.TheVariants as codec
 use Rattle.stateful_db.specs.declared.database.InitError.{InitError}
 use Rattle.stateful_db.specs.declared.database.InitError.TheVariants as init
 use Rattle.stateful_sync_plan.specs.declared.store.StoreFault.{StoreFault}

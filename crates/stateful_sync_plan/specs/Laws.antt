@@ -1,9 +1,9 @@
 -- What holds of a plan over all calls.
 use Rattle.std.specs.Prelude.{◌≡◌, ◌≤◌, ◌⊎◌, Option, Some, IsSome}
-use Rattle.stateful_types.specs.Round.{IsLater}
-use Rattle.stateful_types.specs.declared.finalization.Finalization.{Finalization}
-use Rattle.stateful_types.specs.declared.number.Height.{Height}
-use Rattle.stateful_types.specs.declared.digest.Digest.{Digest}
+use Rattle.stateful_base.specs.Round.{IsLater}
+use Rattle.stateful_base.specs.declared.finalization.Finalization.{Finalization}
+use Rattle.stateful_base.specs.declared.number.Height.{Height}
+use Rattle.stateful_base.specs.declared.digest.Digest.{Digest}
 use Rattle.stateful_sync_plan.specs.Plan.{floor_of, completion_of, digest_of, TakesFloor, Completes}
 use Rattle.stateful_sync_plan.specs.declared.state.SyncState.{SyncState}
 

@@ -1,11 +1,11 @@
 -- What a plan is, and what its calls make of it.
 use Rattle.std.specs.Prelude.{◌≡◌, ℕ, ◌<◌, ◌≤◌, Option, Some, None, List, Result, Ok, Err, IfSome}
-use Rattle.stateful_types.specs.Format.{Format}
-use Rattle.stateful_types.specs.Round.{IsLater}
-use Rattle.stateful_types.specs.declared.codec.CodecError.TheVariants as codec
-use Rattle.stateful_types.specs.declared.finalization.Finalization.{Finalization}
-use Rattle.stateful_types.specs.declared.number.Height.{Height}
-use Rattle.stateful_types.specs.declared.digest.Digest.{Digest}
+use Rattle.stateful_base.specs.Format.{Format}
+use Rattle.stateful_base.specs.Round.{IsLater}
+use Rattle.stateful_base.specs.declared.codec.CodecError.TheVariants as codec
+use Rattle.stateful_base.specs.declared.finalization.Finalization.{Finalization}
+use Rattle.stateful_base.specs.declared.number.Height.{Height}
+use Rattle.stateful_base.specs.declared.digest.Digest.{Digest}
 use Rattle.stateful_sync_plan.specs.State.{state_format}
 use Rattle.stateful_sync_plan.specs.Worth.{IsWorth}
 use Rattle.stateful_sync_plan.specs.declared.state.SyncState.{SyncState}

@@ -1,6 +1,6 @@
 -- Where marshal starts.
 use Rattle.std.specs.Prelude.{◌≡◌, Option, Some, None}
-use Rattle.stateful_types.specs.declared.finalization.Finalization.{Finalization}
+use Rattle.stateful_base.specs.declared.finalization.Finalization.{Finalization}
 use Rattle.stateful_sync_plan.specs.declared.plan.Start.{Start}
 use Rattle.stateful_sync_plan.specs.declared.plan.Start.TheVariants.{Floor, Genesis}
 

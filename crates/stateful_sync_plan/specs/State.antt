@@ -1,9 +1,9 @@
 -- What a node remembers of its sync, in bytes.
 use Rattle.std.specs.Prelude.{ℕ, List, [], ◌∷◌, ◌++◌, Some, None}
-use Rattle.stateful_types.specs.Format.{Format}
-use Rattle.stateful_types.specs.Finalization.{finalization_format}
-use Rattle.stateful_types.specs.Number.{height_format}
-use Rattle.stateful_types.specs.Digest.{digest_format}
+use Rattle.stateful_base.specs.Format.{Format}
+use Rattle.stateful_base.specs.Finalization.{finalization_format}
+use Rattle.stateful_base.specs.Number.{height_format}
+use Rattle.stateful_base.specs.Digest.{digest_format}
 use Rattle.stateful_sync_plan.specs.declared.state.SyncState.{SyncState}
 use Rattle.stateful_sync_plan.specs.declared.state.SyncState.TheVariants.{InProgress, Complete}
 

@@ -1,6 +1,6 @@
 -- A store in memory, and what a call makes of it.
 use Rattle.std.specs.Prelude.{ℕ, Option, List, Contains}
-use Rattle.stateful_types.specs.Causes.{risen}
+use Rattle.stateful_base.specs.Causes.{risen}
 use Rattle.stateful_sync_plan.specs.declared.store.PlanCall.{PlanCall}
 use Rattle.stateful_sync_plan.specs.declared.store.PlanCall.TheVariants.{Load, Put}
 

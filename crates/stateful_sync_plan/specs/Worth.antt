@@ -1,9 +1,9 @@
 -- What the bytes are worth that stand for one whole value, or for none.
 use Rattle.std.specs.Prelude.{◌≡◌, ℕ, ◌⊎◌, Option, Some, None, List, ◌∷◌, ◌++◌, Result, Ok, Err}
-use Rattle.stateful_types.specs.declared.codec.CodecError.{CodecError}
-use Rattle.stateful_types.specs.declared.codec.CodecError.TheVariants.{InvalidEnum, EndOfBuffer}
-use Rattle.stateful_types.specs.declared.codec.CodecError.TheVariants.{OutOfMemory}
-use Rattle.stateful_types.specs.Format.{Format, EndsInside, IsWrong}
+use Rattle.stateful_base.specs.declared.codec.CodecError.{CodecError}
+use Rattle.stateful_base.specs.declared.codec.CodecError.TheVariants.{InvalidEnum, EndOfBuffer}
+use Rattle.stateful_base.specs.declared.codec.CodecError.TheVariants.{OutOfMemory}
+use Rattle.stateful_base.specs.Format.{Format, EndsInside, IsWrong}
 
 -- this byte is left over: it stands right behind a whole value
 pub record IsLeftOver {A : Type 0} (format : Format A) (bytes : List ℕ) (byte : ℕ) : Type 0 where

@@ -11,8 +11,8 @@
 
 ghost use Rattle.std.specs.Prelude.{◌≡◌, ◌↔◌, ◌≢◌, ◌+◌, ◌<◌, ◌^◌, Err, Option, Result, IsTrue};
 ghost use Rattle.std.specs.Prelude.{IfOk, MatchOption};
-ghost use Rattle.stateful_types.specs.Names.{Named};
-ghost use Rattle.stateful_types.specs.declared.number.Height.{Height};
+ghost use Rattle.stateful_base.specs.Names.{Named};
+ghost use Rattle.stateful_base.specs.declared.number.Height.{Height};
 ghost use Rattle.stateful_sync_plan.specs.Choice.{IsCovered, IsNext, HasNext, IsStored, IsBehind};
 ghost use Rattle.stateful_sync_plan.specs.Choice.{Resolves, ResolvesFetched};
 ghost use Rattle.stateful_sync_plan.specs.Refusals.{UnlessMemory};

@@ -10,9 +10,9 @@
 //! says them in words, "The plan of a sync".
 
 ghost use Rattle.std.specs.Prelude.{◌≡◌, ◌<◌, ◌≤◌, ◌^◌, ℕ, Some, IsErrOf, OnOk, OnErr};
-ghost use Rattle.stateful_types.specs.Names.{Named};
-ghost use Rattle.stateful_types.specs.declared.digest.Digest.{Digest};
-ghost use Rattle.stateful_types.specs.declared.number.Height.{Height};
+ghost use Rattle.stateful_base.specs.Names.{Named};
+ghost use Rattle.stateful_base.specs.declared.digest.Digest.{Digest};
+ghost use Rattle.stateful_base.specs.declared.number.Height.{Height};
 ghost use Rattle.stateful_db.specs.Databases.{IsOpening};
 ghost use Rattle.stateful_db.specs.declared.database.InitError.{InitError};
 ghost use Rattle.stateful_sync_plan.specs.Errors.{of_opening};

@@ -14,10 +14,10 @@
 ghost use Rattle.std.specs.Prelude.{◌≡◌, ◌↔◌, ◌≤◌, ◌⊎◌, ℕ, Option, None, IsErrOf, IsSome, IsTrue};
 ghost use Rattle.std.specs.Prelude.{IsFalse, IfOk, IfErr, IfSome, OnOk, OnErr};
 ghost use Rattle.std.specs.Option.{option_copied};
-ghost use Rattle.stateful_types.specs.Causes.{Rose};
-ghost use Rattle.stateful_types.specs.declared.digest.Digest.{Digest};
-ghost use Rattle.stateful_types.specs.declared.number.Height.{Height};
-ghost use Rattle.stateful_types.specs.Format.{UnlessMemory};
+ghost use Rattle.stateful_base.specs.Causes.{Rose};
+ghost use Rattle.stateful_base.specs.declared.digest.Digest.{Digest};
+ghost use Rattle.stateful_base.specs.declared.number.Height.{Height};
+ghost use Rattle.stateful_base.specs.Format.{UnlessMemory};
 ghost use Rattle.stateful_sync_plan.specs.State.{state_format};
 ghost use Rattle.stateful_sync_plan.specs.Worth.{IsWhole};
 ghost use Rattle.stateful_sync_plan.specs.Plan.{floor_of, completion_of, digest_of, IsNew, IsIgnored};

@@ -1,8 +1,8 @@
 //! What a node remembers of its sync, in bytes.
 
 ghost use Rattle.std.specs.Prelude.{◌≡◌, ℕ, List, Option, Result, length};
-ghost use Rattle.stateful_types.specs.Format.{Reads, Writes, IsFormat};
-ghost use Rattle.stateful_types.specs.declared.codec.CodecError.{CodecError};
+ghost use Rattle.stateful_base.specs.Format.{Reads, Writes, IsFormat};
+ghost use Rattle.stateful_base.specs.declared.codec.CodecError.{CodecError};
 ghost use Rattle.stateful_sync_plan.specs.State.{state_format};
 ghost use Rattle.stateful_sync_plan.specs.Worth.{IsWorth};
 ghost use Rattle.stateful_sync_plan.specs.declared.state.SyncState.{SyncState};

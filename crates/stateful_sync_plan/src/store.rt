@@ -2,7 +2,7 @@
 
 ghost use Rattle.std.specs.Prelude.{◌≡◌, ◌↔◌, ◌≤◌, Some, IsErrOf, IsTrue, IfOk, OnOk, OnErr};
 ghost use Rattle.std.specs.Prelude.{Contains};
-ghost use Rattle.stateful_types.specs.Causes.{Rose, risen};
+ghost use Rattle.stateful_base.specs.Causes.{Rose, risen};
 ghost use Rattle.stateful_sync_plan.specs.Store.{IsListed, numbered, failed};
 
 use bytes::Bytes;
@@ -36,7 +36,7 @@ pub trait PlanStore: Faulty {
     ghost use Rattle.std.specs.Prelude.{◌≡◌, ◌≤◌, ℕ, List, Option, Some, IfOk, IfSome, OnOk, OnErr};
     ghost use Rattle.std.specs.Prelude.{IsErrOf};
     ghost use Rattle.std.specs.Option.{option_map};
-    ghost use Rattle.stateful_types.specs.Causes.{Rose};
+    ghost use Rattle.stateful_base.specs.Causes.{Rose};
 
     /// The value that it holds, where that is told.
     ghost stored: { Self → Option (Option (List ℕ)) };

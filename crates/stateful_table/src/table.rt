@@ -5,7 +5,7 @@ ghost use Rattle.std.specs.Prelude.{length};
 ghost use Rattle.std.specs.Option.{option_copied};
 ghost use Rattle.stateful_table.specs.Table.{at, put, without, total, weight_of, first_of};
 
-use stateful_types::OutOfMemory;
+use stateful_base::OutOfMemory;
 use std::alloc::Global;
 use std::collections::BTreeMap;
 use std::marker::Model;

@@ -4,15 +4,15 @@ use Rattle.std.specs.List.{flat_map}
 use Rattle.std.proofs.lemmas.List.{append-nil, length-replicate, take_more}
 use Rattle.std.proofs.lemmas.List.Concat.{flat_map-append}
 use Rattle.std.proofs.lemmas.List.Elements.{All-replicate, All-head, All-tail, All-more}
-use Rattle.stateful_types.specs.declared.codec.CodecError.{CodecError}
-use Rattle.stateful_types.specs.declared.codec.CodecError.TheVariants.{InvalidEnum, EndOfBuffer, OutOfMemory}
-use Rattle.stateful_types.specs.Format.{Format, EndsInside, IsWrong, IsFormat}
-use Rattle.stateful_types.specs.Number.{u32_format}
+use Rattle.stateful_base.specs.declared.codec.CodecError.{CodecError}
+use Rattle.stateful_base.specs.declared.codec.CodecError.TheVariants.{InvalidEnum, EndOfBuffer, OutOfMemory}
+use Rattle.stateful_base.specs.Format.{Format, EndsInside, IsWrong, IsFormat}
+use Rattle.stateful_base.specs.Number.{u32_format}
 use Rattle.stateful_types.specs.Items.{exactly_format, items_format}
-use Rattle.stateful_types.specs.FormatLaws.{Rest, Rest-then, Rest-both, both}
-use Rattle.stateful_types.specs.FixedLaws.{u32_alone}
+use Rattle.stateful_base.specs.FormatLaws.{Rest, Rest-then, Rest-both, both}
+use Rattle.stateful_base.specs.FixedLaws.{u32_alone}
 use Rattle.stateful_types.specs.ItemsLaws.{cons, Rest-cons, exactly_alone, Rest-counted}
-use Rattle.stateful_types.proofs.Formats.{Met, begins_at, first_err, rest_ok, rest_err}
+use Rattle.stateful_base.proofs.Formats.{Met, begins_at, first_err, rest_ok, rest_err}
 
 module _ {A : Type 0} (item : Format A) (law : IsFormat item) where
   -- behind some of the items stand the others

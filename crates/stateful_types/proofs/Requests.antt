@@ -7,21 +7,21 @@ use Rattle.std.specs.declared.num.NonZeroU64.{NonZeroU64}
 use Rattle.std.proofs.Math.Bridge.{le_prop}
 use Rattle.std.proofs.lemmas.List.{length-replicate}
 use Rattle.std.proofs.lemmas.List.Elements.{All-append, All-cons, All-replicate, All-head}
-use Rattle.stateful_types.specs.declared.codec.CodecError.{CodecError}
-use Rattle.stateful_types.specs.declared.codec.CodecError.TheVariants.{InvalidEnum, EndOfBuffer, OutOfMemory}
-use Rattle.stateful_types.specs.Format.{Format, Begins, EndsInside, IsFormat, Writes}
-use Rattle.stateful_types.specs.Number.{bytes_format, u64_format, nonzero_format, location_format}
+use Rattle.stateful_base.specs.declared.codec.CodecError.{CodecError}
+use Rattle.stateful_base.specs.declared.codec.CodecError.TheVariants.{InvalidEnum, EndOfBuffer, OutOfMemory}
+use Rattle.stateful_base.specs.Format.{Format, Begins, EndsInside, IsFormat, Writes}
+use Rattle.stateful_base.specs.Number.{bytes_format, u64_format, nonzero_format, location_format}
 use Rattle.stateful_types.specs.Request.{request_fits, request_format}
-use Rattle.stateful_types.specs.declared.number.Location.{Location}
+use Rattle.stateful_base.specs.declared.number.Location.{Location}
 use Rattle.stateful_types.specs.declared.request.Request.{Request}
 use Rattle.stateful_types.specs.declared.request.Request.TheVariants.{Operations, Boundary}
-use Rattle.stateful_types.proofs.Formats.{Met}
-use Rattle.stateful_types.specs.FormatLaws.{Rest, both, IsFormat-both}
+use Rattle.stateful_base.proofs.Formats.{Met}
+use Rattle.stateful_base.specs.FormatLaws.{Rest, both, IsFormat-both}
 use Rattle.stateful_types.specs.Cases.{two_cases, IsTaggedBy}
 use Rattle.stateful_types.specs.CasesLaws.{HasTwoCases, two_tags, first_case, second_case}
-use Rattle.stateful_types.specs.FixedLaws.{IsByte, wide64, u64_alone}
-use Rattle.stateful_types.proofs.Fixed.{All-front, All-behind}
-use Rattle.stateful_types.proofs.Values.{location_alone}
+use Rattle.stateful_base.specs.FixedLaws.{IsByte, wide64, u64_alone}
+use Rattle.stateful_base.proofs.Fixed.{All-front, All-behind}
+use Rattle.stateful_base.proofs.Values.{location_alone}
 
 -- ---- numbers that are not 0
 

@@ -1,23 +1,23 @@
 -- The format of responses, by its two cases, and what a request allows of them.
 use Rattle.std.proofs.Common.{◌≡◌, ℕ, List, [], ◌∷◌, ◌++◌, Result, Ok, Err, refl, sym, ap, subst, ◌∙◌, inl, inr, lit<, arith}
 use Rattle.std.specs.Prelude.{IsErrAnd, ◌⊎◌}
-use Rattle.stateful_types.specs.declared.codec.CodecError.{CodecError}
-use Rattle.stateful_types.specs.declared.codec.CodecError.TheVariants.{InvalidEnum, EndOfBuffer, OutOfMemory}
-use Rattle.stateful_types.specs.declared.digest.Digest.{Digest}
+use Rattle.stateful_base.specs.declared.codec.CodecError.{CodecError}
+use Rattle.stateful_base.specs.declared.codec.CodecError.TheVariants.{InvalidEnum, EndOfBuffer, OutOfMemory}
+use Rattle.stateful_base.specs.declared.digest.Digest.{Digest}
 use Rattle.stateful_types.specs.declared.request.Request.{Request}
 use Rattle.stateful_types.specs.declared.response.Response.{Response}
 use Rattle.stateful_types.specs.declared.response.Response.TheVariants.{Operations, Boundary}
-use Rattle.stateful_types.specs.Format.{Format, IsFormat, Reads, UnlessMemory}
-use Rattle.stateful_types.specs.FormatLaws.{Rest, both, IsFormat-both}
+use Rattle.stateful_base.specs.Format.{Format, IsFormat, Reads, UnlessMemory}
+use Rattle.stateful_base.specs.FormatLaws.{Rest, both, IsFormat-both}
 use Rattle.stateful_types.specs.Cases.{two_cases, IsTaggedBy}
 use Rattle.stateful_types.specs.CasesLaws.{HasTwoCases, two_tags, first_case, second_case}
-use Rattle.stateful_types.specs.Number.{u8_format, u32_format}
+use Rattle.stateful_base.specs.Number.{u8_format, u32_format}
 use Rattle.stateful_types.specs.Items.{items_format}
 use Rattle.stateful_types.specs.ItemsLaws.{items_alone}
-use Rattle.stateful_types.specs.Digest.{digest_format}
+use Rattle.stateful_base.specs.Digest.{digest_format}
 use Rattle.stateful_types.specs.Response.{response_fits, response_format, Allows, HasTooMany}
-use Rattle.stateful_types.proofs.Formats.{Met}
-use Rattle.stateful_types.proofs.Values.{digest_alone}
+use Rattle.stateful_base.proofs.Formats.{Met}
+use Rattle.stateful_base.proofs.Values.{digest_alone}
 
 module _ {Op : Type 0} (op : Format Op) where
   abbrev pub boundary_format : Format (Digest × Op)

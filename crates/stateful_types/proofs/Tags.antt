@@ -1,13 +1,13 @@
 -- Readers of formats whose first byte says which case it is.
 use Rattle.std.proofs.Common.{◌≡◌, ℕ, List, [], ◌∷◌, ◌++◌, length, Result, Ok, Err, refl, sym, ap, subst, ◌∙◌, arith, length-append}
 use Rattle.std.specs.Prelude.{IsErrAnd}
-use Rattle.stateful_types.specs.declared.codec.CodecError.{CodecError}
-use Rattle.stateful_types.specs.declared.codec.CodecError.TheVariants.{InvalidEnum, EndOfBuffer, OutOfMemory}
-use Rattle.stateful_types.specs.Format.{Format, Begins, EndsInside, Reads}
-use Rattle.stateful_types.specs.FormatLaws.{Rest}
-use Rattle.stateful_types.specs.Number.{u8_format}
+use Rattle.stateful_base.specs.declared.codec.CodecError.{CodecError}
+use Rattle.stateful_base.specs.declared.codec.CodecError.TheVariants.{InvalidEnum, EndOfBuffer, OutOfMemory}
+use Rattle.stateful_base.specs.Format.{Format, Begins, EndsInside, Reads}
+use Rattle.stateful_base.specs.FormatLaws.{Rest}
+use Rattle.stateful_base.specs.Number.{u8_format}
 use Rattle.stateful_types.specs.Cases.{nothing, IsTaggedBy}
-use Rattle.stateful_types.proofs.Formats.{Met, met, reads, passed, rest_ok, rest_err}
+use Rattle.stateful_base.proofs.Formats.{Met, met, reads, passed, rest_ok, rest_err}
 
 -- the bytes behind a first byte that is known
 pub tag_is : {byte tag : ℕ} {before after : List ℕ} → byte ≡ tag → Reads u8_format (Ok byte) before after → before ≡ (tag ∷ []) ++ after

@@ -1,7 +1,7 @@
 -- Formats whose first byte says which case it is.
 use Rattle.std.specs.Prelude.{◌≡◌, ℕ, ◌<◌, ◌^◌, ◌⊎◌, List, [], ◌∷◌}
 use Rattle.std.proofs.Common.{inl, inr}
-use Rattle.stateful_types.specs.Format.{Format, IsFormat}
+use Rattle.stateful_base.specs.Format.{Format, IsFormat}
 
 -- no bytes
 abbrev pub nothing : Format (Unit {0})

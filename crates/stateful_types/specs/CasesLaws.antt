@@ -4,8 +4,8 @@ use Rattle.std.proofs.Common.{◌≡◌, ℕ, ◌<◌, ◌^◌, List, [], ◌∷
 use Rattle.std.proofs.Common.{inr, arith}
 use Rattle.std.proofs.lemmas.List.{append-nil}
 use Rattle.std.specs.Prelude.{◌⊎◌}
-use Rattle.stateful_types.specs.Format.{Format, IsFormat}
-use Rattle.stateful_types.specs.FormatLaws.{Rest, Rest-then, Rest-whole, Rest-format}
+use Rattle.stateful_base.specs.Format.{Format, IsFormat}
+use Rattle.stateful_base.specs.FormatLaws.{Rest, Rest-then, Rest-whole, Rest-format}
 use Rattle.stateful_types.specs.Cases.{nothing, tagged, either, either_fits, either_bytes}
 use Rattle.stateful_types.specs.Cases.{two_cases, IsTaggedBy}
 

@@ -1,8 +1,8 @@
 -- Lists in bytes.
 use Rattle.std.specs.Prelude.{◌≡◌, ℕ, List, ◌++◌, length, All}
 use Rattle.std.specs.List.{flat_map}
-use Rattle.stateful_types.specs.Format.{Format}
-use Rattle.stateful_types.specs.Number.{u32_format}
+use Rattle.stateful_base.specs.Format.{Format}
+use Rattle.stateful_base.specs.Number.{u32_format}
 
 -- so many items, one behind the other
 abbrev pub exactly_format : {A : Type 0} → ℕ → Format A → Format (List A)

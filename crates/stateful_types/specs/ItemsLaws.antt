@@ -4,12 +4,12 @@ use Rattle.std.proofs.Common.{sym, ap, subst, ◌∙◌, arith}
 use Rattle.std.specs.List.{flat_map}
 use Rattle.std.proofs.lemmas.List.{nil_from_length}
 use Rattle.std.proofs.lemmas.List.Elements.{All-nil, All-cons, All-head, All-tail}
-use Rattle.stateful_types.specs.Format.{Format, IsFormat}
-use Rattle.stateful_types.specs.Number.{u32_format}
+use Rattle.stateful_base.specs.Format.{Format, IsFormat}
+use Rattle.stateful_base.specs.Number.{u32_format}
 use Rattle.stateful_types.specs.Items.{exactly_format, items_format}
-use Rattle.stateful_types.specs.FormatLaws.{Rest, Rest-format, Rest-alone, same_first, both}
-use Rattle.stateful_types.specs.FormatLaws.{IsFormat-both}
-use Rattle.stateful_types.specs.FixedLaws.{u32_alone}
+use Rattle.stateful_base.specs.FormatLaws.{Rest, Rest-format, Rest-alone, same_first, both}
+use Rattle.stateful_base.specs.FormatLaws.{IsFormat-both}
+use Rattle.stateful_base.specs.FixedLaws.{u32_alone}
 
 abbrev pub cons : {A : Type 0} → A × List A → List A
 cons p = p.0 ∷ p.1

@@ -4,8 +4,8 @@ use Rattle.std.specs.declared.cmp.Ordering.{Ordering}
 use Rattle.std.specs.declared.cmp.Ordering.TheVariants.{Less, Greater}
 use Rattle.std.specs.Ordering.{nat_cmp, ordering_then}
 use Rattle.std.specs.Int.NonZero.{non_zero_u64_get}
-use Rattle.stateful_types.specs.Format.{Format}
-use Rattle.stateful_types.specs.Number.{nonzero_format, location_format}
+use Rattle.stateful_base.specs.Format.{Format}
+use Rattle.stateful_base.specs.Number.{nonzero_format, location_format}
 use Rattle.stateful_types.specs.declared.request.Request.{Request}
 use Rattle.stateful_types.specs.declared.request.Request.TheVariants.{Operations, Boundary}
 

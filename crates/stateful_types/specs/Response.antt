@@ -1,10 +1,10 @@
 -- Responses of a sync in bytes.
 use Rattle.std.specs.Prelude.{◌≡◌, ℕ, ◌≤◌, List, [], ◌∷◌, ◌++◌, length}
 use Rattle.std.specs.Int.NonZero.{non_zero_u64_get}
-use Rattle.stateful_types.specs.Format.{Format}
-use Rattle.stateful_types.specs.Number.{u32_format}
+use Rattle.stateful_base.specs.Format.{Format}
+use Rattle.stateful_base.specs.Number.{u32_format}
 use Rattle.stateful_types.specs.Items.{items_format}
-use Rattle.stateful_types.specs.Digest.{digest_format}
+use Rattle.stateful_base.specs.Digest.{digest_format}
 use Rattle.stateful_types.specs.declared.request.Request.{Request}
 use Rattle.stateful_types.specs.declared.request.Request.TheVariants as asked
 use Rattle.stateful_types.specs.declared.response.Response.{Response}

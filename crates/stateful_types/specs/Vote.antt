@@ -1,13 +1,10 @@
 -- Certificates of votes.
-use Rattle.std.specs.Prelude.{ℕ, ◌<◌, ◌≤◌, ◌-◌, ◌/◌, ◌^◌, List, All, length}
+use Rattle.std.specs.Prelude.{ℕ, ◌<◌, ◌≤◌, ◌-◌, ◌^◌, List, All, length}
 use Rattle.std.specs.List.Sorted.{IsStrictlyIncreasing}
-use Rattle.stateful_types.specs.Format.{Format}
-use Rattle.stateful_types.specs.Number.{u32_format}
+use Rattle.stateful_base.specs.Format.{Format}
+use Rattle.stateful_base.specs.Scheme.{max_faults}
+use Rattle.stateful_base.specs.Number.{u32_format}
 use Rattle.stateful_types.specs.Items.{items_format}
-
--- how many of n participants may be faulty: fewer than a third of them
-abbrev pub max_faults : ℕ → ℕ
-max_faults n = (n - 1) / 3
 
 -- how many signers there are, and then the number of each
 abbrev pub votes_format : Format (List ℕ)

@@ -4,7 +4,7 @@ use Rattle.std.proofs.Common.{arith, add-one, length-append}
 use Rattle.std.specs.Prelude.{slice_index}
 use Rattle.std.specs.List.{flat_map}
 use Rattle.std.specs.List.Sorted.{IsStrictlyIncreasing}
-use Rattle.stateful_types.specs.Number.{u32_format}
+use Rattle.stateful_base.specs.Number.{u32_format}
 use Rattle.stateful_types.specs.Vote.{votes_format, IsQuorum}
 
 length-numbers : (xs : List ℕ) → length (flat_map u32_format.spelling xs) ≡ 4 * length xs

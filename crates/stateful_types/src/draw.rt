@@ -3,7 +3,7 @@
 ghost use Rattle.std.specs.Prelude.{◌≡◌};
 ghost use Rattle.stateful_types.specs.declared.draw.DrawError.TheVariants as errors;
 
-use crate::share::OutOfMemory;
+use stateful_base::OutOfMemory;
 use std::alloc::{AllocError, AllocFailed};
 use thiserror::Error;
 

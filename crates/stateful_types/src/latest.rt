@@ -2,13 +2,12 @@
 
 ghost use Rattle.std.specs.Prelude.{◌≡◌, IfOk};
 
-use crate::finalization::Finalization;
-use crate::share::{OutOfMemory, Share};
+use stateful_base::{Finalization, OutOfMemory, Share};
 
 /// What a node knows of the chain's end.
 pub trait Latest<C> {
     ghost use Rattle.std.specs.Prelude.{◌≡◌, IfOk, Option};
-    ghost use Rattle.stateful_types.specs.declared.finalization.Finalization.{Finalization};
+    ghost use Rattle.stateful_base.specs.declared.finalization.Finalization.{Finalization};
 
     /// The latest finalization, if there is one.
     ghost newest: { Self → Option (Finalization C) };

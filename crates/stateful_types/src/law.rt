@@ -1,19 +1,19 @@
 //! What holds of the formats for all values and all bytes, and of the order of requests.
 
 ghost use Rattle.std.specs.Prelude.{◌≡◌};
-ghost use Rattle.stateful_types.specs.Format.{IsFormat};
-ghost use Rattle.stateful_types.specs.Number.{u8_format, u32_format, u64_format, height_format};
-ghost use Rattle.stateful_types.specs.Number.{location_format};
-ghost use Rattle.stateful_types.specs.Digest.{digest_format};
-ghost use Rattle.stateful_types.specs.Round.{round_format};
+ghost use Rattle.stateful_base.specs.Format.{IsFormat};
+ghost use Rattle.stateful_base.specs.Number.{u8_format, u32_format, u64_format, height_format};
+ghost use Rattle.stateful_base.specs.Number.{location_format};
+ghost use Rattle.stateful_base.specs.Digest.{digest_format};
+ghost use Rattle.stateful_base.specs.Round.{round_format};
 ghost use Rattle.stateful_types.specs.Vote.{votes_format};
-ghost use Rattle.stateful_types.specs.Finalization.{finalization_format};
+ghost use Rattle.stateful_base.specs.Finalization.{finalization_format};
 ghost use Rattle.stateful_types.specs.Request.{request_format, request_cmp};
 ghost use Rattle.stateful_types.specs.Response.{response_format};
 
 use crate::operation::Operation;
 use crate::request::Request;
-use crate::scheme::Scheme;
+use stateful_base::Scheme;
 
 /// In each format no spelling begins another, and so no value has the spelling of another.
 pub fn no_spelling_begins_another<S: Scheme, Op: Operation>()

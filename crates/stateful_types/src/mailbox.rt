@@ -6,7 +6,7 @@ ghost use Rattle.std.specs.VecDeque.{deque_capacity, deque_len};
 ghost use Rattle.stateful_types.specs.Mailbox.{queues, HasRoom, IsBusy, IsFilled, HandsOut, Drops};
 ghost use Rattle.stateful_types.specs.Mailbox.{KeepsOrder, messages};
 
-use crate::share::OutOfMemory;
+use stateful_base::OutOfMemory;
 use std::alloc::Global;
 use std::collections::VecDeque;
 use std::marker::Model;

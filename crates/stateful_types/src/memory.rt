@@ -4,11 +4,11 @@ ghost use Rattle.std.specs.Prelude.{◌≡◌, ◌↔◌, ◌<◌, ◌≤◌, []
 ghost use Rattle.std.specs.Prelude.{IfOk, is_err};
 ghost use Rattle.std.specs.Io.{ReadsAtMost};
 ghost use Rattle.std.specs.Io.KnownBytes.{ReadConsumes, WriteAppends};
-ghost use Rattle.stateful_types.specs.Causes.{Rose, HasCause, risen, risen_if, is_listed};
+ghost use Rattle.stateful_base.specs.Causes.{Rose, HasCause, risen, risen_if, is_listed};
 
-use crate::fault::{Failed, Faulty};
 use crate::sink::{Sink, SinkFault};
 use crate::source::Source;
+use stateful_base::{Failed, Faulty};
 use std::alloc::Global;
 
 /// A source over bytes in memory. The calls whose numbers it lists fail.

@@ -1,13 +1,12 @@
 //! Operations of a database, as a server sends them.
 
-use crate::codec::CodecError;
-use crate::share::OutOfMemory;
 use bytes::Bytes;
+use stateful_base::{CodecError, OutOfMemory};
 use std::alloc::Global;
 
 /// An operation of a database, with its bytes.
 pub trait Operation: Sized {
-    ghost use Rattle.stateful_types.specs.Format.{Format, Reads, Writes, IsFormat};
+    ghost use Rattle.stateful_base.specs.Format.{Format, Reads, Writes, IsFormat};
 
     /// How operations are spelled.
     ghost operations: { Format Self };

@@ -1,14 +1,12 @@
 //! What a syncing database asks of a server.
 
 ghost use Rattle.std.specs.Prelude.{IsErrOf};
-ghost use Rattle.stateful_types.specs.Format.{Reads, Writes};
-ghost use Rattle.stateful_types.specs.Number.{nonzero_format};
+ghost use Rattle.stateful_base.specs.Format.{Reads, Writes};
+ghost use Rattle.stateful_base.specs.Number.{nonzero_format};
 ghost use Rattle.stateful_types.specs.Request.{request_format};
 
-use crate::codec::{CodecError, read_u8, read_u64, write_u8, write_u64};
-use crate::number::Location;
-use crate::share::OutOfMemory;
 use bytes::Bytes;
+use stateful_base::{CodecError, Location, OutOfMemory, read_u8, read_u64, write_u8, write_u64};
 use std::num::NonZeroU64;
 
 /// What is asked of a database that has `size` operations. Requests are ordered by their kind, and

@@ -1,17 +1,16 @@
 //! What a server answers to a syncing database.
 
 ghost use Rattle.std.specs.Prelude.{◌≡◌, ◌↔◌, ◌%◌, ◌++◌, ◌^◌, ℕ, List, IsTrue, IfOk, IsErrOf};
-ghost use Rattle.stateful_types.specs.Format.{Reads, Writes, UnlessMemory};
+ghost use Rattle.stateful_base.specs.Format.{Reads, Writes, UnlessMemory};
 ghost use Rattle.stateful_types.specs.Items.{items_format, exactly_format};
 ghost use Rattle.stateful_types.specs.Response.{response_format, Allows, IsAllowed, HasTooMany};
 
-use crate::codec::{CodecError, read_u8, read_u32, write_u8, write_u32};
-use crate::digest::Digest;
-use crate::items::Items;
 use crate::operation::Operation;
 use crate::request::Request;
-use crate::share::{OutOfMemory, Share};
 use bytes::Bytes;
+use stateful_base::{
+    CodecError, Digest, Items, OutOfMemory, Share, read_u8, read_u32, write_u8, write_u32,
+};
 use std::alloc::Global;
 
 /// What a server answers to a request.

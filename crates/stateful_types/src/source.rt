@@ -3,9 +3,9 @@
 ghost use Rattle.std.specs.Prelude.{ℕ, ◌<◌, ◌≤◌, Option, List, length, IfOk, IsErrOf, IfSome};
 ghost use Rattle.std.specs.Io.{ReadsAtMost};
 ghost use Rattle.std.specs.Io.KnownBytes.{ReadConsumes, Consumes, IsAtEnd};
-ghost use Rattle.stateful_types.specs.Causes.{Rose, HasCause};
+ghost use Rattle.stateful_base.specs.Causes.{Rose, HasCause};
 
-use crate::fault::{Failed, Faulty};
+use stateful_base::{Failed, Faulty};
 use std::alloc::Global;
 use thiserror::Error;
 
@@ -14,7 +14,7 @@ pub trait Source: Faulty {
     ghost use Rattle.std.specs.Prelude.{ℕ, Option, List};
     ghost use Rattle.std.specs.Io.{ReadsAtMost};
     ghost use Rattle.std.specs.Io.KnownBytes.{ReadConsumes};
-    ghost use Rattle.stateful_types.specs.Causes.{HasCause};
+    ghost use Rattle.stateful_base.specs.Causes.{HasCause};
 
     /// The bytes that are left, where that is told.
     ghost left: { Self → Option (List ℕ) };

@@ -2,17 +2,15 @@
 
 ghost use Rattle.std.specs.Prelude.{◌<◌, ◌↔◌, IsTrue, All};
 ghost use Rattle.std.specs.List.Sorted.{IsStrictlyIncreasing};
-ghost use Rattle.stateful_types.specs.Format.{Reads, Writes};
-ghost use Rattle.stateful_types.specs.Number.{u32_format};
+ghost use Rattle.stateful_base.specs.Format.{Reads, Writes};
+ghost use Rattle.stateful_base.specs.Number.{u32_format};
 ghost use Rattle.stateful_types.specs.Items.{exactly_format};
 ghost use Rattle.stateful_types.specs.Vote.{votes_format, IsQuorum};
 
-use crate::codec::{CodecError, read_u32, write_u32};
-use crate::finalization::Finalization;
-use crate::items::Items;
-use crate::scheme::{Scheme, max_faults};
-use crate::share::OutOfMemory;
 use bytes::Bytes;
+use stateful_base::{
+    CodecError, Finalization, Items, OutOfMemory, Scheme, max_faults, read_u32, write_u32,
+};
 use std::alloc::Global;
 
 /// A scheme in memory. Its certificates are lists of signers, by their numbers among the
@@ -24,7 +22,7 @@ pub struct VoteScheme {
 
 impl Scheme for VoteScheme {
     ghost use Rattle.std.specs.Prelude.{◌+◌, ◌*◌, length};
-    ghost use Rattle.stateful_types.specs.FixedLaws.{u32_alone};
+    ghost use Rattle.stateful_base.specs.FixedLaws.{u32_alone};
     ghost use Rattle.stateful_types.specs.ItemsLaws.{items_alone};
     ghost use Rattle.stateful_types.specs.VoteLaws.{votes_bounded};
 

@@ -12,10 +12,10 @@ ghost use Rattle.stateful_db_keyless.specs.CompactShown.{Holds, DraftShows, Seal
 use super::database::CompactDb;
 use super::state::{Commit, CompactState, committed, share, size};
 use crate::op::{link_append, link_commit};
+use stateful_base::{Digest, Location, OutOfMemory};
 use stateful_db::{BatchError, Merkleized, Unmerkleized};
 use stateful_db_log::{Bounds, Field};
 use stateful_db_overlay::{Layer, Layers};
-use stateful_types::{Digest, Location, OutOfMemory};
 
 /// A batch that may still change: its id, the layers below it, the floor of its parent, the
 /// location of its commit, the digest before the commit, the metadata of the commit, and the floor

@@ -6,6 +6,7 @@ use super::medium::CompactMedium;
 use super::opening::number_to_open;
 use super::pass::CompactPass;
 use super::state::{Commit, CompactState, compact_target, size};
+use stateful_base::{CompactTarget, Digest, Faulty, Location, OutOfMemory};
 use stateful_db::{
     BatchContext, Broken, DbCall, Exhausted, FlushToken, InitError, ManagedDb, Merkleized,
     Targeted, Why,
@@ -13,7 +14,6 @@ use stateful_db::{
 use stateful_db_log::Field;
 use stateful_db_medium::Opened;
 use stateful_db_overlay::Layers;
-use stateful_types::{CompactTarget, Digest, Faulty, Location, OutOfMemory};
 
 /// A keyless log of which the digest, the number of operations and the latest commit are kept.
 #[derive(Drop)]
@@ -63,7 +63,7 @@ impl<V: Field> ManagedDb for CompactDb<V> {
     ghost use Rattle.std.specs.Prelude.{◌≡◌, ◌≢◌, ℕ, ◌+◌, ◌-◌, ◌^◌, ◌≤◌, ◌<◌, List, ◌∷◌, ◌++◌, []};
     ghost use Rattle.std.specs.Prelude.{IfOk, IfErr, IsErrAnd, Option, ◌↔◌, ◌⊎◌, Contains, length};
     ghost use Rattle.std.specs.Prelude.{refl};
-    ghost use Rattle.stateful_types.specs.Causes.{Rose};
+    ghost use Rattle.stateful_base.specs.Causes.{Rose};
     ghost use Rattle.stateful_db.specs.Targeted.{compact_target};
     ghost use Rattle.stateful_db.specs.Disk.{IsEither, IsCrash, place, applied, flushed, point};
     ghost use Rattle.stateful_db.specs.Reopening.{Reopens, FailsToReopen, HasNone, KeepsDurable};

@@ -1,10 +1,10 @@
 //! What a compact database leaves.
 
 use super::state::{Commit, initial};
+use stateful_base::Faulty;
 use stateful_db::DbCall;
 use stateful_db_log::Field;
 use stateful_db_medium::Medium;
-use stateful_types::Faulty;
 use std::alloc::Global;
 
 /// The kept checkpoints, and the next batch id. Of the calls of databases that are made on it,

@@ -2,7 +2,7 @@
 
 ghost use Rattle.std.specs.Prelude.{◌≡◌, ◌≢◌, ◌⊎◌, ◌<◌, ◌≤◌, length, Some, IfOk, IfErr, IsErrAnd};
 ghost use Rattle.std.specs.Prelude.{◌↔◌, IsTrue};
-ghost use Rattle.stateful_types.specs.Causes.{Rose};
+ghost use Rattle.stateful_base.specs.Causes.{Rose};
 ghost use Rattle.stateful_db.specs.Targeted.{compact_target};
 ghost use Rattle.stateful_db.specs.Disk.{all};
 ghost use Rattle.stateful_db.specs.Reopening.{FailsToReopen, HasNone};
@@ -12,9 +12,9 @@ ghost use Rattle.stateful_db_medium.specs.Openings.{IsNumberOf};
 ghost use Rattle.stateful_db_keyless.specs.Compacted.{target_of};
 
 use super::state::{Commit, compact_target};
+use stateful_base::CompactTarget;
 use stateful_db::{DbCall, InitError, Targeted};
 use stateful_db_medium::Medium;
-use stateful_types::CompactTarget;
 
 /// The number of the kept checkpoint of this target, or of the latest. This is a call of the kind
 /// `Init`; `Database` exactly where it is listed as a failing one, or no kept checkpoint has the

@@ -2,7 +2,7 @@
 
 use super::medium::CompactMedium;
 use super::state::CompactState;
-use stateful_types::{CompactTarget, Faulty};
+use stateful_base::{CompactTarget, Faulty};
 
 /// A sync that isn't finished: the medium as it was before, the target that it leads to, and the
 /// state that was fetched for it, if one was.

@@ -4,9 +4,9 @@ ghost use Rattle.std.specs.Prelude.{◌≡◌, IfOk};
 ghost use Rattle.stateful_db_keyless.specs.Compacted.{state_of, size_of, target_of, initial};
 
 use crate::op::duplicate;
+use stateful_base::{CompactTarget, Digest, Location, OutOfMemory, Target};
 use stateful_db_log::Field;
 use stateful_db_medium::Checkpoint;
-use stateful_types::{CompactTarget, Digest, Location, OutOfMemory, Target};
 
 /// The latest operation, which is a commit: the digest before it, its metadata, and its floor.
 #[derive(Drop)]

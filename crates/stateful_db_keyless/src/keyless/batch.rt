@@ -12,10 +12,10 @@ ghost use Rattle.stateful_db_keyless.specs.KeylessShown.{Holds, DraftShows, Seal
 use super::database::KeylessDb;
 use super::state::KeylessState;
 use crate::op::{KeylessOp, link_append, link_commit};
+use stateful_base::{Digest, Location, OutOfMemory, Target};
 use stateful_db::{BatchError, Merkleized, Unmerkleized};
 use stateful_db_log::Field;
 use stateful_db_overlay::{Layer, Layers};
-use stateful_types::{Digest, Location, OutOfMemory, Target};
 
 /// What a sealed batch changes: the location of its first operation, its operations, and the root
 /// and the range behind them.

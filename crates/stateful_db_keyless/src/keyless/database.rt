@@ -10,13 +10,13 @@ use super::range::check;
 use super::reads::read;
 use super::state::KeylessState;
 use crate::op::KeylessOp;
+use stateful_base::{Digest, Faulty, Location, OutOfMemory, Target};
 use stateful_db::{
     BatchContext, BatchError, Broken, DbCall, Exhausted, FlushToken, InitError, ManagedDb,
     Merkleized, Why,
 };
 use stateful_db_log::{Field, LogMedium, OpenLog};
 use stateful_db_overlay::Layers;
-use stateful_types::{Digest, Faulty, Location, OutOfMemory, Target};
 use std::ops::Range;
 
 /// A log of values, which keeps each operation from its floor on once.
@@ -115,7 +115,7 @@ impl<V: Field> ManagedDb for KeylessDb<V> {
     ghost use Rattle.std.specs.Prelude.{◌≡◌, ◌≢◌, ℕ, ◌+◌, ◌-◌, ◌^◌, ◌≤◌, ◌<◌, List, ◌∷◌, ◌++◌, []};
     ghost use Rattle.std.specs.Prelude.{IfOk, IfErr, IsErrAnd, Option, ◌↔◌, ◌⊎◌, Contains, length};
     ghost use Rattle.std.specs.Prelude.{refl};
-    ghost use Rattle.stateful_types.specs.Causes.{Rose};
+    ghost use Rattle.stateful_base.specs.Causes.{Rose};
     ghost use Rattle.stateful_db.specs.Disk.{IsEither, IsCrash, place, applied, flushed, point};
     ghost use Rattle.stateful_db.specs.Reopening.{Reopens, FailsToReopen, HasNone, KeepsDurable};
     ghost use Rattle.stateful_db.specs.Reopening.{pruned_to};

@@ -1,9 +1,9 @@
 //! What a keyless database leaves.
 
 use crate::op::KeylessOp;
+use stateful_base::{Digest, Faulty};
 use stateful_db::DbCall;
 use stateful_db_log::{Field, LogMedium};
-use stateful_types::{Digest, Faulty};
 use std::alloc::Global;
 
 /// The kept checkpoints, and the next batch id. Of the calls of databases that are made on it,

@@ -4,8 +4,8 @@ ghost use Rattle.std.specs.Prelude.{◌≡◌, ◌+◌, Some, None, option_map, 
 ghost use Rattle.stateful_db.specs.declared.batch.BatchError.TheVariants.{LocationOutOfOrder};
 ghost use Rattle.stateful_db_keyless.specs.Reads.{out_of_order, unreadable, first_unreadable, refusal};
 
+use stateful_base::Location;
 use stateful_db::BatchError;
-use stateful_types::Location;
 
 /// `LocationOutOfOrder` exactly where a location isn't greater than the one before, with the first
 /// such.

@@ -12,9 +12,9 @@ ghost use Rattle.stateful_db_keyless.specs.Through.{op_over, op_through};
 use super::batch::KeylessChanges;
 use super::database::KeylessDb;
 use crate::op::{KeylessOp, duplicate};
+use stateful_base::{Location, OutOfMemory};
 use stateful_db_log::Field;
 use stateful_db_overlay::Layer;
-use stateful_types::{Location, OutOfMemory};
 
 /// The value that an operation reads as: its own of an append, and the metadata of a commit.
 pub(crate) fn read<V: Field>(op: Option<&KeylessOp<V>>) -> Result<Option<V>, OutOfMemory>

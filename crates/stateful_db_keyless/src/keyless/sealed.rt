@@ -13,9 +13,9 @@ use super::batch::KeylessMerkleized;
 use super::database::KeylessDb;
 use super::range::check;
 use super::reads::value_over;
+use stateful_base::{Location, OutOfMemory};
 use stateful_db::BatchError;
 use stateful_db_log::{Bounds, Field};
-use stateful_types::{Location, OutOfMemory};
 
 impl<V: Field> KeylessMerkleized<V> {
     /// Whether the database where the batch of this id was applied last is at a state of its chain.

@@ -14,9 +14,9 @@ use super::batch::KeylessUnmerkleized;
 use super::database::KeylessDb;
 use super::range::check;
 use super::reads::value_over;
+use stateful_base::{Location, OutOfMemory};
 use stateful_db::BatchError;
 use stateful_db_log::Field;
-use stateful_types::{Location, OutOfMemory};
 
 impl<V: Field> KeylessUnmerkleized<V> {
     /// Why these locations can't be read over a database.

@@ -1,7 +1,7 @@
 -- Two fetches of one ticket for one block.
 use Rattle.std.proofs.Common.{◌≡◌, ℕ, Some, None, ◌∷◌, MatchOption, refl, inl}
-use Rattle.stateful_types.specs.Names.{Named}
-use Rattle.stateful_types.specs.declared.digest.Digest.{Digest}
+use Rattle.stateful_base.specs.Names.{Named}
+use Rattle.stateful_base.specs.declared.digest.Digest.{Digest}
 use Rattle.stateful_history.specs.Setting.{Setting, parent_of}
 use Rattle.stateful_history.specs.Past.{Past, Came, Made}
 use Rattle.stateful_history.specs.Ancestors.{IsCircular}

@@ -1,10 +1,10 @@
 -- What is known while the tip moves: between the mark that a finalization began and that its block was applied.
 use Rattle.std.proofs.Common.{◌≡◌, ◌≢◌, ◌⊎◌, ℕ, Some, true, false, ◌∷◌, MatchOption, refl, sym, subst, inl, inr, ap, ◌∙◌}
-use Rattle.stateful_types.specs.Names.{Named}
-use Rattle.stateful_types.specs.Round.{IsLater}
-use Rattle.stateful_types.specs.Anchor.{anchor_by}
-use Rattle.stateful_types.specs.declared.anchor.Anchor.{Anchor}
-use Rattle.stateful_types.specs.declared.digest.Digest.{Digest}
+use Rattle.stateful_base.specs.Names.{Named}
+use Rattle.stateful_base.specs.Round.{IsLater}
+use Rattle.stateful_base.specs.Anchor.{anchor_by}
+use Rattle.stateful_base.specs.declared.anchor.Anchor.{Anchor}
+use Rattle.stateful_base.specs.declared.digest.Digest.{Digest}
 use Rattle.stateful_history.specs.Setting.{Setting, parent_of, round_of}
 use Rattle.stateful_history.specs.Past.{Past, Made}
 use Rattle.stateful_history.specs.Met.{Met, TrueNames}

@@ -1,10 +1,10 @@
 -- What a receipt waits for in the middle of its finalization, and behind it.
 use Rattle.std.proofs.Common.{◌≡◌, ◌≢◌, ◌<◌, ℕ, true, false, Option, Some, None, [], ◌∷◌, eqb, cond, ◌||◌, arith, refl, ap, inl, inr, ◌∙◌}
-use Rattle.stateful_types.specs.Names.{Named}
-use Rattle.stateful_types.specs.declared.anchor.Anchor.{Anchor}
-use Rattle.stateful_types.specs.declared.floor.Floor.{Floor}
-use Rattle.stateful_types.specs.declared.items.Items.{Items}
-use Rattle.stateful_types.specs.declared.outcome.Finality.TheVariants as finality
+use Rattle.stateful_base.specs.Names.{Named}
+use Rattle.stateful_base.specs.declared.anchor.Anchor.{Anchor}
+use Rattle.stateful_base.specs.declared.floor.Floor.{Floor}
+use Rattle.stateful_base.specs.declared.items.Items.{Items}
+use Rattle.stateful_base.specs.declared.outcome.Finality.TheVariants as finality
 use Rattle.stateful_history.specs.Setting.{Setting, parent_of}
 use Rattle.stateful_history.specs.Telling.{Telling}
 use Rattle.stateful_history.specs.Past.{Past, Came, Made}

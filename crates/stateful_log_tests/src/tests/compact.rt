@@ -1,8 +1,8 @@
 //! A log of which the latest commit alone is kept.
 
+use stateful_base::{CompactTarget, Digest, Location};
 use stateful_db::{BatchError, DatabaseSet, Held, ManagedDb, Merkleized};
 use stateful_db_keyless::{CompactDb, CompactMedium, KeylessUnjournaledMerkleized};
-use stateful_types::{CompactTarget, Digest, Location};
 use std::alloc::Global;
 use std::test::Fail;
 

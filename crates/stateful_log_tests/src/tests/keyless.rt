@@ -1,8 +1,8 @@
 //! A log that is kept from its floor on.
 
+use stateful_base::{Digest, Location, Target};
 use stateful_db::{BatchError, DatabaseSet, Held, Merkleized};
 use stateful_db_keyless::{KeylessDb, KeylessMedium, KeylessMerkleized};
-use stateful_types::{Digest, Location, Target};
 use std::alloc::Global;
 use std::test::Fail;
 

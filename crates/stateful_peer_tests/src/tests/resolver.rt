@@ -25,9 +25,9 @@ struct Update {
 impl Operation for Update {
     ghost use Rattle.std.specs.Prelude.{◌∷◌, [], ◌++◌, refl};
     ghost use Rattle.stateful_peer_tests.specs.declared.tests.resolver.Update.{Update};
-    ghost use Rattle.stateful_types.specs.Number.{u64_format};
-    ghost use Rattle.stateful_types.specs.FixedLaws.{u64_alone};
-    ghost use Rattle.stateful_types.specs.FormatLaws.{both, IsFormat-both, Rest-whole};
+    ghost use Rattle.stateful_base.specs.Number.{u64_format};
+    ghost use Rattle.stateful_base.specs.FixedLaws.{u64_alone};
+    ghost use Rattle.stateful_base.specs.FormatLaws.{both, IsFormat-both, Rest-whole};
 
     ghost operations = { record {
       fits = λ update. u64_format.fits update.key × u64_format.fits update.value;

@@ -3,13 +3,13 @@
 use stateful_bank::{Ask, BankBlock, Op};
 use stateful_bank_app::Bank;
 use stateful_bank_plain::{Single, step};
+use stateful_base::{
+    Ancestry, Digest, Digested, Epoch, Finality, Handoff, Height, Items, Moved, Round, Target, View,
+};
 use stateful_db::{
     Application, DatabaseSet, Held, Hooked, Input, Merkleized, ProposalKind, Proposed,
 };
 use stateful_db_plain::{Plain, PlainMedium, PlainMerkleized, PlainState};
-use stateful_types::{
-    Ancestry, Digest, Digested, Epoch, Finality, Handoff, Height, Items, Moved, Round, Target, View,
-};
 use std::alloc::Global;
 use std::process::Abort;
 use std::test::Fail;

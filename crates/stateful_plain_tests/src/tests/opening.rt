@@ -3,12 +3,12 @@
 use stateful_bank::BankBlock;
 use stateful_bank_app::Bank;
 use stateful_bank_plain::Single;
+use stateful_base::{
+    Anchor, Digest, Digested, Epoch, Height, Items, MemoryStore, Round, Target, View,
+};
 use stateful_db::{DatabaseSet, Held};
 use stateful_db_plain::{PlainMedium, PlainState};
 use stateful_sync_plan::{Missing, SyncError, open_set};
-use stateful_types::{
-    Anchor, Digest, Digested, Epoch, Height, Items, MemoryStore, Round, Target, View,
-};
 use std::alloc::Global;
 use std::collections::BTreeMap;
 use std::test::Fail;

@@ -1,8 +1,8 @@
 //! Roots against another program's SHA-256, and calls that succeed.
 
+use stateful_base::{Digest, Faulty, Location, Target};
 use stateful_db::{DatabaseSet, DbCall, Held, InitError, ManagedDb, Merkleized, Unmerkleized};
 use stateful_db_plain::{Plain, PlainMedium};
-use stateful_types::{Digest, Faulty, Location, Target};
 use std::alloc::Global;
 use std::process::Abort;
 use std::test::Fail;

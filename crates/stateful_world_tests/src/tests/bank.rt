@@ -2,10 +2,10 @@
 
 use stateful_bank::{Ask, BankBlock, Op};
 use stateful_bank_app::{Bank, BankBuild, Drafted, Fresh, Sealed, World};
-use stateful_db::{Application, DatabaseSet, Input};
-use stateful_types::{
+use stateful_base::{
     Ancestry, Digested, Epoch, Finality, Handoff, Height, Items, Moved, Round, Target, View,
 };
+use stateful_db::{Application, DatabaseSet, Input};
 use std::alloc::Global;
 use std::test::Fail;
 

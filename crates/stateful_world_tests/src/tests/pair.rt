@@ -4,7 +4,7 @@ use super::bank::{Layered, build, depths, is_refused, run_both};
 use super::roots::{FIRST_AMOUNTS, FIRST_BALANCES, SECOND_AMOUNTS, SECOND_BALANCES, range};
 use stateful_bank_app::Sealed;
 use stateful_bank_pair::Pair;
-use stateful_types::Digest;
+use stateful_base::Digest;
 use std::test::Fail;
 
 /// The digest of genesis, by the reference's program.

@@ -1,6 +1,6 @@
 //! Roots by the reference's program.
 
-use stateful_types::{Digest, Location, Target};
+use stateful_base::{Digest, Location, Target};
 
 /// Of the balances after a mint of 100 to account 1 and a move of 30 to account 2.
 pub(super) const FIRST_BALANCES: Digest = Digest([

@@ -1,5 +1,5 @@
 use Rattle.std.proofs.Common.{◌≡◌, ◌++◌, ℕ, take, map}
-use Rattle.stateful_types.specs.Number.{u64_format}
+use Rattle.stateful_base.specs.Number.{u64_format}
 use Rattle.stateful_bank.specs.Op.{amount_of}
 use Rattle.stateful_db_keyless.specs.Ops.{Changes}
 use Rattle.stateful_db_keyless.specs.Keyless.{State}

@@ -1,7 +1,7 @@
 use Rattle.std.proofs.Common.{◌++◌, map, Some, inr, ap, sym, subst, ◌∙◌}
 use Rattle.std.proofs.lemmas.Option.{same_Some}
-use Rattle.stateful_types.specs.Number.{u64_format}
-use Rattle.stateful_types.specs.declared.number.Location.{Location}
+use Rattle.stateful_base.specs.Number.{u64_format}
+use Rattle.stateful_base.specs.declared.number.Location.{Location}
 use Rattle.stateful_bank.specs.Op.{amount_of}
 use Rattle.stateful_db_keyless.specs.KeylessShown.{Holds}
 use Rattle.stateful_bank_logs.proofs.Appending.{changes, held, without, completed}

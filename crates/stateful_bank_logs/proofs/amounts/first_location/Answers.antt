@@ -1,5 +1,5 @@
 use Rattle.std.proofs.Common.{◌≡◌, ℕ, ◌∷◌, Some, ap, arith}
-use Rattle.stateful_types.specs.declared.number.Location.{Location}
+use Rattle.stateful_base.specs.declared.number.Location.{Location}
 use Rattle.stateful_db_keyless.specs.Keyless.{size_of}
 use Rattle.stateful_bank_logs.proofs.amounts.first_location.Goals as goal
 

@@ -5,7 +5,7 @@ use Rattle.std.specs.Map.{lookup}
 use Rattle.std.proofs.lemmas.Bool.{false≢true}
 use Rattle.stateful_db.specs.Disk.{point}
 use Rattle.stateful_db.proofs.Chains.{has_id-point}
-use Rattle.stateful_types.specs.Number.{u64_format}
+use Rattle.stateful_base.specs.Number.{u64_format}
 use Rattle.stateful_db_any.specs.Any.{value_at, sealed}
 use Rattle.stateful_db_any.specs.Stored.{standing_of}
 use Rattle.stateful_bank_logs.proofs.Balancing.{shows_after, value_after}

@@ -1,5 +1,5 @@
 use Rattle.std.proofs.Common.{◌∙◌, refl, arith}
-use Rattle.stateful_types.specs.Causes.{Rose}
+use Rattle.stateful_base.specs.Causes.{Rose}
 use Rattle.stateful_exec.specs.Workings.{workings}
 use Rattle.stateful_exec.specs.Causes.{FaultsAdvance}
 use Rattle.stateful_exec.specs.Ending.{Follows}

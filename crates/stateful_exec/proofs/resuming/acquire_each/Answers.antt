@@ -1,5 +1,5 @@
 use Rattle.std.proofs.Common.{◌∙◌, refl, arith}
-use Rattle.stateful_types.specs.Causes.{Rose}
+use Rattle.stateful_base.specs.Causes.{Rose}
 use Rattle.stateful_exec.specs.Workings.{workings}
 use Rattle.stateful_exec.specs.Pausing.{AcquiresAnew, FaultsAnew}
 use Rattle.stateful_exec.proofs.Following.{Reached-first, Reached-next, Reached-all, Reached-refused, Rises-then, Rose-earlier, not_memory, no_error}

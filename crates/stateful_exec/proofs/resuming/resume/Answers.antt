@@ -1,5 +1,5 @@
 use Rattle.std.proofs.lemmas.Result.{on_ok_weaker, IfErr-weaker}
-use Rattle.stateful_types.specs.Causes.{Rose}
+use Rattle.stateful_base.specs.Causes.{Rose}
 use Rattle.stateful_exec.specs.Workings.{workings}
 use Rattle.stateful_exec.proofs.Following.{Rose-earlier}
 use Rattle.stateful_exec.proofs.Resumed.{resumed, unresumed}

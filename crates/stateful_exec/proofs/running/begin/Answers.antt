@@ -1,5 +1,5 @@
 use Rattle.std.proofs.Common.{◌≡◌, ◌≢◌, ◌∙◌}
-use Rattle.stateful_types.specs.declared.digest.Digest.{Digest}
+use Rattle.stateful_base.specs.declared.digest.Digest.{Digest}
 use Rattle.stateful_exec.specs.Starting.{databases, batch}
 use Rattle.stateful_exec_tables.proofs.Tests.{refuted, shown}
 use Rattle.stateful_exec.proofs.running.begin.Goals as goal

@@ -1,6 +1,6 @@
 use Rattle.std.proofs.Common.{◌∙◌, ◌∷◌, [], ap, subst, sym}
-use Rattle.stateful_types.specs.declared.block.Ancestry.{Ancestry}
-use Rattle.stateful_types.specs.declared.outcome.Finality.TheVariants.{Candidate}
+use Rattle.stateful_base.specs.declared.block.Ancestry.{Ancestry}
+use Rattle.stateful_base.specs.declared.outcome.Finality.TheVariants.{Candidate}
 use Rattle.stateful_db.specs.Works.{run_of}
 use Rattle.stateful_exec.specs.Workings.{workings}
 use Rattle.stateful_exec.proofs.Starting.{IsOver-weaker}

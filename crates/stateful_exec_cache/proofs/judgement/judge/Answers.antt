@@ -1,6 +1,6 @@
 use Rattle.std.proofs.Common.{arith, ◌≡◌, ◌<◌, ◌≢◌, ◌↔◌, inl, sym, ◌∙◌, ap, subst, Some, None}
-use Rattle.stateful_types.specs.declared.digest.Digest.{Digest}
-use Rattle.stateful_types.specs.declared.number.Height.{Height}
+use Rattle.stateful_base.specs.declared.digest.Digest.{Digest}
+use Rattle.stateful_base.specs.declared.number.Height.{Height}
 use Rattle.stateful_exec_cache.specs.declared.judgement.Judgement.TheVariants.{Valid, Invalid}
 use Rattle.stateful_exec_cache.proofs.Judged.{IsIn-same, not_in, IsJudged-at, IsJudged-below}
 use Rattle.stateful_exec_cache.proofs.judgement.judge.Goals as goal

@@ -1,5 +1,5 @@
 use Rattle.std.proofs.Common.{ap, subst, inr, refl, ◌∙◌}
-use Rattle.stateful_types.specs.Causes.{Rose}
+use Rattle.stateful_base.specs.Causes.{Rose}
 use Rattle.stateful_exec.specs.Moments as exec
 use Rattle.stateful_exec.specs.Pausing.{FaultsResume}
 use Rattle.stateful_exec.specs.Workings.{workings}

@@ -1,10 +1,10 @@
 use Rattle.std.proofs.Common.{Err, ap}
-use Rattle.stateful_types.specs.Number.{u64_format}
-use Rattle.stateful_types.specs.Digest.{digest_format}
-use Rattle.stateful_types.specs.Round.{round_format}
-use Rattle.stateful_types.specs.FixedLaws.{u64_alone}
-use Rattle.stateful_types.proofs.Formats.{met, both_ok, first_err, second_err}
-use Rattle.stateful_types.proofs.Values.{round_alone, digest_alone, place_format, place_alone}
+use Rattle.stateful_base.specs.Number.{u64_format}
+use Rattle.stateful_base.specs.Digest.{digest_format}
+use Rattle.stateful_base.specs.Round.{round_format}
+use Rattle.stateful_base.specs.FixedLaws.{u64_alone}
+use Rattle.stateful_base.proofs.Formats.{met, both_ok, first_err, second_err}
+use Rattle.stateful_base.proofs.Values.{round_alone, digest_alone, place_format, place_alone}
 use Rattle.stateful_probe.proofs.Known.{if_any_err}
 use Rattle.stateful_probe.proofs.Reading.{header_read, header_unread}
 use Rattle.stateful_probe.proofs.reply.read_header.Goals as goal

@@ -5,7 +5,7 @@ use Rattle.std.specs.Map.Iter.{deref}
 use Rattle.std.proofs.lemmas.Bool.{false≢true}
 use Rattle.std.proofs.lemmas.Fn.{says_at}
 use Rattle.std.proofs.lemmas.Map.Iter.{rest_more, rest_so_far, iter_end}
-use Rattle.stateful_types.specs.Round.{IsLater}
+use Rattle.stateful_base.specs.Round.{IsLater}
 use Rattle.stateful_probe.specs.Sample.{IsHighest, IsHighestRound}
 use Rattle.stateful_probe.proofs.Highest.{highest_found, highest_reached, earlier_more}
 use Rattle.stateful_probe.proofs.sample.highest_reply.Goals as goal

@@ -2,8 +2,8 @@ use Rattle.std.proofs.Common.{◌≡◌, Bool, filter, map}
 use Rattle.std.specs.Fn.{FnReturnsAt}
 use Rattle.std.specs.List.{All}
 use Rattle.std.specs.Map.Iter.{deref}
-use Rattle.stateful_types.specs.Round.{IsLater}
-use Rattle.stateful_types.specs.declared.finalization.Finalization.{Finalization}
+use Rattle.stateful_base.specs.Round.{IsLater}
+use Rattle.stateful_base.specs.declared.finalization.Finalization.{Finalization}
 use Rattle.stateful_probe.proofs.sample.highest_reply.Given as goal
 
 -- the replies so far that the test answers are all of earlier rounds than the highest

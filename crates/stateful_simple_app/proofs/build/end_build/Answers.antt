@@ -1,5 +1,5 @@
 use Rattle.std.proofs.Common.{◌≡◌, ◌∷◌, sym, refl, ap, ◌∙◌}
-use Rattle.stateful_types.specs.declared.outcome.Finality.TheVariants.{Candidate}
+use Rattle.stateful_base.specs.declared.outcome.Finality.TheVariants.{Candidate}
 use Rattle.stateful_db_plain.specs.Whole.{Whole}
 use Rattle.stateful_db_plain.specs.Shown.{SealShows}
 use Rattle.stateful_db_plain.specs.declared.batch.PlainMerkleized.{PlainMerkleized}

@@ -1,6 +1,6 @@
 use Rattle.std.proofs.Common.{◌≡◌, true, sym, ◌∙◌}
 use Rattle.std.proofs.lemmas.Bool.{false≢true}
-use Rattle.stateful_types.specs.declared.outcome.Finality.TheVariants.{Candidate}
+use Rattle.stateful_base.specs.declared.outcome.Finality.TheVariants.{Candidate}
 use Rattle.stateful_db_plain.specs.Shown.{SealShows}
 use Rattle.stateful_db_plain.specs.declared.batch.PlainMerkleized.{PlainMerkleized}
 use Rattle.stateful_db_plain.specs.Whole.{Whole}

@@ -1,5 +1,5 @@
 use Rattle.std.proofs.Common.{refl, subst}
-use Rattle.stateful_types.specs.declared.number.Height.{Height}
+use Rattle.stateful_base.specs.declared.number.Height.{Height}
 use Rattle.stateful_sync_plan.specs.Choice.{IsBehind, IsStored, ResolvesFetched, itself}
 use Rattle.stateful_sync_plan.proofs.Choices.{right_too, overtaken_start}
 use Rattle.stateful_sync_plan.proofs.choice.resolve_fetched.Goals as goal

@@ -1,7 +1,7 @@
-use Rattle.stateful_types.specs.Number.{u32_format}
-use Rattle.stateful_types.specs.FixedLaws.{u8_alone, u32_alone, u64_alone}
+use Rattle.stateful_base.specs.Number.{u32_format}
+use Rattle.stateful_base.specs.FixedLaws.{u8_alone, u32_alone, u64_alone}
 use Rattle.stateful_types.specs.ItemsLaws.{items_alone}
-use Rattle.stateful_types.proofs.Values.{height_alone, location_alone, digest_alone, round_alone, finalization_alone}
+use Rattle.stateful_base.proofs.Values.{height_alone, location_alone, digest_alone, round_alone, finalization_alone}
 use Rattle.stateful_types.proofs.Requests.{request_tags}
 use Rattle.stateful_types.proofs.Responses.{response_tags}
 use Rattle.stateful_types.proofs.law.no_spelling_begins_another.Goals as goal

@@ -1,5 +1,5 @@
-use Rattle.stateful_types.specs.Number.{nonzero_format}
-use Rattle.stateful_types.proofs.Formats.{met, reads, passed}
+use Rattle.stateful_base.specs.Number.{nonzero_format}
+use Rattle.stateful_base.proofs.Formats.{met, reads, passed}
 use Rattle.stateful_types.proofs.Requests.{nonzero_alone, nonzero_ok, nonzero_err, nonzero_zero}
 use Rattle.stateful_types.proofs.request.read_nonzero.Goals as goal
 

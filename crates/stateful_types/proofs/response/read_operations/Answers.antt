@@ -1,6 +1,6 @@
 use Rattle.std.proofs.Common.{◌≡◌, length, arith}
 use Rattle.stateful_types.specs.Items.{exactly_format}
-use Rattle.stateful_types.proofs.Formats.{met, reads, passed}
+use Rattle.stateful_base.proofs.Formats.{met, reads, passed}
 use Rattle.stateful_types.specs.ItemsLaws.{exactly_alone}
 use Rattle.stateful_types.proofs.Counted.{exactly_err, exactly_ok, exactly_memory}
 use Rattle.stateful_types.proofs.response.read_operations.Goals as goal

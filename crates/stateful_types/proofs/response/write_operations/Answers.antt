@@ -1,5 +1,5 @@
 use Rattle.std.proofs.Common.{length}
-use Rattle.stateful_types.specs.Number.{u32_format}
+use Rattle.stateful_base.specs.Number.{u32_format}
 use Rattle.stateful_types.proofs.Counted.{fits_more, written_more}
 use Rattle.stateful_types.proofs.response.write_operations.Goals as goal
 

@@ -1,6 +1,6 @@
 use Rattle.std.proofs.Common.{◌≡◌, ◌++◌, length, take, All}
 use Rattle.std.specs.List.{flat_map}
-use Rattle.stateful_types.specs.Number.{u32_format}
+use Rattle.stateful_base.specs.Number.{u32_format}
 use Rattle.stateful_types.proofs.response.write_operations.Given as goal
 
 -- the number of operations is written, and the operations so far

@@ -1,8 +1,8 @@
 use Rattle.std.proofs.Common.{◌≡◌, length, arith}
-use Rattle.stateful_types.specs.Number.{u32_format}
+use Rattle.stateful_base.specs.Number.{u32_format}
 use Rattle.stateful_types.specs.Items.{exactly_format}
-use Rattle.stateful_types.proofs.Formats.{met, reads, passed}
-use Rattle.stateful_types.specs.FixedLaws.{u32_alone}
+use Rattle.stateful_base.proofs.Formats.{met, reads, passed}
+use Rattle.stateful_base.specs.FixedLaws.{u32_alone}
 use Rattle.stateful_types.specs.ItemsLaws.{exactly_alone}
 use Rattle.stateful_types.proofs.Counted.{exactly_err, exactly_ok, exactly_memory}
 use Rattle.stateful_types.proofs.vote.read_signers.Goals as goal

@@ -1,6 +1,6 @@
 use Rattle.std.proofs.Common.{◌≡◌, ◌++◌, length, take, All}
 use Rattle.std.specs.List.{flat_map}
-use Rattle.stateful_types.specs.Number.{u32_format}
+use Rattle.stateful_base.specs.Number.{u32_format}
 use Rattle.stateful_types.proofs.vote.write_signers.Given as goal
 
 -- the number of signers is written, and the signers so far

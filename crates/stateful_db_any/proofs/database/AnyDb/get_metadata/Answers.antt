@@ -1,6 +1,6 @@
 use Rattle.std.proofs.Common.{Some, sym, ap, ◌∙◌, arith}
 use Rattle.std.specs.Option.{option_copied}
-use Rattle.stateful_types.specs.declared.target.Target.{Target}
+use Rattle.stateful_base.specs.declared.target.Target.{Target}
 use Rattle.stateful_db_log.specs.LogSound.{length_newest}
 use Rattle.stateful_db_any.specs.Stored.{standing_of}
 use Rattle.stateful_db_any.proofs.Values.{metadata_in, newest_metadata}

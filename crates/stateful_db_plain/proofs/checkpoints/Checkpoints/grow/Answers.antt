@@ -1,5 +1,5 @@
 use Rattle.std.proofs.Common.{◌≡◌, ℕ, ap, ◌∙◌}
-use Rattle.stateful_types.specs.declared.target.Target.{Target}
+use Rattle.stateful_base.specs.declared.target.Target.{Target}
 use Rattle.stateful_db.specs.Disk.{applied}
 use Rattle.stateful_db_plain.specs.Whole.{Whole, value_at}
 use Rattle.stateful_db_plain.specs.Writes.{value_over}

@@ -1,7 +1,7 @@
 use Rattle.std.proofs.Common.{◌≡◌, ◌<◌, ◌≤◌, ◌+◌, ℕ, List, length, take, IsTrue, sym, ◌∙◌, subst, ap, get_or, arith}
 use Rattle.std.specs.BTreeSet.{BTreeSet, keys}
 use Rattle.std.specs.List.{Contains}
-use Rattle.stateful_types.specs.declared.digest.Digest.{Digest}
+use Rattle.stateful_base.specs.declared.digest.Digest.{Digest}
 use Rattle.std.proofs.lemmas.List.{take_all}
 use Rattle.stateful_exec_cache.specs.Cut.{DescendsFrom}
 use Rattle.stateful_exec_cache.specs.declared.cache.Cached.{Cached}

@@ -1,6 +1,6 @@
 use Rattle.std.proofs.Common.{◌≡◌, List, ℕ, Some, length, ◌∙◌, sym, subst}
 use Rattle.std.specs.BTreeMap.{Updates}
-use Rattle.stateful_types.specs.Digest.{digest_cmp}
+use Rattle.stateful_base.specs.Digest.{digest_cmp}
 use Rattle.stateful_exec_cache.specs.Index.{IsIndex}
 use Rattle.stateful_exec_cache.specs.declared.cache.Cached.{Cached}
 use Rattle.stateful_exec_cache.proofs.Indexed.{IsIndex-push, IsIndex-same}

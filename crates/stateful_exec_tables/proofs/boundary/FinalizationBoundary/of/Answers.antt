@@ -1,7 +1,7 @@
 use Rattle.std.proofs.Common.{◌≡◌, ◌⊎◌, ◌↔◌, subst, Contains}
 use Rattle.std.specs.BTreeSet.{keys}
-use Rattle.stateful_types.specs.declared.anchor.Anchor.{Anchor}
-use Rattle.stateful_types.specs.declared.digest.Digest.{Digest}
+use Rattle.stateful_base.specs.declared.anchor.Anchor.{Anchor}
+use Rattle.stateful_base.specs.declared.digest.Digest.{Digest}
 use Rattle.stateful_exec_cache.specs.Cut.{IsCutTo}
 use Rattle.stateful_exec_cache.proofs.Digests.{finds_more}
 use Rattle.stateful_exec_tables.proofs.Cuts.{with_root}

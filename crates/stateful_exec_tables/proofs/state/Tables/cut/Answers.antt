@@ -1,7 +1,7 @@
 use Rattle.std.proofs.Common.{◌≢◌, MatchOption, All, List, subst, ap}
 use Rattle.stateful_exec_cache.specs.Cut.{IsRootOf}
 use Rattle.stateful_exec_cache.specs.declared.cache.Cached.{Cached}
-use Rattle.stateful_types.specs.declared.anchor.Anchor.{Anchor}
+use Rattle.stateful_base.specs.declared.anchor.Anchor.{Anchor}
 use Rattle.stateful_exec_tables.proofs.Cuts.{cut_none}
 use Rattle.stateful_exec_tables.proofs.state.Tables.cut.Goals as goal
 

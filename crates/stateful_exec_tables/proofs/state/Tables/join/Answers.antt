@@ -1,6 +1,6 @@
 use Rattle.std.proofs.Common.{◌∙◌, ap, subst}
-use Rattle.stateful_types.specs.Names.{Named}
-use Rattle.stateful_types.specs.declared.digest.Digest.{Digest}
+use Rattle.stateful_base.specs.Names.{Named}
+use Rattle.stateful_base.specs.declared.digest.Digest.{Digest}
 use Rattle.stateful_exec_tables.specs.Tables.{Knows, HasRun, RunsNone}
 use Rattle.stateful_exec_tables.proofs.Tests.{refuted, shown}
 use Rattle.stateful_exec_tables.proofs.state.Tables.join.Goals as goal

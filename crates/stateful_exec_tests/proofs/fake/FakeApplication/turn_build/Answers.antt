@@ -1,5 +1,5 @@
 use Rattle.std.proofs.Common.{refl, ap, ◌∙◌}
-use Rattle.stateful_types.specs.declared.outcome.Moved.TheVariants.{Done}
+use Rattle.stateful_base.specs.declared.outcome.Moved.TheVariants.{Done}
 use Rattle.stateful_exec_tests.proofs.Working.{build_turned}
 use Rattle.stateful_exec_tests.proofs.fake.FakeApplication.turn_build.Goals as goal
 

@@ -1,9 +1,9 @@
 use Rattle.std.proofs.Common.{ℕ, [], refl}
-use Rattle.stateful_types.specs.Format.{Format}
-use Rattle.stateful_types.specs.FormatLaws.{Rest}
-use Rattle.stateful_types.specs.Number.{u64_format}
-use Rattle.stateful_types.specs.FixedLaws.{u64_alone}
-use Rattle.stateful_types.proofs.Formats.{met, renamed, renamed_err}
+use Rattle.stateful_base.specs.Format.{Format}
+use Rattle.stateful_base.specs.FormatLaws.{Rest}
+use Rattle.stateful_base.specs.Number.{u64_format}
+use Rattle.stateful_base.specs.FixedLaws.{u64_alone}
+use Rattle.stateful_base.proofs.Formats.{met, renamed, renamed_err}
 use Rattle.stateful_p2p_bench.specs.declared.source.Number.{Number}
 use Rattle.stateful_p2p_bench.proofs.source.NumberOperation.read.Goals as goal
 

@@ -1,4 +1,4 @@
-use Rattle.stateful_types.proofs.Formats.{met}
+use Rattle.stateful_base.proofs.Formats.{met}
 use Rattle.stateful_types.proofs.Tags.{nothing_met, head_err, case_ok, case_err}
 use Rattle.stateful_probe.proofs.Messages.{tag_head, tagged, message_tags, request_case, response_case}
 use Rattle.stateful_probe.proofs.wire.Message.read.Goals as goal

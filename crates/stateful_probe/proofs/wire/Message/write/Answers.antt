@@ -1,4 +1,4 @@
-use Rattle.stateful_types.proofs.Formats.{write_rest}
+use Rattle.stateful_base.proofs.Formats.{write_rest}
 use Rattle.stateful_probe.proofs.Messages.{response_case}
 use Rattle.stateful_probe.proofs.wire.Message.write.Goals as goal
 

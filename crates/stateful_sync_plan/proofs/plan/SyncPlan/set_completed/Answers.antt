@@ -1,7 +1,7 @@
 use Rattle.std.proofs.Common.{◌≡◌, ◌↔◌, Result, subst}
 use Rattle.std.specs.Prelude.{IsErrOf}
-use Rattle.stateful_types.specs.declared.digest.Digest.{Digest}
-use Rattle.stateful_types.specs.declared.number.Height.{Height}
+use Rattle.stateful_base.specs.declared.digest.Digest.{Digest}
+use Rattle.stateful_base.specs.declared.number.Height.{Height}
 use Rattle.stateful_sync_plan.specs.Plan.{IsBackward, IsConflict}
 use Rattle.stateful_sync_plan.specs.declared.error.PlanError.{PlanError}
 use Rattle.stateful_sync_plan.specs.declared.error.PlanError.TheVariants.{CompletedBackward, CompletedConflict}

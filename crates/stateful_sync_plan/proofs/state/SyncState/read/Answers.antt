@@ -1,9 +1,9 @@
 use Rattle.std.proofs.Common.{arith}
-use Rattle.stateful_types.specs.Number.{height_format}
-use Rattle.stateful_types.specs.Digest.{digest_format}
-use Rattle.stateful_types.proofs.Formats.{met, both_ok, first_err, second_err}
+use Rattle.stateful_base.specs.Number.{height_format}
+use Rattle.stateful_base.specs.Digest.{digest_format}
+use Rattle.stateful_base.proofs.Formats.{met, both_ok, first_err, second_err}
 use Rattle.stateful_types.proofs.Tags.{tag_err, tag_wrong, tag_is, case_ok, case_err}
-use Rattle.stateful_types.proofs.Values.{height_alone, digest_alone}
+use Rattle.stateful_base.proofs.Values.{height_alone, digest_alone}
 use Rattle.stateful_sync_plan.proofs.States.{state_tags, floor_case, height_case, recorded_case}
 use Rattle.stateful_sync_plan.proofs.state.SyncState.read.Goals as goal
 

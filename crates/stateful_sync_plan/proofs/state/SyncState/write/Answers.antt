@@ -1,4 +1,4 @@
-use Rattle.stateful_types.proofs.Formats.{write_rest}
+use Rattle.stateful_base.proofs.Formats.{write_rest}
 use Rattle.stateful_sync_plan.proofs.States.{floor_case}
 use Rattle.stateful_sync_plan.proofs.state.SyncState.write.Goals as goal
 

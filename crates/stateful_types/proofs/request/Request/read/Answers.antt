@@ -1,8 +1,8 @@
-use Rattle.stateful_types.specs.Number.{location_format, nonzero_format}
+use Rattle.stateful_base.specs.Number.{location_format, nonzero_format}
 use Rattle.std.proofs.Common.{arith}
-use Rattle.stateful_types.proofs.Formats.{met, both_ok, first_err, second_err}
+use Rattle.stateful_base.proofs.Formats.{met, both_ok, first_err, second_err}
 use Rattle.stateful_types.proofs.Tags.{tag_err, tag_wrong, tag_is, case_ok, case_err}
-use Rattle.stateful_types.proofs.Values.{location_alone}
+use Rattle.stateful_base.proofs.Values.{location_alone}
 use Rattle.stateful_types.proofs.Requests.{nonzero_alone, range_format, range_alone, request_tags, operations_case, boundary_case}
 use Rattle.stateful_types.proofs.request.Request.read.Goals as goal
 

@@ -1,5 +1,5 @@
-use Rattle.stateful_types.specs.Number.{location_format, nonzero_format}
-use Rattle.stateful_types.proofs.Formats.{write_both, write_rest}
+use Rattle.stateful_base.specs.Number.{location_format, nonzero_format}
+use Rattle.stateful_base.proofs.Formats.{write_both, write_rest}
 use Rattle.stateful_types.proofs.Requests.{range_format, operations_case, boundary_case, write_nonzero}
 use Rattle.stateful_types.proofs.request.Request.write.Goals as goal
 

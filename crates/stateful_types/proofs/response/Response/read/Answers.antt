@@ -1,8 +1,8 @@
 use Rattle.std.proofs.Common.{◌≡◌, true, arith}
-use Rattle.stateful_types.specs.Digest.{digest_format}
-use Rattle.stateful_types.proofs.Formats.{met, taken_then, both_ok, first_err, second_err}
+use Rattle.stateful_base.specs.Digest.{digest_format}
+use Rattle.stateful_base.proofs.Formats.{met, taken_then, both_ok, first_err, second_err}
 use Rattle.stateful_types.proofs.Tags.{tag_err, tag_wrong, tag_is, case_ok, case_err}
-use Rattle.stateful_types.proofs.Values.{digest_alone}
+use Rattle.stateful_base.proofs.Values.{digest_alone}
 use Rattle.stateful_types.proofs.Counted.{count_err, items_met}
 use Rattle.stateful_types.proofs.Responses.{response_tags, operations_case, boundary_case, untagged, uncounted, beyond}
 use Rattle.stateful_types.proofs.response.Response.read.Goals as goal

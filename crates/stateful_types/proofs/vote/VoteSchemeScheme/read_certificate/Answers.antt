@@ -1,8 +1,8 @@
-use Rattle.stateful_types.specs.Number.{u32_format}
+use Rattle.stateful_base.specs.Number.{u32_format}
 use Rattle.stateful_types.specs.Items.{items_format}
-use Rattle.stateful_types.specs.FixedLaws.{u32_alone}
+use Rattle.stateful_base.specs.FixedLaws.{u32_alone}
 use Rattle.stateful_types.specs.ItemsLaws.{items_alone}
-use Rattle.stateful_types.proofs.Formats.{met, reads, passed}
+use Rattle.stateful_base.proofs.Formats.{met, reads, passed}
 use Rattle.stateful_types.proofs.Counted.{count_err, items_met}
 use Rattle.stateful_types.proofs.vote.VoteSchemeScheme.read_certificate.Goals as goal
 

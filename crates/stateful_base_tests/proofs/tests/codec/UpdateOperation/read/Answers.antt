@@ -1,14 +1,14 @@
 use Rattle.std.proofs.Common.{◌≡◌, ◌∷◌, [], ◌++◌, ℕ, refl, lit<, arith}
 use Rattle.stateful_base_tests.specs.declared.tests.codec.Update.{Update}
-use Rattle.stateful_types.specs.Format.{Format}
-use Rattle.stateful_types.specs.FormatLaws.{Rest}
-use Rattle.stateful_types.specs.Number.{u64_format}
-use Rattle.stateful_types.specs.FixedLaws.{u64_alone}
+use Rattle.stateful_base.specs.Format.{Format}
+use Rattle.stateful_base.specs.FormatLaws.{Rest}
+use Rattle.stateful_base.specs.Number.{u64_format}
+use Rattle.stateful_base.specs.FixedLaws.{u64_alone}
 use Rattle.stateful_types.specs.Cases.{tagged, IsTaggedBy}
 use Rattle.stateful_types.specs.CasesLaws.{only_tag, only_case, named_tags, named_case}
-use Rattle.stateful_types.proofs.Formats.{met, both_ok, first_err, second_err}
+use Rattle.stateful_base.proofs.Formats.{met, both_ok, first_err, second_err}
 use Rattle.stateful_types.proofs.Tags.{tag_err, tag_wrong, tag_is, case_ok, case_err}
-use Rattle.stateful_types.proofs.Values.{pair_format, pair_alone}
+use Rattle.stateful_base.proofs.Values.{pair_format, pair_alone}
 use Rattle.stateful_base_tests.proofs.tests.codec.UpdateOperation.read.Goals as goal
 
 abbrev update_format : Format Update

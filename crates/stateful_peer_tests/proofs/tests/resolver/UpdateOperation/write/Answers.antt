@@ -1,9 +1,9 @@
 use Rattle.std.proofs.Common.{◌∷◌, [], ◌++◌, ℕ, refl}
 use Rattle.stateful_peer_tests.specs.declared.tests.resolver.Update.{Update}
-use Rattle.stateful_types.specs.Format.{Format}
-use Rattle.stateful_types.specs.FormatLaws.{Rest, both}
-use Rattle.stateful_types.specs.Number.{u64_format}
-use Rattle.stateful_types.proofs.Formats.{write_both, write_rest}
+use Rattle.stateful_base.specs.Format.{Format}
+use Rattle.stateful_base.specs.FormatLaws.{Rest, both}
+use Rattle.stateful_base.specs.Number.{u64_format}
+use Rattle.stateful_base.proofs.Formats.{write_both, write_rest}
 use Rattle.stateful_peer_tests.proofs.tests.resolver.UpdateOperation.write.Goals as goal
 
 abbrev pair_format : Format (ℕ × ℕ)

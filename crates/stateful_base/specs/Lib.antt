@@ -1,0 +1,12 @@
+pub mod Format
+pub mod FormatLaws
+pub mod Number
+pub mod FixedLaws
+pub mod Digest
+pub mod Round
+pub mod Names
+pub mod Causes
+pub mod Handoff
+pub mod Anchor
+pub mod Finalization
+pub mod Scheme
