@@ -19,6 +19,3 @@ pub use database::Plain;
 pub use medium::PlainMedium;
 pub use pass::PlainPass;
 pub use state::PlainState;
-
-#[cfg(test)]
-mod tests;

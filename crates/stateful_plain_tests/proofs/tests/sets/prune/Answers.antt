@@ -1,5 +1,5 @@
 use Rattle.std.proofs.Common.{◌≤◌, refl, sym, subst, arith}
-use Rattle.stateful_db_plain.proofs.tests.sets.prune.Goals as goal
+use Rattle.stateful_plain_tests.proofs.tests.sets.prune.Goals as goal
 
 pub prune-requires : goal.prune-requires
 prune-requires g c =

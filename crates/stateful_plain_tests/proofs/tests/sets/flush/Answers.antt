@@ -2,7 +2,7 @@ use Rattle.std.proofs.Common.{◌≡◌, ℕ, ◌<◌, List, [], ◌∷◌, ◌+
 use Rattle.std.proofs.lemmas.List.Elements.{Contains-append_right}
 use Rattle.stateful_db.specs.Barrier.{open_at}
 use Rattle.stateful_db.specs.declared.database.FlushToken.{FlushToken}
-use Rattle.stateful_db_plain.proofs.tests.sets.flush.Goals as goal
+use Rattle.stateful_plain_tests.proofs.tests.sets.flush.Goals as goal
 
 there : {P : Type 0} (o : Option P) → is_some o ≡ true → (p : P) × (o ≡ Some p)
 there None h = cc

@@ -2,12 +2,12 @@
 
 ghost use Rattle.std.specs.Prelude.{◌≡◌, IsTrue};
 
-use crate::{Plain, PlainMedium};
 use stateful_base::{Digest, Faulty, Location, Target};
 use stateful_db::{
     Barrier, BatchError, DatabaseSet, DbCall, FlushToken, Held, InitError, ManagedDb, SetError,
     SetInit, Tokens,
 };
+use stateful_db_plain::{Plain, PlainMedium};
 use std::alloc::{AllocError, Global};
 use std::cmp::Ordering;
 use std::process::Abort;

@@ -1,3 +1,0 @@
-//! Sets of databases, of whose calls some fail.
-
-mod sets;
