@@ -30,7 +30,7 @@ pub struct Plain {
 
 impl Plain {
     ghost use Rattle.std.specs.Prelude.{◌≡◌, ◌-◌};
-    ghost use Rattle.stateful_db_plain.specs.Stored.{standing_of};
+    ghost use Rattle.stateful_db_plain.specs.Stored.{standing_of, disk_of};
 
     /// The end of the range of the newest state.
     pub fn size(&self) -> u64
@@ -53,6 +53,20 @@ impl Plain {
         ensures { result.now.entries ≡ (standing_of self.now).disk.newest.entries }
     {
         self.state().entries()
+    }
+
+    /// The medium that it was opened on.
+    pub fn medium(&self) -> &PlainMedium
+        ensures { disk_of result.now ≡ (standing_of self.now).disk }
+    {
+        &self.medium
+    }
+
+    /// The tokens that are out.
+    pub fn tokens(&self) -> Tokens
+        ensures { result ≡ (standing_of self.now).out }
+    {
+        self.out
     }
 
     /// The newest state.

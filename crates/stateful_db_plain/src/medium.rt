@@ -50,6 +50,27 @@ impl PlainMedium {
         }
     }
 
+    /// The end of the range of the newest checkpoint.
+    pub fn end(&self) -> u64
+        ensures { result ≡ (disk_of self.now).newest.size }
+    {
+        self.checkpoints.newest.size()
+    }
+
+    /// How many of the oldest checkpoints were pruned.
+    pub fn pruned(&self) -> u64
+        ensures { result ≡ (disk_of self.now).pruned }
+    {
+        self.checkpoints.pruned
+    }
+
+    /// The place of the last durable checkpoint, the pruned ones counted.
+    pub fn durable(&self) -> u64
+        ensures { result ≡ (disk_of self.now).durable }
+    {
+        self.checkpoints.durable
+    }
+
     /// Makes a call of this kind. Whether it is to fail, which is then counted.
     pub(crate) fn fails(&mut self, call: DbCall) -> bool
         ensures listed { IsTrue result ↔ IsListed self.old.calls call }

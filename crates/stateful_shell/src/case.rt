@@ -1,0 +1,128 @@
+//! One file of cases, line by line.
+
+use stateful_base::OutOfMemory;
+use std::alloc::Global;
+use std::mem;
+
+/// What the commands of one file are played on.
+pub trait Shell: Drop {
+    /// What a file begins with.
+    fn new(alloc: Global) -> Self;
+
+    /// Does what a line says, and appends what is printed for it, each line with its line feed.
+    fn play(&mut self, line: &str, out: &mut String) -> Result<(), OutOfMemory>;
+
+    /// The commands of a case are over: appends what is printed for all of them.
+    fn end(&mut self, out: &mut String) -> Result<(), OutOfMemory>;
+}
+
+/// How the cases of one file came out.
+#[derive(Clone, Copy, Debug, PartialEq, Eq)]
+pub struct Tally {
+    /// Those that printed what the file says.
+    pub same: u64,
+    /// Those that didn't.
+    pub other: u64,
+}
+
+/// Which part of a case a line is in.
+#[derive(Clone, Copy, PartialEq, Eq)]
+enum Part {
+    Commands,
+    Answer,
+}
+
+/// A file that is being played: its shell, the part that the next line is in, the commands of the
+/// case, what they printed, and what the file says of them.
+#[derive(Drop)]
+pub(crate) struct Cases<S: Shell> {
+    shell: S,
+    part: Part,
+    commands: String,
+    printed: String,
+    wanted: String,
+    /// So far.
+    pub(crate) tally: Tally,
+}
+
+/// Whether a line stands for itself alone: a comment, or a blank one.
+fn is_beside(line: &str) -> bool {
+    line.is_empty() || line.starts_with('#')
+}
+
+/// Appends a line.
+fn push_line(text: &mut String, line: &str) -> Result<(), OutOfMemory> {
+    text.push_str(line)?;
+    text.push('\n')?;
+    Ok(())
+}
+
+impl<S: Shell> Cases<S> {
+    /// Before the first line.
+    pub(crate) fn new(alloc: Global) -> Cases<S> {
+        Cases {
+            shell: S::new(alloc),
+            part: Part::Commands,
+            commands: String::new(alloc),
+            printed: String::new(alloc),
+            wanted: String::new(alloc),
+            tally: Tally { same: 0, other: 0 },
+        }
+    }
+
+    /// Takes a line of the file. What is reported of a case that ends with it, if it isn't the same.
+    pub(crate) fn take(&mut self, line: &str) -> Result<Option<String>, OutOfMemory> {
+        match self.part {
+            Part::Answer if line.is_empty() => self.finish(),
+            Part::Answer => {
+                push_line(&mut self.wanted, line)?;
+                Ok(None)
+            }
+            Part::Commands if line == "----" => {
+                self.shell.end(&mut self.printed)?;
+                self.part = Part::Answer;
+                Ok(None)
+            }
+            Part::Commands if is_beside(line) => Ok(None),
+            Part::Commands => {
+                push_line(&mut self.commands, line)?;
+                self.shell.play(line, &mut self.printed)?;
+                Ok(None)
+            }
+        }
+    }
+
+    /// The case is over, if one was begun.
+    pub(crate) fn finish(&mut self) -> Result<Option<String>, OutOfMemory> {
+        if self.part == Part::Commands && self.commands.is_empty() {
+            return Ok(None);
+        }
+        let alloc = *self.commands.allocator();
+        let commands = mem::replace(&mut self.commands, String::new(alloc));
+        let printed = mem::replace(&mut self.printed, String::new(alloc));
+        let wanted = mem::replace(&mut self.wanted, String::new(alloc));
+        self.part = Part::Commands;
+        if printed == wanted {
+            self.tally.same = self.tally.same.saturating_add(1);
+            return Ok(None);
+        }
+        self.tally.other = self.tally.other.saturating_add(1);
+        Ok(Some(format!(in alloc; "{commands}---- wanted\n{wanted}---- printed\n{printed}")?))
+    }
+
+    /// Takes a line of a file that is printed anew, and answers what stands in its place.
+    pub(crate) fn take_anew(&mut self, line: &str) -> Result<String, OutOfMemory> {
+        let was = self.part;
+        let _ = self.take(line)?;
+        let alloc = *self.commands.allocator();
+        let mut text = String::new(alloc);
+        match was {
+            Part::Answer if !line.is_empty() => {}
+            _ => push_line(&mut text, line)?,
+        }
+        if was == Part::Commands && self.part == Part::Answer {
+            text.push_str(self.printed.as_str())?;
+        }
+        Ok(text)
+    }
+}
