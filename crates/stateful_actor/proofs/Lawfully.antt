@@ -20,7 +20,7 @@ use Rattle.stateful_exec_laws.specs.Fronting.{RunsTakeTurns}
 use Rattle.stateful_exec_laws.specs.Setting.{setting}
 use Rattle.stateful_exec_laws.specs.Storing.{IsStoredNow}
 use Rattle.stateful_loop_laws.specs.Stands.{IsUpAt}
-use Rattle.stateful_loop_laws.proofs.TakenIn.{may_come-live}
+use Rattle.stateful_loop_laws.proofs.events.TakenIn.{may_come-live}
 use Rattle.stateful_loop.specs.Intake.{Counts}
 use Rattle.stateful_loop.specs.Moments.{Moment}
 use Rattle.stateful_loop.specs.declared.error.StepError.{StepError}
@@ -30,18 +30,18 @@ use Rattle.stateful_actor_laws.specs.Machine.{numbered, is_restart, IsNew}
 use Rattle.stateful_actor_laws.specs.Stands.{StandsAt, Stands}
 use Rattle.stateful_actor_laws.specs.Steps.{IsStep}
 use Rattle.stateful_actor_laws.specs.StepBehind.{StepBehind, EachStands}
-use Rattle.stateful_actor_laws.proofs.LiveFlushes.{numbered_le, names_live-more}
-use Rattle.stateful_actor_laws.proofs.HistoryStands.{IsStoredNow-new, EachStands-last}
-use Rattle.stateful_actor_laws.proofs.StepsStand.{StandsAt-new}
-use Rattle.stateful_actor_laws.proofs.StoresBefore.{StoresFinalized-before_item, StoresFinalized-before_marks}
-use Rattle.stateful_actor_laws.proofs.StepStands.{step-behind}
-use Rattle.stateful_actor_laws.proofs.Stepping.{may_come-up}
+use Rattle.stateful_actor_laws.proofs.work.LiveFlushes.{numbered_le, names_live-more}
+use Rattle.stateful_actor_laws.proofs.steps.HistoryStands.{IsStoredNow-new, EachStands-last}
+use Rattle.stateful_actor_laws.proofs.steps.StepsStand.{StandsAt-new}
+use Rattle.stateful_actor_laws.proofs.steps.StoresBefore.{StoresFinalized-before_item, StoresFinalized-before_marks}
+use Rattle.stateful_actor_laws.proofs.steps.StepStands.{step-behind}
+use Rattle.stateful_actor_laws.proofs.steps.Stepping.{may_come-up}
 use Rattle.stateful_actor_laws.specs.Ahead.{IsAhead, IsAheadLawfully}
 use Rattle.stateful_actor_laws.specs.Completeness.{ComesLawfully}
 use Rattle.stateful_actor_laws.specs.Outside.{IsOutside}
-use Rattle.stateful_actor_laws.proofs.AheadHistory.{ahead-new, StandsAhead, steps-ahead}
-use Rattle.stateful_actor_laws.proofs.AheadSteps.{ahead-step}
-use Rattle.stateful_actor_laws.proofs.Completeness.{intake-outside, going-outside}
+use Rattle.stateful_actor_laws.proofs.ahead.History.{ahead-new, StandsAhead, steps-ahead}
+use Rattle.stateful_actor_laws.proofs.ahead.Steps.{ahead-step}
+use Rattle.stateful_actor_laws.proofs.complete.Completeness.{intake-outside, going-outside}
 use Rattle.stateful_actor.proofs.Counts.{HasNotFallen-further}
 use Rattle.stateful_actor.specs.Faults.{Tally, FaultsPlay, memory, taking, going, FaultsStep, IsCause, failed_before, unlawful, fault}
 use Rattle.stateful_actor.specs.Faults as cause

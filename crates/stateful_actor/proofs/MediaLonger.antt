@@ -22,10 +22,10 @@ use Rattle.stateful_loop.specs.Moments.{Moment}
 use Rattle.stateful_actor_laws.specs.Entering.{Steps}
 use Rattle.stateful_actor_laws.specs.Machine.{numbered, IsNew}
 use Rattle.stateful_actor_laws.specs.Media.{behind_refusal, MediaStand, StandsOnMedia}
-use Rattle.stateful_actor_laws.proofs.HistoryStands.{IsStoredNow-new, EachStands-last, EachStands-constant}
-use Rattle.stateful_actor_laws.proofs.StepsStand.{StandsAt-new}
-use Rattle.stateful_actor_laws.proofs.StoresBefore.{StoresFinalized-before_all, StoresFinalized-before_item}
-use Rattle.stateful_actor_laws.proofs.AheadHistory.{ahead-new, StandsAhead, steps-ahead}
+use Rattle.stateful_actor_laws.proofs.steps.HistoryStands.{IsStoredNow-new, EachStands-last, EachStands-constant}
+use Rattle.stateful_actor_laws.proofs.steps.StepsStand.{StandsAt-new}
+use Rattle.stateful_actor_laws.proofs.steps.StoresBefore.{StoresFinalized-before_all, StoresFinalized-before_item}
+use Rattle.stateful_actor_laws.proofs.ahead.History.{ahead-new, StandsAhead, steps-ahead}
 use Rattle.stateful_actor.specs.Driving.{KeepsMedia, KeepsMediaAfter}
 
 module _ {B C I P R D H G U : Type 0} (w : Workings B C I P R D H G U) (laws : Laws w.kind) (stored : ℕ → Option (Named B))

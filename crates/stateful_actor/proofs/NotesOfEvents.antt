@@ -22,7 +22,7 @@ use Rattle.stateful_loop.specs.declared.tables.Finalizing.{Finalizing}
 use Rattle.stateful_loop.proofs.AppliedMarks.{applied_in-append, AppliesNone, AppliesNone-made, withdrawn_none}
 use Rattle.stateful_loop.proofs.NotesFollowing.{noted_all-append, leaves_follow}
 use Rattle.stateful_loop.proofs.Observing.{leaves_front, settled_observed}
-use Rattle.stateful_loop_laws.proofs.PlainMarks.{IsPlain, taken_in_plain}
+use Rattle.stateful_loop_laws.proofs.duly.PlainMarks.{IsPlain, taken_in_plain}
 use Rattle.stateful_actor_laws.specs.Machine.{numbered, is_restart}
 use Rattle.stateful_actor_laws.specs.Steps.{EndsWork, Settles}
 use Rattle.stateful_actor.specs.Notes.{NotesAlong, NotesReached, NotesSettling, NotesPlay, going, NotesRefused}

@@ -17,7 +17,7 @@ use Rattle.stateful_loop.specs.declared.error.StepError.{StepError}
 use Rattle.stateful_loop.specs.declared.error.StepError.TheVariants.{OutOfMemory}
 use Rattle.stateful_actor_laws.specs.Media.{MediaStand, TargetsName, OpensOn}
 use Rattle.stateful_actor_laws.specs.Steps.{IsStep}
-use Rattle.stateful_actor_laws.proofs.MediaRefused.{reopens-memory, reopens-on}
+use Rattle.stateful_actor_laws.proofs.complete.MediaRefused.{reopens-memory, reopens-on}
 use Rattle.stateful_actor.specs.Faults.{Tally, FaultsStep}
 
 module _ {B C I P R D H G U : Type 0} (w : Workings B C I P R D H G U) (laws : Laws w.kind) (stored stored_now : ℕ → Option (Named B))

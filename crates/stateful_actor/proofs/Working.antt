@@ -16,8 +16,8 @@ use Rattle.stateful_exec.specs.Workings.{Workings}
 use Rattle.stateful_actor_register.specs.Register.{RegisterStands}
 use Rattle.stateful_actor_register.specs.declared.register.Register.{Register}
 use Rattle.stateful_loop_laws.specs.Stands.{IsUpAt}
-use Rattle.stateful_loop_laws.proofs.MediaOpens.{refused-memory}
-use Rattle.stateful_loop_laws.proofs.TakenIn.{may_come-live}
+use Rattle.stateful_loop_laws.proofs.media.Opens.{refused-memory}
+use Rattle.stateful_loop_laws.proofs.events.TakenIn.{may_come-live}
 use Rattle.stateful_loop.specs.Barriers.{awaiting}
 use Rattle.stateful_loop.specs.Intake.{Counts}
 use Rattle.stateful_loop.specs.Moments.{Moment}
@@ -27,11 +27,11 @@ use Rattle.stateful_loop.specs.declared.error.StepError.{StepError}
 use Rattle.stateful_loop.specs.declared.error.StepError.TheVariants as error
 use Rattle.stateful_actor_laws.specs.Machine.{numbered, is_restart}
 use Rattle.stateful_actor_laws.specs.Stands.{StandsAt}
-use Rattle.stateful_actor_laws.proofs.LiveFlushes.{numbered_le, names_live-more}
-use Rattle.stateful_actor_laws.proofs.Stepping.{may_come-up}
+use Rattle.stateful_actor_laws.proofs.work.LiveFlushes.{numbered_le, names_live-more}
+use Rattle.stateful_actor_laws.proofs.steps.Stepping.{may_come-up}
 use Rattle.stateful_actor_laws.specs.Outside.{IsNotFailed}
 use Rattle.stateful_actor_laws.specs.Restarting.{RestartsLawfully}
-use Rattle.stateful_actor_laws.proofs.NeverFailed.{intake-not_failed, going-not_failed}
+use Rattle.stateful_actor_laws.proofs.complete.NeverFailed.{intake-not_failed, going-not_failed}
 use Rattle.stateful_actor.specs.Faults.{Tally, FaultsPlay, memory, taking, going, FaultsStep, IsCause, failed_before, unlawful, fault}
 use Rattle.stateful_actor.specs.Faults as cause
 use Rattle.stateful_actor.proofs.Lawfully.{isnt_restart}

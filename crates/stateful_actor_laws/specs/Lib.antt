@@ -1,3 +1,11 @@
+pub mod Machine
+pub mod Steps
+pub mod Entering
+pub mod Stands
+pub mod StepBehind
+pub mod Left
+pub mod Media
+pub mod Jobs
 pub mod Ahead
 pub mod Outside
 pub mod Completeness

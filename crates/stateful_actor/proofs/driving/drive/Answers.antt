@@ -11,8 +11,8 @@ use Rattle.stateful_exec.specs.Workings.{workings}
 use Rattle.stateful_actor_register.proofs.Entries.{RegisterStands-none}
 use Rattle.stateful_loop.specs.Moments.{moment}
 use Rattle.stateful_actor_laws.specs.Stands.{Stands}
-use Rattle.stateful_actor_laws.proofs.HistoryStands.{EachStands-constant, history-registered, history-leaves}
-use Rattle.stateful_actor_laws.proofs.RefusedBehind.{leaves-behind}
+use Rattle.stateful_actor_laws.proofs.steps.HistoryStands.{EachStands-constant, history-registered, history-leaves}
+use Rattle.stateful_actor_laws.proofs.complete.RefusedBehind.{leaves-behind}
 use Rattle.stateful_loop.specs.Noted.{noted_all, unobserved}
 use Rattle.stateful_actor.specs.Faults.{tally}
 use Rattle.stateful_actor.specs.Notes.{applied_along, NotesRefused}

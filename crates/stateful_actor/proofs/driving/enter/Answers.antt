@@ -5,7 +5,7 @@ use Rattle.stateful_loop.proofs.Handing.{converted, err_holds}
 use Rattle.stateful_loop.specs.Moments.{moment}
 use Rattle.stateful_loop.specs.declared.error.StepError.TheVariants.{OutOfMemory}
 use Rattle.stateful_actor_laws.specs.Stands.{StandsAsWell}
-use Rattle.stateful_actor_laws.proofs.LeftFurther.{unmoved-further}
+use Rattle.stateful_actor_laws.proofs.steps.LeftFurther.{unmoved-further}
 use Rattle.stateful_actor.proofs.Adding.{registered-longer, longer-past, added}
 use Rattle.stateful_actor.proofs.MediaKept.{keeps-unchanged, keeps-left}
 use Rattle.stateful_actor.proofs.OtherErrors.{only_bad}

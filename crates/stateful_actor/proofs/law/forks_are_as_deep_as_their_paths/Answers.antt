@@ -1,4 +1,4 @@
-use Rattle.stateful_exec_laws.proofs.ForkDepth.{runs-as-deep, builds-as-deep}
+use Rattle.stateful_exec_laws.proofs.runs.ForkDepth.{runs-as-deep, builds-as-deep}
 use Rattle.stateful_actor.proofs.law.forks_are_as_deep_as_their_paths.Goals as goal
 
 pub returns : goal.returns

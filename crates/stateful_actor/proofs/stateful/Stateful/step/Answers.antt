@@ -6,11 +6,11 @@ use Rattle.stateful_loop.specs.Moments.{executing, moment}
 use Rattle.stateful_loop.specs.declared.error.StepError.TheVariants.{OutOfMemory}
 use Rattle.stateful_actor_laws.specs.Stands.{StandsAsWell}
 use Rattle.stateful_actor_laws.specs.Machine.{is_restart}
-use Rattle.stateful_actor_laws.proofs.LeftFurther.{step-leaves, leaves-further}
-use Rattle.stateful_actor_laws.proofs.MediaRefused.{step-restart, leaves-unchanged, leaves-media}
-use Rattle.stateful_actor_laws.proofs.MediaSteps.{step-media}
-use Rattle.stateful_actor_laws.proofs.StepStands.{step-stands}
-use Rattle.stateful_actor_laws.proofs.StillStands.{still-stands}
+use Rattle.stateful_actor_laws.proofs.steps.LeftFurther.{step-leaves, leaves-further}
+use Rattle.stateful_actor_laws.proofs.complete.MediaRefused.{step-restart, leaves-unchanged, leaves-media}
+use Rattle.stateful_actor_laws.proofs.steps.MediaSteps.{step-media}
+use Rattle.stateful_actor_laws.proofs.steps.StepStands.{step-stands}
+use Rattle.stateful_actor_laws.proofs.steps.StillStands.{still-stands}
 use Rattle.stateful_actor.specs.Faults.{fault}
 use Rattle.stateful_actor.proofs.Arms.{refused_at_once}
 use Rattle.stateful_actor.proofs.Lawfully.{step-ahead, admit-lawful, cause-outside}

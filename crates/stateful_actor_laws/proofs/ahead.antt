@@ -1,0 +1,12 @@
+pub mod Finals
+pub mod LeadsUp
+pub mod Heads
+pub mod RulesLead
+pub mod IntakeLeads
+pub mod Rounds
+pub mod TopState
+pub mod Kept
+pub mod Taken
+pub mod Serving
+pub mod Steps
+pub mod History

@@ -1,0 +1,15 @@
+pub mod StartRules
+pub mod OpensQuiet
+pub mod ReasonsEnd
+pub mod Stepping
+pub mod Playing
+pub mod Restarted
+pub mod StepStands
+pub mod StoresBefore
+pub mod StepsStand
+pub mod HistoryStands
+pub mod HistoryReasons
+pub mod StillStands
+pub mod LeftFurther
+pub mod MediaSteps
+pub mod EntryRules

@@ -1,0 +1,11 @@
+pub mod Unmarked
+pub mod Ends
+pub mod StaysUp
+pub mod Unbroken
+pub mod LiveFlushes
+pub mod Named
+pub mod Places
+pub mod Duly
+pub mod WantedRuns
+pub mod JobsGoOn
+pub mod SharedRuns

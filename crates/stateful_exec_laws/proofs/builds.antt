@@ -1,0 +1,10 @@
+pub mod Left
+pub mod Starts
+pub mod Turns
+pub mod BuiltKnown
+pub mod BuiltStands
+pub mod Ends
+pub mod Passes
+pub mod Rules
+pub mod Marks
+pub mod AnswerBuilt

@@ -1,0 +1,11 @@
+pub mod Path
+pub mod Judged
+pub mod Marks
+pub mod Acquired
+pub mod Paused
+pub mod Closed
+pub mod Follows
+pub mod Together
+pub mod Carried
+pub mod Left
+pub mod InTurn

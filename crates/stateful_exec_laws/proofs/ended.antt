@@ -1,0 +1,15 @@
+pub mod GivenUp
+pub mod RunEnded
+pub mod ConcludeStands
+pub mod Left
+pub mod Requests
+pub mod Runs
+pub mod Known
+pub mod Points
+pub mod Stands
+pub mod Kept
+pub mod Told
+pub mod Rule
+pub mod FollowStands
+pub mod Finalizing
+pub mod Over

@@ -1,0 +1,14 @@
+pub mod Cutting
+pub mod Left
+pub mod Runs
+pub mod Hooks
+pub mod AnchorCut
+pub mod AnchorStands
+pub mod AnchorMoves
+pub mod FinalizesBegins
+pub mod MovedStands
+pub mod Passes
+pub mod Rules
+pub mod Marks
+pub mod GroundBegun
+pub mod GroundOpened

@@ -1,0 +1,14 @@
+pub mod InTurn
+pub mod Tables
+pub mod Stands
+pub mod Known
+pub mod Begins
+pub mod ResumeStands
+pub mod AnewStands
+pub mod Retained
+pub mod Passing
+pub mod PassingRules
+pub mod EventsPass
+pub mod Steps
+pub mod KeptInTurn
+pub mod DueStands

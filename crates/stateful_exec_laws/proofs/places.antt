@@ -1,0 +1,10 @@
+pub mod Marks
+pub mod Starts
+pub mod Asks
+pub mod Cancelled
+pub mod Paused
+pub mod Followed
+pub mod Turned
+pub mod Resumed
+pub mod Resumes
+pub mod Fetched

@@ -1,0 +1,17 @@
+pub mod Missing
+pub mod Ground
+pub mod Known
+pub mod Stuck
+pub mod Marks
+pub mod Ended
+pub mod Advances
+pub mod Follows
+pub mod Walked
+pub mod Acquired
+pub mod Followed
+pub mod Resumed
+pub mod Fetched
+pub mod Settled
+pub mod Turned
+pub mod Resumes
+pub mod Built

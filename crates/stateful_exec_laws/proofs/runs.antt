@@ -1,0 +1,15 @@
+pub mod Removing
+pub mod StartStands
+pub mod LaunchStands
+pub mod Replacing
+pub mod Spared
+pub mod TurnedStands
+pub mod Drawn
+pub mod Sparing
+pub mod Wanted
+pub mod SpentRuns
+pub mod Turned
+pub mod Kept
+pub mod NeverStale
+pub mod NotTaken
+pub mod ForkDepth

@@ -1,0 +1,4 @@
+pub mod Kept
+pub mod Acquired
+pub mod Begun
+pub mod Moved

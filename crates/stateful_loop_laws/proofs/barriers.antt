@@ -1,0 +1,9 @@
+pub mod Left
+pub mod Begun
+pub mod Done
+pub mod Flushed
+pub mod AwaitedItems
+pub mod LiveItems
+pub mod DurablySaid
+pub mod Down
+pub mod Acknowledging

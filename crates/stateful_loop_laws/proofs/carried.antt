@@ -1,0 +1,9 @@
+pub mod RunsGoOver
+pub mod SettledKept
+pub mod SettledRules
+pub mod SettledIntake
+pub mod RunsCarried
+pub mod LoopCarried
+pub mod GoesRules
+pub mod IntakeCarried
+pub mod GoesTakes

@@ -1,0 +1,10 @@
+pub mod MarksOfRules
+pub mod PlainMarks
+pub mod JobMarks
+pub mod Unruled
+pub mod Rules
+pub mod Turned
+pub mod Taken
+pub mod Along
+pub mod SharedTaken
+pub mod SharedAlong

@@ -1,0 +1,15 @@
+pub mod RuleItems
+pub mod NamesOfRules
+pub mod RuleUp
+pub mod AlongUp
+pub mod NamesBehind
+pub mod TakenIn
+pub mod Counting
+pub mod GoesDown
+pub mod OpensUp
+pub mod Restarting
+pub mod EventUp
+pub mod EndingMarks
+pub mod EventDown
+pub mod EventRestarts
+pub mod Trusted

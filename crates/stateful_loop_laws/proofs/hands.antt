@@ -1,0 +1,9 @@
+pub mod QuietWaits
+pub mod HandKept
+pub mod Rules
+pub mod Takes
+pub mod Intake
+pub mod Opened
+pub mod HandsUp
+pub mod HandsOpened
+pub mod WaitsExecuting

@@ -1,0 +1,16 @@
+pub mod CalmItems
+pub mod CheckpointsKept
+pub mod Calm
+pub mod Begins
+pub mod Completes
+pub mod Breaks
+pub mod Flushes
+pub mod Passes
+pub mod Applies
+pub mod Opens
+pub mod Rules
+pub mod Turns
+pub mod Intake
+pub mod Waits
+pub mod OrderKept
+pub mod OrderTaken

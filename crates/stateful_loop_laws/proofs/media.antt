@@ -1,0 +1,9 @@
+pub mod AppliedFurther
+pub mod HeldFurther
+pub mod StatesKept
+pub mod Reaching
+pub mod Changes
+pub mod Kept
+pub mod Rules
+pub mod Along
+pub mod Opens

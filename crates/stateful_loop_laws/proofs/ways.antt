@@ -1,0 +1,9 @@
+pub mod Beside
+pub mod Turned
+pub mod Behind
+pub mod Jobs
+pub mod Served
+pub mod GivenUp
+pub mod Finalized
+pub mod Rules
+pub mod Intake
