@@ -1,0 +1,46 @@
+-- What the contracts of databases cite, handed on.
+pub use Rattle.stateful_db.specs.Chain
+pub use Rattle.stateful_db.specs.Disk
+pub use Rattle.stateful_db.specs.Member
+pub use Rattle.stateful_db.specs.Databases
+pub use Rattle.stateful_db.specs.Laws
+pub use Rattle.stateful_db.specs.Targeted
+pub use Rattle.stateful_db.specs.Reopening
+pub use Rattle.stateful_db.specs.Tokens
+pub use Rattle.stateful_db.specs.Single
+pub use Rattle.stateful_db.specs.Pair
+pub use Rattle.stateful_db.specs.Barrier
+pub use Rattle.stateful_db.specs.Batch
+pub use Rattle.stateful_db_any.specs.Ops as AnyOps
+pub use Rattle.stateful_db_any.specs.Live as AnyLive
+pub use Rattle.stateful_db_any.specs.Any
+pub use Rattle.stateful_db_any.specs.Through as AnyThrough
+pub use Rattle.stateful_db_any.specs.Keyed as AnyKeyed
+pub use Rattle.stateful_db_any.specs.Shown as AnyShown
+pub use Rattle.stateful_db_any.specs.Staged as AnyStaged
+pub use Rattle.stateful_db_any.specs.Entries as AnyEntries
+pub use Rattle.stateful_db_any.specs.Stored as AnyStored
+pub use Rattle.stateful_db_any.specs.Laws as AnyLaws
+pub use Rattle.stateful_db_keyless.specs.Ops as KeylessOps
+pub use Rattle.stateful_db_keyless.specs.Compacted
+pub use Rattle.stateful_db_keyless.specs.CompactShown
+pub use Rattle.stateful_db_keyless.specs.CompactStored
+pub use Rattle.stateful_db_keyless.specs.Keyless
+pub use Rattle.stateful_db_keyless.specs.Reads as KeylessReads
+pub use Rattle.stateful_db_keyless.specs.Through as KeylessThrough
+pub use Rattle.stateful_db_keyless.specs.KeylessShown
+pub use Rattle.stateful_db_keyless.specs.KeylessStored
+pub use Rattle.stateful_db_keyless.specs.Follows as KeylessFollows
+pub use Rattle.stateful_db_plain.specs.Whole as PlainWhole
+pub use Rattle.stateful_db_plain.specs.Called as PlainCalled
+pub use Rattle.stateful_db_plain.specs.Stored as PlainStored
+pub use Rattle.stateful_db_plain.specs.Writes as PlainWrites
+pub use Rattle.stateful_db_plain.specs.Shown as PlainShown
+pub use Rattle.stateful_db_log.specs.Chained as LogChained
+pub use Rattle.stateful_db_log.specs.Runs as LogRuns
+pub use Rattle.stateful_db_log.specs.Digests as LogDigests
+pub use Rattle.stateful_db_log.specs.Between as LogBetween
+pub use Rattle.stateful_db_log.specs.Logs
+pub use Rattle.stateful_db_medium.specs.Called as MediumCalled
+pub use Rattle.stateful_db_medium.specs.Kept as MediumKept
+pub use Rattle.stateful_db_medium.specs.Mapped as MediumMapped
