@@ -5,7 +5,7 @@ use Rattle.stateful_history.specs.Past.{Past, Tried}
 use Rattle.stateful_history.specs.Restarts.{reopened_height}
 use Rattle.stateful_history.specs.declared.event.Event.{Event}
 use Rattle.stateful_history.specs.declared.event.Event.TheVariants.{Restart}
-use Rattle.stateful_exec.specs.Workings.{Workings}
+use Rattle.stateful_exec_model.specs.Workings.{Workings}
 use Rattle.stateful_loop_laws.specs.Media.{KeepsReopenable}
 use Rattle.stateful_actor_register.specs.declared.register.Register.{Register}
 use Rattle.stateful_loop.specs.Intake.{Counts}

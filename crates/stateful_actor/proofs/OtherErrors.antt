@@ -2,7 +2,7 @@
 use Rattle.std.proofs.Common.{◌≡◌, inl, inr, ℕ, Bool, true, false, Option, refl, sym, ◌∙◌, subst, true≢false}
 use Rattle.stateful_base.specs.Names.{Named}
 use Rattle.stateful_history.specs.declared.event.Event.{Event}
-use Rattle.stateful_exec.specs.Workings.{Workings}
+use Rattle.stateful_exec_model.specs.Workings.{Workings}
 use Rattle.stateful_exec_tables.specs.declared.error.ExecError.{ExecError}
 use Rattle.stateful_exec_tables.specs.declared.error.ExecError.TheVariants as exec
 use Rattle.stateful_loop.specs.Causes.{Via, FaultsBarrier, FaultsFlush, FaultsApply, FaultsMessage, FaultsRule}

@@ -4,7 +4,7 @@ ghost use Rattle.std.specs.Prelude.{ℕ, Option};
 ghost use Rattle.stateful_base.specs.Names.{Named};
 ghost use Rattle.stateful_base.specs.declared.digest.Digest.{Digest};
 ghost use Rattle.stateful_history.specs.Past.{Past};
-ghost use Rattle.stateful_exec.specs.Workings.{Point};
+ghost use Rattle.stateful_exec_model.specs.Workings.{Point};
 ghost use Rattle.stateful_exec_tables.specs.declared.state.Tables.{Tables};
 ghost use Rattle.stateful_exec_laws.specs.Depth.{RunsAreAsDeep, BuildsAreAsDeep};
 

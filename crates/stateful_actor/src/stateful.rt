@@ -56,7 +56,7 @@ impl<A: Application + Drop> Model for Stateful<A> {
     ghost use Rattle.std.specs.Coded.{codes};
     ghost use Rattle.std_collections.specs.Layout.BTreeMap.{btree_map_code};
     ghost use Rattle.stateful_actor.specs.Machine.{Machine};
-    ghost use Rattle.stateful_exec.specs.State.{Owner};
+    ghost use Rattle.stateful_exec_model.specs.State.{Owner};
     ghost use Rattle.stateful_loop.specs.Moments.{Executing, executing};
     ghost use Rattle.stateful_loop.specs.declared.tables.Processing.{Processing};
 

@@ -16,12 +16,12 @@ use Rattle.stateful_history.specs.Requests.{Proposal, IsLiveProposal}
 use Rattle.stateful_history.specs.Setting.{Setting}
 use Rattle.stateful_history.specs.States.{fold}
 use Rattle.stateful_history.specs.Telling.{telling_of}
-use Rattle.stateful_exec.specs.Finalizing.{IsRedelivered}
-use Rattle.stateful_exec.specs.Workings.{Workings}
-use Rattle.stateful_exec.specs.declared.front.Front.{Front}
-use Rattle.stateful_exec.specs.declared.front.Stage.{Stage}
-use Rattle.stateful_exec.specs.declared.front.Stage.TheVariants.{Begun, Running, Ran, Advanced}
-use Rattle.stateful_exec.specs.declared.front.Stage.TheVariants.{Hooking}
+use Rattle.stateful_exec_model.specs.Finalizing.{IsRedelivered}
+use Rattle.stateful_exec_model.specs.Workings.{Workings}
+use Rattle.stateful_exec_model.specs.declared.front.Front.{Front}
+use Rattle.stateful_exec_model.specs.declared.front.Stage.{Stage}
+use Rattle.stateful_exec_model.specs.declared.front.Stage.TheVariants.{Begun, Running, Ran, Advanced}
+use Rattle.stateful_exec_model.specs.declared.front.Stage.TheVariants.{Hooking}
 use Rattle.stateful_exec_laws.specs.Setting.{setting}
 use Rattle.stateful_loop.specs.Moments.{Moment}
 use Rattle.stateful_loop.specs.declared.message.Action.{Action}

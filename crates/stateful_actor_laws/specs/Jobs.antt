@@ -9,7 +9,7 @@ use Rattle.stateful_history.specs.Requests.{Proposal}
 use Rattle.stateful_history.specs.Telling.{telling_of}
 use Rattle.stateful_history.specs.declared.mark.JobKind.TheVariants.{Candidate, Finalized, Build}
 use Rattle.stateful_history.specs.declared.mark.JobKind.TheVariants.{Hook}
-use Rattle.stateful_exec.specs.Workings.{Workings}
+use Rattle.stateful_exec_model.specs.Workings.{Workings}
 use Rattle.stateful_exec_laws.specs.Setting.{setting}
 
 module _ {B C I P R D H G U : Type 0} (w : Workings B C I P R D H G U)

@@ -4,7 +4,7 @@ use Rattle.stateful_base.specs.Names.{Named}
 use Rattle.stateful_history.specs.Opening.{is_down}
 use Rattle.stateful_history.specs.Past.{Past}
 use Rattle.stateful_history.specs.Stops.{NothingLive}
-use Rattle.stateful_exec.specs.Workings.{Workings}
+use Rattle.stateful_exec_model.specs.Workings.{Workings}
 use Rattle.stateful_actor_register.specs.Register.{RegisterStands}
 use Rattle.stateful_actor_register.specs.declared.register.Register.{Register}
 use Rattle.stateful_loop_laws.specs.Down.{IsCounted}

@@ -21,27 +21,25 @@ ghost use Rattle.stateful_base.specs.Causes.{Rose};
 ghost use Rattle.stateful_exec_cache.specs.Cache.{IsIn};
 ghost use Rattle.stateful_history.specs.declared.mark.JobKind.TheVariants as job;
 ghost use Rattle.stateful_history.specs.declared.mark.Mark.TheVariants.{Started};
-ghost use Rattle.stateful_exec.specs.Building.{Proposes, FaultsPropose};
-ghost use Rattle.stateful_exec.specs.Built.{TurnsBuild, FaultsTurn};
-ghost use Rattle.stateful_exec.specs.Causes.{FaultsStart};
-ghost use Rattle.stateful_exec.specs.Finalizing.{IsRedelivered, Conflicts, MayBegin, FaultsBegin};
+ghost use Rattle.stateful_exec_model.specs.Building.{Proposes, FaultsPropose};
+ghost use Rattle.stateful_exec_model.specs.Built.{TurnsBuild, FaultsTurn};
+ghost use Rattle.stateful_exec_model.specs.Causes.{FaultsStart};
+ghost use Rattle.stateful_exec_model.specs.Finalizing.{IsRedelivered, Conflicts, MayBegin, FaultsBegin};
 ghost use Rattle.stateful_exec_tables.specs.Boundary.{IsBoundaryOf};
-ghost use Rattle.stateful_exec.specs.Finalizing.{front_at, RunsFinal, Moves};
-ghost use Rattle.stateful_exec.specs.Finalizing.{FaultsMove, Observes, FaultsObserve, TurnsHook};
-ghost use Rattle.stateful_exec.specs.Finalizing.{FaultsHook};
-ghost use Rattle.stateful_exec.specs.Moments.{moment};
+ghost use Rattle.stateful_exec_model.specs.Finalizing.{front_at, RunsFinal, Moves};
+ghost use Rattle.stateful_exec_model.specs.Finalizing.{FaultsMove, Observes, FaultsObserve, TurnsHook};
+ghost use Rattle.stateful_exec_model.specs.Finalizing.{FaultsHook};
+ghost use Rattle.stateful_exec_model.specs.Moments.{moment};
 ghost use Rattle.stateful_exec_tables.specs.Tables.{Rises};
 
-use crate::anchoring::{advance_to, observe, turn_hook};
-use crate::building::BuildStart;
-use crate::built::turn_build;
-use crate::finalizing::{FrontOf, begin, is_redelivered, run_finalized};
-use crate::front::Stage;
-use crate::proposing::{BuildingOf, propose};
-use crate::running::TablesOf;
-use crate::worked::Worked;
 use stateful_base::{Anchor, Digest, Digested, OutOfMemory};
 use stateful_db::{Application, Batch, DatabaseSet};
+use stateful_exec_builds::{BuildingOf, propose, turn_build};
+use stateful_exec_finals::{
+    FrontOf, advance_to, begin, is_redelivered, observe, run_finalized, turn_hook,
+};
+use stateful_exec_model::{BuildStart, Stage, Worked};
+use stateful_exec_runs::TablesOf;
 use stateful_exec_tables::{ExecError, FinalizationBoundary, Tables};
 use stateful_history::Mark;
 use std::alloc::Global;
@@ -66,10 +64,10 @@ pub struct Processing;
 pub type Processor<A> = Execution<A, Processing>;
 
 impl<A: Application + Drop, M> Model for Execution<A, M> {
-    ghost use Rattle.stateful_exec.specs.State.{Owner};
+    ghost use Rattle.stateful_exec_model.specs.State.{Owner};
     ghost use Rattle.std.specs.Prelude.{Option};
-    ghost use Rattle.stateful_exec.specs.declared.building.Building.{Building};
-    ghost use Rattle.stateful_exec.specs.declared.front.Front.{Front};
+    ghost use Rattle.stateful_exec_model.specs.declared.building.Building.{Building};
+    ghost use Rattle.stateful_exec_model.specs.declared.front.Front.{Front};
     ghost use Rattle.stateful_exec_tables.specs.declared.state.Tables.{Tables};
 
     ghost Value = { Owner A (Tables A.Block A.Context A.Input A.Run A.Databases.Merkleized)

@@ -18,34 +18,23 @@ ghost use Rattle.std.specs.Prelude.{IfOk, IfErr, IfSome, IfNone, IsErrOf};
 ghost use Rattle.stateful_base.specs.Causes.{Rose};
 ghost use Rattle.stateful_base.specs.Names.{Named};
 ghost use Rattle.stateful_exec_tables.specs.Boundary.{step_by};
-ghost use Rattle.stateful_exec.specs.Moments.{moment};
+ghost use Rattle.stateful_exec_model.specs.Moments.{moment};
 ghost use Rattle.stateful_exec_tables.specs.Tables.{Rises};
 ghost use Rattle.stateful_exec_tables.specs.Stepping.{HasNext, SetsOut};
 ghost use Rattle.stateful_exec_tables.specs.Stepping.{Prepares};
-ghost use Rattle.stateful_exec.specs.Verifying.{Processes, FaultsProcess};
+ghost use Rattle.stateful_exec_model.specs.Verifying.{Processes, FaultsProcess};
 
 use crate::handler::{Handler, Handling};
 use crate::processor::Execution;
-use crate::running::{TablesOf, launch};
-use crate::worked::Worked;
 use stateful_base::{Block, BlockStore, OutOfMemory};
 use stateful_db::{Application, DatabaseSet};
+use stateful_exec_model::{Joined, Worked};
+use stateful_exec_runs::{TablesOf, launch};
 use stateful_exec_tables::{Acquired, ExecError, ExecutionStep, Met, ReplayPath, Verdict, prepare};
 use stateful_history::Mark;
 
 /// An application with its requests, whose paths are taken a block at a time.
 pub type Verifier<A> = Handler<A>;
-
-/// What became of the next block of a request's path.
-#[derive(Clone, Copy, Debug, PartialEq, Eq)]
-pub enum Joined {
-    /// It is known, and left behind.
-    Known,
-    /// The request waits for the block's run, which is live under this job.
-    Run(u64),
-    /// Its parent isn't known, and the request has ended.
-    Missed,
-}
 
 /// The next block of a request's path is known and left behind, or the request joins its run or
 /// starts it, or it ends.

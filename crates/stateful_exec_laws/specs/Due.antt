@@ -8,10 +8,10 @@ use Rattle.stateful_history.specs.Finalizations.{begun}
 use Rattle.stateful_history.specs.Runs.{ran_finalized, HasToRun}
 use Rattle.stateful_exec_cache.specs.Cache.{IsIn}
 use Rattle.stateful_exec_cache.specs.declared.cache.Cached.{Cached}
-use Rattle.stateful_exec.specs.declared.front.Front.{Front}
-use Rattle.stateful_exec.specs.declared.front.Stage.{Stage}
-use Rattle.stateful_exec.specs.declared.front.Stage.TheVariants.{Begun, Running, Ran, Advanced}
-use Rattle.stateful_exec.specs.declared.front.Stage.TheVariants.{Hooking}
+use Rattle.stateful_exec_model.specs.declared.front.Front.{Front}
+use Rattle.stateful_exec_model.specs.declared.front.Stage.{Stage}
+use Rattle.stateful_exec_model.specs.declared.front.Stage.TheVariants.{Begun, Running, Ran, Advanced}
+use Rattle.stateful_exec_model.specs.declared.front.Stage.TheVariants.{Hooking}
 
 module _ {B C I S T : Type 0} (s : Setting B S T) (p : Past B C I) where
   -- no run of the block was started since its finalization began, and it has to run, unless it is

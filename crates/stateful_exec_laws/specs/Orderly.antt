@@ -6,7 +6,7 @@ use Rattle.stateful_history.specs.Answers.{was_cancelled}
 use Rattle.stateful_history.specs.Past.{Past}
 use Rattle.stateful_history.specs.Requests.{IsLiveRequest}
 use Rattle.stateful_history.specs.Runs.{MayRunAgain}
-use Rattle.stateful_exec.specs.Workings.{Workings}
+use Rattle.stateful_exec_model.specs.Workings.{Workings}
 use Rattle.stateful_exec_laws.specs.Outstanding.{TicketsApart}
 use Rattle.stateful_exec_laws.specs.Setting.{setting}
 

@@ -18,7 +18,7 @@ use Rattle.stateful_exec_tables.specs.Phase.{tickets_on}
 use Rattle.stateful_exec_tables.specs.Request.{ticket_by}
 use Rattle.stateful_exec_tables.specs.Meeting.{first_or}
 use Rattle.stateful_exec_tables.specs.declared.request.Proposal.{Proposal}
-use Rattle.stateful_exec.specs.Workings.{Workings}
+use Rattle.stateful_exec_model.specs.Workings.{Workings}
 use Rattle.stateful_exec_tables.specs.declared.request.Request.{Request}
 use Rattle.stateful_exec_tables.specs.declared.request.Request.TheVariants.{Verify, Recover}
 use Rattle.stateful_exec_tables.specs.declared.tables.LiveRun.{LiveRun}

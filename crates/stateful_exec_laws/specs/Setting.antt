@@ -2,7 +2,7 @@
 use Rattle.std.specs.Prelude.{ℕ, Option}
 use Rattle.stateful_base.specs.Names.{Named}
 use Rattle.stateful_history.specs.Setting.{Setting}
-use Rattle.stateful_exec.specs.Workings.{Workings}
+use Rattle.stateful_exec_model.specs.Workings.{Workings}
 
 -- what the definitions over pasts take, with the finalized blocks that a store was handed
 abbrev pub setting : {B C I P R D H G U : Type 0} (w : Workings B C I P R D H G U)

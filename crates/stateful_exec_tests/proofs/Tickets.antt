@@ -4,10 +4,10 @@ use Rattle.std.proofs.lemmas.Bool.{eq-eqb}
 use Rattle.stateful_history.specs.declared.mark.Mark.{Mark}
 use Rattle.stateful_table.specs.Table.{at, without}
 use Rattle.stateful_table.proofs.Tables.{at-without}
-use Rattle.stateful_exec.specs.Built.{GivesUp, building, asking}
+use Rattle.stateful_exec_model.specs.Built.{GivesUp, building, asking}
 use Rattle.stateful_exec_tables.specs.Cancelling.{Cancels}
 use Rattle.stateful_exec_tables.specs.Cancelling.{idle, withdraws, leaves, ends, unqueued}
-use Rattle.stateful_exec.specs.declared.building.Building.{Building}
+use Rattle.stateful_exec_model.specs.declared.building.Building.{Building}
 use Rattle.stateful_exec_tables.specs.declared.state.Tables.{Tables}
 
 none_at : {V : Type 0} (table : List (ℕ × V)) (t : ℕ) → at (without table t) t ≡ None

@@ -1,6 +1,6 @@
 -- What holds of equal tables and applications: where no proposal was recovered nothing has changed.
 use Rattle.std.proofs.Common.{◌≡◌, ℕ, Option, List, sym, subst}
-use Rattle.stateful_exec.specs.Workings.{Workings}
+use Rattle.stateful_exec_model.specs.Workings.{Workings}
 use Rattle.stateful_history.specs.declared.mark.Mark.{Mark}
 use Rattle.stateful_loop.specs.Moments.{Executing, Moment, moment}
 use Rattle.stateful_loop.specs.Sound.{IsUp}

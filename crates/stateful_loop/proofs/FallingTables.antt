@@ -6,14 +6,14 @@ use Rattle.std.specs.declared.cmp.Ordering.{Ordering}
 use Rattle.std.specs.declared.cmp.Ordering.TheVariants.{Less, Equal, Greater}
 use Rattle.stateful_base.specs.Names.{Named}
 use Rattle.stateful_table.specs.Table.{put}
-use Rattle.stateful_exec.specs.Ending.{InTurn, none, next}
-use Rattle.stateful_exec.specs.Moments as exec
+use Rattle.stateful_exec_model.specs.Ending.{InTurn, none, next}
+use Rattle.stateful_exec_model.specs.Moments as exec
 use Rattle.stateful_exec_tables.specs.Path.{Path}
-use Rattle.stateful_exec.specs.Pausing.{GoesAlong, AcquiresAnew, unparked, unsettled, Resumes}
+use Rattle.stateful_exec_model.specs.Pausing.{GoesAlong, AcquiresAnew, unparked, unsettled, Resumes}
 use Rattle.stateful_exec_tables.specs.Phase.{parked_path, parked_from, parked_in, not_parked, is_unacquired, unacquired_in}
 use Rattle.stateful_exec_tables.specs.Tables.{ended, moved, requested}
-use Rattle.stateful_exec.specs.Rules.{Concludes, Advances, Acquires, arrives, leaves, joins, starts, misses, valid, invalid, asks, waits, runs}
-use Rattle.stateful_exec.specs.Workings.{Workings}
+use Rattle.stateful_exec_model.specs.Rules.{Concludes, Advances, Acquires, arrives, leaves, joins, starts, misses, valid, invalid, asks, waits, runs}
+use Rattle.stateful_exec_model.specs.Workings.{Workings}
 use Rattle.stateful_exec_tables.specs.declared.request.Request.{Request}
 use Rattle.stateful_exec_tables.specs.declared.request.Request.TheVariants.{Verify, Recover}
 use Rattle.stateful_exec_tables.specs.declared.request.Verdict.{Verdict}

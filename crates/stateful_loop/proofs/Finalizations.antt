@@ -15,13 +15,13 @@ use Rattle.stateful_history.specs.declared.mark.Mark.{Mark}
 use Rattle.stateful_history.specs.declared.mark.Mark.TheVariants as mark
 use Rattle.stateful_exec_cache.specs.Cache.{IsIn}
 use Rattle.stateful_exec_cache.specs.declared.cache.Cached.{Cached}
-use Rattle.stateful_exec.specs.Finalizing.{Moves, FaultsMove, Observes}
-use Rattle.stateful_exec.specs.Moments as exec
+use Rattle.stateful_exec_model.specs.Finalizing.{Moves, FaultsMove, Observes}
+use Rattle.stateful_exec_model.specs.Moments as exec
 use Rattle.stateful_exec_tables.specs.Pausing.{AwaitsRuns, IsCount, none, one, other}
-use Rattle.stateful_exec.specs.Pausing.{Resumes}
-use Rattle.stateful_exec.specs.Workings.{Workings, Point}
-use Rattle.stateful_exec.specs.declared.building.Building.{Building}
-use Rattle.stateful_exec.specs.declared.front.Front.{Front}
+use Rattle.stateful_exec_model.specs.Pausing.{Resumes}
+use Rattle.stateful_exec_model.specs.Workings.{Workings, Point}
+use Rattle.stateful_exec_model.specs.declared.building.Building.{Building}
+use Rattle.stateful_exec_model.specs.declared.front.Front.{Front}
 use Rattle.stateful_exec_tables.specs.declared.state.Tables.{Tables}
 use Rattle.stateful_loop.specs.Causes.{HasCounted, FaultsApply, Via, FaultsRule, memory, advancing, applying}
 use Rattle.stateful_loop.specs.Errors.{error_of_set}

@@ -1,9 +1,9 @@
 -- What is first among the actions and the messages is taken.
 use Rattle.std.proofs.Common.{◌≡◌, ◌∷◌, ◌++◌, ◌⊎◌, [], ℕ, true, false, List, Option, IsSome, inl, inr, sym, ap, ◌∙◌}
 use Rattle.stateful_base.specs.Names.{Named}
-use Rattle.stateful_exec.specs.Causes.{FaultsAcquire}
+use Rattle.stateful_exec_model.specs.Causes.{FaultsAcquire}
 use Rattle.stateful_exec_tables.specs.Tables.{requested}
-use Rattle.stateful_exec.specs.Workings.{Workings}
+use Rattle.stateful_exec_model.specs.Workings.{Workings}
 use Rattle.stateful_exec_tables.specs.declared.request.Request.{Request}
 use Rattle.stateful_loop.specs.Causes.{Via, FaultsMessage, FaultsRule}
 use Rattle.stateful_loop.specs.Causes.FaultsRule.{memory, scheduling, taking}

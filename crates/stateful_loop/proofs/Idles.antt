@@ -3,7 +3,7 @@ use Rattle.std.proofs.Common.{◌≡◌, ◌++◌, ◌∷◌, [], ℕ, false, Op
 use Rattle.std.specs.Prelude.{option_map}
 use Rattle.stateful_base.specs.Names.{Named}
 use Rattle.stateful_base.specs.declared.number.Height.{Height}
-use Rattle.stateful_exec.specs.Workings.{Workings}
+use Rattle.stateful_exec_model.specs.Workings.{Workings}
 use Rattle.stateful_history.specs.declared.mark.Mark.{Mark}
 use Rattle.stateful_history.specs.declared.mark.Mark.TheVariants as mark
 use Rattle.stateful_loop.specs.Barriers.{numbered, broken, flushed}

@@ -10,7 +10,7 @@ use Rattle.stateful_db.specs.declared.barrier.Handle.{Handle}
 use Rattle.stateful_db.specs.declared.database.FlushToken.{FlushToken}
 use Rattle.stateful_history.specs.declared.event.Event.{Event}
 use Rattle.stateful_history.specs.declared.event.Event.TheVariants as event
-use Rattle.stateful_exec.specs.Workings.{Workings}
+use Rattle.stateful_exec_model.specs.Workings.{Workings}
 use Rattle.stateful_loop.specs.Barriers.{awaits, awaiting}
 use Rattle.stateful_loop.specs.Intake.{Counts, message_by, TakesIn, progresses, restarts}
 use Rattle.stateful_loop.specs.Moments.{Moment}

@@ -6,8 +6,8 @@ use Rattle.stateful_db.specs.Laws.{Laws}
 use Rattle.stateful_db.specs.declared.database.DbCall.{DbCall}
 use Rattle.stateful_db.specs.declared.set.SetError.{SetError}
 use Rattle.stateful_db.specs.declared.set.SetError.TheVariants as set
-use Rattle.stateful_exec.specs.Finalizing.{Moves}
-use Rattle.stateful_exec.specs.Workings.{Workings, Point}
+use Rattle.stateful_exec_model.specs.Finalizing.{Moves}
+use Rattle.stateful_exec_model.specs.Workings.{Workings, Point}
 use Rattle.stateful_loop.specs.Left.{KeepsStates, LeavesApply, LeavesRule, keeps, applying}
 use Rattle.stateful_loop.specs.Moments.{Executing, Moment}
 use Rattle.stateful_loop.specs.Rules.{IsFinalizing, HasStates}

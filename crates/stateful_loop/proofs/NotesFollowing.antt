@@ -5,7 +5,7 @@ use Rattle.std.proofs.lemmas.List.Sums.{fold-append}
 use Rattle.stateful_base.specs.Names.{Named}
 use Rattle.stateful_history.specs.Finalizations.{applied_in}
 use Rattle.stateful_history.specs.declared.mark.Mark.{Mark}
-use Rattle.stateful_exec.specs.Workings.{Workings}
+use Rattle.stateful_exec_model.specs.Workings.{Workings}
 use Rattle.stateful_exec_tables.specs.declared.error.ExecError.{ExecError}
 use Rattle.stateful_exec_tables.specs.declared.error.ExecError.TheVariants as exec
 use Rattle.stateful_loop.specs.Errors.{error_of_exec}

@@ -7,9 +7,9 @@ use Rattle.stateful_history.specs.Finalizations.{applied_in}
 use Rattle.stateful_history.specs.declared.mark.Mark.{Mark}
 use Rattle.stateful_exec_tables.specs.Request.{ticket_by}
 use Rattle.stateful_exec_tables.specs.Tables.{requested}
-use Rattle.stateful_exec.specs.Workings.{Workings}
-use Rattle.stateful_exec.specs.declared.front.Stage.{Stage}
-use Rattle.stateful_exec.specs.declared.front.Stage.TheVariants.{Begun, Running, Ran, Advanced, Hooking}
+use Rattle.stateful_exec_model.specs.Workings.{Workings}
+use Rattle.stateful_exec_model.specs.declared.front.Stage.{Stage}
+use Rattle.stateful_exec_model.specs.declared.front.Stage.TheVariants.{Begun, Running, Ran, Advanced, Hooking}
 use Rattle.stateful_exec_tables.specs.declared.request.Request.{Request}
 use Rattle.stateful_loop.specs.Moments.{Moment, inner, with_loop}
 use Rattle.stateful_loop.specs.Noted.{unobserved}

@@ -2,7 +2,7 @@
 use Rattle.std.proofs.Common.{◌≡◌, ℕ, Option, refl, ap, ◌∙◌}
 use Rattle.stateful_base.specs.Names.{Named}
 use Rattle.stateful_db.specs.Laws.{Laws}
-use Rattle.stateful_exec.specs.Workings.{Workings}
+use Rattle.stateful_exec_model.specs.Workings.{Workings}
 use Rattle.stateful_loop.proofs.SoundingBarriers.{begins_sound, completes_sound}
 use Rattle.stateful_loop.proofs.SoundingKept.{schedules_kept}
 use Rattle.stateful_loop.proofs.SoundingMessages.{does_sound}

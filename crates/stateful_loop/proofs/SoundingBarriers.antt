@@ -4,7 +4,7 @@ use Rattle.std.proofs.lemmas.List.{length-map, map-append}
 use Rattle.std.proofs.lemmas.List.Elements.{All-push, All-tail}
 use Rattle.stateful_db.specs.Laws.{Laws}
 use Rattle.stateful_durability.specs.Durability.{Coverage, receipts_above}
-use Rattle.stateful_exec.specs.Workings.{Workings}
+use Rattle.stateful_exec_model.specs.Workings.{Workings}
 use Rattle.stateful_loop.proofs.OutTokens.{out_at_push, out_in_open, out_in_flushed}
 use Rattle.stateful_loop.proofs.SoundingFront.{front_covered}
 use Rattle.stateful_loop.proofs.SoundingHeld.{held_covered, held_above}

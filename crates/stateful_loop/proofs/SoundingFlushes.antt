@@ -10,7 +10,7 @@ use Rattle.stateful_db.specs.declared.barrier.Flushed.{Flushed}
 use Rattle.stateful_db.specs.declared.barrier.Flushed.TheVariants.{Good, Interrupted}
 use Rattle.stateful_db.specs.declared.barrier.Handle.{Handle}
 use Rattle.stateful_db.specs.declared.database.FlushToken.{FlushToken}
-use Rattle.stateful_exec.specs.Workings.{Workings}
+use Rattle.stateful_exec_model.specs.Workings.{Workings}
 use Rattle.stateful_loop.proofs.OutTokens.{out_at_good, out_at_other, out_at_interrupted, heights_answered, counts_answered}
 use Rattle.stateful_loop.proofs.SoundingKept.{Sound-is}
 use Rattle.stateful_loop.specs.Barriers.{first_of, awaits, with_answer}

@@ -2,11 +2,11 @@
 use Rattle.std.proofs.Common.{◌≡◌, ◌≤◌, ℕ, List, All, length, map, Option, Some, None, sym, ap, ◌∙◌, subst}
 use Rattle.stateful_base.specs.Names.{Named}
 use Rattle.stateful_durability.specs.Durability.{Coverage}
-use Rattle.stateful_exec.specs.Finalizing.{front_at}
-use Rattle.stateful_exec.specs.Workings.{Workings}
-use Rattle.stateful_exec.specs.declared.front.Front.{Front}
-use Rattle.stateful_exec.specs.declared.front.Stage.{Stage}
-use Rattle.stateful_exec.specs.declared.front.Stage.TheVariants.{Begun, Running, Ran, Advanced, Hooking}
+use Rattle.stateful_exec_model.specs.Finalizing.{front_at}
+use Rattle.stateful_exec_model.specs.Workings.{Workings}
+use Rattle.stateful_exec_model.specs.declared.front.Front.{Front}
+use Rattle.stateful_exec_model.specs.declared.front.Stage.{Stage}
+use Rattle.stateful_exec_model.specs.declared.front.Stage.TheVariants.{Begun, Running, Ran, Advanced, Hooking}
 use Rattle.stateful_loop.specs.Moments.{Moment}
 use Rattle.stateful_loop.specs.Sound.{AgreesWith, FrontAgrees, AreHeld, IsUp, Sound, out_at}
 use Rattle.stateful_loop.specs.declared.barriers.Active.{Active}

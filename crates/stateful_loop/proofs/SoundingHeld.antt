@@ -4,7 +4,7 @@ use Rattle.std.specs.List.{filter}
 use Rattle.std.proofs.lemmas.Bool.{false≢true, le-leb, lt-ltb, cases_lt}
 use Rattle.std.proofs.lemmas.List.Elements.{Contains-append_left, Contains-append_right}
 use Rattle.stateful_durability.specs.Durability.{Coverage, receipts_up_to, receipts_above, with_duplicate}
-use Rattle.stateful_exec.specs.Workings.{Workings}
+use Rattle.stateful_exec_model.specs.Workings.{Workings}
 use Rattle.stateful_loop.specs.Sound.{IsHeldFor, AreHeld}
 use Rattle.stateful_loop.specs.declared.tables.Finalizing.{Finalizing}
 

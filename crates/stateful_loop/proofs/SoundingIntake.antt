@@ -8,13 +8,13 @@ use Rattle.stateful_db.specs.declared.application.AppFault.{AppFault}
 use Rattle.stateful_durability.specs.Durability.{Coverage}
 use Rattle.stateful_history.specs.declared.event.Event.{Event}
 use Rattle.stateful_history.specs.declared.mark.Mark.{Mark}
-use Rattle.stateful_exec.specs.Finalizing.{front_at, SettlesHook, TurnsHook, hook_turned, unhooked, SettlesFinal, StepsFinal, turned, not_live, candidate, finalized}
-use Rattle.stateful_exec.specs.Finalizing.{Completes}
-use Rattle.stateful_exec.specs.Moments as exec
-use Rattle.stateful_exec.specs.Workings.{Workings}
-use Rattle.stateful_exec.specs.declared.front.Front.{Front}
-use Rattle.stateful_exec.specs.declared.front.Stage.{Stage}
-use Rattle.stateful_exec.specs.declared.front.Stage.TheVariants.{Running, Ran, Advanced, Hooking}
+use Rattle.stateful_exec_model.specs.Finalizing.{front_at, SettlesHook, TurnsHook, hook_turned, unhooked, SettlesFinal, StepsFinal, turned, not_live, candidate, finalized}
+use Rattle.stateful_exec_model.specs.Finalizing.{Completes}
+use Rattle.stateful_exec_model.specs.Moments as exec
+use Rattle.stateful_exec_model.specs.Workings.{Workings}
+use Rattle.stateful_exec_model.specs.declared.front.Front.{Front}
+use Rattle.stateful_exec_model.specs.declared.front.Stage.{Stage}
+use Rattle.stateful_exec_model.specs.declared.front.Stage.TheVariants.{Running, Ran, Advanced, Hooking}
 use Rattle.stateful_loop.proofs.SoundingFlushes.{flush_sound}
 use Rattle.stateful_loop.proofs.SoundingFront.{agrees_at, turned_sound}
 use Rattle.stateful_loop.proofs.SoundingKept.{Sound-is, Sound-kept, kept_inner}

@@ -1,11 +1,11 @@
 -- A moment that has what a sound one has of the anchor, the databases, the front and the barriers is sound.
 use Rattle.std.proofs.Common.{◌≡◌, ℕ, Option, refl, sym, subst}
 use Rattle.stateful_base.specs.Names.{Named}
-use Rattle.stateful_exec.specs.Moments as exec
+use Rattle.stateful_exec_model.specs.Moments as exec
 use Rattle.stateful_exec_tables.specs.Request.{ticket_by}
 use Rattle.stateful_exec_tables.specs.Tables.{requested}
-use Rattle.stateful_exec.specs.Workings.{Workings}
-use Rattle.stateful_exec.specs.declared.front.Front.{Front}
+use Rattle.stateful_exec_model.specs.Workings.{Workings}
+use Rattle.stateful_exec_model.specs.declared.front.Front.{Front}
 use Rattle.stateful_exec_tables.specs.declared.request.Request.{Request}
 use Rattle.stateful_loop.proofs.SoundingFront.{turned_sound}
 use Rattle.stateful_loop.proofs.Staying.{Stays, Acquires-stays}

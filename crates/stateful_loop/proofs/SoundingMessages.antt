@@ -2,8 +2,8 @@
 use Rattle.std.proofs.Common.{◌≡◌, ◌≤◌, ◌<◌, ◌+◌, ℕ, Option, None, refl, sym, ap, subst, arith}
 use Rattle.stateful_base.specs.Names.{Named}
 use Rattle.stateful_durability.specs.Durability.{Coverage, with_duplicate}
-use Rattle.stateful_exec.specs.Workings.{Workings}
-use Rattle.stateful_exec.specs.declared.front.Stage.TheVariants.{Begun}
+use Rattle.stateful_exec_model.specs.Workings.{Workings}
+use Rattle.stateful_exec_model.specs.declared.front.Stage.TheVariants.{Begun}
 use Rattle.stateful_loop.proofs.SoundingFront.{turned_sound}
 use Rattle.stateful_loop.proofs.SoundingHeld.{held_duplicate}
 use Rattle.stateful_loop.proofs.SoundingKept.{Sound-is, schedules_kept}

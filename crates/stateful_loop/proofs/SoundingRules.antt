@@ -1,7 +1,7 @@
 -- The rules that change nothing that soundness speaks of, and those of barriers' breaks, keep it.
 use Rattle.std.proofs.Common.{◌≡◌, ℕ, false, List, refl, sym, ap, ◌∙◌, subst, true≢false}
 use Rattle.stateful_history.specs.declared.mark.Mark.{Mark}
-use Rattle.stateful_exec.specs.Workings.{Workings}
+use Rattle.stateful_exec_model.specs.Workings.{Workings}
 use Rattle.stateful_loop.proofs.SoundingKept.{Sound-kept, Sound-is}
 use Rattle.stateful_loop.specs.Moments.{Moment, with_loop}
 use Rattle.stateful_loop.specs.Rules.{Collects, Builds, starts, declines, Takes, of_action, of_message}

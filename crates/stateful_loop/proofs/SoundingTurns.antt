@@ -9,19 +9,19 @@ use Rattle.stateful_db.specs.declared.application.AppFault.{AppFault}
 use Rattle.stateful_db.specs.declared.application.ProposedBlock.{ProposedBlock}
 use Rattle.stateful_history.specs.declared.mark.How.{How}
 use Rattle.stateful_history.specs.declared.mark.Mark.{Mark}
-use Rattle.stateful_exec.specs.Built.{EndsBuild, TurnsBuild, other, goes_on, ends, GivesUp, building, asking}
-use Rattle.stateful_exec.specs.Ending.{InTurn, none, next, Follows, EndsRun, Settles, SettlesBy, Steps}
+use Rattle.stateful_exec_model.specs.Built.{EndsBuild, TurnsBuild, other, goes_on, ends, GivesUp, building, asking}
+use Rattle.stateful_exec_model.specs.Ending.{InTurn, none, next, Follows, EndsRun, Settles, SettlesBy, Steps}
 use Rattle.stateful_exec_tables.specs.Fates.{released}
-use Rattle.stateful_exec.specs.Ending as ending
-use Rattle.stateful_exec.specs.Fetching.{serving, IsFetched}
+use Rattle.stateful_exec_model.specs.Ending as ending
+use Rattle.stateful_exec_model.specs.Fetching.{serving, IsFetched}
 use Rattle.stateful_exec_tables.specs.Cancelling.{Cancels}
 use Rattle.stateful_exec_tables.specs.Fetching.{with_block}
-use Rattle.stateful_exec.specs.Fetching as fetching
+use Rattle.stateful_exec_model.specs.Fetching as fetching
 use Rattle.stateful_exec_tables.specs.Cancelling as cancel
-use Rattle.stateful_exec.specs.Moments as exec
+use Rattle.stateful_exec_model.specs.Moments as exec
 use Rattle.stateful_exec_tables.specs.Tables.{requested}
-use Rattle.stateful_exec.specs.Workings.{Workings}
-use Rattle.stateful_exec.specs.declared.building.Building.{Building}
+use Rattle.stateful_exec_model.specs.Workings.{Workings}
+use Rattle.stateful_exec_model.specs.declared.building.Building.{Building}
 use Rattle.stateful_exec_tables.specs.declared.request.Verdict.TheVariants.{Invalid}
 use Rattle.stateful_exec_tables.specs.declared.state.Tables.{Tables}
 use Rattle.stateful_exec_tables.specs.declared.tables.Released.{Released}

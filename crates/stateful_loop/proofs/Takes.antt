@@ -6,17 +6,17 @@ use Rattle.stateful_durability.specs.Durability.{Coverage, with_duplicate}
 use Rattle.stateful_history.specs.declared.mark.JobKind.TheVariants as job
 use Rattle.stateful_history.specs.declared.mark.Mark.{Mark}
 use Rattle.stateful_history.specs.declared.mark.Mark.TheVariants as mark
-use Rattle.stateful_exec.specs.Building.{Proposes}
-use Rattle.stateful_exec.specs.Building.Proposes.{starts, declines}
-use Rattle.stateful_exec.specs.Finalizing.{IsRedelivered}
-use Rattle.stateful_exec.specs.Moments as exec
+use Rattle.stateful_exec_model.specs.Building.{Proposes}
+use Rattle.stateful_exec_model.specs.Building.Proposes.{starts, declines}
+use Rattle.stateful_exec_model.specs.Finalizing.{IsRedelivered}
+use Rattle.stateful_exec_model.specs.Moments as exec
 use Rattle.stateful_exec_tables.specs.Request.{ticket_by}
 use Rattle.stateful_exec_tables.specs.Tables.{requested}
-use Rattle.stateful_exec.specs.Rules.{Acquires}
-use Rattle.stateful_exec.specs.Workings.{Workings}
-use Rattle.stateful_exec.specs.declared.building.Building.{Building}
-use Rattle.stateful_exec.specs.declared.building.BuildStart.{BuildStart}
-use Rattle.stateful_exec.specs.declared.building.BuildStart.TheVariants.{Started, Declined}
+use Rattle.stateful_exec_model.specs.Rules.{Acquires}
+use Rattle.stateful_exec_model.specs.Workings.{Workings}
+use Rattle.stateful_exec_model.specs.declared.building.Building.{Building}
+use Rattle.stateful_exec_model.specs.declared.building.BuildStart.{BuildStart}
+use Rattle.stateful_exec_model.specs.declared.building.BuildStart.TheVariants.{Started, Declined}
 use Rattle.stateful_exec_tables.specs.declared.request.Request.{Request}
 use Rattle.stateful_loop.specs.Moments.{Executing, Moment, moment}
 use Rattle.stateful_loop.specs.Rules.{Schedules, Builds, DoesMessage}

@@ -5,17 +5,17 @@ use Rattle.stateful_base.specs.Names.{Named}
 use Rattle.stateful_db.specs.Databases.{Databases}
 use Rattle.stateful_db.specs.declared.database.DbCall.{DbCall}
 use Rattle.stateful_db.specs.declared.database.DbCall.TheVariants as call
-use Rattle.stateful_exec.specs.Building.{FaultsPropose}
-use Rattle.stateful_exec.specs.Causes.{FaultsAcquire, FaultsStart}
-use Rattle.stateful_exec.specs.Finalizing.{front_at, Conflicts, FaultsBegin, FaultsMove}
-use Rattle.stateful_exec.specs.Finalizing.{FaultsObserve}
+use Rattle.stateful_exec_model.specs.Building.{FaultsPropose}
+use Rattle.stateful_exec_model.specs.Causes.{FaultsAcquire, FaultsStart}
+use Rattle.stateful_exec_model.specs.Finalizing.{front_at, Conflicts, FaultsBegin, FaultsMove}
+use Rattle.stateful_exec_model.specs.Finalizing.{FaultsObserve}
 use Rattle.stateful_exec_tables.specs.Pausing.{AwaitsRuns}
-use Rattle.stateful_exec.specs.Pausing.{FaultsResume}
+use Rattle.stateful_exec_model.specs.Pausing.{FaultsResume}
 use Rattle.stateful_exec_tables.specs.Tables.{requested}
 use Rattle.stateful_exec_tables.specs.Tables.{IsLeft}
-use Rattle.stateful_exec.specs.Workings.{Workings}
+use Rattle.stateful_exec_model.specs.Workings.{Workings}
 use Rattle.stateful_exec_tables.specs.declared.error.ExecError.{ExecError}
-use Rattle.stateful_exec.specs.declared.front.Stage.TheVariants.{Begun, Advanced}
+use Rattle.stateful_exec_model.specs.declared.front.Stage.TheVariants.{Begun, Advanced}
 use Rattle.stateful_exec_tables.specs.declared.request.Request.{Request}
 use Rattle.stateful_exec_cache.specs.Cache.{IsIn}
 use Rattle.stateful_loop.specs.Errors.{error_of_exec}

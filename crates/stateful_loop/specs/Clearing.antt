@@ -1,6 +1,6 @@
 -- How all that goes on is dropped.
 use Rattle.std.specs.Prelude.{◌≡◌, [], false, None}
-use Rattle.stateful_exec.specs.Workings.{Workings}
+use Rattle.stateful_exec_model.specs.Workings.{Workings}
 use Rattle.stateful_exec_tables.specs.declared.pause.Pause.TheVariants.{Free}
 use Rattle.stateful_loop.specs.Moments.{Moment}
 

@@ -10,15 +10,15 @@ use Rattle.stateful_db.specs.declared.application.ProposalKind.TheVariants as ki
 use Rattle.stateful_history.specs.declared.event.Event.{Event}
 use Rattle.stateful_history.specs.declared.event.Event.TheVariants as event
 use Rattle.stateful_history.specs.declared.mark.Mark.{Mark}
-use Rattle.stateful_exec.specs.Built.{IsLiveBuild, TurnsBuild, FaultsTurn, GivesUp}
-use Rattle.stateful_exec.specs.Fetching.{IsFetched, FaultsFetched}
-use Rattle.stateful_exec.specs.Finalizing.{IsHookLive, TurnsHook, FaultsHook}
-use Rattle.stateful_exec.specs.Finalizing.{Completes}
-use Rattle.stateful_exec.specs.Finalizing.{FaultsComplete}
-use Rattle.stateful_exec.specs.Moments as exec
-use Rattle.stateful_exec.specs.Workings.{Workings}
-use Rattle.stateful_exec.specs.declared.building.Building.{Building}
-use Rattle.stateful_exec.specs.declared.front.Front.{Front}
+use Rattle.stateful_exec_model.specs.Built.{IsLiveBuild, TurnsBuild, FaultsTurn, GivesUp}
+use Rattle.stateful_exec_model.specs.Fetching.{IsFetched, FaultsFetched}
+use Rattle.stateful_exec_model.specs.Finalizing.{IsHookLive, TurnsHook, FaultsHook}
+use Rattle.stateful_exec_model.specs.Finalizing.{Completes}
+use Rattle.stateful_exec_model.specs.Finalizing.{FaultsComplete}
+use Rattle.stateful_exec_model.specs.Moments as exec
+use Rattle.stateful_exec_model.specs.Workings.{Workings}
+use Rattle.stateful_exec_model.specs.declared.building.Building.{Building}
+use Rattle.stateful_exec_model.specs.declared.front.Front.{Front}
 use Rattle.stateful_exec_tables.specs.declared.request.Request.TheVariants as request
 use Rattle.stateful_exec_tables.specs.declared.state.Tables.{Tables}
 use Rattle.stateful_loop.specs.Barriers.{awaiting, with_answer}

@@ -5,9 +5,9 @@ use Rattle.stateful_base.specs.declared.floor.Floor.{Floor}
 use Rattle.stateful_db.specs.Databases.{Preserves}
 use Rattle.stateful_db.specs.declared.database.InitError.{InitError}
 use Rattle.stateful_history.specs.Restarts.{reopened_height}
-use Rattle.stateful_exec.specs.Finalizing.{Moves}
-use Rattle.stateful_exec.specs.Workings.{Workings, Point}
-use Rattle.stateful_exec.specs.declared.front.Front.{Front}
+use Rattle.stateful_exec_model.specs.Finalizing.{Moves}
+use Rattle.stateful_exec_model.specs.Workings.{Workings, Point}
+use Rattle.stateful_exec_model.specs.declared.front.Front.{Front}
 use Rattle.stateful_exec_tables.specs.declared.state.Tables.{Tables}
 use Rattle.stateful_loop.specs.Moments.{Executing, Moment}
 use Rattle.stateful_loop.specs.Rules.{IsFinalizing, HasStates}

@@ -1,11 +1,11 @@
 -- Execution, what the loop keeps, and the databases at a moment, with the marks made so far.
 use Rattle.std.specs.Prelude.{Option, List}
 use Rattle.stateful_history.specs.declared.mark.Mark.{Mark}
-use Rattle.stateful_exec.specs.Workings.{Workings}
-use Rattle.stateful_exec.specs.Moments as exec
-use Rattle.stateful_exec.specs.State.{Owner}
-use Rattle.stateful_exec.specs.declared.building.Building.{Building}
-use Rattle.stateful_exec.specs.declared.front.Front.{Front}
+use Rattle.stateful_exec_model.specs.Workings.{Workings}
+use Rattle.stateful_exec_model.specs.Moments as exec
+use Rattle.stateful_exec_model.specs.State.{Owner}
+use Rattle.stateful_exec_model.specs.declared.building.Building.{Building}
+use Rattle.stateful_exec_model.specs.declared.front.Front.{Front}
 use Rattle.stateful_exec_tables.specs.declared.state.Tables.{Tables}
 use Rattle.stateful_loop.specs.declared.tables.Processing.{Processing}
 

@@ -1,8 +1,8 @@
 -- How far a finalization has come, as far as it tells what goes on.
 use Rattle.std.specs.Prelude.{Option, Some, None}
-use Rattle.stateful_exec.specs.declared.front.Front.{Front}
-use Rattle.stateful_exec.specs.declared.front.Stage.{Stage}
-use Rattle.stateful_exec.specs.declared.front.Stage.TheVariants as stage
+use Rattle.stateful_exec_model.specs.declared.front.Front.{Front}
+use Rattle.stateful_exec_model.specs.declared.front.Stage.{Stage}
+use Rattle.stateful_exec_model.specs.declared.front.Stage.TheVariants as stage
 use Rattle.stateful_loop.specs.declared.reached.Reached.{Reached}
 use Rattle.stateful_loop.specs.declared.reached.Reached.TheVariants.{Begun, Ran, Advanced}
 use Rattle.stateful_loop.specs.declared.reached.Reached.TheVariants.{Waiting}

@@ -10,21 +10,21 @@ use Rattle.stateful_history.specs.declared.mark.JobKind.TheVariants as job
 use Rattle.stateful_history.specs.declared.mark.Mark.{Mark}
 use Rattle.stateful_history.specs.declared.mark.Mark.TheVariants as mark
 use Rattle.stateful_exec_cache.specs.Cache.{IsIn}
-use Rattle.stateful_exec.specs.Workings.{Workings, Point}
-use Rattle.stateful_exec.specs.Moments as exec
+use Rattle.stateful_exec_model.specs.Workings.{Workings, Point}
+use Rattle.stateful_exec_model.specs.Moments as exec
 use Rattle.stateful_exec_tables.specs.Request.{ticket_by}
 use Rattle.stateful_exec_tables.specs.Tables.{requested}
-use Rattle.stateful_exec.specs.Rules.{Acquires}
+use Rattle.stateful_exec_model.specs.Rules.{Acquires}
 use Rattle.stateful_exec_tables.specs.Tables.{IsLeft}
 use Rattle.stateful_exec_tables.specs.Queueing.{IsReady, unqueued}
-use Rattle.stateful_exec.specs.Building.{StartsBuild}
-use Rattle.stateful_exec.specs.Finalizing.{IsRedelivered, MayBegin, front_at}
+use Rattle.stateful_exec_model.specs.Building.{StartsBuild}
+use Rattle.stateful_exec_model.specs.Finalizing.{IsRedelivered, MayBegin, front_at}
 use Rattle.stateful_exec_tables.specs.Boundary.{IsBoundaryOf}
-use Rattle.stateful_exec.specs.Finalizing.{RunsFinal, Moves, Observes}
+use Rattle.stateful_exec_model.specs.Finalizing.{RunsFinal, Moves, Observes}
 use Rattle.stateful_exec_tables.specs.Pausing.{AwaitsRuns}
 use Rattle.stateful_exec_tables.specs.Pausing.{Pauses}
-use Rattle.stateful_exec.specs.Pausing.{Resumes}
-use Rattle.stateful_exec.specs.declared.front.Stage.TheVariants.{Begun, Ran, Advanced}
+use Rattle.stateful_exec_model.specs.Pausing.{Resumes}
+use Rattle.stateful_exec_model.specs.declared.front.Stage.TheVariants.{Begun, Ran, Advanced}
 use Rattle.stateful_exec_tables.specs.declared.request.Request.{Request}
 use Rattle.stateful_loop.specs.Barriers.{broken, flushed}
 use Rattle.stateful_loop.specs.Message.{is_verification}

@@ -18,13 +18,13 @@ ghost use Rattle.std.specs.Prelude.{Option, Some, None, List, OnOk, OnErr, IfOk,
 ghost use Rattle.std.specs.Prelude.{IsSome, Any, All, IsErrOf};
 ghost use Rattle.stateful_base.specs.Causes.{Rose};
 ghost use Rattle.stateful_base.specs.Names.{Named};
-ghost use Rattle.stateful_exec.specs.Building.{FaultsPropose};
-ghost use Rattle.stateful_exec.specs.Causes.{FaultsAcquire};
-ghost use Rattle.stateful_exec.specs.Finalizing.{IsRedelivered};
+ghost use Rattle.stateful_exec_model.specs.Building.{FaultsPropose};
+ghost use Rattle.stateful_exec_model.specs.Causes.{FaultsAcquire};
+ghost use Rattle.stateful_exec_model.specs.Finalizing.{IsRedelivered};
 ghost use Rattle.stateful_exec_tables.specs.Tables.{requested};
 ghost use Rattle.stateful_exec_tables.specs.Tables.{Rises};
 ghost use Rattle.stateful_loop.specs.Causes.{Via, FaultsMessage, FaultsRule};
-ghost use Rattle.stateful_exec.specs.Moments as exec;
+ghost use Rattle.stateful_exec_model.specs.Moments as exec;
 ghost use Rattle.stateful_loop.specs.Moments.{executing, moment};
 ghost use Rattle.stateful_loop.specs.declared.tables.Processing.{Processing as Kept};
 ghost use Rattle.stateful_loop.specs.Rules.{Schedules, Builds, DoesMessage, IsCalm};

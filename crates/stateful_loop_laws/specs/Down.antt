@@ -7,7 +7,7 @@ use Rattle.stateful_history.specs.Stops.{NothingLive}
 use Rattle.stateful_history.specs.declared.mark.Mark.{Mark}
 use Rattle.stateful_history.specs.declared.mark.Mark.TheVariants.{Withdrawn, Ended, Declined}
 use Rattle.stateful_history.specs.declared.mark.Mark.TheVariants.{Dropped, Stopped}
-use Rattle.stateful_exec.specs.Workings.{Workings}
+use Rattle.stateful_exec_model.specs.Workings.{Workings}
 use Rattle.stateful_exec_tables.specs.declared.pause.Pause.TheVariants.{Free}
 use Rattle.stateful_exec_laws.specs.Standing.{NumbersStand}
 use Rattle.stateful_loop.specs.Moments.{Moment}

@@ -6,7 +6,7 @@ use Rattle.stateful_history.specs.Durable.{GoodIsFlushed, AcknowledgedIsDurable}
 use Rattle.stateful_history.specs.Finalizations.{AcknowledgedIsApplied}
 use Rattle.stateful_history.specs.Past.{Past, EachMark, after}
 use Rattle.stateful_history.specs.declared.mark.Mark.{Mark}
-use Rattle.stateful_exec.specs.Workings.{Workings}
+use Rattle.stateful_exec_model.specs.Workings.{Workings}
 use Rattle.stateful_loop_laws.specs.Stands.{LoopStands}
 use Rattle.stateful_loop.specs.Moments.{Moment}
 

@@ -6,7 +6,7 @@ use Rattle.stateful_db.specs.Databases.{Databases}
 use Rattle.stateful_history.specs.Opening.{opening}
 use Rattle.stateful_history.specs.Past.{Past}
 use Rattle.stateful_history.specs.Restarts.{CanReopen}
-use Rattle.stateful_exec.specs.Workings.{Workings}
+use Rattle.stateful_exec_model.specs.Workings.{Workings}
 
 module _ {Ids S T : Type 0} (d : Databases Ids S T) (m : d.Members) (t : T) (i : ℕ) where
   -- the database of this number keeps a checkpoint of its part of states with these targets, at

@@ -5,7 +5,7 @@ use Rattle.stateful_base.specs.declared.anchor.Anchor.{Anchor}
 use Rattle.stateful_history.specs.Joined.{TrueIsEarned}
 use Rattle.stateful_history.specs.Past.{Past, Made, EachMark}
 use Rattle.stateful_history.specs.declared.mark.Mark.TheVariants.{Opened}
-use Rattle.stateful_exec.specs.Workings.{Workings}
+use Rattle.stateful_exec_model.specs.Workings.{Workings}
 use Rattle.stateful_exec_laws.specs.Setting.{setting}
 use Rattle.stateful_loop_laws.specs.Durability.{IsDurablySaid}
 use Rattle.stateful_loop_laws.specs.Stands.{IsUpAt}

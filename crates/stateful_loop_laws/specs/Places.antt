@@ -15,12 +15,12 @@ use Rattle.stateful_history.specs.declared.mark.How.TheVariants.{Cancelled}
 use Rattle.stateful_history.specs.declared.mark.JobKind.TheVariants.{Candidate}
 use Rattle.stateful_history.specs.declared.mark.Mark.{Mark}
 use Rattle.stateful_history.specs.declared.mark.Mark.TheVariants.{Ended}
-use Rattle.stateful_exec.specs.Workings.{Workings}
-use Rattle.stateful_exec.specs.declared.building.Building.{Building}
-use Rattle.stateful_exec.specs.declared.front.Front.{Front}
-use Rattle.stateful_exec.specs.declared.front.Stage.{Stage}
-use Rattle.stateful_exec.specs.declared.front.Stage.TheVariants.{Begun, Running, Ran, Advanced}
-use Rattle.stateful_exec.specs.declared.front.Stage.TheVariants.{Hooking}
+use Rattle.stateful_exec_model.specs.Workings.{Workings}
+use Rattle.stateful_exec_model.specs.declared.building.Building.{Building}
+use Rattle.stateful_exec_model.specs.declared.front.Front.{Front}
+use Rattle.stateful_exec_model.specs.declared.front.Stage.{Stage}
+use Rattle.stateful_exec_model.specs.declared.front.Stage.TheVariants.{Begun, Running, Ran, Advanced}
+use Rattle.stateful_exec_model.specs.declared.front.Stage.TheVariants.{Hooking}
 use Rattle.stateful_exec_tables.specs.declared.state.Tables.{Tables}
 use Rattle.stateful_exec_laws.specs.Due.{IsDue}
 use Rattle.stateful_exec_laws.specs.Gathering.{AsksAlong, AsksNothing}

@@ -4,7 +4,7 @@ use Rattle.stateful_history.specs.declared.mark.Mark.{Mark}
 use Rattle.stateful_history.specs.declared.mark.Mark.TheVariants.{Opened, Converged, Recorded}
 use Rattle.stateful_history.specs.declared.mark.Mark.TheVariants.{Dispatched, Pruned, Completed}
 use Rattle.stateful_history.specs.declared.mark.Mark.TheVariants.{Dropped, Stopped}
-use Rattle.stateful_exec.specs.Workings.{Workings}
+use Rattle.stateful_exec_model.specs.Workings.{Workings}
 use Rattle.stateful_loop.specs.Moments.{Moment}
 
 -- not the marks of openings, syncs, prunes and stops

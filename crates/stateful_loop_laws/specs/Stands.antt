@@ -5,7 +5,7 @@ use Rattle.stateful_base.specs.declared.anchor.Anchor.{Anchor}
 use Rattle.stateful_durability.specs.Durability.{IsInOrder}
 use Rattle.stateful_history.specs.Durable.{durable}
 use Rattle.stateful_history.specs.Past.{Past}
-use Rattle.stateful_exec.specs.Workings.{Workings}
+use Rattle.stateful_exec_model.specs.Workings.{Workings}
 use Rattle.stateful_exec_laws.specs.Setting.{setting}
 use Rattle.stateful_loop_laws.specs.Checkpoints.{Keeping}
 use Rattle.stateful_loop_laws.specs.Execution.{Executes}

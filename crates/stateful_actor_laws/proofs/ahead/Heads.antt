@@ -3,9 +3,9 @@ use Rattle.std.proofs.Common.{◌≡◌, ◌⊎◌, inl, inr, ◌++◌, ◌∷�
 use Rattle.stateful_base.specs.Names.{Named}
 use Rattle.stateful_base.specs.Anchor.{anchor_by}
 use Rattle.stateful_base.specs.declared.anchor.Anchor.{Anchor}
-use Rattle.stateful_exec.specs.Finalizing.{front_at}
-use Rattle.stateful_exec.specs.Workings.{Workings}
-use Rattle.stateful_exec.specs.declared.front.Front.{Front}
+use Rattle.stateful_exec_model.specs.Finalizing.{front_at}
+use Rattle.stateful_exec_model.specs.Workings.{Workings}
+use Rattle.stateful_exec_model.specs.declared.front.Front.{Front}
 use Rattle.stateful_exec_laws.specs.Setting.{setting}
 use Rattle.stateful_loop.specs.Moments.{Moment}
 use Rattle.stateful_actor_laws.specs.Ahead.{finals_at, HeadIs, LeadsUp, LeadsAt}

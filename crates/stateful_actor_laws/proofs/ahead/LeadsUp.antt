@@ -6,7 +6,7 @@ use Rattle.stateful_base.specs.declared.anchor.Anchor.{Anchor}
 use Rattle.stateful_history.specs.Finalizations.{IsChildOf}
 use Rattle.stateful_history.specs.Joined.{Matches}
 use Rattle.stateful_history.specs.Setting.{Setting}
-use Rattle.stateful_exec.specs.Finalizing.{IsRedelivered}
+use Rattle.stateful_exec_model.specs.Finalizing.{IsRedelivered}
 use Rattle.stateful_actor_laws.specs.Ahead.{LeadsUp, there, next, again}
 
 module _ {B S T : Type 0} (s : Setting B S T) where

@@ -8,10 +8,10 @@ use Rattle.stateful_db.specs.declared.application.Hooked.TheVariants as hooked
 use Rattle.stateful_history.specs.Finalizations.{IsChildOf}
 use Rattle.stateful_history.specs.Joined.{Matches}
 use Rattle.stateful_history.specs.declared.mark.Mark.{Mark}
-use Rattle.stateful_exec.specs.Finalizing.{front_at, HooksOn}
-use Rattle.stateful_exec.specs.Workings.{Workings}
-use Rattle.stateful_exec.specs.declared.front.Front.{Front}
-use Rattle.stateful_exec.specs.declared.front.Stage.TheVariants.{Begun, Running, Advanced, Hooking}
+use Rattle.stateful_exec_model.specs.Finalizing.{front_at, HooksOn}
+use Rattle.stateful_exec_model.specs.Workings.{Workings}
+use Rattle.stateful_exec_model.specs.declared.front.Front.{Front}
+use Rattle.stateful_exec_model.specs.declared.front.Stage.TheVariants.{Begun, Running, Advanced, Hooking}
 use Rattle.stateful_exec_tables.specs.declared.state.Tables.{Tables}
 use Rattle.stateful_exec_laws.specs.Setting.{setting}
 use Rattle.stateful_loop.specs.Moments.{Moment}

@@ -2,21 +2,21 @@
 use Rattle.std.proofs.Common.{◌≡◌, ◌∷◌, [], ℕ, Option, Some, None, List, refl, sym, ap, ◌∙◌, subst}
 use Rattle.stateful_base.specs.Names.{Named}
 use Rattle.stateful_history.specs.declared.mark.How.{How}
-use Rattle.stateful_exec.specs.Building.{FaultsPropose}
-use Rattle.stateful_exec.specs.Building as building
-use Rattle.stateful_exec.specs.Causes.{FaultsStart, FaultsAdvance, FaultsAcquire, FaultsFollow}
-use Rattle.stateful_exec.specs.Causes as cause
-use Rattle.stateful_exec.specs.Ending.{StopsAt}
-use Rattle.stateful_exec.specs.Finalizing.{FaultsObserve}
-use Rattle.stateful_exec.specs.Finalizing as final
-use Rattle.stateful_exec.specs.Fetching.{FaultsFetched}
-use Rattle.stateful_exec.specs.Fetching as fetching
-use Rattle.stateful_exec.specs.Moments as exec
+use Rattle.stateful_exec_model.specs.Building.{FaultsPropose}
+use Rattle.stateful_exec_model.specs.Building as building
+use Rattle.stateful_exec_model.specs.Causes.{FaultsStart, FaultsAdvance, FaultsAcquire, FaultsFollow}
+use Rattle.stateful_exec_model.specs.Causes as cause
+use Rattle.stateful_exec_model.specs.Ending.{StopsAt}
+use Rattle.stateful_exec_model.specs.Finalizing.{FaultsObserve}
+use Rattle.stateful_exec_model.specs.Finalizing as final
+use Rattle.stateful_exec_model.specs.Fetching.{FaultsFetched}
+use Rattle.stateful_exec_model.specs.Fetching as fetching
+use Rattle.stateful_exec_model.specs.Moments as exec
 use Rattle.stateful_exec_tables.specs.Path.{Path}
-use Rattle.stateful_exec.specs.Pausing.{FaultsResume, GoesAlong, AcquiresAnew, unparked, unsettled}
-use Rattle.stateful_exec.specs.Pausing as pausing
+use Rattle.stateful_exec_model.specs.Pausing.{FaultsResume, GoesAlong, AcquiresAnew, unparked, unsettled}
+use Rattle.stateful_exec_model.specs.Pausing as pausing
 use Rattle.stateful_exec_tables.specs.Phase.{parked_in, unacquired_in}
-use Rattle.stateful_exec.specs.Workings.{Workings, Point}
+use Rattle.stateful_exec_model.specs.Workings.{Workings, Point}
 use Rattle.stateful_exec_tables.specs.declared.error.ExecError.{ExecError}
 use Rattle.stateful_exec_tables.specs.declared.error.ExecError.TheVariants as exec_error
 use Rattle.stateful_exec_tables.specs.declared.state.Tables.{Tables}

@@ -22,8 +22,8 @@ use Rattle.stateful_history.specs.declared.mark.Mark.{Mark}
 use Rattle.stateful_history.specs.declared.mark.Mark.TheVariants.{Opened}
 use Rattle.stateful_history.specs.declared.ticket.Ticket.TheVariants.{Request}
 use Rattle.stateful_history.proofs.Marks.{after-append, TrueNames-before_marks}
-use Rattle.stateful_exec.specs.Workings.{Workings}
-use Rattle.stateful_exec.specs.declared.front.Front.{Front}
+use Rattle.stateful_exec_model.specs.Workings.{Workings}
+use Rattle.stateful_exec_model.specs.declared.front.Front.{Front}
 use Rattle.stateful_actor_register.specs.Register.{RegisterStands}
 use Rattle.stateful_actor_register.specs.declared.register.Register.{Register}
 use Rattle.stateful_exec_laws.specs.Building.{BuildsTakeTurns}

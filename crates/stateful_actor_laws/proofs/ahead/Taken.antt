@@ -19,8 +19,8 @@ use Rattle.stateful_history.specs.Telling.{telling_of}
 use Rattle.stateful_history.specs.declared.event.Event.{Event}
 use Rattle.stateful_history.specs.declared.event.Event.TheVariants.{Prepare, Propose, Finalized, Restart}
 use Rattle.stateful_history.specs.declared.mark.Mark.{Mark}
-use Rattle.stateful_exec.specs.Finalizing.{IsRedelivered}
-use Rattle.stateful_exec.specs.Workings.{Workings}
+use Rattle.stateful_exec_model.specs.Finalizing.{IsRedelivered}
+use Rattle.stateful_exec_model.specs.Workings.{Workings}
 use Rattle.stateful_exec_laws.specs.Setting.{setting}
 use Rattle.stateful_exec_laws.proofs.runs.Turned.{HasState-once}
 use Rattle.stateful_loop.specs.Intake.{Counts, TakesIn}

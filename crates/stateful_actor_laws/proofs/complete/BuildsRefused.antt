@@ -22,13 +22,13 @@ use Rattle.stateful_history.specs.declared.mark.How.{How}
 use Rattle.stateful_history.specs.declared.mark.How.TheVariants.{Missed}
 use Rattle.stateful_exec_cache.specs.Cache.{IsIn, IsAtHand}
 use Rattle.stateful_exec_cache.specs.declared.cache.Cached.{Cached}
-use Rattle.stateful_exec.specs.Built.{IsOther, IsNamed, FaultsBuilt, memory, other, not_kept, FaultsGiven, HasTurn, IsLiveBuild, FaultsTurn, failed, ending}
+use Rattle.stateful_exec_model.specs.Built.{IsOther, IsNamed, FaultsBuilt, memory, other, not_kept, FaultsGiven, HasTurn, IsLiveBuild, FaultsTurn, failed, ending}
 use Rattle.stateful_exec_tables.specs.Keeping.{FaultsKeep}
 use Rattle.stateful_exec_tables.specs.Keeping.{Takes}
 use Rattle.stateful_exec_tables.specs.Keeping.{there, added, missed}
-use Rattle.stateful_exec.specs.Moments as exec
-use Rattle.stateful_exec.specs.Workings.{Workings, Point}
-use Rattle.stateful_exec.specs.declared.building.Building.{Building}
+use Rattle.stateful_exec_model.specs.Moments as exec
+use Rattle.stateful_exec_model.specs.Workings.{Workings, Point}
+use Rattle.stateful_exec_model.specs.declared.building.Building.{Building}
 use Rattle.stateful_exec_tables.specs.declared.error.ExecError.{ExecError}
 use Rattle.stateful_exec_tables.specs.declared.error.ExecError.TheVariants as exec_error
 use Rattle.stateful_exec_tables.specs.declared.error.ProposalFault.{ProposalFault}

@@ -13,14 +13,14 @@ use Rattle.stateful_history.specs.Telling.{telling_of}
 use Rattle.stateful_history.specs.Honest.{StoresFinalized}
 use Rattle.stateful_history.specs.declared.event.Event.{Event}
 use Rattle.stateful_history.specs.declared.event.Event.TheVariants as event
-use Rattle.stateful_exec.specs.Built.{IsLiveBuild, FaultsTurn}
-use Rattle.stateful_exec.specs.Fetching.{FaultsFetched}
-use Rattle.stateful_exec.specs.Finalizing.{front_at, FaultsComplete, of_candidate, of_finalized, FaultsHook}
-use Rattle.stateful_exec.specs.Workings.{Workings, Point}
-use Rattle.stateful_exec.specs.declared.building.Building.{Building}
+use Rattle.stateful_exec_model.specs.Built.{IsLiveBuild, FaultsTurn}
+use Rattle.stateful_exec_model.specs.Fetching.{FaultsFetched}
+use Rattle.stateful_exec_model.specs.Finalizing.{front_at, FaultsComplete, of_candidate, of_finalized, FaultsHook}
+use Rattle.stateful_exec_model.specs.Workings.{Workings, Point}
+use Rattle.stateful_exec_model.specs.declared.building.Building.{Building}
 use Rattle.stateful_exec_tables.specs.declared.error.ExecError.{ExecError}
-use Rattle.stateful_exec.specs.declared.front.Front.{Front}
-use Rattle.stateful_exec.specs.declared.front.Stage.TheVariants.{Running}
+use Rattle.stateful_exec_model.specs.declared.front.Front.{Front}
+use Rattle.stateful_exec_model.specs.declared.front.Stage.TheVariants.{Running}
 use Rattle.stateful_exec_laws.specs.Building.{BuildsTakeTurns}
 use Rattle.stateful_exec_laws.specs.Fronting.{RunsTakeTurns}
 use Rattle.stateful_exec_laws.specs.Setting.{setting}

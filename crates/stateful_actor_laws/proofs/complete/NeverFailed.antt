@@ -14,22 +14,22 @@ use Rattle.stateful_db.specs.declared.application.ProposedBlock.{ProposedBlock}
 use Rattle.stateful_db.specs.declared.application.AppFault.{AppFault}
 use Rattle.stateful_exec_cache.specs.declared.cache.Cached.{Cached}
 use Rattle.stateful_table.specs.Table.{at}
-use Rattle.stateful_exec.specs.Built.{FaultsBuilt, FaultsGiven, FaultsTurn}
+use Rattle.stateful_exec_model.specs.Built.{FaultsBuilt, FaultsGiven, FaultsTurn}
 use Rattle.stateful_exec_tables.specs.Keeping.{FaultsKeep}
-use Rattle.stateful_exec.specs.Built as built
-use Rattle.stateful_exec.specs.Causes.{FaultsAcquire, FaultsAnswer, FaultsStep}
-use Rattle.stateful_exec.specs.Causes as cause
+use Rattle.stateful_exec_model.specs.Built as built
+use Rattle.stateful_exec_model.specs.Causes.{FaultsAcquire, FaultsAnswer, FaultsStep}
+use Rattle.stateful_exec_model.specs.Causes as cause
 use Rattle.stateful_exec_tables.specs.Keeping.{FaultsTake}
 use Rattle.stateful_exec_tables.specs.Errors.{error_of_app}
-use Rattle.stateful_exec.specs.Finalizing.{Conflicts, FaultsBegin, FaultsComplete, FaultsFinal, FaultsMove, FaultsSettleFinal, FaultsStepFinal}
-use Rattle.stateful_exec.specs.Finalizing as final
-use Rattle.stateful_exec.specs.Moments as exec
+use Rattle.stateful_exec_model.specs.Finalizing.{Conflicts, FaultsBegin, FaultsComplete, FaultsFinal, FaultsMove, FaultsSettleFinal, FaultsStepFinal}
+use Rattle.stateful_exec_model.specs.Finalizing as final
+use Rattle.stateful_exec_model.specs.Moments as exec
 use Rattle.stateful_exec_tables.specs.Tables.{requested}
-use Rattle.stateful_exec.specs.Workings.{Workings}
+use Rattle.stateful_exec_model.specs.Workings.{Workings}
 use Rattle.stateful_exec_tables.specs.declared.error.ExecError.{ExecError}
 use Rattle.stateful_exec_tables.specs.declared.error.ExecError.TheVariants as exec_error
-use Rattle.stateful_exec.specs.declared.building.Building.{Building}
-use Rattle.stateful_exec.specs.declared.front.Front.{Front}
+use Rattle.stateful_exec_model.specs.declared.building.Building.{Building}
+use Rattle.stateful_exec_model.specs.declared.front.Front.{Front}
 use Rattle.stateful_exec_tables.specs.declared.tables.LiveRun.{LiveRun}
 use Rattle.stateful_history.specs.declared.event.Event.{Event}
 use Rattle.stateful_history.specs.declared.event.Event.TheVariants as event

@@ -5,15 +5,15 @@ use Rattle.stateful_base.specs.Names.{Named}
 use Rattle.stateful_base.specs.declared.anchor.Anchor.{Anchor}
 use Rattle.stateful_history.specs.Finalizations.{IsChildOf}
 use Rattle.stateful_history.specs.Past.{Past}
-use Rattle.stateful_exec.specs.Causes.{FaultsAcquire, FaultsStart}
-use Rattle.stateful_exec.specs.Building.{FaultsPropose}
-use Rattle.stateful_exec.specs.Finalizing.{Conflicts, FaultsBegin, IsRedelivered, HasStates as IsCachedOrRun, FaultsMove, no_room, not_read, no_states, FaultsObserve}
-use Rattle.stateful_exec.specs.Pausing.{FaultsResume}
+use Rattle.stateful_exec_model.specs.Causes.{FaultsAcquire, FaultsStart}
+use Rattle.stateful_exec_model.specs.Building.{FaultsPropose}
+use Rattle.stateful_exec_model.specs.Finalizing.{Conflicts, FaultsBegin, IsRedelivered, HasStates as IsCachedOrRun, FaultsMove, no_room, not_read, no_states, FaultsObserve}
+use Rattle.stateful_exec_model.specs.Pausing.{FaultsResume}
 use Rattle.stateful_exec_tables.specs.Tables.{requested}
-use Rattle.stateful_exec.specs.Workings.{Workings, Point}
+use Rattle.stateful_exec_model.specs.Workings.{Workings, Point}
 use Rattle.stateful_exec_tables.specs.declared.error.ExecError.{ExecError}
 use Rattle.stateful_exec_tables.specs.declared.error.ExecError.TheVariants as exec_error
-use Rattle.stateful_exec.specs.declared.front.Front.{Front}
+use Rattle.stateful_exec_model.specs.declared.front.Front.{Front}
 use Rattle.stateful_exec_laws.specs.Setting.{setting}
 use Rattle.stateful_loop.specs.Causes.{FaultsBarrier, FaultsApply, FaultsMessage, FaultsRule, memory, scheduling, running, advancing, applying, covering, observing, ending, beginning, building, taking}
 use Rattle.stateful_loop.specs.Moments.{Moment, inner}

@@ -23,19 +23,19 @@ use Rattle.stateful_exec_cache.specs.declared.cache.Cached.{Cached}
 use Rattle.stateful_table.specs.Table.{at, put}
 use Rattle.stateful_table.proofs.Tables.{at-put}
 use Rattle.stateful_exec_tables.specs.Boundary.{step_by}
-use Rattle.stateful_exec.specs.Causes.{FaultsEnd, FaultsAnswer, FaultsStep}
-use Rattle.stateful_exec.specs.Causes as cause
+use Rattle.stateful_exec_model.specs.Causes.{FaultsEnd, FaultsAnswer, FaultsStep}
+use Rattle.stateful_exec_model.specs.Causes as cause
 use Rattle.stateful_exec_tables.specs.Keeping.{step_in, ChangesPending, FaultsTake}
-use Rattle.stateful_exec.specs.Ending.{Turns}
+use Rattle.stateful_exec_model.specs.Ending.{Turns}
 use Rattle.stateful_exec_tables.specs.Errors.{error_of_app}
-use Rattle.stateful_exec.specs.Finalizing.{front_at, HasRunOn, FaultsFinal, FaultsSettleFinal, FaultsStepFinal, run_failed, HasHooked, FaultsSettleHook, FaultsHook, hook_failed}
-use Rattle.stateful_exec.specs.Moments as exec
-use Rattle.stateful_exec.specs.Workings.{Workings, Point}
+use Rattle.stateful_exec_model.specs.Finalizing.{front_at, HasRunOn, FaultsFinal, FaultsSettleFinal, FaultsStepFinal, run_failed, HasHooked, FaultsSettleHook, FaultsHook, hook_failed}
+use Rattle.stateful_exec_model.specs.Moments as exec
+use Rattle.stateful_exec_model.specs.Workings.{Workings, Point}
 use Rattle.stateful_exec_tables.specs.declared.error.ExecError.{ExecError}
 use Rattle.stateful_exec_tables.specs.declared.error.ExecError.TheVariants as exec_error
 use Rattle.stateful_exec_tables.specs.declared.boundary.ExecutionStep.{ExecutionStep}
-use Rattle.stateful_exec.specs.declared.front.Front.{Front}
-use Rattle.stateful_exec.specs.declared.front.Stage.TheVariants.{Running}
+use Rattle.stateful_exec_model.specs.declared.front.Front.{Front}
+use Rattle.stateful_exec_model.specs.declared.front.Stage.TheVariants.{Running}
 use Rattle.stateful_exec_tables.specs.declared.state.Tables.{Tables}
 use Rattle.stateful_exec_tables.specs.declared.tables.LiveRun.{LiveRun}
 use Rattle.stateful_exec_laws.specs.Caching.{IsCached}

@@ -5,7 +5,7 @@ use Rattle.stateful_base.specs.declared.number.Height.{Height}
 use Rattle.stateful_history.specs.Past.{Past, Tried}
 use Rattle.stateful_history.specs.declared.event.Event.{Event}
 use Rattle.stateful_history.specs.declared.event.Event.TheVariants.{Restart}
-use Rattle.stateful_exec.specs.Workings.{Workings}
+use Rattle.stateful_exec_model.specs.Workings.{Workings}
 use Rattle.stateful_actor_register.specs.Register.{RegisterStands}
 use Rattle.stateful_actor_register.specs.declared.register.Register.{Register}
 use Rattle.stateful_exec_laws.proofs.runs.SpentRuns.{MayRunAgain-item}

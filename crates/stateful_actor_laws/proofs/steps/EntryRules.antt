@@ -19,7 +19,7 @@ use Rattle.stateful_history.specs.Telling.{telling_of}
 use Rattle.stateful_history.specs.declared.entry.Entry.{Entry}
 use Rattle.stateful_history.specs.declared.event.Event.{Event}
 use Rattle.stateful_history.specs.declared.mark.Mark.{Mark}
-use Rattle.stateful_exec.specs.Workings.{Workings}
+use Rattle.stateful_exec_model.specs.Workings.{Workings}
 use Rattle.stateful_exec_laws.specs.Setting.{setting}
 use Rattle.stateful_loop_laws.specs.Duly.{IsDulySaid}
 use Rattle.stateful_loop_laws.specs.Durability.{IsDurablySaid}

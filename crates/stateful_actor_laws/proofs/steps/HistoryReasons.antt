@@ -4,7 +4,7 @@ use Rattle.stateful_base.specs.Names.{Named}
 use Rattle.stateful_history.specs.Past.{Past, Came, EachMark, after_entry, after_all}
 use Rattle.stateful_history.specs.declared.entry.Entry.{Entry}
 use Rattle.stateful_history.specs.declared.mark.Mark.{Mark}
-use Rattle.stateful_exec.specs.Workings.{Workings}
+use Rattle.stateful_exec_model.specs.Workings.{Workings}
 use Rattle.stateful_loop_laws.specs.Reasons.{IsTrusted, HasItsReason}
 use Rattle.stateful_loop_laws.proofs.events.Trusted.{IsTrusted-before_all}
 use Rattle.stateful_actor_laws.specs.StepBehind.{EachStands}

@@ -4,8 +4,8 @@ use Rattle.std.proofs.lemmas.Bool.{false≢true}
 use Rattle.stateful_base.specs.Names.{Named}
 use Rattle.stateful_base.specs.declared.floor.Floor.{Floor}
 use Rattle.stateful_durability.specs.Durability.{Coverage, covered_by_barriers}
-use Rattle.stateful_exec.specs.Workings.{Workings}
-use Rattle.stateful_exec.specs.declared.building.Building.{Building}
+use Rattle.stateful_exec_model.specs.Workings.{Workings}
+use Rattle.stateful_exec_model.specs.declared.building.Building.{Building}
 use Rattle.stateful_loop_laws.specs.Down.{IsEmpty}
 use Rattle.stateful_loop.specs.Barriers.{broken, flushed}
 use Rattle.stateful_loop.specs.Moments.{Moment}

@@ -11,7 +11,7 @@ use Rattle.stateful_history.specs.declared.event.Event.{Event}
 use Rattle.stateful_history.specs.declared.mark.How.TheVariants.{Cancelled}
 use Rattle.stateful_history.specs.declared.mark.Mark.{Mark}
 use Rattle.stateful_history.specs.declared.mark.Mark.TheVariants.{Withdrawn, Ended, Declined, Dropped}
-use Rattle.stateful_exec.specs.Workings.{Workings}
+use Rattle.stateful_exec_model.specs.Workings.{Workings}
 use Rattle.stateful_actor_register.specs.Ends.{EndsAll}
 use Rattle.stateful_exec_laws.specs.Setting.{setting}
 use Rattle.stateful_loop_laws.specs.Reasons.{HasItsReason}

@@ -13,7 +13,7 @@ use Rattle.stateful_history.specs.declared.event.Event.{Event}
 use Rattle.stateful_history.specs.declared.event.Event.TheVariants.{Restart, Stop}
 use Rattle.stateful_history.specs.declared.mark.Mark.{Mark}
 use Rattle.stateful_history.specs.declared.mark.Mark.TheVariants.{Pruned, BarrierDone, Opened, Dropped, Stopped}
-use Rattle.stateful_exec.specs.Workings.{Workings}
+use Rattle.stateful_exec_model.specs.Workings.{Workings}
 use Rattle.stateful_exec_laws.proofs.pauses.Known.{Any-found}
 use Rattle.stateful_loop_laws.specs.RuleMarks.{IsOfRule}
 use Rattle.stateful_actor_laws.specs.StepBehind.{IsCommittedTo}

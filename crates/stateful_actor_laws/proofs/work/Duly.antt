@@ -14,7 +14,7 @@ use Rattle.stateful_history.specs.declared.mark.JobKind.{JobKind}
 use Rattle.stateful_history.specs.declared.mark.JobKind.TheVariants.{Candidate, Finalized, Build, Hook}
 use Rattle.stateful_history.specs.declared.mark.Mark.{Mark}
 use Rattle.stateful_history.specs.declared.mark.Mark.TheVariants.{Withdrawn, Ended, Declined, Dropped}
-use Rattle.stateful_exec.specs.Workings.{Workings}
+use Rattle.stateful_exec_model.specs.Workings.{Workings}
 use Rattle.stateful_exec_laws.proofs.runs.TurnedStands.{live-started}
 use Rattle.stateful_loop_laws.specs.Duly.{IsDulySaid}
 use Rattle.stateful_loop_laws.proofs.duly.Unruled.{IsUnbuilt}

@@ -9,7 +9,7 @@ use Rattle.stateful_history.specs.Past.{Past, Made, EachMark, after}
 use Rattle.stateful_history.specs.declared.mark.Mark.{Mark}
 use Rattle.stateful_history.specs.declared.mark.Mark.TheVariants.{Withdrawn, Ended, Declined, Dropped, Stopped}
 use Rattle.stateful_history.specs.declared.ticket.Ticket.{Ticket}
-use Rattle.stateful_exec.specs.Workings.{Workings}
+use Rattle.stateful_exec_model.specs.Workings.{Workings}
 use Rattle.stateful_loop_laws.specs.Places.{CancelledIsGone, EndsNoRun, IsInPlace, PastKept}
 use Rattle.stateful_loop_laws.proofs.places.Past.{IsAskless, past-kept-ends}
 use Rattle.stateful_loop_laws.proofs.tickets.Uncancelled.{live-uncancelled, gone-mark}

@@ -6,7 +6,7 @@ use Rattle.stateful_history.specs.declared.event.Event.{Event}
 use Rattle.stateful_history.specs.declared.event.Event.TheVariants.{Stop}
 use Rattle.stateful_history.specs.declared.mark.Mark.{Mark}
 use Rattle.stateful_history.specs.declared.mark.Mark.TheVariants.{BarrierDone}
-use Rattle.stateful_exec.specs.Workings.{Workings}
+use Rattle.stateful_exec_model.specs.Workings.{Workings}
 use Rattle.stateful_loop_laws.proofs.events.AlongUp.{rule_is_up}
 use Rattle.stateful_loop.specs.Intake.{Counts, TakesIn, TurnsJob, enters, cancels, fetched, turns, flushes, stops, progresses, restarts, build, hook, run}
 use Rattle.stateful_loop.specs.Moments.{Moment}

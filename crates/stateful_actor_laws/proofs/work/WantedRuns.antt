@@ -6,7 +6,7 @@ use Rattle.stateful_history.specs.Jobs.{IsLiveJob}
 use Rattle.stateful_history.specs.Past.{Past}
 use Rattle.stateful_history.specs.Runs.{RunsAreWanted}
 use Rattle.stateful_history.specs.declared.mark.JobKind.{JobKind}
-use Rattle.stateful_exec.specs.Workings.{Workings}
+use Rattle.stateful_exec_model.specs.Workings.{Workings}
 use Rattle.stateful_exec_laws.specs.Setting.{setting}
 use Rattle.stateful_exec_laws.proofs.builds.Marks.{builds-wanted}
 use Rattle.stateful_exec_laws.proofs.runs.Wanted.{candidates-wanted}

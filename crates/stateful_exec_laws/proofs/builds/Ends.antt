@@ -19,12 +19,12 @@ use Rattle.stateful_history.specs.declared.mark.How.TheVariants.{Kept}
 use Rattle.stateful_history.specs.declared.mark.Mark.TheVariants.{Built, Answered}
 use Rattle.stateful_exec_cache.specs.Cache.{IsIn}
 use Rattle.stateful_exec_cache.specs.declared.cache.Cached.{Cached}
-use Rattle.stateful_exec.specs.Built.{decided, Gives, HasTurn}
+use Rattle.stateful_exec_model.specs.Built.{decided, Gives, HasTurn}
 use Rattle.stateful_exec_tables.specs.Keeping.{Takes}
 use Rattle.stateful_exec_tables.specs.Keeping.{there, added}
-use Rattle.stateful_exec.specs.Moments.{Moment}
-use Rattle.stateful_exec.specs.Workings.{Workings, Point}
-use Rattle.stateful_exec.specs.declared.building.Building.{Building}
+use Rattle.stateful_exec_model.specs.Moments.{Moment}
+use Rattle.stateful_exec_model.specs.Workings.{Workings, Point}
+use Rattle.stateful_exec_model.specs.declared.building.Building.{Building}
 use Rattle.stateful_exec_laws.specs.Setting.{setting}
 use Rattle.stateful_exec_laws.specs.Chains.{Leads}
 use Rattle.stateful_exec_laws.specs.Building.{IsBuilding, BuildStands}

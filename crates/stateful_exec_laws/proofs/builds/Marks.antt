@@ -22,10 +22,10 @@ use Rattle.stateful_history.specs.declared.mark.Decision.TheVariants as decision
 use Rattle.stateful_history.specs.declared.mark.How.TheVariants.{Cancelled, Nothing}
 use Rattle.stateful_history.specs.declared.mark.JobKind.TheVariants.{Build}
 use Rattle.stateful_history.specs.declared.mark.Mark.TheVariants.{Started, Ended, Built, Answered, Declined}
-use Rattle.stateful_exec.specs.Building.{StartsBuild}
-use Rattle.stateful_exec.specs.Built.{decided, HasTurn}
-use Rattle.stateful_exec.specs.Workings.{Workings, Point}
-use Rattle.stateful_exec.specs.declared.building.Building.{Building}
+use Rattle.stateful_exec_model.specs.Building.{StartsBuild}
+use Rattle.stateful_exec_model.specs.Built.{decided, HasTurn}
+use Rattle.stateful_exec_model.specs.Workings.{Workings, Point}
+use Rattle.stateful_exec_model.specs.declared.building.Building.{Building}
 use Rattle.stateful_exec_tables.specs.declared.state.Tables.{Tables}
 use Rattle.stateful_exec_laws.specs.Setting.{setting}
 use Rattle.stateful_exec_laws.specs.Building.{IsBuilding, BuildStands}

@@ -19,12 +19,12 @@ use Rattle.stateful_history.specs.declared.mark.Mark.{Mark}
 use Rattle.stateful_history.specs.declared.mark.Mark.TheVariants.{Built, Answered}
 use Rattle.stateful_history.proofs.Marks.{TrueNames-before}
 use Rattle.stateful_table.specs.Table.{at}
-use Rattle.stateful_exec.specs.Built.{HasTurn, EndsBuild, TurnsBuild, other, goes_on, ends, IsBuildFor, GivesUp, building, asking}
+use Rattle.stateful_exec_model.specs.Built.{HasTurn, EndsBuild, TurnsBuild, other, goes_on, ends, IsBuildFor, GivesUp, building, asking}
 use Rattle.stateful_exec_tables.specs.Cancelling.{Cancels}
-use Rattle.stateful_exec.specs.Moments.{Moment}
+use Rattle.stateful_exec_model.specs.Moments.{Moment}
 use Rattle.stateful_exec_tables.specs.Path.{Path}
-use Rattle.stateful_exec.specs.Workings.{Workings, Point}
-use Rattle.stateful_exec.specs.declared.building.Building.{Building}
+use Rattle.stateful_exec_model.specs.Workings.{Workings, Point}
+use Rattle.stateful_exec_model.specs.declared.building.Building.{Building}
 use Rattle.stateful_exec_tables.specs.declared.state.Tables.{Tables}
 use Rattle.stateful_exec_tables.specs.declared.tables.LiveRun.{LiveRun}
 use Rattle.stateful_exec_tables.specs.declared.tables.Phase.TheVariants.{Executing}

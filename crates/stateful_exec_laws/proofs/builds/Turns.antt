@@ -17,9 +17,9 @@ use Rattle.stateful_history.specs.declared.mark.JobKind.{JobKind}
 use Rattle.stateful_history.specs.declared.mark.JobKind.TheVariants.{Candidate, Build}
 use Rattle.stateful_history.specs.declared.mark.Mark.TheVariants.{Ended, Declined}
 use Rattle.stateful_table.specs.Table.{at}
-use Rattle.stateful_exec.specs.Built.{HasTurn}
-use Rattle.stateful_exec.specs.Workings.{Workings, Point}
-use Rattle.stateful_exec.specs.declared.building.Building.{Building}
+use Rattle.stateful_exec_model.specs.Built.{HasTurn}
+use Rattle.stateful_exec_model.specs.Workings.{Workings, Point}
+use Rattle.stateful_exec_model.specs.declared.building.Building.{Building}
 use Rattle.stateful_exec_tables.specs.declared.state.Tables.{Tables}
 use Rattle.stateful_exec_tables.specs.declared.tables.LiveRun.{LiveRun}
 use Rattle.stateful_exec_laws.specs.Setting.{setting}

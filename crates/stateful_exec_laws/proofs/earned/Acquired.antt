@@ -6,12 +6,12 @@ use Rattle.stateful_history.specs.Known.{Known}
 use Rattle.stateful_history.specs.Met.{Met}
 use Rattle.stateful_history.specs.Past.{Past}
 use Rattle.stateful_exec_cache.specs.Cache.{IsAtHand}
-use Rattle.stateful_exec.specs.Moments.{Moment}
-use Rattle.stateful_exec.specs.Rules.{Needs, Concludes, Acquires, valid, invalid, asks, waits, runs}
+use Rattle.stateful_exec_model.specs.Moments.{Moment}
+use Rattle.stateful_exec_model.specs.Rules.{Needs, Concludes, Acquires, valid, invalid, asks, waits, runs}
 use Rattle.stateful_exec_tables.specs.Tables.{requested}
 use Rattle.stateful_exec_tables.specs.Walk.{IsNeeded, child, IsVerified, IsPrepared}
 use Rattle.stateful_exec_tables.specs.Walk as walk
-use Rattle.stateful_exec.specs.Workings.{Workings, Point}
+use Rattle.stateful_exec_model.specs.Workings.{Workings, Point}
 use Rattle.stateful_exec_tables.specs.declared.request.Request.{Request}
 use Rattle.stateful_exec_tables.specs.declared.request.Request.TheVariants.{Verify, Recover}
 use Rattle.stateful_exec_tables.specs.declared.request.Verdict.TheVariants as verdict

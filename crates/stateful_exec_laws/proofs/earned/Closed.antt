@@ -17,10 +17,10 @@ use Rattle.stateful_exec_cache.proofs.Cutting.{Any-from}
 use Rattle.stateful_exec_tables.specs.Boundary.{Boundary, step_by, IsRetained, Completes}
 use Rattle.stateful_exec_tables.specs.Keeping.{step_in, there, added, missed}
 use Rattle.stateful_exec_tables.specs.Keeping.{Takes}
-use Rattle.stateful_exec.specs.Ending.{IsTold, rejected, mismatched, agreed}
+use Rattle.stateful_exec_model.specs.Ending.{IsTold, rejected, mismatched, agreed}
 use Rattle.stateful_exec_tables.specs.Fates.{Crosses}
 use Rattle.stateful_exec_tables.specs.Boundary.{IsBoundaryOf}
-use Rattle.stateful_exec.specs.Workings.{Workings, Point}
+use Rattle.stateful_exec_model.specs.Workings.{Workings, Point}
 use Rattle.stateful_exec_tables.specs.declared.pause.Pause.{Pause}
 use Rattle.stateful_exec_tables.specs.declared.pause.Pause.TheVariants.{Free, Finalizing, Pruning}
 use Rattle.stateful_exec_laws.specs.Setting.{setting}

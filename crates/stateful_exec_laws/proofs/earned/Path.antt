@@ -8,7 +8,7 @@ use Rattle.stateful_history.specs.Joined.{Earns, at_anchor, further as and_on, J
 use Rattle.stateful_history.specs.Known.{Known}
 use Rattle.stateful_history.specs.Past.{Past}
 use Rattle.stateful_exec_cache.specs.Cache.{IsIn, IsAtHand}
-use Rattle.stateful_exec.specs.Workings.{Workings, Point}
+use Rattle.stateful_exec_model.specs.Workings.{Workings, Point}
 use Rattle.stateful_exec_tables.specs.declared.state.Tables.{Tables}
 use Rattle.stateful_exec_laws.specs.Setting.{setting}
 use Rattle.stateful_exec_laws.specs.Chains.{here, further, Chain}

@@ -10,7 +10,7 @@ use Rattle.stateful_history.specs.Requests.{IsLiveProposal}
 use Rattle.stateful_history.specs.declared.mark.Mark.TheVariants.{Verdict, Declined}
 use Rattle.stateful_table.specs.Table.{at, put}
 use Rattle.stateful_exec_tables.specs.Tables.{told, ended}
-use Rattle.stateful_exec.specs.Workings.{Workings, Point}
+use Rattle.stateful_exec_model.specs.Workings.{Workings, Point}
 use Rattle.stateful_exec_tables.specs.declared.request.Proposal.{Proposal}
 use Rattle.stateful_exec_tables.specs.declared.request.Request.{Request}
 use Rattle.stateful_exec_tables.specs.declared.request.Request.TheVariants.{Verify, Recover}

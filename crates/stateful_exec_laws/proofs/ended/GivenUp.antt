@@ -10,7 +10,7 @@ use Rattle.stateful_history.specs.declared.event.Event.TheVariants.{Cancel}
 use Rattle.stateful_table.specs.Table.{at, without}
 use Rattle.stateful_exec_tables.specs.Cancelling.{IsIdle}
 use Rattle.stateful_exec_tables.specs.Phase.{is_on, tickets_on}
-use Rattle.stateful_exec.specs.Workings.{Workings}
+use Rattle.stateful_exec_model.specs.Workings.{Workings}
 use Rattle.stateful_exec_tables.specs.declared.tables.LiveRun.{LiveRun}
 use Rattle.stateful_exec_tables.specs.declared.tables.Phase.{Phase}
 use Rattle.stateful_exec_tables.specs.declared.tables.Phase.TheVariants.{Open, Fetching, Waiting, Executing, Parked}

@@ -22,8 +22,8 @@ use Rattle.stateful_table.specs.Table.{at}
 use Rattle.stateful_exec_tables.specs.Boundary.{Boundary, step_by, IsRetained, Completes}
 use Rattle.stateful_exec_tables.specs.Keeping.{step_in, there, added, missed}
 use Rattle.stateful_exec_tables.specs.Fates.{Crosses}
-use Rattle.stateful_exec.specs.Ending.{Turns, IsTold, rejected, mismatched, agreed}
-use Rattle.stateful_exec.specs.Workings.{Workings, Point}
+use Rattle.stateful_exec_model.specs.Ending.{Turns, IsTold, rejected, mismatched, agreed}
+use Rattle.stateful_exec_model.specs.Workings.{Workings, Point}
 use Rattle.stateful_exec_tables.specs.declared.boundary.ExecutionStep.{ExecutionStep}
 use Rattle.stateful_exec_tables.specs.declared.pause.Pause.{Pause}
 use Rattle.stateful_exec_tables.specs.declared.pause.Pause.TheVariants.{Free, Finalizing, Pruning}

@@ -18,10 +18,10 @@ use Rattle.stateful_table.specs.Table.{at, put, without}
 use Rattle.stateful_table.proofs.Tables.{at-put}
 use Rattle.stateful_exec_tables.specs.Boundary.{Boundary}
 use Rattle.stateful_exec_tables.specs.Fates.{released, Crosses}
-use Rattle.stateful_exec.specs.Ending.{IsTold, EndsRun, TurnsRun}
-use Rattle.stateful_exec.specs.Moments.{Moment}
+use Rattle.stateful_exec_model.specs.Ending.{IsTold, EndsRun, TurnsRun}
+use Rattle.stateful_exec_model.specs.Moments.{Moment}
 use Rattle.stateful_exec_tables.specs.Phase.{released_on, not_on}
-use Rattle.stateful_exec.specs.Workings.{Workings, Point}
+use Rattle.stateful_exec_model.specs.Workings.{Workings, Point}
 use Rattle.stateful_exec_tables.specs.declared.pause.Pause.{Pause}
 use Rattle.stateful_exec_tables.specs.declared.pause.Pause.TheVariants.{Free, Finalizing, Pruning}
 use Rattle.stateful_exec_tables.specs.declared.state.Tables.{Tables}

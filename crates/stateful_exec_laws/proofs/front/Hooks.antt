@@ -12,9 +12,9 @@ use Rattle.stateful_history.specs.declared.event.Event.TheVariants.{Turn}
 use Rattle.stateful_history.specs.declared.mark.How.TheVariants.{Hooked}
 use Rattle.stateful_history.specs.declared.mark.JobKind.TheVariants.{Finalized, Hook}
 use Rattle.stateful_history.specs.declared.mark.Mark.TheVariants.{Started, Ended}
-use Rattle.stateful_exec.specs.Finalizing.{front_at, IsLeftBehind, HasHooked}
-use Rattle.stateful_exec.specs.Workings.{Workings, Point}
-use Rattle.stateful_exec.specs.declared.front.Stage.TheVariants.{Advanced, Hooking}
+use Rattle.stateful_exec_model.specs.Finalizing.{front_at, IsLeftBehind, HasHooked}
+use Rattle.stateful_exec_model.specs.Workings.{Workings, Point}
+use Rattle.stateful_exec_model.specs.declared.front.Stage.TheVariants.{Advanced, Hooking}
 use Rattle.stateful_exec_tables.specs.declared.state.Tables.{Tables}
 use Rattle.stateful_exec_laws.specs.Fronting.{IsHooking, FrontStands}
 use Rattle.stateful_exec_laws.specs.Standing.{TablesStand}

@@ -12,9 +12,9 @@ use Rattle.stateful_history.specs.declared.mark.JobKind.TheVariants.{Finalized, 
 use Rattle.stateful_history.specs.declared.mark.Mark.TheVariants.{Started, Ended, Began, Applied}
 use Rattle.stateful_exec_cache.specs.Cache.{IsIn}
 use Rattle.stateful_exec_cache.specs.declared.cache.Cached.{Cached}
-use Rattle.stateful_exec.specs.Finalizing.{MayBegin, front_at}
-use Rattle.stateful_exec.specs.Workings.{Workings, Point}
-use Rattle.stateful_exec.specs.declared.front.Stage.TheVariants.{Begun, Running, Ran, Hooking}
+use Rattle.stateful_exec_model.specs.Finalizing.{MayBegin, front_at}
+use Rattle.stateful_exec_model.specs.Workings.{Workings, Point}
+use Rattle.stateful_exec_model.specs.declared.front.Stage.TheVariants.{Begun, Running, Ran, Hooking}
 use Rattle.stateful_exec_laws.specs.Setting.{setting}
 use Rattle.stateful_exec_laws.specs.Due.{IsToRun, IsDue}
 use Rattle.stateful_exec_laws.specs.Fronting.{FrontStands}

@@ -19,9 +19,9 @@ use Rattle.stateful_table.specs.Table.{at}
 use Rattle.stateful_exec_tables.specs.Boundary.{Boundary, step_by, IsRetained}
 use Rattle.stateful_exec_tables.specs.Keeping.{there, added, missed}
 use Rattle.stateful_exec_tables.specs.Fates.{Crosses, released}
-use Rattle.stateful_exec.specs.Ending.{IsTold, rejected, mismatched, agreed, EndsRun, TurnsRun}
-use Rattle.stateful_exec.specs.Moments.{Moment}
-use Rattle.stateful_exec.specs.Workings.{Workings, Point}
+use Rattle.stateful_exec_model.specs.Ending.{IsTold, rejected, mismatched, agreed, EndsRun, TurnsRun}
+use Rattle.stateful_exec_model.specs.Moments.{Moment}
+use Rattle.stateful_exec_model.specs.Workings.{Workings, Point}
 use Rattle.stateful_exec_tables.specs.declared.pause.Pause.{Pause}
 use Rattle.stateful_exec_tables.specs.declared.pause.Pause.TheVariants.{Free, Finalizing, Pruning}
 use Rattle.stateful_exec_tables.specs.declared.state.Tables.{Tables}

@@ -9,9 +9,9 @@ use Rattle.stateful_history.specs.declared.event.Event.TheVariants.{Turn}
 use Rattle.stateful_history.specs.declared.mark.JobKind.TheVariants.{Candidate, Finalized, Hook}
 use Rattle.stateful_history.specs.declared.mark.Mark.{Mark}
 use Rattle.stateful_history.specs.declared.mark.Mark.TheVariants.{Asked, Withdrawn, Started, Ended, Verdict, Declined}
-use Rattle.stateful_exec.specs.Moments.{Moment}
-use Rattle.stateful_exec.specs.Workings.{Workings, Point}
-use Rattle.stateful_exec.specs.declared.front.Front.{Front}
+use Rattle.stateful_exec_model.specs.Moments.{Moment}
+use Rattle.stateful_exec_model.specs.Workings.{Workings, Point}
+use Rattle.stateful_exec_model.specs.declared.front.Front.{Front}
 use Rattle.stateful_exec_laws.specs.Fronting.{RunsAs, HooksAs, FrontStands}
 use Rattle.stateful_exec_laws.specs.Standing.{TablesStand}
 use Rattle.stateful_exec_laws.proofs.requests.Calm.{LeavesJob}

@@ -14,11 +14,11 @@ use Rattle.stateful_history.specs.declared.mark.How.TheVariants as how
 use Rattle.stateful_history.specs.declared.mark.JobKind.TheVariants as job
 use Rattle.stateful_history.specs.declared.mark.Mark.{Mark}
 use Rattle.stateful_history.specs.declared.mark.Mark.TheVariants.{Started, Ended}
-use Rattle.stateful_exec.specs.Finalizing.{front_at, RunsFinal, HasRunOn, IsFinalLive, SettlesFinal, StepsFinal, turned, not_live, IsLeftBehind, HooksOn, Observes, HasHooked, IsHookLive, SettlesHook, TurnsHook, hook_turned, unhooked}
-use Rattle.stateful_exec.specs.Moments.{Moment}
-use Rattle.stateful_exec.specs.Workings.{Workings, Point}
-use Rattle.stateful_exec.specs.declared.front.Front.{Front}
-use Rattle.stateful_exec.specs.declared.front.Stage.TheVariants.{Begun, Running, Advanced, Hooking}
+use Rattle.stateful_exec_model.specs.Finalizing.{front_at, RunsFinal, HasRunOn, IsFinalLive, SettlesFinal, StepsFinal, turned, not_live, IsLeftBehind, HooksOn, Observes, HasHooked, IsHookLive, SettlesHook, TurnsHook, hook_turned, unhooked}
+use Rattle.stateful_exec_model.specs.Moments.{Moment}
+use Rattle.stateful_exec_model.specs.Workings.{Workings, Point}
+use Rattle.stateful_exec_model.specs.declared.front.Front.{Front}
+use Rattle.stateful_exec_model.specs.declared.front.Stage.TheVariants.{Begun, Running, Advanced, Hooking}
 use Rattle.stateful_exec_laws.specs.Fronting.{RunsTakeTurns, FrontStands}
 use Rattle.stateful_exec_laws.specs.Requesting.{AllAbstain}
 use Rattle.stateful_exec_laws.specs.Standing.{TablesStand}

@@ -15,11 +15,11 @@ use Rattle.stateful_history.specs.declared.event.Event.TheVariants.{Turn}
 use Rattle.stateful_history.specs.declared.mark.How.TheVariants.{Kept}
 use Rattle.stateful_history.specs.declared.mark.JobKind.TheVariants.{Finalized, Hook}
 use Rattle.stateful_history.specs.declared.mark.Mark.TheVariants.{Started, Ended, Began}
-use Rattle.stateful_exec.specs.Ending.{Turns}
-use Rattle.stateful_exec.specs.Finalizing.{front_at, RunsFinal, IsFinalBatch}
-use Rattle.stateful_exec.specs.Workings.{Workings, Point}
-use Rattle.stateful_exec.specs.declared.front.Front.{Front}
-use Rattle.stateful_exec.specs.declared.front.Stage.TheVariants.{Begun, Running, Ran}
+use Rattle.stateful_exec_model.specs.Ending.{Turns}
+use Rattle.stateful_exec_model.specs.Finalizing.{front_at, RunsFinal, IsFinalBatch}
+use Rattle.stateful_exec_model.specs.Workings.{Workings, Point}
+use Rattle.stateful_exec_model.specs.declared.front.Front.{Front}
+use Rattle.stateful_exec_model.specs.declared.front.Stage.TheVariants.{Begun, Running, Ran}
 use Rattle.stateful_exec_tables.specs.declared.state.Tables.{Tables}
 use Rattle.stateful_exec_laws.specs.Setting.{setting}
 use Rattle.stateful_exec_laws.specs.Fronting.{RunsTakeTurns, IsRunFinal, FrontStands}

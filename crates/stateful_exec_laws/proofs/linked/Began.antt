@@ -12,7 +12,7 @@ use Rattle.stateful_history.specs.declared.mark.Mark.TheVariants.{Began}
 use Rattle.stateful_exec_tables.specs.Boundary.{Boundary}
 use Rattle.stateful_exec_tables.specs.Boundary.{IsBoundaryOf}
 use Rattle.stateful_exec_tables.specs.Pausing.{Pauses}
-use Rattle.stateful_exec.specs.Workings.{Workings, Point}
+use Rattle.stateful_exec_model.specs.Workings.{Workings, Point}
 use Rattle.stateful_exec_tables.specs.declared.pause.Pause.TheVariants.{Free}
 use Rattle.stateful_exec_tables.specs.declared.state.Tables.{Tables}
 use Rattle.stateful_exec_tables.specs.declared.tables.Requested.{Requested}

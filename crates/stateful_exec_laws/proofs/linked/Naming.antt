@@ -9,7 +9,7 @@ use Rattle.stateful_history.specs.Met.{TrueNames}
 use Rattle.stateful_exec_cache.specs.Cache.{InOrder}
 use Rattle.stateful_exec_cache.specs.Cut.{AreNamed}
 use Rattle.stateful_exec_cache.specs.declared.cache.Cached.{Cached}
-use Rattle.stateful_exec.specs.Workings.{Workings, Point}
+use Rattle.stateful_exec_model.specs.Workings.{Workings, Point}
 use Rattle.stateful_exec_laws.specs.Setting.{setting}
 use Rattle.stateful_exec_laws.specs.Caching.{IsCached}
 

@@ -10,7 +10,7 @@ use Rattle.stateful_history.specs.Requests.{subject, StandsOn}
 use Rattle.stateful_history.specs.Setting.{Setting, parent_of}
 use Rattle.stateful_exec_tables.specs.Path.{Path}
 use Rattle.stateful_exec_tables.specs.Meeting.{first_or}
-use Rattle.stateful_exec.specs.Workings.{Workings}
+use Rattle.stateful_exec_model.specs.Workings.{Workings}
 use Rattle.stateful_exec_tables.specs.declared.request.Request.{Request}
 use Rattle.stateful_exec_tables.specs.declared.request.Request.TheVariants.{Verify, Recover}
 use Rattle.stateful_exec_laws.specs.Setting.{setting}

@@ -5,8 +5,8 @@ use Rattle.stateful_base.specs.Names.{Named}
 use Rattle.stateful_base.specs.declared.digest.Digest.{Digest}
 use Rattle.stateful_history.specs.Past.{Past}
 use Rattle.stateful_exec_cache.specs.declared.cache.Cached.{Cached}
-use Rattle.stateful_exec.specs.Starting.{IsOver, databases, batch}
-use Rattle.stateful_exec.specs.Workings.{Workings, Point}
+use Rattle.stateful_exec_model.specs.Starting.{IsOver, databases, batch}
+use Rattle.stateful_exec_model.specs.Workings.{Workings, Point}
 use Rattle.stateful_exec_tables.specs.declared.state.Tables.{Tables}
 use Rattle.stateful_exec_laws.specs.Chains.{Chain, Leads, here}
 use Rattle.stateful_exec_laws.specs.Caching.{IsCached}

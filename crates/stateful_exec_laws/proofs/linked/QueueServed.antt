@@ -10,7 +10,7 @@ use Rattle.stateful_history.specs.declared.event.Event.TheVariants.{Prepare, Pro
 use Rattle.stateful_history.specs.declared.mark.Mark.{Mark}
 use Rattle.stateful_history.proofs.Marks.{Met-item, TrueNames-before_marks}
 use Rattle.stateful_exec_tables.specs.declared.request.Proposal.{Proposal}
-use Rattle.stateful_exec.specs.Workings.{Workings}
+use Rattle.stateful_exec_model.specs.Workings.{Workings}
 use Rattle.stateful_exec_laws.specs.Setting.{setting}
 use Rattle.stateful_exec_laws.specs.Reaching.{QueueReaches}
 use Rattle.stateful_exec_laws.specs.Requesting.{QueueStands}

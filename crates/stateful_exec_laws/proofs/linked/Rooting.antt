@@ -2,7 +2,7 @@
 use Rattle.std.proofs.Common.{◌≡◌, ◌≢◌, List, ◌∷◌, ap, ◌∙◌, subst}
 use Rattle.stateful_base.specs.Names.{Named}
 use Rattle.stateful_base.specs.declared.digest.Digest.{Digest}
-use Rattle.stateful_exec.specs.Workings.{Workings, Point}
+use Rattle.stateful_exec_model.specs.Workings.{Workings, Point}
 use Rattle.stateful_exec_laws.specs.Chains.{Stacked, here, further}
 
 module _ {B C I P R D H G U : Type 0} (w : Workings B C I P R D H G U) (points : Digest → Point w) (L : w.States → Named B → w.States → Type 0) (first : Digest) where

@@ -14,13 +14,13 @@ use Rattle.stateful_history.specs.Fetches.{Abstains}
 use Rattle.stateful_history.specs.Met.{Met, TrueNames}
 use Rattle.stateful_history.proofs.Marks.{after-append}
 use Rattle.stateful_table.specs.Table.{at}
-use Rattle.stateful_exec.specs.Ending.{InTurn}
-use Rattle.stateful_exec.specs.Moments.{Moment}
-use Rattle.stateful_exec.specs.Pausing.{AcquiresAnew, Resumes, unparked, unsettled}
+use Rattle.stateful_exec_model.specs.Ending.{InTurn}
+use Rattle.stateful_exec_model.specs.Moments.{Moment}
+use Rattle.stateful_exec_model.specs.Pausing.{AcquiresAnew, Resumes, unparked, unsettled}
 use Rattle.stateful_exec_tables.specs.Phase.{is_unacquired, unacquired_in, not_unacquired}
 use Rattle.stateful_exec_tables.specs.Tables.{requested}
-use Rattle.stateful_exec.specs.Rules.{Needs}
-use Rattle.stateful_exec.specs.Workings.{Workings, Point}
+use Rattle.stateful_exec_model.specs.Rules.{Needs}
+use Rattle.stateful_exec_model.specs.Workings.{Workings, Point}
 use Rattle.stateful_exec_tables.specs.declared.pause.Pause.TheVariants.{Free}
 use Rattle.stateful_exec_tables.specs.declared.request.Request.{Request}
 use Rattle.stateful_exec_tables.specs.declared.tables.Requested.{Requested}

@@ -21,18 +21,18 @@ use Rattle.stateful_history.specs.declared.mark.Mark.TheVariants.{Ended, Began}
 use Rattle.stateful_exec_cache.specs.Cache.{IsIn}
 use Rattle.stateful_exec_cache.specs.declared.cache.Cached.{Cached}
 use Rattle.stateful_exec_tables.specs.Keeping.{Takes}
-use Rattle.stateful_exec.specs.Ending.{IsTold, rejected, mismatched, agreed, EndsRun, TurnsRun, Follows, SettlesBy, Steps}
+use Rattle.stateful_exec_model.specs.Ending.{IsTold, rejected, mismatched, agreed, EndsRun, TurnsRun, Follows, SettlesBy, Steps}
 use Rattle.stateful_exec_tables.specs.Keeping.{there, added, missed}
 use Rattle.stateful_exec_tables.specs.Fates.{released}
 use Rattle.stateful_db.specs.declared.application.Hooked.{Hooked}
 use Rattle.stateful_db.specs.declared.application.Hooked.TheVariants as hooked
-use Rattle.stateful_exec.specs.Finalizing.{front_at, RunsFinal, StepsFinal, turned, not_live, Moves, HooksOn, TurnsHook, hook_turned, unhooked}
-use Rattle.stateful_exec.specs.Moments.{Moment}
+use Rattle.stateful_exec_model.specs.Finalizing.{front_at, RunsFinal, StepsFinal, turned, not_live, Moves, HooksOn, TurnsHook, hook_turned, unhooked}
+use Rattle.stateful_exec_model.specs.Moments.{Moment}
 use Rattle.stateful_exec_tables.specs.Phase.{released_on}
-use Rattle.stateful_exec.specs.Workings.{Workings, Point}
-use Rattle.stateful_exec.specs.declared.front.Front.{Front}
-use Rattle.stateful_exec.specs.declared.front.Stage.{Stage}
-use Rattle.stateful_exec.specs.declared.front.Stage.TheVariants.{Begun, Running, Ran, Advanced, Hooking}
+use Rattle.stateful_exec_model.specs.Workings.{Workings, Point}
+use Rattle.stateful_exec_model.specs.declared.front.Front.{Front}
+use Rattle.stateful_exec_model.specs.declared.front.Stage.{Stage}
+use Rattle.stateful_exec_model.specs.declared.front.Stage.TheVariants.{Begun, Running, Ran, Advanced, Hooking}
 use Rattle.stateful_exec_tables.specs.declared.pause.Pause.TheVariants.{Free}
 use Rattle.stateful_exec_tables.specs.declared.state.Tables.{Tables}
 use Rattle.stateful_exec_laws.specs.Setting.{setting}

@@ -11,9 +11,9 @@ use Rattle.stateful_history.specs.Met.{TrueNames}
 use Rattle.stateful_history.specs.Past.{Past, after}
 use Rattle.stateful_history.specs.declared.mark.Mark.{Mark}
 use Rattle.stateful_exec_cache.specs.declared.cache.Cached.{Cached}
-use Rattle.stateful_exec.specs.Ending.{InTurn}
-use Rattle.stateful_exec.specs.Moments.{Moment}
-use Rattle.stateful_exec.specs.Workings.{Workings, Point}
+use Rattle.stateful_exec_model.specs.Ending.{InTurn}
+use Rattle.stateful_exec_model.specs.Moments.{Moment}
+use Rattle.stateful_exec_model.specs.Workings.{Workings, Point}
 use Rattle.stateful_exec_tables.specs.declared.pause.Pause.{Pause}
 use Rattle.stateful_exec_tables.specs.declared.request.Request.{Request}
 use Rattle.stateful_exec_laws.specs.Setting.{setting}

@@ -18,7 +18,7 @@ use Rattle.stateful_exec_cache.specs.Cut.{GoesOn}
 use Rattle.stateful_exec_cache.specs.declared.cache.Cached.{Cached}
 use Rattle.stateful_exec_tables.specs.Boundary.{Boundary}
 use Rattle.stateful_exec_tables.specs.Boundary.{IsBoundaryOf}
-use Rattle.stateful_exec.specs.Workings.{Workings, Point}
+use Rattle.stateful_exec_model.specs.Workings.{Workings, Point}
 use Rattle.stateful_exec_tables.specs.declared.pause.Pause.TheVariants.{Free, Finalizing}
 use Rattle.stateful_exec_laws.specs.Setting.{setting}
 use Rattle.stateful_exec_laws.specs.Caching.{IsKnownBy, IsCached, CacheStands}

@@ -16,20 +16,20 @@ use Rattle.stateful_exec_cache.specs.declared.cache.Cached.{Cached}
 use Rattle.stateful_table.specs.Table.{at}
 use Rattle.stateful_table.proofs.Tables.{is_at_number}
 use Rattle.stateful_exec_tables.specs.Boundary.{Boundary}
-use Rattle.stateful_exec.specs.Ending.{InTurn, IsTold, rejected, mismatched, agreed, EndsRun, TurnsRun, Follows, Settles, SettlesBy, Steps}
+use Rattle.stateful_exec_model.specs.Ending.{InTurn, IsTold, rejected, mismatched, agreed, EndsRun, TurnsRun, Follows, Settles, SettlesBy, Steps}
 use Rattle.stateful_exec_tables.specs.Keeping.{there, added, missed}
 use Rattle.stateful_exec_tables.specs.Fates.{released}
 use Rattle.stateful_exec_tables.specs.Fetching.{Fetches, with_block}
-use Rattle.stateful_exec.specs.Fetching.{serving, IsFetched, found, waits, declines, dead}
+use Rattle.stateful_exec_model.specs.Fetching.{serving, IsFetched, found, waits, declines, dead}
 use Rattle.stateful_exec_tables.specs.Cancelling.{Cancels}
 use Rattle.stateful_exec_tables.specs.Cancelling.{idle, withdraws, leaves, ends, unqueued}
-use Rattle.stateful_exec.specs.Moments.{Moment}
+use Rattle.stateful_exec_model.specs.Moments.{Moment}
 use Rattle.stateful_exec_tables.specs.Path.{Path}
 use Rattle.stateful_exec_tables.specs.Pausing.{Pauses}
-use Rattle.stateful_exec.specs.Pausing.{GoesAlong, AcquiresAnew, unparked, unsettled, Resumes}
+use Rattle.stateful_exec_model.specs.Pausing.{GoesAlong, AcquiresAnew, unparked, unsettled, Resumes}
 use Rattle.stateful_exec_tables.specs.Phase.{is_on, released_on, parked_path, parked_in, is_unacquired, unacquired_in}
 use Rattle.stateful_exec_tables.specs.Tables.{taken, requested}
-use Rattle.stateful_exec.specs.Workings.{Workings}
+use Rattle.stateful_exec_model.specs.Workings.{Workings}
 use Rattle.stateful_exec_tables.specs.declared.request.Verdict.TheVariants.{Invalid}
 use Rattle.stateful_exec_tables.specs.declared.state.Tables.{Tables}
 use Rattle.stateful_exec_tables.specs.declared.tables.Phase.TheVariants.{Waiting, Executing}

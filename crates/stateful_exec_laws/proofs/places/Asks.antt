@@ -15,12 +15,12 @@ use Rattle.stateful_history.specs.Runs.{MayRunAgain}
 use Rattle.stateful_history.specs.Setting.{parent_of}
 use Rattle.stateful_history.specs.declared.mark.Mark.TheVariants.{Asked}
 use Rattle.stateful_exec_cache.specs.Cache.{IsAtHand}
-use Rattle.stateful_exec.specs.Moments.{Moment}
+use Rattle.stateful_exec_model.specs.Moments.{Moment}
 use Rattle.stateful_exec_tables.specs.Tables.{requested}
-use Rattle.stateful_exec.specs.Rules.{Acquires, valid, invalid, asks, waits, runs}
+use Rattle.stateful_exec_model.specs.Rules.{Acquires, valid, invalid, asks, waits, runs}
 use Rattle.stateful_exec_tables.specs.Walk.{Walks, IsPrepared}
 use Rattle.stateful_exec_tables.specs.Walk as walk
-use Rattle.stateful_exec.specs.Workings.{Workings, Point}
+use Rattle.stateful_exec_model.specs.Workings.{Workings, Point}
 use Rattle.stateful_exec_tables.specs.declared.pause.Pause.TheVariants.{Free}
 use Rattle.stateful_exec_tables.specs.declared.request.Request.{Request}
 use Rattle.stateful_exec_tables.specs.declared.request.Request.TheVariants.{Verify, Recover}

@@ -19,12 +19,12 @@ use Rattle.stateful_history.specs.declared.mark.Mark.TheVariants.{Withdrawn, End
 use Rattle.stateful_exec_cache.specs.declared.cache.Cached.{Cached}
 use Rattle.stateful_table.specs.Table.{at}
 use Rattle.stateful_exec_tables.specs.Keeping.{Takes}
-use Rattle.stateful_exec.specs.Ending.{IsTold, rejected, mismatched, agreed}
+use Rattle.stateful_exec_model.specs.Ending.{IsTold, rejected, mismatched, agreed}
 use Rattle.stateful_exec_tables.specs.Keeping.{there, added, missed}
 use Rattle.stateful_exec_tables.specs.Cancelling.{Cancels}
 use Rattle.stateful_exec_tables.specs.Cancelling.{idle, withdraws, leaves, ends, unqueued}
 use Rattle.stateful_exec_tables.specs.Path.{Path}
-use Rattle.stateful_exec.specs.Workings.{Workings, Point}
+use Rattle.stateful_exec_model.specs.Workings.{Workings, Point}
 use Rattle.stateful_exec_tables.specs.declared.state.Tables.{Tables}
 use Rattle.stateful_exec_tables.specs.declared.tables.LiveRun.{LiveRun}
 use Rattle.stateful_exec_tables.specs.declared.tables.Phase.{Phase}

@@ -11,9 +11,9 @@ use Rattle.stateful_history.specs.Past.{Past, Came}
 use Rattle.stateful_history.specs.Setting.{parent_of}
 use Rattle.stateful_history.specs.declared.event.Event.TheVariants.{Fetched}
 use Rattle.stateful_exec_tables.specs.Fetching.{Fetches, with_block}
-use Rattle.stateful_exec.specs.Fetching.{serving, IsFetched, found, waits, declines, dead}
-use Rattle.stateful_exec.specs.Moments.{Moment}
-use Rattle.stateful_exec.specs.Workings.{Workings, Point}
+use Rattle.stateful_exec_model.specs.Fetching.{serving, IsFetched, found, waits, declines, dead}
+use Rattle.stateful_exec_model.specs.Moments.{Moment}
+use Rattle.stateful_exec_model.specs.Workings.{Workings, Point}
 use Rattle.stateful_exec_tables.specs.declared.pause.Pause.TheVariants.{Free}
 use Rattle.stateful_exec_tables.specs.declared.request.Request.{Request}
 use Rattle.stateful_exec_tables.specs.declared.request.Request.TheVariants.{Verify, Recover}

@@ -19,7 +19,7 @@ use Rattle.stateful_history.specs.declared.mark.Mark.TheVariants.{Withdrawn}
 use Rattle.stateful_exec_tables.specs.Boundary.{Boundary}
 use Rattle.stateful_exec_tables.specs.Fetching.{IsLiveFetch}
 use Rattle.stateful_exec_tables.specs.Pausing.{Pauses}
-use Rattle.stateful_exec.specs.Workings.{Workings, Point}
+use Rattle.stateful_exec_model.specs.Workings.{Workings, Point}
 use Rattle.stateful_exec_tables.specs.declared.state.Tables.{Tables}
 use Rattle.stateful_exec_tables.specs.declared.tables.Phase.{Phase}
 use Rattle.stateful_exec_tables.specs.declared.tables.Phase.TheVariants.{Fetching}

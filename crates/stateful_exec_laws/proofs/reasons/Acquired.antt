@@ -14,15 +14,15 @@ use Rattle.stateful_history.specs.declared.mark.Mark.{Mark}
 use Rattle.stateful_exec_cache.specs.Cache.{IsAtHand}
 use Rattle.stateful_exec_cache.specs.Judgement.{IsJudged}
 use Rattle.stateful_exec_cache.specs.declared.judgement.Judgement.TheVariants as judged
-use Rattle.stateful_exec.specs.Moments.{Moment}
+use Rattle.stateful_exec_model.specs.Moments.{Moment}
 use Rattle.stateful_exec_tables.specs.Path.{Path}
 use Rattle.stateful_exec_tables.specs.Meeting.{IsPassed, GoesOn, first_or}
 use Rattle.stateful_exec_tables.specs.Tables.{Knows, requested}
 use Rattle.stateful_exec_tables.specs.Meeting.{Reaches}
-use Rattle.stateful_exec.specs.Rules.{Advances, arrives, leaves, joins, starts, misses, Acquires, valid, invalid, asks, waits, runs}
+use Rattle.stateful_exec_model.specs.Rules.{Advances, arrives, leaves, joins, starts, misses, Acquires, valid, invalid, asks, waits, runs}
 use Rattle.stateful_exec_tables.specs.Walk.{IsNeeded, IsVerified, IsPrepared}
 use Rattle.stateful_exec_tables.specs.Walk as walk
-use Rattle.stateful_exec.specs.Workings.{Workings, Point}
+use Rattle.stateful_exec_model.specs.Workings.{Workings, Point}
 use Rattle.stateful_exec_tables.specs.declared.pause.Pause.{Pause}
 use Rattle.stateful_exec_tables.specs.declared.pause.Pause.TheVariants.{Free}
 use Rattle.stateful_exec_tables.specs.declared.request.Request.{Request}

@@ -20,10 +20,10 @@ use Rattle.stateful_history.specs.declared.mark.How.TheVariants.{Nothing}
 use Rattle.stateful_history.specs.declared.mark.JobKind.TheVariants.{Build}
 use Rattle.stateful_history.specs.declared.mark.Mark.{Mark}
 use Rattle.stateful_history.specs.declared.mark.Mark.TheVariants.{Ended, Declined}
-use Rattle.stateful_exec.specs.Built.{HasTurn, EndsBuild}
-use Rattle.stateful_exec.specs.Moments.{Moment}
-use Rattle.stateful_exec.specs.Workings.{Workings, Point}
-use Rattle.stateful_exec.specs.declared.building.Building.{Building}
+use Rattle.stateful_exec_model.specs.Built.{HasTurn, EndsBuild}
+use Rattle.stateful_exec_model.specs.Moments.{Moment}
+use Rattle.stateful_exec_model.specs.Workings.{Workings, Point}
+use Rattle.stateful_exec_model.specs.declared.building.Building.{Building}
 use Rattle.stateful_exec_laws.specs.Setting.{setting}
 use Rattle.stateful_exec_laws.specs.Chains.{Chain}
 use Rattle.stateful_exec_laws.proofs.ended.Points.{Stacked-point}

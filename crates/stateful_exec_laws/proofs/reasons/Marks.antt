@@ -10,10 +10,10 @@ use Rattle.stateful_history.specs.Requests.{Proposal}
 use Rattle.stateful_history.specs.Telling.{telling_of}
 use Rattle.stateful_history.specs.declared.event.Event.{Event}
 use Rattle.stateful_history.specs.declared.mark.Mark.{Mark}
-use Rattle.stateful_exec.specs.Moments.{Moment}
+use Rattle.stateful_exec_model.specs.Moments.{Moment}
 use Rattle.stateful_exec_tables.specs.Tables.{told}
-use Rattle.stateful_exec.specs.Rules.{Concludes}
-use Rattle.stateful_exec.specs.Workings.{Workings}
+use Rattle.stateful_exec_model.specs.Rules.{Concludes}
+use Rattle.stateful_exec_model.specs.Workings.{Workings}
 use Rattle.stateful_exec_tables.specs.declared.request.Request.{Request}
 use Rattle.stateful_exec_tables.specs.declared.request.Request.TheVariants.{Verify, Recover}
 use Rattle.stateful_exec_tables.specs.declared.request.Verdict.TheVariants as verdict

@@ -15,10 +15,10 @@ use Rattle.stateful_history.specs.declared.mark.Mark.{Mark}
 use Rattle.stateful_history.specs.declared.mark.Mark.TheVariants.{Ended}
 use Rattle.stateful_table.specs.Table.{at, put, without}
 use Rattle.stateful_exec_tables.specs.Fates.{released, Crosses}
-use Rattle.stateful_exec.specs.Ending.{IsTold, EndsRun, TurnsRun, Turns, InTurn, Follows}
-use Rattle.stateful_exec.specs.Moments.{Moment, moment}
+use Rattle.stateful_exec_model.specs.Ending.{IsTold, EndsRun, TurnsRun, Turns, InTurn, Follows}
+use Rattle.stateful_exec_model.specs.Moments.{Moment, moment}
 use Rattle.stateful_exec_tables.specs.Phase.{is_on, released_on}
-use Rattle.stateful_exec.specs.Workings.{Workings, Point}
+use Rattle.stateful_exec_model.specs.Workings.{Workings, Point}
 use Rattle.stateful_exec_tables.specs.declared.state.Tables.{Tables}
 use Rattle.stateful_exec_tables.specs.declared.tables.LiveRun.{LiveRun}
 use Rattle.stateful_exec_tables.specs.declared.tables.Phase.{Phase}

@@ -21,7 +21,7 @@ use Rattle.stateful_exec_cache.specs.declared.cache.Cached.{Cached}
 use Rattle.stateful_exec_cache.specs.declared.judgement.Judgement.TheVariants as judged
 use Rattle.stateful_exec_tables.specs.Path.{IsMissing, Leads}
 use Rattle.stateful_exec_tables.specs.Walk.{Walks}
-use Rattle.stateful_exec.specs.Workings.{Workings, Point}
+use Rattle.stateful_exec_model.specs.Workings.{Workings, Point}
 use Rattle.stateful_exec_tables.specs.declared.walk.Acquired.TheVariants as acquired
 use Rattle.stateful_exec_laws.specs.Setting.{setting}
 use Rattle.stateful_exec_laws.specs.Gathering.{AreLinked}

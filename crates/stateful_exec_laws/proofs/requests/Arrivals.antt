@@ -15,7 +15,7 @@ use Rattle.stateful_history.specs.declared.event.Event.TheVariants.{Verify, Prep
 use Rattle.stateful_history.specs.declared.mark.Mark.TheVariants.{Acknowledged, Databases, Verdict, Answered, Declined, Dropped}
 use Rattle.stateful_history.specs.declared.ticket.Ticket.{Ticket}
 use Rattle.stateful_table.specs.Table.{at}
-use Rattle.stateful_exec.specs.Workings.{Workings, Point}
+use Rattle.stateful_exec_model.specs.Workings.{Workings, Point}
 use Rattle.stateful_exec_tables.specs.declared.request.Proposal.{Proposal}
 use Rattle.stateful_exec_tables.specs.declared.request.Request.{Request}
 use Rattle.stateful_exec_tables.specs.declared.request.Request.TheVariants as request

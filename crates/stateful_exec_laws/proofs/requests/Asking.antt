@@ -8,7 +8,7 @@ use Rattle.stateful_history.specs.Live.{live_fetch, live_ticket}
 use Rattle.stateful_history.specs.Asked.{asked_for, verified}
 use Rattle.stateful_history.specs.Requests.{proposed}
 use Rattle.stateful_exec_tables.specs.Path.{Path}
-use Rattle.stateful_exec.specs.Workings.{Workings}
+use Rattle.stateful_exec_model.specs.Workings.{Workings}
 use Rattle.stateful_exec_tables.specs.declared.request.Request.{Request}
 use Rattle.stateful_exec_tables.specs.declared.request.Request.TheVariants.{Verify, Recover}
 use Rattle.stateful_exec_tables.specs.declared.tables.LiveRun.{LiveRun}

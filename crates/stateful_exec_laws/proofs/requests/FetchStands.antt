@@ -13,12 +13,12 @@ use Rattle.stateful_history.specs.Setting.{Setting}
 use Rattle.stateful_history.specs.declared.event.Event.TheVariants.{Fetched}
 use Rattle.stateful_table.specs.Table.{at, without}
 use Rattle.stateful_exec_tables.specs.Fetching.{Fetches, IsLiveFetch, with_block}
-use Rattle.stateful_exec.specs.Fetching.{serving, IsFetched, found, waits, declines, dead}
-use Rattle.stateful_exec.specs.Moments.{Moment}
+use Rattle.stateful_exec_model.specs.Fetching.{serving, IsFetched, found, waits, declines, dead}
+use Rattle.stateful_exec_model.specs.Moments.{Moment}
 use Rattle.stateful_exec_tables.specs.Phase.{is_on}
 use Rattle.stateful_exec_tables.specs.Tables.{taken}
-use Rattle.stateful_exec.specs.Rules.{Needs}
-use Rattle.stateful_exec.specs.Workings.{Workings, Point}
+use Rattle.stateful_exec_model.specs.Rules.{Needs}
+use Rattle.stateful_exec_model.specs.Workings.{Workings, Point}
 use Rattle.stateful_exec_tables.specs.declared.request.Verdict.TheVariants.{Invalid}
 use Rattle.stateful_exec_tables.specs.declared.state.Tables.{Tables}
 use Rattle.stateful_exec_tables.specs.declared.tables.Phase.TheVariants.{Fetching, Waiting}

@@ -15,7 +15,7 @@ use Rattle.stateful_history.specs.Waiting.{Waits, fetch, abstention, run, build}
 use Rattle.stateful_table.specs.Table.{at}
 use Rattle.stateful_exec_tables.specs.Fetching.{IsVerification}
 use Rattle.stateful_exec_tables.specs.Path.{Path}
-use Rattle.stateful_exec.specs.Workings.{Workings, Point}
+use Rattle.stateful_exec_model.specs.Workings.{Workings, Point}
 use Rattle.stateful_exec_tables.specs.declared.request.Proposal.{Proposal}
 use Rattle.stateful_exec_tables.specs.declared.request.Request.{Request}
 use Rattle.stateful_exec_tables.specs.declared.request.Request.TheVariants.{Verify, Recover}

@@ -8,10 +8,10 @@ use Rattle.stateful_history.specs.Fetches.{Abstains}
 use Rattle.stateful_history.specs.Met.{Met, Brings}
 use Rattle.stateful_history.specs.declared.mark.JobKind.TheVariants.{Candidate}
 use Rattle.stateful_history.specs.declared.mark.Mark.TheVariants.{Declined, Started, Verdict}
-use Rattle.stateful_exec.specs.Moments.{Moment, Becomes}
+use Rattle.stateful_exec_model.specs.Moments.{Moment, Becomes}
 use Rattle.stateful_exec_tables.specs.Tables.{moved, told, ended}
-use Rattle.stateful_exec.specs.Rules.{Concludes, Launches}
-use Rattle.stateful_exec.specs.Workings.{Workings, Point}
+use Rattle.stateful_exec_model.specs.Rules.{Concludes, Launches}
+use Rattle.stateful_exec_model.specs.Workings.{Workings, Point}
 use Rattle.stateful_exec_tables.specs.declared.request.Request.{Request}
 use Rattle.stateful_exec_tables.specs.declared.request.Request.TheVariants.{Verify, Recover}
 use Rattle.stateful_exec_tables.specs.declared.request.Verdict.TheVariants.{Valid, Invalid}

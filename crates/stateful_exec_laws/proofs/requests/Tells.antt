@@ -7,7 +7,7 @@ use Rattle.stateful_history.specs.Setting.{Setting}
 use Rattle.stateful_history.specs.Past.{Past, Item, Came, Made}
 use Rattle.stateful_history.specs.declared.event.Event.TheVariants.{Verify, Prepare, Propose, Subscribe, Finalized}
 use Rattle.stateful_history.specs.declared.mark.Mark.TheVariants.{Acknowledged, Databases, BarrierBegun, BarrierDone, Pruned}
-use Rattle.stateful_exec.specs.Workings.{Workings}
+use Rattle.stateful_exec_model.specs.Workings.{Workings}
 use Rattle.stateful_exec_tables.specs.declared.state.Tables.{Tables}
 use Rattle.stateful_exec_laws.specs.Setting.{setting}
 use Rattle.stateful_exec_laws.proofs.requests.Calm.{IsCalm, LeavesJob}

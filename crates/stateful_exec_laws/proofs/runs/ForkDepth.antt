@@ -7,9 +7,9 @@ use Rattle.stateful_base.specs.declared.outcome.Finality.TheVariants.{Candidate}
 use Rattle.stateful_history.specs.Past.{Past}
 use Rattle.stateful_history.specs.Met.{Met}
 use Rattle.stateful_exec_cache.specs.declared.cache.Cached.{Cached}
-use Rattle.stateful_exec.specs.Building.{IsNewBuild}
-use Rattle.stateful_exec.specs.Starting.{IsOver, databases, batch, IsFresh}
-use Rattle.stateful_exec.specs.Workings.{Workings, Point}
+use Rattle.stateful_exec_model.specs.Building.{IsNewBuild}
+use Rattle.stateful_exec_model.specs.Starting.{IsOver, databases, batch, IsFresh}
+use Rattle.stateful_exec_model.specs.Workings.{Workings, Point}
 use Rattle.stateful_exec_tables.specs.declared.state.Tables.{Tables}
 use Rattle.stateful_exec_laws.specs.Setting.{setting}
 use Rattle.stateful_exec_laws.specs.Chains.{Stacked, here, further, Leads}

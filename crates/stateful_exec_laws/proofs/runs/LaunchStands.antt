@@ -14,8 +14,8 @@ use Rattle.stateful_table.specs.Table.{at, put}
 use Rattle.stateful_exec_tables.specs.Path.{Path}
 use Rattle.stateful_exec_tables.specs.Phase.{tickets_on}
 use Rattle.stateful_exec_tables.specs.Tables.{moved}
-use Rattle.stateful_exec.specs.Starting.{StartsRun}
-use Rattle.stateful_exec.specs.Workings.{Workings, Point}
+use Rattle.stateful_exec_model.specs.Starting.{StartsRun}
+use Rattle.stateful_exec_model.specs.Workings.{Workings, Point}
 use Rattle.stateful_exec_tables.specs.declared.state.Tables.{Tables}
 use Rattle.stateful_exec_tables.specs.declared.tables.LiveRun.{LiveRun}
 use Rattle.stateful_exec_tables.specs.declared.tables.Phase.TheVariants.{Executing}

@@ -15,7 +15,7 @@ use Rattle.stateful_history.specs.declared.mark.JobKind.{JobKind}
 use Rattle.stateful_history.specs.declared.mark.JobKind.TheVariants.{Candidate}
 use Rattle.stateful_history.specs.declared.mark.Mark.TheVariants.{Started, Ended, Answered}
 use Rattle.stateful_table.specs.Table.{at}
-use Rattle.stateful_exec.specs.Workings.{Workings, Point}
+use Rattle.stateful_exec_model.specs.Workings.{Workings, Point}
 use Rattle.stateful_exec_tables.specs.declared.state.Tables.{Tables}
 use Rattle.stateful_exec_laws.specs.Standing.{NumbersStand, TablesStand}
 use Rattle.stateful_exec_laws.proofs.requests.Calm.{LeavesJob}

@@ -12,8 +12,8 @@ use Rattle.stateful_history.specs.Live.{live_job}
 use Rattle.stateful_history.specs.declared.event.Event.TheVariants.{Turn}
 use Rattle.stateful_history.specs.declared.mark.Mark.TheVariants.{Started, Ended, Built}
 use Rattle.stateful_table.specs.Table.{at, put}
-use Rattle.stateful_exec.specs.Ending.{Turns}
-use Rattle.stateful_exec.specs.Workings.{Workings, Point}
+use Rattle.stateful_exec_model.specs.Ending.{Turns}
+use Rattle.stateful_exec_model.specs.Workings.{Workings, Point}
 use Rattle.stateful_exec_tables.specs.declared.state.Tables.{Tables}
 use Rattle.stateful_exec_tables.specs.declared.tables.LiveRun.{LiveRun}
 use Rattle.stateful_exec_tables.specs.declared.tables.Phase.{Phase}

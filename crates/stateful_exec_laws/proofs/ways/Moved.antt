@@ -17,7 +17,7 @@ use Rattle.stateful_table.specs.Table.{at}
 use Rattle.stateful_exec_tables.specs.Boundary.{Boundary}
 use Rattle.stateful_exec_tables.specs.Path.{Path}
 use Rattle.stateful_exec_tables.specs.Meeting.{first_or}
-use Rattle.stateful_exec.specs.Workings.{Workings, Point}
+use Rattle.stateful_exec_model.specs.Workings.{Workings, Point}
 use Rattle.stateful_exec_tables.specs.declared.pause.Pause.{Pause}
 use Rattle.stateful_exec_tables.specs.declared.pause.Pause.TheVariants.{Free, Finalizing}
 use Rattle.stateful_exec_tables.specs.declared.request.Request.{Request}

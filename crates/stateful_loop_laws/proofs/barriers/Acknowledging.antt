@@ -12,7 +12,7 @@ use Rattle.stateful_history.specs.Requests.{IsLiveReceipt, IsLiveSubscription}
 use Rattle.stateful_history.specs.Setting.{Setting}
 use Rattle.stateful_history.specs.declared.event.Event.TheVariants.{Finalized, Restart}
 use Rattle.stateful_history.specs.declared.mark.Mark.TheVariants as mark
-use Rattle.stateful_exec.specs.Workings.{Workings}
+use Rattle.stateful_exec_model.specs.Workings.{Workings}
 use Rattle.stateful_exec_laws.specs.Setting.{setting}
 use Rattle.stateful_loop.specs.Moments.{Moment}
 use Rattle.stateful_loop.specs.Rules.{acknowledged, Takes}

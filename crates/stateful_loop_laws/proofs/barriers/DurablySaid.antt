@@ -5,7 +5,7 @@ use Rattle.stateful_history.specs.Durable.{GoodIsFlushed, AcknowledgedIsDurable}
 use Rattle.stateful_history.specs.Finalizations.{AcknowledgedIsApplied}
 use Rattle.stateful_history.specs.Past.{Past, Made, EachMark}
 use Rattle.stateful_history.specs.declared.mark.Mark.{Mark}
-use Rattle.stateful_exec.specs.Workings.{Workings}
+use Rattle.stateful_exec_model.specs.Workings.{Workings}
 use Rattle.stateful_loop_laws.specs.Durability.{IsDurablySaid}
 
 -- a rule that follows from another one

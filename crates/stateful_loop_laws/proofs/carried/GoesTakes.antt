@@ -23,13 +23,13 @@ use Rattle.stateful_history.specs.declared.mark.JobKind.TheVariants.{Candidate, 
 use Rattle.stateful_history.specs.declared.mark.Mark.{Mark}
 use Rattle.stateful_exec_cache.specs.declared.cache.Cached.{Cached}
 use Rattle.stateful_table.specs.Table.{at}
-use Rattle.stateful_exec.specs.Ending.{Turns}
+use Rattle.stateful_exec_model.specs.Ending.{Turns}
 use Rattle.stateful_exec_tables.specs.Fetching.{Fetches}
 use Rattle.stateful_exec_tables.specs.Walk.{IsPrepared}
-use Rattle.stateful_exec.specs.Workings.{Workings, Point}
-use Rattle.stateful_exec.specs.declared.building.Building.{Building}
-use Rattle.stateful_exec.specs.declared.front.Front.{Front}
-use Rattle.stateful_exec.specs.declared.front.Stage.TheVariants.{Hooking}
+use Rattle.stateful_exec_model.specs.Workings.{Workings, Point}
+use Rattle.stateful_exec_model.specs.declared.building.Building.{Building}
+use Rattle.stateful_exec_model.specs.declared.front.Front.{Front}
+use Rattle.stateful_exec_model.specs.declared.front.Stage.TheVariants.{Hooking}
 use Rattle.stateful_exec_tables.specs.declared.pause.Pause.TheVariants.{Free}
 use Rattle.stateful_exec_tables.specs.declared.request.Request.{Request}
 use Rattle.stateful_exec_tables.specs.declared.tables.LiveRun.{LiveRun}

@@ -14,22 +14,22 @@ use Rattle.stateful_history.specs.declared.mark.Mark.TheVariants as mark
 use Rattle.stateful_history.specs.declared.mark.Mark.TheVariants.{Ended}
 use Rattle.stateful_exec_cache.specs.declared.cache.Cached.{Cached}
 use Rattle.stateful_table.specs.Table.{at, put, without}
-use Rattle.stateful_exec.specs.Built.{GivesUp, building, asking}
-use Rattle.stateful_exec.specs.Ending.{InTurn, none as in_none, next as in_next, Turns, TurnsRun, Settles, SettlesBy, Steps, Follows, given_up, at_boundary, failed, parked, goes_on}
+use Rattle.stateful_exec_model.specs.Built.{GivesUp, building, asking}
+use Rattle.stateful_exec_model.specs.Ending.{InTurn, none as in_none, next as in_next, Turns, TurnsRun, Settles, SettlesBy, Steps, Follows, given_up, at_boundary, failed, parked, goes_on}
 use Rattle.stateful_exec_tables.specs.Fates.{released}
 use Rattle.stateful_exec_tables.specs.Fetching.{Fetches, with_block}
-use Rattle.stateful_exec.specs.Fetching.{IsFetched, found, waits as awaits, declines, dead, serving}
+use Rattle.stateful_exec_model.specs.Fetching.{IsFetched, found, waits as awaits, declines, dead, serving}
 use Rattle.stateful_exec_tables.specs.Cancelling.{Cancels}
 use Rattle.stateful_exec_tables.specs.Cancelling.{idle, withdraws, leaves as leaves_run, ends as ends_run, unqueued}
-use Rattle.stateful_exec.specs.Moments.{Moment, Becomes}
+use Rattle.stateful_exec_model.specs.Moments.{Moment, Becomes}
 use Rattle.stateful_exec_tables.specs.Path.{Path}
-use Rattle.stateful_exec.specs.Pausing.{Resumes, GoesAlong, AcquiresAnew, unparked, unsettled}
+use Rattle.stateful_exec_model.specs.Pausing.{Resumes, GoesAlong, AcquiresAnew, unparked, unsettled}
 use Rattle.stateful_exec_tables.specs.Phase.{is_on, released_on, is_unacquired, parked_in, unacquired_in, not_unacquired}
 use Rattle.stateful_exec_tables.specs.Tables.{requested, moved, ended}
-use Rattle.stateful_exec.specs.Rules.{Concludes, Advances, arrives, leaves, joins, starts, misses, Acquires, valid, invalid, asks, waits, runs as needs_runs}
+use Rattle.stateful_exec_model.specs.Rules.{Concludes, Advances, arrives, leaves, joins, starts, misses, Acquires, valid, invalid, asks, waits, runs as needs_runs}
 use Rattle.stateful_exec_tables.specs.Walk.{IsPrepared}
-use Rattle.stateful_exec.specs.Workings.{Workings}
-use Rattle.stateful_exec.specs.declared.building.Building.{Building}
+use Rattle.stateful_exec_model.specs.Workings.{Workings}
+use Rattle.stateful_exec_model.specs.declared.building.Building.{Building}
 use Rattle.stateful_exec_tables.specs.declared.request.Request.{Request}
 use Rattle.stateful_exec_tables.specs.declared.request.Request.TheVariants.{Verify, Recover}
 use Rattle.stateful_exec_tables.specs.declared.request.Verdict.{Verdict}

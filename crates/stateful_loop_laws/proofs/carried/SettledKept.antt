@@ -7,17 +7,17 @@ use Rattle.stateful_base.specs.declared.outcome.Moved.TheVariants.{Pending, Done
 use Rattle.stateful_db.specs.declared.application.AppFault.{AppFault}
 use Rattle.stateful_history.specs.declared.mark.How.{How}
 use Rattle.stateful_table.specs.Table.{put}
-use Rattle.stateful_exec.specs.Ending.{InTurn, none as in_none, next as in_next, Settles, SettlesBy, Steps, Follows, given_up, at_boundary, failed, parked, goes_on}
+use Rattle.stateful_exec_model.specs.Ending.{InTurn, none as in_none, next as in_next, Settles, SettlesBy, Steps, Follows, given_up, at_boundary, failed, parked, goes_on}
 use Rattle.stateful_exec_tables.specs.Fates.{released}
-use Rattle.stateful_exec.specs.Fetching.{IsFetched, found, waits as awaits, declines, dead, serving}
+use Rattle.stateful_exec_model.specs.Fetching.{IsFetched, found, waits as awaits, declines, dead, serving}
 use Rattle.stateful_exec_tables.specs.Fetching.{with_block}
-use Rattle.stateful_exec.specs.Moments.{Moment, Becomes}
+use Rattle.stateful_exec_model.specs.Moments.{Moment, Becomes}
 use Rattle.stateful_exec_tables.specs.Path.{Path}
-use Rattle.stateful_exec.specs.Pausing.{Resumes, AcquiresAnew, unsettled}
+use Rattle.stateful_exec_model.specs.Pausing.{Resumes, AcquiresAnew, unsettled}
 use Rattle.stateful_exec_tables.specs.Phase.{is_on, released_on, is_unacquired, unacquired_in, not_unacquired}
 use Rattle.stateful_exec_tables.specs.Tables.{requested, moved, ended}
-use Rattle.stateful_exec.specs.Rules.{Concludes, Advances, arrives, leaves, joins, starts, misses, Acquires, valid, invalid, asks, waits, runs}
-use Rattle.stateful_exec.specs.Workings.{Workings}
+use Rattle.stateful_exec_model.specs.Rules.{Concludes, Advances, arrives, leaves, joins, starts, misses, Acquires, valid, invalid, asks, waits, runs}
+use Rattle.stateful_exec_model.specs.Workings.{Workings}
 use Rattle.stateful_exec_tables.specs.declared.request.Request.{Request}
 use Rattle.stateful_exec_tables.specs.declared.request.Request.TheVariants.{Verify, Recover}
 use Rattle.stateful_exec_tables.specs.declared.request.Verdict.{Verdict}

@@ -1,10 +1,10 @@
 -- After each rule of the loop, where nothing pauses, what each request needs was looked for.
 use Rattle.std.proofs.Common.{◌≡◌, ℕ, Option, sym, ap, ◌∙◌, subst}
 use Rattle.stateful_base.specs.Names.{Named}
-use Rattle.stateful_exec.specs.Finalizing.{HooksOn}
+use Rattle.stateful_exec_model.specs.Finalizing.{HooksOn}
 use Rattle.stateful_exec_tables.specs.Tables.{requested}
 use Rattle.stateful_exec_tables.specs.Request.{ticket_by}
-use Rattle.stateful_exec.specs.Workings.{Workings}
+use Rattle.stateful_exec_model.specs.Workings.{Workings}
 use Rattle.stateful_exec_tables.specs.declared.pause.Pause.TheVariants.{Free, Finalizing}
 use Rattle.stateful_exec_tables.specs.declared.request.Request.{Request}
 use Rattle.stateful_exec_tables.specs.declared.state.Tables.{Tables}

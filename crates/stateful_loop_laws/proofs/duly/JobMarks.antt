@@ -14,7 +14,7 @@ use Rattle.stateful_history.specs.declared.mark.JobKind.TheVariants.{Build}
 use Rattle.stateful_history.specs.declared.mark.Mark.{Mark}
 use Rattle.stateful_history.specs.declared.mark.Mark.TheVariants.{Started, Ended}
 use Rattle.stateful_history.proofs.Marks.{Met-after}
-use Rattle.stateful_exec.specs.Workings.{Workings, Point}
+use Rattle.stateful_exec_model.specs.Workings.{Workings, Point}
 use Rattle.stateful_exec_laws.specs.Setting.{setting}
 use Rattle.stateful_exec_laws.proofs.earned.Carried.{IsMild, IsFolded-mild}
 use Rattle.stateful_exec_laws.proofs.earned.Together.{IsNoneTrue}

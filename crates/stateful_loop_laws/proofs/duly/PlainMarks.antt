@@ -16,16 +16,16 @@ use Rattle.stateful_history.specs.declared.event.Event.{Event}
 use Rattle.stateful_history.specs.declared.mark.JobKind.TheVariants.{Candidate}
 use Rattle.stateful_history.specs.declared.mark.Mark.{Mark}
 use Rattle.stateful_history.specs.declared.mark.Mark.TheVariants.{Opened, Converged, Recorded, Dispatched, Pruned, Completed, Dropped, Stopped, Asked, Withdrawn, Started, Ended, Verdict, Declined, Applied, BarrierDone}
-use Rattle.stateful_exec.specs.Workings.{Workings}
-use Rattle.stateful_exec.specs.Moments as exec
-use Rattle.stateful_exec.specs.Built.{TurnsBuild, other, goes_on, ends, EndsBuild, GivesUp, building, asking}
+use Rattle.stateful_exec_model.specs.Workings.{Workings}
+use Rattle.stateful_exec_model.specs.Moments as exec
+use Rattle.stateful_exec_model.specs.Built.{TurnsBuild, other, goes_on, ends, EndsBuild, GivesUp, building, asking}
 use Rattle.stateful_exec_tables.specs.Cancelling.{Cancels}
 use Rattle.stateful_exec_tables.specs.Cancelling.{idle, withdraws, leaves, unqueued}
 use Rattle.stateful_exec_tables.specs.Cancelling as cancel
-use Rattle.stateful_exec.specs.Finalizing.{TurnsHook, hook_turned, unhooked, SettlesHook, candidate, finalized, StepsFinal, turned, not_live, SettlesFinal, HooksOn}
-use Rattle.stateful_exec.specs.Finalizing.{Completes}
-use Rattle.stateful_exec.specs.declared.building.Building.{Building}
-use Rattle.stateful_exec.specs.declared.front.Front.{Front}
+use Rattle.stateful_exec_model.specs.Finalizing.{TurnsHook, hook_turned, unhooked, SettlesHook, candidate, finalized, StepsFinal, turned, not_live, SettlesFinal, HooksOn}
+use Rattle.stateful_exec_model.specs.Finalizing.{Completes}
+use Rattle.stateful_exec_model.specs.declared.building.Building.{Building}
+use Rattle.stateful_exec_model.specs.declared.front.Front.{Front}
 use Rattle.stateful_exec_tables.specs.declared.state.Tables.{Tables}
 use Rattle.stateful_exec_laws.specs.Building.{IsElsewhere}
 use Rattle.stateful_exec_laws.proofs.pauses.Passing.{IsBeside, PassesBy, PassesBy-acquires}

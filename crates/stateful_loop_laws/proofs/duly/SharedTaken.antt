@@ -15,12 +15,12 @@ use Rattle.stateful_history.specs.declared.mark.JobKind.TheVariants.{Candidate, 
 use Rattle.stateful_history.specs.declared.mark.Mark.{Mark}
 use Rattle.stateful_history.specs.declared.ticket.Ticket.TheVariants as tickets
 use Rattle.stateful_table.specs.Table.{at, without}
-use Rattle.stateful_exec.specs.Built.{GivesUp, building, asking}
+use Rattle.stateful_exec_model.specs.Built.{GivesUp, building, asking}
 use Rattle.stateful_exec_tables.specs.Cancelling.{Cancels}
 use Rattle.stateful_exec_tables.specs.Cancelling.{idle, withdraws, leaves, ends, unqueued}
 use Rattle.stateful_exec_tables.specs.Phase.{is_on, tickets_on}
-use Rattle.stateful_exec.specs.Workings.{Workings}
-use Rattle.stateful_exec.specs.declared.building.Building.{Building}
+use Rattle.stateful_exec_model.specs.Workings.{Workings}
+use Rattle.stateful_exec_model.specs.declared.building.Building.{Building}
 use Rattle.stateful_exec_tables.specs.declared.state.Tables.{Tables}
 use Rattle.stateful_exec_tables.specs.declared.tables.Requested.{Requested}
 use Rattle.stateful_exec_laws.specs.Building.{BuildStands}

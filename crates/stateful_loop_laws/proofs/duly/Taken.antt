@@ -12,11 +12,11 @@ use Rattle.stateful_history.specs.declared.event.Event.TheVariants as event
 use Rattle.stateful_history.specs.declared.mark.How.TheVariants.{Cancelled}
 use Rattle.stateful_history.specs.declared.mark.Mark.{Mark}
 use Rattle.stateful_history.specs.declared.mark.Mark.TheVariants.{Ended, Withdrawn}
-use Rattle.stateful_exec.specs.Built.{IsBuildFor, GivesUp, building, asking}
+use Rattle.stateful_exec_model.specs.Built.{IsBuildFor, GivesUp, building, asking}
 use Rattle.stateful_exec_tables.specs.Cancelling.{Cancels}
 use Rattle.stateful_exec_tables.specs.Cancelling.{idle, withdraws, leaves, ends, unqueued}
-use Rattle.stateful_exec.specs.Workings.{Workings}
-use Rattle.stateful_exec.specs.declared.building.Building.{Building}
+use Rattle.stateful_exec_model.specs.Workings.{Workings}
+use Rattle.stateful_exec_model.specs.declared.building.Building.{Building}
 use Rattle.stateful_exec_tables.specs.declared.state.Tables.{Tables}
 use Rattle.stateful_exec_laws.specs.Building.{BuildStands}
 use Rattle.stateful_exec_laws.specs.Outstanding.{TicketsApart}

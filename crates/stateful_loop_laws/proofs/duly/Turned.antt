@@ -20,19 +20,19 @@ use Rattle.stateful_history.specs.declared.mark.Mark.{Mark}
 use Rattle.stateful_history.specs.declared.mark.Mark.TheVariants.{Ended, Built, Answered, Declined}
 use Rattle.stateful_exec_cache.specs.declared.cache.Cached.{Cached}
 use Rattle.stateful_table.specs.Table.{put}
-use Rattle.stateful_exec.specs.Built.{decided, Gives, HasTurn, EndsBuild, TurnsBuild, other, goes_on, ends}
+use Rattle.stateful_exec_model.specs.Built.{decided, Gives, HasTurn, EndsBuild, TurnsBuild, other, goes_on, ends}
 use Rattle.stateful_exec_tables.specs.Fates.{released}
 use Rattle.stateful_exec_tables.specs.Keeping.{Takes}
-use Rattle.stateful_exec.specs.Ending.{IsTold, rejected, mismatched, agreed, EndsRun, TurnsRun, Settles, SettlesBy}
+use Rattle.stateful_exec_model.specs.Ending.{IsTold, rejected, mismatched, agreed, EndsRun, TurnsRun, Settles, SettlesBy}
 use Rattle.stateful_exec_tables.specs.Keeping.{there, added, missed}
-use Rattle.stateful_exec.specs.Finalizing.{front_at, TurnsHook, hook_turned, unhooked, StepsFinal, turned, not_live, candidate, finalized}
-use Rattle.stateful_exec.specs.Finalizing.{Completes}
-use Rattle.stateful_exec.specs.Moments as exec
+use Rattle.stateful_exec_model.specs.Finalizing.{front_at, TurnsHook, hook_turned, unhooked, StepsFinal, turned, not_live, candidate, finalized}
+use Rattle.stateful_exec_model.specs.Finalizing.{Completes}
+use Rattle.stateful_exec_model.specs.Moments as exec
 use Rattle.stateful_exec_tables.specs.Phase.{released_on}
-use Rattle.stateful_exec.specs.Workings.{Workings}
-use Rattle.stateful_exec.specs.declared.building.Building.{Building}
-use Rattle.stateful_exec.specs.declared.front.Front.{Front}
-use Rattle.stateful_exec.specs.declared.front.Stage.TheVariants.{Running, Hooking}
+use Rattle.stateful_exec_model.specs.Workings.{Workings}
+use Rattle.stateful_exec_model.specs.declared.building.Building.{Building}
+use Rattle.stateful_exec_model.specs.declared.front.Front.{Front}
+use Rattle.stateful_exec_model.specs.declared.front.Stage.TheVariants.{Running, Hooking}
 use Rattle.stateful_exec_tables.specs.declared.state.Tables.{Tables}
 use Rattle.stateful_exec_laws.specs.Building.{IsBuilding, BuildStands}
 use Rattle.stateful_exec_laws.specs.Fronting.{FrontStands}

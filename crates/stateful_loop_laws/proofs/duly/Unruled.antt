@@ -12,15 +12,15 @@ use Rattle.stateful_history.specs.declared.mark.JobKind.TheVariants.{Candidate}
 use Rattle.stateful_history.specs.declared.mark.Mark.{Mark}
 use Rattle.stateful_history.specs.declared.mark.Mark.TheVariants as mark
 use Rattle.stateful_history.proofs.Marks.{EachMark-append}
-use Rattle.stateful_exec.specs.Ending.{InTurn, none, next, Follows}
-use Rattle.stateful_exec.specs.Fetching.{IsFetched, found, waits, declines, dead, serving}
+use Rattle.stateful_exec_model.specs.Ending.{InTurn, none, next, Follows}
+use Rattle.stateful_exec_model.specs.Fetching.{IsFetched, found, waits, declines, dead, serving}
 use Rattle.stateful_exec_tables.specs.Fetching.{with_block}
-use Rattle.stateful_exec.specs.Moments.{Moment}
-use Rattle.stateful_exec.specs.Pausing.{GoesAlong, AcquiresAnew, unparked, unsettled, Resumes}
+use Rattle.stateful_exec_model.specs.Moments.{Moment}
+use Rattle.stateful_exec_model.specs.Pausing.{GoesAlong, AcquiresAnew, unparked, unsettled, Resumes}
 use Rattle.stateful_exec_tables.specs.Phase.{parked_in, unacquired_in}
 use Rattle.stateful_exec_tables.specs.Tables.{requested}
-use Rattle.stateful_exec.specs.Rules.{Advances, Acquires}
-use Rattle.stateful_exec.specs.Workings.{Workings}
+use Rattle.stateful_exec_model.specs.Rules.{Advances, Acquires}
+use Rattle.stateful_exec_model.specs.Workings.{Workings}
 use Rattle.stateful_exec_tables.specs.declared.request.Verdict.TheVariants as verdict
 use Rattle.stateful_exec_tables.specs.declared.tables.Released.{Released}
 use Rattle.stateful_exec_tables.specs.declared.tables.Requested.{Requested}

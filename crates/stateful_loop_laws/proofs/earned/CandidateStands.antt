@@ -12,11 +12,11 @@ use Rattle.stateful_history.specs.declared.mark.JobKind.TheVariants.{Finalized, 
 use Rattle.stateful_history.specs.declared.mark.Mark.{Mark}
 use Rattle.stateful_history.specs.declared.mark.Mark.TheVariants.{Ended, Opened, Converged, Began, Applied, Pruned}
 use Rattle.stateful_table.specs.Table.{at}
-use Rattle.stateful_exec.specs.Ending.{Steps}
-use Rattle.stateful_exec.specs.Moments.{Moment}
-use Rattle.stateful_exec.specs.Workings.{Workings, Point}
-use Rattle.stateful_exec.specs.declared.building.Building.{Building}
-use Rattle.stateful_exec.specs.declared.front.Front.{Front}
+use Rattle.stateful_exec_model.specs.Ending.{Steps}
+use Rattle.stateful_exec_model.specs.Moments.{Moment}
+use Rattle.stateful_exec_model.specs.Workings.{Workings, Point}
+use Rattle.stateful_exec_model.specs.declared.building.Building.{Building}
+use Rattle.stateful_exec_model.specs.declared.front.Front.{Front}
 use Rattle.stateful_exec_laws.specs.Building.{BuildStands}
 use Rattle.stateful_exec_laws.specs.Fronting.{FrontStands}
 use Rattle.stateful_exec_laws.specs.Setting.{setting}

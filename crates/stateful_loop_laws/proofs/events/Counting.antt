@@ -9,7 +9,7 @@ use Rattle.stateful_history.specs.declared.mark.How.TheVariants.{Cancelled}
 use Rattle.stateful_history.specs.declared.mark.Mark.{Mark}
 use Rattle.stateful_history.specs.declared.mark.Mark.TheVariants.{Withdrawn, Ended, Declined, Dropped, Stopped, BarrierDone}
 use Rattle.stateful_exec_tables.specs.Tables.{Rises}
-use Rattle.stateful_exec.specs.Workings.{Workings}
+use Rattle.stateful_exec_model.specs.Workings.{Workings}
 use Rattle.stateful_loop_laws.specs.Down.{IsEnding, IsCounted}
 use Rattle.stateful_loop_laws.specs.Stands.{IsUpAt}
 use Rattle.stateful_loop.specs.Moments.{Moment}

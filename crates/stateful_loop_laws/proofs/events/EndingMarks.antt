@@ -12,7 +12,7 @@ use Rattle.stateful_history.specs.Setting.{Setting}
 use Rattle.stateful_history.specs.States.{fold, prefixes}
 use Rattle.stateful_history.specs.declared.mark.Mark.{Mark}
 use Rattle.stateful_history.specs.declared.mark.Mark.TheVariants.{Withdrawn, Ended, Declined, Dropped, Stopped}
-use Rattle.stateful_exec.specs.Workings.{Workings}
+use Rattle.stateful_exec_model.specs.Workings.{Workings}
 use Rattle.stateful_loop_laws.specs.Down.{IsEnding}
 use Rattle.stateful_loop_laws.specs.Durability.{IsDurablySaid}
 use Rattle.stateful_loop_laws.proofs.events.Restarting.{opening-ends}

@@ -6,7 +6,7 @@ use Rattle.stateful_history.specs.Stops.{NothingLive}
 use Rattle.stateful_history.specs.declared.event.Event.TheVariants.{Restart}
 use Rattle.stateful_history.specs.declared.mark.Mark.{Mark}
 use Rattle.stateful_exec_tables.specs.Tables.{Rises}
-use Rattle.stateful_exec.specs.Workings.{Workings}
+use Rattle.stateful_exec_model.specs.Workings.{Workings}
 use Rattle.stateful_loop_laws.specs.Down.{IsEnding, IsEmpty, IsCounted, IsDownAt}
 use Rattle.stateful_loop_laws.proofs.events.Counting.{IsCounted-rises, IsCounted-restart, IsCounted-ends}
 use Rattle.stateful_loop.specs.Clearing.{IsCleared}

@@ -6,7 +6,7 @@ use Rattle.stateful_history.specs.Met.{TrueNames}
 use Rattle.stateful_history.specs.Past.{Past, after}
 use Rattle.stateful_history.specs.declared.mark.Mark.{Mark}
 use Rattle.stateful_history.proofs.Marks.{after-append, TrueNames-before_marks}
-use Rattle.stateful_exec.specs.Workings.{Workings}
+use Rattle.stateful_exec_model.specs.Workings.{Workings}
 use Rattle.stateful_exec_laws.specs.Setting.{setting}
 use Rattle.stateful_loop.specs.Moments.{Moment}
 use Rattle.stateful_loop_laws.specs.Execution.{NamesBehind}

@@ -8,7 +8,7 @@ use Rattle.stateful_history.specs.Met.{TrueNames}
 use Rattle.stateful_history.specs.Past.{Past, Made}
 use Rattle.stateful_history.specs.Honest.{StoresHeights}
 use Rattle.stateful_history.specs.declared.mark.Mark.TheVariants.{Opened}
-use Rattle.stateful_exec.specs.Workings.{Workings}
+use Rattle.stateful_exec_model.specs.Workings.{Workings}
 use Rattle.stateful_exec_laws.specs.Setting.{setting}
 use Rattle.stateful_exec_laws.specs.Storing.{IsStoredNow}
 use Rattle.stateful_loop_laws.specs.Down.{IsDownAt}

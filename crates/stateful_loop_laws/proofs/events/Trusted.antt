@@ -6,7 +6,7 @@ use Rattle.stateful_history.specs.declared.entry.Entry.{Entry}
 use Rattle.stateful_history.specs.declared.event.Event.TheVariants.{Finalized}
 use Rattle.stateful_history.specs.declared.mark.Mark.{Mark}
 use Rattle.stateful_history.proofs.Marks.{after-append}
-use Rattle.stateful_exec.specs.Workings.{Workings}
+use Rattle.stateful_exec_model.specs.Workings.{Workings}
 use Rattle.stateful_exec_laws.specs.Setting.{setting}
 use Rattle.stateful_exec_laws.proofs.linked.On.{honest_one, answered_one}
 use Rattle.stateful_loop.specs.Moments.{Moment}

@@ -10,11 +10,11 @@ use Rattle.stateful_history.specs.declared.mark.JobKind.TheVariants.{Build, Fina
 use Rattle.stateful_history.specs.declared.mark.Mark.{Mark}
 use Rattle.stateful_history.specs.declared.mark.Mark.TheVariants.{Started, Declined}
 use Rattle.stateful_table.specs.Table.{at}
-use Rattle.stateful_exec.specs.Building.{StartsBuild}
+use Rattle.stateful_exec_model.specs.Building.{StartsBuild}
 use Rattle.stateful_exec_tables.specs.Queueing.{unqueued}
-use Rattle.stateful_exec.specs.Workings.{Workings}
-use Rattle.stateful_exec.specs.declared.building.Building.{Building}
-use Rattle.stateful_exec.specs.declared.front.Front.{Front}
+use Rattle.stateful_exec_model.specs.Workings.{Workings}
+use Rattle.stateful_exec_model.specs.declared.building.Building.{Building}
+use Rattle.stateful_exec_model.specs.declared.front.Front.{Front}
 use Rattle.stateful_exec_tables.specs.declared.state.Tables.{Tables}
 use Rattle.stateful_exec_tables.specs.declared.tables.Requested.{Requested}
 use Rattle.stateful_exec_laws.specs.Setting.{setting}

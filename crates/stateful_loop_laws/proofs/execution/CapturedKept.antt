@@ -3,7 +3,7 @@ use Rattle.std.proofs.Common.{◌≡◌, ◌∷◌, ℕ, List, Option, Some, Non
 use Rattle.stateful_base.specs.Names.{Named}
 use Rattle.stateful_base.specs.declared.floor.Floor.{Floor}
 use Rattle.stateful_history.specs.declared.event.Event.{Event}
-use Rattle.stateful_exec.specs.Workings.{Workings, Point}
+use Rattle.stateful_exec_model.specs.Workings.{Workings, Point}
 use Rattle.stateful_loop.specs.Intake.{Counts, TakesIn, enters, cancels, fetched, turns, flushes, stops, progresses, restarts, TurnsJob, build, hook, run}
 use Rattle.stateful_loop.specs.Moments.{Moment}
 use Rattle.stateful_loop.specs.Opening.{Opens}

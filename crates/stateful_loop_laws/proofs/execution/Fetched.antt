@@ -9,12 +9,12 @@ use Rattle.stateful_history.specs.Past.{Past, Came}
 use Rattle.stateful_history.specs.declared.event.Event.TheVariants.{Fetched}
 use Rattle.stateful_table.specs.Table.{at}
 use Rattle.stateful_exec_tables.specs.Fetching.{Fetches, with_block}
-use Rattle.stateful_exec.specs.Fetching.{serving, IsFetched, found, waits, declines, dead}
-use Rattle.stateful_exec.specs.Moments as exec
+use Rattle.stateful_exec_model.specs.Fetching.{serving, IsFetched, found, waits, declines, dead}
+use Rattle.stateful_exec_model.specs.Moments as exec
 use Rattle.stateful_exec_tables.specs.Tables.{taken}
-use Rattle.stateful_exec.specs.Workings.{Workings}
-use Rattle.stateful_exec.specs.declared.building.Building.{Building}
-use Rattle.stateful_exec.specs.declared.front.Front.{Front}
+use Rattle.stateful_exec_model.specs.Workings.{Workings}
+use Rattle.stateful_exec_model.specs.declared.building.Building.{Building}
+use Rattle.stateful_exec_model.specs.declared.front.Front.{Front}
 use Rattle.stateful_exec_tables.specs.declared.tables.Requested.{Requested}
 use Rattle.stateful_exec_laws.specs.Setting.{setting}
 use Rattle.stateful_exec_laws.specs.Building.{IsElsewhere, BuildStands}

@@ -8,11 +8,11 @@ use Rattle.stateful_history.specs.Past.{Past, after}
 use Rattle.stateful_history.specs.declared.mark.JobKind.TheVariants as job
 use Rattle.stateful_history.specs.declared.mark.Mark.{Mark}
 use Rattle.stateful_history.specs.declared.mark.Mark.TheVariants.{Started}
-use Rattle.stateful_exec.specs.Finalizing.{front_at, RunsFinal, HooksOn}
+use Rattle.stateful_exec_model.specs.Finalizing.{front_at, RunsFinal, HooksOn}
 use Rattle.stateful_exec_tables.specs.Pausing.{AwaitsRuns}
-use Rattle.stateful_exec.specs.Workings.{Workings}
-use Rattle.stateful_exec.specs.declared.front.Front.{Front}
-use Rattle.stateful_exec.specs.declared.front.Stage.TheVariants.{Begun, Advanced, Hooking}
+use Rattle.stateful_exec_model.specs.Workings.{Workings}
+use Rattle.stateful_exec_model.specs.declared.front.Front.{Front}
+use Rattle.stateful_exec_model.specs.declared.front.Stage.TheVariants.{Begun, Advanced, Hooking}
 use Rattle.stateful_exec_tables.specs.declared.state.Tables.{Tables}
 use Rattle.stateful_exec_laws.specs.Fronting.{RunsTakeTurns, FrontStands}
 use Rattle.stateful_exec_laws.proofs.earned.Left.{IsLeft}

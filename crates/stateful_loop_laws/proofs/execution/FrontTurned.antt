@@ -8,10 +8,10 @@ use Rattle.stateful_history.specs.Past.{Past, Came, after}
 use Rattle.stateful_history.specs.declared.event.Event.TheVariants.{Turn}
 use Rattle.stateful_history.specs.declared.mark.How.TheVariants as how
 use Rattle.stateful_history.specs.declared.mark.Mark.{Mark}
-use Rattle.stateful_exec.specs.Finalizing.{front_at, HasRunOn, SettlesFinal, IsFinalLive, StepsFinal, turned, not_live, HasHooked, IsHookLive, SettlesHook, TurnsHook, hook_turned, unhooked}
-use Rattle.stateful_exec.specs.Workings.{Workings}
-use Rattle.stateful_exec.specs.declared.front.Front.{Front}
-use Rattle.stateful_exec.specs.declared.front.Stage.TheVariants.{Running, Ran, Advanced, Hooking}
+use Rattle.stateful_exec_model.specs.Finalizing.{front_at, HasRunOn, SettlesFinal, IsFinalLive, StepsFinal, turned, not_live, HasHooked, IsHookLive, SettlesHook, TurnsHook, hook_turned, unhooked}
+use Rattle.stateful_exec_model.specs.Workings.{Workings}
+use Rattle.stateful_exec_model.specs.declared.front.Front.{Front}
+use Rattle.stateful_exec_model.specs.declared.front.Stage.TheVariants.{Running, Ran, Advanced, Hooking}
 use Rattle.stateful_exec_laws.proofs.front.Rules.{StandsWithFront, StandsWithFront-steps, StandsWithFront-hooks}
 use Rattle.stateful_loop.specs.Intake.{Counts, Hooks}
 use Rattle.stateful_loop.specs.Moments.{Moment, inner}

@@ -6,8 +6,8 @@ use Rattle.stateful_history.specs.Finalizations.{begun}
 use Rattle.stateful_history.specs.Met.{Brings, Met, TrueNames}
 use Rattle.stateful_history.specs.Past.{Past, Item}
 use Rattle.stateful_history.specs.Setting.{Setting}
-use Rattle.stateful_exec.specs.Workings.{Workings}
-use Rattle.stateful_exec.specs.declared.building.Building.{Building}
+use Rattle.stateful_exec_model.specs.Workings.{Workings}
+use Rattle.stateful_exec_model.specs.declared.building.Building.{Building}
 use Rattle.stateful_exec_laws.specs.Setting.{setting}
 use Rattle.stateful_exec_laws.specs.Building.{IsElsewhere, BuildStands}
 use Rattle.stateful_exec_laws.specs.Standing.{TablesStand}

@@ -4,13 +4,13 @@ use Rattle.std.proofs.lemmas.List.Elements.{filter_passes}
 use Rattle.stateful_base.specs.Names.{Named}
 use Rattle.stateful_history.specs.declared.mark.How.{How}
 use Rattle.stateful_table.specs.Table.{put}
-use Rattle.stateful_exec.specs.Ending.{Follows, given_up, at_boundary, failed, parked, goes_on}
-use Rattle.stateful_exec.specs.Moments.{Moment}
+use Rattle.stateful_exec_model.specs.Ending.{Follows, given_up, at_boundary, failed, parked, goes_on}
+use Rattle.stateful_exec_model.specs.Moments.{Moment}
 use Rattle.stateful_exec_tables.specs.Path.{Path}
 use Rattle.stateful_exec_tables.specs.Phase.{parked_path, not_parked}
 use Rattle.stateful_exec_tables.specs.Tables.{ended, requested}
-use Rattle.stateful_exec.specs.Rules.{Concludes, Advances, arrives, leaves, joins, starts, misses, Acquires, valid, invalid, asks, waits, runs}
-use Rattle.stateful_exec.specs.Workings.{Workings}
+use Rattle.stateful_exec_model.specs.Rules.{Concludes, Advances, arrives, leaves, joins, starts, misses, Acquires, valid, invalid, asks, waits, runs}
+use Rattle.stateful_exec_model.specs.Workings.{Workings}
 use Rattle.stateful_exec_tables.specs.declared.pause.Pause.TheVariants.{Free}
 use Rattle.stateful_exec_tables.specs.declared.request.Request.{Request}
 use Rattle.stateful_exec_tables.specs.declared.request.Request.TheVariants.{Verify, Recover}

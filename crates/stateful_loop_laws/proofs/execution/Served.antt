@@ -11,13 +11,13 @@ use Rattle.stateful_history.specs.Met.{Met}
 use Rattle.stateful_history.specs.Past.{Past, EachMark, after}
 use Rattle.stateful_history.specs.declared.mark.Mark.{Mark}
 use Rattle.stateful_exec_tables.specs.Fetching.{IsVerification}
-use Rattle.stateful_exec.specs.Moments as exec
-use Rattle.stateful_exec.specs.Moments.{Becomes}
+use Rattle.stateful_exec_model.specs.Moments as exec
+use Rattle.stateful_exec_model.specs.Moments.{Becomes}
 use Rattle.stateful_exec_tables.specs.Tables.{moved}
-use Rattle.stateful_exec.specs.Rules.{Concludes, Acquires}
-use Rattle.stateful_exec.specs.Workings.{Workings, Point}
-use Rattle.stateful_exec.specs.declared.building.Building.{Building}
-use Rattle.stateful_exec.specs.declared.front.Front.{Front}
+use Rattle.stateful_exec_model.specs.Rules.{Concludes, Acquires}
+use Rattle.stateful_exec_model.specs.Workings.{Workings, Point}
+use Rattle.stateful_exec_model.specs.declared.building.Building.{Building}
+use Rattle.stateful_exec_model.specs.declared.front.Front.{Front}
 use Rattle.stateful_exec_tables.specs.declared.request.Verdict.TheVariants.{Invalid}
 use Rattle.stateful_exec_tables.specs.declared.tables.Phase.TheVariants.{Waiting}
 use Rattle.stateful_exec_tables.specs.declared.tables.Requested.{Requested}

@@ -11,8 +11,8 @@ use Rattle.stateful_history.specs.declared.mark.Mark.{Mark}
 use Rattle.stateful_history.specs.declared.mark.Mark.TheVariants.{Databases, Acknowledged, BarrierBegun, BarrierDone}
 use Rattle.stateful_history.specs.declared.ticket.Ticket.TheVariants as tickets
 use Rattle.stateful_table.specs.Table.{at}
-use Rattle.stateful_exec.specs.Workings.{Workings, Point}
-use Rattle.stateful_exec.specs.declared.building.Building.{Building}
+use Rattle.stateful_exec_model.specs.Workings.{Workings, Point}
+use Rattle.stateful_exec_model.specs.declared.building.Building.{Building}
 use Rattle.stateful_exec_tables.specs.declared.request.Proposal.{Proposal}
 use Rattle.stateful_exec_tables.specs.declared.request.Request.{Request}
 use Rattle.stateful_exec_tables.specs.declared.request.Request.TheVariants.{Verify, Recover}

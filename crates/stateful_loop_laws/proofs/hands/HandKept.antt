@@ -15,17 +15,17 @@ use Rattle.stateful_history.specs.declared.mark.Mark.TheVariants as mark
 use Rattle.stateful_history.proofs.Marks.{after-append}
 use Rattle.stateful_table.specs.Table.{at, put}
 use Rattle.stateful_table.proofs.Tables.{is_at_number, at-put, at-without}
-use Rattle.stateful_exec.specs.Ending.{InTurn, none as in_none, next as in_next, Settles, SettlesBy, Steps, TurnsRun, Follows, given_up, at_boundary, failed, parked, goes_on}
+use Rattle.stateful_exec_model.specs.Ending.{InTurn, none as in_none, next as in_next, Settles, SettlesBy, Steps, TurnsRun, Follows, given_up, at_boundary, failed, parked, goes_on}
 use Rattle.stateful_exec_tables.specs.Fates.{released}
-use Rattle.stateful_exec.specs.Fetching.{IsFetched, found, waits as awaits, declines, dead, serving}
+use Rattle.stateful_exec_model.specs.Fetching.{IsFetched, found, waits as awaits, declines, dead, serving}
 use Rattle.stateful_exec_tables.specs.Fetching.{with_block}
-use Rattle.stateful_exec.specs.Moments.{Moment, Becomes}
+use Rattle.stateful_exec_model.specs.Moments.{Moment, Becomes}
 use Rattle.stateful_exec_tables.specs.Path.{Path}
-use Rattle.stateful_exec.specs.Pausing.{Resumes, GoesAlong, AcquiresAnew, unparked, unsettled}
+use Rattle.stateful_exec_model.specs.Pausing.{Resumes, GoesAlong, AcquiresAnew, unparked, unsettled}
 use Rattle.stateful_exec_tables.specs.Phase.{is_on, released_from, released_on, parked_path, parked_from, parked_in, is_unacquired, unacquired_in}
 use Rattle.stateful_exec_tables.specs.Tables.{requested, moved, ended, told}
-use Rattle.stateful_exec.specs.Rules.{Concludes, Advances, arrives, leaves, joins, starts, misses, Acquires, valid, invalid, asks, waits, runs}
-use Rattle.stateful_exec.specs.Workings.{Workings}
+use Rattle.stateful_exec_model.specs.Rules.{Concludes, Advances, arrives, leaves, joins, starts, misses, Acquires, valid, invalid, asks, waits, runs}
+use Rattle.stateful_exec_model.specs.Workings.{Workings}
 use Rattle.stateful_exec_tables.specs.declared.request.Request.{Request}
 use Rattle.stateful_exec_tables.specs.declared.request.Request.TheVariants.{Verify, Recover}
 use Rattle.stateful_exec_tables.specs.declared.request.Verdict.{Verdict}

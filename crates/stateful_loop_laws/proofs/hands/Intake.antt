@@ -23,17 +23,17 @@ use Rattle.stateful_history.specs.declared.ticket.Ticket.{Ticket}
 use Rattle.stateful_history.specs.declared.ticket.Ticket.TheVariants as ticket
 use Rattle.stateful_table.specs.Table.{at}
 use Rattle.stateful_table.proofs.Tables.{at-without}
-use Rattle.stateful_exec.specs.Built.{decided, TurnsBuild, other, goes_on, ends, EndsBuild, Gives, GivesUp, building, asking}
-use Rattle.stateful_exec.specs.Fetching.{IsFetched}
+use Rattle.stateful_exec_model.specs.Built.{decided, TurnsBuild, other, goes_on, ends, EndsBuild, Gives, GivesUp, building, asking}
+use Rattle.stateful_exec_model.specs.Fetching.{IsFetched}
 use Rattle.stateful_exec_tables.specs.Cancelling.{Cancels}
 use Rattle.stateful_exec_tables.specs.Cancelling.{idle, withdraws, leaves, ends as ends_run, unqueued}
-use Rattle.stateful_exec.specs.Finalizing.{SettlesHook, TurnsHook, hook_turned, unhooked, SettlesFinal, turned, not_live, candidate, finalized}
-use Rattle.stateful_exec.specs.Finalizing.{Completes}
-use Rattle.stateful_exec.specs.Moments as exec
+use Rattle.stateful_exec_model.specs.Finalizing.{SettlesHook, TurnsHook, hook_turned, unhooked, SettlesFinal, turned, not_live, candidate, finalized}
+use Rattle.stateful_exec_model.specs.Finalizing.{Completes}
+use Rattle.stateful_exec_model.specs.Moments as exec
 use Rattle.stateful_db.specs.declared.barrier.Flushed.{Flushed}
-use Rattle.stateful_exec.specs.Workings.{Workings}
-use Rattle.stateful_exec.specs.declared.building.Building.{Building}
-use Rattle.stateful_exec.specs.declared.front.Front.{Front}
+use Rattle.stateful_exec_model.specs.Workings.{Workings}
+use Rattle.stateful_exec_model.specs.declared.building.Building.{Building}
+use Rattle.stateful_exec_model.specs.declared.front.Front.{Front}
 use Rattle.stateful_exec_tables.specs.declared.state.Tables.{Tables}
 use Rattle.stateful_loop.specs.Intake as intake
 use Rattle.stateful_loop.specs.Intake.{Counts, Flushes, TurnsJob, TakesIn, message_by}

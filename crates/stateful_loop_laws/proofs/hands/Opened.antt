@@ -5,7 +5,7 @@ use Rattle.std.proofs.lemmas.List.Elements.{All-nil}
 use Rattle.stateful_history.specs.Live.{live_ticket}
 use Rattle.stateful_history.specs.Past.{Past, Made, after}
 use Rattle.stateful_history.specs.declared.mark.Mark.{Mark}
-use Rattle.stateful_exec.specs.Workings.{Workings}
+use Rattle.stateful_exec_model.specs.Workings.{Workings}
 use Rattle.stateful_loop.specs.Moments.{Moment}
 use Rattle.stateful_loop_laws.specs.InHand.{IsPutOff, VerifiedApart, AllInHand, InHandBehind}
 

@@ -19,13 +19,13 @@ use Rattle.stateful_history.specs.declared.ticket.Ticket.TheVariants.{Receipt}
 use Rattle.stateful_history.specs.Telling.{telling_of}
 use Rattle.stateful_history.specs.Waiting.{Waits, finalization, barrier, AllWait}
 use Rattle.stateful_table.specs.Table.{at}
-use Rattle.stateful_exec.specs.Finalizing.{front_at}
+use Rattle.stateful_exec_model.specs.Finalizing.{front_at}
 use Rattle.stateful_exec_tables.specs.Pausing.{IsAwaited, IsCount, none as no_count}
-use Rattle.stateful_exec.specs.Workings.{Workings, Point}
-use Rattle.stateful_exec.specs.declared.building.Building.{Building}
-use Rattle.stateful_exec.specs.declared.front.Front.{Front}
-use Rattle.stateful_exec.specs.declared.front.Stage.{Stage}
-use Rattle.stateful_exec.specs.declared.front.Stage.TheVariants.{Begun, Running, Ran, Advanced, Hooking}
+use Rattle.stateful_exec_model.specs.Workings.{Workings, Point}
+use Rattle.stateful_exec_model.specs.declared.building.Building.{Building}
+use Rattle.stateful_exec_model.specs.declared.front.Front.{Front}
+use Rattle.stateful_exec_model.specs.declared.front.Stage.{Stage}
+use Rattle.stateful_exec_model.specs.declared.front.Stage.TheVariants.{Begun, Running, Ran, Advanced, Hooking}
 use Rattle.stateful_exec_tables.specs.declared.request.Proposal.{Proposal}
 use Rattle.stateful_exec_tables.specs.declared.request.Request.TheVariants.{Verify, Recover}
 use Rattle.stateful_exec_tables.specs.declared.state.Tables.{Tables}

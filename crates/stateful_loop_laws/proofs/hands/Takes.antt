@@ -14,11 +14,11 @@ use Rattle.stateful_history.specs.declared.mark.Mark.TheVariants as mark
 use Rattle.stateful_table.specs.Table.{at}
 use Rattle.stateful_table.proofs.Tables.{is_at_number}
 use Rattle.stateful_exec_tables.specs.Queueing.{unqueued}
-use Rattle.stateful_exec.specs.Finalizing.{front_at}
+use Rattle.stateful_exec_model.specs.Finalizing.{front_at}
 use Rattle.stateful_exec_tables.specs.Phase.{dropped}
-use Rattle.stateful_exec.specs.Workings.{Workings}
-use Rattle.stateful_exec.specs.declared.building.Building.{Building}
-use Rattle.stateful_exec.specs.declared.front.Stage.TheVariants.{Begun}
+use Rattle.stateful_exec_model.specs.Workings.{Workings}
+use Rattle.stateful_exec_model.specs.declared.building.Building.{Building}
+use Rattle.stateful_exec_model.specs.declared.front.Stage.TheVariants.{Begun}
 use Rattle.stateful_exec_tables.specs.declared.state.Tables.{Tables}
 use Rattle.stateful_exec_tables.specs.declared.tables.Requested.{Requested}
 use Rattle.stateful_loop.specs.Moments.{Moment, with_loop}

@@ -9,7 +9,7 @@ use Rattle.stateful_history.specs.Past.{Past, Made}
 use Rattle.stateful_history.specs.Setting.{step_of}
 use Rattle.stateful_history.specs.States.{fold}
 use Rattle.stateful_history.specs.declared.mark.Mark.TheVariants.{Applied}
-use Rattle.stateful_exec.specs.Workings.{Workings, Point}
+use Rattle.stateful_exec_model.specs.Workings.{Workings, Point}
 use Rattle.stateful_exec_tables.specs.declared.state.Tables.{Tables}
 use Rattle.stateful_exec_laws.specs.Setting.{setting}
 use Rattle.stateful_exec_laws.proofs.front.AnchorMoves.{IsApplied}

@@ -15,7 +15,7 @@ use Rattle.stateful_history.specs.Durable.{durable}
 use Rattle.stateful_history.specs.Numbers.{NumberIsNew}
 use Rattle.stateful_history.specs.Past.{Past, Made}
 use Rattle.stateful_history.specs.declared.mark.Mark.TheVariants.{BarrierBegun}
-use Rattle.stateful_exec.specs.Workings.{Workings}
+use Rattle.stateful_exec_model.specs.Workings.{Workings}
 use Rattle.stateful_exec_laws.specs.Setting.{setting}
 use Rattle.stateful_loop_laws.specs.Durability.{LoopBehind}
 use Rattle.stateful_loop_laws.specs.Stands.{LoopStands}

@@ -11,7 +11,7 @@ use Rattle.stateful_db.specs.declared.barrier.Handle.{Handle}
 use Rattle.stateful_history.specs.Barriers.{WasInterrupted}
 use Rattle.stateful_history.specs.Past.{Past}
 use Rattle.stateful_history.specs.declared.mark.Mark.TheVariants.{BarrierDone}
-use Rattle.stateful_exec.specs.Workings.{Workings}
+use Rattle.stateful_exec_model.specs.Workings.{Workings}
 use Rattle.stateful_loop_laws.specs.Durability.{IsDurablySaid}
 use Rattle.stateful_loop_laws.specs.OpenBarriers.{ActiveStands}
 use Rattle.stateful_loop_laws.specs.Stands.{LoopStands}

@@ -8,7 +8,7 @@ use Rattle.stateful_history.proofs.Marks.{after-append, EachMark-append}
 use Rattle.stateful_history.specs.Past.{Past, Item, Made, after, EachMark}
 use Rattle.stateful_history.specs.declared.mark.Mark.{Mark}
 use Rattle.stateful_history.specs.declared.mark.Mark.TheVariants.{Opened, Converged, Applied, BarrierBegun, BarrierDone, Acknowledged, Stopped}
-use Rattle.stateful_exec.specs.Workings.{Workings}
+use Rattle.stateful_exec_model.specs.Workings.{Workings}
 use Rattle.stateful_exec_laws.specs.Setting.{setting}
 use Rattle.stateful_loop_laws.specs.Checkpoints.{Keeping}
 use Rattle.stateful_loop_laws.specs.Durability.{IsDurablySaid, LoopBehind}

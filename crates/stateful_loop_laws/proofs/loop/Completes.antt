@@ -8,8 +8,8 @@ use Rattle.stateful_durability.specs.Durability.{IsInOrder, receipts_up_to, rece
 use Rattle.stateful_history.specs.Durable.{durable, WasApplied, WasRecorded}
 use Rattle.stateful_history.specs.Past.{Past, Made, after, EachMark}
 use Rattle.stateful_history.specs.declared.mark.Mark.TheVariants.{BarrierDone}
-use Rattle.stateful_exec.specs.Finalizing.{IsRedelivered}
-use Rattle.stateful_exec.specs.Workings.{Workings}
+use Rattle.stateful_exec_model.specs.Finalizing.{IsRedelivered}
+use Rattle.stateful_exec_model.specs.Workings.{Workings}
 use Rattle.stateful_exec_laws.specs.Setting.{setting}
 use Rattle.stateful_loop_laws.specs.Durability.{IsDurablySaid, LoopBehind}
 use Rattle.stateful_loop_laws.specs.OpenBarriers.{ActiveStands, BarriersStand, AwaitsEach, AwaitsLive}

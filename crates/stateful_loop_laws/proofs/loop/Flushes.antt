@@ -8,7 +8,7 @@ use Rattle.stateful_db.specs.declared.barrier.Flushed.{Flushed as Answer}
 use Rattle.stateful_db.specs.declared.barrier.Flushed.TheVariants.{Good, Interrupted}
 use Rattle.stateful_history.specs.Past.{Past, Came}
 use Rattle.stateful_history.specs.declared.event.Event.TheVariants.{Flushed}
-use Rattle.stateful_exec.specs.Workings.{Workings}
+use Rattle.stateful_exec_model.specs.Workings.{Workings}
 use Rattle.stateful_exec_laws.specs.Setting.{setting}
 use Rattle.stateful_loop_laws.specs.Stands.{LoopStands}
 use Rattle.stateful_loop_laws.proofs.barriers.AwaitedItems.{AwaitsEach-flushed}

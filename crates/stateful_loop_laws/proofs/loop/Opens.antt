@@ -11,7 +11,7 @@ use Rattle.stateful_history.specs.Holding.{HoldsSince, Holds}
 use Rattle.stateful_history.specs.Past.{Past, Made}
 use Rattle.stateful_history.specs.States.{fold}
 use Rattle.stateful_history.specs.declared.mark.Mark.TheVariants.{Opened}
-use Rattle.stateful_exec.specs.Workings.{Workings, Point}
+use Rattle.stateful_exec_model.specs.Workings.{Workings, Point}
 use Rattle.stateful_exec_laws.specs.Setting.{setting}
 use Rattle.stateful_loop_laws.specs.Checkpoints.{Keeping}
 use Rattle.stateful_loop_laws.specs.Durability.{LoopBehind}

@@ -10,9 +10,9 @@ use Rattle.stateful_durability.specs.Durability.{Coverage, IsInOrder, receipts_u
 use Rattle.stateful_durability.proofs.Barriers.{completion_keeps_order}
 use Rattle.stateful_durability.proofs.Order.{with_duplicate_keeps_order, push_keeps_order}
 use Rattle.stateful_durability.proofs.Receipts.{in_front}
-use Rattle.stateful_exec.specs.Finalizing.{front_at}
-use Rattle.stateful_exec.specs.Workings.{Workings}
-use Rattle.stateful_exec.specs.declared.front.Stage.TheVariants.{Begun, Ran, Advanced}
+use Rattle.stateful_exec_model.specs.Finalizing.{front_at}
+use Rattle.stateful_exec_model.specs.Workings.{Workings}
+use Rattle.stateful_exec_model.specs.declared.front.Stage.TheVariants.{Begun, Ran, Advanced}
 use Rattle.stateful_loop_laws.proofs.tickets.Taken.{takes-front}
 use Rattle.stateful_loop.proofs.SoundingBarriers.{flushed_first}
 use Rattle.stateful_loop.proofs.SoundingRules.{takes_sound}

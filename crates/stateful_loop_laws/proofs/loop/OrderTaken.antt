@@ -6,7 +6,7 @@ use Rattle.stateful_base.specs.Names.{Named}
 use Rattle.stateful_base.specs.declared.floor.Floor.{Floor}
 use Rattle.stateful_durability.specs.Durability.{IsInOrder}
 use Rattle.stateful_history.specs.declared.event.Event.{Event}
-use Rattle.stateful_exec.specs.Workings.{Workings}
+use Rattle.stateful_exec_model.specs.Workings.{Workings}
 use Rattle.stateful_loop.specs.Intake.{Counts, TakesIn, enters, cancels, fetched, turns, flushes, stops, progresses, restarts, TurnsJob, build, hook, run}
 use Rattle.stateful_loop.specs.Moments.{Moment}
 use Rattle.stateful_loop.specs.Opening.{Opens}

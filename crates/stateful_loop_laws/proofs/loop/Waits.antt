@@ -11,7 +11,7 @@ use Rattle.stateful_db.specs.declared.barrier.Handle.{Handle}
 use Rattle.stateful_db.specs.declared.database.FlushToken.{FlushToken}
 use Rattle.stateful_history.specs.Barriers.{HasOutstandingBarrier, live_barrier}
 use Rattle.stateful_history.specs.Past.{Past}
-use Rattle.stateful_exec.specs.Workings.{Workings}
+use Rattle.stateful_exec_model.specs.Workings.{Workings}
 use Rattle.stateful_loop_laws.specs.Stands.{LoopStands}
 use Rattle.stateful_loop_laws.proofs.barriers.Down.{NoneLive}
 use Rattle.stateful_loop_laws.proofs.barriers.AwaitedItems.{awaited_first}

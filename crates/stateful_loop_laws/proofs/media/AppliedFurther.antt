@@ -17,7 +17,7 @@ use Rattle.stateful_history.specs.declared.event.Event.TheVariants.{Finalized, R
 use Rattle.stateful_history.specs.declared.mark.Mark.{Mark}
 use Rattle.stateful_history.specs.declared.mark.Mark.TheVariants.{Opened, Converged, Applied, BarrierDone}
 use Rattle.stateful_history.proofs.Marks.{after-append}
-use Rattle.stateful_exec.specs.Workings.{Workings}
+use Rattle.stateful_exec_model.specs.Workings.{Workings}
 use Rattle.stateful_exec_laws.specs.Building.{BuildsTakeTurns}
 use Rattle.stateful_exec_laws.specs.Fronting.{RunsTakeTurns}
 use Rattle.stateful_exec_laws.specs.Storing.{IsStoredNow}

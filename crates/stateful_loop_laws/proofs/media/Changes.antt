@@ -7,11 +7,11 @@ use Rattle.stateful_db.specs.declared.barrier.Flushed.TheVariants.{Good, Interru
 use Rattle.stateful_history.specs.declared.event.Event.{Event}
 use Rattle.stateful_history.specs.declared.mark.Mark.{Mark}
 use Rattle.stateful_history.specs.declared.mark.Mark.TheVariants.{BarrierDone}
-use Rattle.stateful_exec.specs.Finalizing.{HooksOn}
+use Rattle.stateful_exec_model.specs.Finalizing.{HooksOn}
 use Rattle.stateful_exec_tables.specs.Request.{ticket_by}
 use Rattle.stateful_exec_tables.specs.Tables.{requested}
-use Rattle.stateful_exec.specs.Workings.{Workings}
-use Rattle.stateful_exec.specs.declared.front.Front.{Front}
+use Rattle.stateful_exec_model.specs.Workings.{Workings}
+use Rattle.stateful_exec_model.specs.declared.front.Front.{Front}
 use Rattle.stateful_exec_tables.specs.declared.request.Request.{Request}
 use Rattle.stateful_exec_tables.specs.declared.state.Tables.{Tables}
 use Rattle.stateful_loop.proofs.SoundingTurns.{gives_up_anchor, builds_stays, fetched_stays}

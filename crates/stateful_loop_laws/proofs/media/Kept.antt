@@ -8,7 +8,7 @@ use Rattle.stateful_db.specs.Databases.{Databases, Preserves, IsOpening}
 use Rattle.stateful_db.specs.Laws.{Laws}
 use Rattle.stateful_history.specs.Durable.{durable}
 use Rattle.stateful_history.specs.Past.{Past}
-use Rattle.stateful_exec.specs.Workings.{Workings, Point}
+use Rattle.stateful_exec_model.specs.Workings.{Workings, Point}
 use Rattle.stateful_exec_laws.specs.Setting.{setting}
 use Rattle.stateful_loop_laws.specs.Checkpoints.{Keeping}
 use Rattle.stateful_loop_laws.specs.Media.{KeepsAt, KeepsDurably, targets_of, KeepsReopenable, HasHeight, KeepsHeights}

@@ -15,7 +15,7 @@ use Rattle.stateful_history.specs.Honest.{StoresHeights}
 use Rattle.stateful_history.specs.declared.event.Event.TheVariants.{Restart}
 use Rattle.stateful_history.specs.declared.mark.Mark.{Mark}
 use Rattle.stateful_history.specs.declared.mark.Mark.TheVariants.{Opened}
-use Rattle.stateful_exec.specs.Workings.{Workings}
+use Rattle.stateful_exec_model.specs.Workings.{Workings}
 use Rattle.stateful_exec_laws.specs.Storing.{IsStoredNow}
 use Rattle.stateful_loop.specs.Left.{IsTried, LeavesOpening, closed, not_opened, opened}
 use Rattle.stateful_loop.specs.Moments.{Moment}

@@ -12,14 +12,14 @@ use Rattle.stateful_history.specs.declared.mark.JobKind.TheVariants.{Build}
 use Rattle.stateful_history.specs.declared.mark.Mark.{Mark}
 use Rattle.stateful_history.specs.declared.mark.Mark.TheVariants.{Started, Declined, Began, Withdrawn}
 use Rattle.stateful_table.specs.Table.{at, without}
-use Rattle.stateful_exec.specs.Building.{StartsBuild}
+use Rattle.stateful_exec_model.specs.Building.{StartsBuild}
 use Rattle.stateful_exec_tables.specs.Queueing.{unqueued}
-use Rattle.stateful_exec.specs.Finalizing.{front_at}
+use Rattle.stateful_exec_model.specs.Finalizing.{front_at}
 use Rattle.stateful_exec_tables.specs.Phase.{dropped}
-use Rattle.stateful_exec.specs.Workings.{Workings}
-use Rattle.stateful_exec.specs.declared.building.Building.{Building}
-use Rattle.stateful_exec.specs.declared.front.Front.{Front}
-use Rattle.stateful_exec.specs.declared.front.Stage.TheVariants.{Begun}
+use Rattle.stateful_exec_model.specs.Workings.{Workings}
+use Rattle.stateful_exec_model.specs.declared.building.Building.{Building}
+use Rattle.stateful_exec_model.specs.declared.front.Front.{Front}
+use Rattle.stateful_exec_model.specs.declared.front.Stage.TheVariants.{Begun}
 use Rattle.stateful_exec_tables.specs.declared.pause.Pause.{Pause}
 use Rattle.stateful_exec_tables.specs.declared.state.Tables.{Tables}
 use Rattle.stateful_exec_tables.specs.declared.request.Proposal.{Proposal}

@@ -14,12 +14,12 @@ use Rattle.stateful_history.specs.declared.mark.How.TheVariants.{Nothing}
 use Rattle.stateful_history.specs.declared.mark.JobKind.TheVariants as job
 use Rattle.stateful_history.specs.declared.mark.Mark.{Mark}
 use Rattle.stateful_history.specs.declared.mark.Mark.TheVariants.{Ended, Declined, Built, Answered}
-use Rattle.stateful_exec.specs.Built.{decided, Gives, EndsBuild, TurnsBuild, other, goes_on, ends}
+use Rattle.stateful_exec_model.specs.Built.{decided, Gives, EndsBuild, TurnsBuild, other, goes_on, ends}
 use Rattle.stateful_db.specs.declared.application.ProposedBlock.{ProposedBlock}
-use Rattle.stateful_exec.specs.Moments as exec
-use Rattle.stateful_exec.specs.Workings.{Workings}
-use Rattle.stateful_exec.specs.declared.building.Building.{Building}
-use Rattle.stateful_exec.specs.declared.front.Front.{Front}
+use Rattle.stateful_exec_model.specs.Moments as exec
+use Rattle.stateful_exec_model.specs.Workings.{Workings}
+use Rattle.stateful_exec_model.specs.declared.building.Building.{Building}
+use Rattle.stateful_exec_model.specs.declared.front.Front.{Front}
 use Rattle.stateful_exec_laws.specs.Building.{BuildStands}
 use Rattle.stateful_exec_laws.specs.Due.{IsDue}
 use Rattle.stateful_exec_laws.specs.Setting.{setting}

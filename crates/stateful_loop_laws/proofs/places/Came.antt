@@ -16,7 +16,7 @@ use Rattle.stateful_history.specs.Stops.{IsRestart}
 use Rattle.stateful_history.specs.declared.event.Event.{Event}
 use Rattle.stateful_history.specs.declared.event.Event.TheVariants as event
 use Rattle.stateful_history.specs.declared.ticket.Ticket.{Ticket}
-use Rattle.stateful_exec.specs.Workings.{Workings}
+use Rattle.stateful_exec_model.specs.Workings.{Workings}
 use Rattle.stateful_exec_laws.specs.Outstanding.{TicketsApart}
 use Rattle.stateful_exec_laws.specs.Setting.{setting}
 use Rattle.stateful_exec_laws.proofs.runs.Removing.{differ}

@@ -11,10 +11,10 @@ use Rattle.stateful_history.specs.declared.event.Event.TheVariants.{Fetched}
 use Rattle.stateful_history.specs.declared.mark.Mark.{Mark}
 use Rattle.stateful_table.specs.Table.{at, without}
 use Rattle.stateful_exec_tables.specs.Fetching.{Fetches, with_block}
-use Rattle.stateful_exec.specs.Fetching.{serving, IsFetched, found, waits, declines, dead}
-use Rattle.stateful_exec.specs.Moments as exec
-use Rattle.stateful_exec.specs.Workings.{Workings}
-use Rattle.stateful_exec.specs.declared.front.Front.{Front}
+use Rattle.stateful_exec_model.specs.Fetching.{serving, IsFetched, found, waits, declines, dead}
+use Rattle.stateful_exec_model.specs.Moments as exec
+use Rattle.stateful_exec_model.specs.Workings.{Workings}
+use Rattle.stateful_exec_model.specs.declared.front.Front.{Front}
 use Rattle.stateful_exec_tables.specs.declared.request.Request.{Request}
 use Rattle.stateful_exec_tables.specs.declared.request.Request.TheVariants.{Verify, Recover}
 use Rattle.stateful_exec_tables.specs.declared.request.Verdict.TheVariants as verdict

@@ -9,10 +9,10 @@ use Rattle.stateful_history.specs.declared.mark.JobKind.TheVariants as job
 use Rattle.stateful_history.specs.declared.mark.Mark.{Mark}
 use Rattle.stateful_history.specs.declared.mark.Mark.TheVariants.{Started, Applied}
 use Rattle.stateful_exec_cache.specs.Cache.{IsIn}
-use Rattle.stateful_exec.specs.Finalizing.{front_at, HooksOn}
-use Rattle.stateful_exec.specs.Workings.{Workings}
-use Rattle.stateful_exec.specs.declared.front.Front.{Front}
-use Rattle.stateful_exec.specs.declared.front.Stage.TheVariants.{Begun, Advanced}
+use Rattle.stateful_exec_model.specs.Finalizing.{front_at, HooksOn}
+use Rattle.stateful_exec_model.specs.Workings.{Workings}
+use Rattle.stateful_exec_model.specs.declared.front.Front.{Front}
+use Rattle.stateful_exec_model.specs.declared.front.Stage.TheVariants.{Begun, Advanced}
 use Rattle.stateful_exec_tables.specs.declared.state.Tables.{Tables}
 use Rattle.stateful_exec_laws.specs.Due.{IsDue}
 use Rattle.stateful_exec_laws.specs.Fronting.{FrontStands}

@@ -4,10 +4,10 @@ use Rattle.stateful_base.specs.Names.{Named}
 use Rattle.stateful_history.specs.Finalizations.{finalized_since, FinalizesInOrder}
 use Rattle.stateful_history.specs.Past.{Past}
 use Rattle.stateful_history.specs.declared.mark.Mark.TheVariants.{Began, Applied}
-use Rattle.stateful_exec.specs.Finalizing.{front_at}
-use Rattle.stateful_exec.specs.Workings.{Workings}
-use Rattle.stateful_exec.specs.declared.front.Front.{Front}
-use Rattle.stateful_exec.specs.declared.front.Stage.TheVariants.{Begun, Ran}
+use Rattle.stateful_exec_model.specs.Finalizing.{front_at}
+use Rattle.stateful_exec_model.specs.Workings.{Workings}
+use Rattle.stateful_exec_model.specs.declared.front.Front.{Front}
+use Rattle.stateful_exec_model.specs.declared.front.Stage.TheVariants.{Begun, Ran}
 use Rattle.stateful_exec_laws.specs.Due.{IsDue}
 use Rattle.stateful_exec_laws.specs.Fronting.{FrontStands}
 use Rattle.stateful_exec_laws.specs.Setting.{setting}

@@ -15,7 +15,7 @@ use Rattle.stateful_history.specs.declared.mark.How.{How}
 use Rattle.stateful_history.specs.declared.mark.Mark.{Mark}
 use Rattle.stateful_history.specs.declared.mark.Mark.TheVariants as mark
 use Rattle.stateful_history.specs.declared.ticket.Ticket.{Ticket}
-use Rattle.stateful_exec.specs.Workings.{Workings}
+use Rattle.stateful_exec_model.specs.Workings.{Workings}
 use Rattle.stateful_exec_laws.specs.Orderly.{IsOrderly}
 use Rattle.stateful_exec_laws.specs.Outstanding.{TicketsApart}
 use Rattle.stateful_exec_laws.specs.Setting.{setting}

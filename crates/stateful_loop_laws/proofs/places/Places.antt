@@ -9,10 +9,10 @@ use Rattle.stateful_history.specs.Past.{Past, Item, after}
 use Rattle.stateful_history.proofs.Marks.{Met-after}
 use Rattle.stateful_history.specs.declared.mark.Mark.{Mark}
 use Rattle.stateful_exec_tables.specs.Fetching.{Fetches}
-use Rattle.stateful_exec.specs.Workings.{Workings, Point}
-use Rattle.stateful_exec.specs.declared.front.Front.{Front}
-use Rattle.stateful_exec.specs.declared.front.Stage.{Stage}
-use Rattle.stateful_exec.specs.declared.front.Stage.TheVariants.{Begun, Running, Ran, Advanced, Hooking}
+use Rattle.stateful_exec_model.specs.Workings.{Workings, Point}
+use Rattle.stateful_exec_model.specs.declared.front.Front.{Front}
+use Rattle.stateful_exec_model.specs.declared.front.Stage.{Stage}
+use Rattle.stateful_exec_model.specs.declared.front.Stage.TheVariants.{Begun, Running, Ran, Advanced, Hooking}
 use Rattle.stateful_exec_tables.specs.declared.pause.Pause.{Pause}
 use Rattle.stateful_exec_tables.specs.declared.pause.Pause.TheVariants.{Free, Finalizing}
 use Rattle.stateful_exec_tables.specs.declared.state.Tables.{Tables}

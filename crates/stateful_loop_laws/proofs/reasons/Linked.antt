@@ -8,7 +8,7 @@ use Rattle.stateful_history.specs.Past.{Past, Came, EachMark}
 use Rattle.stateful_history.specs.declared.event.Event.{Event}
 use Rattle.stateful_history.specs.declared.event.Event.TheVariants as event
 use Rattle.stateful_history.specs.declared.mark.Mark.{Mark}
-use Rattle.stateful_exec.specs.Workings.{Workings}
+use Rattle.stateful_exec_model.specs.Workings.{Workings}
 use Rattle.stateful_exec_laws.specs.Setting.{setting}
 use Rattle.stateful_loop.specs.Intake.{Counts, message_by, TakesIn, enters, cancels, fetched, turns, flushes, stops, progresses, restarts, build, hook, run}
 use Rattle.stateful_loop.specs.Message.{asks_of, asks_for}

@@ -9,8 +9,8 @@ use Rattle.stateful_history.specs.Telling.{telling_of}
 use Rattle.stateful_history.specs.declared.event.Event.{Event}
 use Rattle.stateful_history.specs.declared.mark.Mark.{Mark}
 use Rattle.stateful_history.specs.declared.mark.Mark.TheVariants.{Verdict, Declined}
-use Rattle.stateful_exec.specs.Moments as exec
-use Rattle.stateful_exec.specs.Workings.{Workings}
+use Rattle.stateful_exec_model.specs.Moments as exec
+use Rattle.stateful_exec_model.specs.Workings.{Workings}
 use Rattle.stateful_exec_laws.specs.Setting.{setting}
 use Rattle.stateful_exec_laws.proofs.requests.KeptMarks.{KeepsBehind}
 use Rattle.stateful_loop.specs.Moments.{Moment}

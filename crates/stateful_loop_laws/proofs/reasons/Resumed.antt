@@ -8,12 +8,12 @@ use Rattle.stateful_history.specs.Honest.{IsHonest, IsAnswered}
 use Rattle.stateful_history.specs.Past.{Past, after}
 use Rattle.stateful_history.specs.declared.event.Event.{Event}
 use Rattle.stateful_history.specs.declared.mark.Mark.{Mark}
-use Rattle.stateful_exec.specs.Ending.{InTurn}
-use Rattle.stateful_exec.specs.Moments.{Moment}
-use Rattle.stateful_exec.specs.Pausing.{GoesAlong, unparked, Resumes}
+use Rattle.stateful_exec_model.specs.Ending.{InTurn}
+use Rattle.stateful_exec_model.specs.Moments.{Moment}
+use Rattle.stateful_exec_model.specs.Pausing.{GoesAlong, unparked, Resumes}
 use Rattle.stateful_exec_tables.specs.Phase.{parked_in, unacquired_in}
 use Rattle.stateful_exec_tables.specs.Tables.{requested}
-use Rattle.stateful_exec.specs.Workings.{Workings, Point}
+use Rattle.stateful_exec_model.specs.Workings.{Workings, Point}
 use Rattle.stateful_exec_tables.specs.declared.pause.Pause.TheVariants.{Free}
 use Rattle.stateful_exec_tables.specs.declared.tables.Released.{Released}
 use Rattle.stateful_exec_laws.specs.Setting.{setting}

@@ -11,10 +11,10 @@ use Rattle.stateful_history.specs.Finalizations.{finalized_since}
 use Rattle.stateful_history.specs.Past.{Past, Item, Came}
 use Rattle.stateful_history.specs.Requests.{IsLiveReceipt}
 use Rattle.stateful_history.specs.declared.event.Event.TheVariants.{Finalized, Restart}
-use Rattle.stateful_exec.specs.Finalizing.{front_at}
-use Rattle.stateful_exec.specs.Workings.{Workings}
-use Rattle.stateful_exec.specs.declared.front.Front.{Front}
-use Rattle.stateful_exec.specs.declared.front.Stage.{Stage}
+use Rattle.stateful_exec_model.specs.Finalizing.{front_at}
+use Rattle.stateful_exec_model.specs.Workings.{Workings}
+use Rattle.stateful_exec_model.specs.declared.front.Front.{Front}
+use Rattle.stateful_exec_model.specs.declared.front.Stage.{Stage}
 use Rattle.stateful_exec_laws.specs.Ground.{IsOfBlock}
 use Rattle.stateful_exec_laws.specs.Setting.{setting}
 use Rattle.stateful_loop.specs.Moments.{Moment}

@@ -7,9 +7,9 @@ use Rattle.stateful_history.specs.Requests.{IsLiveReceipt}
 use Rattle.stateful_history.specs.Past.{Past, Made, after}
 use Rattle.stateful_history.specs.declared.mark.Mark.{Mark}
 use Rattle.stateful_history.specs.declared.mark.Mark.TheVariants as mark
-use Rattle.stateful_exec.specs.Finalizing.{front_at}
-use Rattle.stateful_exec.specs.Workings.{Workings}
-use Rattle.stateful_exec.specs.declared.front.Stage.TheVariants.{Begun}
+use Rattle.stateful_exec_model.specs.Finalizing.{front_at}
+use Rattle.stateful_exec_model.specs.Workings.{Workings}
+use Rattle.stateful_exec_model.specs.declared.front.Stage.TheVariants.{Begun}
 use Rattle.stateful_exec_tables.specs.declared.state.Tables.{Tables}
 use Rattle.stateful_exec_laws.specs.Setting.{setting}
 use Rattle.stateful_exec_laws.proofs.pauses.Passing.{PassesBy}

@@ -6,7 +6,7 @@ use Rattle.stateful_history.specs.Past.{Past, Came}
 use Rattle.stateful_history.specs.Stops.{IsRestart}
 use Rattle.stateful_history.specs.declared.event.Event.{Event}
 use Rattle.stateful_history.specs.declared.event.Event.TheVariants as event
-use Rattle.stateful_exec.specs.Workings.{Workings}
+use Rattle.stateful_exec_model.specs.Workings.{Workings}
 use Rattle.stateful_loop.specs.Intake.{Counts, TakesIn, enters, cancels, fetched, turns, flushes, stops, progresses, restarts}
 use Rattle.stateful_loop.specs.Moments.{Moment}
 use Rattle.stateful_loop_laws.specs.Execution.{Executes}

@@ -2,7 +2,7 @@
 use Rattle.std.proofs.Common.{◌≡◌, ℕ, [], Option, None, refl, sym, ap, ◌∙◌, subst}
 use Rattle.stateful_base.specs.Names.{Named}
 use Rattle.stateful_history.specs.Past.{Past}
-use Rattle.stateful_exec.specs.Workings.{Workings}
+use Rattle.stateful_exec_model.specs.Workings.{Workings}
 use Rattle.stateful_loop.specs.Moments.{Moment, Executing, with_loop}
 use Rattle.stateful_loop.specs.Rules as rules
 use Rattle.stateful_loop.specs.Rules.{DoesMessage, Rule}

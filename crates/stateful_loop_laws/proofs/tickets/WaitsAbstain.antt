@@ -14,7 +14,7 @@ use Rattle.stateful_exec_cache.specs.declared.cache.Cached.{Cached}
 use Rattle.stateful_exec_cache.specs.declared.judgement.Judgement.TheVariants as judged
 use Rattle.stateful_exec_tables.specs.Walk as walk
 use Rattle.stateful_exec_tables.specs.Walk.{IsNeeded, IsVerified, IsPrepared}
-use Rattle.stateful_exec.specs.Workings.{Workings, Point}
+use Rattle.stateful_exec_model.specs.Workings.{Workings, Point}
 use Rattle.stateful_exec_tables.specs.declared.pause.Pause.TheVariants.{Free}
 use Rattle.stateful_exec_tables.specs.declared.request.Request.{Request}
 use Rattle.stateful_exec_tables.specs.declared.request.Request.TheVariants.{Verify, Recover}

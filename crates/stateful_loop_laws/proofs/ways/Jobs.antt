@@ -16,13 +16,13 @@ use Rattle.stateful_history.specs.declared.mark.How.{How}
 use Rattle.stateful_history.specs.declared.mark.How.TheVariants as how
 use Rattle.stateful_history.specs.declared.mark.Mark.{Mark}
 use Rattle.stateful_history.specs.declared.mark.Mark.TheVariants.{Ended}
-use Rattle.stateful_exec.specs.Built.{Gives, EndsBuild, TurnsBuild, other, goes_on, ends}
-use Rattle.stateful_exec.specs.Finalizing.{SettlesFinal, StepsFinal, turned, not_live, SettlesHook, TurnsHook, hook_turned, unhooked, candidate, finalized}
-use Rattle.stateful_exec.specs.Finalizing.{Completes}
-use Rattle.stateful_exec.specs.Moments as exec
-use Rattle.stateful_exec.specs.Workings.{Workings}
-use Rattle.stateful_exec.specs.declared.building.Building.{Building}
-use Rattle.stateful_exec.specs.declared.front.Front.{Front}
+use Rattle.stateful_exec_model.specs.Built.{Gives, EndsBuild, TurnsBuild, other, goes_on, ends}
+use Rattle.stateful_exec_model.specs.Finalizing.{SettlesFinal, StepsFinal, turned, not_live, SettlesHook, TurnsHook, hook_turned, unhooked, candidate, finalized}
+use Rattle.stateful_exec_model.specs.Finalizing.{Completes}
+use Rattle.stateful_exec_model.specs.Moments as exec
+use Rattle.stateful_exec_model.specs.Workings.{Workings}
+use Rattle.stateful_exec_model.specs.declared.building.Building.{Building}
+use Rattle.stateful_exec_model.specs.declared.front.Front.{Front}
 use Rattle.stateful_exec_tables.specs.declared.pause.Pause.TheVariants.{Free}
 use Rattle.stateful_exec_laws.proofs.earned.Carried.{IsMild}
 use Rattle.stateful_loop.specs.Intake.{Counts, Builds, TurnsJob}

@@ -12,7 +12,7 @@ use Rattle.stateful_history.specs.Honest.{StoresAs, StoresFinalized}
 use Rattle.stateful_history.specs.declared.event.Event.TheVariants.{Finalized, Restart}
 use Rattle.stateful_history.specs.declared.mark.Mark.{Mark}
 use Rattle.stateful_history.specs.declared.mark.Mark.TheVariants.{BarrierBegun, BarrierDone, Databases}
-use Rattle.stateful_exec.specs.Workings.{Workings}
+use Rattle.stateful_exec_model.specs.Workings.{Workings}
 use Rattle.stateful_exec_laws.proofs.earned.Carried.{IsMild}
 use Rattle.stateful_exec_laws.specs.Storing.{IsStoredNow}
 use Rattle.stateful_loop.specs.Moments.{Moment, Executing, with_loop}

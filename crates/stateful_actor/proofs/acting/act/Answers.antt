@@ -1,7 +1,7 @@
 use Rattle.stateful_actor.proofs.Arms.{other_event}
 use Rattle.std.proofs.Common.{ap, sym, ◌∙◌, true≢false}
 use Rattle.std.proofs.lemmas.Result.{on_ok_weaker}
-use Rattle.stateful_exec.specs.Workings.{workings}
+use Rattle.stateful_exec_model.specs.Workings.{workings}
 use Rattle.stateful_loop.specs.Moments.{executing, moment}
 use Rattle.stateful_loop.specs.Noted.{unobserved}
 use Rattle.stateful_loop.proofs.Intakes.{on_err}

@@ -7,7 +7,7 @@ use Rattle.stateful_exec_laws.specs.Storing.{IsStoredNow}
 use Rattle.stateful_loop_laws.specs.Media.{TargetsRise}
 use Rattle.stateful_actor_laws.specs.Media.{MediaStand, StandsOnMedia}
 use Rattle.stateful_exec_cache.proofs.Cutting.{one_over, none_over}
-use Rattle.stateful_exec.specs.Workings.{workings}
+use Rattle.stateful_exec_model.specs.Workings.{workings}
 use Rattle.stateful_actor_register.proofs.Entries.{RegisterStands-none}
 use Rattle.stateful_loop.specs.Moments.{moment}
 use Rattle.stateful_actor_laws.specs.Stands.{Stands}

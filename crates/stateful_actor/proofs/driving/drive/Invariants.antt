@@ -5,7 +5,7 @@ use Rattle.stateful_history.specs.Honest.{HasHonestStore}
 use Rattle.stateful_exec_laws.specs.Setting.{setting}
 use Rattle.stateful_loop_laws.specs.Media.{TargetsRise}
 use Rattle.stateful_actor_register.specs.Register.{RegisterStands}
-use Rattle.stateful_exec.specs.Workings.{workings}
+use Rattle.stateful_exec_model.specs.Workings.{workings}
 use Rattle.stateful_loop.specs.Moments.{moment}
 use Rattle.stateful_loop.specs.Noted.{noted_all}
 use Rattle.stateful_actor_laws.specs.Entering.{Steps}

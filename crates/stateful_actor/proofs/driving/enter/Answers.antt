@@ -1,6 +1,6 @@
 use Rattle.std.proofs.Common.{rules, ◌≡◌, [], Err, ◌∙◌, refl, ap}
 use Rattle.stateful_history.specs.Past.{after_all}
-use Rattle.stateful_exec.specs.Workings.{workings}
+use Rattle.stateful_exec_model.specs.Workings.{workings}
 use Rattle.stateful_loop.proofs.Handing.{converted, err_holds}
 use Rattle.stateful_loop.specs.Moments.{moment}
 use Rattle.stateful_loop.specs.declared.error.StepError.TheVariants.{OutOfMemory}

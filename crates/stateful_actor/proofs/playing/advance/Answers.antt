@@ -1,6 +1,6 @@
 use Rattle.std.proofs.Common.{refl}
 use Rattle.std.proofs.lemmas.Result.{on_ok_weaker}
-use Rattle.stateful_exec.specs.Workings.{workings}
+use Rattle.stateful_exec_model.specs.Workings.{workings}
 use Rattle.stateful_loop.specs.Moments.{executing, moment}
 use Rattle.stateful_loop.proofs.Intakes.{on_err}
 use Rattle.stateful_loop.proofs.SoundingIntake.{taken_in_sound}

@@ -1,5 +1,5 @@
 use Rattle.std.proofs.Common.{inl, inr, refl, arith, ap}
-use Rattle.stateful_exec.specs.Workings.{workings}
+use Rattle.stateful_exec_model.specs.Workings.{workings}
 use Rattle.stateful_loop.specs.Left.{keeps}
 use Rattle.stateful_loop.specs.Moments.{executing, moment}
 use Rattle.stateful_loop.proofs.Handing.{converted, err_holds}

@@ -1,5 +1,5 @@
 use Rattle.std.proofs.Common.{[], inr, arith, refl, ap, ◌∙◌}
-use Rattle.stateful_exec.specs.Workings.{workings}
+use Rattle.stateful_exec_model.specs.Workings.{workings}
 use Rattle.stateful_loop.specs.Moments.{executing, moment}
 use Rattle.stateful_loop.proofs.Handing.{err_holds}
 use Rattle.stateful_loop.proofs.SoundingOpenings.{opens_sound}

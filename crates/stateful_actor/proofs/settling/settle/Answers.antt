@@ -1,5 +1,5 @@
 use Rattle.std.proofs.Common.{◌≡◌, Bool, refl, sym, subst, arith}
-use Rattle.stateful_exec.specs.Workings.{workings}
+use Rattle.stateful_exec_model.specs.Workings.{workings}
 use Rattle.stateful_loop.specs.Moments.{Moment, executing, moment}
 use Rattle.stateful_loop.specs.Rules.{none, further, Along, Goes, Quiet}
 use Rattle.stateful_loop.specs.Sound.{Sound}

@@ -1,8 +1,8 @@
 use Rattle.std.proofs.Common.{refl}
-use Rattle.stateful_exec.specs.Workings.{workings}
-use Rattle.stateful_exec.specs.Moments.{moment}
-use Rattle.stateful_exec.specs.Verifying.{no_next}
-use Rattle.stateful_exec.proofs.Joining.{at_known, at_live, at_missed, at_started, at_refused, unless_memory}
+use Rattle.stateful_exec_model.specs.Workings.{workings}
+use Rattle.stateful_exec_model.specs.Moments.{moment}
+use Rattle.stateful_exec_model.specs.Verifying.{no_next}
+use Rattle.stateful_exec_model.proofs.Joining.{at_known, at_live, at_missed, at_started, at_refused, unless_memory}
 use Rattle.stateful_exec.proofs.verifying.process.Goals as goal
 
 pub returns-in_default-clause-ok : goal.returns-in_default-clause-ok

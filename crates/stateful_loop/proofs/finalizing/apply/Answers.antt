@@ -1,5 +1,5 @@
 use Rattle.std.proofs.Common.{rules, Err, ap, inr}
-use Rattle.stateful_exec.specs.Workings.{workings}
+use Rattle.stateful_exec_model.specs.Workings.{workings}
 use Rattle.stateful_loop.specs.Errors.{error_of_set}
 use Rattle.stateful_loop.specs.Moments.{executing}
 use Rattle.stateful_loop.proofs.Handing.{converted, err_holds}

@@ -1,8 +1,8 @@
 use Rattle.std.proofs.Common.{ap, subst, inr, refl, ◌∙◌}
 use Rattle.stateful_base.specs.Causes.{Rose}
-use Rattle.stateful_exec.specs.Moments as exec
-use Rattle.stateful_exec.specs.Pausing.{FaultsResume}
-use Rattle.stateful_exec.specs.Workings.{workings}
+use Rattle.stateful_exec_model.specs.Moments as exec
+use Rattle.stateful_exec_model.specs.Pausing.{FaultsResume}
+use Rattle.stateful_exec_model.specs.Workings.{workings}
 use Rattle.stateful_loop.specs.Errors.{error_of_exec}
 use Rattle.stateful_loop.specs.Moments.{executing}
 use Rattle.stateful_loop.proofs.Handing.{converted}

@@ -1,5 +1,5 @@
 use Rattle.std.proofs.Common.{◌∙◌, sym, refl, inr, Some, inl}
-use Rattle.stateful_exec.specs.Workings.{workings}
+use Rattle.stateful_exec_model.specs.Workings.{workings}
 use Rattle.stateful_loop.specs.Rules.{applies}
 use Rattle.stateful_loop.proofs.Handing.{converted, err_holds}
 use Rattle.stateful_loop.proofs.Leaving.{left_by_rule}

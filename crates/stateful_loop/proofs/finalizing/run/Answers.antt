@@ -2,7 +2,7 @@ use Rattle.stateful_loop.proofs.Finalizations.{same_moment}
 use Rattle.stateful_loop.proofs.NotesFollowing.{not_by_memory}
 use Rattle.stateful_loop.proofs.finalizing.run.Goals as goal
 use Rattle.std.proofs.Common.{refl}
-use Rattle.stateful_exec.specs.Workings.{workings}
+use Rattle.stateful_exec_model.specs.Workings.{workings}
 
 pub returns-clause-ok : goal.returns-clause-ok
 returns-clause-ok g c = λ l.

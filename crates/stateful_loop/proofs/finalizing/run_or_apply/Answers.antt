@@ -1,6 +1,6 @@
 use Rattle.std.proofs.Common.{inl, Some, refl}
 use Rattle.std.proofs.lemmas.Result.{on_ok_weaker, MatchResult-weaker}
-use Rattle.stateful_exec.specs.Workings.{workings}
+use Rattle.stateful_exec_model.specs.Workings.{workings}
 use Rattle.stateful_loop.specs.Causes.{running}
 use Rattle.stateful_loop.specs.Rules.{applies, runs}
 use Rattle.stateful_loop.proofs.Handing.{converted}

@@ -1,7 +1,7 @@
 use Rattle.std.proofs.Common.{◌≡◌, rules, Some, None, IsSome, inl, refl, sym, ap, ◌∙◌}
 use Rattle.std.proofs.lemmas.Result.{MatchResult-weaker}
 use Rattle.stateful_base.specs.Causes.{Rose}
-use Rattle.stateful_exec.specs.Workings.{workings}
+use Rattle.stateful_exec_model.specs.Workings.{workings}
 use Rattle.stateful_loop.specs.Causes.{FaultsRule}
 use Rattle.stateful_loop.specs.Moments.{Moment, executing, moment}
 use Rattle.stateful_loop.specs.Rules.{Goes}

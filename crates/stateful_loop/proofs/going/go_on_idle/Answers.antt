@@ -1,5 +1,5 @@
 use Rattle.std.proofs.Common.{rules}
-use Rattle.stateful_exec.specs.Workings.{workings}
+use Rattle.stateful_exec_model.specs.Workings.{workings}
 use Rattle.stateful_loop.specs.Moments.{executing}
 use Rattle.stateful_loop.specs.Rules.Rule.{begins}
 use Rattle.stateful_loop.proofs.Idles.{breaks_barrier, completes_barrier}

@@ -1,5 +1,5 @@
 use Rattle.std.proofs.Common.{ap, refl}
-use Rattle.stateful_exec.specs.Workings.{workings}
+use Rattle.stateful_exec_model.specs.Workings.{workings}
 use Rattle.stateful_loop.specs.Intake.{build as by_build, hook as by_hook, run as by_run, building, hooking, running}
 use Rattle.stateful_loop.specs.Moments.{executing, moment}
 use Rattle.stateful_loop.proofs.Intakes.{err_to}

@@ -2,7 +2,7 @@ use Rattle.std.proofs.Common.{rules, ◌++◌, ◌∷◌, [], true, Some, ap, �
 use Rattle.stateful_base.specs.declared.anchor.Anchor.{Anchor}
 use Rattle.stateful_durability.specs.Durability.{Coverage}
 use Rattle.stateful_history.specs.declared.mark.Mark.TheVariants as mark
-use Rattle.stateful_exec.specs.Workings.{workings}
+use Rattle.stateful_exec_model.specs.Workings.{workings}
 use Rattle.stateful_loop.specs.Errors.{error_of_init}
 use Rattle.stateful_loop.specs.Left.{not_opened, opened}
 use Rattle.stateful_loop.specs.Opening.{FaultsOpening}

@@ -1,8 +1,8 @@
 use Rattle.std.proofs.Common.{◌∷◌, ◌++◌, [], refl, ap, ◌∙◌}
 use Rattle.stateful_history.specs.declared.mark.JobKind.TheVariants as job
 use Rattle.stateful_history.specs.declared.mark.Mark.TheVariants as mark
-use Rattle.stateful_exec.specs.Building.FaultsPropose.{memory}
-use Rattle.stateful_exec.specs.Workings.{workings}
+use Rattle.stateful_exec_model.specs.Building.FaultsPropose.{memory}
+use Rattle.stateful_exec_model.specs.Workings.{workings}
 use Rattle.stateful_loop.proofs.Handing.{refused, out_of_memory}
 use Rattle.stateful_loop.proofs.Takes.{begun, declined}
 use Rattle.stateful_loop.specs.Moments.{executing}

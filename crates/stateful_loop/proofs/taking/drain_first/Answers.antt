@@ -1,5 +1,5 @@
 use Rattle.std.proofs.Common.{sym, ◌∙◌}
-use Rattle.stateful_exec.specs.Workings.{workings}
+use Rattle.stateful_exec_model.specs.Workings.{workings}
 use Rattle.stateful_loop.proofs.Handing.{converted}
 use Rattle.stateful_loop.proofs.Firsts.{drained, not_drained, put_off}
 use Rattle.stateful_loop.specs.Moments.{executing, moment}

@@ -1,5 +1,5 @@
 use Rattle.std.proofs.Common.{◌≤◌, ◌<◌, arith}
-use Rattle.stateful_exec.specs.Workings.{workings}
+use Rattle.stateful_exec_model.specs.Workings.{workings}
 use Rattle.stateful_loop.proofs.Takes.{acknowledged_again, held_again}
 use Rattle.stateful_loop.specs.Moments.{executing}
 use Rattle.stateful_loop.proofs.taking.duplicate.Goals as goal

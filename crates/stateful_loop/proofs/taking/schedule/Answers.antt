@@ -1,4 +1,4 @@
-use Rattle.stateful_exec.specs.Workings.{workings}
+use Rattle.stateful_exec_model.specs.Workings.{workings}
 use Rattle.stateful_loop.proofs.Handing.{refused}
 use Rattle.stateful_loop.proofs.Takes.{scheduled}
 use Rattle.stateful_loop.specs.Moments.{executing}

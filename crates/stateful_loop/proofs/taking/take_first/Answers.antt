@@ -1,5 +1,5 @@
 use Rattle.std.proofs.Common.{◌∷◌, refl, ap, ◌∙◌}
-use Rattle.stateful_exec.specs.Workings.{workings}
+use Rattle.stateful_exec_model.specs.Workings.{workings}
 use Rattle.stateful_loop.proofs.Handing.{converted}
 use Rattle.stateful_loop.proofs.Firsts.{takes_message, not_taken}
 use Rattle.stateful_loop.specs.Causes.FaultsRule.{building}

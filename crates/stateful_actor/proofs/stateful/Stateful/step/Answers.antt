@@ -1,5 +1,5 @@
 use Rattle.std.proofs.Common.{[], refl, true, sym, ap, ◌∙◌, ⊎_elim, true≢false}
-use Rattle.stateful_exec.specs.Workings.{workings}
+use Rattle.stateful_exec_model.specs.Workings.{workings}
 use Rattle.stateful_loop.proofs.Handing.{converted}
 use Rattle.stateful_loop.proofs.SoundingKept.{Sound-kept}
 use Rattle.stateful_loop.specs.Moments.{executing, moment}
