@@ -21,10 +21,10 @@ use Rattle.stateful_exec_laws.specs.Setting.{setting}
 use Rattle.stateful_exec_laws.specs.Storing.{IsStoredNow}
 use Rattle.stateful_loop_laws.specs.Stands.{IsUpAt}
 use Rattle.stateful_loop_laws.proofs.events.TakenIn.{may_come-live}
-use Rattle.stateful_loop.specs.Intake.{Counts}
-use Rattle.stateful_loop.specs.Moments.{Moment}
-use Rattle.stateful_loop.specs.declared.error.StepError.{StepError}
-use Rattle.stateful_loop.specs.declared.error.StepError.TheVariants.{OutOfMemory, Failed, BadEvent, Exhausted, Application, DatabaseFault}
+use Rattle.stateful_loop_model.specs.Intake.{Counts}
+use Rattle.stateful_loop_model.specs.Moments.{Moment}
+use Rattle.stateful_loop_model.specs.declared.error.StepError.{StepError}
+use Rattle.stateful_loop_model.specs.declared.error.StepError.TheVariants.{OutOfMemory, Failed, BadEvent, Exhausted, Application, DatabaseFault}
 use Rattle.stateful_actor_laws.specs.Entering.{Steps}
 use Rattle.stateful_actor_laws.specs.Machine.{numbered, is_restart, IsNew}
 use Rattle.stateful_actor_laws.specs.Stands.{StandsAt, Stands}

@@ -8,8 +8,8 @@ use Rattle.stateful_history.specs.declared.event.Event.TheVariants.{Restart}
 use Rattle.stateful_exec_model.specs.Workings.{Workings}
 use Rattle.stateful_loop_laws.specs.Media.{KeepsReopenable}
 use Rattle.stateful_actor_register.specs.declared.register.Register.{Register}
-use Rattle.stateful_loop.specs.Intake.{Counts}
-use Rattle.stateful_loop.specs.Moments.{Moment}
+use Rattle.stateful_loop_model.specs.Intake.{Counts}
+use Rattle.stateful_loop_model.specs.Moments.{Moment}
 use Rattle.stateful_actor_laws.specs.Media.{behind_refusal, MediaStand, LeavesMedia}
 use Rattle.stateful_actor.specs.Driving.{KeepsMedia}
 

@@ -5,8 +5,8 @@ use Rattle.stateful_history.specs.Finalizations.{applied_in}
 use Rattle.stateful_history.specs.declared.entry.Entry.{Entry}
 use Rattle.stateful_history.specs.declared.event.Event.{Event}
 use Rattle.stateful_history.specs.declared.mark.Mark.{Mark}
-use Rattle.stateful_loop.specs.Noted.{noted_all}
-use Rattle.stateful_loop.proofs.NotesFollowing.{noted_all-append}
+use Rattle.stateful_loop_model.specs.Noted.{noted_all}
+use Rattle.stateful_loop_model.proofs.NotesFollowing.{noted_all-append}
 use Rattle.stateful_actor.specs.Notes.{applied_along}
 
 module _ {B C I : Type 0} where

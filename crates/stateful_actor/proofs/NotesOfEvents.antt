@@ -14,14 +14,14 @@ use Rattle.stateful_exec_model.specs.Workings.{Workings}
 use Rattle.stateful_actor_register.specs.Ends.{withdrawn, cancelled, declined, dropped}
 use Rattle.stateful_actor_register.specs.Register.{RegisterStands}
 use Rattle.stateful_actor_register.specs.declared.register.Register.{Register}
-use Rattle.stateful_loop.specs.Intake.{Counts, TakesIn, enters, cancels, fetched, turns, flushes, stops, progresses, restarts, TurnsJob, build, hook, run}
-use Rattle.stateful_loop.specs.Moments.{Moment}
-use Rattle.stateful_loop.specs.Noted.{noted_all, unobserved, NotesFollow, NotesMayFollow}
-use Rattle.stateful_loop.specs.Sound.{Sound}
-use Rattle.stateful_loop.specs.declared.tables.Finalizing.{Finalizing}
-use Rattle.stateful_loop.proofs.AppliedMarks.{applied_in-append, AppliesNone, AppliesNone-made, withdrawn_none}
-use Rattle.stateful_loop.proofs.NotesFollowing.{noted_all-append, leaves_follow}
-use Rattle.stateful_loop.proofs.Observing.{leaves_front, settled_observed}
+use Rattle.stateful_loop_model.specs.Intake.{Counts, TakesIn, enters, cancels, fetched, turns, flushes, stops, progresses, restarts, TurnsJob, build, hook, run}
+use Rattle.stateful_loop_model.specs.Moments.{Moment}
+use Rattle.stateful_loop_model.specs.Noted.{noted_all, unobserved, NotesFollow, NotesMayFollow}
+use Rattle.stateful_loop_model.specs.Sound.{Sound}
+use Rattle.stateful_loop_model.specs.declared.tables.Finalizing.{Finalizing}
+use Rattle.stateful_loop_model.proofs.AppliedMarks.{applied_in-append, AppliesNone, AppliesNone-made, withdrawn_none}
+use Rattle.stateful_loop_model.proofs.NotesFollowing.{noted_all-append, leaves_follow}
+use Rattle.stateful_loop_model.proofs.Observing.{leaves_front, settled_observed}
 use Rattle.stateful_loop_laws.proofs.duly.PlainMarks.{IsPlain, taken_in_plain}
 use Rattle.stateful_actor_laws.specs.Machine.{numbered, is_restart}
 use Rattle.stateful_actor_laws.specs.Steps.{EndsWork, Settles}

@@ -5,16 +5,16 @@ use Rattle.stateful_history.specs.declared.event.Event.{Event}
 use Rattle.stateful_exec_model.specs.Workings.{Workings}
 use Rattle.stateful_exec_tables.specs.declared.error.ExecError.{ExecError}
 use Rattle.stateful_exec_tables.specs.declared.error.ExecError.TheVariants as exec
-use Rattle.stateful_loop.specs.Causes.{Via, FaultsBarrier, FaultsFlush, FaultsApply, FaultsMessage, FaultsRule}
-use Rattle.stateful_loop.specs.Causes as rule
-use Rattle.stateful_loop.specs.Errors.{error_of_exec}
-use Rattle.stateful_loop.specs.Intake.{Counts, FaultsIntake}
-use Rattle.stateful_loop.specs.Intake as intake
-use Rattle.stateful_loop.specs.Moments.{Moment}
-use Rattle.stateful_loop.specs.declared.error.StepError.{StepError}
-use Rattle.stateful_loop.specs.declared.error.StepError.TheVariants.{BadEvent}
-use Rattle.stateful_loop.specs.declared.message.Message.{Message}
-use Rattle.stateful_loop.specs.declared.message.Message.TheVariants as message
+use Rattle.stateful_loop_model.specs.Causes.{Via, FaultsBarrier, FaultsFlush, FaultsApply, FaultsMessage, FaultsRule}
+use Rattle.stateful_loop_model.specs.Causes as rule
+use Rattle.stateful_loop_model.specs.Errors.{error_of_exec}
+use Rattle.stateful_loop_model.specs.Intake.{Counts, FaultsIntake}
+use Rattle.stateful_loop_model.specs.Intake as intake
+use Rattle.stateful_loop_model.specs.Moments.{Moment}
+use Rattle.stateful_loop_model.specs.declared.error.StepError.{StepError}
+use Rattle.stateful_loop_model.specs.declared.error.StepError.TheVariants.{BadEvent}
+use Rattle.stateful_loop_model.specs.declared.message.Message.{Message}
+use Rattle.stateful_loop_model.specs.declared.message.Message.TheVariants as message
 use Rattle.stateful_actor.specs.Faults.{memory, taking, going, Tally, FaultsPlay}
 
 exec_other : (fault : ExecError) → error_of_exec fault ≡ BadEvent → ⊥

@@ -11,10 +11,10 @@ use Rattle.stateful_history.specs.declared.event.Event.TheVariants.{Restart}
 use Rattle.stateful_exec_model.specs.Workings.{Workings}
 use Rattle.stateful_actor_register.specs.declared.register.Register.{Register}
 use Rattle.stateful_exec_laws.specs.Setting.{setting}
-use Rattle.stateful_loop.specs.Intake.{Counts}
-use Rattle.stateful_loop.specs.Moments.{Moment}
-use Rattle.stateful_loop.specs.declared.error.StepError.{StepError}
-use Rattle.stateful_loop.specs.declared.error.StepError.TheVariants.{OutOfMemory}
+use Rattle.stateful_loop_model.specs.Intake.{Counts}
+use Rattle.stateful_loop_model.specs.Moments.{Moment}
+use Rattle.stateful_loop_model.specs.declared.error.StepError.{StepError}
+use Rattle.stateful_loop_model.specs.declared.error.StepError.TheVariants.{OutOfMemory}
 use Rattle.stateful_actor_laws.specs.Media.{MediaStand, TargetsName, OpensOn}
 use Rattle.stateful_actor_laws.specs.Steps.{IsStep}
 use Rattle.stateful_actor_laws.proofs.complete.MediaRefused.{reopens-memory, reopens-on}

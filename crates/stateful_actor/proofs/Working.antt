@@ -18,13 +18,13 @@ use Rattle.stateful_actor_register.specs.declared.register.Register.{Register}
 use Rattle.stateful_loop_laws.specs.Stands.{IsUpAt}
 use Rattle.stateful_loop_laws.proofs.media.Opens.{refused-memory}
 use Rattle.stateful_loop_laws.proofs.events.TakenIn.{may_come-live}
-use Rattle.stateful_loop.specs.Barriers.{awaiting}
-use Rattle.stateful_loop.specs.Intake.{Counts}
-use Rattle.stateful_loop.specs.Moments.{Moment}
-use Rattle.stateful_loop.specs.Opening.{FaultsOpening}
-use Rattle.stateful_loop.specs.Sound.{Sound}
-use Rattle.stateful_loop.specs.declared.error.StepError.{StepError}
-use Rattle.stateful_loop.specs.declared.error.StepError.TheVariants as error
+use Rattle.stateful_loop_model.specs.Barriers.{awaiting}
+use Rattle.stateful_loop_model.specs.Intake.{Counts}
+use Rattle.stateful_loop_model.specs.Moments.{Moment}
+use Rattle.stateful_loop_model.specs.Opening.{FaultsOpening}
+use Rattle.stateful_loop_model.specs.Sound.{Sound}
+use Rattle.stateful_loop_model.specs.declared.error.StepError.{StepError}
+use Rattle.stateful_loop_model.specs.declared.error.StepError.TheVariants as error
 use Rattle.stateful_actor_laws.specs.Machine.{numbered, is_restart}
 use Rattle.stateful_actor_laws.specs.Stands.{StandsAt}
 use Rattle.stateful_actor_laws.proofs.work.LiveFlushes.{numbered_le, names_live-more}

@@ -16,11 +16,11 @@ use Rattle.stateful_actor_register.specs.declared.register.Register.{Register}
 use Rattle.stateful_exec_laws.specs.Setting.{setting}
 use Rattle.stateful_exec_laws.specs.Storing.{IsStoredNow}
 use Rattle.stateful_loop_laws.specs.Media.{TargetsRise}
-use Rattle.stateful_loop.specs.Intake.{Counts}
-use Rattle.stateful_loop.specs.Moments.{Moment}
-use Rattle.stateful_loop.specs.declared.error.StepError.{StepError}
-use Rattle.stateful_loop.specs.declared.error.StepError.TheVariants.{BadEvent, Failed}
-use Rattle.stateful_loop.specs.declared.error.StepError.TheVariants.{OutOfMemory}
+use Rattle.stateful_loop_model.specs.Intake.{Counts}
+use Rattle.stateful_loop_model.specs.Moments.{Moment}
+use Rattle.stateful_loop_model.specs.declared.error.StepError.{StepError}
+use Rattle.stateful_loop_model.specs.declared.error.StepError.TheVariants.{BadEvent, Failed}
+use Rattle.stateful_loop_model.specs.declared.error.StepError.TheVariants.{OutOfMemory}
 use Rattle.stateful_actor.specs.Faults.{Tally, HasNotFallen, IsCause}
 use Rattle.stateful_actor_laws.specs.Left.{LeavesPlay, LeavesBehind}
 use Rattle.stateful_actor_laws.specs.Machine.{numbered, is_restart}

@@ -10,14 +10,14 @@ use Rattle.stateful_history.specs.declared.event.Event.TheVariants.{Restart}
 use Rattle.stateful_exec_model.specs.Workings.{Workings}
 use Rattle.stateful_actor_register.specs.Register.{RegisterStands}
 use Rattle.stateful_actor_register.specs.declared.register.Register.{Register}
-use Rattle.stateful_loop.specs.Causes.{FaultsRule}
-use Rattle.stateful_loop.specs.Intake.{Counts, TakesIn, FaultsIntake}
-use Rattle.stateful_loop.specs.Moments.{Moment}
-use Rattle.stateful_loop.specs.Opening.{FaultsOpening}
-use Rattle.stateful_loop.specs.Rules.{Along}
-use Rattle.stateful_loop.specs.declared.error.StepError.{StepError}
-use Rattle.stateful_loop.specs.declared.error.StepError.TheVariants.{BadEvent, Failed}
-use Rattle.stateful_loop.specs.declared.error.StepError.TheVariants.{OutOfMemory}
+use Rattle.stateful_loop_model.specs.Causes.{FaultsRule}
+use Rattle.stateful_loop_model.specs.Intake.{Counts, TakesIn, FaultsIntake}
+use Rattle.stateful_loop_model.specs.Moments.{Moment}
+use Rattle.stateful_loop_model.specs.Opening.{FaultsOpening}
+use Rattle.stateful_loop_model.specs.Rules.{Along}
+use Rattle.stateful_loop_model.specs.declared.error.StepError.{StepError}
+use Rattle.stateful_loop_model.specs.declared.error.StepError.TheVariants.{BadEvent, Failed}
+use Rattle.stateful_loop_model.specs.declared.error.StepError.TheVariants.{OutOfMemory}
 use Rattle.stateful_actor_laws.specs.Machine.{numbered, is_restart}
 
 -- how often the application has failed, and the database of each number

@@ -1,8 +1,8 @@
 -- What is seen of a machine.
 use Rattle.std.specs.Prelude.{ℕ, ◌+◌, ◌-◌, ◌^◌, min, Bool, Result, Ok, Err}
 use Rattle.stateful_actor_register.specs.declared.register.Register.{Register}
-use Rattle.stateful_loop.specs.declared.error.StepError.{StepError}
-use Rattle.stateful_loop.specs.declared.error.StepError.TheVariants.{Application}
+use Rattle.stateful_loop_model.specs.declared.error.StepError.{StepError}
+use Rattle.stateful_loop_model.specs.declared.error.StepError.TheVariants.{Application}
 
 -- an application, what is kept of execution and of the loop, the register of live work, what builds
 -- are given, how databases are opened, whether the machine has answered an error since its last

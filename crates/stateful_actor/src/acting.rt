@@ -9,9 +9,9 @@
 
 ghost use Rattle.std.specs.Prelude.{◌≡◌, ◌≤◌, [], ℕ, true, false, List, OnOk, OnErr, IfErr};
 ghost use Rattle.stateful_exec_tables.specs.Tables.{Rises};
-ghost use Rattle.stateful_loop.specs.Moments.{executing, moment};
-ghost use Rattle.stateful_loop.specs.Noted.{unobserved};
-ghost use Rattle.stateful_loop.specs.Sound.{Sound};
+ghost use Rattle.stateful_loop_model.specs.Moments.{executing, moment};
+ghost use Rattle.stateful_loop_model.specs.Noted.{unobserved};
+ghost use Rattle.stateful_loop_model.specs.Sound.{Sound};
 ghost use Rattle.stateful_actor.specs.Faults.{tally, FaultsStep};
 ghost use Rattle.stateful_actor.specs.Notes.{NotesAlong, NotesRefused};
 ghost use Rattle.stateful_history.specs.Past.{Past};

@@ -9,9 +9,9 @@
 
 ghost use Rattle.std.specs.Prelude.{◌≡◌, ◌≤◌, [], ℕ, List, OnOk, OnErr, IfErr};
 ghost use Rattle.stateful_exec_tables.specs.Tables.{Rises};
-ghost use Rattle.stateful_loop.specs.Moments.{executing, moment};
-ghost use Rattle.stateful_loop.specs.Noted.{unobserved, NotesFollow};
-ghost use Rattle.stateful_loop.specs.Sound.{IsUp, Sound};
+ghost use Rattle.stateful_loop_model.specs.Moments.{executing, moment};
+ghost use Rattle.stateful_loop_model.specs.Noted.{unobserved, NotesFollow};
+ghost use Rattle.stateful_loop_model.specs.Sound.{IsUp, Sound};
 ghost use Rattle.stateful_actor.specs.Faults.{tally, FaultsPlay};
 ghost use Rattle.stateful_actor.specs.Notes.{NotesAlong, NotesPlay};
 ghost use Rattle.stateful_history.specs.Past.{Past};

@@ -15,10 +15,10 @@ ghost use Rattle.std.specs.Prelude.{◌≡◌, ◌≤◌, ◌⊎◌, [], ℕ, On
 ghost use Rattle.stateful_history.specs.Past.{Past};
 ghost use Rattle.stateful_exec_tables.specs.Tables.{Rises};
 ghost use Rattle.stateful_actor_register.specs.Register.{RegisterStands};
-ghost use Rattle.stateful_loop.specs.Left.{LeavesOpening};
-ghost use Rattle.stateful_loop.specs.Moments.{executing, moment};
-ghost use Rattle.stateful_loop.specs.Opening.{FaultsOpening};
-ghost use Rattle.stateful_loop.specs.Sound.{Sound};
+ghost use Rattle.stateful_loop_model.specs.Left.{LeavesOpening};
+ghost use Rattle.stateful_loop_model.specs.Moments.{executing, moment};
+ghost use Rattle.stateful_loop_model.specs.Opening.{FaultsOpening};
+ghost use Rattle.stateful_loop_model.specs.Sound.{Sound};
 ghost use Rattle.stateful_actor.specs.Notes.{NotesAlong};
 ghost use Rattle.stateful_actor_laws.specs.Machine.{numbered};
 ghost use Rattle.stateful_actor_laws.specs.Steps.{Restarts};

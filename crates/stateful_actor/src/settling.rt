@@ -2,9 +2,9 @@
 
 ghost use Rattle.std.specs.Prelude.{◌≡◌, ◌≤◌, ℕ, true, OnOk, OnErr, IfErr};
 ghost use Rattle.stateful_exec_tables.specs.Tables.{Rises};
-ghost use Rattle.stateful_loop.specs.Moments.{executing, moment};
-ghost use Rattle.stateful_loop.specs.Noted.{NotesFollow};
-ghost use Rattle.stateful_loop.specs.Sound.{IsUp, Sound};
+ghost use Rattle.stateful_loop_model.specs.Moments.{executing, moment};
+ghost use Rattle.stateful_loop_model.specs.Noted.{NotesFollow};
+ghost use Rattle.stateful_loop_model.specs.Sound.{IsUp, Sound};
 ghost use Rattle.stateful_actor.specs.Faults.{tally, FaultsSettling};
 ghost use Rattle.stateful_actor.specs.Notes.{NotesSettling};
 ghost use Rattle.stateful_actor_laws.specs.Left.{LeavesSettling};

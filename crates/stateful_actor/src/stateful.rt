@@ -2,7 +2,7 @@
 
 ghost use Rattle.std.specs.Prelude.{◌≡◌, [], ℕ, Option, IfOk};
 ghost use Rattle.stateful_base.specs.Names.{Named};
-ghost use Rattle.stateful_loop.specs.Moments.{moment};
+ghost use Rattle.stateful_loop_model.specs.Moments.{moment};
 ghost use Rattle.stateful_actor_laws.specs.Ahead.{IsAheadLawfully};
 ghost use Rattle.stateful_actor.specs.Notes.{HasObserved};
 ghost use Rattle.stateful_actor_laws.specs.Machine.{IsNew, IsSafe};
@@ -57,8 +57,8 @@ impl<A: Application + Drop> Model for Stateful<A> {
     ghost use Rattle.std_collections.specs.Layout.BTreeMap.{btree_map_code};
     ghost use Rattle.stateful_actor.specs.Machine.{Machine};
     ghost use Rattle.stateful_exec_model.specs.State.{Owner};
-    ghost use Rattle.stateful_loop.specs.Moments.{Executing, executing};
-    ghost use Rattle.stateful_loop.specs.declared.tables.Processing.{Processing};
+    ghost use Rattle.stateful_loop_model.specs.Moments.{Executing, executing};
+    ghost use Rattle.stateful_loop_model.specs.declared.tables.Processing.{Processing};
 
     ghost Value = { Machine A (Executing A.Block A.Context A.Input A.Run A.Build A.Hook A.Databases.Merkleized)
         (Processing A.Block A.Context A.Input A.Captured) A.Provider A.Databases.Config };

@@ -11,8 +11,8 @@
 ghost use Rattle.std.specs.Prelude.{◌≡◌, ◌≤◌, ◌++◌, ◌∷◌, [], ℕ, OnOk, IfErr, List};
 ghost use Rattle.stateful_history.specs.declared.mark.Mark.{Mark as Marked};
 ghost use Rattle.stateful_history.specs.declared.mark.Mark.TheVariants as mark;
-ghost use Rattle.stateful_loop.specs.Clearing.{IsCleared};
-ghost use Rattle.stateful_loop.specs.Moments.{executing, moment};
+ghost use Rattle.stateful_loop_model.specs.Clearing.{IsCleared};
+ghost use Rattle.stateful_loop_model.specs.Moments.{executing, moment};
 ghost use Rattle.stateful_actor_laws.specs.Steps.{EndsWork};
 
 use stateful_actor_register::Register;

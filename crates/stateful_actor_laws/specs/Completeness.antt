@@ -17,8 +17,8 @@ use Rattle.stateful_history.specs.declared.mark.Mark.TheVariants.{Built}
 use Rattle.stateful_exec_model.specs.Workings.{Workings}
 use Rattle.stateful_exec_laws.specs.Setting.{setting}
 use Rattle.stateful_loop_laws.specs.Execution.{NamesBehind}
-use Rattle.stateful_loop.specs.Intake.{Counts, TakesIn}
-use Rattle.stateful_loop.specs.Moments.{Moment}
+use Rattle.stateful_loop_model.specs.Intake.{Counts, TakesIn}
+use Rattle.stateful_loop_model.specs.Moments.{Moment}
 use Rattle.stateful_actor_laws.specs.Machine.{numbered}
 
 module _ {B C I P R D H G U : Type 0} (w : Workings B C I P R D H G U)

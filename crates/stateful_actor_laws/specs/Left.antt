@@ -12,10 +12,10 @@ use Rattle.stateful_exec_model.specs.Workings.{Workings}
 use Rattle.stateful_actor_register.specs.declared.register.Register.{Register}
 use Rattle.stateful_exec_laws.specs.Setting.{setting}
 use Rattle.stateful_exec_laws.specs.Storing.{IsStoredNow}
-use Rattle.stateful_loop.specs.Intake.{Counts, TakesIn}
-use Rattle.stateful_loop.specs.Left.{KeepsStates, LeavesRule}
-use Rattle.stateful_loop.specs.Moments.{Moment}
-use Rattle.stateful_loop.specs.Rules.{Along}
+use Rattle.stateful_loop_model.specs.Intake.{Counts, TakesIn}
+use Rattle.stateful_loop_model.specs.Left.{KeepsStates, LeavesRule}
+use Rattle.stateful_loop_model.specs.Moments.{Moment}
+use Rattle.stateful_loop_model.specs.Rules.{Along}
 use Rattle.stateful_actor_laws.specs.Stands.{Stands}
 use Rattle.stateful_actor_laws.specs.StepBehind.{EachStands}
 

@@ -5,8 +5,8 @@ use Rattle.stateful_history.specs.declared.event.Event.TheVariants.{Restart}
 use Rattle.stateful_exec_model.specs.Workings.{Workings}
 use Rattle.stateful_actor_register.specs.Register.{IsBlank}
 use Rattle.stateful_actor_register.specs.declared.register.Register.{Register}
-use Rattle.stateful_loop.specs.Moments.{Moment}
-use Rattle.stateful_loop.specs.Sound.{Sound}
+use Rattle.stateful_loop_model.specs.Moments.{Moment}
+use Rattle.stateful_loop_model.specs.Sound.{Sound}
 
 -- databases have numbers below the last number: those beyond it are never asked for
 abbrev pub numbered : ℕ → ℕ

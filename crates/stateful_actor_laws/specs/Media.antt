@@ -14,9 +14,9 @@ use Rattle.stateful_actor_register.specs.declared.register.Register.{Register}
 use Rattle.stateful_exec_laws.specs.Setting.{setting}
 use Rattle.stateful_exec_laws.specs.Storing.{IsStoredNow}
 use Rattle.stateful_loop_laws.specs.Media.{KeepsDurably, TargetsRise, KeepsReopenable, KeepsHeights}
-use Rattle.stateful_loop.specs.Intake.{Counts}
-use Rattle.stateful_loop.specs.Left.{LeavesOpening}
-use Rattle.stateful_loop.specs.Moments.{Moment}
+use Rattle.stateful_loop_model.specs.Intake.{Counts}
+use Rattle.stateful_loop_model.specs.Left.{LeavesOpening}
+use Rattle.stateful_loop_model.specs.Moments.{Moment}
 use Rattle.stateful_actor_laws.specs.Left.{LeavesPlay}
 use Rattle.stateful_actor_laws.specs.Stands.{Stands}
 

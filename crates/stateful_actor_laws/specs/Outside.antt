@@ -1,10 +1,10 @@
 -- Refusals whose reason lies outside of the machine, and that of a machine that has failed.
 use Rattle.std.specs.Prelude.{ℕ}
 use Rattle.stateful_base.specs.Causes.{Rose}
-use Rattle.stateful_loop.specs.declared.error.StepError.{StepError}
-use Rattle.stateful_loop.specs.declared.error.StepError.TheVariants.{Application, Exhausted}
-use Rattle.stateful_loop.specs.declared.error.StepError.TheVariants.{DatabaseFault, Failed}
-use Rattle.stateful_loop.specs.declared.error.StepError.TheVariants.{OutOfMemory}
+use Rattle.stateful_loop_model.specs.declared.error.StepError.{StepError}
+use Rattle.stateful_loop_model.specs.declared.error.StepError.TheVariants.{Application, Exhausted}
+use Rattle.stateful_loop_model.specs.declared.error.StepError.TheVariants.{DatabaseFault, Failed}
+use Rattle.stateful_loop_model.specs.declared.error.StepError.TheVariants.{OutOfMemory}
 
 -- memory or numbers ran out, or the application or a job of it failed, or a database did, whose
 -- count of faults rose

@@ -12,8 +12,8 @@ use Rattle.stateful_loop_laws.specs.Reasons.{IsTrusted, ReasonsStand}
 use Rattle.stateful_loop_laws.specs.Places.{PastKept, PlacesKept}
 use Rattle.stateful_loop_laws.specs.InHand.{VerifiedApart, AllInHand, GoesOnAt}
 use Rattle.stateful_loop_laws.specs.Stands.{IsUpAt}
-use Rattle.stateful_loop.specs.Moments.{Moment}
-use Rattle.stateful_loop.specs.Rules.{Quiet}
+use Rattle.stateful_loop_model.specs.Moments.{Moment}
+use Rattle.stateful_loop_model.specs.Rules.{Quiet}
 use Rattle.stateful_actor_laws.specs.Machine.{numbered}
 
 module _ {B C I P R D H G U : Type 0} (w : Workings B C I P R D H G U) (p : Past B C I) where

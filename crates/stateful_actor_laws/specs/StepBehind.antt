@@ -25,7 +25,7 @@ use Rattle.stateful_loop_laws.specs.Duly.{IsDulySaid}
 use Rattle.stateful_loop_laws.specs.Durability.{IsDurablySaid}
 use Rattle.stateful_loop_laws.specs.Reasons.{IsTrusted, HasItsReason}
 use Rattle.stateful_loop_laws.specs.Places.{IsInPlace}
-use Rattle.stateful_loop.specs.Moments.{Moment}
+use Rattle.stateful_loop_model.specs.Moments.{Moment}
 use Rattle.stateful_actor_laws.specs.Jobs.{EachJobGoesOn}
 use Rattle.stateful_actor_laws.specs.Stands.{StandsAt, Stands}
 

@@ -1,7 +1,7 @@
 //! A block's way: it is judged, built, applied and made durable.
 
 ghost use Rattle.std.specs.Prelude.{[]};
-ghost use Rattle.stateful_loop.specs.Moments.{moment};
+ghost use Rattle.stateful_loop_model.specs.Moments.{moment};
 ghost use Rattle.stateful_actor_laws.specs.Machine.{IsSafe};
 
 use stateful_actor::{Application, Config, DatabaseSet, Entry, Event, Stateful};

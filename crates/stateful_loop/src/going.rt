@@ -19,23 +19,20 @@ ghost use Rattle.std.specs.Prelude.{Option, Some, None, List, OnOk, OnErr, IfOk,
 ghost use Rattle.stateful_base.specs.Causes.{Rose};
 ghost use Rattle.stateful_history.specs.declared.mark.Mark.TheVariants as mark;
 ghost use Rattle.stateful_exec_tables.specs.Tables.{Rises};
-ghost use Rattle.stateful_loop.specs.Causes.{FaultsRule};
-ghost use Rattle.stateful_loop.specs.Left.{KeepsStates, LeavesRule};
-ghost use Rattle.stateful_loop.specs.Moments.{executing, moment};
-ghost use Rattle.stateful_loop.specs.Noted.{NotesFollow, NotesMayFollow};
-ghost use Rattle.stateful_loop.specs.Rules.{IsIdle, Collects, Goes};
-ghost use Rattle.stateful_loop.specs.Sound.{IsUp, Sound};
+ghost use Rattle.stateful_loop_model.specs.Causes.{FaultsRule};
+ghost use Rattle.stateful_loop_model.specs.Left.{KeepsStates, LeavesRule};
+ghost use Rattle.stateful_loop_model.specs.Moments.{executing, moment};
+ghost use Rattle.stateful_loop_model.specs.Noted.{NotesFollow, NotesMayFollow};
+ghost use Rattle.stateful_loop_model.specs.Rules.{IsIdle, Collects, Goes};
+ghost use Rattle.stateful_loop_model.specs.Sound.{IsUp, Sound};
 
-use crate::barrier::{begin_barrier, complete_barrier};
-use crate::error::StepError;
-use crate::finalizing::go_on_finalizing;
-use crate::message::Action;
-use crate::tables::ProcessingOf;
-use crate::taking::{drain_first, take_first};
 use stateful_base::{BlockStore, Height};
 use stateful_db::{Application, DatabaseSet};
 use stateful_exec::{Handler, Worked};
 use stateful_history::Mark;
+use stateful_loop_finals::{begin_barrier, complete_barrier, go_on_finalizing};
+use stateful_loop_model::{Action, ProcessingOf, StepError};
+use stateful_loop_taking::{drain_first, take_first};
 
 /// A barrier of which a flush was interrupted breaks, and nothing goes on any more.
 fn break_barrier<A: Application>(

@@ -22,23 +22,21 @@ ghost use Rattle.stateful_db.specs.Barrier.{open_at};
 ghost use Rattle.stateful_exec_tables.specs.Tables.{Rises};
 ghost use Rattle.stateful_exec_model.specs.Built.{IsLiveBuild};
 ghost use Rattle.stateful_exec_model.specs.Finalizing.{IsHookLive};
-ghost use Rattle.stateful_loop.specs.Barriers.{awaiting};
-ghost use Rattle.stateful_loop.specs.Intake.{Counts, message_by, Cancels, TurnsJob, TakesIn};
-ghost use Rattle.stateful_loop.specs.Intake.{FaultsIntake};
-ghost use Rattle.stateful_loop.specs.Left.{KeepsStates};
-ghost use Rattle.stateful_loop.specs.Moments.{executing, moment};
-ghost use Rattle.stateful_loop.specs.Sound.{IsUp};
-ghost use Rattle.stateful_loop.specs.declared.tables.Processing.{Processing as Kept};
+ghost use Rattle.stateful_loop_model.specs.Barriers.{awaiting};
+ghost use Rattle.stateful_loop_model.specs.Intake.{Counts, message_by, Cancels, TurnsJob, TakesIn};
+ghost use Rattle.stateful_loop_model.specs.Intake.{FaultsIntake};
+ghost use Rattle.stateful_loop_model.specs.Left.{KeepsStates};
+ghost use Rattle.stateful_loop_model.specs.Moments.{executing, moment};
+ghost use Rattle.stateful_loop_model.specs.Sound.{IsUp};
+ghost use Rattle.stateful_loop_model.specs.declared.tables.Processing.{Processing as Kept};
 ghost use Rattle.stateful_history.specs.declared.event.Event.TheVariants as came;
 
-use crate::barrier::flushed;
-use crate::error::StepError;
-use crate::message::Message;
-use crate::tables::ProcessingOf;
 use stateful_base::{BlockStore, Digested, OutOfMemory, Share};
 use stateful_db::{Application, DatabaseSet, ProposalKind};
 use stateful_exec::{Handler, Request, Stage, Worked};
 use stateful_history::{Event, Mark};
+use stateful_loop_finals::flushed;
+use stateful_loop_model::{Message, ProcessingOf, StepError};
 
 /// What an event puts into the mailbox.
 fn message_of<B: Drop, C: Copy, I: Share + Drop>(

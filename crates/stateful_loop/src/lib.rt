@@ -1,26 +1,12 @@
-//! The loop of the machine: what waits, what is in front, and barriers.
+//! The loop of the machine: what it takes in, and how it goes on by one rule after another.
 #![tactic(auto)]
 
-mod barrier;
-mod barriers;
-mod clearing;
-mod error;
-mod finalizing;
 mod going;
 mod intake;
-mod message;
-mod opening;
-mod queue;
-mod reached;
-mod tables;
-mod taking;
 
-pub use barriers::{Active, Barriers};
-pub use clearing::clear;
-pub use error::StepError;
 pub use going::go_on;
 pub use intake::take_in;
-pub use message::{Action, Message};
-pub use opening::open;
-pub use queue::{Asks, Queue};
-pub use tables::{Finalizing, Processing, ProcessingOf};
+pub use stateful_loop_finals::{clear, open};
+pub use stateful_loop_model::{
+    Action, Active, Asks, Barriers, Finalizing, Message, Processing, ProcessingOf, Queue, StepError,
+};

@@ -10,7 +10,7 @@ use Rattle.stateful_history.specs.declared.mark.Mark.TheVariants.{Dropped, Stopp
 use Rattle.stateful_exec_model.specs.Workings.{Workings}
 use Rattle.stateful_exec_tables.specs.declared.pause.Pause.TheVariants.{Free}
 use Rattle.stateful_exec_laws.specs.Standing.{NumbersStand}
-use Rattle.stateful_loop.specs.Moments.{Moment}
+use Rattle.stateful_loop_model.specs.Moments.{Moment}
 
 -- a mark by which live work ends, or that of a stop
 abbrev pub IsEnding : {B : Type 0} → Mark B → Type 0

@@ -8,7 +8,7 @@ use Rattle.stateful_history.specs.Past.{Past, EachMark, after}
 use Rattle.stateful_history.specs.declared.mark.Mark.{Mark}
 use Rattle.stateful_exec_model.specs.Workings.{Workings}
 use Rattle.stateful_loop_laws.specs.Stands.{LoopStands}
-use Rattle.stateful_loop.specs.Moments.{Moment}
+use Rattle.stateful_loop_model.specs.Moments.{Moment}
 
 module _ {B C I P R D H G U : Type 0} (w : Workings B C I P R D H G U) where
   -- the rules on marks of barriers and of acknowledgements

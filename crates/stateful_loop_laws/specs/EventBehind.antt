@@ -12,7 +12,7 @@ use Rattle.stateful_loop_laws.specs.Down.{IsCounted, IsDownAt}
 use Rattle.stateful_loop_laws.specs.Durability.{IsDurablySaid}
 use Rattle.stateful_loop_laws.specs.RuleMarks.{IsOfRule}
 use Rattle.stateful_loop_laws.specs.Stands.{IsUpAt}
-use Rattle.stateful_loop.specs.Moments.{Moment}
+use Rattle.stateful_loop_model.specs.Moments.{Moment}
 
 module _ {B C I P R D H G U : Type 0} (w : Workings B C I P R D H G U)
     (stored : ℕ → Option (Named B)) (base : w.States) (q : Past B C I)

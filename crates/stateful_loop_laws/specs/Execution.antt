@@ -27,7 +27,7 @@ use Rattle.stateful_exec_laws.specs.Caching.{CacheStands}
 use Rattle.stateful_exec_laws.specs.Ground.{IsFolded, IsOfBlock, IsGround}
 use Rattle.stateful_exec_laws.specs.Setting.{setting}
 use Rattle.stateful_exec_laws.specs.Standing.{TablesStand}
-use Rattle.stateful_loop.specs.Moments.{Moment}
+use Rattle.stateful_loop_model.specs.Moments.{Moment}
 
 -- no request fetches
 abbrev pub FetchesNone : {B C I : Type 0} → List (ℕ × Requested B C I) → Type 0

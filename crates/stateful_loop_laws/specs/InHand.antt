@@ -15,11 +15,11 @@ use Rattle.stateful_exec_tables.specs.declared.tables.Phase.TheVariants.{Open}
 use Rattle.stateful_exec_tables.specs.declared.tables.Requested.{Requested}
 use Rattle.stateful_exec_laws.specs.Outstanding.{RunsGoOn}
 use Rattle.stateful_exec_laws.specs.Requesting.{AllAbstain}
-use Rattle.stateful_loop.specs.Message.{is_verification}
-use Rattle.stateful_loop.specs.Moments.{Moment}
-use Rattle.stateful_loop.specs.declared.message.Action.{Action}
-use Rattle.stateful_loop.specs.declared.message.Action.TheVariants as action
-use Rattle.stateful_loop.specs.declared.tables.Processing.{Processing}
+use Rattle.stateful_loop_model.specs.Message.{is_verification}
+use Rattle.stateful_loop_model.specs.Moments.{Moment}
+use Rattle.stateful_loop_model.specs.declared.message.Action.{Action}
+use Rattle.stateful_loop_model.specs.declared.message.Action.TheVariants as action
+use Rattle.stateful_loop_model.specs.declared.tables.Processing.{Processing}
 use Rattle.stateful_loop_laws.specs.Tickets.{ticket_in, ticket_under, ticket_in_front}
 use Rattle.stateful_loop_laws.specs.Times.{times}
 

@@ -11,8 +11,8 @@ use Rattle.stateful_history.specs.Barriers.{BeganBefore, WasDone}
 use Rattle.stateful_history.specs.Durable.{BeganOver, WasFlushed}
 use Rattle.stateful_history.specs.Live.{live_flush}
 use Rattle.stateful_history.specs.Past.{Past}
-use Rattle.stateful_loop.specs.Barriers.{awaiting}
-use Rattle.stateful_loop.specs.declared.barriers.Active.{Active}
+use Rattle.stateful_loop_model.specs.Barriers.{awaiting}
+use Rattle.stateful_loop_model.specs.declared.barriers.Active.{Active}
 
 module _ {B C I Ids S T : Type 0} (d : Databases Ids S T) (header : Header B) (p : Past B C I)
     (m : d.Members) (first : Anchor) (origin : ℕ → ℕ) where

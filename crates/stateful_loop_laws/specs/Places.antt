@@ -27,8 +27,8 @@ use Rattle.stateful_exec_laws.specs.Gathering.{AsksAlong, AsksNothing}
 use Rattle.stateful_exec_laws.specs.Orderly.{IsOrderly}
 use Rattle.stateful_exec_laws.specs.Setting.{setting}
 use Rattle.stateful_loop_laws.specs.Tickets.{IsOutside}
-use Rattle.stateful_loop.specs.Moments.{Moment}
-use Rattle.stateful_loop.specs.declared.tables.Finalizing.{Finalizing}
+use Rattle.stateful_loop_model.specs.Moments.{Moment}
+use Rattle.stateful_loop_model.specs.declared.tables.Finalizing.{Finalizing}
 
 module _ {B C I : Type 0} where
   -- each ticket that was cancelled is an earlier one, and isn't live

@@ -5,7 +5,7 @@ use Rattle.stateful_history.specs.declared.mark.Mark.TheVariants.{Opened, Conver
 use Rattle.stateful_history.specs.declared.mark.Mark.TheVariants.{Dispatched, Pruned, Completed}
 use Rattle.stateful_history.specs.declared.mark.Mark.TheVariants.{Dropped, Stopped}
 use Rattle.stateful_exec_model.specs.Workings.{Workings}
-use Rattle.stateful_loop.specs.Moments.{Moment}
+use Rattle.stateful_loop_model.specs.Moments.{Moment}
 
 -- not the marks of openings, syncs, prunes and stops
 abbrev pub IsOfRule : {B : Type 0} → Mark B → Type 0

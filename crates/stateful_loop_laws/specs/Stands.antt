@@ -12,9 +12,9 @@ use Rattle.stateful_loop_laws.specs.Execution.{Executes}
 use Rattle.stateful_loop_laws.specs.OpenBarriers.{BarriersStand, AwaitsEach, AwaitsLive}
 use Rattle.stateful_loop_laws.specs.Tickets.{TicketsStand}
 use Rattle.stateful_loop_laws.specs.Ways.{WaysKept}
-use Rattle.stateful_loop.specs.Moments.{Moment}
-use Rattle.stateful_loop.specs.Sound.{Sound}
-use Rattle.stateful_loop.specs.declared.tables.Finalizing.{Finalizing}
+use Rattle.stateful_loop_model.specs.Moments.{Moment}
+use Rattle.stateful_loop_model.specs.Sound.{Sound}
+use Rattle.stateful_loop_model.specs.declared.tables.Finalizing.{Finalizing}
 
 module _ {B C I P R D H G U : Type 0} (w : Workings B C I P R D H G U) where
   -- this was read for the block, in what consensus knows of it, of some states

@@ -16,13 +16,13 @@ use Rattle.stateful_exec_tables.specs.declared.state.Tables.{Tables}
 use Rattle.stateful_exec_laws.specs.Building.{IsElsewhere}
 use Rattle.stateful_exec_laws.specs.Requesting.{brought_by, IsRequestOf}
 use Rattle.stateful_exec_laws.specs.Setting.{setting}
-use Rattle.stateful_loop.specs.Moments.{Moment}
-use Rattle.stateful_loop.specs.declared.message.Action.{Action}
-use Rattle.stateful_loop.specs.declared.message.Action.TheVariants as action
-use Rattle.stateful_loop.specs.declared.message.Message.{Message}
-use Rattle.stateful_loop.specs.declared.message.Message.TheVariants.{Request, Finalized}
-use Rattle.stateful_loop.specs.declared.message.Message.TheVariants.{Subscribe}
-use Rattle.stateful_loop.specs.declared.tables.Finalizing.{Finalizing}
+use Rattle.stateful_loop_model.specs.Moments.{Moment}
+use Rattle.stateful_loop_model.specs.declared.message.Action.{Action}
+use Rattle.stateful_loop_model.specs.declared.message.Action.TheVariants as action
+use Rattle.stateful_loop_model.specs.declared.message.Message.{Message}
+use Rattle.stateful_loop_model.specs.declared.message.Message.TheVariants.{Request, Finalized}
+use Rattle.stateful_loop_model.specs.declared.message.Message.TheVariants.{Subscribe}
+use Rattle.stateful_loop_model.specs.declared.tables.Finalizing.{Finalizing}
 
 -- the ticket of a message
 abbrev pub ticket_in : {B C I : Type 0} → Message B C I → ℕ

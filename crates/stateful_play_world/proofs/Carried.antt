@@ -8,7 +8,7 @@ use Rattle.stateful_bank.specs.declared.ask.Ask.{Ask}
 use Rattle.stateful_bank.specs.declared.block.BankBlock.{BankBlock}
 use Rattle.stateful_history.specs.Honest.{StoresHeights}
 use Rattle.stateful_history.specs.declared.entry.Entry.{Entry}
-use Rattle.stateful_loop.specs.Moments.{Moment}
+use Rattle.stateful_loop_model.specs.Moments.{Moment}
 use Rattle.stateful_actor_laws.specs.Media.{MediaStand}
 use Rattle.stateful_actor.specs.Faults.{tally}
 use Rattle.stateful_actor.specs.declared.driving.Halted.{Halted}

@@ -7,7 +7,7 @@ use Rattle.stateful_bank.specs.declared.block.BankBlock.{BankBlock}
 use Rattle.stateful_bank_app.specs.Fresh.{AreEmpty}
 use Rattle.stateful_history.specs.declared.entry.Entry.{Entry}
 use Rattle.stateful_actor_register.specs.declared.register.Register.{Register}
-use Rattle.stateful_loop.specs.Moments.{Moment}
+use Rattle.stateful_loop_model.specs.Moments.{Moment}
 use Rattle.stateful_actor_laws.specs.Machine.{IsNew}
 use Rattle.stateful_actor_laws.specs.Media.{IsAsAtStart, MediaStand}
 use Rattle.stateful_actor.specs.Faults.{Tally, tally}

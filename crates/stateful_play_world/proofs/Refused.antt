@@ -5,9 +5,9 @@ use Rattle.stateful_base.specs.Names.{Named}
 use Rattle.stateful_history.specs.declared.entry.Entry.{Entry}
 use Rattle.stateful_history.specs.declared.event.Event.{Event}
 use Rattle.stateful_exec_model.specs.Workings.{Workings}
-use Rattle.stateful_loop.specs.Intake.{Counts}
-use Rattle.stateful_loop.specs.Moments.{Moment}
-use Rattle.stateful_loop.specs.declared.error.StepError.TheVariants.{BadEvent}
+use Rattle.stateful_loop_model.specs.Intake.{Counts}
+use Rattle.stateful_loop_model.specs.Moments.{Moment}
+use Rattle.stateful_loop_model.specs.declared.error.StepError.TheVariants.{BadEvent}
 use Rattle.stateful_actor.specs.Driving.{IsRefused, KeepsMediaAfter}
 use Rattle.stateful_actor.specs.Faults.{Tally}
 use Rattle.stateful_actor.specs.declared.driving.Halted.{Halted}

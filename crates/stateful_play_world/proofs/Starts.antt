@@ -5,7 +5,7 @@ use Rattle.stateful_bank.specs.declared.block.BankBlock.{BankBlock}
 use Rattle.stateful_actor_register.specs.declared.register.Register.{Register}
 use Rattle.stateful_script.specs.declared.script.PlannedBlock.{PlannedBlock}
 use Rattle.stateful_script.specs.declared.script.PlannedEvent.{PlannedEvent}
-use Rattle.stateful_loop.specs.Moments.{Moment}
+use Rattle.stateful_loop_model.specs.Moments.{Moment}
 use Rattle.stateful_actor_laws.specs.Machine.{IsNew}
 use Rattle.stateful_actor_laws.specs.Media.{IsAsAtStart}
 use Rattle.stateful_script_plan.specs.declared.plan.Planned.{Planned}

@@ -11,7 +11,7 @@ use Rattle.stateful_bank_app.specs.declared.build.BankBuild.{BankBuild}
 use Rattle.stateful_bank_app.specs.declared.hook.BankHook.{BankHook}
 use Rattle.stateful_bank_app.specs.declared.run.BankRun.{BankRun}
 use Rattle.stateful_exec_model.specs.Workings.{Workings, workings}
-use Rattle.stateful_loop.specs.Intake.{Counts}
+use Rattle.stateful_loop_model.specs.Intake.{Counts}
 
 pub record Grounds (Drafts Sealed Sets : Type 0) : Type 1 where
   pub Ids : Type 0

@@ -15,8 +15,8 @@ use Rattle.stateful_history.specs.declared.entry.Entry.{Entry}
 use Rattle.stateful_actor_register.specs.declared.register.Register.{Register}
 use Rattle.stateful_exec_laws.specs.Setting.{setting}
 use Rattle.stateful_loop_laws.specs.Media.{TargetsRise}
-use Rattle.stateful_loop.specs.Moments.{Moment, Executing, moment}
-use Rattle.stateful_loop.specs.declared.tables.Processing.{Processing}
+use Rattle.stateful_loop_model.specs.Moments.{Moment, Executing, moment}
+use Rattle.stateful_loop_model.specs.declared.tables.Processing.{Processing}
 use Rattle.stateful_actor_laws.specs.Machine.{IsNew}
 use Rattle.stateful_actor_laws.specs.Media.{MediaStand}
 use Rattle.stateful_actor_laws.specs.StepBehind.{EachStands}

@@ -1,7 +1,7 @@
 //! Events, up to the first that is refused.
 
 ghost use Rattle.std.specs.Prelude.{◌≡◌, ◌↔◌, [], IfOk, IsTrue};
-ghost use Rattle.stateful_loop.specs.Moments.{moment};
+ghost use Rattle.stateful_loop_model.specs.Moments.{moment};
 ghost use Rattle.stateful_actor_laws.specs.Machine.{IsNew};
 ghost use Rattle.stateful_actor.specs.Faults.{tally};
 ghost use Rattle.stateful_play_world.specs.Driven.{CameOf};

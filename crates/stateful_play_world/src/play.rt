@@ -4,7 +4,7 @@ ghost use Rattle.std.specs.Prelude.{◌≡◌, ℕ, [], Option, IfOk};
 ghost use Rattle.stateful_base.specs.Names.{Named};
 ghost use Rattle.stateful_bank.specs.declared.block.BankBlock.{BankBlock as Block};
 ghost use Rattle.stateful_script.specs.Laws.{IsPlan};
-ghost use Rattle.stateful_loop.specs.Moments.{moment};
+ghost use Rattle.stateful_loop_model.specs.Moments.{moment};
 ghost use Rattle.stateful_actor_laws.specs.Machine.{IsNew};
 ghost use Rattle.stateful_actor_laws.specs.Media.{IsAsAtStart, MediaStand};
 ghost use Rattle.stateful_play_world.specs.Grounds.{bank};

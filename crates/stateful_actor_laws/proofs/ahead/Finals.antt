@@ -1,11 +1,11 @@
 -- The finalized blocks among messages and actions, as these come and go.
 use Rattle.std.proofs.Common.{◌≡◌, ◌++◌, ◌∷◌, [], ℕ, Bool, true, false, not, ◌==◌, List, filter, refl, sym, ap, ◌∙◌, append_assoc, append-nil}
 use Rattle.stateful_base.specs.Names.{Named}
-use Rattle.stateful_loop.specs.Message.{asks_of, asks_for}
-use Rattle.stateful_loop.specs.declared.message.Action.{Action}
-use Rattle.stateful_loop.specs.declared.message.Action.TheVariants as action
-use Rattle.stateful_loop.specs.declared.message.Message.{Message}
-use Rattle.stateful_loop.specs.declared.message.Message.TheVariants as message
+use Rattle.stateful_loop_model.specs.Message.{asks_of, asks_for}
+use Rattle.stateful_loop_model.specs.declared.message.Action.{Action}
+use Rattle.stateful_loop_model.specs.declared.message.Action.TheVariants as action
+use Rattle.stateful_loop_model.specs.declared.message.Message.{Message}
+use Rattle.stateful_loop_model.specs.declared.message.Message.TheVariants as message
 use Rattle.stateful_actor_laws.specs.Ahead.{final_in, final_under, finals_in, finals_under}
 
 module _ {B C I : Type 0} where

@@ -19,11 +19,11 @@ use Rattle.stateful_exec_model.specs.Workings.{Workings}
 use Rattle.stateful_exec_model.specs.declared.front.Front.{Front}
 use Rattle.stateful_exec_model.specs.declared.front.Stage.TheVariants.{Running, Ran, Advanced, Hooking}
 use Rattle.stateful_exec_laws.specs.Setting.{setting}
-use Rattle.stateful_loop.specs.Intake.{message_by, Counts, TakesIn, enters, cancels, fetched, turns, flushes, stops, progresses, restarts, TurnsJob, build, hook, run}
-use Rattle.stateful_loop.specs.Message.{asks_of, asks_for}
-use Rattle.stateful_loop.specs.Moments.{Moment, inner}
-use Rattle.stateful_loop.specs.declared.message.Action.{Action}
-use Rattle.stateful_loop.specs.declared.message.Message.{Message}
+use Rattle.stateful_loop_model.specs.Intake.{message_by, Counts, TakesIn, enters, cancels, fetched, turns, flushes, stops, progresses, restarts, TurnsJob, build, hook, run}
+use Rattle.stateful_loop_model.specs.Message.{asks_of, asks_for}
+use Rattle.stateful_loop_model.specs.Moments.{Moment, inner}
+use Rattle.stateful_loop_model.specs.declared.message.Action.{Action}
+use Rattle.stateful_loop_model.specs.declared.message.Message.{Message}
 use Rattle.stateful_actor_laws.specs.Ahead.{final_in, finals_in, finals_under, finals_at, HeadIs, LeadsUp, LeadsAt}
 use Rattle.stateful_actor_laws.proofs.ahead.Finals.{finals-entered, finals-given_up, finals-put_off_given_up}
 use Rattle.stateful_actor_laws.proofs.ahead.Heads.{LeadsAt-same, LeadsAt-turned}

@@ -24,10 +24,10 @@ use Rattle.stateful_exec_laws.specs.Building.{BuildsTakeTurns}
 use Rattle.stateful_exec_laws.specs.Fronting.{RunsTakeTurns}
 use Rattle.stateful_exec_laws.specs.Setting.{setting}
 use Rattle.stateful_exec_laws.specs.Storing.{IsStoredNow}
-use Rattle.stateful_loop.specs.Moments.{Moment}
-use Rattle.stateful_loop.specs.Rules.{IsFinalizing, HasStates, AppliesBlock, Rule, Along, none, further}
-use Rattle.stateful_loop.specs.Sound.{IsUp, FrontAgrees}
-use Rattle.stateful_loop.specs.declared.tables.Finalizing.{Finalizing}
+use Rattle.stateful_loop_model.specs.Moments.{Moment}
+use Rattle.stateful_loop_model.specs.Rules.{IsFinalizing, HasStates, AppliesBlock, Rule, Along, none, further}
+use Rattle.stateful_loop_model.specs.Sound.{IsUp, FrontAgrees}
+use Rattle.stateful_loop_model.specs.declared.tables.Finalizing.{Finalizing}
 use Rattle.stateful_loop_laws.specs.Behind.{UpBehind}
 use Rattle.stateful_loop_laws.specs.Stands.{IsUpAt}
 use Rattle.stateful_loop_laws.proofs.events.AlongUp.{rule_is_up, along-up}

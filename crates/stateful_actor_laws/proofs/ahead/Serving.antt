@@ -22,11 +22,11 @@ use Rattle.stateful_exec_tables.specs.declared.error.ExecError.TheVariants as ex
 use Rattle.stateful_exec_tables.specs.declared.state.Tables.{Tables}
 use Rattle.stateful_exec_tables.specs.declared.tables.Released.{Released}
 use Rattle.stateful_exec_tables.specs.declared.tables.Requested.{Requested}
-use Rattle.stateful_loop.specs.Causes.{Via}
-use Rattle.stateful_loop.specs.Errors.{error_of_exec}
-use Rattle.stateful_loop.specs.declared.error.StepError.{StepError}
-use Rattle.stateful_loop.proofs.Staying.{along-stays, anew-stays}
-use Rattle.stateful_loop.proofs.SoundingTurns.{follow_stays}
+use Rattle.stateful_loop_model.specs.Causes.{Via}
+use Rattle.stateful_loop_model.specs.Errors.{error_of_exec}
+use Rattle.stateful_loop_model.specs.declared.error.StepError.{StepError}
+use Rattle.stateful_loop_model.proofs.Staying.{along-stays, anew-stays}
+use Rattle.stateful_loop_model.proofs.SoundingTurns.{follow_stays}
 use Rattle.stateful_actor_laws.specs.Outside.{IsOutside}
 
 -- what execution answers for such a reason

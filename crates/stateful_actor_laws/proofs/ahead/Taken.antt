@@ -23,8 +23,8 @@ use Rattle.stateful_exec_model.specs.Finalizing.{IsRedelivered}
 use Rattle.stateful_exec_model.specs.Workings.{Workings}
 use Rattle.stateful_exec_laws.specs.Setting.{setting}
 use Rattle.stateful_exec_laws.proofs.runs.Turned.{HasState-once}
-use Rattle.stateful_loop.specs.Intake.{Counts, TakesIn}
-use Rattle.stateful_loop.specs.Moments.{Moment}
+use Rattle.stateful_loop_model.specs.Intake.{Counts, TakesIn}
+use Rattle.stateful_loop_model.specs.Moments.{Moment}
 use Rattle.stateful_loop_laws.specs.Stands.{IsUpAt}
 use Rattle.stateful_loop_laws.proofs.events.TakenIn.{may_come-live}
 use Rattle.stateful_loop_laws.proofs.duly.PlainMarks.{PlainBehind, taken_in_plain}

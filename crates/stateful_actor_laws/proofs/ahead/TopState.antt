@@ -20,11 +20,11 @@ use Rattle.stateful_exec_model.specs.declared.front.Stage.TheVariants.{Begun, Ru
 use Rattle.stateful_exec_tables.specs.declared.state.Tables.{Tables}
 use Rattle.stateful_exec_laws.specs.Ground.{IsOfBlock}
 use Rattle.stateful_exec_laws.specs.Setting.{setting}
-use Rattle.stateful_loop.specs.Moments.{Moment}
-use Rattle.stateful_loop.specs.declared.message.Action.{Action}
-use Rattle.stateful_loop.specs.declared.message.Action.TheVariants as action
-use Rattle.stateful_loop.specs.declared.message.Message.{Message}
-use Rattle.stateful_loop.specs.declared.message.Message.TheVariants as message
+use Rattle.stateful_loop_model.specs.Moments.{Moment}
+use Rattle.stateful_loop_model.specs.declared.message.Action.{Action}
+use Rattle.stateful_loop_model.specs.declared.message.Action.TheVariants as action
+use Rattle.stateful_loop_model.specs.declared.message.Message.{Message}
+use Rattle.stateful_loop_model.specs.declared.message.Message.TheVariants as message
 use Rattle.stateful_loop_laws.specs.Execution.{Executes, IsPlaced, IsPlacedAt}
 use Rattle.stateful_loop_laws.specs.Tickets.{MessageStands, ActionStands, TicketsStand}
 use Rattle.stateful_loop_laws.proofs.execution.AnchorStands.{Executes-anchor}

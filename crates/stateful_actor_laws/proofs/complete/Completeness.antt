@@ -25,15 +25,15 @@ use Rattle.stateful_exec_laws.specs.Building.{BuildsTakeTurns}
 use Rattle.stateful_exec_laws.specs.Fronting.{RunsTakeTurns}
 use Rattle.stateful_exec_laws.specs.Setting.{setting}
 use Rattle.stateful_exec_laws.specs.Storing.{IsStoredNow}
-use Rattle.stateful_loop.specs.Barriers.{awaiting}
-use Rattle.stateful_loop.specs.Causes.{FaultsFlush, FaultsRule, memory, scheduling, running, advancing, applying, covering, observing, ending, beginning, building, taking}
-use Rattle.stateful_loop.specs.Intake.{Counts, TakesIn, FaultsIntake}
-use Rattle.stateful_loop.specs.Intake as intake
-use Rattle.stateful_loop.specs.Moments.{Moment, inner}
-use Rattle.stateful_loop.specs.Rules.{Along, Quiet}
-use Rattle.stateful_loop.specs.declared.barriers.Active.{Active}
-use Rattle.stateful_loop.specs.declared.error.StepError.{StepError}
-use Rattle.stateful_loop.specs.declared.error.StepError.TheVariants as error
+use Rattle.stateful_loop_model.specs.Barriers.{awaiting}
+use Rattle.stateful_loop_model.specs.Causes.{FaultsFlush, FaultsRule, memory, scheduling, running, advancing, applying, covering, observing, ending, beginning, building, taking}
+use Rattle.stateful_loop_model.specs.Intake.{Counts, TakesIn, FaultsIntake}
+use Rattle.stateful_loop_model.specs.Intake as intake
+use Rattle.stateful_loop_model.specs.Moments.{Moment, inner}
+use Rattle.stateful_loop_model.specs.Rules.{Along, Quiet}
+use Rattle.stateful_loop_model.specs.declared.barriers.Active.{Active}
+use Rattle.stateful_loop_model.specs.declared.error.StepError.{StepError}
+use Rattle.stateful_loop_model.specs.declared.error.StepError.TheVariants as error
 use Rattle.stateful_loop_laws.specs.Behind.{UpBehind}
 use Rattle.stateful_loop_laws.specs.Execution.{IsPlaced, IsFree, NamesBehind}
 use Rattle.stateful_loop_laws.specs.Stands.{IsUpAt}

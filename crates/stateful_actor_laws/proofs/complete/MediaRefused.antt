@@ -27,12 +27,12 @@ use Rattle.stateful_loop_laws.proofs.media.Along.{left-media, kept-media}
 use Rattle.stateful_loop_laws.proofs.media.Opens.{KeepsDurably-crashed, tried-media, refused-memory}
 use Rattle.stateful_loop_laws.proofs.events.NamesBehind.{NamesBehind-marks}
 use Rattle.stateful_loop_laws.proofs.events.TakenIn.{may_come-live}
-use Rattle.stateful_loop.specs.Intake.{Counts}
-use Rattle.stateful_loop.specs.Left.{LeavesOpening, opened}
-use Rattle.stateful_loop.specs.Moments.{Moment}
-use Rattle.stateful_loop.specs.Opening.{FaultsOpening}
-use Rattle.stateful_loop.specs.declared.error.StepError.{StepError}
-use Rattle.stateful_loop.specs.declared.error.StepError.TheVariants.{OutOfMemory}
+use Rattle.stateful_loop_model.specs.Intake.{Counts}
+use Rattle.stateful_loop_model.specs.Left.{LeavesOpening, opened}
+use Rattle.stateful_loop_model.specs.Moments.{Moment}
+use Rattle.stateful_loop_model.specs.Opening.{FaultsOpening}
+use Rattle.stateful_loop_model.specs.declared.error.StepError.{StepError}
+use Rattle.stateful_loop_model.specs.declared.error.StepError.TheVariants.{OutOfMemory}
 use Rattle.stateful_actor_laws.specs.Left.{LeavesPlay, taking, going}
 use Rattle.stateful_actor_laws.specs.Machine.{numbered, is_restart}
 use Rattle.stateful_actor_laws.specs.Media.{behind_refusal, MediaStand, StandsOnMedia, TargetsName, OpensOn, LeavesRestart, LeavesMedia}

@@ -33,23 +33,23 @@ use Rattle.stateful_exec_model.specs.declared.front.Front.{Front}
 use Rattle.stateful_exec_tables.specs.declared.tables.LiveRun.{LiveRun}
 use Rattle.stateful_history.specs.declared.event.Event.{Event}
 use Rattle.stateful_history.specs.declared.event.Event.TheVariants as event
-use Rattle.stateful_loop.specs.Barriers.{awaiting}
-use Rattle.stateful_loop.specs.Causes.{FaultsApply, FaultsBarrier, FaultsFlush, FaultsMessage, FaultsRule, Via}
-use Rattle.stateful_loop.specs.Causes as rule
-use Rattle.stateful_loop.specs.Errors.{error_of_exec}
-use Rattle.stateful_loop.specs.Intake.{Counts, FaultsIntake, TakesIn}
-use Rattle.stateful_loop.specs.Intake as intake
-use Rattle.stateful_loop.specs.Moments.{Moment, inner}
-use Rattle.stateful_loop.specs.Rules.{Along, Takes, of_action, of_message}
-use Rattle.stateful_loop.specs.Rules as loop_rule
-use Rattle.stateful_loop.specs.Sound.{Sound}
-use Rattle.stateful_loop.specs.declared.barriers.Active.{Active}
-use Rattle.stateful_loop.specs.declared.error.StepError.{StepError}
-use Rattle.stateful_loop.specs.declared.error.StepError.TheVariants as error
-use Rattle.stateful_loop.specs.declared.message.Message.{Message}
-use Rattle.stateful_loop.specs.declared.message.Message.TheVariants as message
-use Rattle.stateful_loop.proofs.Sounding.{rule_sound}
-use Rattle.stateful_loop.proofs.SoundingIntake.{taken_in_sound}
+use Rattle.stateful_loop_model.specs.Barriers.{awaiting}
+use Rattle.stateful_loop_model.specs.Causes.{FaultsApply, FaultsBarrier, FaultsFlush, FaultsMessage, FaultsRule, Via}
+use Rattle.stateful_loop_model.specs.Causes as rule
+use Rattle.stateful_loop_model.specs.Errors.{error_of_exec}
+use Rattle.stateful_loop_model.specs.Intake.{Counts, FaultsIntake, TakesIn}
+use Rattle.stateful_loop_model.specs.Intake as intake
+use Rattle.stateful_loop_model.specs.Moments.{Moment, inner}
+use Rattle.stateful_loop_model.specs.Rules.{Along, Takes, of_action, of_message}
+use Rattle.stateful_loop_model.specs.Rules as loop_rule
+use Rattle.stateful_loop_model.specs.Sound.{Sound}
+use Rattle.stateful_loop_model.specs.declared.barriers.Active.{Active}
+use Rattle.stateful_loop_model.specs.declared.error.StepError.{StepError}
+use Rattle.stateful_loop_model.specs.declared.error.StepError.TheVariants as error
+use Rattle.stateful_loop_model.specs.declared.message.Message.{Message}
+use Rattle.stateful_loop_model.specs.declared.message.Message.TheVariants as message
+use Rattle.stateful_loop_model.proofs.Sounding.{rule_sound}
+use Rattle.stateful_loop_model.proofs.SoundingIntake.{taken_in_sound}
 use Rattle.stateful_actor_laws.specs.Outside.{IsNotFailed}
 use Rattle.stateful_actor_laws.proofs.complete.RunsRefused.{app-outside, hook-outside}
 use Rattle.stateful_actor_laws.proofs.ahead.Serving.{IsOutsideOf, AreHere, start-outside, acquire-outside, follow-outside, resume-outside, propose-outside, observe-outside, fetched-outside}

@@ -15,13 +15,13 @@ use Rattle.stateful_exec_tables.specs.declared.error.ExecError.{ExecError}
 use Rattle.stateful_exec_tables.specs.declared.error.ExecError.TheVariants as exec_error
 use Rattle.stateful_exec_model.specs.declared.front.Front.{Front}
 use Rattle.stateful_exec_laws.specs.Setting.{setting}
-use Rattle.stateful_loop.specs.Causes.{FaultsBarrier, FaultsApply, FaultsMessage, FaultsRule, memory, scheduling, running, advancing, applying, covering, observing, ending, beginning, building, taking}
-use Rattle.stateful_loop.specs.Moments.{Moment, inner}
-use Rattle.stateful_loop.specs.Rules.{HasStates, Takes, of_action, of_message}
-use Rattle.stateful_loop.specs.declared.error.StepError.{StepError}
-use Rattle.stateful_loop.specs.declared.error.StepError.TheVariants as error
-use Rattle.stateful_loop.specs.declared.message.Message.{Message}
-use Rattle.stateful_loop.specs.declared.message.Message.TheVariants as message
+use Rattle.stateful_loop_model.specs.Causes.{FaultsBarrier, FaultsApply, FaultsMessage, FaultsRule, memory, scheduling, running, advancing, applying, covering, observing, ending, beginning, building, taking}
+use Rattle.stateful_loop_model.specs.Moments.{Moment, inner}
+use Rattle.stateful_loop_model.specs.Rules.{HasStates, Takes, of_action, of_message}
+use Rattle.stateful_loop_model.specs.declared.error.StepError.{StepError}
+use Rattle.stateful_loop_model.specs.declared.error.StepError.TheVariants as error
+use Rattle.stateful_loop_model.specs.declared.message.Message.{Message}
+use Rattle.stateful_loop_model.specs.declared.message.Message.TheVariants as message
 use Rattle.stateful_loop_laws.specs.Stands.{IsUpAt}
 use Rattle.stateful_actor_laws.specs.Ahead.{finals_at, HeadIs, IsAtAnchor, LeadsUp, IsAhead}
 use Rattle.stateful_actor_laws.specs.Outside.{IsOutside}

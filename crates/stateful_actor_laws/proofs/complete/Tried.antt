@@ -11,7 +11,7 @@ use Rattle.stateful_actor_register.specs.declared.register.Register.{Register}
 use Rattle.stateful_exec_laws.proofs.runs.SpentRuns.{MayRunAgain-item}
 use Rattle.stateful_exec_laws.specs.Setting.{setting}
 use Rattle.stateful_loop_laws.specs.Places.{PastKept}
-use Rattle.stateful_loop.specs.Moments.{Moment}
+use Rattle.stateful_loop_model.specs.Moments.{Moment}
 use Rattle.stateful_actor_laws.specs.Machine.{numbered}
 use Rattle.stateful_actor_laws.specs.Media.{behind_refusal}
 use Rattle.stateful_actor_laws.specs.Stands.{CanRestartAt, Stands}

@@ -26,7 +26,7 @@ use Rattle.stateful_loop_laws.specs.Durability.{IsDurablySaid}
 use Rattle.stateful_loop_laws.specs.Places.{IsInPlace}
 use Rattle.stateful_loop_laws.specs.Reasons.{IsTrusted, HasItsReason}
 use Rattle.stateful_loop_laws.proofs.events.Trusted.{IsTrusted-before_all}
-use Rattle.stateful_loop.specs.Moments.{Moment}
+use Rattle.stateful_loop_model.specs.Moments.{Moment}
 use Rattle.stateful_actor_laws.specs.StepBehind.{StepBehind, EachStands}
 
 -- a rule that another one gives

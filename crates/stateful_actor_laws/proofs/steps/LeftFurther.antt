@@ -21,10 +21,10 @@ use Rattle.stateful_exec_laws.specs.Storing.{IsStoredNow}
 use Rattle.stateful_loop_laws.proofs.media.HeldFurther.{further-kept, further-left}
 use Rattle.stateful_loop_laws.proofs.events.NamesBehind.{NamesBehind-marks}
 use Rattle.stateful_loop_laws.proofs.events.TakenIn.{may_come-live}
-use Rattle.stateful_loop.specs.Intake.{Counts}
-use Rattle.stateful_loop.proofs.Leaving.{keeps_same}
-use Rattle.stateful_loop.specs.Left.{keeps}
-use Rattle.stateful_loop.specs.Moments.{Moment}
+use Rattle.stateful_loop_model.specs.Intake.{Counts}
+use Rattle.stateful_loop_model.proofs.Leaving.{keeps_same}
+use Rattle.stateful_loop_model.specs.Left.{keeps}
+use Rattle.stateful_loop_model.specs.Moments.{Moment}
 use Rattle.stateful_actor_laws.specs.Left.{LeavesPlay, taking, going, LeavesFurther}
 use Rattle.stateful_actor_laws.specs.Machine.{numbered, is_restart}
 use Rattle.stateful_actor_laws.specs.Stands.{Stands}

@@ -35,8 +35,8 @@ use Rattle.stateful_loop_laws.proofs.media.Opens.{opens-media}
 use Rattle.stateful_loop_laws.proofs.events.NamesBehind.{NamesBehind-marks, NamesBehind-later}
 use Rattle.stateful_loop_laws.proofs.media.Reaching.{CanReopen-ends}
 use Rattle.stateful_loop_laws.proofs.events.TakenIn.{may_come-live}
-use Rattle.stateful_loop.specs.Intake.{Counts}
-use Rattle.stateful_loop.specs.Moments.{Moment}
+use Rattle.stateful_loop_model.specs.Intake.{Counts}
+use Rattle.stateful_loop_model.specs.Moments.{Moment}
 use Rattle.stateful_actor_laws.specs.Machine.{numbered, is_restart}
 use Rattle.stateful_actor_laws.specs.Media.{MediaStand}
 use Rattle.stateful_actor_laws.specs.Stands.{StandsAt}

@@ -7,12 +7,12 @@ use Rattle.stateful_durability.specs.Durability.{Coverage, covered_by_barriers}
 use Rattle.stateful_exec_model.specs.Workings.{Workings}
 use Rattle.stateful_exec_model.specs.declared.building.Building.{Building}
 use Rattle.stateful_loop_laws.specs.Down.{IsEmpty}
-use Rattle.stateful_loop.specs.Barriers.{broken, flushed}
-use Rattle.stateful_loop.specs.Moments.{Moment}
-use Rattle.stateful_loop.specs.Opening.{Opens}
-use Rattle.stateful_loop.specs.Rules.{IsFinalizing, Quiet, collect, drain, run_or_apply, apply, go_on, break_or_complete, begin, take}
-use Rattle.stateful_loop.specs.declared.barriers.Active.{Active}
-use Rattle.stateful_loop.specs.declared.tables.Finalizing.{Finalizing}
+use Rattle.stateful_loop_model.specs.Barriers.{broken, flushed}
+use Rattle.stateful_loop_model.specs.Moments.{Moment}
+use Rattle.stateful_loop_model.specs.Opening.{Opens}
+use Rattle.stateful_loop_model.specs.Rules.{IsFinalizing, Quiet, collect, drain, run_or_apply, apply, go_on, break_or_complete, begin, take}
+use Rattle.stateful_loop_model.specs.declared.barriers.Active.{Active}
+use Rattle.stateful_loop_model.specs.declared.tables.Finalizing.{Finalizing}
 
 module _ {B C I P R D H G U : Type 0} (w : Workings B C I P R D H G U) (stored_now : ℕ → Option (Named B)) (floor : Floor) (keep : List ℕ)
     (m now : Moment w) (empty : IsEmpty w m) (o : Opens w stored_now floor keep m now) where

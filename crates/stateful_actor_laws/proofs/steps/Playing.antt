@@ -53,10 +53,10 @@ use Rattle.stateful_loop_laws.proofs.events.TakenIn.{may_come-live}
 use Rattle.stateful_loop_laws.proofs.events.Trusted.{IsTrusted-before, IsTrusted-before_marks}
 use Rattle.stateful_loop_laws.proofs.earned.VerifiedApart.{VerifiedApart-came}
 use Rattle.stateful_loop_laws.proofs.duly.Unruled.{IsUnbuilt, unbuilt-answered, answered-append}
-use Rattle.stateful_loop.specs.Clearing.{IsCleared}
-use Rattle.stateful_loop.specs.Intake.{Counts, TakesIn}
-use Rattle.stateful_loop.specs.Intake as intake
-use Rattle.stateful_loop.specs.Moments.{Moment}
+use Rattle.stateful_loop_model.specs.Clearing.{IsCleared}
+use Rattle.stateful_loop_model.specs.Intake.{Counts, TakesIn}
+use Rattle.stateful_loop_model.specs.Intake as intake
+use Rattle.stateful_loop_model.specs.Moments.{Moment}
 use Rattle.stateful_actor_laws.specs.Machine.{numbered}
 use Rattle.stateful_actor_laws.specs.Steps.{Stops, Advances}
 use Rattle.stateful_actor_laws.specs.Stands.{StandsAt}

@@ -43,9 +43,9 @@ use Rattle.stateful_loop_laws.proofs.hands.Opened.{VerifiedApart-marks}
 use Rattle.stateful_loop_laws.proofs.events.Restarting.{opening-ends, pruned-ends}
 use Rattle.stateful_loop_laws.proofs.earned.VerifiedApart.{VerifiedApart-came}
 use Rattle.stateful_loop_laws.proofs.duly.Unruled.{IsUnbuilt, unbuilt-answered}
-use Rattle.stateful_loop.specs.Clearing.{IsCleared}
-use Rattle.stateful_loop.specs.Moments.{Moment}
-use Rattle.stateful_loop.specs.Opening.{Opens}
+use Rattle.stateful_loop_model.specs.Clearing.{IsCleared}
+use Rattle.stateful_loop_model.specs.Moments.{Moment}
+use Rattle.stateful_loop_model.specs.Opening.{Opens}
 use Rattle.stateful_actor_laws.specs.Machine.{numbered}
 use Rattle.stateful_actor_laws.specs.Steps.{Restarts}
 use Rattle.stateful_actor_laws.specs.Stands.{CanRestartAt}

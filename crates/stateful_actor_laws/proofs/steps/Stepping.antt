@@ -29,8 +29,8 @@ use Rattle.stateful_loop_laws.specs.Places.{IsInPlace, PastKept, PlacesKept}
 use Rattle.stateful_loop_laws.specs.Stands.{IsUpAt}
 use Rattle.stateful_loop_laws.proofs.places.Scheduled.{kept-same}
 use Rattle.stateful_loop_laws.proofs.hands.QuietWaits.{quiet-waits}
-use Rattle.stateful_loop.specs.Moments.{Moment}
-use Rattle.stateful_loop.specs.Rules.{Quiet}
+use Rattle.stateful_loop_model.specs.Moments.{Moment}
+use Rattle.stateful_loop_model.specs.Rules.{Quiet}
 use Rattle.stateful_actor_laws.specs.Stands.{StandsAt}
 use Rattle.stateful_actor_laws.specs.StepBehind.{IsCommittedTo, StepBehind}
 use Rattle.stateful_actor_laws.proofs.work.JobsGoOn.{jobs-go_on}

@@ -26,9 +26,9 @@ use Rattle.stateful_exec_laws.specs.Setting.{setting}
 use Rattle.stateful_exec_laws.proofs.ended.Stands.{running}
 use Rattle.stateful_exec_laws.proofs.requests.Outstands.{run-IsOutstanding, hook-IsOutstanding, build-IsOutstanding}
 use Rattle.stateful_exec_laws.proofs.runs.Removing.{All-at}
-use Rattle.stateful_loop.specs.Moments.{Moment}
-use Rattle.stateful_loop.specs.Sound.{IsUp, FrontAgrees}
-use Rattle.stateful_loop.specs.declared.tables.Finalizing.{Finalizing}
+use Rattle.stateful_loop_model.specs.Moments.{Moment}
+use Rattle.stateful_loop_model.specs.Sound.{IsUp, FrontAgrees}
+use Rattle.stateful_loop_model.specs.declared.tables.Finalizing.{Finalizing}
 use Rattle.stateful_loop_laws.specs.Execution.{Executes}
 use Rattle.stateful_loop_laws.specs.InHand.{GoesOnAt}
 use Rattle.stateful_loop_laws.specs.Stands.{IsUpAt}

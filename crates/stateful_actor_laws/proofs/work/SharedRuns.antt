@@ -24,8 +24,8 @@ use Rattle.stateful_loop_laws.proofs.barriers.DurablySaid.{EachMark-weaker}
 use Rattle.stateful_loop_laws.proofs.events.NamesBehind.{NamesBehind-marks}
 use Rattle.stateful_loop_laws.proofs.duly.SharedAlong.{IsCancel, shared-said, shared-up}
 use Rattle.stateful_loop_laws.proofs.events.TakenIn.{may_come-live}
-use Rattle.stateful_loop.specs.Intake.{Counts}
-use Rattle.stateful_loop.specs.Moments.{Moment}
+use Rattle.stateful_loop_model.specs.Intake.{Counts}
+use Rattle.stateful_loop_model.specs.Moments.{Moment}
 use Rattle.stateful_actor_laws.specs.Machine.{numbered}
 use Rattle.stateful_actor_laws.specs.Stands.{StandsAt}
 use Rattle.stateful_actor_laws.specs.Steps.{Advances}

@@ -8,11 +8,11 @@ use Rattle.stateful_history.specs.declared.mark.Mark.{Mark}
 use Rattle.stateful_history.specs.declared.mark.Mark.TheVariants.{BarrierDone}
 use Rattle.stateful_exec_model.specs.Workings.{Workings}
 use Rattle.stateful_loop_laws.proofs.events.AlongUp.{rule_is_up}
-use Rattle.stateful_loop.specs.Intake.{Counts, TakesIn, TurnsJob, enters, cancels, fetched, turns, flushes, stops, progresses, restarts, build, hook, run}
-use Rattle.stateful_loop.specs.Moments.{Moment}
-use Rattle.stateful_loop.specs.Rules.{Builds, starts, declines, Takes, of_action, of_message, DoesMessage, schedules, answers, acknowledges, holds, begins, Rule, Along, none, further}
-use Rattle.stateful_loop.specs.Rules as rule
-use Rattle.stateful_loop.specs.declared.message.Message.{Message}
+use Rattle.stateful_loop_model.specs.Intake.{Counts, TakesIn, TurnsJob, enters, cancels, fetched, turns, flushes, stops, progresses, restarts, build, hook, run}
+use Rattle.stateful_loop_model.specs.Moments.{Moment}
+use Rattle.stateful_loop_model.specs.Rules.{Builds, starts, declines, Takes, of_action, of_message, DoesMessage, schedules, answers, acknowledges, holds, begins, Rule, Along, none, further}
+use Rattle.stateful_loop_model.specs.Rules as rule
+use Rattle.stateful_loop_model.specs.declared.message.Message.{Message}
 
 module _ {B C I P R D H G U : Type 0} (w : Workings B C I P R D H G U) where
   -- the machine isn't up any more, since the last mark is that of a barrier that broke

@@ -30,11 +30,11 @@ use Rattle.stateful_exec_laws.specs.Building.{IsElsewhere}
 use Rattle.stateful_exec_laws.proofs.pauses.Passing.{IsBeside, PassesBy, PassesBy-acquires}
 use Rattle.stateful_exec_laws.proofs.pauses.PassingRules.{PassesBy-steps, PassesBy-resumes, PassesBy-fetched}
 use Rattle.stateful_loop_laws.proofs.events.AlongUp.{rule_is_up}
-use Rattle.stateful_loop.specs.Intake.{Counts, TakesIn, enters, cancels, fetched, turns, flushes, stops, progresses, restarts, TurnsJob, build, hook, run}
-use Rattle.stateful_loop.specs.Moments.{Moment, inner, with_loop}
-use Rattle.stateful_loop.specs.Rules.{Along, acknowledged, Schedules, Builds, starts, declines, DoesMessage, schedules, answers, acknowledges, holds, begins, Takes, of_action, of_message, Rule}
-use Rattle.stateful_loop.specs.Rules as rule
-use Rattle.stateful_loop.specs.declared.message.Message.{Message}
+use Rattle.stateful_loop_model.specs.Intake.{Counts, TakesIn, enters, cancels, fetched, turns, flushes, stops, progresses, restarts, TurnsJob, build, hook, run}
+use Rattle.stateful_loop_model.specs.Moments.{Moment, inner, with_loop}
+use Rattle.stateful_loop_model.specs.Rules.{Along, acknowledged, Schedules, Builds, starts, declines, DoesMessage, schedules, answers, acknowledges, holds, begins, Takes, of_action, of_message, Rule}
+use Rattle.stateful_loop_model.specs.Rules as rule
+use Rattle.stateful_loop_model.specs.declared.message.Message.{Message}
 
 -- not the mark of a barrier that broke
 abbrev pub IsUnbroken : {B : Type 0} → Mark B → Type 0

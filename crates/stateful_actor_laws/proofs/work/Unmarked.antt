@@ -9,9 +9,9 @@ use Rattle.stateful_loop_laws.specs.Execution.{Executes}
 use Rattle.stateful_loop_laws.specs.InHand.{IsFound, requested, recovered, built, waiting, AllInHand, GoesOnAt}
 use Rattle.stateful_loop_laws.specs.Stands.{LoopStands, IsUpAt}
 use Rattle.stateful_loop_laws.specs.Tickets.{TicketsStand}
-use Rattle.stateful_loop.specs.Moments.{Moment}
-use Rattle.stateful_loop.specs.Rules.{Can, Quiet, collect, drain, run_or_apply, apply, go_on, break_or_complete, begin, take}
-use Rattle.stateful_loop.specs.Sound.{IsUp, Sound}
+use Rattle.stateful_loop_model.specs.Moments.{Moment}
+use Rattle.stateful_loop_model.specs.Rules.{Can, Quiet, collect, drain, run_or_apply, apply, go_on, break_or_complete, begin, take}
+use Rattle.stateful_loop_model.specs.Sound.{IsUp, Sound}
 
 module _ {B C I P R D H G U : Type 0} (w : Workings B C I P R D H G U) (m : Moment w) (marks : List (Mark B)) where
   up_marks : IsUp w m → IsUp w (record m { marks = marks })

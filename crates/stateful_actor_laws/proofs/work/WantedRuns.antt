@@ -11,7 +11,7 @@ use Rattle.stateful_exec_laws.specs.Setting.{setting}
 use Rattle.stateful_exec_laws.proofs.builds.Marks.{builds-wanted}
 use Rattle.stateful_exec_laws.proofs.runs.Wanted.{candidates-wanted}
 use Rattle.stateful_loop_laws.specs.Execution.{Executes}
-use Rattle.stateful_loop.specs.Moments.{Moment}
+use Rattle.stateful_loop_model.specs.Moments.{Moment}
 use Rattle.stateful_actor_laws.specs.Stands.{StandsAt}
 
 module _ {B C I P R D H G U : Type 0} (w : Workings B C I P R D H G U) (stored : ℕ → Option (Named B)) (base : w.States) (p : Past B C I)

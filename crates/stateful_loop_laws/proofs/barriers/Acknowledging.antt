@@ -14,10 +14,10 @@ use Rattle.stateful_history.specs.declared.event.Event.TheVariants.{Finalized, R
 use Rattle.stateful_history.specs.declared.mark.Mark.TheVariants as mark
 use Rattle.stateful_exec_model.specs.Workings.{Workings}
 use Rattle.stateful_exec_laws.specs.Setting.{setting}
-use Rattle.stateful_loop.specs.Moments.{Moment}
-use Rattle.stateful_loop.specs.Rules.{acknowledged, Takes}
-use Rattle.stateful_loop.specs.declared.barriers.Active.{Active}
-use Rattle.stateful_loop.specs.declared.message.Message.TheVariants as message
+use Rattle.stateful_loop_model.specs.Moments.{Moment}
+use Rattle.stateful_loop_model.specs.Rules.{acknowledged, Takes}
+use Rattle.stateful_loop_model.specs.declared.barriers.Active.{Active}
+use Rattle.stateful_loop_model.specs.declared.message.Message.TheVariants as message
 use Rattle.stateful_loop_laws.specs.Tickets.{IsReceiptAt, TicketsStand}
 use Rattle.stateful_loop_laws.proofs.tickets.Saying.{SaysSame-mark}
 use Rattle.stateful_loop_laws.proofs.tickets.Taken.{takes-taken}

@@ -14,9 +14,9 @@ use Rattle.stateful_history.specs.declared.event.Event.TheVariants.{Flushed, Res
 use Rattle.stateful_history.specs.declared.mark.Mark.TheVariants.{Applied, BarrierBegun, BarrierDone, Stopped}
 use Rattle.stateful_loop_laws.specs.OpenBarriers.{AwaitsEach}
 use Rattle.stateful_loop_laws.proofs.loop.CalmItems.{IsCalmItem}
-use Rattle.stateful_loop.proofs.OutTokens.{awaiting_first, awaiting_behind}
-use Rattle.stateful_loop.specs.Barriers.{awaits, awaiting, answered_by, with_answer}
-use Rattle.stateful_loop.specs.declared.barriers.Active.{Active}
+use Rattle.stateful_loop_model.proofs.OutTokens.{awaiting_first, awaiting_behind}
+use Rattle.stateful_loop_model.specs.Barriers.{awaits, awaiting, answered_by, with_answer}
+use Rattle.stateful_loop_model.specs.declared.barriers.Active.{Active}
 
 -- one of the barriers awaits the answer, the first or another
 pub awaited_first : (k i : ℕ) (b : Active) (bs : List Active) → awaits k i b ≡ true → IsSome (awaiting k i (b ∷ bs))

@@ -17,7 +17,7 @@ use Rattle.stateful_history.specs.Past.{Past, Made}
 use Rattle.stateful_history.specs.declared.mark.Mark.TheVariants.{BarrierBegun}
 use Rattle.stateful_loop_laws.specs.OpenBarriers.{ActiveStands, BarriersStand}
 use Rattle.stateful_loop_laws.proofs.loop.CalmItems.{begun_since, begun_behind}
-use Rattle.stateful_loop.specs.declared.barriers.Active.{Active}
+use Rattle.stateful_loop_model.specs.declared.barriers.Active.{Active}
 
 -- what is there in a list is there in a longer one
 pub Any-append_left : {X : Type 0} (P : X → Type 0) (xs ys : List X) → Any P xs → Any P (xs ++ ys)

@@ -15,8 +15,8 @@ use Rattle.stateful_history.specs.Durable.{GoodIsFlushed, WasFlushed}
 use Rattle.stateful_history.specs.Past.{Past, Made}
 use Rattle.stateful_history.specs.declared.mark.Mark.TheVariants.{BarrierDone}
 use Rattle.stateful_loop_laws.specs.OpenBarriers.{ActiveStands, BarriersStand}
-use Rattle.stateful_loop.specs.Barriers.{is_good, is_flushed}
-use Rattle.stateful_loop.specs.declared.barriers.Active.{Active}
+use Rattle.stateful_loop_model.specs.Barriers.{is_good, is_flushed}
+use Rattle.stateful_loop_model.specs.declared.barriers.Active.{Active}
 
 good_is : (answer : Option Flushed) → is_good answer ≡ true → answer ≡ Some Good
 good_is None e = absurd (false≢true e)

@@ -19,9 +19,9 @@ use Rattle.stateful_history.specs.declared.event.Event.TheVariants as event
 use Rattle.stateful_loop_laws.specs.OpenBarriers.{HandleStands, ActiveStands, BarriersStand}
 use Rattle.stateful_loop_laws.proofs.barriers.Left.{ActiveStands-left}
 use Rattle.stateful_loop_laws.proofs.loop.CalmItems.{LeavesBarriers, LeavesLoop-flushed}
-use Rattle.stateful_loop.proofs.OutTokens.{some_is, awaiting_first, awaiting_behind, heights_answered}
-use Rattle.stateful_loop.specs.Barriers.{awaits, awaiting, answered_by, with_answer}
-use Rattle.stateful_loop.specs.declared.barriers.Active.{Active}
+use Rattle.stateful_loop_model.proofs.OutTokens.{some_is, awaiting_first, awaiting_behind, heights_answered}
+use Rattle.stateful_loop_model.specs.Barriers.{awaits, awaiting, answered_by, with_answer}
+use Rattle.stateful_loop_model.specs.declared.barriers.Active.{Active}
 
 -- a handle of the list with an answer: the answered one, or one of the list
 answered_at : (answer : Flushed) (hs : List Handle) (n i : ℕ) (handle : Handle) → slice_get (answered hs n answer) i ≡ Some handle

@@ -8,7 +8,7 @@ use Rattle.stateful_db.specs.declared.barrier.Handle.{Handle}
 use Rattle.stateful_history.specs.Past.{Past, Item}
 use Rattle.stateful_loop_laws.specs.OpenBarriers.{HandleStands, ActiveStands, BarriersStand}
 use Rattle.stateful_loop_laws.proofs.loop.CalmItems.{LeavesBarriers}
-use Rattle.stateful_loop.specs.declared.barriers.Active.{Active}
+use Rattle.stateful_loop_model.specs.declared.barriers.Active.{Active}
 
 module _ {B C I Ids S T : Type 0} (d : Databases Ids S T) (header : Header B) (p : Past B C I) (x : Item B C I) (same : LeavesBarriers header p x)
     (m now : d.Members) (first : Anchor) (origin : ℕ → ℕ) (durable : (i : ℕ) → i < d.count → d.durable m i ≤ d.durable now i) where

@@ -14,8 +14,8 @@ use Rattle.stateful_history.specs.declared.mark.Mark.TheVariants.{BarrierBegun, 
 use Rattle.stateful_loop_laws.specs.OpenBarriers.{AwaitsLive}
 use Rattle.stateful_loop_laws.proofs.barriers.AwaitedItems.{awaited_first, awaited_behind, awaited_at, open_other}
 use Rattle.stateful_loop_laws.proofs.loop.CalmItems.{IsCalmItem}
-use Rattle.stateful_loop.specs.Barriers.{awaits, awaiting, answered_by, with_answer}
-use Rattle.stateful_loop.specs.declared.barriers.Active.{Active}
+use Rattle.stateful_loop_model.specs.Barriers.{awaits, awaiting, answered_by, with_answer}
+use Rattle.stateful_loop_model.specs.declared.barriers.Active.{Active}
 
 -- open barriers by ascending numbers
 abbrev Ascending : List Active → Type 0

@@ -36,9 +36,9 @@ use Rattle.stateful_exec_laws.specs.Setting.{setting}
 use Rattle.stateful_exec_laws.specs.Storing.{IsStoredNow}
 use Rattle.stateful_exec_laws.proofs.earned.Carried.{IsMild}
 use Rattle.stateful_exec_laws.proofs.runs.Kept.{turns-after}
-use Rattle.stateful_loop.specs.Moments.{Moment}
-use Rattle.stateful_loop.specs.Rules.{IsFinalizing, HasStates, AppliesBlock, Rule}
-use Rattle.stateful_loop.specs.declared.tables.Finalizing.{Finalizing as Finalizes}
+use Rattle.stateful_loop_model.specs.Moments.{Moment}
+use Rattle.stateful_loop_model.specs.Rules.{IsFinalizing, HasStates, AppliesBlock, Rule}
+use Rattle.stateful_loop_model.specs.declared.tables.Finalizing.{Finalizing as Finalizes}
 use Rattle.stateful_loop_laws.specs.Behind.{UpBehind}
 use Rattle.stateful_loop_laws.specs.Execution.{IsPlaced, IsPlacedAt, IsFree, Executes}
 use Rattle.stateful_loop_laws.specs.InHand.{NoneOpen, GoesOnAt}

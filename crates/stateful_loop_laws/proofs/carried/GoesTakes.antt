@@ -48,9 +48,9 @@ use Rattle.stateful_exec_laws.proofs.ended.Points.{Stacked-point}
 use Rattle.stateful_exec_laws.proofs.runs.Removing.{All-at, differ}
 use Rattle.stateful_exec_laws.proofs.runs.Kept.{turns-after}
 use Rattle.stateful_exec_laws.proofs.runs.TurnedStands.{live-started}
-use Rattle.stateful_loop.specs.Intake as intake
-use Rattle.stateful_loop.specs.Intake.{Counts, Builds, Hooks, TurnsJob, TakesIn}
-use Rattle.stateful_loop.specs.Moments.{Moment, inner}
+use Rattle.stateful_loop_model.specs.Intake as intake
+use Rattle.stateful_loop_model.specs.Intake.{Counts, Builds, Hooks, TurnsJob, TakesIn}
+use Rattle.stateful_loop_model.specs.Moments.{Moment, inner}
 use Rattle.stateful_loop_laws.specs.Execution.{Executes}
 use Rattle.stateful_loop_laws.specs.InHand.{GoesOnAt}
 use Rattle.stateful_loop_laws.specs.TakenBehind.{TakenBehind}

@@ -39,9 +39,9 @@ use Rattle.stateful_exec_tables.specs.declared.walk.Acquired.TheVariants as acqu
 use Rattle.stateful_exec_laws.specs.Requesting.{first_of}
 use Rattle.stateful_exec_laws.proofs.earned.Carried.{IsMild}
 use Rattle.stateful_exec_laws.proofs.runs.Removing.{none_at}
-use Rattle.stateful_loop.specs.Intake as intake
-use Rattle.stateful_loop.specs.Intake.{Counts, Builds, Hooks, TurnsJob, TakesIn}
-use Rattle.stateful_loop.specs.Moments.{Moment, inner, with_inner}
+use Rattle.stateful_loop_model.specs.Intake as intake
+use Rattle.stateful_loop_model.specs.Intake.{Counts, Builds, Hooks, TurnsJob, TakesIn}
+use Rattle.stateful_loop_model.specs.Moments.{Moment, inner, with_inner}
 use Rattle.stateful_loop_laws.proofs.carried.RunsCarried.{OfRuns, OfRequests, CarriesFrom, OfTurned, carries_same, carries_steps, carries_gives_up, carries_fetched}
 use Rattle.stateful_loop_laws.proofs.carried.SettledIntake.{crossed_free, pause_fetched}
 use Rattle.stateful_loop_laws.proofs.execution.StepsLeave.{pause-steps}

@@ -24,13 +24,13 @@ use Rattle.stateful_exec_tables.specs.declared.walk.Acquired.TheVariants as acqu
 use Rattle.stateful_exec_laws.specs.Requesting.{first_of}
 use Rattle.stateful_exec_laws.proofs.earned.Carried.{IsMild}
 use Rattle.stateful_exec_laws.proofs.earned.Left.{LeavesBehind-acquires}
-use Rattle.stateful_loop.specs.Moments.{Moment, inner, with_loop}
-use Rattle.stateful_loop.specs.Rules as rules
-use Rattle.stateful_loop.specs.Rules.{acknowledged, IsFinalizing, HasStates, AppliesBlock, Schedules, Takes, of_action, of_message, Builds, BeginsBarrier, BeginsFinalization, DoesMessage, ObservesBlock, Rule}
-use Rattle.stateful_loop.specs.declared.barriers.Active.{Active}
-use Rattle.stateful_loop.specs.declared.message.Message.{Message}
-use Rattle.stateful_loop.specs.declared.tables.Finalizing.{Finalizing as Finalizes}
-use Rattle.stateful_loop.specs.declared.tables.Processing.{Processing}
+use Rattle.stateful_loop_model.specs.Moments.{Moment, inner, with_loop}
+use Rattle.stateful_loop_model.specs.Rules as rules
+use Rattle.stateful_loop_model.specs.Rules.{acknowledged, IsFinalizing, HasStates, AppliesBlock, Schedules, Takes, of_action, of_message, Builds, BeginsBarrier, BeginsFinalization, DoesMessage, ObservesBlock, Rule}
+use Rattle.stateful_loop_model.specs.declared.barriers.Active.{Active}
+use Rattle.stateful_loop_model.specs.declared.message.Message.{Message}
+use Rattle.stateful_loop_model.specs.declared.tables.Finalizing.{Finalizing as Finalizes}
+use Rattle.stateful_loop_model.specs.declared.tables.Processing.{Processing}
 use Rattle.stateful_loop_laws.proofs.carried.RunsCarried.{OfRequests, Carries, carries_still, carries_acquires, carries_resumes, waiting_resumed}
 
 one_mild : {B : Type 0} (x : Mark B) → IsMild x → All (λ y. IsMild y) (x ∷ [])

@@ -26,9 +26,9 @@ use Rattle.stateful_exec_tables.specs.declared.state.Tables.{Tables}
 use Rattle.stateful_exec_tables.specs.declared.tables.Phase.TheVariants.{Open}
 use Rattle.stateful_exec_tables.specs.declared.tables.Requested.{Requested}
 use Rattle.stateful_exec_laws.proofs.earned.Left.{LeavesBehind-acquires, LeavesBehind-concludes}
-use Rattle.stateful_loop.specs.Intake as intake
-use Rattle.stateful_loop.specs.Intake.{Counts, TurnsJob, TakesIn}
-use Rattle.stateful_loop.specs.Moments.{Moment, inner}
+use Rattle.stateful_loop_model.specs.Intake as intake
+use Rattle.stateful_loop_model.specs.Intake.{Counts, TurnsJob, TakesIn}
+use Rattle.stateful_loop_model.specs.Moments.{Moment, inner}
 use Rattle.stateful_loop_laws.specs.InHand.{NoneOpen}
 use Rattle.stateful_loop_laws.proofs.carried.SettledKept.{settling_fetched, settling_steps}
 use Rattle.stateful_loop_laws.proofs.carried.SettledRules.{IsSettledAt, settled_same}

@@ -10,11 +10,11 @@ use Rattle.stateful_exec_tables.specs.declared.request.Request.{Request}
 use Rattle.stateful_exec_tables.specs.declared.state.Tables.{Tables}
 use Rattle.stateful_db.specs.declared.application.Hooked.{Hooked}
 use Rattle.stateful_db.specs.declared.application.Hooked.TheVariants as hooked
-use Rattle.stateful_loop.specs.Moments.{Moment, inner, with_loop}
-use Rattle.stateful_loop.specs.Rules as rules
-use Rattle.stateful_loop.specs.Rules.{Schedules, Takes, of_action, of_message, Builds, BeginsFinalization, DoesMessage, ObservesBlock, Rule}
-use Rattle.stateful_loop.specs.declared.message.Message.{Message}
-use Rattle.stateful_loop.specs.declared.tables.Finalizing.{Finalizing as Finalizes}
+use Rattle.stateful_loop_model.specs.Moments.{Moment, inner, with_loop}
+use Rattle.stateful_loop_model.specs.Rules as rules
+use Rattle.stateful_loop_model.specs.Rules.{Schedules, Takes, of_action, of_message, Builds, BeginsFinalization, DoesMessage, ObservesBlock, Rule}
+use Rattle.stateful_loop_model.specs.declared.message.Message.{Message}
+use Rattle.stateful_loop_model.specs.declared.tables.Finalizing.{Finalizing as Finalizes}
 use Rattle.stateful_loop_laws.specs.InHand.{NoneOpen}
 use Rattle.stateful_loop_laws.proofs.carried.SettledKept.{settling_acquires, settled_resumes}
 use Rattle.stateful_exec_laws.proofs.earned.Left.{LeavesBehind-acquires}

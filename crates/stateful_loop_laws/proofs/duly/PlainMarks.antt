@@ -30,13 +30,13 @@ use Rattle.stateful_exec_tables.specs.declared.state.Tables.{Tables}
 use Rattle.stateful_exec_laws.specs.Building.{IsElsewhere}
 use Rattle.stateful_exec_laws.proofs.pauses.Passing.{IsBeside, PassesBy, PassesBy-acquires}
 use Rattle.stateful_exec_laws.proofs.pauses.PassingRules.{PassesBy-steps, PassesBy-resumes, PassesBy-fetched}
-use Rattle.stateful_loop.specs.Intake.{Counts, TakesIn, enters, cancels, fetched, turns, flushes, stops, progresses, restarts, TurnsJob, build, hook, run}
-use Rattle.stateful_loop.specs.Moments.{Moment, inner, with_loop}
-use Rattle.stateful_loop.specs.Rules.{acknowledged, Schedules, Builds, starts, declines, DoesMessage, schedules, answers, acknowledges, holds, begins, IsFinalizing, HasStates, AppliesBlock, Takes, of_action, of_message, Rule}
-use Rattle.stateful_loop.specs.Rules as rule
-use Rattle.stateful_loop.specs.declared.message.Message.{Message}
-use Rattle.stateful_loop.specs.declared.barriers.Active.{Active}
-use Rattle.stateful_loop.specs.declared.tables.Finalizing.{Finalizing}
+use Rattle.stateful_loop_model.specs.Intake.{Counts, TakesIn, enters, cancels, fetched, turns, flushes, stops, progresses, restarts, TurnsJob, build, hook, run}
+use Rattle.stateful_loop_model.specs.Moments.{Moment, inner, with_loop}
+use Rattle.stateful_loop_model.specs.Rules.{acknowledged, Schedules, Builds, starts, declines, DoesMessage, schedules, answers, acknowledges, holds, begins, IsFinalizing, HasStates, AppliesBlock, Takes, of_action, of_message, Rule}
+use Rattle.stateful_loop_model.specs.Rules as rule
+use Rattle.stateful_loop_model.specs.declared.message.Message.{Message}
+use Rattle.stateful_loop_model.specs.declared.barriers.Active.{Active}
+use Rattle.stateful_loop_model.specs.declared.tables.Finalizing.{Finalizing}
 
 -- not the mark of an applied block, of a barrier that broke, of an opening, a sync, a prune or a stop
 abbrev pub IsPlain : {B : Type 0} → Mark B → Type 0

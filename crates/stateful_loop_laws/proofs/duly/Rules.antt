@@ -32,10 +32,10 @@ use Rattle.stateful_exec_laws.specs.Requesting.{IsInPhase, IsStanding}
 use Rattle.stateful_exec_laws.specs.Setting.{setting}
 use Rattle.stateful_exec_laws.proofs.ended.FollowStands.{below_apart}
 use Rattle.stateful_exec_laws.proofs.runs.Removing.{differ}
-use Rattle.stateful_loop.specs.Moments.{Moment, Executing, inner, with_loop}
-use Rattle.stateful_loop.specs.Rules.{acknowledged, HasStates, BeginsFinalization, Builds, starts, declines, DoesMessage, schedules, answers, acknowledges, holds, begins, Takes, Rule, collects, puts_off, runs, applies, covers, observes, ends, breaks, completes, builds, takes}
-use Rattle.stateful_loop.specs.declared.message.Message.{Message}
-use Rattle.stateful_loop.specs.declared.message.Message.TheVariants as message
+use Rattle.stateful_loop_model.specs.Moments.{Moment, Executing, inner, with_loop}
+use Rattle.stateful_loop_model.specs.Rules.{acknowledged, HasStates, BeginsFinalization, Builds, starts, declines, DoesMessage, schedules, answers, acknowledges, holds, begins, Takes, Rule, collects, puts_off, runs, applies, covers, observes, ends, breaks, completes, builds, takes}
+use Rattle.stateful_loop_model.specs.declared.message.Message.{Message}
+use Rattle.stateful_loop_model.specs.declared.message.Message.TheVariants as message
 use Rattle.stateful_loop_laws.specs.Duly.{AreAmong, IsDulySaid, DulyBehind}
 use Rattle.stateful_loop_laws.specs.Execution.{Executes}
 use Rattle.stateful_loop_laws.specs.Places.{PlacesKept}

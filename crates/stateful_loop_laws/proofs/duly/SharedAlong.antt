@@ -23,10 +23,10 @@ use Rattle.stateful_exec_laws.specs.Building.{BuildsTakeTurns}
 use Rattle.stateful_exec_laws.specs.Fronting.{RunsTakeTurns}
 use Rattle.stateful_exec_laws.specs.Setting.{setting}
 use Rattle.stateful_exec_laws.specs.Storing.{IsStoredNow}
-use Rattle.stateful_loop.specs.Intake as intake
-use Rattle.stateful_loop.specs.Intake.{Counts, TakesIn, enters, cancels}
-use Rattle.stateful_loop.specs.Moments.{Moment}
-use Rattle.stateful_loop.specs.Rules.{Quiet, Along}
+use Rattle.stateful_loop_model.specs.Intake as intake
+use Rattle.stateful_loop_model.specs.Intake.{Counts, TakesIn, enters, cancels}
+use Rattle.stateful_loop_model.specs.Moments.{Moment}
+use Rattle.stateful_loop_model.specs.Rules.{Quiet, Along}
 use Rattle.stateful_loop_laws.specs.Duly.{AreAmong, IsDulySaid, DulyBehind}
 use Rattle.stateful_loop_laws.specs.Execution.{NamesBehind}
 use Rattle.stateful_loop_laws.specs.InHand.{VerifiedApart, AllInHand, GoesOnAt}

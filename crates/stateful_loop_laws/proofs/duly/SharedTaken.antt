@@ -29,9 +29,9 @@ use Rattle.stateful_exec_laws.specs.Setting.{setting}
 use Rattle.stateful_exec_laws.proofs.ended.Stands.{running}
 use Rattle.stateful_exec_laws.proofs.places.Cancelled.{StandsOn-longer, HasRunOf, HasRunOf-executing}
 use Rattle.stateful_exec_laws.proofs.runs.Removing.{at_other, none_on, All-at}
-use Rattle.stateful_loop.specs.Intake as intake
-use Rattle.stateful_loop.specs.Moments.{Moment}
-use Rattle.stateful_loop.specs.Rules.{Quiet}
+use Rattle.stateful_loop_model.specs.Intake as intake
+use Rattle.stateful_loop_model.specs.Moments.{Moment}
+use Rattle.stateful_loop_model.specs.Rules.{Quiet}
 use Rattle.stateful_loop_laws.specs.Execution.{Executes}
 use Rattle.stateful_loop_laws.specs.InHand.{VerifiedApart, AllInHand, GoesOnAt}
 use Rattle.stateful_loop_laws.specs.Stands.{IsUpAt}

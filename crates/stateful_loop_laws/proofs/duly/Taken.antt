@@ -22,9 +22,9 @@ use Rattle.stateful_exec_laws.specs.Building.{BuildStands}
 use Rattle.stateful_exec_laws.specs.Outstanding.{TicketsApart}
 use Rattle.stateful_exec_laws.specs.Setting.{setting}
 use Rattle.stateful_exec_laws.proofs.places.Cancelled.{HasCause, cancels-cause}
-use Rattle.stateful_loop.specs.Intake as intake
-use Rattle.stateful_loop.specs.Intake.{Counts, TakesIn, enters, cancels, fetched, turns, flushes, stops, progresses, restarts}
-use Rattle.stateful_loop.specs.Moments.{Moment, inner}
+use Rattle.stateful_loop_model.specs.Intake as intake
+use Rattle.stateful_loop_model.specs.Intake.{Counts, TakesIn, enters, cancels, fetched, turns, flushes, stops, progresses, restarts}
+use Rattle.stateful_loop_model.specs.Moments.{Moment, inner}
 use Rattle.stateful_loop_laws.specs.Duly.{DulyBehind}
 use Rattle.stateful_loop_laws.specs.Execution.{Executes}
 use Rattle.stateful_loop_laws.proofs.duly.Turned.{duly-turns}

@@ -42,8 +42,8 @@ use Rattle.stateful_exec_laws.proofs.builds.Marks.{nothing-EndsAsItsKind, nothin
 use Rattle.stateful_exec_laws.proofs.front.Marks.{ran-EndsAsItsKind, hooked-EndsAsItsKind}
 use Rattle.stateful_exec_laws.proofs.requests.KeptMarks.{KeepsBehind, EachMark-behind}
 use Rattle.stateful_exec_laws.proofs.places.Cancelled.{ended-in_turn}
-use Rattle.stateful_loop.specs.Intake.{Counts, TurnsJob, build, hook, run}
-use Rattle.stateful_loop.specs.Moments.{Moment, inner, with_inner}
+use Rattle.stateful_loop_model.specs.Intake.{Counts, TurnsJob, build, hook, run}
+use Rattle.stateful_loop_model.specs.Moments.{Moment, inner, with_inner}
 use Rattle.stateful_loop_laws.specs.Duly.{DulyBehind}
 use Rattle.stateful_loop_laws.specs.Execution.{IsFree, IsPlaced, Executes}
 use Rattle.stateful_loop_laws.proofs.places.Scheduled.{ground-free}

@@ -26,7 +26,7 @@ use Rattle.stateful_exec_tables.specs.declared.tables.Released.{Released}
 use Rattle.stateful_exec_tables.specs.declared.tables.Requested.{Requested}
 use Rattle.stateful_exec_laws.proofs.requests.AdvanceStands.{All-front, All-back}
 use Rattle.stateful_exec_laws.proofs.requests.ServedMarks.{IsServedBy, AreServedBy, ServesMarks, advances-marks, acquires-marks, follows-marks, concludes-marks}
-use Rattle.stateful_loop.specs.Moments as loop
+use Rattle.stateful_loop_model.specs.Moments as loop
 use Rattle.stateful_loop_laws.specs.Duly.{IsDulySaid, DulyBehind}
 
 -- none of these rules speaks of the mark

@@ -12,8 +12,8 @@ use Rattle.stateful_exec_tables.specs.Tables.{Rises}
 use Rattle.stateful_exec_model.specs.Workings.{Workings}
 use Rattle.stateful_loop_laws.specs.Down.{IsEnding, IsCounted}
 use Rattle.stateful_loop_laws.specs.Stands.{IsUpAt}
-use Rattle.stateful_loop.specs.Moments.{Moment}
-use Rattle.stateful_loop.specs.declared.barriers.Active.{Active}
+use Rattle.stateful_loop_model.specs.Moments.{Moment}
+use Rattle.stateful_loop_model.specs.declared.barriers.Active.{Active}
 
 module _ {B : Type 0} where
   marks_of : (make : ℕ → Mark B) → ((n : ℕ) → IsEnding (make n)) → (numbers : List ℕ) → All IsEnding (map make numbers)

@@ -16,9 +16,9 @@ use Rattle.stateful_history.proofs.Marks.{after-append, EachMark-append}
 use Rattle.stateful_exec_model.specs.Workings.{Workings}
 use Rattle.stateful_exec_laws.specs.Setting.{setting}
 use Rattle.stateful_exec_laws.specs.Storing.{IsStoredNow}
-use Rattle.stateful_loop.specs.Clearing.{IsCleared}
-use Rattle.stateful_loop.specs.Moments.{Moment}
-use Rattle.stateful_loop.specs.Opening.{Opens}
+use Rattle.stateful_loop_model.specs.Clearing.{IsCleared}
+use Rattle.stateful_loop_model.specs.Moments.{Moment}
+use Rattle.stateful_loop_model.specs.Opening.{Opens}
 use Rattle.stateful_loop_laws.specs.Down.{IsEnding, IsCounted}
 use Rattle.stateful_loop_laws.specs.Durability.{IsDurablySaid}
 use Rattle.stateful_loop_laws.specs.EventBehind.{RestartedBehind}

@@ -9,9 +9,9 @@ use Rattle.stateful_exec_tables.specs.Tables.{Rises}
 use Rattle.stateful_exec_model.specs.Workings.{Workings}
 use Rattle.stateful_loop_laws.specs.Down.{IsEnding, IsEmpty, IsCounted, IsDownAt}
 use Rattle.stateful_loop_laws.proofs.events.Counting.{IsCounted-rises, IsCounted-restart, IsCounted-ends}
-use Rattle.stateful_loop.specs.Clearing.{IsCleared}
-use Rattle.stateful_loop.specs.Moments.{Moment}
-use Rattle.stateful_loop.specs.Sound.{Sound}
+use Rattle.stateful_loop_model.specs.Clearing.{IsCleared}
+use Rattle.stateful_loop_model.specs.Moments.{Moment}
+use Rattle.stateful_loop_model.specs.Sound.{Sound}
 
 module _ {B C I P R D H G U : Type 0} (w : Workings B C I P R D H G U) where
   -- before all events a machine at which nothing goes on stands, whatever its numbers are

@@ -21,9 +21,9 @@ use Rattle.stateful_loop_laws.proofs.loop.Opens.{LoopStands-opens}
 use Rattle.stateful_loop_laws.proofs.loop.OrderTaken.{opens_order}
 use Rattle.stateful_loop_laws.proofs.tickets.Opened.{opens-tickets}
 use Rattle.stateful_loop_laws.proofs.ways.Finalized.{WaysKept-opens}
-use Rattle.stateful_loop.proofs.SoundingOpenings.{opens_sound}
-use Rattle.stateful_loop.specs.Moments.{Moment}
-use Rattle.stateful_loop.specs.Opening.{Opens}
+use Rattle.stateful_loop_model.proofs.SoundingOpenings.{opens_sound}
+use Rattle.stateful_loop_model.specs.Moments.{Moment}
+use Rattle.stateful_loop_model.specs.Opening.{Opens}
 
 module _ {B C I P R D H G U : Type 0} (w : Workings B C I P R D H G U) (laws : Laws w.kind) (stored stored_now : ℕ → Option (Named B))
     (floor : Floor) (keep : List ℕ) (p : Past B C I) (m now : Moment w) (heights : StoresHeights w.header stored)

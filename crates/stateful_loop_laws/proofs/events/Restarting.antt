@@ -23,9 +23,9 @@ use Rattle.stateful_loop_laws.specs.OpenedBehind.{OpenedBehind}
 use Rattle.stateful_loop_laws.proofs.execution.Kept.{names-on}
 use Rattle.stateful_loop_laws.proofs.events.GoesDown.{IsDownAt-restarts}
 use Rattle.stateful_loop_laws.proofs.events.OpensUp.{opens-up}
-use Rattle.stateful_loop.specs.Clearing.{IsCleared}
-use Rattle.stateful_loop.specs.Moments.{Moment}
-use Rattle.stateful_loop.specs.Opening.{Opens}
+use Rattle.stateful_loop_model.specs.Clearing.{IsCleared}
+use Rattle.stateful_loop_model.specs.Moments.{Moment}
+use Rattle.stateful_loop_model.specs.Opening.{Opens}
 
 module _ {B C I : Type 0} where
   brings_none : (p : Past B C I) (mark : Mark B) → IsEnding mark → (b : Named B) → Brings {C = C} {I = I} (Made mark) b → ⊥

@@ -15,11 +15,11 @@ use Rattle.stateful_history.specs.declared.mark.Mark.{Mark}
 use Rattle.stateful_exec_model.specs.Workings.{Workings}
 use Rattle.stateful_exec_laws.specs.Setting.{setting}
 use Rattle.stateful_exec_laws.specs.Storing.{IsStoredNow}
-use Rattle.stateful_loop.proofs.SoundingIntake.{taken_in_sound}
-use Rattle.stateful_loop.specs.Intake.{Counts, TakesIn}
-use Rattle.stateful_loop.specs.Moments.{Moment}
-use Rattle.stateful_loop.specs.Rules.{Quiet, collect}
-use Rattle.stateful_loop.specs.Sound.{Sound, IsUp}
+use Rattle.stateful_loop_model.proofs.SoundingIntake.{taken_in_sound}
+use Rattle.stateful_loop_model.specs.Intake.{Counts, TakesIn}
+use Rattle.stateful_loop_model.specs.Moments.{Moment}
+use Rattle.stateful_loop_model.specs.Rules.{Quiet, collect}
+use Rattle.stateful_loop_model.specs.Sound.{Sound, IsUp}
 use Rattle.stateful_loop_laws.specs.Durability.{IsDurablySaid, LoopBehind}
 use Rattle.stateful_loop_laws.specs.Execution.{Executes, NamesBehind, ExecutesBehind}
 use Rattle.stateful_loop_laws.specs.RuleMarks.{MarksBehind}

@@ -9,7 +9,7 @@ use Rattle.stateful_history.proofs.Marks.{after-append}
 use Rattle.stateful_exec_model.specs.Workings.{Workings}
 use Rattle.stateful_exec_laws.specs.Setting.{setting}
 use Rattle.stateful_exec_laws.proofs.linked.On.{honest_one, answered_one}
-use Rattle.stateful_loop.specs.Moments.{Moment}
+use Rattle.stateful_loop_model.specs.Moments.{Moment}
 use Rattle.stateful_loop_laws.specs.Reasons.{IsTrusted}
 use Rattle.stateful_loop_laws.proofs.reasons.RoundsLater.{has_more}
 

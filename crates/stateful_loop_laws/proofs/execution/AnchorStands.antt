@@ -11,11 +11,11 @@ use Rattle.stateful_exec_model.specs.declared.front.Stage.{Stage}
 use Rattle.stateful_exec_model.specs.declared.front.Stage.TheVariants.{Begun, Running, Ran, Advanced, Hooking}
 use Rattle.stateful_exec_tables.specs.declared.state.Tables.{Tables}
 use Rattle.stateful_exec_laws.specs.Setting.{setting}
-use Rattle.stateful_loop.specs.Moments.{Moment}
-use Rattle.stateful_loop.specs.Rules.{Takes, of_action, of_message}
-use Rattle.stateful_loop.specs.Sound.{IsUp, FrontAgrees}
-use Rattle.stateful_loop.specs.declared.message.Message.{Message}
-use Rattle.stateful_loop.specs.declared.tables.Finalizing.{Finalizing}
+use Rattle.stateful_loop_model.specs.Moments.{Moment}
+use Rattle.stateful_loop_model.specs.Rules.{Takes, of_action, of_message}
+use Rattle.stateful_loop_model.specs.Sound.{IsUp, FrontAgrees}
+use Rattle.stateful_loop_model.specs.declared.message.Message.{Message}
+use Rattle.stateful_loop_model.specs.declared.tables.Finalizing.{Finalizing}
 use Rattle.stateful_loop_laws.specs.Execution.{IsPlaced, IsPlacedAt, Executes, ExecutesBehind}
 use Rattle.stateful_loop_laws.proofs.execution.Kept.{Executes-same}
 use Rattle.stateful_loop_laws.proofs.tickets.Taken.{takes-execution}

@@ -37,9 +37,9 @@ use Rattle.stateful_exec_laws.proofs.front.AnchorCut.{root-Met}
 use Rattle.stateful_exec_laws.proofs.front.AnchorMoves.{IsApplied, IsAppliedOver, IsAppliedOver-moves, FrontStands-moves, HasMovedSo-moves}
 use Rattle.stateful_exec_laws.proofs.front.MovedStands.{TablesStand-free}
 use Rattle.stateful_exec_laws.proofs.pauses.Retained.{none_awaited}
-use Rattle.stateful_loop.specs.Moments.{Moment}
-use Rattle.stateful_loop.specs.Rules.{IsFinalizing, HasStates, AppliesBlock}
-use Rattle.stateful_loop.specs.declared.tables.Finalizing.{Finalizing}
+use Rattle.stateful_loop_model.specs.Moments.{Moment}
+use Rattle.stateful_loop_model.specs.Rules.{IsFinalizing, HasStates, AppliesBlock}
+use Rattle.stateful_loop_model.specs.declared.tables.Finalizing.{Finalizing}
 use Rattle.stateful_loop_laws.specs.Execution.{FetchesNone, IsPausedFor, IsPausedOver, IsPlaced, Executes, ExecutesBehind}
 
 module _ {B C I P R D H G U : Type 0} (w : Workings B C I P R D H G U) (stored : ℕ → Option (Named B)) (b : Named B) where

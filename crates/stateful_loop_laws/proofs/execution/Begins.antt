@@ -41,8 +41,8 @@ use Rattle.stateful_exec_laws.proofs.pauses.Begins.{TablesStand-finalizing}
 use Rattle.stateful_exec_laws.proofs.pauses.Known.{IsOverTip}
 use Rattle.stateful_exec_laws.proofs.pauses.Tables.{unfetched_none}
 use Rattle.stateful_exec_laws.proofs.requests.SamePast.{IsSamePast, IsSamePast-mild}
-use Rattle.stateful_loop.specs.Moments.{Moment}
-use Rattle.stateful_loop.specs.Rules.{BeginsFinalization, finalizing}
+use Rattle.stateful_loop_model.specs.Moments.{Moment}
+use Rattle.stateful_loop_model.specs.Rules.{BeginsFinalization, finalizing}
 use Rattle.stateful_loop_laws.specs.Execution.{FetchesNone, IsFree, IsGroundFor, IsPlaced, Executes, NamesBehind, ExecutesBehind}
 
 -- what holds of each withdrawal holds of all these

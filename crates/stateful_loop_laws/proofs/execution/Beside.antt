@@ -16,12 +16,12 @@ use Rattle.stateful_history.specs.declared.event.Event.{Event}
 use Rattle.stateful_exec_model.specs.Workings.{Workings}
 use Rattle.stateful_exec_laws.specs.Setting.{setting}
 use Rattle.stateful_exec_laws.specs.Storing.{IsStoredNow}
-use Rattle.stateful_loop.specs.Intake.{flushed_by, Counts, TakesIn, enters, cancels, fetched, turns, flushes, stops, progresses, restarts}
-use Rattle.stateful_loop.specs.Moments.{Moment, with_loop}
-use Rattle.stateful_loop.specs.Rules.{BeginsBarrier, CompletesBarrier, BeginsFinalization, DoesMessage, schedules, answers, acknowledges, holds, begins}
-use Rattle.stateful_loop.specs.declared.barriers.Active.{Active}
-use Rattle.stateful_loop.specs.declared.message.Message.{Message}
-use Rattle.stateful_loop.specs.declared.tables.Processing.{Processing}
+use Rattle.stateful_loop_model.specs.Intake.{flushed_by, Counts, TakesIn, enters, cancels, fetched, turns, flushes, stops, progresses, restarts}
+use Rattle.stateful_loop_model.specs.Moments.{Moment, with_loop}
+use Rattle.stateful_loop_model.specs.Rules.{BeginsBarrier, CompletesBarrier, BeginsFinalization, DoesMessage, schedules, answers, acknowledges, holds, begins}
+use Rattle.stateful_loop_model.specs.declared.barriers.Active.{Active}
+use Rattle.stateful_loop_model.specs.declared.message.Message.{Message}
+use Rattle.stateful_loop_model.specs.declared.tables.Processing.{Processing}
 use Rattle.stateful_loop_laws.specs.Execution.{Executes, ExecutesBehind}
 use Rattle.stateful_loop_laws.specs.Tickets.{MessageStands}
 use Rattle.stateful_loop_laws.proofs.execution.Came.{IsBesides, Executes-came}

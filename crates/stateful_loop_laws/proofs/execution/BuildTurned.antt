@@ -21,8 +21,8 @@ use Rattle.stateful_exec_laws.proofs.builds.Rules.{StandsWithBuild, StandsWithBu
 use Rattle.stateful_exec_laws.proofs.earned.Carried.{IsMild}
 use Rattle.stateful_exec_laws.proofs.earned.Together.{IsNoneTrue, AreEarned-none}
 use Rattle.stateful_exec_laws.proofs.ended.Told.{IsPlain}
-use Rattle.stateful_loop.specs.Intake.{Builds}
-use Rattle.stateful_loop.specs.Moments.{Moment, inner, with_inner}
+use Rattle.stateful_loop_model.specs.Intake.{Builds}
+use Rattle.stateful_loop_model.specs.Moments.{Moment, inner, with_inner}
 use Rattle.stateful_loop_laws.specs.Execution.{IsFree, IsPlaced, Executes, NamesBehind, ExecutesBehind}
 use Rattle.stateful_loop_laws.proofs.execution.BuildMade.{MakesOfBuild, MakesOfBuild-turns}
 use Rattle.stateful_loop_laws.proofs.duly.JobMarks.{IsGrown-turn}

@@ -26,9 +26,9 @@ use Rattle.stateful_exec_laws.proofs.earned.Carried.{IsMild}
 use Rattle.stateful_exec_laws.proofs.earned.Left.{IsLeft}
 use Rattle.stateful_exec_laws.proofs.front.Left.{FrontStands-spared}
 use Rattle.stateful_exec_laws.proofs.runs.Sparing.{live-started_other}
-use Rattle.stateful_loop.specs.Moments.{Moment}
-use Rattle.stateful_loop.specs.Rules.{Builds, starts, declines}
-use Rattle.stateful_loop.specs.declared.message.Action.TheVariants as action
+use Rattle.stateful_loop_model.specs.Moments.{Moment}
+use Rattle.stateful_loop_model.specs.Rules.{Builds, starts, declines}
+use Rattle.stateful_loop_model.specs.declared.message.Action.TheVariants as action
 use Rattle.stateful_loop_laws.specs.Execution.{IsFree, IsPlaced, Executes, ExecutesBehind}
 use Rattle.stateful_loop_laws.specs.Tickets.{ActionStands}
 use Rattle.stateful_loop_laws.proofs.execution.Kept.{names-on, Executes-names}

@@ -18,7 +18,7 @@ use Rattle.stateful_exec_laws.specs.Building.{BuildStands}
 use Rattle.stateful_exec_laws.proofs.requests.Arrivals.{live_below, new_elsewhere}
 use Rattle.stateful_exec_laws.proofs.ended.ConcludeStands.{TellsOf}
 use Rattle.stateful_exec_laws.proofs.requests.Tells.{IsSilent, verify-TellsOf, prepare-TellsOf, propose-TellsOf, subscribe-TellsOf, finalized-TellsOf}
-use Rattle.stateful_loop.specs.Moments.{Moment}
+use Rattle.stateful_loop_model.specs.Moments.{Moment}
 use Rattle.stateful_loop_laws.specs.Execution.{Executes}
 use Rattle.stateful_loop_laws.proofs.execution.Kept.{Executes-tells, Executes-silent}
 

@@ -40,8 +40,8 @@ use Rattle.stateful_exec_laws.proofs.ended.GivenUp.{cancel-IsCalm, cancel-Leaves
 use Rattle.stateful_exec_laws.proofs.pauses.Passing.{PassesBy, one_beside}
 use Rattle.stateful_exec_laws.proofs.pauses.PassingRules.{PassesBy-cancels}
 use Rattle.stateful_exec_laws.proofs.runs.Removing.{All-at}
-use Rattle.stateful_loop.specs.Intake.{Cancels as CancelsIn}
-use Rattle.stateful_loop.specs.Moments.{Moment, inner}
+use Rattle.stateful_loop_model.specs.Intake.{Cancels as CancelsIn}
+use Rattle.stateful_loop_model.specs.Moments.{Moment, inner}
 use Rattle.stateful_loop_laws.specs.Execution.{FetchesNone, RunsGoOver, IsPlaced, Executes, ExecutesBehind}
 use Rattle.stateful_loop_laws.proofs.execution.Kept.{names-on, Executes-names}
 use Rattle.stateful_loop_laws.proofs.carried.RunsGoOver.{RunsGoOver-cancels}

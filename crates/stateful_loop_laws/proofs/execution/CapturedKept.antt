@@ -4,13 +4,13 @@ use Rattle.stateful_base.specs.Names.{Named}
 use Rattle.stateful_base.specs.declared.floor.Floor.{Floor}
 use Rattle.stateful_history.specs.declared.event.Event.{Event}
 use Rattle.stateful_exec_model.specs.Workings.{Workings, Point}
-use Rattle.stateful_loop.specs.Intake.{Counts, TakesIn, enters, cancels, fetched, turns, flushes, stops, progresses, restarts, TurnsJob, build, hook, run}
-use Rattle.stateful_loop.specs.Moments.{Moment}
-use Rattle.stateful_loop.specs.Opening.{Opens}
-use Rattle.stateful_loop.specs.Rules.{starts, declines, AppliesBlock, DoesMessage, schedules, answers, acknowledges, holds, begins, Takes, of_action, of_message, Rule, collects, puts_off, runs, applies, covers, observes, ends, breaks, completes, builds, takes}
-use Rattle.stateful_loop.specs.declared.message.Message.{Message}
-use Rattle.stateful_loop.specs.declared.tables.Finalizing.{Finalizing}
-use Rattle.stateful_loop.specs.declared.tables.Processing.{Processing}
+use Rattle.stateful_loop_model.specs.Intake.{Counts, TakesIn, enters, cancels, fetched, turns, flushes, stops, progresses, restarts, TurnsJob, build, hook, run}
+use Rattle.stateful_loop_model.specs.Moments.{Moment}
+use Rattle.stateful_loop_model.specs.Opening.{Opens}
+use Rattle.stateful_loop_model.specs.Rules.{starts, declines, AppliesBlock, DoesMessage, schedules, answers, acknowledges, holds, begins, Takes, of_action, of_message, Rule, collects, puts_off, runs, applies, covers, observes, ends, breaks, completes, builds, takes}
+use Rattle.stateful_loop_model.specs.declared.message.Message.{Message}
+use Rattle.stateful_loop_model.specs.declared.tables.Finalizing.{Finalizing}
+use Rattle.stateful_loop_model.specs.declared.tables.Processing.{Processing}
 use Rattle.stateful_loop_laws.specs.Stands.{IsCaptured, CapturedStands}
 
 module _ {B C I P R D H G U : Type 0} (w : Workings B C I P R D H G U) where

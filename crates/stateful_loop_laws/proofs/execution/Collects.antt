@@ -12,8 +12,8 @@ use Rattle.stateful_exec_tables.specs.declared.state.Tables.{Tables}
 use Rattle.stateful_exec_laws.specs.Building.{IsElsewhere}
 use Rattle.stateful_exec_laws.specs.Standing.{TablesStand}
 use Rattle.stateful_exec_laws.proofs.builds.Left.{BuildStands-tables}
-use Rattle.stateful_loop.specs.Moments.{Moment}
-use Rattle.stateful_loop.specs.Rules.{Collects}
+use Rattle.stateful_loop_model.specs.Moments.{Moment}
+use Rattle.stateful_loop_model.specs.Rules.{Collects}
 use Rattle.stateful_loop_laws.specs.Execution.{Executes, ExecutesBehind}
 use Rattle.stateful_loop_laws.proofs.execution.Kept.{Executes-names}
 use Rattle.stateful_loop_laws.proofs.places.Places.{IsPlaced-left}

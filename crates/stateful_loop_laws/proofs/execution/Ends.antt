@@ -24,9 +24,9 @@ use Rattle.stateful_exec_laws.proofs.front.Passes.{IsFrontJob, NoTicket, FrontSt
 use Rattle.stateful_exec_laws.proofs.front.MovedStands.{TablesStand-free}
 use Rattle.stateful_exec_laws.proofs.pauses.PassingRules.{PassesBy-resumes}
 use Rattle.stateful_exec_laws.proofs.reasons.Known.{tip_free}
-use Rattle.stateful_loop.specs.Moments.{Moment, inner, with_inner}
-use Rattle.stateful_loop.specs.Rules.{IsFinalizing, EndsFinalization}
-use Rattle.stateful_loop.specs.declared.tables.Finalizing.{Finalizing}
+use Rattle.stateful_loop_model.specs.Moments.{Moment, inner, with_inner}
+use Rattle.stateful_loop_model.specs.Rules.{IsFinalizing, EndsFinalization}
+use Rattle.stateful_loop_model.specs.declared.tables.Finalizing.{Finalizing}
 use Rattle.stateful_loop_laws.specs.Execution.{HasMovedOn, IsPlaced, Executes, ExecutesBehind}
 use Rattle.stateful_loop_laws.specs.Ways.{ParksNone}
 use Rattle.stateful_loop_laws.proofs.ways.Behind.{WaysStand-free}

@@ -27,7 +27,7 @@ use Rattle.stateful_exec_laws.specs.Storing.{IsStoredNow}
 use Rattle.stateful_exec_laws.proofs.pauses.EventsPass.{BuildStands-event, FrontStands-event}
 use Rattle.stateful_exec_laws.proofs.requests.FetchStands.{fetched-IsCalm, fetched-LeavesJob, TablesStand-fetched, IsInHand-fetched, acquired-fetched, abstains-none, TablesStand-dead}
 use Rattle.stateful_exec_laws.proofs.pauses.PassingRules.{none_kept}
-use Rattle.stateful_loop.specs.Moments.{Moment, inner, with_inner}
+use Rattle.stateful_loop_model.specs.Moments.{Moment, inner, with_inner}
 use Rattle.stateful_loop_laws.specs.Execution.{IsFree, IsPlaced, Executes, ExecutesBehind}
 use Rattle.stateful_loop_laws.proofs.execution.Kept.{Executes-calm}
 use Rattle.stateful_loop_laws.proofs.execution.Served.{IsServed, IsServed-acquires, IsServed-concludes, IsServed-waits, Executes-served}

@@ -12,7 +12,7 @@ use Rattle.stateful_exec_laws.specs.Building.{BuildStands}
 use Rattle.stateful_exec_laws.proofs.earned.Carried.{IsMild}
 use Rattle.stateful_exec_laws.proofs.earned.Together.{AreEarned-none}
 use Rattle.stateful_exec_laws.proofs.front.Rules.{StandsWithFront}
-use Rattle.stateful_loop.specs.Moments.{Moment, inner}
+use Rattle.stateful_loop_model.specs.Moments.{Moment, inner}
 use Rattle.stateful_loop_laws.specs.Execution.{IsPlaced, Executes, ExecutesBehind}
 use Rattle.stateful_loop_laws.proofs.duly.JobMarks.{AreOfJobs, MakesOfJobs, AreOfJobs-made}
 

@@ -17,9 +17,9 @@ use Rattle.stateful_exec_tables.specs.declared.state.Tables.{Tables}
 use Rattle.stateful_exec_laws.specs.Fronting.{RunsTakeTurns, FrontStands}
 use Rattle.stateful_exec_laws.proofs.earned.Left.{IsLeft}
 use Rattle.stateful_exec_laws.proofs.front.Rules.{StandsWithFront, StandsWithFront-runs, StandsWithFront-observes}
-use Rattle.stateful_loop.specs.Moments.{Moment, inner}
-use Rattle.stateful_loop.specs.Rules.{finalizing, RunsFinalized, ObservesBlock}
-use Rattle.stateful_loop.specs.declared.tables.Finalizing.{Finalizing}
+use Rattle.stateful_loop_model.specs.Moments.{Moment, inner}
+use Rattle.stateful_loop_model.specs.Rules.{finalizing, RunsFinalized, ObservesBlock}
+use Rattle.stateful_loop_model.specs.declared.tables.Finalizing.{Finalizing}
 use Rattle.stateful_loop_laws.specs.Execution.{IsPausedFor, HasMovedOn, IsPlaced, Executes, NamesBehind, ExecutesBehind}
 use Rattle.stateful_loop_laws.proofs.execution.FrontBehind.{unbuilt, front_mild, ExecutesBehind-front}
 use Rattle.stateful_loop_laws.proofs.duly.JobMarks.{MakesOfJobs, makes_none, makes_started, IsGrown-marks}

@@ -13,8 +13,8 @@ use Rattle.stateful_exec_model.specs.Workings.{Workings}
 use Rattle.stateful_exec_model.specs.declared.front.Front.{Front}
 use Rattle.stateful_exec_model.specs.declared.front.Stage.TheVariants.{Running, Ran, Advanced, Hooking}
 use Rattle.stateful_exec_laws.proofs.front.Rules.{StandsWithFront, StandsWithFront-steps, StandsWithFront-hooks}
-use Rattle.stateful_loop.specs.Intake.{Counts, Hooks}
-use Rattle.stateful_loop.specs.Moments.{Moment, inner}
+use Rattle.stateful_loop_model.specs.Intake.{Counts, Hooks}
+use Rattle.stateful_loop_model.specs.Moments.{Moment, inner}
 use Rattle.stateful_loop_laws.specs.Execution.{IsPausedOver, HasMovedOn, IsPlaced, Executes, NamesBehind, ExecutesBehind}
 use Rattle.stateful_loop_laws.proofs.execution.FrontBehind.{unbuilt, front_mild, ExecutesBehind-front}
 use Rattle.stateful_loop_laws.proofs.duly.JobMarks.{MakesOfJobs, makes_none, makes_ended, IsGrown-turn}

@@ -17,7 +17,7 @@ use Rattle.stateful_exec_laws.proofs.ended.ConcludeStands.{TellsOf, TablesStand-
 use Rattle.stateful_exec_laws.proofs.pauses.EventsPass.{BuildStands-event, BuildStands-tells, FrontStands-event}
 use Rattle.stateful_exec_laws.proofs.runs.Spared.{TablesStand-spared}
 use Rattle.stateful_exec_laws.proofs.requests.Tells.{IsSilent, silent-Spares}
-use Rattle.stateful_loop.specs.Moments.{Moment}
+use Rattle.stateful_loop_model.specs.Moments.{Moment}
 use Rattle.stateful_loop_laws.specs.Execution.{Executes}
 use Rattle.stateful_loop_laws.proofs.places.Places.{IsPlaced-calm, placed-names}
 

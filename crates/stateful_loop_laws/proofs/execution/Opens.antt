@@ -31,8 +31,8 @@ use Rattle.stateful_exec_laws.specs.Ways.{WaysStand}
 use Rattle.stateful_exec_laws.specs.Storing.{IsStoredNow}
 use Rattle.stateful_exec_laws.proofs.front.GroundOpened.{IsGround-opened, WaysStand-opened}
 use Rattle.stateful_exec_laws.proofs.requests.OpenedStands.{IsOpenedAt, IsIdle, IsOpening, TablesStand-opened, BuildStands-opened, FrontStands-opened, AllAbstain-opened}
-use Rattle.stateful_loop.specs.Moments.{Moment}
-use Rattle.stateful_loop.specs.Opening.{Opens}
+use Rattle.stateful_loop_model.specs.Moments.{Moment}
+use Rattle.stateful_loop_model.specs.Opening.{Opens}
 use Rattle.stateful_loop_laws.specs.Execution.{IsPlaced, Executes}
 use Rattle.stateful_loop_laws.specs.Ways.{ParksNone}
 

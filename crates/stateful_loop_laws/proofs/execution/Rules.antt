@@ -12,14 +12,14 @@ use Rattle.stateful_exec_laws.specs.Building.{BuildsTakeTurns}
 use Rattle.stateful_exec_laws.specs.Fronting.{RunsTakeTurns}
 use Rattle.stateful_exec_laws.specs.Setting.{setting}
 use Rattle.stateful_exec_laws.specs.Storing.{IsStoredNow}
-use Rattle.stateful_loop.specs.Moments.{Moment, Executing, with_loop}
-use Rattle.stateful_loop.specs.Rules.{IsCalm, IsFinalizing, Builds, DoesMessage, schedules, answers, acknowledges, holds, begins, ObservesBlock, EndsFinalization, Schedules, Takes, HasStates, AppliesBlock, Rule, collects, puts_off, runs, applies, covers, observes, ends, breaks, completes, builds, takes}
-use Rattle.stateful_loop.specs.declared.barriers.Active.{Active}
-use Rattle.stateful_loop.specs.declared.message.Action.{Action}
-use Rattle.stateful_loop.specs.declared.message.Action.TheVariants as action
-use Rattle.stateful_loop.specs.declared.message.Message.{Message}
-use Rattle.stateful_loop.specs.declared.message.Message.TheVariants as message
-use Rattle.stateful_loop.specs.declared.tables.Finalizing.{Finalizing}
+use Rattle.stateful_loop_model.specs.Moments.{Moment, Executing, with_loop}
+use Rattle.stateful_loop_model.specs.Rules.{IsCalm, IsFinalizing, Builds, DoesMessage, schedules, answers, acknowledges, holds, begins, ObservesBlock, EndsFinalization, Schedules, Takes, HasStates, AppliesBlock, Rule, collects, puts_off, runs, applies, covers, observes, ends, breaks, completes, builds, takes}
+use Rattle.stateful_loop_model.specs.declared.barriers.Active.{Active}
+use Rattle.stateful_loop_model.specs.declared.message.Action.{Action}
+use Rattle.stateful_loop_model.specs.declared.message.Action.TheVariants as action
+use Rattle.stateful_loop_model.specs.declared.message.Message.{Message}
+use Rattle.stateful_loop_model.specs.declared.message.Message.TheVariants as message
+use Rattle.stateful_loop_model.specs.declared.tables.Finalizing.{Finalizing}
 use Rattle.stateful_loop_laws.specs.Execution.{Executes, ExecutesBehind}
 use Rattle.stateful_loop_laws.specs.Stands.{IsCaptured, CapturedStands, IsUpAt}
 use Rattle.stateful_loop_laws.specs.Tickets.{MessageStands}

@@ -28,8 +28,8 @@ use Rattle.stateful_exec_laws.specs.Requesting.{steps}
 use Rattle.stateful_exec_laws.specs.Ways.{KeepOff}
 use Rattle.stateful_exec_tables.specs.Phase.{released_on}
 use Rattle.stateful_exec_tables.specs.declared.tables.Released.{Released}
-use Rattle.stateful_loop.specs.Intake.{Counts, Builds, Hooks}
-use Rattle.stateful_loop.specs.Moments.{Moment, inner, with_inner}
+use Rattle.stateful_loop_model.specs.Intake.{Counts, Builds, Hooks}
+use Rattle.stateful_loop_model.specs.Moments.{Moment, inner, with_inner}
 use Rattle.stateful_loop_laws.specs.Execution.{IsFree, IsPausedFor, IsPausedOver, HasMovedOn, IsPlacedAt, IsPlaced, Executes, NamesBehind, ExecutesBehind}
 use Rattle.stateful_loop_laws.specs.Ways.{WaysKept}
 use Rattle.stateful_loop_laws.proofs.earned.CandidateStands.{StandsStepped, StandsStepped-by}

@@ -13,9 +13,9 @@ use Rattle.stateful_exec_tables.specs.declared.request.Request.{Request}
 use Rattle.stateful_exec_laws.specs.Setting.{setting}
 use Rattle.stateful_exec_laws.specs.Fronting.{FrontStands}
 use Rattle.stateful_exec_laws.specs.Storing.{IsStoredNow}
-use Rattle.stateful_loop.specs.Moments.{Moment, inner}
-use Rattle.stateful_loop.specs.Rules.{Schedules}
-use Rattle.stateful_loop.specs.declared.message.Message.TheVariants as message
+use Rattle.stateful_loop_model.specs.Moments.{Moment, inner}
+use Rattle.stateful_loop_model.specs.Rules.{Schedules}
+use Rattle.stateful_loop_model.specs.declared.message.Message.TheVariants as message
 use Rattle.stateful_loop_laws.specs.Execution.{IsPlaced, Executes, ExecutesBehind}
 use Rattle.stateful_loop_laws.specs.Tickets.{MessageStands}
 use Rattle.stateful_loop_laws.proofs.execution.Served.{IsServed-acquires, Executes-served}

@@ -38,7 +38,7 @@ use Rattle.stateful_exec_laws.proofs.earned.Together.{AreEarned-behind}
 use Rattle.stateful_exec_laws.proofs.front.Passes.{IsFrontJob, NoTicket, FrontStands-passes}
 use Rattle.stateful_exec_laws.proofs.pauses.Passing.{PassesBy, AreDrawn, PassesBy-concludes, PassesBy-put, PassesBy-acquires}
 use Rattle.stateful_exec_laws.proofs.requests.Served.{Serves, Serves-concludes, Serves-put}
-use Rattle.stateful_loop.specs.Moments.{Moment, inner, with_inner}
+use Rattle.stateful_loop_model.specs.Moments.{Moment, inner, with_inner}
 use Rattle.stateful_loop_laws.specs.Execution.{IsFree, ExecutesBehind, IsPlaced}
 use Rattle.stateful_loop_laws.proofs.places.Places.{IsFree-mild}
 use Rattle.stateful_loop_laws.proofs.tickets.WaitsAbstain.{waits-Abstains}

@@ -9,9 +9,9 @@ use Rattle.stateful_history.specs.declared.event.Event.{Event}
 use Rattle.stateful_history.specs.declared.event.Event.TheVariants as event
 use Rattle.stateful_exec_model.specs.Workings.{Workings}
 use Rattle.stateful_exec_laws.specs.Storing.{IsStoredNow}
-use Rattle.stateful_loop.specs.Intake.{Counts, message_by, TakesIn, enters, cancels, fetched, turns, flushes, stops, progresses, restarts}
-use Rattle.stateful_loop.specs.Moments.{Moment}
-use Rattle.stateful_loop.specs.declared.message.Message.{Message}
+use Rattle.stateful_loop_model.specs.Intake.{Counts, message_by, TakesIn, enters, cancels, fetched, turns, flushes, stops, progresses, restarts}
+use Rattle.stateful_loop_model.specs.Moments.{Moment}
+use Rattle.stateful_loop_model.specs.declared.message.Message.{Message}
 use Rattle.stateful_loop_laws.specs.Execution.{Executes, NamesBehind, ExecutesBehind}
 use Rattle.stateful_loop_laws.specs.RuleMarks.{MarksBehind}
 use Rattle.stateful_loop_laws.specs.Ways.{WaysKept}

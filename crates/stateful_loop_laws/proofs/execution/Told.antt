@@ -24,8 +24,8 @@ use Rattle.stateful_exec_laws.specs.Requesting.{IsRequestOf, IsStanding}
 use Rattle.stateful_exec_laws.specs.Standing.{TablesStand}
 use Rattle.stateful_exec_laws.proofs.runs.Removing.{All-at, differ}
 use Rattle.stateful_exec_laws.proofs.requests.Tells.{acknowledged-TellsOf, databases-TellsOf, begun-IsSilent, done-IsSilent}
-use Rattle.stateful_loop.specs.Moments.{Moment}
-use Rattle.stateful_loop.specs.Rules.{acknowledged}
+use Rattle.stateful_loop_model.specs.Moments.{Moment}
+use Rattle.stateful_loop_model.specs.Rules.{acknowledged}
 use Rattle.stateful_loop_laws.specs.Execution.{Executes, ExecutesBehind}
 use Rattle.stateful_loop_laws.specs.Tickets.{IsOutside}
 use Rattle.stateful_loop_laws.proofs.execution.Kept.{names-on, Executes-names, Executes-same, Executes-tells, Executes-silent}

@@ -6,8 +6,8 @@ use Rattle.stateful_history.specs.Live.{live_job}
 use Rattle.stateful_history.specs.Past.{Past, Came}
 use Rattle.stateful_history.specs.declared.event.Event.TheVariants.{Turn}
 use Rattle.stateful_exec_model.specs.Workings.{Workings}
-use Rattle.stateful_loop.specs.Intake.{Counts, TurnsJob, build, hook, run}
-use Rattle.stateful_loop.specs.Moments.{Moment}
+use Rattle.stateful_loop_model.specs.Intake.{Counts, TurnsJob, build, hook, run}
+use Rattle.stateful_loop_model.specs.Moments.{Moment}
 use Rattle.stateful_loop_laws.specs.Execution.{Executes, NamesBehind, ExecutesBehind}
 use Rattle.stateful_loop_laws.specs.Ways.{WaysKept}
 use Rattle.stateful_loop_laws.proofs.execution.BuildTurned.{Executes-turns_build}

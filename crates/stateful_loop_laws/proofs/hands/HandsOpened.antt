@@ -13,8 +13,8 @@ use Rattle.stateful_exec_tables.specs.declared.tables.Requested.{Requested}
 use Rattle.stateful_exec_laws.specs.Outstanding.{GoesOnTurning}
 use Rattle.stateful_exec_laws.specs.Requesting.{first_of}
 use Rattle.stateful_exec_laws.specs.Setting.{setting}
-use Rattle.stateful_loop.specs.Moments.{Moment}
-use Rattle.stateful_loop.specs.Opening.{Opens}
+use Rattle.stateful_loop_model.specs.Moments.{Moment}
+use Rattle.stateful_loop_model.specs.Opening.{Opens}
 use Rattle.stateful_loop_laws.specs.Down.{IsEmpty}
 use Rattle.stateful_loop_laws.specs.InHand.{AllInHand, GoesOnAt}
 use Rattle.stateful_loop_laws.proofs.hands.Opened.{in_hand-none}

@@ -35,14 +35,14 @@ use Rattle.stateful_exec_model.specs.Workings.{Workings}
 use Rattle.stateful_exec_model.specs.declared.building.Building.{Building}
 use Rattle.stateful_exec_model.specs.declared.front.Front.{Front}
 use Rattle.stateful_exec_tables.specs.declared.state.Tables.{Tables}
-use Rattle.stateful_loop.specs.Intake as intake
-use Rattle.stateful_loop.specs.Intake.{Counts, Flushes, TurnsJob, TakesIn, message_by}
-use Rattle.stateful_loop.specs.Message.{asks_of, asks_for}
-use Rattle.stateful_loop.specs.Moments.{Moment, inner, with_inner, with_loop}
-use Rattle.stateful_loop.specs.declared.message.Action.{Action}
-use Rattle.stateful_loop.specs.declared.message.Action.TheVariants as action
-use Rattle.stateful_loop.specs.declared.message.Message.{Message}
-use Rattle.stateful_loop.specs.declared.message.Message.TheVariants as message
+use Rattle.stateful_loop_model.specs.Intake as intake
+use Rattle.stateful_loop_model.specs.Intake.{Counts, Flushes, TurnsJob, TakesIn, message_by}
+use Rattle.stateful_loop_model.specs.Message.{asks_of, asks_for}
+use Rattle.stateful_loop_model.specs.Moments.{Moment, inner, with_inner, with_loop}
+use Rattle.stateful_loop_model.specs.declared.message.Action.{Action}
+use Rattle.stateful_loop_model.specs.declared.message.Action.TheVariants as action
+use Rattle.stateful_loop_model.specs.declared.message.Message.{Message}
+use Rattle.stateful_loop_model.specs.declared.message.Message.TheVariants as message
 use Rattle.stateful_exec_tables.specs.declared.request.Request.TheVariants as request
 use Rattle.stateful_loop_laws.specs.InHand.{IsPutOff, IsFound, requested, recovered, built, waiting as found_waiting, waiting_in, AllInHand, InHandBehind}
 use Rattle.stateful_loop_laws.specs.Tickets.{ticket_in, ticket_under}

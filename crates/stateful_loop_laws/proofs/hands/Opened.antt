@@ -6,7 +6,7 @@ use Rattle.stateful_history.specs.Live.{live_ticket}
 use Rattle.stateful_history.specs.Past.{Past, Made, after}
 use Rattle.stateful_history.specs.declared.mark.Mark.{Mark}
 use Rattle.stateful_exec_model.specs.Workings.{Workings}
-use Rattle.stateful_loop.specs.Moments.{Moment}
+use Rattle.stateful_loop_model.specs.Moments.{Moment}
 use Rattle.stateful_loop_laws.specs.InHand.{IsPutOff, VerifiedApart, AllInHand, InHandBehind}
 
 module _ {B C I P R D H G U : Type 0} (w : Workings B C I P R D H G U) (p : Past B C I) where

@@ -43,14 +43,14 @@ use Rattle.stateful_exec_laws.specs.Setting.{setting}
 use Rattle.stateful_exec_laws.proofs.requests.Outstands.{run-Waits, hook-Waits, build-Waits}
 use Rattle.stateful_exec_laws.proofs.runs.Removing.{All-at}
 use Rattle.stateful_exec_laws.proofs.requests.RequestsWait.{IsSettled, Waits-requested}
-use Rattle.stateful_loop.specs.Barriers.{broken, flushed}
-use Rattle.stateful_loop.specs.Moments.{Moment}
-use Rattle.stateful_loop.specs.Rules.{IsCollected, IsIdle, IsFinalizing, Quiet, drain, run_or_apply, apply, go_on, break_or_complete, begin, take}
-use Rattle.stateful_loop.specs.Sound.{IsUp, FrontAgrees}
-use Rattle.stateful_loop.specs.declared.message.Action.{Action}
-use Rattle.stateful_loop.specs.declared.message.Action.TheVariants as action
-use Rattle.stateful_loop.specs.declared.message.Message.TheVariants.{Request, Finalized, Subscribe}
-use Rattle.stateful_loop.specs.declared.tables.Finalizing.{Finalizing}
+use Rattle.stateful_loop_model.specs.Barriers.{broken, flushed}
+use Rattle.stateful_loop_model.specs.Moments.{Moment}
+use Rattle.stateful_loop_model.specs.Rules.{IsCollected, IsIdle, IsFinalizing, Quiet, drain, run_or_apply, apply, go_on, break_or_complete, begin, take}
+use Rattle.stateful_loop_model.specs.Sound.{IsUp, FrontAgrees}
+use Rattle.stateful_loop_model.specs.declared.message.Action.{Action}
+use Rattle.stateful_loop_model.specs.declared.message.Action.TheVariants as action
+use Rattle.stateful_loop_model.specs.declared.message.Message.TheVariants.{Request, Finalized, Subscribe}
+use Rattle.stateful_loop_model.specs.declared.tables.Finalizing.{Finalizing}
 use Rattle.stateful_loop_laws.specs.Execution.{Executes, IsPlaced, IsFree}
 use Rattle.stateful_loop_laws.specs.InHand.{IsPutOff, VerifiedApart, IsFound, requested, recovered, built, waiting, waiting_in, AllInHand, GoesOnAt}
 use Rattle.stateful_loop_laws.specs.Stands.{IsUpAt}

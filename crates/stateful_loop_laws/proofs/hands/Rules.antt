@@ -18,15 +18,15 @@ use Rattle.stateful_exec_tables.specs.declared.request.Request.{Request}
 use Rattle.stateful_exec_tables.specs.declared.state.Tables.{Tables}
 use Rattle.stateful_db.specs.declared.application.Hooked.{Hooked}
 use Rattle.stateful_db.specs.declared.application.Hooked.TheVariants as hooked
-use Rattle.stateful_loop.specs.Message.{is_verification}
-use Rattle.stateful_loop.specs.Moments.{Moment, inner, with_inner, with_loop}
-use Rattle.stateful_loop.specs.Rules.{Collects, Schedules, BeginsBarrier, CompletesBarrier, RunsFinalized, AppliesBlock, ObservesBlock, EndsFinalization, acknowledged, finalizing}
-use Rattle.stateful_loop.specs.declared.barriers.Active.{Active}
-use Rattle.stateful_loop.specs.declared.message.Action.{Action}
-use Rattle.stateful_loop.specs.declared.message.Action.TheVariants as action
-use Rattle.stateful_loop.specs.declared.message.Message.{Message}
-use Rattle.stateful_loop.specs.declared.tables.Finalizing.{Finalizing}
-use Rattle.stateful_loop.specs.declared.tables.Processing.{Processing}
+use Rattle.stateful_loop_model.specs.Message.{is_verification}
+use Rattle.stateful_loop_model.specs.Moments.{Moment, inner, with_inner, with_loop}
+use Rattle.stateful_loop_model.specs.Rules.{Collects, Schedules, BeginsBarrier, CompletesBarrier, RunsFinalized, AppliesBlock, ObservesBlock, EndsFinalization, acknowledged, finalizing}
+use Rattle.stateful_loop_model.specs.declared.barriers.Active.{Active}
+use Rattle.stateful_loop_model.specs.declared.message.Action.{Action}
+use Rattle.stateful_loop_model.specs.declared.message.Action.TheVariants as action
+use Rattle.stateful_loop_model.specs.declared.message.Message.{Message}
+use Rattle.stateful_loop_model.specs.declared.tables.Finalizing.{Finalizing}
+use Rattle.stateful_loop_model.specs.declared.tables.Processing.{Processing}
 use Rattle.stateful_loop_laws.specs.InHand.{IsPutOff, IsFound, requested, recovered, built, waiting as found_waiting, waiting_in, AllInHand, InHandBehind}
 use Rattle.stateful_loop_laws.specs.Tickets.{ticket_in, ticket_under, ticket_in_front}
 use Rattle.stateful_loop_laws.proofs.hands.HandKept.{IsTabled, HandsOn, live_before, hands_acquires, hands_resumes}

@@ -21,13 +21,13 @@ use Rattle.stateful_exec_model.specs.declared.building.Building.{Building}
 use Rattle.stateful_exec_model.specs.declared.front.Stage.TheVariants.{Begun}
 use Rattle.stateful_exec_tables.specs.declared.state.Tables.{Tables}
 use Rattle.stateful_exec_tables.specs.declared.tables.Requested.{Requested}
-use Rattle.stateful_loop.specs.Moments.{Moment, with_loop}
-use Rattle.stateful_loop.specs.Rules as rules
-use Rattle.stateful_loop.specs.Rules.{IsCalm, Takes, of_action, of_message, Builds, BeginsFinalization, DoesMessage, Rule, acknowledged, finalizing}
-use Rattle.stateful_loop.specs.Sound.{Sound}
-use Rattle.stateful_loop.specs.declared.message.Action.TheVariants as action
-use Rattle.stateful_loop.specs.declared.message.Message.{Message}
-use Rattle.stateful_loop.specs.declared.message.Message.TheVariants as message
+use Rattle.stateful_loop_model.specs.Moments.{Moment, with_loop}
+use Rattle.stateful_loop_model.specs.Rules as rules
+use Rattle.stateful_loop_model.specs.Rules.{IsCalm, Takes, of_action, of_message, Builds, BeginsFinalization, DoesMessage, Rule, acknowledged, finalizing}
+use Rattle.stateful_loop_model.specs.Sound.{Sound}
+use Rattle.stateful_loop_model.specs.declared.message.Action.TheVariants as action
+use Rattle.stateful_loop_model.specs.declared.message.Message.{Message}
+use Rattle.stateful_loop_model.specs.declared.message.Message.TheVariants as message
 use Rattle.stateful_loop_laws.specs.InHand.{IsFound, requested, recovered, built, waiting as found_waiting, waiting_in, AllInHand, InHandBehind}
 use Rattle.stateful_loop_laws.specs.Tickets.{ticket_in, ticket_in_front}
 use Rattle.stateful_loop_laws.proofs.hands.HandKept.{IsTabled}

@@ -34,11 +34,11 @@ use Rattle.stateful_exec_laws.specs.Requesting.{first_of, IsRequestOf, IsInPhase
 use Rattle.stateful_exec_laws.specs.Setting.{setting}
 use Rattle.stateful_exec_laws.proofs.requests.Cancelled.{own}
 use Rattle.stateful_exec_laws.proofs.runs.Removing.{All-at}
-use Rattle.stateful_loop.specs.Moments.{Moment}
-use Rattle.stateful_loop.specs.Rules.{IsCollected, IsIdle, Quiet, drain, go_on, take}
-use Rattle.stateful_loop.specs.Sound.{IsUp, FrontAgrees}
-use Rattle.stateful_loop.specs.declared.message.Action.{Action}
-use Rattle.stateful_loop.specs.declared.tables.Finalizing.{Finalizing}
+use Rattle.stateful_loop_model.specs.Moments.{Moment}
+use Rattle.stateful_loop_model.specs.Rules.{IsCollected, IsIdle, Quiet, drain, go_on, take}
+use Rattle.stateful_loop_model.specs.Sound.{IsUp, FrontAgrees}
+use Rattle.stateful_loop_model.specs.declared.message.Action.{Action}
+use Rattle.stateful_loop_model.specs.declared.tables.Finalizing.{Finalizing}
 use Rattle.stateful_loop_laws.specs.Execution.{Executes, IsFree}
 use Rattle.stateful_loop_laws.specs.InHand.{VerifiedApart, AllInHand, GoesOnAt}
 use Rattle.stateful_loop_laws.specs.Stands.{IsUpAt}

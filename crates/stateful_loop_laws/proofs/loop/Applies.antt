@@ -21,9 +21,9 @@ use Rattle.stateful_loop_laws.proofs.barriers.Left.{BarriersStand-left}
 use Rattle.stateful_loop_laws.proofs.loop.CalmItems.{LeavesBarriers-applied}
 use Rattle.stateful_loop_laws.proofs.loop.CheckpointsKept.{Keeping-applied}
 use Rattle.stateful_loop_laws.proofs.loop.Calm.{LoopBehind-is}
-use Rattle.stateful_loop.specs.Moments.{Moment}
-use Rattle.stateful_loop.specs.Rules.{AppliesBlock}
-use Rattle.stateful_loop.specs.declared.tables.Finalizing.{Finalizing}
+use Rattle.stateful_loop_model.specs.Moments.{Moment}
+use Rattle.stateful_loop_model.specs.Rules.{AppliesBlock}
+use Rattle.stateful_loop_model.specs.declared.tables.Finalizing.{Finalizing}
 
 module _ {B C I P R D H G U : Type 0} (w : Workings B C I P R D H G U) (stored : ℕ → Option (Named B)) where
   -- the batch shows the states that the block leads to, above this point

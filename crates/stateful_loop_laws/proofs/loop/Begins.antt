@@ -25,10 +25,10 @@ use Rattle.stateful_loop_laws.proofs.loop.CalmItems.{LeavesApplied-begun}
 use Rattle.stateful_loop_laws.proofs.loop.CheckpointsKept.{Keeping-left}
 use Rattle.stateful_loop_laws.proofs.barriers.LiveItems.{AwaitsLive-begun}
 use Rattle.stateful_loop_laws.proofs.loop.Calm.{LoopBehind-is}
-use Rattle.stateful_loop.specs.Moments.{Moment}
-use Rattle.stateful_loop.specs.Rules.{BeginsBarrier, Needed}
-use Rattle.stateful_loop.specs.Sound.{IsUp}
-use Rattle.stateful_loop.specs.declared.barriers.Active.{Active}
+use Rattle.stateful_loop_model.specs.Moments.{Moment}
+use Rattle.stateful_loop_model.specs.Rules.{BeginsBarrier, Needed}
+use Rattle.stateful_loop_model.specs.Sound.{IsUp}
+use Rattle.stateful_loop_model.specs.declared.barriers.Active.{Active}
 
 -- what the newest of at most two barriers covers is no lower than the durable height and than what the others cover
 covers_all : (durable : ℕ) (barriers : List ℕ) → length barriers ≤ 2 → IsStrictlyIncreasing (durable ∷ barriers)

@@ -15,10 +15,10 @@ use Rattle.stateful_exec_model.specs.Workings.{Workings}
 use Rattle.stateful_loop_laws.specs.Durability.{IsDurablySaid}
 use Rattle.stateful_loop_laws.specs.OpenBarriers.{ActiveStands}
 use Rattle.stateful_loop_laws.specs.Stands.{LoopStands}
-use Rattle.stateful_loop.specs.Barriers.{first_of, is_broken, is_interrupted, broken}
-use Rattle.stateful_loop.specs.Moments.{Moment}
-use Rattle.stateful_loop.specs.Sound.{IsUp}
-use Rattle.stateful_loop.specs.declared.barriers.Active.{Active}
+use Rattle.stateful_loop_model.specs.Barriers.{first_of, is_broken, is_interrupted, broken}
+use Rattle.stateful_loop_model.specs.Moments.{Moment}
+use Rattle.stateful_loop_model.specs.Sound.{IsUp}
+use Rattle.stateful_loop_model.specs.declared.barriers.Active.{Active}
 
 -- what holds of all holds of the first
 pub first_all : {T : Type 0} (Q : T → Type 0) (xs : List T) (x : T) → first_of xs ≡ Some x → All Q xs → Q x

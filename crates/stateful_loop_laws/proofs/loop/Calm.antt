@@ -19,8 +19,8 @@ use Rattle.stateful_loop_laws.proofs.barriers.LiveItems.{AwaitsLive-calm}
 use Rattle.stateful_loop_laws.proofs.barriers.Left.{BarriersStand-left}
 use Rattle.stateful_loop_laws.proofs.loop.CalmItems.{IsCalmMark, IsCalmItem, IsCalmItem-mark, LeavesLoop-calm}
 use Rattle.stateful_loop_laws.proofs.loop.CheckpointsKept.{Keeping-left}
-use Rattle.stateful_loop.specs.Moments.{Moment}
-use Rattle.stateful_loop.specs.declared.barriers.Active.{Active}
+use Rattle.stateful_loop_model.specs.Moments.{Moment}
+use Rattle.stateful_loop_model.specs.declared.barriers.Active.{Active}
 
 module _ {B C I P R D H G U : Type 0} (w : Workings B C I P R D H G U) where
   -- the databases, the anchor, the durable height and the barriers are as they were

@@ -20,12 +20,12 @@ use Rattle.stateful_loop_laws.proofs.loop.CalmItems.{LeavesApplied-done}
 use Rattle.stateful_loop_laws.proofs.loop.CheckpointsKept.{Keeping-left}
 use Rattle.stateful_loop_laws.proofs.barriers.LiveItems.{AwaitsLive-done}
 use Rattle.stateful_loop_laws.proofs.loop.Calm.{HasSameLoop-same, LoopStands-calm, LoopBehind-is}
-use Rattle.stateful_loop.proofs.SoundingBarriers.{flushed_first}
-use Rattle.stateful_loop.specs.Barriers.{flushed, is_flushed}
-use Rattle.stateful_loop.specs.Moments.{Moment}
-use Rattle.stateful_loop.specs.Rules.{CompletesBarrier, acknowledged}
-use Rattle.stateful_loop.specs.Sound.{IsUp}
-use Rattle.stateful_loop.specs.declared.barriers.Active.{Active}
+use Rattle.stateful_loop_model.proofs.SoundingBarriers.{flushed_first}
+use Rattle.stateful_loop_model.specs.Barriers.{flushed, is_flushed}
+use Rattle.stateful_loop_model.specs.Moments.{Moment}
+use Rattle.stateful_loop_model.specs.Rules.{CompletesBarrier, acknowledged}
+use Rattle.stateful_loop_model.specs.Sound.{IsUp}
+use Rattle.stateful_loop_model.specs.declared.barriers.Active.{Active}
 
 module _ {B C I P R D H G U : Type 0} (w : Workings B C I P R D H G U) (stored : ℕ → Option (Named B)) (base : w.States) where
   -- the height of a receipt is durable, and no higher than the anchor

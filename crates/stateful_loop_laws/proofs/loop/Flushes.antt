@@ -17,11 +17,11 @@ use Rattle.stateful_loop_laws.proofs.loop.CalmItems.{LeavesLoop-flushed}
 use Rattle.stateful_loop_laws.proofs.loop.CheckpointsKept.{Keeping-left}
 use Rattle.stateful_loop_laws.proofs.barriers.LiveItems.{AwaitsLive-flushed}
 use Rattle.stateful_loop_laws.proofs.loop.Breaks.{first_all}
-use Rattle.stateful_loop.specs.Barriers.{awaits}
-use Rattle.stateful_loop.specs.Intake.{Flushes}
-use Rattle.stateful_loop.specs.Moments.{Moment}
-use Rattle.stateful_loop.specs.Sound.{IsUp}
-use Rattle.stateful_loop.specs.declared.barriers.Active.{Active}
+use Rattle.stateful_loop_model.specs.Barriers.{awaits}
+use Rattle.stateful_loop_model.specs.Intake.{Flushes}
+use Rattle.stateful_loop_model.specs.Moments.{Moment}
+use Rattle.stateful_loop_model.specs.Sound.{IsUp}
+use Rattle.stateful_loop_model.specs.declared.barriers.Active.{Active}
 
 module _ {B C I P R D H G U : Type 0} (w : Workings B C I P R D H G U) (laws : Laws w.kind) (stored : ℕ → Option (Named B)) (base : w.States)
     (p : Past B C I) (k i : ℕ) (m now : Moment w) (u : IsUp w m) (h : LoopStands w stored base p m) where

@@ -15,12 +15,12 @@ use Rattle.stateful_loop_laws.proofs.loop.CalmItems.{IsCalmItem}
 use Rattle.stateful_loop_laws.proofs.loop.Calm.{HasSameLoop, LoopStands-calm, LoopBehind-calm, LoopBehind-is}
 use Rattle.stateful_loop_laws.proofs.loop.Flushes.{LoopStands-flushes}
 use Rattle.stateful_loop_laws.proofs.loop.Passes.{NoneOf}
-use Rattle.stateful_loop.proofs.SoundingTurns.{gives_up_anchor, builds_stays, fetched_stays}
-use Rattle.stateful_loop.proofs.Staying.{Stays}
-use Rattle.stateful_loop.specs.Intake.{Counts, message_by, TurnsJob, build, hook, run, TakesIn, enters, cancels, fetched, turns, flushes, stops, progresses, restarts}
-use Rattle.stateful_loop.specs.Moments.{Moment, inner, with_inner}
-use Rattle.stateful_loop.specs.Sound.{IsUp}
-use Rattle.stateful_loop.specs.declared.message.Message.{Message}
+use Rattle.stateful_loop_model.proofs.SoundingTurns.{gives_up_anchor, builds_stays, fetched_stays}
+use Rattle.stateful_loop_model.proofs.Staying.{Stays}
+use Rattle.stateful_loop_model.specs.Intake.{Counts, message_by, TurnsJob, build, hook, run, TakesIn, enters, cancels, fetched, turns, flushes, stops, progresses, restarts}
+use Rattle.stateful_loop_model.specs.Moments.{Moment, inner, with_inner}
+use Rattle.stateful_loop_model.specs.Sound.{IsUp}
+use Rattle.stateful_loop_model.specs.declared.message.Message.{Message}
 use Rattle.stateful_loop_laws.proofs.loop.Turns.{IsCalmStep, no_mark, given_up_marks, passed, build_marks, hook_marks, run_marks}
 
 -- what enters the mailbox is calm

@@ -20,9 +20,9 @@ use Rattle.stateful_loop_laws.specs.Stands.{LoopStands}
 use Rattle.stateful_loop_laws.proofs.barriers.AwaitedItems.{AwaitsEach-none}
 use Rattle.stateful_loop_laws.proofs.barriers.Down.{NoneLive}
 use Rattle.stateful_loop_laws.proofs.loop.CheckpointsKept.{Keeping-opened}
-use Rattle.stateful_loop.specs.Moments.{Moment}
-use Rattle.stateful_loop.specs.Opening.{Opens}
-use Rattle.stateful_loop.specs.declared.barriers.Active.{Active}
+use Rattle.stateful_loop_model.specs.Moments.{Moment}
+use Rattle.stateful_loop_model.specs.Opening.{Opens}
+use Rattle.stateful_loop_model.specs.declared.barriers.Active.{Active}
 
 module _ {B C I P R D H G U : Type 0} (w : Workings B C I P R D H G U) (stored : ℕ → Option (Named B)) where
   module _ (stored_now : ℕ → Option (Named B)) (floor : Floor) (keep : List ℕ) (p : Past B C I) (m now : Moment w)

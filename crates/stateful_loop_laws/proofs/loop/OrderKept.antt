@@ -14,16 +14,16 @@ use Rattle.stateful_exec_model.specs.Finalizing.{front_at}
 use Rattle.stateful_exec_model.specs.Workings.{Workings}
 use Rattle.stateful_exec_model.specs.declared.front.Stage.TheVariants.{Begun, Ran, Advanced}
 use Rattle.stateful_loop_laws.proofs.tickets.Taken.{takes-front}
-use Rattle.stateful_loop.proofs.SoundingBarriers.{flushed_first}
-use Rattle.stateful_loop.proofs.SoundingRules.{takes_sound}
-use Rattle.stateful_loop.proofs.SoundingSteps as steps
-use Rattle.stateful_loop.specs.Barriers.{flushed}
-use Rattle.stateful_loop.specs.Moments.{Moment}
-use Rattle.stateful_loop.specs.Rules.{Needed, starts, declines, BeginsBarrier, CompletesBarrier, DoesMessage, schedules, answers, acknowledges, holds, begins, IsFinalizing, HasStates, AppliesBlock, EndsFinalization, Takes, of_action, of_message, Rule, collects, puts_off, runs, applies, covers, observes, ends, breaks, completes, builds, takes}
-use Rattle.stateful_loop.specs.Sound.{IsUp, Sound, AreHeld}
-use Rattle.stateful_loop.specs.declared.barriers.Active.{Active}
-use Rattle.stateful_loop.specs.declared.message.Message.{Message}
-use Rattle.stateful_loop.specs.declared.tables.Finalizing.{Finalizing}
+use Rattle.stateful_loop_model.proofs.SoundingBarriers.{flushed_first}
+use Rattle.stateful_loop_model.proofs.SoundingRules.{takes_sound}
+use Rattle.stateful_loop_model.proofs.SoundingSteps as steps
+use Rattle.stateful_loop_model.specs.Barriers.{flushed}
+use Rattle.stateful_loop_model.specs.Moments.{Moment}
+use Rattle.stateful_loop_model.specs.Rules.{Needed, starts, declines, BeginsBarrier, CompletesBarrier, DoesMessage, schedules, answers, acknowledges, holds, begins, IsFinalizing, HasStates, AppliesBlock, EndsFinalization, Takes, of_action, of_message, Rule, collects, puts_off, runs, applies, covers, observes, ends, breaks, completes, builds, takes}
+use Rattle.stateful_loop_model.specs.Sound.{IsUp, Sound, AreHeld}
+use Rattle.stateful_loop_model.specs.declared.barriers.Active.{Active}
+use Rattle.stateful_loop_model.specs.declared.message.Message.{Message}
+use Rattle.stateful_loop_model.specs.declared.tables.Finalizing.{Finalizing}
 
 -- one barrier more, above what is covered
 covers_ascend : (durable applied : ℕ) (barriers : List ℕ) → length barriers < 2 → IsStrictlyIncreasing (durable ∷ barriers)

@@ -7,9 +7,9 @@ use Rattle.stateful_base.specs.declared.floor.Floor.{Floor}
 use Rattle.stateful_durability.specs.Durability.{IsInOrder}
 use Rattle.stateful_history.specs.declared.event.Event.{Event}
 use Rattle.stateful_exec_model.specs.Workings.{Workings}
-use Rattle.stateful_loop.specs.Intake.{Counts, TakesIn, enters, cancels, fetched, turns, flushes, stops, progresses, restarts, TurnsJob, build, hook, run}
-use Rattle.stateful_loop.specs.Moments.{Moment}
-use Rattle.stateful_loop.specs.Opening.{Opens}
+use Rattle.stateful_loop_model.specs.Intake.{Counts, TakesIn, enters, cancels, fetched, turns, flushes, stops, progresses, restarts, TurnsJob, build, hook, run}
+use Rattle.stateful_loop_model.specs.Moments.{Moment}
+use Rattle.stateful_loop_model.specs.Opening.{Opens}
 
 -- where nothing is above the opening
 pub opened_order : (height : ℕ) → IsInOrder (record { durable = height; applied = height; barriers = []; held = [] })

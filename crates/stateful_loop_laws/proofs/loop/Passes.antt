@@ -16,10 +16,10 @@ use Rattle.stateful_loop_laws.specs.Durability.{LoopBehind}
 use Rattle.stateful_loop_laws.specs.Stands.{LoopStands}
 use Rattle.stateful_loop_laws.proofs.loop.CalmItems.{IsCalmMark}
 use Rattle.stateful_loop_laws.proofs.loop.Calm.{LoopBehind-calm, LoopBehind-same, LoopBehind-is}
-use Rattle.stateful_loop.proofs.Staying.{Stays, Acquires-stays, Resumes-stays}
-use Rattle.stateful_loop.specs.Moments.{Moment, inner, with_inner, with_loop}
-use Rattle.stateful_loop.specs.Rules.{Schedules, EndsFinalization}
-use Rattle.stateful_loop.specs.declared.tables.Finalizing.{Finalizing}
+use Rattle.stateful_loop_model.proofs.Staying.{Stays, Acquires-stays, Resumes-stays}
+use Rattle.stateful_loop_model.specs.Moments.{Moment, inner, with_inner, with_loop}
+use Rattle.stateful_loop_model.specs.Rules.{Schedules, EndsFinalization}
+use Rattle.stateful_loop_model.specs.declared.tables.Finalizing.{Finalizing}
 
 -- marks of requests and candidate runs are calm
 pub IsCalmMark-beside : {B : Type 0} (Job Ticket : ℕ → Type 0) (mark : Mark B) → IsBeside Job Ticket mark → IsCalmMark mark

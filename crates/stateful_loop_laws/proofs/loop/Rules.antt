@@ -31,14 +31,14 @@ use Rattle.stateful_loop_laws.proofs.loop.Breaks.{IsDurablySaid-broken}
 use Rattle.stateful_loop_laws.proofs.loop.Calm.{LoopStands-same, LoopBehind-calm, LoopBehind-same, LoopBehind-is}
 use Rattle.stateful_loop_laws.proofs.loop.Completes.{LoopBehind-acknowledges, LoopBehind-completes}
 use Rattle.stateful_loop_laws.proofs.loop.Passes.{LoopBehind-schedules, LoopBehind-ends, LoopBehind-holds}
-use Rattle.stateful_loop.proofs.SoundingSteps.{in_front}
-use Rattle.stateful_loop.specs.Barriers.{broken}
-use Rattle.stateful_loop.specs.Moments.{Moment, with_loop}
-use Rattle.stateful_loop.specs.Rules.{Collects, Builds, starts, declines, BeginsFinalization, DoesMessage, schedules, answers, acknowledges, holds, begins, RunsFinalized, AppliesBlock, ObservesBlock, IsFinalizing, HasStates, Takes, of_action, of_message, Rule, collects, puts_off, runs, applies, covers, observes, ends, breaks, completes, builds, takes}
-use Rattle.stateful_loop.specs.Sound.{IsUp, Sound}
-use Rattle.stateful_loop.specs.declared.barriers.Active.{Active}
-use Rattle.stateful_loop.specs.declared.message.Message.{Message}
-use Rattle.stateful_loop.specs.declared.tables.Finalizing.{Finalizing}
+use Rattle.stateful_loop_model.proofs.SoundingSteps.{in_front}
+use Rattle.stateful_loop_model.specs.Barriers.{broken}
+use Rattle.stateful_loop_model.specs.Moments.{Moment, with_loop}
+use Rattle.stateful_loop_model.specs.Rules.{Collects, Builds, starts, declines, BeginsFinalization, DoesMessage, schedules, answers, acknowledges, holds, begins, RunsFinalized, AppliesBlock, ObservesBlock, IsFinalizing, HasStates, Takes, of_action, of_message, Rule, collects, puts_off, runs, applies, covers, observes, ends, breaks, completes, builds, takes}
+use Rattle.stateful_loop_model.specs.Sound.{IsUp, Sound}
+use Rattle.stateful_loop_model.specs.declared.barriers.Active.{Active}
+use Rattle.stateful_loop_model.specs.declared.message.Message.{Message}
+use Rattle.stateful_loop_model.specs.declared.tables.Finalizing.{Finalizing}
 
 module _ {B C I P R D H G U : Type 0} (w : Workings B C I P R D H G U) where
   -- the block of a finalization is of the next height until it is applied

@@ -23,8 +23,8 @@ use Rattle.stateful_exec_laws.proofs.pauses.Passing.{PassesBy}
 use Rattle.stateful_exec_laws.proofs.pauses.PassingRules.{PassesBy-steps}
 use Rattle.stateful_loop_laws.proofs.loop.CalmItems.{IsCalmMark}
 use Rattle.stateful_loop_laws.proofs.loop.Passes.{NoneOf, IsCalmMark-beside}
-use Rattle.stateful_loop.proofs.SoundingTurns.{steps_stays}
-use Rattle.stateful_loop.proofs.Staying.{Stays}
+use Rattle.stateful_loop_model.proofs.SoundingTurns.{steps_stays}
+use Rattle.stateful_loop_model.proofs.Staying.{Stays}
 
 -- from some marks to later ones calm marks are made
 pub record IsCalmStep {B : Type 0} (before now : List (Mark B)) : Type 0 where

@@ -15,11 +15,11 @@ use Rattle.stateful_exec_model.specs.Workings.{Workings}
 use Rattle.stateful_loop_laws.specs.Stands.{LoopStands}
 use Rattle.stateful_loop_laws.proofs.barriers.Down.{NoneLive}
 use Rattle.stateful_loop_laws.proofs.barriers.AwaitedItems.{awaited_first}
-use Rattle.stateful_loop.specs.Barriers.{awaiting, first_of, is_good, is_interrupted, is_broken, is_flushed, broken, flushed}
-use Rattle.stateful_loop.specs.Moments.{Moment}
-use Rattle.stateful_loop.specs.Rules.{Needed}
-use Rattle.stateful_loop.specs.Sound.{IsUp}
-use Rattle.stateful_loop.specs.declared.barriers.Active.{Active}
+use Rattle.stateful_loop_model.specs.Barriers.{awaiting, first_of, is_good, is_interrupted, is_broken, is_flushed, broken, flushed}
+use Rattle.stateful_loop_model.specs.Moments.{Moment}
+use Rattle.stateful_loop_model.specs.Rules.{Needed}
+use Rattle.stateful_loop_model.specs.Sound.{IsUp}
+use Rattle.stateful_loop_model.specs.declared.barriers.Active.{Active}
 
 unanswered : (token : FlushToken) (answer : Option Flushed) → is_good answer ≡ false → is_interrupted answer ≡ false
     → is_some (still_open (record { token = token; answer = answer })) ≡ true

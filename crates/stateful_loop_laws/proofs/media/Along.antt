@@ -16,10 +16,10 @@ use Rattle.stateful_exec_laws.proofs.front.AnchorMoves.{IsApplied, IsAppliedOver
 use Rattle.stateful_exec_laws.specs.Building.{BuildsTakeTurns}
 use Rattle.stateful_exec_laws.specs.Fronting.{RunsTakeTurns}
 use Rattle.stateful_exec_laws.specs.Storing.{IsStoredNow}
-use Rattle.stateful_loop.specs.Intake.{Counts, TakesIn}
-use Rattle.stateful_loop.specs.Left.{KeepsStates, LeavesRule, keeps, applying}
-use Rattle.stateful_loop.specs.Moments.{Moment}
-use Rattle.stateful_loop.specs.Rules.{Quiet, Along, none, further}
+use Rattle.stateful_loop_model.specs.Intake.{Counts, TakesIn}
+use Rattle.stateful_loop_model.specs.Left.{KeepsStates, LeavesRule, keeps, applying}
+use Rattle.stateful_loop_model.specs.Moments.{Moment}
+use Rattle.stateful_loop_model.specs.Rules.{Quiet, Along, none, further}
 use Rattle.stateful_loop_laws.specs.Behind.{UpBehind}
 use Rattle.stateful_loop_laws.specs.Execution.{Executes, NamesBehind}
 use Rattle.stateful_loop_laws.specs.Media.{KeepsReopenable, MediaKept}

@@ -14,14 +14,14 @@ use Rattle.stateful_exec_model.specs.Workings.{Workings}
 use Rattle.stateful_exec_model.specs.declared.front.Front.{Front}
 use Rattle.stateful_exec_tables.specs.declared.request.Request.{Request}
 use Rattle.stateful_exec_tables.specs.declared.state.Tables.{Tables}
-use Rattle.stateful_loop.proofs.SoundingTurns.{gives_up_anchor, builds_stays, fetched_stays}
-use Rattle.stateful_loop.proofs.Staying.{Stays, Acquires-stays, Resumes-stays}
-use Rattle.stateful_loop.specs.Intake.{Counts, TurnsJob, build, hook, run, TakesIn, enters, cancels, fetched, turns, flushes, stops, progresses, restarts}
-use Rattle.stateful_loop.specs.Moments.{Moment, inner, with_inner}
-use Rattle.stateful_loop.specs.Rules.{Schedules, Builds, starts, declines, BeginsFinalization, DoesMessage, schedules, answers, acknowledges, holds, begins, AppliesBlock, IsFinalizing, HasStates, Takes, of_action, of_message, Rule, collects, puts_off, runs, applies, covers, observes, ends, breaks, completes, builds, takes}
-use Rattle.stateful_loop.specs.declared.barriers.Active.{Active}
-use Rattle.stateful_loop.specs.declared.message.Message.{Message}
-use Rattle.stateful_loop.specs.declared.tables.Finalizing.{Finalizing}
+use Rattle.stateful_loop_model.proofs.SoundingTurns.{gives_up_anchor, builds_stays, fetched_stays}
+use Rattle.stateful_loop_model.proofs.Staying.{Stays, Acquires-stays, Resumes-stays}
+use Rattle.stateful_loop_model.specs.Intake.{Counts, TurnsJob, build, hook, run, TakesIn, enters, cancels, fetched, turns, flushes, stops, progresses, restarts}
+use Rattle.stateful_loop_model.specs.Moments.{Moment, inner, with_inner}
+use Rattle.stateful_loop_model.specs.Rules.{Schedules, Builds, starts, declines, BeginsFinalization, DoesMessage, schedules, answers, acknowledges, holds, begins, AppliesBlock, IsFinalizing, HasStates, Takes, of_action, of_message, Rule, collects, puts_off, runs, applies, covers, observes, ends, breaks, completes, builds, takes}
+use Rattle.stateful_loop_model.specs.declared.barriers.Active.{Active}
+use Rattle.stateful_loop_model.specs.declared.message.Message.{Message}
+use Rattle.stateful_loop_model.specs.declared.tables.Finalizing.{Finalizing}
 use Rattle.stateful_loop_laws.proofs.loop.Turns.{run_marks}
 
 module _ {B C I P R D H G U : Type 0} (w : Workings B C I P R D H G U) where

@@ -22,11 +22,11 @@ use Rattle.stateful_exec_laws.specs.Fronting.{RunsTakeTurns}
 use Rattle.stateful_exec_laws.specs.Setting.{setting}
 use Rattle.stateful_exec_laws.specs.Storing.{IsStoredNow}
 use Rattle.stateful_exec_laws.proofs.front.AnchorMoves.{IsApplied, IsAppliedOver-moves}
-use Rattle.stateful_loop.specs.Intake.{Counts, TakesIn}
-use Rattle.stateful_loop.specs.Left.{KeepsStates, LeavesApply, LeavesRule, keeps, applying}
-use Rattle.stateful_loop.specs.Moments.{Moment}
-use Rattle.stateful_loop.specs.Rules.{Quiet, Along, IsFinalizing, HasStates}
-use Rattle.stateful_loop.specs.declared.tables.Finalizing.{Finalizing}
+use Rattle.stateful_loop_model.specs.Intake.{Counts, TakesIn}
+use Rattle.stateful_loop_model.specs.Left.{KeepsStates, LeavesApply, LeavesRule, keeps, applying}
+use Rattle.stateful_loop_model.specs.Moments.{Moment}
+use Rattle.stateful_loop_model.specs.Rules.{Quiet, Along, IsFinalizing, HasStates}
+use Rattle.stateful_loop_model.specs.declared.tables.Finalizing.{Finalizing}
 use Rattle.stateful_loop_laws.specs.Behind.{UpBehind}
 use Rattle.stateful_loop_laws.specs.Execution.{Executes, NamesBehind}
 use Rattle.stateful_loop_laws.specs.Stands.{IsUpAt}

@@ -17,11 +17,11 @@ use Rattle.stateful_history.specs.declared.mark.Mark.{Mark}
 use Rattle.stateful_history.specs.declared.mark.Mark.TheVariants.{Opened}
 use Rattle.stateful_exec_model.specs.Workings.{Workings}
 use Rattle.stateful_exec_laws.specs.Storing.{IsStoredNow}
-use Rattle.stateful_loop.specs.Left.{IsTried, LeavesOpening, closed, not_opened, opened}
-use Rattle.stateful_loop.specs.Moments.{Moment}
-use Rattle.stateful_loop.specs.Opening.{Opens, FailsToOpen, FaultsOpening}
-use Rattle.stateful_loop.specs.declared.error.StepError.{StepError}
-use Rattle.stateful_loop.specs.declared.error.StepError.TheVariants.{Database, TargetMismatch, MissingBlock, OutOfMemory}
+use Rattle.stateful_loop_model.specs.Left.{IsTried, LeavesOpening, closed, not_opened, opened}
+use Rattle.stateful_loop_model.specs.Moments.{Moment}
+use Rattle.stateful_loop_model.specs.Opening.{Opens, FailsToOpen, FaultsOpening}
+use Rattle.stateful_loop_model.specs.declared.error.StepError.{StepError}
+use Rattle.stateful_loop_model.specs.declared.error.StepError.TheVariants.{Database, TargetMismatch, MissingBlock, OutOfMemory}
 use Rattle.stateful_loop_laws.specs.Down.{IsEnding}
 use Rattle.stateful_loop_laws.specs.Media.{KeepsSome, KeepsDurably, targets_of, TargetsRise, KeepsReopenable, MediaKept}
 use Rattle.stateful_loop_laws.proofs.execution.Opens.{handed}

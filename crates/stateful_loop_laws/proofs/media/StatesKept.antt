@@ -23,7 +23,7 @@ use Rattle.stateful_exec_laws.specs.Running.{IsRunning}
 use Rattle.stateful_exec_laws.specs.Setting.{setting}
 use Rattle.stateful_exec_laws.proofs.earned.Carried.{IsMild, as_before}
 use Rattle.stateful_exec_laws.proofs.runs.Turned.{HasState-once}
-use Rattle.stateful_loop.specs.Moments.{Moment}
+use Rattle.stateful_loop_model.specs.Moments.{Moment}
 use Rattle.stateful_loop_laws.specs.Execution.{Executes}
 use Rattle.stateful_loop_laws.proofs.hands.QuietWaits.{chain-HasState}
 

@@ -35,9 +35,9 @@ use Rattle.stateful_exec_laws.proofs.pauses.Tables.{at_dropped, undone}
 use Rattle.stateful_exec_laws.proofs.places.Marks.{started-next}
 use Rattle.stateful_exec_laws.proofs.requests.Quiet.{IsQuiet, withdrawals-quiet, quiet_one}
 use Rattle.stateful_exec_laws.proofs.runs.Removing.{at_other, All-at}
-use Rattle.stateful_loop.specs.Moments.{Moment}
-use Rattle.stateful_loop.specs.Rules.{Builds, starts, declines, BeginsFinalization, finalizing}
-use Rattle.stateful_loop.specs.declared.tables.Finalizing.{Finalizing}
+use Rattle.stateful_loop_model.specs.Moments.{Moment}
+use Rattle.stateful_loop_model.specs.Rules.{Builds, starts, declines, BeginsFinalization, finalizing}
+use Rattle.stateful_loop_model.specs.declared.tables.Finalizing.{Finalizing}
 use Rattle.stateful_loop_laws.specs.Execution.{IsFree, IsPlaced, Executes}
 use Rattle.stateful_loop_laws.specs.Places.{EndsNoRun, IsInPlace, HasMovedIn, AsksStand, PlacesKept, PlacesBehind}
 use Rattle.stateful_loop_laws.specs.RuleMarks.{IsOfRule}

@@ -24,7 +24,7 @@ use Rattle.stateful_exec_laws.specs.Building.{BuildStands}
 use Rattle.stateful_exec_laws.specs.Due.{IsDue}
 use Rattle.stateful_exec_laws.specs.Setting.{setting}
 use Rattle.stateful_exec_laws.proofs.builds.Marks.{nothing-EndsLive, built-EndsLive}
-use Rattle.stateful_loop.specs.Moments.{Moment, inner, with_inner}
+use Rattle.stateful_loop_model.specs.Moments.{Moment, inner, with_inner}
 use Rattle.stateful_loop_laws.specs.Execution.{Executes}
 use Rattle.stateful_loop_laws.specs.Places.{EndsNoRun, IsInPlace, HasMovedIn, PlacesKept, PlacesBehind}
 use Rattle.stateful_loop_laws.specs.RuleMarks.{IsOfRule}

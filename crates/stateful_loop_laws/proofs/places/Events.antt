@@ -24,8 +24,8 @@ use Rattle.stateful_exec_laws.specs.Setting.{setting}
 use Rattle.stateful_exec_laws.proofs.pauses.DueStands.{IsDue-came, IsDue-quiet}
 use Rattle.stateful_exec_laws.proofs.requests.Quiet.{IsQuiet, AreQuiet, quiet_one}
 use Rattle.stateful_exec_laws.proofs.runs.Removing.{at_other, All-without}
-use Rattle.stateful_loop.specs.Intake as intake
-use Rattle.stateful_loop.specs.Moments.{Moment}
+use Rattle.stateful_loop_model.specs.Intake as intake
+use Rattle.stateful_loop_model.specs.Moments.{Moment}
 use Rattle.stateful_loop_laws.specs.Places.{EndsNoRun, IsInPlace, PlacesKept, PlacesBehind}
 use Rattle.stateful_loop_laws.specs.RuleMarks.{IsOfRule}
 use Rattle.stateful_loop_laws.specs.Tickets.{IsOutside}

@@ -40,7 +40,7 @@ use Rattle.stateful_exec_laws.proofs.requests.Quiet.{AreQuiet, GoesQuietly, Goes
 use Rattle.stateful_exec_laws.proofs.reasons.Fetched.{IsGround-fetched}
 use Rattle.stateful_exec_laws.proofs.runs.Removing.{at_other, All-at, All-without}
 use Rattle.stateful_exec_laws.proofs.requests.ServedMarks.{AreServedBy, WasAsked-before, acquires-marks, concludes-marks}
-use Rattle.stateful_loop.specs.Moments.{Moment, inner, with_inner}
+use Rattle.stateful_loop_model.specs.Moments.{Moment, inner, with_inner}
 use Rattle.stateful_loop_laws.specs.Execution.{IsFree, IsPlaced, Executes}
 use Rattle.stateful_loop_laws.specs.Places.{IsInPlace, HasMovedIn, PlacesKept, PlacesBehind}
 use Rattle.stateful_loop_laws.proofs.places.Places.{fetches-free}

@@ -20,9 +20,9 @@ use Rattle.stateful_exec_laws.specs.Setting.{setting}
 use Rattle.stateful_exec_laws.proofs.pauses.DueStands.{IsDue-runs, IsDue-moves, IsDue-observes}
 use Rattle.stateful_exec_laws.proofs.front.Marks.{runs-StartsWell, hooks-StartsWell}
 use Rattle.stateful_exec_laws.proofs.places.Marks.{started-next}
-use Rattle.stateful_loop.specs.Moments.{Moment}
-use Rattle.stateful_loop.specs.Rules.{finalizing, IsFinalizing, RunsFinalized, AppliesBlock, ObservesBlock}
-use Rattle.stateful_loop.specs.declared.tables.Finalizing.{Finalizing}
+use Rattle.stateful_loop_model.specs.Moments.{Moment}
+use Rattle.stateful_loop_model.specs.Rules.{finalizing, IsFinalizing, RunsFinalized, AppliesBlock, ObservesBlock}
+use Rattle.stateful_loop_model.specs.declared.tables.Finalizing.{Finalizing}
 use Rattle.stateful_loop_laws.specs.Execution.{Executes}
 use Rattle.stateful_loop_laws.specs.Places.{HasMovedIn, PlacesKept, PlacesBehind}
 use Rattle.stateful_loop_laws.specs.RuleMarks.{IsOfRule}

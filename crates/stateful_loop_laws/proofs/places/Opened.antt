@@ -15,9 +15,9 @@ use Rattle.stateful_exec_laws.specs.Due.{IsDue}
 use Rattle.stateful_exec_laws.specs.Gathering.{gathered, AsksParents, AsksAlong}
 use Rattle.stateful_exec_laws.specs.Setting.{setting}
 use Rattle.stateful_exec_laws.proofs.runs.SpentRuns.{MayRunAgain-mark}
-use Rattle.stateful_loop.specs.Moments.{Moment}
-use Rattle.stateful_loop.specs.Opening.{Opens}
-use Rattle.stateful_loop.specs.declared.tables.Processing.{Processing}
+use Rattle.stateful_loop_model.specs.Moments.{Moment}
+use Rattle.stateful_loop_model.specs.Opening.{Opens}
+use Rattle.stateful_loop_model.specs.declared.tables.Processing.{Processing}
 use Rattle.stateful_loop_laws.specs.Places.{CancelledIsGone, HasMovedIn, PastKept, PlacesKept}
 use Rattle.stateful_loop_laws.proofs.places.Past.{orderly-gone}
 use Rattle.stateful_loop_laws.proofs.tickets.Uncancelled.{gone-mark}

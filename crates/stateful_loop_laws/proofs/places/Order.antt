@@ -12,8 +12,8 @@ use Rattle.stateful_exec_laws.specs.Due.{IsDue}
 use Rattle.stateful_exec_laws.specs.Fronting.{FrontStands}
 use Rattle.stateful_exec_laws.specs.Setting.{setting}
 use Rattle.stateful_exec_laws.proofs.front.Marks.{begins-FinalizesInOrder, begun-FinalizesInOrder, ran-FinalizesInOrder}
-use Rattle.stateful_loop.specs.Moments.{Moment}
-use Rattle.stateful_loop.specs.Rules.{HasStates, BeginsFinalization}
+use Rattle.stateful_loop_model.specs.Moments.{Moment}
+use Rattle.stateful_loop_model.specs.Rules.{HasStates, BeginsFinalization}
 use Rattle.stateful_loop_laws.specs.Execution.{IsFree, IsPlaced, Executes}
 use Rattle.stateful_loop_laws.specs.Places.{PlacesKept}
 

@@ -21,7 +21,7 @@ use Rattle.stateful_exec_laws.specs.Outstanding.{TicketsApart}
 use Rattle.stateful_exec_laws.specs.Setting.{setting}
 use Rattle.stateful_exec_laws.proofs.places.Cancelled.{StandsOn-longer}
 use Rattle.stateful_exec_laws.proofs.requests.ServedMarks.{TicketsApart-after}
-use Rattle.stateful_loop.specs.Moments.{Moment}
+use Rattle.stateful_loop_model.specs.Moments.{Moment}
 use Rattle.stateful_loop_laws.specs.Places.{CancelledIsGone, EndsNoRun, IsOrderlyPast, PastKept, PlacesKept}
 use Rattle.stateful_loop_laws.specs.RuleMarks.{IsOfRule}
 use Rattle.stateful_loop_laws.proofs.tickets.Uncancelled.{live-uncancelled, gone-mark, gone-first}

@@ -36,12 +36,12 @@ use Rattle.stateful_exec_laws.proofs.places.Starts.{live-request}
 use Rattle.stateful_exec_laws.proofs.requests.Quiet.{GoesQuietly-resumes}
 use Rattle.stateful_exec_laws.proofs.runs.Removing.{All-at}
 use Rattle.stateful_exec_laws.proofs.requests.ServedMarks.{advances-marks}
-use Rattle.stateful_loop.specs.Moments.{Moment, Executing, inner, with_loop}
-use Rattle.stateful_loop.specs.Rules.{acknowledged, BeginsBarrier, DoesMessage, schedules, answers, acknowledges, holds, begins, EndsFinalization, Takes, Rule, collects, puts_off, runs, applies, covers, observes, ends, breaks, completes, builds, takes}
-use Rattle.stateful_loop.specs.declared.message.Action.TheVariants as action
-use Rattle.stateful_loop.specs.declared.message.Message.{Message}
-use Rattle.stateful_loop.specs.declared.message.Message.TheVariants as message
-use Rattle.stateful_loop.specs.declared.tables.Finalizing.{Finalizing}
+use Rattle.stateful_loop_model.specs.Moments.{Moment, Executing, inner, with_loop}
+use Rattle.stateful_loop_model.specs.Rules.{acknowledged, BeginsBarrier, DoesMessage, schedules, answers, acknowledges, holds, begins, EndsFinalization, Takes, Rule, collects, puts_off, runs, applies, covers, observes, ends, breaks, completes, builds, takes}
+use Rattle.stateful_loop_model.specs.declared.message.Action.TheVariants as action
+use Rattle.stateful_loop_model.specs.declared.message.Message.{Message}
+use Rattle.stateful_loop_model.specs.declared.message.Message.TheVariants as message
+use Rattle.stateful_loop_model.specs.declared.tables.Finalizing.{Finalizing}
 use Rattle.stateful_loop_laws.specs.Execution.{HasMovedOn, IsPlaced, Executes}
 use Rattle.stateful_loop_laws.specs.Places.{HasMovedIn, PlacesKept, PlacesBehind}
 use Rattle.stateful_loop_laws.specs.RuleMarks.{IsOfRule, MarksBehind}

@@ -26,9 +26,9 @@ use Rattle.stateful_exec_laws.proofs.places.Asks.{acquires-in_place, asked_along
 use Rattle.stateful_exec_laws.proofs.places.Starts.{live-request}
 use Rattle.stateful_exec_laws.proofs.requests.Quiet.{AreQuiet, GoesQuietly, GoesQuietly-acquires, unhooked-quiet}
 use Rattle.stateful_exec_laws.proofs.requests.ServedMarks.{IsServedBy, AreServedBy, acquires-marks}
-use Rattle.stateful_loop.specs.Moments.{Moment, inner, with_inner}
-use Rattle.stateful_loop.specs.Rules.{Schedules}
-use Rattle.stateful_loop.specs.declared.message.Message.TheVariants as message
+use Rattle.stateful_loop_model.specs.Moments.{Moment, inner, with_inner}
+use Rattle.stateful_loop_model.specs.Rules.{Schedules}
+use Rattle.stateful_loop_model.specs.declared.message.Message.TheVariants as message
 use Rattle.stateful_loop_laws.specs.Execution.{IsFree, IsPlaced, Executes}
 use Rattle.stateful_loop_laws.specs.Places.{IsInPlace, HasMovedIn, PlacesKept, PlacesBehind}
 use Rattle.stateful_loop_laws.specs.Tickets.{MessageStands}

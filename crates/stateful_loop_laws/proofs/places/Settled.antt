@@ -41,7 +41,7 @@ use Rattle.stateful_exec_laws.proofs.ended.FollowStands.{ticket_of, request_of, 
 use Rattle.stateful_exec_laws.proofs.pauses.InTurn.{IsOnWay}
 use Rattle.stateful_exec_laws.proofs.requests.KeptMarks.{EachMark-behind, KeepsReady, KeepsReady-then, KeepsReady-in_turn}
 use Rattle.stateful_exec_laws.proofs.runs.SpentRuns.{MayRunAgain-turned}
-use Rattle.stateful_loop.specs.Moments.{Moment, inner, with_inner}
+use Rattle.stateful_loop_model.specs.Moments.{Moment, inner, with_inner}
 use Rattle.stateful_loop_laws.specs.Execution.{Executes}
 use Rattle.stateful_loop_laws.specs.Places.{IsInPlace, PlacesKept, PlacesBehind}
 use Rattle.stateful_loop_laws.specs.RuleMarks.{IsOfRule}

@@ -22,10 +22,10 @@ use Rattle.stateful_exec_laws.specs.Setting.{setting}
 use Rattle.stateful_exec_tables.specs.declared.tables.Phase.TheVariants.{Fetching}
 use Rattle.stateful_exec_laws.proofs.pauses.DueStands.{IsDue-quiet}
 use Rattle.stateful_exec_laws.proofs.requests.Quiet.{IsQuiet}
-use Rattle.stateful_loop.specs.Moments.{Moment}
-use Rattle.stateful_loop.specs.Rules.{acknowledged}
-use Rattle.stateful_loop.specs.declared.barriers.Active.{Active}
-use Rattle.stateful_loop.specs.declared.tables.Finalizing.{Finalizing}
+use Rattle.stateful_loop_model.specs.Moments.{Moment}
+use Rattle.stateful_loop_model.specs.Rules.{acknowledged}
+use Rattle.stateful_loop_model.specs.declared.barriers.Active.{Active}
+use Rattle.stateful_loop_model.specs.declared.tables.Finalizing.{Finalizing}
 use Rattle.stateful_loop_laws.specs.Places.{CancelledIsGone, EndsNoRun, IsInPlace, IsOrderlyPast, HasMovedIn, AsksStand, PlacesKept, PlacesBehind}
 use Rattle.stateful_loop_laws.specs.RuleMarks.{IsOfRule}
 use Rattle.stateful_loop_laws.specs.Stands.{LoopStands}

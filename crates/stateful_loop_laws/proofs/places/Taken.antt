@@ -18,8 +18,8 @@ use Rattle.stateful_exec_model.specs.Moments as exec
 use Rattle.stateful_exec_model.specs.Workings.{Workings}
 use Rattle.stateful_exec_model.specs.declared.front.Front.{Front}
 use Rattle.stateful_exec_tables.specs.declared.state.Tables.{Tables}
-use Rattle.stateful_loop.specs.Intake.{Counts, TurnsJob, build, hook, run, Builds, Hooks, TakesIn, enters, cancels, fetched, turns, flushes, stops, progresses, restarts}
-use Rattle.stateful_loop.specs.Moments.{Moment, inner, with_inner}
+use Rattle.stateful_loop_model.specs.Intake.{Counts, TurnsJob, build, hook, run, Builds, Hooks, TakesIn, enters, cancels, fetched, turns, flushes, stops, progresses, restarts}
+use Rattle.stateful_loop_model.specs.Moments.{Moment, inner, with_inner}
 use Rattle.stateful_loop_laws.specs.Execution.{NamesBehind}
 use Rattle.stateful_loop_laws.specs.Places.{PlacesKept, PlacesBehind}
 use Rattle.stateful_loop_laws.specs.RuleMarks.{MarksBehind}

@@ -12,8 +12,8 @@ use Rattle.stateful_exec_model.specs.Workings.{Workings}
 use Rattle.stateful_exec_laws.specs.Building.{BuildsTakeTurns}
 use Rattle.stateful_exec_laws.specs.Fronting.{RunsTakeTurns}
 use Rattle.stateful_exec_laws.specs.Storing.{IsStoredNow}
-use Rattle.stateful_loop.specs.Moments.{Moment}
-use Rattle.stateful_loop.specs.Rules.{Along, none, further}
+use Rattle.stateful_loop_model.specs.Moments.{Moment}
+use Rattle.stateful_loop_model.specs.Rules.{Along, none, further}
 use Rattle.stateful_loop_laws.specs.Behind.{UpBehind}
 use Rattle.stateful_loop_laws.specs.Reasons.{IsTrusted, ReasonsStand, HasItsReason, ReasonsBehind, ReasonsUpBehind}
 use Rattle.stateful_loop_laws.specs.Stands.{IsUpAt}

@@ -40,8 +40,8 @@ use Rattle.stateful_exec_laws.proofs.reasons.Built.{built-reason}
 use Rattle.stateful_exec_laws.proofs.reasons.Fetched.{fetched-reason}
 use Rattle.stateful_exec_laws.proofs.reasons.Ground.{IsGround}
 use Rattle.stateful_exec_laws.proofs.runs.Removing.{All-at}
-use Rattle.stateful_loop.specs.Intake.{Counts, TakesIn, enters, cancels, fetched, turns, flushes, stops, progresses, restarts, TurnsJob, build, hook, run}
-use Rattle.stateful_loop.specs.Moments.{Moment, inner}
+use Rattle.stateful_loop_model.specs.Intake.{Counts, TakesIn, enters, cancels, fetched, turns, flushes, stops, progresses, restarts, TurnsJob, build, hook, run}
+use Rattle.stateful_loop_model.specs.Moments.{Moment, inner}
 use Rattle.stateful_loop_laws.specs.Execution.{Executes, IsPlaced, IsFree}
 use Rattle.stateful_loop_laws.specs.Reasons.{RefusesNone, IsTrusted, ReasonsStand, ReasonsBehind}
 use Rattle.stateful_loop_laws.specs.Stands.{IsUpAt}

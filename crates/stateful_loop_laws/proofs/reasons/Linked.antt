@@ -10,15 +10,15 @@ use Rattle.stateful_history.specs.declared.event.Event.TheVariants as event
 use Rattle.stateful_history.specs.declared.mark.Mark.{Mark}
 use Rattle.stateful_exec_model.specs.Workings.{Workings}
 use Rattle.stateful_exec_laws.specs.Setting.{setting}
-use Rattle.stateful_loop.specs.Intake.{Counts, message_by, TakesIn, enters, cancels, fetched, turns, flushes, stops, progresses, restarts, build, hook, run}
-use Rattle.stateful_loop.specs.Message.{asks_of, asks_for}
-use Rattle.stateful_loop.specs.Moments.{Moment}
-use Rattle.stateful_loop.specs.Rules.{starts, declines, DoesMessage, schedules, answers, acknowledges, holds, begins, Takes, of_action, of_message, Rule}
-use Rattle.stateful_loop.specs.Rules as rule
-use Rattle.stateful_loop.specs.declared.message.Action.{Action}
-use Rattle.stateful_loop.specs.declared.message.Action.TheVariants as action
-use Rattle.stateful_loop.specs.declared.message.Message.{Message}
-use Rattle.stateful_loop.specs.declared.message.Message.TheVariants as message
+use Rattle.stateful_loop_model.specs.Intake.{Counts, message_by, TakesIn, enters, cancels, fetched, turns, flushes, stops, progresses, restarts, build, hook, run}
+use Rattle.stateful_loop_model.specs.Message.{asks_of, asks_for}
+use Rattle.stateful_loop_model.specs.Moments.{Moment}
+use Rattle.stateful_loop_model.specs.Rules.{starts, declines, DoesMessage, schedules, answers, acknowledges, holds, begins, Takes, of_action, of_message, Rule}
+use Rattle.stateful_loop_model.specs.Rules as rule
+use Rattle.stateful_loop_model.specs.declared.message.Action.{Action}
+use Rattle.stateful_loop_model.specs.declared.message.Action.TheVariants as action
+use Rattle.stateful_loop_model.specs.declared.message.Message.{Message}
+use Rattle.stateful_loop_model.specs.declared.message.Message.TheVariants as message
 use Rattle.stateful_loop_laws.specs.Reasons.{MessageIsLinked, ActionIsLinked, HasItsReason, ReasonsBehind}
 
 module _ {B C I P R D H G U : Type 0} (w : Workings B C I P R D H G U) (stored : ℕ → Option (Named B)) where

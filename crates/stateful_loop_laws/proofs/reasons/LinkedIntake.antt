@@ -33,9 +33,9 @@ use Rattle.stateful_exec_laws.proofs.linked.Fetched.{StaysLinked-fetched, StaysL
 use Rattle.stateful_exec_laws.proofs.linked.On.{IsStill, StaysLinked, met_on, StaysLinked-on, StaysLinked-marks}
 use Rattle.stateful_exec_laws.proofs.linked.Turned.{LinkedBehind}
 use Rattle.stateful_exec_laws.proofs.linked.QueueServed.{queue-met}
-use Rattle.stateful_loop.specs.Intake.{Counts, Cancels, TakesIn, TurnsJob}
-use Rattle.stateful_loop.specs.Intake as intake
-use Rattle.stateful_loop.specs.Moments.{Moment, inner, with_inner}
+use Rattle.stateful_loop_model.specs.Intake.{Counts, Cancels, TakesIn, TurnsJob}
+use Rattle.stateful_loop_model.specs.Intake as intake
+use Rattle.stateful_loop_model.specs.Moments.{Moment, inner, with_inner}
 use Rattle.stateful_loop_laws.specs.Execution.{Executes, IsPlaced, IsFree, NamesBehind}
 use Rattle.stateful_loop_laws.specs.Reasons.{IsTrusted}
 use Rattle.stateful_loop_laws.specs.Stands.{IsUpAt}

@@ -36,12 +36,12 @@ use Rattle.stateful_exec_laws.proofs.linked.Turned.{LinkedBehind}
 use Rattle.stateful_exec_laws.proofs.front.MovedStands.{TablesStand-free}
 use Rattle.stateful_exec_laws.proofs.linked.QueueServed.{queue-met}
 use Rattle.stateful_exec_laws.proofs.requests.ServedMarks.{acquires-marks}
-use Rattle.stateful_loop.specs.Moments.{Moment, Executing, inner, with_loop}
-use Rattle.stateful_loop.specs.Rules.{acknowledged, Schedules, Builds, starts, declines, BeginsBarrier, BeginsFinalization, EndsFinalization, DoesMessage, schedules, answers, acknowledges, holds, begins, Rule}
-use Rattle.stateful_loop.specs.Rules as rule
-use Rattle.stateful_loop.specs.declared.message.Message.{Message}
-use Rattle.stateful_loop.specs.declared.message.Message.TheVariants as message
-use Rattle.stateful_loop.specs.declared.tables.Finalizing.{Finalizing}
+use Rattle.stateful_loop_model.specs.Moments.{Moment, Executing, inner, with_loop}
+use Rattle.stateful_loop_model.specs.Rules.{acknowledged, Schedules, Builds, starts, declines, BeginsBarrier, BeginsFinalization, EndsFinalization, DoesMessage, schedules, answers, acknowledges, holds, begins, Rule}
+use Rattle.stateful_loop_model.specs.Rules as rule
+use Rattle.stateful_loop_model.specs.declared.message.Message.{Message}
+use Rattle.stateful_loop_model.specs.declared.message.Message.TheVariants as message
+use Rattle.stateful_loop_model.specs.declared.tables.Finalizing.{Finalizing}
 use Rattle.stateful_loop_laws.specs.Execution.{Executes, IsPlaced, IsFree, HasMovedOn, NamesBehind}
 use Rattle.stateful_loop_laws.specs.Reasons.{MessageIsLinked, IsTrusted}
 use Rattle.stateful_loop_laws.specs.Stands.{IsUpAt}

@@ -31,7 +31,7 @@ use Rattle.stateful_exec_laws.proofs.linked.On.{StaysLinked, StaysLinked-on}
 use Rattle.stateful_exec_laws.proofs.linked.Turned.{LinkedBehind, StaysLinked-settled}
 use Rattle.stateful_exec_laws.proofs.linked.QueueServed.{queue-met}
 use Rattle.stateful_exec_laws.proofs.reasons.Ground.{IsGround, round_of_top}
-use Rattle.stateful_loop.specs.Moments.{Moment, inner}
+use Rattle.stateful_loop_model.specs.Moments.{Moment, inner}
 use Rattle.stateful_loop_laws.specs.Execution.{IsFree, IsPausedFor, HasMovedOn, IsPlacedAt, IsPlaced, Executes}
 use Rattle.stateful_loop_laws.specs.Rounds.{RoundsRise}
 use Rattle.stateful_loop_laws.specs.Ways.{WaysKept}

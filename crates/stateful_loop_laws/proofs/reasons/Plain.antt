@@ -13,7 +13,7 @@ use Rattle.stateful_exec_model.specs.Moments as exec
 use Rattle.stateful_exec_model.specs.Workings.{Workings}
 use Rattle.stateful_exec_laws.specs.Setting.{setting}
 use Rattle.stateful_exec_laws.proofs.requests.KeptMarks.{KeepsBehind}
-use Rattle.stateful_loop.specs.Moments.{Moment}
+use Rattle.stateful_loop_model.specs.Moments.{Moment}
 use Rattle.stateful_loop_laws.specs.Reasons.{RefusesNone, HasItsReason, ReasonsBehind}
 
 -- one mark, and two

@@ -29,14 +29,14 @@ use Rattle.stateful_exec_laws.proofs.linked.QueueLost.{declined-queued}
 use Rattle.stateful_exec_laws.proofs.reasons.Acquired.{acquires-reason}
 use Rattle.stateful_exec_laws.proofs.reasons.Ground.{IsGround}
 use Rattle.stateful_history.specs.Met.{Met}
-use Rattle.stateful_loop.specs.Moments.{Moment, Executing, inner, with_loop}
-use Rattle.stateful_loop.specs.Rules.{acknowledged, Schedules, Builds, starts, declines, DoesMessage, schedules, answers, acknowledges, holds, begins, EndsFinalization, Rule}
-use Rattle.stateful_loop.specs.Rules as rule
-use Rattle.stateful_loop.specs.declared.message.Action.{Action}
-use Rattle.stateful_loop.specs.declared.message.Action.TheVariants as action
-use Rattle.stateful_loop.specs.declared.message.Message.{Message}
-use Rattle.stateful_loop.specs.declared.message.Message.TheVariants as message
-use Rattle.stateful_loop.specs.declared.tables.Finalizing.{Finalizing}
+use Rattle.stateful_loop_model.specs.Moments.{Moment, Executing, inner, with_loop}
+use Rattle.stateful_loop_model.specs.Rules.{acknowledged, Schedules, Builds, starts, declines, DoesMessage, schedules, answers, acknowledges, holds, begins, EndsFinalization, Rule}
+use Rattle.stateful_loop_model.specs.Rules as rule
+use Rattle.stateful_loop_model.specs.declared.message.Action.{Action}
+use Rattle.stateful_loop_model.specs.declared.message.Action.TheVariants as action
+use Rattle.stateful_loop_model.specs.declared.message.Message.{Message}
+use Rattle.stateful_loop_model.specs.declared.message.Message.TheVariants as message
+use Rattle.stateful_loop_model.specs.declared.tables.Finalizing.{Finalizing}
 use Rattle.stateful_loop_laws.specs.Execution.{Executes, IsPlaced, IsFree, HasMovedOn}
 use Rattle.stateful_loop_laws.specs.Reasons.{RefusesNone, MessageIsLinked, ActionIsLinked, IsTrusted, ReasonsStand, HasItsReason, ReasonsBehind}
 use Rattle.stateful_loop_laws.specs.Stands.{IsUpAt}

@@ -17,12 +17,12 @@ use Rattle.stateful_exec_laws.specs.Reaching.{QueueReaches}
 use Rattle.stateful_exec_laws.specs.Setting.{setting}
 use Rattle.stateful_exec_laws.specs.Storing.{IsStoredNow}
 use Rattle.stateful_exec_laws.proofs.linked.On.{StaysLinked}
-use Rattle.stateful_loop.specs.Intake.{Counts, TakesIn}
-use Rattle.stateful_loop.specs.Moments.{Moment}
-use Rattle.stateful_loop.specs.Opening.{Opens}
-use Rattle.stateful_loop.specs.Rules.{Rule}
-use Rattle.stateful_loop.specs.declared.message.Action.{Action}
-use Rattle.stateful_loop.specs.declared.message.Message.{Message}
+use Rattle.stateful_loop_model.specs.Intake.{Counts, TakesIn}
+use Rattle.stateful_loop_model.specs.Moments.{Moment}
+use Rattle.stateful_loop_model.specs.Opening.{Opens}
+use Rattle.stateful_loop_model.specs.Rules.{Rule}
+use Rattle.stateful_loop_model.specs.declared.message.Action.{Action}
+use Rattle.stateful_loop_model.specs.declared.message.Message.{Message}
 use Rattle.stateful_loop_laws.specs.Execution.{NamesBehind}
 use Rattle.stateful_loop_laws.specs.Reasons.{MessageIsLinked, ActionIsLinked, IsTrusted, ReasonsStand}
 use Rattle.stateful_loop_laws.specs.Stands.{IsUpAt}

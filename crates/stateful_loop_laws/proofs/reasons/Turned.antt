@@ -29,7 +29,7 @@ use Rattle.stateful_exec_laws.proofs.ended.Told.{IsPlain}
 use Rattle.stateful_exec_laws.proofs.requests.KeptMarks.{KeepsBehind, KeepsBehind-same}
 use Rattle.stateful_exec_laws.proofs.reasons.Ground.{IsGround, round_of_top}
 use Rattle.stateful_exec_laws.proofs.reasons.Turned.{settled-reason}
-use Rattle.stateful_loop.specs.Moments.{Moment, inner}
+use Rattle.stateful_loop_model.specs.Moments.{Moment, inner}
 use Rattle.stateful_loop_laws.specs.Execution.{IsFree, IsPausedFor, HasMovedOn, IsPlacedAt, IsPlaced, Executes}
 use Rattle.stateful_loop_laws.specs.Reasons.{HasItsReason}
 use Rattle.stateful_loop_laws.specs.Rounds.{RoundsRise}

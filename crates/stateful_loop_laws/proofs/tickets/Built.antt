@@ -12,9 +12,9 @@ use Rattle.stateful_exec_model.specs.declared.building.Building.{Building}
 use Rattle.stateful_exec_tables.specs.declared.state.Tables.{Tables}
 use Rattle.stateful_exec_laws.specs.Setting.{setting}
 use Rattle.stateful_exec_laws.proofs.runs.Removing.{at_other}
-use Rattle.stateful_loop.specs.Moments.{Moment}
-use Rattle.stateful_loop.specs.Rules.{Builds, starts, declines}
-use Rattle.stateful_loop.specs.declared.message.Action.TheVariants as action
+use Rattle.stateful_loop_model.specs.Moments.{Moment}
+use Rattle.stateful_loop_model.specs.Rules.{Builds, starts, declines}
+use Rattle.stateful_loop_model.specs.declared.message.Action.TheVariants as action
 use Rattle.stateful_loop_laws.specs.Tickets.{TicketsBehind}
 use Rattle.stateful_loop_laws.proofs.tickets.Grounded.{IsGrounded}
 use Rattle.stateful_loop_laws.proofs.tickets.Saying.{IsAside, SaysSame-after}

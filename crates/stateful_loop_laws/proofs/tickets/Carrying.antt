@@ -13,8 +13,8 @@ use Rattle.stateful_exec_model.specs.declared.building.Building.{Building}
 use Rattle.stateful_exec_tables.specs.declared.state.Tables.{Tables}
 use Rattle.stateful_exec_laws.specs.Setting.{setting}
 use Rattle.stateful_exec_laws.proofs.pauses.Passing.{PassesBy}
-use Rattle.stateful_loop.specs.Moments.{Moment, inner}
-use Rattle.stateful_loop.specs.declared.tables.Finalizing.{Finalizing}
+use Rattle.stateful_loop_model.specs.Moments.{Moment, inner}
+use Rattle.stateful_loop_model.specs.declared.tables.Finalizing.{Finalizing}
 use Rattle.stateful_loop_laws.specs.Tickets.{ticket_in_front, TicketsStand, TicketsBehind}
 use Rattle.stateful_loop_laws.proofs.tickets.Grounded.{IsGrounded}
 use Rattle.stateful_loop_laws.proofs.tickets.Queueing.{QueueGrows, some_none}

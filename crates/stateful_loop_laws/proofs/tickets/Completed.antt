@@ -10,9 +10,9 @@ use Rattle.stateful_history.specs.declared.mark.Mark.{Mark}
 use Rattle.stateful_history.specs.declared.mark.Mark.TheVariants as mark
 use Rattle.stateful_exec_model.specs.Workings.{Workings}
 use Rattle.stateful_exec_laws.specs.Setting.{setting}
-use Rattle.stateful_loop.specs.Moments.{Moment}
-use Rattle.stateful_loop.specs.Rules.{acknowledged, CompletesBarrier}
-use Rattle.stateful_loop.specs.declared.barriers.Active.{Active}
+use Rattle.stateful_loop_model.specs.Moments.{Moment}
+use Rattle.stateful_loop_model.specs.Rules.{acknowledged, CompletesBarrier}
+use Rattle.stateful_loop_model.specs.declared.barriers.Active.{Active}
 use Rattle.stateful_loop_laws.specs.Tickets.{IsReceiptAt, TicketsStand, TicketsBehind}
 use Rattle.stateful_loop_laws.proofs.tickets.Carrying.{spares_marks}
 use Rattle.stateful_loop_laws.proofs.tickets.Grounded.{IsGrounded}

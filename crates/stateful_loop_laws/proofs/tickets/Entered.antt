@@ -18,13 +18,13 @@ use Rattle.stateful_exec_tables.specs.declared.request.Request.TheVariants.{Veri
 use Rattle.stateful_exec_laws.specs.Building.{IsElsewhere}
 use Rattle.stateful_exec_laws.specs.Setting.{setting}
 use Rattle.stateful_exec_laws.proofs.requests.Arrivals.{live_below, new_elsewhere, verify-IsInHand, prepare-IsInHand, propose-IsInHand}
-use Rattle.stateful_loop.specs.Intake.{message_by}
-use Rattle.stateful_loop.specs.Moments.{Moment, with_loop}
-use Rattle.stateful_loop.specs.declared.message.Action.{Action}
-use Rattle.stateful_loop.specs.declared.message.Action.TheVariants as action
-use Rattle.stateful_loop.specs.declared.message.Message.{Message}
-use Rattle.stateful_loop.specs.declared.message.Message.TheVariants.{Request, Finalized, Subscribe}
-use Rattle.stateful_loop.specs.declared.tables.Finalizing.{Finalizing}
+use Rattle.stateful_loop_model.specs.Intake.{message_by}
+use Rattle.stateful_loop_model.specs.Moments.{Moment, with_loop}
+use Rattle.stateful_loop_model.specs.declared.message.Action.{Action}
+use Rattle.stateful_loop_model.specs.declared.message.Action.TheVariants as action
+use Rattle.stateful_loop_model.specs.declared.message.Message.{Message}
+use Rattle.stateful_loop_model.specs.declared.message.Message.TheVariants.{Request, Finalized, Subscribe}
+use Rattle.stateful_loop_model.specs.declared.tables.Finalizing.{Finalizing}
 use Rattle.stateful_loop_laws.specs.Execution.{Executes}
 use Rattle.stateful_loop_laws.specs.Tickets.{ticket_in, ticket_under, ticket_in_front, MessageStands, ActionStands, TicketsStand, TicketsBehind}
 use Rattle.stateful_loop_laws.proofs.tickets.Carrying.{spares_marks}

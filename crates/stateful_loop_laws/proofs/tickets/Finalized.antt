@@ -14,11 +14,11 @@ use Rattle.stateful_exec_tables.specs.declared.state.Tables.{Tables}
 use Rattle.stateful_exec_laws.specs.Setting.{setting}
 use Rattle.stateful_exec_laws.proofs.pauses.Passing.{PassesBy}
 use Rattle.stateful_exec_laws.proofs.pauses.PassingRules.{PassesBy-pauses, PassesBy-resumes}
-use Rattle.stateful_loop.specs.Moments.{Moment, inner, with_inner}
-use Rattle.stateful_loop.specs.Rules.{finalizing, BeginsFinalization, EndsFinalization}
-use Rattle.stateful_loop.specs.declared.message.Action.TheVariants as action
-use Rattle.stateful_loop.specs.declared.message.Message.TheVariants as message
-use Rattle.stateful_loop.specs.declared.tables.Finalizing.{Finalizing}
+use Rattle.stateful_loop_model.specs.Moments.{Moment, inner, with_inner}
+use Rattle.stateful_loop_model.specs.Rules.{finalizing, BeginsFinalization, EndsFinalization}
+use Rattle.stateful_loop_model.specs.declared.message.Action.TheVariants as action
+use Rattle.stateful_loop_model.specs.declared.message.Message.TheVariants as message
+use Rattle.stateful_loop_model.specs.declared.tables.Finalizing.{Finalizing}
 use Rattle.stateful_loop_laws.specs.Tickets.{ticket_in_front, IsReceiptAt, TicketsStand, TicketsBehind}
 use Rattle.stateful_loop_laws.proofs.tickets.Carrying.{NoJob, handed_once, spares_passing}
 use Rattle.stateful_loop_laws.proofs.tickets.Grounded.{IsGrounded}

@@ -15,7 +15,7 @@ use Rattle.stateful_exec_laws.specs.Building.{IsElsewhere, BuildStands}
 use Rattle.stateful_exec_laws.specs.Requesting.{IsStanding}
 use Rattle.stateful_exec_laws.specs.Standing.{TablesStand}
 use Rattle.stateful_exec_laws.proofs.runs.Removing.{All-at}
-use Rattle.stateful_loop.specs.Moments.{Moment}
+use Rattle.stateful_loop_model.specs.Moments.{Moment}
 use Rattle.stateful_loop_laws.specs.Execution.{Executes}
 use Rattle.stateful_exec_laws.proofs.places.Starts.{live-request}
 use Rattle.stateful_loop_laws.proofs.tickets.Queueing.{some_none, IsOrderly}

@@ -3,12 +3,12 @@ use Rattle.std.proofs.Common.{◌≡◌, ℕ, [], Option, None, refl, sym, ap, �
 use Rattle.stateful_base.specs.Names.{Named}
 use Rattle.stateful_history.specs.Past.{Past}
 use Rattle.stateful_exec_model.specs.Workings.{Workings}
-use Rattle.stateful_loop.specs.Moments.{Moment, Executing, with_loop}
-use Rattle.stateful_loop.specs.Rules as rules
-use Rattle.stateful_loop.specs.Rules.{DoesMessage, Rule}
-use Rattle.stateful_loop.specs.declared.message.Action.TheVariants as action
-use Rattle.stateful_loop.specs.declared.message.Message.{Message}
-use Rattle.stateful_loop.specs.declared.message.Message.TheVariants as message
+use Rattle.stateful_loop_model.specs.Moments.{Moment, Executing, with_loop}
+use Rattle.stateful_loop_model.specs.Rules as rules
+use Rattle.stateful_loop_model.specs.Rules.{DoesMessage, Rule}
+use Rattle.stateful_loop_model.specs.declared.message.Action.TheVariants as action
+use Rattle.stateful_loop_model.specs.declared.message.Message.{Message}
+use Rattle.stateful_loop_model.specs.declared.message.Message.TheVariants as message
 use Rattle.stateful_loop_laws.specs.Execution.{Executes}
 use Rattle.stateful_loop_laws.specs.Tickets.{TicketsStand, TicketsBehind}
 use Rattle.stateful_loop_laws.proofs.tickets.Grounded.{IsGrounded, grounded}

@@ -14,10 +14,10 @@ use Rattle.stateful_exec_model.specs.Workings.{Workings}
 use Rattle.stateful_exec_tables.specs.declared.request.Request.{Request}
 use Rattle.stateful_exec_laws.specs.Setting.{setting}
 use Rattle.stateful_exec_laws.proofs.pauses.Passing.{PassesBy, PassesBy-acquires}
-use Rattle.stateful_loop.specs.Moments.{Moment, inner, with_inner, with_loop}
-use Rattle.stateful_loop.specs.Rules.{Schedules, acknowledged}
-use Rattle.stateful_loop.specs.declared.message.Action.TheVariants as action
-use Rattle.stateful_loop.specs.declared.message.Message.TheVariants as message
+use Rattle.stateful_loop_model.specs.Moments.{Moment, inner, with_inner, with_loop}
+use Rattle.stateful_loop_model.specs.Rules.{Schedules, acknowledged}
+use Rattle.stateful_loop_model.specs.declared.message.Action.TheVariants as action
+use Rattle.stateful_loop_model.specs.declared.message.Message.TheVariants as message
 use Rattle.stateful_loop_laws.specs.Tickets.{IsReceiptAt, TicketsBehind}
 use Rattle.stateful_loop_laws.proofs.tickets.Carrying.{NoJob, handed_once, spares_passing, spares_marks}
 use Rattle.stateful_loop_laws.proofs.tickets.Grounded.{IsGrounded}

@@ -6,11 +6,11 @@ use Rattle.stateful_base.specs.Names.{Named}
 use Rattle.stateful_history.specs.Past.{Past, after}
 use Rattle.stateful_history.specs.declared.mark.Mark.{Mark}
 use Rattle.stateful_exec_model.specs.Workings.{Workings}
-use Rattle.stateful_loop.specs.Moments.{Moment, with_loop}
-use Rattle.stateful_loop.specs.Rules.{Takes, of_action, of_message}
-use Rattle.stateful_loop.specs.declared.message.Action.{Action}
-use Rattle.stateful_loop.specs.declared.message.Action.TheVariants as action
-use Rattle.stateful_loop.specs.declared.message.Message.{Message}
+use Rattle.stateful_loop_model.specs.Moments.{Moment, with_loop}
+use Rattle.stateful_loop_model.specs.Rules.{Takes, of_action, of_message}
+use Rattle.stateful_loop_model.specs.declared.message.Action.{Action}
+use Rattle.stateful_loop_model.specs.declared.message.Action.TheVariants as action
+use Rattle.stateful_loop_model.specs.declared.message.Message.{Message}
 use Rattle.stateful_loop_laws.specs.Tickets.{ticket_under, MessageStands, ActionStands, TicketsStand, TicketsBehind}
 use Rattle.stateful_loop_laws.proofs.tickets.Times.{AreApart, apart_fewer, apart_others}
 use Rattle.stateful_loop_laws.proofs.tickets.Waiting.{WaitsAt, waiting, waiting_at, times-waiting}

@@ -28,8 +28,8 @@ use Rattle.stateful_exec_model.specs.declared.front.Front.{Front}
 use Rattle.stateful_exec_tables.specs.declared.state.Tables.{Tables}
 use Rattle.stateful_exec_laws.specs.Setting.{setting}
 use Rattle.stateful_exec_laws.proofs.pauses.PassingRules.{PassesBy-fetched, PassesBy-steps}
-use Rattle.stateful_loop.specs.Intake.{Counts, Flushes, TurnsJob, build, hook, run}
-use Rattle.stateful_loop.specs.Moments.{Moment, inner, with_inner, with_loop}
+use Rattle.stateful_loop_model.specs.Intake.{Counts, Flushes, TurnsJob, build, hook, run}
+use Rattle.stateful_loop_model.specs.Moments.{Moment, inner, with_inner, with_loop}
 use Rattle.stateful_loop_laws.specs.Execution.{Executes}
 use Rattle.stateful_loop_laws.specs.Tickets.{TicketsStand, TicketsBehind}
 use Rattle.stateful_loop_laws.proofs.tickets.Carrying.{NoJob, KeepsWaiting, still_marked, still_passing}

@@ -16,12 +16,12 @@ use Rattle.stateful_exec_tables.specs.declared.state.Tables.{Tables}
 use Rattle.stateful_exec_laws.specs.Building.{IsElsewhere}
 use Rattle.stateful_exec_laws.specs.Requesting.{brought_by}
 use Rattle.stateful_exec_laws.specs.Setting.{setting}
-use Rattle.stateful_loop.specs.Moments.{Moment}
-use Rattle.stateful_loop.specs.declared.message.Action.{Action}
-use Rattle.stateful_loop.specs.declared.message.Action.TheVariants as action
-use Rattle.stateful_loop.specs.declared.message.Message.{Message}
-use Rattle.stateful_loop.specs.declared.message.Message.TheVariants.{Request, Finalized, Subscribe}
-use Rattle.stateful_loop.specs.declared.tables.Finalizing.{Finalizing}
+use Rattle.stateful_loop_model.specs.Moments.{Moment}
+use Rattle.stateful_loop_model.specs.declared.message.Action.{Action}
+use Rattle.stateful_loop_model.specs.declared.message.Action.TheVariants as action
+use Rattle.stateful_loop_model.specs.declared.message.Message.{Message}
+use Rattle.stateful_loop_model.specs.declared.message.Message.TheVariants.{Request, Finalized, Subscribe}
+use Rattle.stateful_loop_model.specs.declared.tables.Finalizing.{Finalizing}
 use Rattle.stateful_loop_laws.specs.Tickets.{ticket_in, ticket_under, ticket_in_front, IsReceiptAt, MessageStands, ActionStands, TicketsStand}
 use Rattle.stateful_loop_laws.proofs.tickets.Saying.{SaysSame}
 use Rattle.stateful_loop_laws.proofs.tickets.Times.{times, AreApart, times-append, apart_fewer, apart_others, apart_rest}

@@ -33,9 +33,9 @@ use Rattle.stateful_exec_laws.proofs.requests.SamePast.{IsSamePast}
 use Rattle.stateful_exec_laws.proofs.ways.Begun.{WaysStand-began}
 use Rattle.stateful_exec_laws.proofs.ways.Kept.{WaysStand-same}
 use Rattle.stateful_exec_laws.proofs.ways.Moved.{WaysStand-moved}
-use Rattle.stateful_loop.specs.Moments.{Moment}
-use Rattle.stateful_loop.specs.Rules.{HasStates, BeginsFinalization, AppliesBlock}
-use Rattle.stateful_loop.specs.declared.tables.Finalizing as loop
+use Rattle.stateful_loop_model.specs.Moments.{Moment}
+use Rattle.stateful_loop_model.specs.Rules.{HasStates, BeginsFinalization, AppliesBlock}
+use Rattle.stateful_loop_model.specs.declared.tables.Finalizing as loop
 use Rattle.stateful_loop_laws.specs.Execution.{IsFree, IsPausedFor, IsPlaced, Executes}
 use Rattle.stateful_loop_laws.specs.Ways.{ParksNone}
 use Rattle.stateful_loop_laws.proofs.execution.Applies.{IsOverBegun, over_begun}

@@ -26,7 +26,7 @@ use Rattle.stateful_exec_laws.specs.Requesting.{first_of}
 use Rattle.stateful_exec_laws.specs.Setting.{setting}
 use Rattle.stateful_exec_laws.specs.Ways.{IsUnsettled, IsOnOpenWay, WaysStand}
 use Rattle.stateful_exec_laws.proofs.earned.Carried.{IsMild, as_before}
-use Rattle.stateful_loop.specs.Moments.{Moment}
+use Rattle.stateful_loop_model.specs.Moments.{Moment}
 use Rattle.stateful_loop_laws.specs.Ways.{ParksNone, WaysKept, WaysBehind}
 
 module _ {B C I : Type 0} (header : Header B) where

@@ -27,10 +27,10 @@ use Rattle.stateful_exec_laws.specs.Setting.{setting}
 use Rattle.stateful_exec_laws.specs.Ways.{IsOnOpenWay, WaysStand}
 use Rattle.stateful_exec_laws.specs.Storing.{IsStoredNow}
 use Rattle.stateful_exec_laws.proofs.requests.SamePast.{IsSamePast}
-use Rattle.stateful_loop.specs.Moments.{Moment}
-use Rattle.stateful_loop.specs.Opening.{Opens}
-use Rattle.stateful_loop.specs.Rules.{IsFinalizing, HasStates, BeginsFinalization, AppliesBlock, EndsFinalization}
-use Rattle.stateful_loop.specs.declared.tables.Finalizing as loop
+use Rattle.stateful_loop_model.specs.Moments.{Moment}
+use Rattle.stateful_loop_model.specs.Opening.{Opens}
+use Rattle.stateful_loop_model.specs.Rules.{IsFinalizing, HasStates, BeginsFinalization, AppliesBlock, EndsFinalization}
+use Rattle.stateful_loop_model.specs.declared.tables.Finalizing as loop
 use Rattle.stateful_loop_laws.specs.Execution.{IsFree, HasMovedOn, IsPlaced, Executes, ExecutesBehind}
 use Rattle.stateful_loop_laws.specs.Ways.{ParksNone, StoresAnchor, WaysKept, WaysBehind}
 use Rattle.stateful_loop_laws.proofs.execution.Applies.{IsOverBegun, over_begun}

@@ -24,10 +24,10 @@ use Rattle.stateful_exec_tables.specs.declared.tables.Phase.TheVariants.{Parked}
 use Rattle.stateful_exec_tables.specs.declared.tables.Requested.{Requested}
 use Rattle.stateful_exec_laws.specs.Ways.{IsOnOpenWay}
 use Rattle.stateful_exec_laws.proofs.earned.Carried.{IsMild}
-use Rattle.stateful_loop.specs.Intake as intake
-use Rattle.stateful_loop.specs.Moments.{Moment}
-use Rattle.stateful_loop.specs.Rules.{Builds, starts, declines, Collects, RunsFinalized, ObservesBlock}
-use Rattle.stateful_loop.specs.declared.tables.Finalizing.{Finalizing}
+use Rattle.stateful_loop_model.specs.Intake as intake
+use Rattle.stateful_loop_model.specs.Moments.{Moment}
+use Rattle.stateful_loop_model.specs.Rules.{Builds, starts, declines, Collects, RunsFinalized, ObservesBlock}
+use Rattle.stateful_loop_model.specs.declared.tables.Finalizing.{Finalizing}
 use Rattle.stateful_loop_laws.specs.Ways.{WaysKept, WaysBehind}
 use Rattle.stateful_loop_laws.proofs.ways.Beside.{WaysKept-as, WaysKept-came, WaysBehind-mild}
 

@@ -25,9 +25,9 @@ use Rattle.stateful_exec_model.specs.declared.building.Building.{Building}
 use Rattle.stateful_exec_model.specs.declared.front.Front.{Front}
 use Rattle.stateful_exec_tables.specs.declared.pause.Pause.TheVariants.{Free}
 use Rattle.stateful_exec_laws.proofs.earned.Carried.{IsMild}
-use Rattle.stateful_loop.specs.Intake.{Counts, Builds, TurnsJob}
-use Rattle.stateful_loop.specs.Intake as intake
-use Rattle.stateful_loop.specs.Moments.{Moment, inner, with_inner}
+use Rattle.stateful_loop_model.specs.Intake.{Counts, Builds, TurnsJob}
+use Rattle.stateful_loop_model.specs.Intake as intake
+use Rattle.stateful_loop_model.specs.Moments.{Moment, inner, with_inner}
 use Rattle.stateful_loop_laws.specs.Execution.{IsFree, IsPlaced, Executes}
 use Rattle.stateful_loop_laws.specs.Ways.{WaysKept, WaysBehind}
 use Rattle.stateful_loop_laws.proofs.execution.BuildMade.{MakesOfBuild, MakesOfBuild-turns}

@@ -15,15 +15,15 @@ use Rattle.stateful_history.specs.declared.mark.Mark.TheVariants.{BarrierBegun, 
 use Rattle.stateful_exec_model.specs.Workings.{Workings}
 use Rattle.stateful_exec_laws.proofs.earned.Carried.{IsMild}
 use Rattle.stateful_exec_laws.specs.Storing.{IsStoredNow}
-use Rattle.stateful_loop.specs.Moments.{Moment, Executing, with_loop}
-use Rattle.stateful_loop.specs.Rules as rules
-use Rattle.stateful_loop.specs.Rules.{acknowledged, BeginsBarrier, CompletesBarrier, Takes, DoesMessage, Rule}
-use Rattle.stateful_loop.specs.Sound.{Sound, FrontAgrees}
-use Rattle.stateful_loop.specs.declared.barriers.Active.{Active}
-use Rattle.stateful_loop.specs.declared.message.Action.TheVariants as action
-use Rattle.stateful_loop.specs.declared.message.Message.{Message}
-use Rattle.stateful_loop.specs.declared.message.Message.TheVariants as message
-use Rattle.stateful_loop.specs.declared.tables.Finalizing.{Finalizing}
+use Rattle.stateful_loop_model.specs.Moments.{Moment, Executing, with_loop}
+use Rattle.stateful_loop_model.specs.Rules as rules
+use Rattle.stateful_loop_model.specs.Rules.{acknowledged, BeginsBarrier, CompletesBarrier, Takes, DoesMessage, Rule}
+use Rattle.stateful_loop_model.specs.Sound.{Sound, FrontAgrees}
+use Rattle.stateful_loop_model.specs.declared.barriers.Active.{Active}
+use Rattle.stateful_loop_model.specs.declared.message.Action.TheVariants as action
+use Rattle.stateful_loop_model.specs.declared.message.Message.{Message}
+use Rattle.stateful_loop_model.specs.declared.message.Message.TheVariants as message
+use Rattle.stateful_loop_model.specs.declared.tables.Finalizing.{Finalizing}
 use Rattle.stateful_loop_laws.specs.Execution.{Executes}
 use Rattle.stateful_loop_laws.specs.Tickets.{MessageStands, TicketsStand}
 use Rattle.stateful_loop_laws.specs.Ways.{WaysKept, WaysBehind}

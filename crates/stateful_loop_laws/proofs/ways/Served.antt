@@ -31,9 +31,9 @@ use Rattle.stateful_exec_laws.proofs.earned.Left.{LeavesBehind, LeavesBehind-acq
 use Rattle.stateful_exec_laws.proofs.requests.FetchStands.{fetched-IsCalm, IsInHand-fetched, acquired-fetched}
 use Rattle.stateful_exec_laws.proofs.ways.Acquired.{WaysStand-acquires}
 use Rattle.stateful_exec_laws.proofs.ways.Kept.{WaysStand-concludes, put_ways}
-use Rattle.stateful_loop.specs.Moments.{Moment, inner, with_inner}
-use Rattle.stateful_loop.specs.Rules.{Schedules}
-use Rattle.stateful_loop.specs.declared.message.Message.TheVariants as message
+use Rattle.stateful_loop_model.specs.Moments.{Moment, inner, with_inner}
+use Rattle.stateful_loop_model.specs.Rules.{Schedules}
+use Rattle.stateful_loop_model.specs.declared.message.Message.TheVariants as message
 use Rattle.stateful_loop_laws.specs.Execution.{IsFree, IsPlaced, Executes}
 use Rattle.stateful_loop_laws.specs.Tickets.{MessageStands}
 use Rattle.stateful_loop_laws.specs.Ways.{WaysKept, WaysBehind}

@@ -2,9 +2,9 @@ use Rattle.stateful_actor.proofs.Arms.{other_event}
 use Rattle.std.proofs.Common.{ap, sym, ◌∙◌, true≢false}
 use Rattle.std.proofs.lemmas.Result.{on_ok_weaker}
 use Rattle.stateful_exec_model.specs.Workings.{workings}
-use Rattle.stateful_loop.specs.Moments.{executing, moment}
-use Rattle.stateful_loop.specs.Noted.{unobserved}
-use Rattle.stateful_loop.proofs.Intakes.{on_err}
+use Rattle.stateful_loop_model.specs.Moments.{executing, moment}
+use Rattle.stateful_loop_model.specs.Noted.{unobserved}
+use Rattle.stateful_loop_model.proofs.Intakes.{on_err}
 use Rattle.stateful_actor.proofs.NotesOfEvents.{play_refused, restart_refused}
 use Rattle.stateful_actor.proofs.ResultsOfCalls.{if_err}
 use Rattle.stateful_actor.proofs.acting.act.Goals as goal

@@ -9,11 +9,11 @@ use Rattle.stateful_actor_laws.specs.Media.{MediaStand, StandsOnMedia}
 use Rattle.stateful_exec_cache.proofs.Cutting.{one_over, none_over}
 use Rattle.stateful_exec_model.specs.Workings.{workings}
 use Rattle.stateful_actor_register.proofs.Entries.{RegisterStands-none}
-use Rattle.stateful_loop.specs.Moments.{moment}
+use Rattle.stateful_loop_model.specs.Moments.{moment}
 use Rattle.stateful_actor_laws.specs.Stands.{Stands}
 use Rattle.stateful_actor_laws.proofs.steps.HistoryStands.{EachStands-constant, history-registered, history-leaves}
 use Rattle.stateful_actor_laws.proofs.complete.RefusedBehind.{leaves-behind}
-use Rattle.stateful_loop.specs.Noted.{noted_all, unobserved}
+use Rattle.stateful_loop_model.specs.Noted.{noted_all, unobserved}
 use Rattle.stateful_actor.specs.Faults.{tally}
 use Rattle.stateful_actor.specs.Notes.{applied_along, NotesRefused}
 use Rattle.stateful_actor.proofs.Adding.{event_at, events-push, longer-past, Steps-push}

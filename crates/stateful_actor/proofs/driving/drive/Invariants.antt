@@ -6,8 +6,8 @@ use Rattle.stateful_exec_laws.specs.Setting.{setting}
 use Rattle.stateful_loop_laws.specs.Media.{TargetsRise}
 use Rattle.stateful_actor_register.specs.Register.{RegisterStands}
 use Rattle.stateful_exec_model.specs.Workings.{workings}
-use Rattle.stateful_loop.specs.Moments.{moment}
-use Rattle.stateful_loop.specs.Noted.{noted_all}
+use Rattle.stateful_loop_model.specs.Moments.{moment}
+use Rattle.stateful_loop_model.specs.Noted.{noted_all}
 use Rattle.stateful_actor_laws.specs.Entering.{Steps}
 use Rattle.stateful_actor.specs.Faults.{tally, HasNotFallen}
 use Rattle.stateful_actor.specs.Notes.{HasObserved, applied_along}

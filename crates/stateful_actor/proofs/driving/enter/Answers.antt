@@ -1,9 +1,9 @@
 use Rattle.std.proofs.Common.{rules, ◌≡◌, [], Err, ◌∙◌, refl, ap}
 use Rattle.stateful_history.specs.Past.{after_all}
 use Rattle.stateful_exec_model.specs.Workings.{workings}
-use Rattle.stateful_loop.proofs.Handing.{converted, err_holds}
-use Rattle.stateful_loop.specs.Moments.{moment}
-use Rattle.stateful_loop.specs.declared.error.StepError.TheVariants.{OutOfMemory}
+use Rattle.stateful_loop_model.proofs.Handing.{converted, err_holds}
+use Rattle.stateful_loop_model.specs.Moments.{moment}
+use Rattle.stateful_loop_model.specs.declared.error.StepError.TheVariants.{OutOfMemory}
 use Rattle.stateful_actor_laws.specs.Stands.{StandsAsWell}
 use Rattle.stateful_actor_laws.proofs.steps.LeftFurther.{unmoved-further}
 use Rattle.stateful_actor.proofs.Adding.{registered-longer, longer-past, added}

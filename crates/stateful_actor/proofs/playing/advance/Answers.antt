@@ -1,13 +1,13 @@
 use Rattle.std.proofs.Common.{refl}
 use Rattle.std.proofs.lemmas.Result.{on_ok_weaker}
 use Rattle.stateful_exec_model.specs.Workings.{workings}
-use Rattle.stateful_loop.specs.Moments.{executing, moment}
-use Rattle.stateful_loop.proofs.Intakes.{on_err}
-use Rattle.stateful_loop.proofs.SoundingIntake.{taken_in_sound}
-use Rattle.stateful_loop.proofs.Handing.{err_holds, converted}
+use Rattle.stateful_loop_model.specs.Moments.{executing, moment}
+use Rattle.stateful_loop_model.proofs.Intakes.{on_err}
+use Rattle.stateful_loop_model.proofs.SoundingIntake.{taken_in_sound}
+use Rattle.stateful_loop_model.proofs.Handing.{err_holds, converted}
 use Rattle.stateful_actor_laws.specs.Left.{taking, going as leaves_going}
 use Rattle.stateful_actor.specs.Faults.{going}
-use Rattle.stateful_loop.proofs.NotesFollowing.{error_is, both_ok, NotesFollow-then}
+use Rattle.stateful_loop_model.proofs.NotesFollowing.{error_is, both_ok, NotesFollow-then}
 use Rattle.stateful_actor.proofs.NotesOfEvents.{taken_follow, taken_observed, taken_reached}
 use Rattle.stateful_actor.specs.Notes.{taking as notes_taking}
 use Rattle.stateful_actor.proofs.playing.advance.Goals as goal

@@ -1,15 +1,15 @@
 use Rattle.std.proofs.Common.{inl, inr, refl, arith, ap}
 use Rattle.stateful_exec_model.specs.Workings.{workings}
-use Rattle.stateful_loop.specs.Left.{keeps}
-use Rattle.stateful_loop.specs.Moments.{executing, moment}
-use Rattle.stateful_loop.proofs.Handing.{converted, err_holds}
-use Rattle.stateful_loop.proofs.Leaving.{keeps_same}
-use Rattle.stateful_loop.proofs.SoundingOpenings.{cleared_sound}
+use Rattle.stateful_loop_model.specs.Left.{keeps}
+use Rattle.stateful_loop_model.specs.Moments.{executing, moment}
+use Rattle.stateful_loop_model.proofs.Handing.{converted, err_holds}
+use Rattle.stateful_loop_model.proofs.Leaving.{keeps_same}
+use Rattle.stateful_loop_model.proofs.SoundingOpenings.{cleared_sound}
 use Rattle.stateful_actor_laws.specs.Left.{going}
 use Rattle.stateful_actor.proofs.OtherErrors.{play_other}
 use Rattle.stateful_actor.proofs.NotesOfEvents.{ends_none, follow_along, NotesAlong-further, NotesAlong-same}
-use Rattle.stateful_loop.proofs.AppliedMarks.{AppliesNone-made, AppliesNone-then}
-use Rattle.stateful_loop.specs.Noted.{unobserved}
+use Rattle.stateful_loop_model.proofs.AppliedMarks.{AppliesNone-made, AppliesNone-then}
+use Rattle.stateful_loop_model.specs.Noted.{unobserved}
 use Rattle.stateful_actor.proofs.playing.play.Goals as goal
 
 pub returns-in_err-advance-clause-other : goal.returns-in_err-advance-clause-other

@@ -1,10 +1,10 @@
 use Rattle.std.proofs.Common.{[], inr, arith, refl, ap, ◌∙◌}
 use Rattle.stateful_exec_model.specs.Workings.{workings}
-use Rattle.stateful_loop.specs.Moments.{executing, moment}
-use Rattle.stateful_loop.proofs.Handing.{err_holds}
-use Rattle.stateful_loop.proofs.SoundingOpenings.{opens_sound}
+use Rattle.stateful_loop_model.specs.Moments.{executing, moment}
+use Rattle.stateful_loop_model.proofs.Handing.{err_holds}
+use Rattle.stateful_loop_model.proofs.SoundingOpenings.{opens_sound}
 use Rattle.stateful_actor.proofs.NotesOfEvents.{ends_none, NotesAlong-none}
-use Rattle.stateful_loop.proofs.AppliedMarks.{AppliesNone-made, AppliesNone-then}
+use Rattle.stateful_loop_model.proofs.AppliedMarks.{AppliesNone-made, AppliesNone-then}
 use Rattle.stateful_actor.proofs.restarting.restart.Goals as goal
 
 pub returns-in_err-open-clause-numbers : goal.returns-in_err-open-clause-numbers

@@ -1,14 +1,14 @@
 use Rattle.std.proofs.Common.{◌≡◌, Bool, refl, sym, subst, arith}
 use Rattle.stateful_exec_model.specs.Workings.{workings}
-use Rattle.stateful_loop.specs.Moments.{Moment, executing, moment}
-use Rattle.stateful_loop.specs.Rules.{none, further, Along, Goes, Quiet}
-use Rattle.stateful_loop.specs.Sound.{Sound}
-use Rattle.stateful_loop.proofs.Falling.{falls}
-use Rattle.stateful_loop.proofs.Handing.{converted, err_holds}
-use Rattle.stateful_loop.proofs.Sounding.{rule_sound}
+use Rattle.stateful_loop_model.specs.Moments.{Moment, executing, moment}
+use Rattle.stateful_loop_model.specs.Rules.{none, further, Along, Goes, Quiet}
+use Rattle.stateful_loop_model.specs.Sound.{Sound}
+use Rattle.stateful_loop_model.proofs.Falling.{falls}
+use Rattle.stateful_loop_model.proofs.Handing.{converted, err_holds}
+use Rattle.stateful_loop_model.proofs.Sounding.{rule_sound}
 use Rattle.stateful_actor.specs.Faults.{tally}
 use Rattle.stateful_actor.proofs.Counts.{HasNotFallen-itself, HasNotFallen-further}
-use Rattle.stateful_loop.proofs.NotesFollowing.{NotesFollow-same, NotesFollow-then}
+use Rattle.stateful_loop_model.proofs.NotesFollowing.{NotesFollow-same, NotesFollow-then}
 use Rattle.stateful_actor.proofs.NotesOfEvents.{follow_reached}
 use Rattle.stateful_actor.proofs.settling.settle.Goals as goal
 

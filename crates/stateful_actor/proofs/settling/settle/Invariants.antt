@@ -1,12 +1,12 @@
 use Rattle.std.proofs.Common.{◌≤◌}
 use Rattle.stateful_exec_tables.specs.Tables.{Rises}
 use Rattle.stateful_exec_model.specs.Workings.{workings}
-use Rattle.stateful_loop.specs.Moments.{executing, moment}
-use Rattle.stateful_loop.specs.Rules.{Along}
-use Rattle.stateful_loop.specs.Sound.{Sound}
-use Rattle.stateful_loop.proofs.Falling.{weight}
+use Rattle.stateful_loop_model.specs.Moments.{executing, moment}
+use Rattle.stateful_loop_model.specs.Rules.{Along}
+use Rattle.stateful_loop_model.specs.Sound.{Sound}
+use Rattle.stateful_loop_model.proofs.Falling.{weight}
 use Rattle.stateful_actor.specs.Faults.{tally, HasNotFallen}
-use Rattle.stateful_loop.specs.Noted.{NotesFollow}
+use Rattle.stateful_loop_model.specs.Noted.{NotesFollow}
 use Rattle.stateful_actor.proofs.settling.settle.Given as goal
 
 abbrev pub invariant-rules : goal.invariant-rules

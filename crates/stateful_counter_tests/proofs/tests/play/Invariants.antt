@@ -1,6 +1,6 @@
 use Rattle.std.proofs.Common.{[]}
 use Rattle.stateful_exec_model.specs.Workings.{workings}
-use Rattle.stateful_loop.specs.Moments.{moment}
+use Rattle.stateful_loop_model.specs.Moments.{moment}
 use Rattle.stateful_actor_laws.specs.Machine.{IsSafe}
 use Rattle.stateful_counter_tests.proofs.tests.play.Given as goal
 

@@ -2,15 +2,15 @@ use Rattle.std.proofs.Common.{◌≡◌, rules, Some, None, IsSome, inl, refl, s
 use Rattle.std.proofs.lemmas.Result.{MatchResult-weaker}
 use Rattle.stateful_base.specs.Causes.{Rose}
 use Rattle.stateful_exec_model.specs.Workings.{workings}
-use Rattle.stateful_loop.specs.Causes.{FaultsRule}
-use Rattle.stateful_loop.specs.Moments.{Moment, executing, moment}
-use Rattle.stateful_loop.specs.Rules.{Goes}
-use Rattle.stateful_loop.specs.Rules.Rule.{collects}
-use Rattle.stateful_loop.proofs.Collected.{earlier, still_up, front_is, without_front, same_count}
-use Rattle.stateful_loop.proofs.Handing.{converted}
-use Rattle.stateful_loop.proofs.Intakes.{on_ok}
-use Rattle.stateful_loop.proofs.NotesFollowing.{NotesFollow-same, NotesFollow-earlier, NotesMayFollow-earlier, stay_refused, stay_follow}
-use Rattle.stateful_loop.proofs.Observing.{none_isnt}
+use Rattle.stateful_loop_model.specs.Causes.{FaultsRule}
+use Rattle.stateful_loop_model.specs.Moments.{Moment, executing, moment}
+use Rattle.stateful_loop_model.specs.Rules.{Goes}
+use Rattle.stateful_loop_model.specs.Rules.Rule.{collects}
+use Rattle.stateful_loop_model.proofs.Collected.{earlier, still_up, front_is, without_front, same_count}
+use Rattle.stateful_loop_model.proofs.Handing.{converted}
+use Rattle.stateful_loop_model.proofs.Intakes.{on_ok}
+use Rattle.stateful_loop_model.proofs.NotesFollowing.{NotesFollow-same, NotesFollow-earlier, NotesMayFollow-earlier, stay_refused, stay_follow}
+use Rattle.stateful_loop_model.proofs.Observing.{none_isnt}
 use Rattle.stateful_loop.proofs.going.go_on.Goals as goal
 
 pub returns-then-branch-clause-ok : goal.returns-then-branch-clause-ok

@@ -1,9 +1,9 @@
 use Rattle.std.proofs.Common.{rules}
 use Rattle.stateful_exec_model.specs.Workings.{workings}
-use Rattle.stateful_loop.specs.Moments.{executing}
-use Rattle.stateful_loop.specs.Rules.Rule.{begins}
-use Rattle.stateful_loop.proofs.Idles.{breaks_barrier, completes_barrier}
-use Rattle.stateful_loop.proofs.Rooms.{has_room}
+use Rattle.stateful_loop_model.specs.Moments.{executing}
+use Rattle.stateful_loop_model.specs.Rules.Rule.{begins}
+use Rattle.stateful_loop_model.proofs.Idles.{breaks_barrier, completes_barrier}
+use Rattle.stateful_loop_model.proofs.Rooms.{has_room}
 use Rattle.stateful_loop.proofs.going.go_on_idle.Goals as goal
 
 pub returns-in-Some-clause-ok : goal.returns-in-Some-clause-ok

@@ -1,10 +1,10 @@
 use Rattle.std.proofs.Common.{Contains, sym, ◌∙◌, refl, subst, arith}
-use Rattle.stateful_loop.specs.Intake.{enters, cancels, fetched, turns, flushes, stops, memory, fetching, flushing}
-use Rattle.stateful_loop.specs.Moments.{executing}
-use Rattle.stateful_loop.proofs.Intakes.{on_ok, on_err, ok_none, err_to, within_awaited, token_awaited, idles}
-use Rattle.stateful_loop.proofs.Handing.{err_holds}
-use Rattle.stateful_loop.proofs.Leaving.{keeps_same}
-use Rattle.stateful_loop.proofs.NotesFollowing.{not_by_memory}
+use Rattle.stateful_loop_model.specs.Intake.{enters, cancels, fetched, turns, flushes, stops, memory, fetching, flushing}
+use Rattle.stateful_loop_model.specs.Moments.{executing}
+use Rattle.stateful_loop_model.proofs.Intakes.{on_ok, on_err, ok_none, err_to, within_awaited, token_awaited, idles}
+use Rattle.stateful_loop_model.proofs.Handing.{err_holds}
+use Rattle.stateful_loop_model.proofs.Leaving.{keeps_same}
+use Rattle.stateful_loop_model.proofs.NotesFollowing.{not_by_memory}
 use Rattle.stateful_loop.proofs.intake.take_in.Goals as goal
 
 pub returns-in_err-answer-in-Fetched-clause-fault : goal.returns-in_err-answer-in-Fetched-clause-fault

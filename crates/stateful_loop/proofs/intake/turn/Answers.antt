@@ -1,9 +1,9 @@
 use Rattle.std.proofs.Common.{ap, refl}
 use Rattle.stateful_exec_model.specs.Workings.{workings}
-use Rattle.stateful_loop.specs.Intake.{build as by_build, hook as by_hook, run as by_run, building, hooking, running}
-use Rattle.stateful_loop.specs.Moments.{executing, moment}
-use Rattle.stateful_loop.proofs.Intakes.{err_to}
-use Rattle.stateful_loop.proofs.NotesFollowing.{not_by_memory}
+use Rattle.stateful_loop_model.specs.Intake.{build as by_build, hook as by_hook, run as by_run, building, hooking, running}
+use Rattle.stateful_loop_model.specs.Moments.{executing, moment}
+use Rattle.stateful_loop_model.proofs.Intakes.{err_to}
+use Rattle.stateful_loop_model.proofs.NotesFollowing.{not_by_memory}
 use Rattle.stateful_loop.proofs.intake.turn.Goals as goal
 
 pub returns-in_err-turn_build-clause-fault : goal.returns-in_err-turn_build-clause-fault

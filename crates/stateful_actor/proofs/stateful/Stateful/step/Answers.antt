@@ -1,9 +1,9 @@
 use Rattle.std.proofs.Common.{[], refl, true, sym, ap, ◌∙◌, ⊎_elim, true≢false}
 use Rattle.stateful_exec_model.specs.Workings.{workings}
-use Rattle.stateful_loop.proofs.Handing.{converted}
-use Rattle.stateful_loop.proofs.SoundingKept.{Sound-kept}
-use Rattle.stateful_loop.specs.Moments.{executing, moment}
-use Rattle.stateful_loop.specs.declared.error.StepError.TheVariants.{OutOfMemory}
+use Rattle.stateful_loop_model.proofs.Handing.{converted}
+use Rattle.stateful_loop_model.proofs.SoundingKept.{Sound-kept}
+use Rattle.stateful_loop_model.specs.Moments.{executing, moment}
+use Rattle.stateful_loop_model.specs.declared.error.StepError.TheVariants.{OutOfMemory}
 use Rattle.stateful_actor_laws.specs.Stands.{StandsAsWell}
 use Rattle.stateful_actor_laws.specs.Machine.{is_restart}
 use Rattle.stateful_actor_laws.proofs.steps.LeftFurther.{step-leaves, leaves-further}
