@@ -1,13 +1,4 @@
-pub mod Deciding
-pub mod Adding
-pub mod Counts
-pub mod Arms
-pub mod OtherErrors
-pub mod ResultsOfCalls
-pub mod Reopening
-pub mod Lawfully
-pub mod Working
 pub mod MediaKept
 pub mod MediaLonger
-pub mod NotesOfEvents
 pub mod NotesLonger
+pub mod Adding

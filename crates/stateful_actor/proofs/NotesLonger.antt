@@ -7,7 +7,7 @@ use Rattle.stateful_history.specs.declared.event.Event.{Event}
 use Rattle.stateful_history.specs.declared.mark.Mark.{Mark}
 use Rattle.stateful_loop_model.specs.Noted.{noted_all}
 use Rattle.stateful_loop_model.proofs.NotesFollowing.{noted_all-append}
-use Rattle.stateful_actor.specs.Notes.{applied_along}
+use Rattle.stateful_actor_step.specs.Notes.{applied_along}
 
 module _ {B C I : Type 0} where
   -- the blocks that were applied over a history and one entry more

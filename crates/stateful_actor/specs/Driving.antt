@@ -21,7 +21,7 @@ use Rattle.stateful_loop_model.specs.Moments.{Moment}
 use Rattle.stateful_loop_model.specs.declared.error.StepError.{StepError}
 use Rattle.stateful_loop_model.specs.declared.error.StepError.TheVariants.{BadEvent, Failed}
 use Rattle.stateful_loop_model.specs.declared.error.StepError.TheVariants.{OutOfMemory}
-use Rattle.stateful_actor.specs.Faults.{Tally, HasNotFallen, IsCause}
+use Rattle.stateful_actor_step.specs.Faults.{Tally, HasNotFallen, IsCause}
 use Rattle.stateful_actor_laws.specs.Left.{LeavesPlay, LeavesBehind}
 use Rattle.stateful_actor_laws.specs.Machine.{numbered, is_restart}
 use Rattle.stateful_actor_laws.specs.Media.{behind_refusal, MediaStand, StandsOnMedia}

@@ -1,4 +1,1 @@
-pub mod Machine
-pub mod Faults
 pub mod Driving
-pub mod Notes

@@ -10,7 +10,7 @@ use Rattle.stateful_history.specs.Honest.{StoresHeights}
 use Rattle.stateful_history.specs.declared.entry.Entry.{Entry}
 use Rattle.stateful_loop_model.specs.Moments.{Moment}
 use Rattle.stateful_actor_laws.specs.Media.{MediaStand}
-use Rattle.stateful_actor.specs.Faults.{tally}
+use Rattle.stateful_actor_step.specs.Faults.{tally}
 use Rattle.stateful_actor.specs.declared.driving.Halted.{Halted}
 use Rattle.stateful_script.specs.Laws.{IsPlan}
 use Rattle.stateful_script.specs.declared.script.Script.{Script}

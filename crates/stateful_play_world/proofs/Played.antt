@@ -10,7 +10,7 @@ use Rattle.stateful_actor_register.specs.declared.register.Register.{Register}
 use Rattle.stateful_loop_model.specs.Moments.{Moment}
 use Rattle.stateful_actor_laws.specs.Machine.{IsNew}
 use Rattle.stateful_actor_laws.specs.Media.{IsAsAtStart, MediaStand}
-use Rattle.stateful_actor.specs.Faults.{Tally, tally}
+use Rattle.stateful_actor_step.specs.Faults.{Tally, tally}
 use Rattle.stateful_actor.specs.declared.driving.Halted.{Halted}
 use Rattle.stateful_script.specs.Laws.{IsPlan}
 use Rattle.stateful_script.specs.declared.script.Script.{Script}

@@ -9,7 +9,7 @@ use Rattle.stateful_loop_model.specs.Intake.{Counts}
 use Rattle.stateful_loop_model.specs.Moments.{Moment}
 use Rattle.stateful_loop_model.specs.declared.error.StepError.TheVariants.{BadEvent}
 use Rattle.stateful_actor.specs.Driving.{IsRefused, KeepsMediaAfter}
-use Rattle.stateful_actor.specs.Faults.{Tally}
+use Rattle.stateful_actor_step.specs.Faults.{Tally}
 use Rattle.stateful_actor.specs.declared.driving.Halted.{Halted}
 use Rattle.stateful_play_world.specs.Driven.{Left, IsHaltedBy, CameOf}
 

@@ -18,7 +18,7 @@ use Rattle.stateful_actor_laws.specs.Entering.{Steps}
 use Rattle.stateful_actor_laws.specs.Media.{MediaStand}
 use Rattle.stateful_actor_laws.specs.StepBehind.{EachStands, StandsAndHolds}
 use Rattle.stateful_actor.specs.Driving.{IsRefused, KeepsMediaAfter}
-use Rattle.stateful_actor.specs.Faults.{Tally}
+use Rattle.stateful_actor_step.specs.Faults.{Tally}
 use Rattle.stateful_actor.specs.declared.driving.Halted.{Halted}
 
 -- All events were taken in; or those before the one of a number, which was refused, and not for

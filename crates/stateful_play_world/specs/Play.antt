@@ -20,7 +20,7 @@ use Rattle.stateful_loop_model.specs.declared.tables.Processing.{Processing}
 use Rattle.stateful_actor_laws.specs.Machine.{IsNew}
 use Rattle.stateful_actor_laws.specs.Media.{MediaStand}
 use Rattle.stateful_actor_laws.specs.StepBehind.{EachStands}
-use Rattle.stateful_actor.specs.Faults.{tally}
+use Rattle.stateful_actor_step.specs.Faults.{tally}
 use Rattle.stateful_actor.specs.declared.driving.Halted.{Halted}
 use Rattle.stateful_script.specs.declared.script.Script.{Script}
 use Rattle.stateful_script_text.specs.declared.shown.Label.{Label}

@@ -3,7 +3,7 @@
 ghost use Rattle.std.specs.Prelude.{◌≡◌, ◌↔◌, [], IfOk, IsTrue};
 ghost use Rattle.stateful_loop_model.specs.Moments.{moment};
 ghost use Rattle.stateful_actor_laws.specs.Machine.{IsNew};
-ghost use Rattle.stateful_actor.specs.Faults.{tally};
+ghost use Rattle.stateful_actor_step.specs.Faults.{tally};
 ghost use Rattle.stateful_play_world.specs.Driven.{CameOf};
 
 use stateful_actor::{

@@ -14,14 +14,14 @@ use Rattle.stateful_actor_laws.specs.Stands.{Stands}
 use Rattle.stateful_actor_laws.proofs.steps.HistoryStands.{EachStands-constant, history-registered, history-leaves}
 use Rattle.stateful_actor_laws.proofs.complete.RefusedBehind.{leaves-behind}
 use Rattle.stateful_loop_model.specs.Noted.{noted_all, unobserved}
-use Rattle.stateful_actor.specs.Faults.{tally}
-use Rattle.stateful_actor.specs.Notes.{applied_along, NotesRefused}
+use Rattle.stateful_actor_step.specs.Faults.{tally}
+use Rattle.stateful_actor_step.specs.Notes.{applied_along, NotesRefused}
 use Rattle.stateful_actor.proofs.Adding.{event_at, events-push, longer-past, Steps-push}
-use Rattle.stateful_actor.proofs.Lawfully.{refused-outside}
+use Rattle.stateful_actor_step.proofs.Lawfully.{refused-outside}
 use Rattle.stateful_actor.proofs.MediaLonger.{media-longer, keeps-after}
 use Rattle.stateful_actor.proofs.NotesLonger.{notes-longer}
-use Rattle.stateful_actor.proofs.Working.{never, cause-not_failed}
-use Rattle.stateful_actor.proofs.Counts.{HasNotFallen-itself, HasNotFallen-further}
+use Rattle.stateful_actor_step.proofs.Working.{never, cause-not_failed}
+use Rattle.stateful_actor_step.proofs.Counts.{HasNotFallen-itself, HasNotFallen-further}
 use Rattle.stateful_actor.proofs.driving.drive.Goals as goal
 
 pub loop-event-init : goal.loop-event-init

@@ -9,8 +9,8 @@ use Rattle.stateful_exec_model.specs.Workings.{workings}
 use Rattle.stateful_loop_model.specs.Moments.{moment}
 use Rattle.stateful_loop_model.specs.Noted.{noted_all}
 use Rattle.stateful_actor_laws.specs.Entering.{Steps}
-use Rattle.stateful_actor.specs.Faults.{tally, HasNotFallen}
-use Rattle.stateful_actor.specs.Notes.{HasObserved, applied_along}
+use Rattle.stateful_actor_step.specs.Faults.{tally, HasNotFallen}
+use Rattle.stateful_actor_step.specs.Notes.{HasObserved, applied_along}
 use Rattle.stateful_actor_laws.specs.Machine.{IsSafe, numbered}
 use Rattle.stateful_actor_laws.specs.Media.{MediaStand}
 use Rattle.stateful_actor.proofs.driving.drive.Given as goal

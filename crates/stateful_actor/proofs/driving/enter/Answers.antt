@@ -8,8 +8,8 @@ use Rattle.stateful_actor_laws.specs.Stands.{StandsAsWell}
 use Rattle.stateful_actor_laws.proofs.steps.LeftFurther.{unmoved-further}
 use Rattle.stateful_actor.proofs.Adding.{registered-longer, longer-past, added}
 use Rattle.stateful_actor.proofs.MediaKept.{keeps-unchanged, keeps-left}
-use Rattle.stateful_actor.proofs.OtherErrors.{only_bad}
-use Rattle.stateful_actor.proofs.ResultsOfCalls.{on_err, if_err}
+use Rattle.stateful_actor_step.proofs.OtherErrors.{only_bad}
+use Rattle.stateful_actor_step.proofs.ResultsOfCalls.{on_err, if_err}
 use Rattle.stateful_actor.proofs.driving.enter.Goals as goal
 
 pub returns-clause-registers : goal.returns-clause-registers

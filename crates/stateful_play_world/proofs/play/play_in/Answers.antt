@@ -1,6 +1,6 @@
 use Rattle.std.proofs.Common.{ap, refl}
 use Rattle.std.proofs.Math.Path.{fun_ext}
-use Rattle.stateful_actor.specs.Faults.{tally}
+use Rattle.stateful_actor_step.specs.Faults.{tally}
 use Rattle.stateful_play_world.proofs.Played.{played}
 use Rattle.stateful_play_world.proofs.play.play_in.Goals as goal
 

@@ -1,0 +1,9 @@
+pub mod Deciding
+pub mod Counts
+pub mod Arms
+pub mod OtherErrors
+pub mod ResultsOfCalls
+pub mod Reopening
+pub mod Lawfully
+pub mod Working
+pub mod NotesOfEvents
