@@ -3,15 +3,15 @@ use Rattle.std.proofs.Common.{◌≡◌, ◌≢◌, ℕ, ◌⊎◌, inl, inr, Bo
 use Rattle.std.specs.Io.KnownBytes.{Appends}
 use Rattle.stateful_types.proofs.Known.{appends_none}
 use Rattle.stateful_actor.specs.declared.driving.Halted.{Halted}
-use Rattle.stateful_play.specs.declared.play.Played.{Played}
+use Rattle.stateful_play_bank.specs.declared.play.Played.{Played}
 use Rattle.stateful_play.specs.declared.status.Status.{Status}
 use Rattle.stateful_play.specs.declared.status.Status.TheVariants.{Done, Usage, ReadFault, WriteFault, NoMemory}
 use Rattle.stateful_play.specs.declared.status.Status.TheVariants as status
 use Rattle.stateful_script.specs.declared.script.Script.{Script}
 use Rattle.stateful_script_text.specs.declared.shown.Label.{Label}
 use Rattle.stateful_script_text.specs.declared.shown.Shown.{Shown}
-use Rattle.stateful_play.specs.Shown.{AreShown, text_of}
-use Rattle.stateful_play.specs.Play.{IsPlayOf}
+use Rattle.stateful_play_bank.specs.Shown.{AreShown, text_of}
+use Rattle.stateful_play_bank.specs.Play.{IsPlayOf}
 use Rattle.stateful_play.specs.Status.{Known, HoldsPrefix, HoldsPart, Writes, AsksFor, IsLoaded, IsPlayed, IsHaltedAt, status_by}
 
 -- nothing more is out

@@ -1,7 +1,1 @@
-pub mod Plain
-pub mod Pair
-pub mod Triple
-pub mod Database
-pub mod Shown
-pub mod Play
 pub mod Status

@@ -11,13 +11,13 @@ use Rattle.stateful_script.specs.declared.script.Script.{Script}
 use Rattle.stateful_script_text.specs.Transcript.{usage_line, script_line}
 use Rattle.stateful_script_text.specs.declared.shown.Label.{Label}
 use Rattle.stateful_script_text.specs.declared.shown.Shown.{Shown}
-use Rattle.stateful_play.specs.declared.play.Played.{Played}
+use Rattle.stateful_play_bank.specs.declared.play.Played.{Played}
 use Rattle.stateful_play.specs.declared.status.Status.{Status}
 use Rattle.stateful_play.specs.declared.status.Status.TheVariants as status
 use Rattle.stateful_play.specs.declared.top.Stop.{Stop}
 use Rattle.stateful_play.specs.declared.top.Stop.TheVariants as stop
-use Rattle.stateful_play.specs.Shown.{AreShown, text_of}
-use Rattle.stateful_play.specs.Play.{IsPlayOf}
+use Rattle.stateful_play_bank.specs.Shown.{AreShown, text_of}
+use Rattle.stateful_play_bank.specs.Play.{IsPlayOf}
 
 -- the words are the one word `play`
 unfoldable pub asks_play : {Z : Type 0} → List (String Z) → Bool

@@ -1,6 +1,6 @@
 //! How a run ended.
 
-use crate::play::Played;
+use stateful_play_bank::Played;
 
 /// How a run ended. The number that the program ends with is behind each.
 #[derive(Clone, Copy, Debug, PartialEq, Eq)]

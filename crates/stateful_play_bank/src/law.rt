@@ -1,6 +1,6 @@
 //! A law of what is shown of databases.
 
-ghost use Rattle.stateful_play.specs.Shown.{AreShownOnce};
+ghost use Rattle.stateful_play_bank.specs.Shown.{AreShownOnce};
 
 use stateful_db_any::entries_are_one;
 

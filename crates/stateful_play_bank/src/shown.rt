@@ -4,8 +4,8 @@ ghost use Rattle.std.specs.Prelude.{◌≡◌, ◌∷◌, [], IfOk};
 ghost use Rattle.stateful_bank_plain.specs.Blank.{member_of};
 ghost use Rattle.stateful_bank_logs.specs.Kept.{balances_member, amounts_member};
 ghost use Rattle.stateful_bank_triple.specs.Blank.{latest_member};
-ghost use Rattle.stateful_play.specs.Database.{whole_of, ShowsKeys, range_of, size_of};
-ghost use Rattle.stateful_play.specs.Shown.{AreShown};
+ghost use Rattle.stateful_play_bank.specs.Database.{whole_of, ShowsKeys, range_of, size_of};
+ghost use Rattle.stateful_play_bank.specs.Shown.{AreShown};
 
 use crate::play::Databases;
 use stateful_db::Held;

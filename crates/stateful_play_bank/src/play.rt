@@ -2,8 +2,8 @@
 
 ghost use Rattle.std.specs.Prelude.{◌≡◌, IfOk};
 ghost use Rattle.stateful_script.specs.Laws.{IsPlan};
-ghost use Rattle.stateful_play.specs.Play.{IsPlayIn, IsPlayOf};
-ghost use Rattle.stateful_play.specs.Shown.{AreShown};
+ghost use Rattle.stateful_play_bank.specs.Play.{IsPlayIn, IsPlayOf};
+ghost use Rattle.stateful_play_bank.specs.Shown.{AreShown};
 
 use crate::shown::shown;
 use stateful_actor::Halted;

@@ -1,5 +1,0 @@
-use Rattle.stateful_play.proofs.Once.{shown_once}
-use Rattle.stateful_play.proofs.law.databases_are_shown_once.Goals as goal
-
-pub returns : goal.returns
-returns c = shown_once c.entries_are_one.ensures
