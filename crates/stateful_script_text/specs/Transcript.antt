@@ -71,7 +71,7 @@ transcript height_of labels entries databases ending =
 
 -- what is written where the program is called with other words
 abbrev pub usage_line : List ℕ
-usage_line = line (codes "usage: stateful_prog play | make N") []
+usage_line = line (codes "usage: stateful_prog play") []
 
 -- what is written where a script is refused at this line
 abbrev pub script_line : ℕ → List ℕ

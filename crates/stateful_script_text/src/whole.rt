@@ -194,7 +194,7 @@ pub fn usage_line(alloc: Global) -> Result<Vec<u8>, OutOfMemory>
     ensures { IfOk result (λ text. text.items ≡ usage_line) }
 {
     let mut text = Vec::new(alloc);
-    push(&mut text, b"usage: stateful_prog play | make N\n")?;
+    push(&mut text, b"usage: stateful_prog play\n")?;
     Ok(text)
 }
 

@@ -456,7 +456,7 @@ fn lines_in_place_of_a_history(rt: HostRuntime) -> Result<(), Fail> {
     let usage = usage_line(rt.alloc())?;
     assert_eq!(rt;
         usage.as_slice(),
-        b"usage: stateful_prog play | make N\n".as_slice()
+        b"usage: stateful_prog play\n".as_slice()
     );
     let script = script_line(rt.alloc(), 2)?;
     assert_eq!(rt; script.as_slice(), b"script 2\n".as_slice());

@@ -41,7 +41,7 @@ fn other<'a>(name: &'a str, words: &'a [&'a str]) -> Call<'a> {
         reads: &[],
         writes: &[],
         ended: without_play(Status::Usage),
-        text: b"usage: stateful_prog play | make N\n",
+        text: b"usage: stateful_prog play\n",
     }
 }
 
