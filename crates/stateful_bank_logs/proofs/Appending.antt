@@ -7,9 +7,9 @@ use Rattle.stateful_db.specs.declared.batch.BatchError.{BatchError}
 use Rattle.stateful_db.specs.declared.batch.BatchError.TheVariants.{StaleRead, OutOfMemory, LocationOutOfBounds, BelowInactivityFloor}
 use Rattle.stateful_bank.specs.declared.op.Op.{Op}
 use Rattle.stateful_bank.specs.Op.{amount_of}
-use Rattle.stateful_db_keyless.specs.declared.op.KeylessOp.{KeylessOp}
-use Rattle.stateful_db_keyless.specs.declared.op.KeylessOp.TheVariants.{Append}
-use Rattle.stateful_db_keyless.specs.Ops.{Changes}
+use Rattle.stateful_db_compact.specs.declared.op.KeylessOp.{KeylessOp}
+use Rattle.stateful_db_compact.specs.declared.op.KeylessOp.TheVariants.{Append}
+use Rattle.stateful_db_compact.specs.Ops.{Changes}
 use Rattle.stateful_db_keyless.specs.Keyless.{State, size_of}
 use Rattle.stateful_db_keyless.specs.KeylessShown.{Holds, DraftShows}
 use Rattle.stateful_db_keyless.specs.Reads.{Log, log_over, unread}

@@ -4,7 +4,7 @@ use Rattle.stateful_base.specs.Number.{u64_format}
 use Rattle.stateful_base.specs.declared.number.Location.{Location}
 use Rattle.stateful_bank.specs.declared.op.Op.{Op}
 use Rattle.stateful_bank.specs.Op.{amount_of}
-use Rattle.stateful_db_keyless.specs.Ops.{Changes}
+use Rattle.stateful_db_compact.specs.Ops.{Changes}
 use Rattle.stateful_db_keyless.specs.Keyless as keyless
 use Rattle.stateful_db_keyless.specs.declared.keyless.batch.KeylessUnmerkleized.{KeylessUnmerkleized}
 use Rattle.stateful_db_keyless.specs.KeylessShown.{DraftShows}

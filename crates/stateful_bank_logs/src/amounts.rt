@@ -6,7 +6,7 @@ ghost use Rattle.stateful_base.specs.Number.{u64_format};
 ghost use Rattle.stateful_db.specs.Chain.{IsPoint};
 ghost use Rattle.stateful_db.specs.Disk.{point};
 ghost use Rattle.stateful_bank.specs.Op.{amount_of};
-ghost use Rattle.stateful_db_keyless.specs.Ops.{Changes};
+ghost use Rattle.stateful_db_compact.specs.Ops.{Changes};
 ghost use Rattle.stateful_db_keyless.specs.Keyless.{State, size_of};
 ghost use Rattle.stateful_db_keyless.specs.KeylessShown.{Holds, DraftShows};
 ghost use Rattle.stateful_db_keyless.specs.KeylessStored.{standing_of};

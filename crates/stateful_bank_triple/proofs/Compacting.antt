@@ -3,10 +3,10 @@ use Rattle.std.proofs.Common.{◌≡◌, ℕ, ◌+◌, List, [], ◌∷◌, ◌+
 use Rattle.stateful_base.specs.Number.{u64_format}
 use Rattle.stateful_bank.specs.declared.op.Op.{Op}
 use Rattle.stateful_bank.specs.Op.{amount_of}
-use Rattle.stateful_db_keyless.specs.Ops.{Changes}
-use Rattle.stateful_db_keyless.specs.Compacted.{State, size_of, sealed}
-use Rattle.stateful_db_keyless.specs.CompactShown.{Holds, DraftShows}
-use Rattle.stateful_db_keyless.specs.declared.compact.batch.KeylessUnjournaledUnmerkleized.{KeylessUnjournaledUnmerkleized}
+use Rattle.stateful_db_compact.specs.Ops.{Changes}
+use Rattle.stateful_db_compact.specs.Compacted.{State, size_of, sealed}
+use Rattle.stateful_db_compact.specs.CompactShown.{Holds, DraftShows}
+use Rattle.stateful_db_compact.specs.declared.compact.batch.KeylessUnjournaledUnmerkleized.{KeylessUnjournaledUnmerkleized}
 use Rattle.stateful_bank_logs.proofs.Appending.{none_of}
 use Rattle.stateful_bank_triple.specs.Compact.{HoldsNothing}
 

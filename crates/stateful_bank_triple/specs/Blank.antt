@@ -8,13 +8,13 @@ use Rattle.stateful_db.specs.Member.{Member}
 use Rattle.stateful_db.specs.Pair.{pair}
 use Rattle.stateful_db.specs.Targeted.{compact_target}
 use Rattle.stateful_db.specs.declared.held.Held.{Held}
-use Rattle.stateful_db_keyless.specs.Compacted as compact
-use Rattle.stateful_db_keyless.specs.CompactStored as stored
-use Rattle.stateful_db_keyless.specs.declared.compact.batch.KeylessUnjournaledMerkleized.{KeylessUnjournaledMerkleized}
-use Rattle.stateful_db_keyless.specs.declared.compact.batch.KeylessUnjournaledUnmerkleized.{KeylessUnjournaledUnmerkleized}
-use Rattle.stateful_db_keyless.specs.declared.compact.database.CompactDb.{CompactDb}
-use Rattle.stateful_db_keyless.specs.declared.compact.medium.CompactMedium.{CompactMedium}
-use Rattle.stateful_db_keyless.specs.declared.compact.pass.CompactPass.{CompactPass}
+use Rattle.stateful_db_compact.specs.Compacted as compact
+use Rattle.stateful_db_compact.specs.CompactStored as stored
+use Rattle.stateful_db_compact.specs.declared.compact.batch.KeylessUnjournaledMerkleized.{KeylessUnjournaledMerkleized}
+use Rattle.stateful_db_compact.specs.declared.compact.batch.KeylessUnjournaledUnmerkleized.{KeylessUnjournaledUnmerkleized}
+use Rattle.stateful_db_compact.specs.declared.compact.database.CompactDb.{CompactDb}
+use Rattle.stateful_db_compact.specs.declared.compact.medium.CompactMedium.{CompactMedium}
+use Rattle.stateful_db_compact.specs.declared.compact.pass.CompactPass.{CompactPass}
 use Rattle.stateful_bank_app.specs.EmptyMedia.{both_empty}
 use Rattle.stateful_bank_app.specs.Fresh.{AreEmpty}
 use Rattle.stateful_bank_logs.specs.Kept.{BalancesDb, balances, amounts}

@@ -3,9 +3,9 @@ use Rattle.std.specs.Prelude.{ℕ, List, ◌∷◌}
 use Rattle.stateful_base.specs.Number.{u64_format}
 use Rattle.stateful_bank.specs.declared.op.Op.{Op}
 use Rattle.stateful_db_keyless.specs.Keyless as keyless
-use Rattle.stateful_db_keyless.specs.Compacted as compact
-use Rattle.stateful_db_keyless.specs.CompactShown.{DraftShows}
-use Rattle.stateful_db_keyless.specs.declared.compact.batch.KeylessUnjournaledUnmerkleized.{KeylessUnjournaledUnmerkleized}
+use Rattle.stateful_db_compact.specs.Compacted as compact
+use Rattle.stateful_db_compact.specs.CompactShown.{DraftShows}
+use Rattle.stateful_db_compact.specs.declared.compact.batch.KeylessUnjournaledUnmerkleized.{KeylessUnjournaledUnmerkleized}
 use Rattle.stateful_bank_logs.specs.Amounts.{appended}
 
 -- the state after a block that changes the same on this keyless log

@@ -3,7 +3,7 @@ use Rattle.std.specs.Prelude.{◌≡◌, ℕ, List, Some}
 use Rattle.stateful_base.specs.Number.{u64_format}
 use Rattle.stateful_bank.specs.declared.op.Op.{Op}
 use Rattle.stateful_db_keyless.specs.Keyless as keyless
-use Rattle.stateful_db_keyless.specs.Compacted as compact
+use Rattle.stateful_db_compact.specs.Compacted as compact
 use Rattle.stateful_db_keyless.specs.Follows.{Follows}
 use Rattle.stateful_bank_app.specs.Rules.{stepped}
 use Rattle.stateful_bank_triple.specs.Triple.{States, triple_rules}

@@ -9,7 +9,7 @@ use Rattle.stateful_db.specs.SingleLaws.{single_laws}
 use Rattle.stateful_db.specs.Pair.{pair}
 use Rattle.stateful_db.specs.PairLaws.{pair_laws}
 use Rattle.stateful_db.specs.Targeted.{compact_target}
-use Rattle.stateful_db_keyless.specs.Compacted as compact
+use Rattle.stateful_db_compact.specs.Compacted as compact
 use Rattle.stateful_bank_logs.specs.Kept.{amounts}
 
 -- the compact database by itself

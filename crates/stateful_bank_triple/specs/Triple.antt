@@ -9,9 +9,9 @@ use Rattle.stateful_db.specs.Targeted.{compact_target}
 use Rattle.stateful_db_any.specs.Any as any
 use Rattle.stateful_db_any.specs.Shown.{Draft}
 use Rattle.stateful_db_keyless.specs.Keyless as keyless
-use Rattle.stateful_db_keyless.specs.Compacted as compact
+use Rattle.stateful_db_compact.specs.Compacted as compact
 use Rattle.stateful_db_keyless.specs.declared.keyless.batch.KeylessUnmerkleized.{KeylessUnmerkleized}
-use Rattle.stateful_db_keyless.specs.declared.compact.batch.KeylessUnjournaledUnmerkleized.{KeylessUnjournaledUnmerkleized}
+use Rattle.stateful_db_compact.specs.declared.compact.batch.KeylessUnjournaledUnmerkleized.{KeylessUnjournaledUnmerkleized}
 use Rattle.stateful_bank_app.specs.Rules.{Rules}
 use Rattle.stateful_bank_logs.specs.Balances.{Writes, balance_on, with_balance, balances_after}
 use Rattle.stateful_bank_logs.specs.Balances.{HoldsWrites}

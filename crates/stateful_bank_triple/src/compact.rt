@@ -3,9 +3,9 @@
 ghost use Rattle.std.specs.Prelude.{◌≡◌, ℕ, List, ◌∷◌, ◌++◌, IfOk, Some, map};
 ghost use Rattle.stateful_base.specs.Number.{u64_format};
 ghost use Rattle.stateful_bank.specs.Op.{amount_of};
-ghost use Rattle.stateful_db_keyless.specs.Ops.{Changes};
-ghost use Rattle.stateful_db_keyless.specs.Compacted.{State, sealed};
-ghost use Rattle.stateful_db_keyless.specs.CompactShown.{Holds, DraftShows};
+ghost use Rattle.stateful_db_compact.specs.Ops.{Changes};
+ghost use Rattle.stateful_db_compact.specs.Compacted.{State, sealed};
+ghost use Rattle.stateful_db_compact.specs.CompactShown.{Holds, DraftShows};
 ghost use Rattle.stateful_bank_triple.specs.Compact.{HoldsNothing};
 
 use stateful_bank::Op;

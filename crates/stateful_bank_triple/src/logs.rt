@@ -42,9 +42,9 @@ impl DatabaseSet for AmountLogs {
     ghost use Rattle.stateful_db.specs.Targeted.{compact_target};
     ghost use Rattle.stateful_db.specs.declared.held.Held.TheVariants.{Here, Closed, Lost, Away};
     ghost use Rattle.stateful_db_keyless.specs.Keyless as keyless_state;
-    ghost use Rattle.stateful_db_keyless.specs.Compacted as compact_state;
+    ghost use Rattle.stateful_db_compact.specs.Compacted as compact_state;
     ghost use Rattle.stateful_db_keyless.specs.KeylessSound as keyless;
-    ghost use Rattle.stateful_db_keyless.specs.CompactSound as compact;
+    ghost use Rattle.stateful_db_compact.specs.CompactSound as compact;
     ghost use Rattle.stateful_bank_triple.specs.Logs.{logs_laws};
 
     type States = <Both as DatabaseSet>::States;

@@ -2,9 +2,9 @@
 use Rattle.std.proofs.Common.{◌≡◌, ℕ, ◌+◌, List, length, refl, sym, ap, ◌∙◌, arith}
 use Rattle.stateful_base.specs.declared.digest.Digest.{Digest}
 use Rattle.stateful_db_log.specs.Chained.{linked, chained}
-use Rattle.stateful_db_keyless.specs.Ops.{Changes, raised, append_bytes, commit_bytes}
+use Rattle.stateful_db_compact.specs.Ops.{Changes, raised, append_bytes, commit_bytes}
 use Rattle.stateful_db_keyless.specs.Keyless as keyless
-use Rattle.stateful_db_keyless.specs.Compacted as compact
+use Rattle.stateful_db_compact.specs.Compacted as compact
 use Rattle.stateful_db_keyless.specs.Follows.{Follows, KeepsFollowing}
 use Rattle.stateful_db_keyless.proofs.KeylessChains.{chained-ops}
 

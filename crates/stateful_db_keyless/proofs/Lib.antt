@@ -1,4 +1,3 @@
-pub mod CompactChains
 pub mod KeylessChains
 pub mod Following
 pub mod Reading

@@ -5,7 +5,7 @@ use Rattle.std.proofs.lemmas.Bool.Decides.{nat_tests}
 use Rattle.stateful_db.specs.CheckpointLaws.{slice_get-drop}
 use Rattle.stateful_db_log.proofs.Slices.{cases, test-true, test-false, slice_get-front, slice_get-back}
 use Rattle.stateful_db_overlay.specs.Chains.{Leads}
-use Rattle.stateful_db_keyless.specs.declared.op.KeylessOp.{KeylessOp}
+use Rattle.stateful_db_compact.specs.declared.op.KeylessOp.{KeylessOp}
 use Rattle.stateful_db_keyless.specs.declared.keyless.batch.KeylessChanges.{KeylessChanges}
 use Rattle.stateful_db_keyless.specs.Keyless.{State, size_of}
 use Rattle.stateful_db_keyless.specs.KeylessShown.{After}

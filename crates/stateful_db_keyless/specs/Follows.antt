@@ -1,8 +1,8 @@
 -- A compact database beside the keyless one with the same batches.
 use Rattle.std.specs.Prelude.{◌≡◌, ℕ, List}
-use Rattle.stateful_db_keyless.specs.Ops.{Changes}
+use Rattle.stateful_db_compact.specs.Ops.{Changes}
 use Rattle.stateful_db_keyless.specs.Keyless as keyless
-use Rattle.stateful_db_keyless.specs.Compacted as compact
+use Rattle.stateful_db_compact.specs.Compacted as compact
 
 -- the root, the size and the floor are the same
 pub record Follows {V : Type 0} (s : keyless.State V) (t : compact.State V) : Type 0 where

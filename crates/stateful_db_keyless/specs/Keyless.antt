@@ -4,9 +4,9 @@ use Rattle.stateful_base.specs.declared.target.Target.{Target}
 use Rattle.stateful_db_medium.specs.declared.checkpoints.Checkpoint.{Checkpoint}
 use Rattle.stateful_db_log.specs.Chained.{chained, unlinked}
 use Rattle.stateful_db_log.specs.Logs.{extended}
-use Rattle.stateful_db_keyless.specs.declared.op.KeylessOp.{KeylessOp}
-use Rattle.stateful_db_keyless.specs.declared.op.KeylessOp.TheVariants.{Commit, Append}
-use Rattle.stateful_db_keyless.specs.Ops.{Changes, unchanged, raised, commit_bytes, append_bytes}
+use Rattle.stateful_db_compact.specs.declared.op.KeylessOp.{KeylessOp}
+use Rattle.stateful_db_compact.specs.declared.op.KeylessOp.TheVariants.{Commit, Append}
+use Rattle.stateful_db_compact.specs.Ops.{Changes, unchanged, raised, commit_bytes, append_bytes}
 
 -- a log from its floor on: the root with the range, and the operations of the range
 abbrev pub State : Type 0 → Type 0

@@ -3,11 +3,11 @@ use Rattle.std.specs.Prelude.{◌≡◌, ℕ, ◌+◌, ◌<◌, ◌≤◌, List,
 use Rattle.stateful_db_overlay.specs.Chains.{Stands}
 use Rattle.stateful_db_log.specs.Chained.{chained}
 use Rattle.stateful_db_log.specs.Logs.{extended}
-use Rattle.stateful_db_keyless.specs.declared.op.KeylessOp.TheVariants.{Append}
+use Rattle.stateful_db_compact.specs.declared.op.KeylessOp.TheVariants.{Append}
 use Rattle.stateful_db_keyless.specs.declared.keyless.batch.KeylessChanges.{KeylessChanges}
 use Rattle.stateful_db_keyless.specs.declared.keyless.batch.KeylessUnmerkleized.{KeylessUnmerkleized}
 use Rattle.stateful_db_keyless.specs.declared.keyless.batch.KeylessMerkleized.{KeylessMerkleized}
-use Rattle.stateful_db_keyless.specs.Ops.{Changes, append_bytes}
+use Rattle.stateful_db_compact.specs.Ops.{Changes, append_bytes}
 use Rattle.stateful_db_keyless.specs.Keyless.{State, size_of, sealed}
 
 -- The operations of a sealed batch begin where its parent's end, and lead from its state to the

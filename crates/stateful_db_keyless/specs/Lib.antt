@@ -1,8 +1,3 @@
-pub mod Ops
-pub mod Compacted
-pub mod CompactShown
-pub mod CompactStored
-pub mod CompactSound
 pub mod Keyless
 pub mod Reads
 pub mod Through

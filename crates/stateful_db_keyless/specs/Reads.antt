@@ -7,9 +7,9 @@ use Rattle.stateful_db.specs.declared.batch.BatchError.{BatchError}
 use Rattle.stateful_db.specs.declared.batch.BatchError.TheVariants.{LocationOutOfBounds}
 use Rattle.stateful_db.specs.declared.batch.BatchError.TheVariants.{LocationOutOfOrder}
 use Rattle.stateful_db.specs.declared.batch.BatchError.TheVariants.{BelowInactivityFloor}
-use Rattle.stateful_db_keyless.specs.declared.op.KeylessOp.{KeylessOp}
-use Rattle.stateful_db_keyless.specs.declared.op.KeylessOp.TheVariants.{Commit, Append}
-use Rattle.stateful_db_keyless.specs.Ops.{Changes}
+use Rattle.stateful_db_compact.specs.declared.op.KeylessOp.{KeylessOp}
+use Rattle.stateful_db_compact.specs.declared.op.KeylessOp.TheVariants.{Commit, Append}
+use Rattle.stateful_db_compact.specs.Ops.{Changes}
 use Rattle.stateful_db_keyless.specs.Keyless.{State, size_of}
 
 -- what is read by location: operations from a floor up to an end

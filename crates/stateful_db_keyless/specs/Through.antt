@@ -1,7 +1,7 @@
 -- What sealed batches on a database say of locations, the newest first.
 use Rattle.std.specs.Prelude.{◌≡◌, ℕ, ◌+◌, ◌-◌, nat_lt, if◌then◌else◌, List, [], ◌∷◌, Option}
 use Rattle.std.specs.Prelude.{length, slice_get}
-use Rattle.stateful_db_keyless.specs.declared.op.KeylessOp.{KeylessOp}
+use Rattle.stateful_db_compact.specs.declared.op.KeylessOp.{KeylessOp}
 use Rattle.stateful_db_keyless.specs.declared.keyless.batch.KeylessChanges.{KeylessChanges}
 use Rattle.stateful_db_keyless.specs.Keyless.{State, size_of}
 

@@ -6,7 +6,7 @@ use Rattle.stateful_db_plain.specs.Whole.{Whole}
 use Rattle.stateful_db_any.specs.Any as any
 use Rattle.stateful_db_any.specs.Entries.{AreLive}
 use Rattle.stateful_db_keyless.specs.Keyless as keyless
-use Rattle.stateful_db_keyless.specs.Compacted as compact
+use Rattle.stateful_db_compact.specs.Compacted as compact
 use Rattle.stateful_script_text.specs.declared.shown.Shown.{Shown}
 use Rattle.stateful_script_text.specs.declared.shown.Shown.TheVariants.{Balances, Range, Size, Closed}
 use Rattle.stateful_script_text.specs.declared.shown.Shown.TheVariants.{Lost, Away}

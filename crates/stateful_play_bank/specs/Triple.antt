@@ -11,9 +11,9 @@ use Rattle.stateful_db.specs.Pair as two
 use Rattle.stateful_db_any.specs.Shown.{Draft, Seal}
 use Rattle.stateful_db_any.specs.Shown as any
 use Rattle.stateful_db_keyless.specs.KeylessShown as keyless
-use Rattle.stateful_db_keyless.specs.CompactShown as compact
-use Rattle.stateful_db_keyless.specs.declared.compact.batch.KeylessUnjournaledMerkleized.{KeylessUnjournaledMerkleized}
-use Rattle.stateful_db_keyless.specs.declared.compact.batch.KeylessUnjournaledUnmerkleized.{KeylessUnjournaledUnmerkleized}
+use Rattle.stateful_db_compact.specs.CompactShown as compact
+use Rattle.stateful_db_compact.specs.declared.compact.batch.KeylessUnjournaledMerkleized.{KeylessUnjournaledMerkleized}
+use Rattle.stateful_db_compact.specs.declared.compact.batch.KeylessUnjournaledUnmerkleized.{KeylessUnjournaledUnmerkleized}
 use Rattle.stateful_db_keyless.specs.declared.keyless.batch.KeylessMerkleized.{KeylessMerkleized}
 use Rattle.stateful_db_keyless.specs.declared.keyless.batch.KeylessUnmerkleized.{KeylessUnmerkleized}
 use Rattle.stateful_bank_logs.specs.Kept.{balances, balances_member, balances_next, balances_failed}

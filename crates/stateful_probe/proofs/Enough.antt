@@ -5,7 +5,7 @@ use Rattle.std.proofs.lemmas.List.{length-map}
 use Rattle.std.proofs.Math.Dec.{leb}
 use Rattle.stateful_base.specs.Scheme.{max_faults}
 use Rattle.stateful_base.specs.declared.finalization.Finalization.{Finalization}
-use Rattle.stateful_probe.specs.Sample.{Sampled, with_reply, with_floor, judged, Selects}
+use Rattle.stateful_probe_sample.specs.Sample.{Sampled, with_reply, with_floor, judged, Selects}
 use Rattle.stateful_probe.specs.Setup.{Setup, committee, tolerated, faults_of, is_judgeable}
 use Rattle.stateful_probe.specs.Probe.{Steps, left_waiting, begins_round, waits, leaves, asks_again, not_needed, recorded, stops}
 use Rattle.stateful_probe.specs.declared.state.State.{State}

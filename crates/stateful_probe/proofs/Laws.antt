@@ -2,7 +2,7 @@
 use Rattle.std.proofs.Common.{◌≡◌, ◌+◌, true, [], count_by, ◌==◌, refl, ap, ◌∙◌, arith}
 use Rattle.std.proofs.lemmas.List.Elements.{All-weaker}
 use Rattle.stateful_probe.specs.Setup.{Setup}
-use Rattle.stateful_probe.specs.Sample.{has_replied}
+use Rattle.stateful_probe_sample.specs.Sample.{has_replied}
 use Rattle.stateful_probe.specs.Probe.{IsNew}
 use Rattle.stateful_probe.specs.Laws.{Brought, KeepsLaws, asked_count}
 use Rattle.stateful_probe.specs.declared.state.State.{State}

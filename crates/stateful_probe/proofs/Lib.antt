@@ -10,7 +10,6 @@ pub mod Laws
 pub mod Enough
 pub mod Requests
 pub mod Stepping
-pub mod Highest
 pub mod Messages
 pub mod Reading
 pub mod Hopeless

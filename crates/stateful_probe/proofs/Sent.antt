@@ -6,7 +6,7 @@ use Rattle.std.proofs.lemmas.Bool.{and_parts}
 use Rattle.std.proofs.lemmas.List.Elements.{All-nil, All-same, All-map, All-push, All-weaker, All-contains, All-contains_itself, Contains-append_left}
 use Rattle.std.proofs.lemmas.List.Quantifiers.{Any-push}
 use Rattle.stateful_base.specs.declared.finalization.Finalization.{Finalization}
-use Rattle.stateful_probe.specs.Sample.{Sampled, has_replied, still_counts, with_reply, with_floor}
+use Rattle.stateful_probe_sample.specs.Sample.{Sampled, has_replied, still_counts, with_reply, with_floor}
 use Rattle.stateful_probe.specs.Setup.{Setup, committee}
 use Rattle.stateful_probe.specs.Reply.{IsGood}
 use Rattle.stateful_probe.specs.Probe.{Steps, asked, is_serving, left_waiting, handed_out, answered, closed, begins_round, waits, leaves, attaches, asks_again, rests, unawaited, ignored, blocked, not_needed, recorded, served, passed_over, untagged, stops}

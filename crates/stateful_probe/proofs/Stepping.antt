@@ -8,7 +8,7 @@ use Rattle.stateful_base.specs.declared.codec.CodecError.{CodecError}
 use Rattle.stateful_base.specs.declared.codec.CodecError.TheVariants.{InvalidEnum, EndOfBuffer, OutOfMemory}
 use Rattle.stateful_base.specs.declared.finalization.Finalization.{Finalization}
 use Rattle.stateful_probe.specs.Setup.{Setup, committee}
-use Rattle.stateful_probe.specs.Sample.{Sampled, still_counts, with_reply}
+use Rattle.stateful_probe_sample.specs.Sample.{Sampled, still_counts, with_reply}
 use Rattle.stateful_probe.specs.Wire.{tag_format}
 use Rattle.stateful_probe.specs.Reply.{IsRequest, IsTagged, IsGood}
 use Rattle.stateful_probe.specs.Service.{IsResponseOf}

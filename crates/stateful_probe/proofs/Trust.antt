@@ -9,7 +9,7 @@ use Rattle.stateful_base.specs.Round.{IsLater}
 use Rattle.stateful_base.specs.Scheme.{max_faults}
 use Rattle.stateful_base.specs.declared.round.Round.{Round}
 use Rattle.stateful_base.specs.declared.finalization.Finalization.{Finalization}
-use Rattle.stateful_probe.specs.Sample.{Sampled, has_replied, still_counts, with_reply, with_floor, cleared, IsHighest, judged, Selects}
+use Rattle.stateful_probe_sample.specs.Sample.{Sampled, has_replied, still_counts, with_reply, with_floor, cleared, IsHighest, judged, Selects}
 use Rattle.stateful_probe.specs.Setup.{Setup, committee, is_one_of, is_judgeable, Counts, TakesPart}
 use Rattle.stateful_probe.specs.Reply.{IsGood}
 use Rattle.stateful_probe.specs.Probe.{Steps, answered, closed, begins_round, waits, leaves, attaches, asks_again, rests, unawaited, ignored, blocked, not_needed, recorded, served, passed_over, untagged, stops}

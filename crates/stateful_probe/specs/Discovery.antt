@@ -1,7 +1,7 @@
 -- What a selection of the floor changes.
 use Rattle.std.specs.Prelude.{◌≡◌, ℕ, Option, List, ◌++◌}
 use Rattle.stateful_base.specs.declared.finalization.Finalization.{Finalization}
-use Rattle.stateful_probe.specs.Sample.{with_floor, Selects}
+use Rattle.stateful_probe_sample.specs.Sample.{with_floor, Selects}
 use Rattle.stateful_probe.specs.Setup.{Setup, is_judgeable}
 use Rattle.stateful_probe.specs.Probe.{left_waiting, handed_out}
 use Rattle.stateful_probe.specs.declared.state.State.{State}

@@ -7,7 +7,7 @@ use Rattle.stateful_base.specs.Round.{IsLater}
 use Rattle.stateful_base.specs.Scheme.{max_faults}
 use Rattle.stateful_base.specs.declared.finalization.Finalization.{Finalization}
 use Rattle.stateful_probe.specs.Setup.{Setup, committee, tolerated, is_one_of, Counts}
-use Rattle.stateful_probe.specs.Sample.{has_replied, still_counts}
+use Rattle.stateful_probe_sample.specs.Sample.{has_replied, still_counts}
 use Rattle.stateful_probe.specs.Reply.{IsRequest, IsTagged, IsGood, IsIgnored}
 use Rattle.stateful_probe.specs.Probe.{Steps, is_serving, may_come}
 use Rattle.stateful_probe.specs.declared.state.State.{State}

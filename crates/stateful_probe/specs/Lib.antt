@@ -1,5 +1,4 @@
 pub mod Wire
-pub mod Sample
 pub mod Setup
 pub mod Reply
 pub mod Judgement

@@ -6,7 +6,7 @@ use Rattle.stateful_base.specs.Format.{Format}
 use Rattle.stateful_base.specs.declared.number.Epoch.{Epoch}
 use Rattle.stateful_base.specs.declared.finalization.Finalization.{Finalization}
 use Rattle.stateful_probe.specs.Wire.{message_format}
-use Rattle.stateful_probe.specs.Sample.{still_counts, with_reply, with_floor, cleared, Selects}
+use Rattle.stateful_probe_sample.specs.Sample.{still_counts, with_reply, with_floor, cleared, Selects}
 use Rattle.stateful_probe.specs.Setup.{Setup, committee, is_judgeable}
 use Rattle.stateful_probe.specs.Reply.{IsRequest, IsTagged, IsGood, IsAtFault, IsIgnored}
 use Rattle.stateful_probe.specs.declared.probe.Config.{Config}

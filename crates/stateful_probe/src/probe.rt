@@ -21,11 +21,11 @@ ghost use Rattle.stateful_probe.specs.Laws.{KeepsLaws};
 
 use crate::error::ProbeError;
 use crate::event::{Event, ProbeEvent, ProbeOut};
-use crate::sample::Sample;
 use crate::schemes::Schemes;
 use crate::state::State;
 use crate::subscribers::Subscribers;
 use crate::{discovery, service};
+use stateful_probe_sample::Sample;
 use stateful_types::{Epoch, Items, Latest, OutOfMemory, Scheme};
 use std::alloc::Global;
 use std::marker::Model;

@@ -1,12 +1,12 @@
 //! What a probe keeps.
 
 ghost use Rattle.std.specs.Prelude.{◌≡◌};
-ghost use Rattle.stateful_probe.specs.Sample.{still_counts};
+ghost use Rattle.stateful_probe_sample.specs.Sample.{still_counts};
 ghost use Rattle.stateful_probe.specs.Probe.{is_serving, names_live, may_come};
 
 use crate::event::Event;
-use crate::sample::Sample;
 use crate::subscribers::Subscribers;
+use stateful_probe_sample::Sample;
 use stateful_types::Share;
 
 /// The replies and the floor, who waits for one, whether the node's finalizations are attached, the

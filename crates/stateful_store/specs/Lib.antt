@@ -21,10 +21,10 @@ pub use Rattle.stateful_db_any.specs.Staged as AnyStaged
 pub use Rattle.stateful_db_any.specs.Entries as AnyEntries
 pub use Rattle.stateful_db_any.specs.Stored as AnyStored
 pub use Rattle.stateful_db_any.specs.Laws as AnyLaws
-pub use Rattle.stateful_db_keyless.specs.Ops as KeylessOps
-pub use Rattle.stateful_db_keyless.specs.Compacted
-pub use Rattle.stateful_db_keyless.specs.CompactShown
-pub use Rattle.stateful_db_keyless.specs.CompactStored
+pub use Rattle.stateful_db_compact.specs.Ops as KeylessOps
+pub use Rattle.stateful_db_compact.specs.Compacted
+pub use Rattle.stateful_db_compact.specs.CompactShown
+pub use Rattle.stateful_db_compact.specs.CompactStored
 pub use Rattle.stateful_db_keyless.specs.Keyless
 pub use Rattle.stateful_db_keyless.specs.Reads as KeylessReads
 pub use Rattle.stateful_db_keyless.specs.Through as KeylessThrough

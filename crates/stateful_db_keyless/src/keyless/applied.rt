@@ -8,8 +8,8 @@ ghost use Rattle.stateful_db_log.specs.Logs.{extended, disk_of, next_of, calls_o
 ghost use Rattle.stateful_db_log.specs.Logs.{next_here, calls_here};
 
 use super::batch::KeylessMerkleized;
-use crate::op::KeylessOp;
 use stateful_db::{Broken, DbCall, Why};
+use stateful_db_compact::KeylessOp;
 use stateful_db_log::{Field, LogMedium, OpenLog};
 
 /// The log with the operations of the batch behind it.

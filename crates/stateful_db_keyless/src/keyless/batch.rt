@@ -5,15 +5,15 @@ ghost use Rattle.std.specs.Prelude.{List, Some, IfOk, IfErr, IsErrOf, false};
 ghost use Rattle.stateful_db.specs.Batch.{RefusesSeal};
 ghost use Rattle.stateful_db.specs.Chain.{has_id};
 ghost use Rattle.stateful_db_overlay.specs.Stack.{has_layer};
-ghost use Rattle.stateful_db_keyless.specs.Ops.{Changes};
+ghost use Rattle.stateful_db_compact.specs.Ops.{Changes};
 ghost use Rattle.stateful_db_keyless.specs.Keyless.{State, size_of};
 ghost use Rattle.stateful_db_keyless.specs.KeylessShown.{Holds, DraftShows, SealShows};
 
 use super::database::KeylessDb;
 use super::state::KeylessState;
-use crate::op::{KeylessOp, link_append, link_commit};
 use stateful_base::{Digest, Location, OutOfMemory, Target};
 use stateful_db::{BatchError, Merkleized, Unmerkleized};
+use stateful_db_compact::{KeylessOp, link_append, link_commit};
 use stateful_db_log::Field;
 use stateful_db_overlay::{Layer, Layers};
 

@@ -9,12 +9,12 @@ use super::pass::KeylessPass;
 use super::range::check;
 use super::reads::read;
 use super::state::KeylessState;
-use crate::op::KeylessOp;
 use stateful_base::{Digest, Faulty, Location, OutOfMemory, Target};
 use stateful_db::{
     BatchContext, BatchError, Broken, DbCall, Exhausted, FlushToken, InitError, ManagedDb,
     Merkleized, Why,
 };
+use stateful_db_compact::KeylessOp;
 use stateful_db_log::{Field, LogMedium, OpenLog};
 use stateful_db_overlay::Layers;
 use std::ops::Range;

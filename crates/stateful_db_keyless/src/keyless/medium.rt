@@ -1,8 +1,8 @@
 //! What a keyless database leaves.
 
-use crate::op::KeylessOp;
 use stateful_base::{Digest, Faulty};
 use stateful_db::DbCall;
+use stateful_db_compact::KeylessOp;
 use stateful_db_log::{Field, LogMedium};
 use std::alloc::Global;
 

@@ -11,8 +11,8 @@ ghost use Rattle.stateful_db_keyless.specs.Through.{op_over, op_through};
 
 use super::batch::KeylessChanges;
 use super::database::KeylessDb;
-use crate::op::{KeylessOp, duplicate};
 use stateful_base::{Location, OutOfMemory};
+use stateful_db_compact::{KeylessOp, duplicate};
 use stateful_db_log::Field;
 use stateful_db_overlay::Layer;
 

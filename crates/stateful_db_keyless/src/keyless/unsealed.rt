@@ -4,7 +4,7 @@ ghost use Rattle.std.specs.Prelude.{◌≡◌, ◌≤◌, ◌∷◌, [], ◌⊎�
 ghost use Rattle.std.specs.Prelude.{IsErrOf, OnOk, true, false, map};
 ghost use Rattle.stateful_db.specs.Chain.{has_id, IsPoint};
 ghost use Rattle.stateful_db.specs.Disk.{point};
-ghost use Rattle.stateful_db_keyless.specs.Ops.{Changes};
+ghost use Rattle.stateful_db_compact.specs.Ops.{Changes};
 ghost use Rattle.stateful_db_keyless.specs.Keyless.{State};
 ghost use Rattle.stateful_db_keyless.specs.KeylessShown.{Holds, DraftShows};
 ghost use Rattle.stateful_db_keyless.specs.KeylessStored.{standing_of};

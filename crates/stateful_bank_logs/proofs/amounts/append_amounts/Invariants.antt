@@ -1,7 +1,7 @@
 use Rattle.std.proofs.Common.{◌≡◌, ◌++◌, ℕ, take, map}
 use Rattle.stateful_base.specs.Number.{u64_format}
 use Rattle.stateful_bank.specs.Op.{amount_of}
-use Rattle.stateful_db_keyless.specs.Ops.{Changes}
+use Rattle.stateful_db_compact.specs.Ops.{Changes}
 use Rattle.stateful_db_keyless.specs.Keyless.{State}
 use Rattle.stateful_db_keyless.specs.KeylessShown.{Holds}
 use Rattle.stateful_bank_logs.proofs.amounts.append_amounts.Given as goal

@@ -2,7 +2,7 @@ use Rattle.std.proofs.Common.{◌≡◌, ◌≤◌, ◌-◌, ◌∷◌, [], ℕ,
 use Rattle.stateful_base.specs.Number.{u64_format}
 use Rattle.stateful_db.specs.Chain.{IsPoint}
 use Rattle.stateful_db.specs.Disk.{point}
-use Rattle.stateful_db_keyless.specs.Ops.{Changes}
+use Rattle.stateful_db_compact.specs.Ops.{Changes}
 use Rattle.stateful_db_keyless.specs.Keyless.{State, size_of}
 use Rattle.stateful_db_keyless.specs.KeylessShown.{Holds, DraftShows}
 use Rattle.stateful_db_keyless.specs.KeylessStored.{standing_of}

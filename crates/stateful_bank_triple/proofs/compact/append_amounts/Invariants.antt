@@ -1,9 +1,9 @@
 use Rattle.std.proofs.Common.{◌≡◌, ◌++◌, ℕ, take, map}
 use Rattle.stateful_base.specs.Number.{u64_format}
 use Rattle.stateful_bank.specs.Op.{amount_of}
-use Rattle.stateful_db_keyless.specs.Ops.{Changes}
-use Rattle.stateful_db_keyless.specs.Compacted.{State}
-use Rattle.stateful_db_keyless.specs.CompactShown.{Holds}
+use Rattle.stateful_db_compact.specs.Ops.{Changes}
+use Rattle.stateful_db_compact.specs.Compacted.{State}
+use Rattle.stateful_db_compact.specs.CompactShown.{Holds}
 use Rattle.stateful_bank_triple.proofs.compact.append_amounts.Given as goal
 
 -- the amounts so far are appended

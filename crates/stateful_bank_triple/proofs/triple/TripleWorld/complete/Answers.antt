@@ -2,8 +2,8 @@ use Rattle.std.proofs.Common.{ℕ, List, ◌∷◌, map, Option, Some, subst}
 use Rattle.stateful_base.specs.Number.{u64_format}
 use Rattle.stateful_bank.specs.Op.{amount_of}
 use Rattle.stateful_db.specs.Pair.{left, right, both}
-use Rattle.stateful_db_keyless.specs.Compacted.{sealed}
-use Rattle.stateful_db_keyless.specs.CompactShown.{DraftShows}
+use Rattle.stateful_db_compact.specs.Compacted.{sealed}
+use Rattle.stateful_db_compact.specs.CompactShown.{DraftShows}
 use Rattle.stateful_bank_app.specs.Draft.{IsAmong}
 use Rattle.stateful_bank_logs.proofs.Pairing.{left_among, right_among}
 use Rattle.stateful_bank_triple.proofs.triple.TripleWorld.complete.Goals as goal

@@ -1,5 +1,5 @@
 use Rattle.std.proofs.Common.{◌≡◌, drop, Option}
-use Rattle.stateful_db_keyless.specs.declared.op.KeylessOp.{KeylessOp}
+use Rattle.stateful_db_compact.specs.declared.op.KeylessOp.{KeylessOp}
 use Rattle.stateful_db_keyless.specs.Through.{op_through}
 use Rattle.stateful_db_keyless.proofs.keyless.reads.op_in.Given as goal
 

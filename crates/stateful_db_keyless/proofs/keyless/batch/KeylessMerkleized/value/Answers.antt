@@ -1,7 +1,7 @@
 use Rattle.std.proofs.Common.{◌≡◌, ◌≤◌, ℕ, List, ap, sym, subst, ◌∙◌}
 use Rattle.stateful_db_overlay.specs.Stack.{above}
 use Rattle.stateful_db_overlay.specs.Chains.{Leads}
-use Rattle.stateful_db_keyless.specs.declared.op.KeylessOp.{KeylessOp}
+use Rattle.stateful_db_compact.specs.declared.op.KeylessOp.{KeylessOp}
 use Rattle.stateful_db_keyless.specs.declared.keyless.batch.KeylessChanges.{KeylessChanges}
 use Rattle.stateful_db_keyless.specs.Keyless.{State, size_of}
 use Rattle.stateful_db_keyless.specs.KeylessShown.{After}

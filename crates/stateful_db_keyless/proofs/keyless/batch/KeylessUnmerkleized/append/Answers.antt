@@ -2,8 +2,8 @@ use Rattle.std.proofs.Common.{◌++◌, ◌∷◌, [], ap, sym, ◌∙◌}
 use Rattle.stateful_db_log.specs.ChainedLaws.{chained-append}
 use Rattle.stateful_db_log.specs.Chained.{linked}
 use Rattle.stateful_db_medium.specs.Mapped.{map-append_one}
-use Rattle.stateful_db_keyless.specs.declared.op.KeylessOp.TheVariants.{Append}
-use Rattle.stateful_db_keyless.specs.Ops.{append_bytes}
+use Rattle.stateful_db_compact.specs.declared.op.KeylessOp.TheVariants.{Append}
+use Rattle.stateful_db_compact.specs.Ops.{append_bytes}
 use Rattle.stateful_db_keyless.proofs.keyless.batch.KeylessUnmerkleized.append.Goals as goal
 
 pub returns-clause-changes : goal.returns-clause-changes

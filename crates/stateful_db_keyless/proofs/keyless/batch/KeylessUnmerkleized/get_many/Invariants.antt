@@ -1,7 +1,7 @@
 use Rattle.std.proofs.Common.{◌≡◌, ◌∷◌, ℕ, List, None, take, map}
 use Rattle.stateful_db.specs.Chain.{IsPoint}
 use Rattle.stateful_db.specs.Disk.{point}
-use Rattle.stateful_db_keyless.specs.Ops.{Changes}
+use Rattle.stateful_db_compact.specs.Ops.{Changes}
 use Rattle.stateful_db_keyless.specs.Keyless.{State}
 use Rattle.stateful_db_keyless.specs.KeylessShown.{Holds, DraftShows}
 use Rattle.stateful_db_keyless.specs.KeylessStored.{standing_of}

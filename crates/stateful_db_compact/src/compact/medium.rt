@@ -1,0 +1,48 @@
+//! What a compact database leaves.
+
+use super::state::{Commit, initial};
+use stateful_base::Faulty;
+use stateful_db::DbCall;
+use stateful_db_log::Field;
+use stateful_db_medium::Medium;
+use std::alloc::Global;
+
+/// The kept checkpoints, and the next batch id. Of the calls of databases that are made on it,
+/// those that it lists fail.
+#[derive(Drop)]
+pub struct CompactMedium<V> {
+    pub medium: Medium<Commit<V>>,
+}
+
+impl<V: Drop> Faulty for CompactMedium<V> {
+    ghost use Rattle.stateful_db_compact.specs.CompactStored.{calls_of};
+
+    ghost count = { λ m. (calls_of m).faults };
+
+    fn faults(&self) -> u64 {
+        self.medium.faults()
+    }
+}
+
+impl<V: Field> CompactMedium<V> {
+    ghost use Rattle.std.specs.Prelude.{◌≡◌, []};
+    ghost use Rattle.stateful_db.specs.declared.database.DbCall.{DbCall};
+    ghost use Rattle.stateful_db_medium.specs.Called.{number_of};
+    ghost use Rattle.stateful_db_compact.specs.Compacted.{initial};
+    ghost use Rattle.stateful_db_compact.specs.CompactStored.{disk_of, next_of, calls_of};
+
+    /// A medium with one commit alone. The calls that are listed, by kind and by number from 0 on,
+    /// fail.
+    pub fn empty(alloc: Global, failing: Vec<(DbCall, u64)>) -> CompactMedium<V>
+        ensures disk { disk_of result
+            ≡ record { older = []; newest = initial V.fields.spelling; pruned = 0; durable = 0 } }
+        ensures next { next_of result ≡ 1 }
+        ensures failing { (calls_of result).failing ≡ failing }
+        ensures numbers { (call : DbCall) → number_of (calls_of result).numbers call ≡ 0 }
+        ensures faults { (calls_of result).faults ≡ 0 }
+    {
+        CompactMedium {
+            medium: Medium::new(alloc, initial(), failing),
+        }
+    }
+}
