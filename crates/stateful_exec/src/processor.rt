@@ -12,7 +12,7 @@
 //!
 //! What goes on stands in `front`, and the live build in `build` (`propose`, `turn_build`). The
 //! contracts say of each call what it does to both. That the calls come in this order is the loop's
-//! to see to (`finalizing.rt` of `stateful_loop`).
+//! to see to (`finalizing.rt` of `stateful_loop_finals`).
 
 ghost use Rattle.std.specs.Prelude.{◌≡◌, ◌↔◌, ◌<◌, ◌≤◌, ◌++◌, ◌∷◌, ◌⊎◌, [], ℕ, true, false, None};
 ghost use Rattle.std.specs.Prelude.{OnOk, OnErr, IfOk, IfErr, IsErrOf, IsTrue};

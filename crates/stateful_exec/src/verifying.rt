@@ -1,17 +1,18 @@
 //! A request's path, taken a block at a time.
 //!
-//! This is for a caller that leads requests by hand; the machine uses `running.rt` in its place.
-//! The caller asks `prepare` what a request needs. With a path it lets the request set out
-//! (`start`), which parks it there. Then it asks `next` for the step of the next block, decides
-//! whether that may be run, and calls `process`. That passes one block, or the request waits for a
-//! run or ends.
+//! This is for a caller that leads requests by hand; the machine uses `running.rt` of
+//! `stateful_exec_runs` in its place. The caller asks `prepare` what a request needs. With a path
+//! it lets the request set out (`start`), which parks it there. Then it asks `next` for the step of
+//! the next block, decides whether that may be run, and calls `process`. That passes one block, or
+//! the request waits for a run or ends.
 //!
 //! After a run the request follows as in the machine. At the end of its path it stays parked, and
 //! the next `resume` answers it. Whether a block goes on over a finalization isn't asked here: that
 //! is the caller's to decide.
 //!
-//! `specs/Verifying.antt` has the rules (`SetsOut`, `HasNext`, `Processes`), and docs/RULES.md says
-//! them in words, "Along its path by hand".
+//! `specs/Verifying.antt` of `stateful_exec_model` and `specs/Stepping.antt` of
+//! `stateful_exec_tables` have the rules (`Processes`; `SetsOut`, `HasNext`), and docs/RULES.md
+//! says them in words, "Along its path by hand".
 
 ghost use Rattle.std.specs.Prelude.{◌≡◌, ◌≤◌, ℕ};
 ghost use Rattle.std.specs.Prelude.{IfOk, IfErr, IfSome, IfNone, IsErrOf};

@@ -9,8 +9,8 @@
 //! isn't what was asked for, or that the cache doesn't take, is an error of the machine and no
 //! decline.
 //!
-//! `specs/Built.antt` has the rules (`TurnsBuild`, `IsOther`, `GivesUp`), and docs/RULES.md says
-//! them in words, "Builds and cancels".
+//! `specs/Built.antt` of `stateful_exec_model` has the rules (`TurnsBuild`, `IsOther`, `GivesUp`),
+//! and docs/RULES.md says them in words, "Builds and cancels".
 
 ghost use Rattle.std.specs.Prelude.{◌≡◌, ◌++◌, List, OnOk, IfOk, IfErr, IfSome, IfNone};
 ghost use Rattle.stateful_exec_model.specs.Built.{decided, IsOther, IsAskedFor, IsBuilt};

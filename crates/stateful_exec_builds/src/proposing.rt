@@ -8,8 +8,9 @@
 //! The build is kept in `Execution::build`, and goes on by turns of its job (`built.rt`). There is
 //! room for one: the caller starts none while one is live.
 //!
-//! `Proposes` and `Unqueues` of `specs/Building.antt` have the rules, and docs/RULES.md says them
-//! in words, "A build".
+//! `Proposes` of `specs/Building.antt` of `stateful_exec_model` and `Unqueues` of
+//! `specs/Queueing.antt` of `stateful_exec_tables` have the rules, and docs/RULES.md says them in
+//! words, "A build".
 
 ghost use Rattle.std.specs.Prelude.{◌≡◌, ◌≤◌, ◌∷◌, ℕ, List, None, OnOk, IfOk};
 ghost use Rattle.std.specs.Prelude.{IfErr, IsErrOf};

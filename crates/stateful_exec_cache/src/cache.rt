@@ -1,8 +1,9 @@
 //! The cache: sealed batches of blocks above the anchor that aren't final yet.
 //!
 //! A block comes in by `insert`, once a run or a build of it ended with states. Execution inserts
-//! it only where its parent is the anchor or cached (`Tables::keep` of `stateful_exec`). So each
-//! entry stands after its parent, and one pass over `entries` finds all descendants of a block.
+//! it only where its parent is the anchor or cached (`Tables::keep` of `stateful_exec_tables`). So
+//! each entry stands after its parent, and one pass over `entries` finds all descendants of a
+//! block.
 //!
 //! Where a finalization begins, `descendants` tells which entries go on over its block. Once that
 //! block is the anchor, `cut` hands its own batch out to be applied. It keeps the descendants of

@@ -9,8 +9,8 @@
 //! leave a hook, which is a job of its own: `Stage::Hooking`. Each turn of that job goes to the
 //! hook (`turn_hook`), until it is done: `Stage::Advanced` again.
 //!
-//! `Moves`, `Observes` and `TurnsHook` of `specs/Finalizing.antt` have the rules, and docs/RULES.md
-//! says them in words, "The anchor's move" and "A hook".
+//! `Moves`, `Observes` and `TurnsHook` of `specs/Finalizing.antt` of `stateful_exec_model` have the
+//! rules, and docs/RULES.md says them in words, "The anchor's move" and "A hook".
 
 ghost use Rattle.std.specs.Prelude.{◌≡◌, ◌≤◌, ◌⊎◌, true, false, Some, None, OnOk, IfOk};
 ghost use Rattle.std.specs.Prelude.{IfErr, IfSome, IfNone, IsErrOf, OnErr};

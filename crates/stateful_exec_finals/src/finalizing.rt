@@ -9,8 +9,9 @@
 //! run is awaited. A finalized run that gives no states, or others than the block commits to, is an
 //! error: finality can't be taken back.
 //!
-//! `specs/Finalizing.antt` has the rules (`MayBegin`, `RunsFinal`, `StepsFinal`), and docs/RULES.md
-//! says them in words, "A finalization, from its begin to what goes on after it".
+//! `specs/Finalizing.antt` of `stateful_exec_model` has the rules (`MayBegin`, `RunsFinal`,
+//! `StepsFinal`), and docs/RULES.md says them in words, "A finalization, from its begin to what
+//! goes on after it".
 
 ghost use Rattle.std.specs.Prelude.{◌≡◌, ◌<◌, ◌≤◌, ◌++◌, ◌∷◌, [], ℕ, true, false, OnOk, OnErr};
 ghost use Rattle.std.specs.Prelude.{IfOk, IfErr, IfSome, IfNone, IsErrOf};

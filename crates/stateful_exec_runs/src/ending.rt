@@ -9,8 +9,8 @@
 //! ascending tickets (`follow_each`). What one of them starts, the next may join. A request never
 //! waits for a run that has ended.
 //!
-//! `specs/Ending.antt` has the rules (`IsTold`, `Follows`, `InTurn`), and docs/RULES.md says them
-//! in words, "The end of a run" and "After a run".
+//! `specs/Ending.antt` of `stateful_exec_model` has the rules (`IsTold`, `Follows`, `InTurn`), and
+//! docs/RULES.md says them in words, "The end of a run" and "After a run".
 
 ghost use Rattle.std.specs.Prelude.{◌≡◌, ◌≤◌, ℕ, IsSome, OnOk, IfOk, IfErr, IsErrOf};
 ghost use Rattle.stateful_base.specs.Causes.{Rose};

@@ -7,8 +7,8 @@
 //! So what was fetched before the pause is dropped, and found again by the walk or asked for again.
 //! Requests that wait for a run stay as they are: its end takes them up.
 //!
-//! `Resumes` of `specs/Pausing.antt` has the rule, and docs/RULES.md says it in words, "After a
-//! pause".
+//! `Resumes` of `specs/Pausing.antt` of `stateful_exec_model` has the rule, and docs/RULES.md says
+//! it in words, "After a pause".
 
 ghost use Rattle.std.specs.Prelude.{◌≡◌, ◌≤◌, ℕ, OnOk, IfErr, IsErrOf};
 ghost use Rattle.stateful_base.specs.Causes.{Rose};

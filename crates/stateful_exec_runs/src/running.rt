@@ -11,8 +11,8 @@
 //! it.
 //!
 //! Each call has the request out of its table, and puts it back with its new phase, or ends it.
-//! `Acquires` and `Advances` of `specs/Rules.antt` have the rules; docs/RULES.md says them in
-//! words, "Requests and the runs that they share".
+//! `Acquires` and `Advances` of `specs/Rules.antt` of `stateful_exec_model` have the rules;
+//! docs/RULES.md says them in words, "Requests and the runs that they share".
 
 ghost use Rattle.std.specs.Prelude.{◌≡◌, ◌≢◌, ◌≤◌, ◌++◌, ◌∷◌, [], ℕ, List, Some, None, OnOk, IfOk};
 ghost use Rattle.std.specs.Prelude.{IfErr, IsErrOf};

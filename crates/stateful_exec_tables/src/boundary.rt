@@ -9,8 +9,8 @@
 //! A run of the finalized block itself is awaited, since its batch is what is applied (`Join`).
 //! Each other run is awaited too, and its requests are invalid then (`Reject`).
 //!
-//! `IsRetained` of `specs/Boundary.antt` and `IsBoundaryOf` of `specs/Finalizing.antt` have the
-//! rules; docs/RULES.md says them in words, "A pause".
+//! `IsRetained` of `specs/Boundary.antt` and `IsBoundaryOf` have the rules; docs/RULES.md says them
+//! in words, "A pause".
 
 ghost use Rattle.std.specs.Prelude.{◌≡◌, ◌↔◌, IsTrue, IfOk, OnOk, OnErr};
 ghost use Rattle.stateful_exec_tables.specs.Boundary.{step_by, Completes, IsRetained};

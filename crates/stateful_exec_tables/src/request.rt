@@ -2,15 +2,16 @@
 //!
 //! A request to judge (`Verify`) and one to build (`Recover`) go the same way, as far as both need
 //! blocks to be known. What a request needs is found (`walk.rt`), and blocks that are missing are
-//! fetched. Then the blocks of its path are run, oldest first (`running.rt`). It ends with a
-//! `Verdict`, also where it meets an invalid block.
+//! fetched. Then the blocks of its path are run, oldest first (`running.rt` of
+//! `stateful_exec_runs`). It ends with a `Verdict`, also where it meets an invalid block.
 //!
 //! A verification is answered then. Of a valid proposal the parent is known, so its `Proposal` is
-//! queued for a build (`proposing.rt`), and an invalid one is declined.
+//! queued for a build (`proposing.rt` of `stateful_exec_builds`), and an invalid one is declined.
 //!
 //! How far a request has come is its `Phase` (`tables.rt`), and `Tables::requests` has it by its
-//! ticket. While a call serves a request it is out of that table. `specs/Rules.antt` has the rules,
-//! and docs/RULES.md says them in words, "Requests and the runs that they share".
+//! ticket. While a call serves a request it is out of that table. `specs/Rules.antt` of
+//! `stateful_exec_model` has the rules, and docs/RULES.md says them in words, "Requests and the
+//! runs that they share".
 
 ghost use Rattle.std.specs.Prelude.{◌≡◌};
 ghost use Rattle.stateful_exec_tables.specs.Request.{ticket_by};

@@ -9,8 +9,9 @@
 //! queued leaves the queue. Blocks that were cached stay.
 //!
 //! A proposal whose parent became known waits in `queued`, and its ticket in `recovered` until
-//! `ready` hands it out, in the order in which parents became known. `specs/Fetching.antt` has the
-//! rules (`IsFetched`, `Cancels`).
+//! `ready` hands it out, in the order in which parents became known. `specs/Cancelling.antt` has
+//! the rule of cancels (`Cancels`), and `specs/Fetching.antt` of `stateful_exec_model` that of
+//! answers (`IsFetched`).
 
 ghost use Rattle.std.specs.Prelude.{◌≡◌, ◌≢◌, ◌++◌, ◌∷◌, [], List, Some, None};
 ghost use Rattle.std.specs.Prelude.{OnOk, IfOk, IfSome, IfNone, All, MatchOption};

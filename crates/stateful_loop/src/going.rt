@@ -1,8 +1,8 @@
 //! What goes on without another event.
 //!
 //! `go_on` does one thing and answers true, or answers false where nothing can go on. Its caller
-//! repeats it until then (`settle` of `stateful_actor`), so between two events nothing is left to
-//! do. What comes first is fixed:
+//! repeats it until then (`settle` of `stateful_actor_step`), so between two events nothing is left
+//! to do. What comes first is fixed:
 //!
 //! - a proposal whose parent became known is put behind the actions, whatever else goes on;
 //! - a live build holds back all but verifications, until it ends;
@@ -11,8 +11,8 @@
 //! - an action or a message is taken, once nothing else is left.
 //!
 //! So what is durable is acknowledged before new work is taken. Each thing that is done makes a
-//! weight fall (`proofs/Falling.antt`), so the repetition ends. `Rule` of `specs/Rules.antt` has
-//! the guards, and docs/RULES.md says them in words under this title.
+//! weight fall (`proofs/Falling.antt` of `stateful_loop_model`), so the repetition ends. `Rule` of
+//! its `specs/Rules.antt` has the guards, and docs/RULES.md says them in words under this title.
 
 ghost use Rattle.std.specs.Prelude.{◌≡◌, ◌≢◌, ◌<◌, ◌≤◌, ◌∷◌, ◌++◌, ◌⊎◌, [], ℕ, Bool, true, false};
 ghost use Rattle.std.specs.Prelude.{Option, Some, None, List, OnOk, OnErr, IfOk, IfErr, IsErrOf};

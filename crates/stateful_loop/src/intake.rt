@@ -6,11 +6,11 @@
 //! of a fetch, a turn and the answer of a flush go at once to what they name. A stop only ends
 //! `up`. All that follows is done by `go_on`, one thing after another.
 //!
-//! That the event names live work was tested before (`admit` of `stateful_actor`), so an error here
-//! is a fault, and never `BadEvent`.
+//! That the event names live work was tested before (`admit` of `stateful_actor_step`), so an error
+//! here is a fault, and never `BadEvent`.
 //!
-//! `TakesIn` of `specs/Intake.antt` has a constructor for each kind, and docs/RULES.md says them in
-//! words, "How an event is taken in".
+//! `TakesIn` of `specs/Intake.antt` of `stateful_loop_model` has a constructor for each kind, and
+//! docs/RULES.md says them in words, "How an event is taken in".
 
 ghost use Rattle.std.specs.Prelude.{◌≡◌, ◌≢◌, ◌<◌, ◌≤◌, ◌∷◌, ◌++◌, ◌⊎◌, [], ℕ, Bool, true, false};
 ghost use Rattle.std.specs.Prelude.{not, filter, Option, Some, None, List, OnOk, OnErr, IfOk};

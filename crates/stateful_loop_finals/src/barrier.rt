@@ -11,8 +11,8 @@
 //! A second barrier may begin meanwhile, over what was applied since. Open barriers stand in
 //! `barriers` with their tokens, and in `durability` with their heights.
 //!
-//! `specs/Rules.antt` and `specs/Intake.antt` have the rules; docs/RULES.md says them in words,
-//! "Barriers and receipts".
+//! `specs/Rules.antt` and `specs/Intake.antt` of `stateful_loop_model` have the rules;
+//! docs/RULES.md says them in words, "Barriers and receipts".
 
 ghost use Rattle.std.specs.Prelude.{◌≡◌, ◌≢◌, ◌<◌, ◌≤◌, ◌∷◌, ◌++◌, [], ℕ, Some, None, OnOk, OnErr};
 ghost use Rattle.std.specs.Prelude.{IfErr, IsSome, Contains, length, option_and_then, slice_get};

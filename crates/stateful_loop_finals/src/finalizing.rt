@@ -10,8 +10,8 @@
 //! is held until the height is durable, and what was paused goes on. While a turn is waited for
 //! nothing else goes on, but for what events do.
 //!
-//! `specs/Rules.antt` has the rules (`BeginsFinalization`, `AppliesBlock`, `EndsFinalization`);
-//! docs/RULES.md says them in words, "A finalization".
+//! `specs/Rules.antt` of `stateful_loop_model` has the rules (`BeginsFinalization`, `AppliesBlock`,
+//! `EndsFinalization`); docs/RULES.md says them in words, "A finalization".
 
 ghost use Rattle.std.specs.Prelude.{◌≡◌, ◌≢◌, ◌<◌, ◌≤◌, ◌∷◌, ◌++◌, ◌⊎◌, [], ℕ, Bool, true, false};
 ghost use Rattle.std.specs.Prelude.{Option, Some, None, List, OnOk, OnErr, IfOk, IfErr, All};

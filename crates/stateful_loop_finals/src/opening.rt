@@ -9,8 +9,8 @@
 //! Where a step is refused the machine stays down, and the databases stay as that step has left
 //! them: closed, lost, or opened and closed again. A further restart may open them.
 //!
-//! `Opens` of `specs/Opening.antt` has the steps, and docs/RULES.md says them in words, "Stops and
-//! restarts".
+//! `Opens` of `specs/Opening.antt` of `stateful_loop_model` has the steps, and docs/RULES.md says
+//! them in words, "Stops and restarts".
 
 ghost use Rattle.std.specs.Prelude.{◌≡◌, ◌≢◌, ◌≤◌, [], ℕ, OnOk, OnErr, IfErr, None};
 ghost use Rattle.stateful_exec_tables.specs.Tables.{Rises};

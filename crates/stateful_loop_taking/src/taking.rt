@@ -10,8 +10,8 @@
 //! once, so no vote waits for a build. Any other message goes to the end of `actions`, where it
 //! keeps its order, and stands before all that comes later.
 //!
-//! `Takes`, `DoesMessage` and `Builds` of `specs/Rules.antt` have the rules; docs/RULES.md says
-//! them in words, "What goes on without another event".
+//! `Takes`, `DoesMessage` and `Builds` of `specs/Rules.antt` of `stateful_loop_model` have the
+//! rules; docs/RULES.md says them in words, "What goes on without another event".
 
 ghost use Rattle.std.specs.Prelude.{◌≡◌, ◌≢◌, ◌<◌, ◌≤◌, ◌∷◌, ◌++◌, ◌⊎◌, [], ℕ, Bool, true, false};
 ghost use Rattle.std.specs.Prelude.{Option, Some, None, List, OnOk, OnErr, IfOk, IfErr, IfSome};

@@ -1,6 +1,6 @@
-//! The plain types that every layer names. Numbers, digests, blocks, targets, counts of faults and
-//! finalizations are handed on; here stand requests and responses with their bytes, certificates
-//! of votes, mailboxes of a bounded size, and where bytes come from and go.
+//! The plain types of what goes over a network or into a file: requests and responses with their
+//! bytes, certificates of votes, mailboxes of a bounded size, and where bytes come from and go.
+//! Those of `stateful_base` are handed on, so that this is the one import of the plain types.
 #![tactic(auto)]
 
 mod draw;
