@@ -1,4 +1,0 @@
-//! A module for the plan, and one for what a sync decides.
-
-mod plan;
-mod sync;
