@@ -6,5 +6,3 @@ mod letter;
 mod mailbox;
 mod pruning;
 mod register;
-mod script;
-mod text;
