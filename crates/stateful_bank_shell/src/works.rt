@@ -1,0 +1,214 @@
+//! Commands that run and build blocks.
+
+use crate::desk::Desk;
+use crate::shown::{print_block, say};
+use crate::words::{decision, finality, number, ops};
+use stateful_bank::{Ask, BankBlock};
+use stateful_bank_app::{Bank, Drafted, Fresh, Sealed, seal_block};
+use stateful_base::{
+    Ancestry, Digested, Epoch, Handoff, Height, Items, Moved, OutOfMemory, Round, View,
+};
+use stateful_db::{AppFault, Application, DatabaseSet, Input, ProposedBlock};
+use std::alloc::Global;
+
+/// The round of blocks that are run and built.
+pub(crate) const ROUND: Round = Round {
+    epoch: Epoch(0),
+    view: View(1),
+};
+
+/// The number that a batch is to have, the batch that it is on, and a height.
+#[derive(Clone, Copy)]
+pub(crate) struct Place {
+    number: u64,
+    parent: u64,
+    height: Height,
+}
+
+/// The place that these words say.
+pub(crate) fn place_of(batch: &str, parent: &str, height: &str) -> Place {
+    Place {
+        number: number(batch),
+        parent: number(parent),
+        height: Height(number(height)),
+    }
+}
+
+/// A batch on the one of this number, or on the databases. None where it isn't kept, or where the
+/// databases give none.
+fn batch_on<W: Fresh>(desk: &mut Desk<W>, parent: u64) -> Option<Drafted<W>> {
+    if parent == 0 {
+        return desk.databases.new_batches().ok();
+    }
+    let parent = desk.sealed.get(&parent)?;
+    desk.databases.fork_batches(parent).ok()
+}
+
+/// A block with no ancestors at hand.
+fn alone(alloc: Global, block: BankBlock) -> Result<Ancestry<BankBlock>, OutOfMemory> {
+    let first = Digested::compute(alloc, block)?;
+    let rest = Items::new(alloc);
+    Ok(Ancestry { first, rest })
+}
+
+/// Begins to run a block.
+pub(crate) fn run<W: Fresh>(
+    desk: &mut Desk<W>,
+    place: Place,
+    why: &str,
+    words: &[&str],
+    out: &mut String,
+) -> Result<(), OutOfMemory> {
+    let alloc = *out.allocator();
+    let mut block = BankBlock::genesis(alloc, Items::new(alloc));
+    block.height = place.height;
+    block.ops = ops(alloc, words)?;
+    let ancestry = alone(alloc, block)?;
+    let Some(batch) = batch_on(desk, place.parent) else {
+        return say(out, "refused");
+    };
+    match desk.bank.process(ROUND, ancestry, batch, finality(why)) {
+        Ok(run) => {
+            desk.number = place.number;
+            desk.run = Some(run);
+            Ok(())
+        }
+        Err(fault) => print_fault(fault, out),
+    }
+}
+
+/// Prints why a call failed.
+fn print_fault(fault: AppFault, out: &mut String) -> Result<(), OutOfMemory> {
+    Ok(writeln!(out, "{fault}")?)
+}
+
+/// Begins to build a block.
+pub(crate) fn build<W: Fresh>(
+    desk: &mut Desk<W>,
+    place: Place,
+    kind: &str,
+    how: &str,
+    words: &[&str],
+    out: &mut String,
+) -> Result<(), OutOfMemory> {
+    let alloc = *out.allocator();
+    let upstream = Ask {
+        decision: decision(how),
+        ops: ops(alloc, words)?,
+    };
+    let Ok(mut parent) = desk.bank.genesis() else {
+        return say(out, "refused");
+    };
+    parent.height = place.height;
+    let ancestry = alone(alloc, parent)?;
+    let Some(batch) = batch_on(desk, place.parent) else {
+        return say(out, "refused");
+    };
+    let provider = ();
+    let input = Input { upstream, provider };
+    let begun = match kind {
+        "propose" => desk.bank.propose(ROUND, ancestry, batch, input),
+        _ => desk.bank.prepare(ROUND, ancestry, batch, input),
+    };
+    match begun {
+        Ok(build) => {
+            desk.number = place.number;
+            desk.run = None;
+            desk.build = Some(build);
+            Ok(())
+        }
+        Err(fault) => print_fault(fault, out),
+    }
+}
+
+/// Keeps a sealed batch.
+fn keep<W: Fresh>(
+    desk: &mut Desk<W>,
+    number: u64,
+    sealed: Sealed<W>,
+    out: &mut String,
+) -> Result<(), OutOfMemory> {
+    desk.sealed.insert(number, sealed)?;
+    say(out, "batch")
+}
+
+/// One turn of the run. Whether it goes on.
+fn turn_run<W: Fresh>(desk: &mut Desk<W>, out: &mut String) -> Result<bool, OutOfMemory> {
+    let Some(run) = &mut desk.run else {
+        return turn_build(desk, out);
+    };
+    match Bank::<W>::turn(run, &desk.databases) {
+        Ok(Moved::Pending) => return Ok(true),
+        Ok(Moved::Done(None)) => say(out, "no batch")?,
+        Ok(Moved::Done(Some(sealed))) => keep(desk, desk.number, sealed, out)?,
+        Err(fault) => print_fault(fault, out)?,
+    }
+    Ok(false)
+}
+
+/// Prints a block that was built, and whether its batch leads to what it commits to. Keeps that.
+fn take_built<W: Fresh>(
+    desk: &mut Desk<W>,
+    how: &str,
+    built: ProposedBlock<BankBlock, Sealed<W>>,
+    out: &mut String,
+) -> Result<(), OutOfMemory> {
+    let ProposedBlock { block, merkleized } = built;
+    say(out, how)?;
+    print_block(&block, out)?;
+    let targets = Bank::<W>::sync_targets(&block);
+    let matches = W::Databases::matches_sync_targets(&merkleized, &targets);
+    writeln!(out, "matches {matches}")?;
+    keep(desk, desk.number, merkleized, out)
+}
+
+/// One turn of the build. Whether it goes on.
+fn turn_build<W: Fresh>(desk: &mut Desk<W>, out: &mut String) -> Result<bool, OutOfMemory> {
+    let Some(build) = &mut desk.build else {
+        say(out, "refused")?;
+        return Ok(false);
+    };
+    match Bank::<W>::turn_build(build, &desk.databases) {
+        Ok(Moved::Pending) => return Ok(true),
+        Ok(Moved::Done(Handoff::Wait)) => say(out, "wait")?,
+        Ok(Moved::Done(Handoff::Vote(built))) => take_built(desk, "vote", built, out)?,
+        Ok(Moved::Done(Handoff::Stage(built))) => take_built(desk, "stage", built, out)?,
+        Err(fault) => print_fault(fault, out)?,
+    }
+    Ok(false)
+}
+
+/// One turn of what was begun last.
+pub(crate) fn turn<W: Fresh>(desk: &mut Desk<W>, out: &mut String) -> Result<(), OutOfMemory> {
+    if turn_run(desk, out)? {
+        return say(out, "goes on");
+    }
+    Ok(())
+}
+
+/// All turns of what was begun last, 100 at most.
+pub(crate) fn turns<W: Fresh>(desk: &mut Desk<W>, out: &mut String) -> Result<(), OutOfMemory> {
+    for turns in 1..101u64 {
+        if !turn_run(desk, out)? {
+            return Ok(writeln!(out, "turns {turns}")?);
+        }
+    }
+    say(out, "goes on")
+}
+
+/// Runs a block at once.
+pub(crate) fn seal<W: Fresh>(
+    desk: &mut Desk<W>,
+    place: Place,
+    words: &[&str],
+    out: &mut String,
+) -> Result<(), OutOfMemory> {
+    let ops = ops(*out.allocator(), words)?;
+    let Some(batch) = batch_on(desk, place.parent) else {
+        return say(out, "refused");
+    };
+    match seal_block::<W>(batch, &desk.databases, ops.as_slice(), place.height)? {
+        Some(sealed) => keep(desk, place.number, sealed, out),
+        None => say(out, "no batch"),
+    }
+}

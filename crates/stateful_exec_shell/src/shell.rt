@@ -1,0 +1,99 @@
+//! The shell.
+
+use crate::blocks::Blocks;
+use crate::machine::{Machine, Made};
+use crate::playing::play;
+use crate::telling::{of_error, of_mark};
+use stateful_shell::Shell;
+use stateful_types::OutOfMemory;
+use std::alloc::Global;
+
+/// The blocks that were named, and execution, once it was opened.
+#[derive(Drop)]
+pub(crate) struct ExecShell {
+    blocks: Blocks,
+    machine: Option<Machine>,
+}
+
+/// Appends a line: what the marks tell, and what the call answers or why it is refused.
+fn say(
+    machine: &mut Machine,
+    blocks: &Blocks,
+    made: Made,
+    out: &mut String,
+) -> Result<(), OutOfMemory> {
+    let begin = out.len();
+    for mark in &machine.marks {
+        of_mark(mark).push(out, blocks, begin)?;
+    }
+    let answer = match made {
+        Ok(answer) => answer,
+        Err(error) => of_error(error),
+    };
+    answer.push(out, blocks, begin)?;
+    machine.marks.clear();
+    if out.len() == begin {
+        out.push_str("nothing")?;
+    }
+    out.push('\n')?;
+    Ok(())
+}
+
+impl ExecShell {
+    /// `block ..`.
+    fn name(
+        &mut self,
+        name: &str,
+        parent: &str,
+        words: &[&str],
+        out: &mut String,
+    ) -> Result<(), OutOfMemory> {
+        if !self.blocks.add(name, parent, words)? {
+            out.push_str("no such block\n")?;
+        }
+        Ok(())
+    }
+
+    /// `open BLOCK`.
+    fn open(&mut self, name: &str, out: &mut String) -> Result<(), OutOfMemory> {
+        let Some(block) = self.blocks.find(name) else {
+            out.push_str("no such block\n")?;
+            return Ok(());
+        };
+        let machine = Machine::over(self.blocks.alloc, block)?;
+        self.machine = Some(machine);
+        out.push_str("opened\n")?;
+        Ok(())
+    }
+
+    fn call(&mut self, words: &[&str], out: &mut String) -> Result<(), OutOfMemory> {
+        let Some(machine) = &mut self.machine else {
+            out.push_str("not open\n")?;
+            return Ok(());
+        };
+        let made = play(machine, &self.blocks, words);
+        say(machine, &self.blocks, made, out)
+    }
+}
+
+impl Shell for ExecShell {
+    fn new(alloc: Global) -> ExecShell {
+        ExecShell {
+            blocks: Blocks::new(alloc),
+            machine: None,
+        }
+    }
+
+    fn play(&mut self, line: &str, out: &mut String) -> Result<(), OutOfMemory> {
+        let words: Vec<&str> = line.split_whitespace().collect(self.blocks.alloc)?;
+        match words.as_slice() {
+            ["block", name, parent, rest @ ..] => self.name(name, parent, rest, out),
+            ["open", name] => self.open(name, out),
+            words => self.call(words, out),
+        }
+    }
+
+    fn end(&mut self, _out: &mut String) -> Result<(), OutOfMemory> {
+        Ok(())
+    }
+}

@@ -1,3 +1,0 @@
-mod Points
-mod Tickets
-mod Working
