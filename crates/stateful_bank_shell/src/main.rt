@@ -101,8 +101,8 @@ fn begin(worlds: &mut Worlds, name: &str, out: &mut String) -> Result<(), OutOfM
 fn depth(worlds: &Worlds, batch: u64) -> Option<usize> {
     match worlds {
         Worlds::Plain(_) => None,
-        Worlds::Pair(desk) => Some(desk.sealed.get(&batch)?.0.depth()),
-        Worlds::Triple(desk) => Some(desk.sealed.get(&batch)?.0.depth()),
+        Worlds::Pair(desk) => desk.sealed.get(&batch).map(|sealed| sealed.0.depth()),
+        Worlds::Triple(desk) => desk.sealed.get(&batch).map(|sealed| sealed.0.depth()),
     }
 }
 

@@ -134,13 +134,14 @@ fn keep<W: Fresh>(
 
 /// One turn of the run. Whether it goes on.
 fn turn_run<W: Fresh>(desk: &mut Desk<W>, out: &mut String) -> Result<bool, OutOfMemory> {
+    let number = desk.number;
     let Some(run) = &mut desk.run else {
-        return turn_build(desk, out);
+        return Ok(false);
     };
     match Bank::<W>::turn(run, &desk.databases) {
         Ok(Moved::Pending) => return Ok(true),
         Ok(Moved::Done(None)) => say(out, "no batch")?,
-        Ok(Moved::Done(Some(sealed))) => keep(desk, desk.number, sealed, out)?,
+        Ok(Moved::Done(Some(sealed))) => keep(desk, number, sealed, out)?,
         Err(fault) => print_fault(fault, out)?,
     }
     Ok(false)
@@ -153,13 +154,14 @@ fn take_built<W: Fresh>(
     built: ProposedBlock<BankBlock, Sealed<W>>,
     out: &mut String,
 ) -> Result<(), OutOfMemory> {
+    let number = desk.number;
     let ProposedBlock { block, merkleized } = built;
     say(out, how)?;
     print_block(&block, out)?;
     let targets = Bank::<W>::sync_targets(&block);
     let matches = W::Databases::matches_sync_targets(&merkleized, &targets);
     writeln!(out, "matches {matches}")?;
-    keep(desk, desk.number, merkleized, out)
+    keep(desk, number, merkleized, out)
 }
 
 /// One turn of the build. Whether it goes on.
@@ -178,9 +180,18 @@ fn turn_build<W: Fresh>(desk: &mut Desk<W>, out: &mut String) -> Result<bool, Ou
     Ok(false)
 }
 
+/// One turn of what was begun last. Whether it goes on.
+fn go_on<W: Fresh>(desk: &mut Desk<W>, out: &mut String) -> Result<bool, OutOfMemory> {
+    if desk.run.is_some() {
+        turn_run(desk, out)
+    } else {
+        turn_build(desk, out)
+    }
+}
+
 /// One turn of what was begun last.
 pub(crate) fn turn<W: Fresh>(desk: &mut Desk<W>, out: &mut String) -> Result<(), OutOfMemory> {
-    if turn_run(desk, out)? {
+    if go_on(desk, out)? {
         return say(out, "goes on");
     }
     Ok(())
@@ -189,7 +200,7 @@ pub(crate) fn turn<W: Fresh>(desk: &mut Desk<W>, out: &mut String) -> Result<(),
 /// All turns of what was begun last, 100 at most.
 pub(crate) fn turns<W: Fresh>(desk: &mut Desk<W>, out: &mut String) -> Result<(), OutOfMemory> {
     for turns in 1..101u64 {
-        if !turn_run(desk, out)? {
+        if !go_on(desk, out)? {
             return Ok(writeln!(out, "turns {turns}")?);
         }
     }
