@@ -17,18 +17,16 @@ pub(crate) struct Desk<W: Fresh> {
     pub(crate) build: Option<BankBuild<Drafted<W>>>,
 }
 
-impl<W: Fresh> Desk<W> {
-    /// Empty databases, which are opened.
-    pub(crate) fn opened(alloc: Global) -> Desk<W> {
-        let mut databases = W::empty(alloc);
-        let _ = databases.init(&W::config(), None);
-        Desk {
-            bank: Bank::new(alloc),
-            databases,
-            sealed: BTreeMap::new(alloc),
-            number: 0,
-            run: None,
-            build: None,
-        }
+/// Empty databases, which are opened.
+pub(crate) fn opened<W: Fresh>(alloc: Global) -> Desk<W> {
+    let mut databases = W::empty(alloc);
+    let _ = databases.init(&W::config(), None);
+    Desk {
+        bank: Bank::new(alloc),
+        databases,
+        sealed: BTreeMap::new(alloc),
+        number: 0,
+        run: None,
+        build: None,
     }
 }

@@ -69,58 +69,65 @@ use stateful_shell::Shell;
 use std::alloc::Global;
 use std::process::ExitCode;
 
-/// The databases that the commands are over.
-#[derive(Drop)]
-enum Worlds {
-    Plain(Desk<Single>),
-    Pair(Desk<Pair>),
-    Triple(Desk<Triple>),
+/// The worlds that a file can name.
+#[derive(Clone, Copy)]
+enum World {
+    Plain,
+    Pair,
+    Triple,
 }
 
-/// What the commands of a file are played on.
+/// What the commands of a file are played on: of the worlds, the one that was named last.
 #[derive(Drop)]
 struct BankShell {
     draft: Draft,
     state: PlainState,
     chain: Chain,
-    worlds: Worlds,
+    world: World,
+    plain: Option<Desk<Single>>,
+    pair: Option<Desk<Pair>>,
+    triple: Option<Desk<Triple>>,
 }
 
-/// Begins anew with the databases of a world.
-fn begin(worlds: &mut Worlds, name: &str, out: &mut String) -> Result<(), OutOfMemory> {
-    let alloc = *out.allocator();
-    *worlds = match name {
-        "pair" => Worlds::Pair(Desk::opened(alloc)),
-        "triple" => Worlds::Triple(Desk::opened(alloc)),
-        _ => Worlds::Plain(Desk::opened(alloc)),
-    };
-    Ok(())
-}
-
-/// How deep a batch is. The one plain database doesn't tell.
-fn depth(worlds: &Worlds, batch: u64) -> Option<usize> {
-    match worlds {
-        Worlds::Plain(_) => None,
-        Worlds::Pair(desk) => desk.sealed.get(&batch).map(|sealed| sealed.0.depth()),
-        Worlds::Triple(desk) => desk.sealed.get(&batch).map(|sealed| sealed.0.depth()),
+/// The world of a name.
+fn world_of(name: &str) -> World {
+    match name {
+        "pair" => World::Pair,
+        "triple" => World::Triple,
+        _ => World::Plain,
     }
 }
 
 /// Prints how deep a batch is.
-fn print_depth(worlds: &Worlds, batch: u64, out: &mut String) -> Result<(), OutOfMemory> {
-    match depth(worlds, batch) {
+fn print_depth(depth: Option<usize>, out: &mut String) -> Result<(), OutOfMemory> {
+    match depth {
         Some(depth) => Ok(writeln!(out, "depth {depth}")?),
         None => say(out, "refused"),
     }
 }
 
 impl BankShell {
+    /// How deep a batch is. The one plain database doesn't tell.
+    fn depth(&self, batch: u64) -> Option<usize> {
+        match self.world {
+            World::Plain => None,
+            World::Pair => {
+                let desk = self.pair.as_ref()?;
+                desk.sealed.get(&batch).map(|sealed| sealed.0.depth())
+            }
+            World::Triple => {
+                let desk = self.triple.as_ref()?;
+                desk.sealed.get(&batch).map(|sealed| sealed.0.depth())
+            }
+        }
+    }
+
     /// Does what the words of a line say of databases.
     fn play_world(&mut self, words: &[&str], out: &mut String) -> Result<(), OutOfMemory> {
-        match &mut self.worlds {
-            Worlds::Plain(desk) => world::play(desk, &self.chain, words, out),
-            Worlds::Pair(desk) => world::play(desk, &self.chain, words, out),
-            Worlds::Triple(desk) => world::play(desk, &self.chain, words, out),
+        match self.world {
+            World::Plain => world::play(&mut self.plain, &self.chain, words, out),
+            World::Pair => world::play(&mut self.pair, &self.chain, words, out),
+            World::Triple => world::play(&mut self.triple, &self.chain, words, out),
         }
     }
 
@@ -133,8 +140,7 @@ impl BankShell {
                 blocks::play(&mut self.draft, words, out)
             }
             ["keep", targets @ ..] => opening::keep(&mut self.chain, targets, out),
-            ["world", name] => begin(&mut self.worlds, name, out),
-            ["depth", batch] => print_depth(&self.worlds, number(batch), out),
+            ["depth", batch] => print_depth(self.depth(number(batch)), out),
             _ => self.play_world(words, out),
         }
     }
@@ -146,12 +152,18 @@ impl Shell for BankShell {
             draft: Draft::new(alloc),
             state: PlainState::empty(alloc),
             chain: Chain::new(alloc),
-            worlds: Worlds::Plain(Desk::opened(alloc)),
+            world: World::Plain,
+            plain: None,
+            pair: None,
+            triple: None,
         }
     }
 
     fn play(&mut self, line: &str, out: &mut String) -> Result<(), OutOfMemory> {
         let words: Vec<&str> = line.split_whitespace().collect(*out.allocator())?;
+        if let ["world", name] = words.as_slice() {
+            self.world = world_of(name);
+        }
         self.play_words(words.as_slice(), out)
     }
 

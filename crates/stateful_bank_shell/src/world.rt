@@ -1,7 +1,7 @@
 //! Commands on the databases of a world.
 
 use crate::blocks::encode;
-use crate::desk::Desk;
+use crate::desk::{Desk, opened};
 use crate::opening::{Chain, open};
 use crate::shown::{print_targets, say};
 use crate::words::{number, targets};
@@ -156,8 +156,8 @@ fn play_batch<W: Fresh>(
     }
 }
 
-/// Does what the words of a line say of databases.
-pub(crate) fn play<W: Fresh>(
+/// Does what the words of a line say of a desk.
+fn play_desk<W: Fresh>(
     desk: &mut Desk<W>,
     chain: &Chain,
     words: &[&str],
@@ -171,5 +171,22 @@ pub(crate) fn play<W: Fresh>(
             open(desk, chain, processed, completed, digest, out)
         }
         _ => play_batch(desk, words, out),
+    }
+}
+
+/// Does what the words of a line say of databases.
+pub(crate) fn play<W: Fresh>(
+    desk: &mut Option<Desk<W>>,
+    chain: &Chain,
+    words: &[&str],
+    out: &mut String,
+) -> Result<(), OutOfMemory> {
+    if let ["world", _] = words {
+        *desk = Some(opened(*out.allocator()));
+        return Ok(());
+    }
+    match desk {
+        Some(desk) => play_desk(desk, chain, words, out),
+        None => say(out, "no world"),
     }
 }

@@ -1,10 +1,11 @@
 //! The map that is kept as a log.
 
-use crate::sets::{Failing, Member};
+use crate::named::Named;
+use crate::sets::Member;
 use crate::staging::{self, Staging};
 use crate::tables::{self, Table};
 use crate::words::{Said, number, numbers, push_root, say, say_read, say_reads, say_value, write};
-use stateful_base::{OutOfMemory, Target};
+use stateful_base::Target;
 use stateful_db::{DbCall, Held};
 use stateful_db_any::{AnyDb, AnyMedium};
 use std::alloc::Global;
@@ -45,13 +46,17 @@ impl Member for AnyDb<u64, u64> {
     }
 }
 
-/// A closed one over an empty medium, at which these calls fail.
-pub(crate) fn new(alloc: Global, failing: &[Failing]) -> Result<AnyTable, OutOfMemory> {
-    let table = tables::new(alloc, failing)?;
-    Ok(AnyTable {
-        table,
+/// Before a set is begun.
+pub(crate) fn new(alloc: Global) -> AnyTable {
+    AnyTable {
+        table: Table {
+            set: Held::Away,
+            open: Named::new(alloc),
+            sealed: Named::new(alloc),
+            targets: Named::new(alloc),
+        },
         staging: None,
-    })
+    }
 }
 
 /// `write B KEY=VALUE..`: the batch with these values.
@@ -171,6 +176,10 @@ fn play_map(table: &mut Table<Held<Map>>, words: &[&str], out: &mut String) -> S
 /// What a line says of a set of one.
 pub(crate) fn play(any: &mut AnyTable, words: &[&str], out: &mut String) -> Said {
     match words {
+        ["set", ..] => {
+            any.staging = None;
+            play_map(&mut any.table, words, out)
+        }
         ["stage", name, keys @ ..] => staging::stage(any, name, keys, out),
         ["expand", keys @ ..] => staging::expand(any, keys, out),
         ["staged", metadata] => staging::with(any, number(metadata), out),

@@ -1,5 +1,6 @@
 //! The log of which the latest commit alone is kept.
 
+use crate::named::Named;
 use crate::sets::Member;
 use crate::tables::{self, Table};
 use crate::words::{Said, number, push_root, say, say_value};
@@ -10,6 +11,16 @@ use std::alloc::Global;
 
 /// A set of one of it.
 pub(crate) type CompactTable = Table<Held<CompactDb<u64>>>;
+
+/// Before a set is begun.
+pub(crate) fn new(alloc: Global) -> CompactTable {
+    Table {
+        set: Held::Away,
+        open: Named::new(alloc),
+        sealed: Named::new(alloc),
+        targets: Named::new(alloc),
+    }
+}
 
 impl Member for CompactDb<u64> {
     fn empty(alloc: Global, failing: Vec<(DbCall, u64)>) -> CompactMedium<u64> {

@@ -1,5 +1,6 @@
 //! The log of values, kept from its floor on.
 
+use crate::named::Named;
 use crate::sets::Member;
 use crate::tables::{self, Table};
 use crate::words::{Said, number, numbers, push_root, say, say_read, say_reads, say_value};
@@ -10,6 +11,16 @@ use std::alloc::Global;
 
 /// A set of one of it.
 pub(crate) type KeylessTable = Table<Held<KeylessDb<u64>>>;
+
+/// Before a set is begun.
+pub(crate) fn new(alloc: Global) -> KeylessTable {
+    Table {
+        set: Held::Away,
+        open: Named::new(alloc),
+        sealed: Named::new(alloc),
+        targets: Named::new(alloc),
+    }
+}
 
 impl Member for KeylessDb<u64> {
     fn empty(alloc: Global, failing: Vec<(DbCall, u64)>) -> KeylessMedium<u64> {

@@ -1,5 +1,6 @@
 //! The plainest database.
 
+use crate::named::Named;
 use crate::sets::{Member, count};
 use crate::tables::{self, Table};
 use crate::words::{Said, number, say, say_read, say_value, write};
@@ -10,6 +11,16 @@ use std::alloc::Global;
 
 /// A set of one of it.
 pub(crate) type PlainTable = Table<Held<Plain>>;
+
+/// Before a set is begun.
+pub(crate) fn new(alloc: Global) -> PlainTable {
+    Table {
+        set: Held::Away,
+        open: Named::new(alloc),
+        sealed: Named::new(alloc),
+        targets: Named::new(alloc),
+    }
+}
 
 impl Member for Plain {
     fn empty(alloc: Global, failing: Vec<(DbCall, u64)>) -> PlainMedium {

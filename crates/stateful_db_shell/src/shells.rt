@@ -1,11 +1,11 @@
 //! The shell.
 
 use crate::barriers;
+use crate::named::Named;
 use crate::on_any::{self, AnyTable};
 use crate::on_compact::{self, CompactTable};
 use crate::on_keyless::{self, KeylessTable};
 use crate::on_plain::{self, PlainTable};
-use crate::sets::{Failing, failing_call};
 use crate::tables::{self, Table};
 use crate::words::{Said, say};
 use stateful_base::OutOfMemory;
@@ -18,62 +18,70 @@ type Two = (Held<Plain>, Held<Plain>);
 
 type Three = (Held<Plain>, Two);
 
-/// The set that is played on.
-#[derive(Drop)]
-enum Sets {
+/// The kinds of sets.
+#[derive(Clone, Copy)]
+enum Kind {
     None,
-    OfPlain(PlainTable),
-    OfAny(AnyTable),
-    OfKeyless(KeylessTable),
-    OfCompact(CompactTable),
-    OfTwo(Table<Two>),
-    OfThree(Table<Three>),
+    Plain,
+    Any,
+    Keyless,
+    Compact,
+    Two,
+    Three,
 }
 
-/// A set, and a barrier.
+/// A set of each kind, which of them is played on, and a barrier.
 #[derive(Drop)]
 pub(crate) struct Databases {
     alloc: Global,
-    sets: Sets,
+    kind: Kind,
+    plain: PlainTable,
+    any: AnyTable,
+    keyless: KeylessTable,
+    compact: CompactTable,
+    two: Table<Two>,
+    three: Table<Three>,
     barrier: Option<Barrier>,
 }
 
-/// The calls that fail.
-fn failings(alloc: Global, words: &[&str]) -> Result<Vec<Failing>, OutOfMemory> {
-    let mut calls = Vec::new(alloc);
-    for word in words {
-        if let Some(call) = failing_call(word) {
-            calls.push(call)?;
-        }
-    }
-    Ok(calls)
-}
-
-/// An empty set of this kind.
-fn fresh(alloc: Global, kind: &str, words: &[&str]) -> Result<Sets, OutOfMemory> {
-    let calls = failings(alloc, words)?;
-    let calls = calls.as_slice();
-    match kind {
-        "plain" => Ok(Sets::OfPlain(tables::new(alloc, calls)?)),
-        "any" => Ok(Sets::OfAny(on_any::new(alloc, calls)?)),
-        "keyless" => Ok(Sets::OfKeyless(tables::new(alloc, calls)?)),
-        "compact" => Ok(Sets::OfCompact(tables::new(alloc, calls)?)),
-        "two" => Ok(Sets::OfTwo(tables::new(alloc, calls)?)),
-        "three" => Ok(Sets::OfThree(tables::new(alloc, calls)?)),
-        _ => Ok(Sets::None),
+/// The kind that a word says.
+fn kind_of(word: &str) -> Kind {
+    match word {
+        "plain" => Kind::Plain,
+        "any" => Kind::Any,
+        "keyless" => Kind::Keyless,
+        "compact" => Kind::Compact,
+        "two" => Kind::Two,
+        "three" => Kind::Three,
+        _ => Kind::None,
     }
 }
 
-/// What a line says of a set.
-fn play_sets(sets: &mut Sets, words: &[&str], out: &mut String) -> Said {
-    match sets {
-        Sets::None => say(out, "no set"),
-        Sets::OfPlain(table) => on_plain::play(table, words, out),
-        Sets::OfAny(table) => on_any::play(table, words, out),
-        Sets::OfKeyless(table) => on_keyless::play(table, words, out),
-        Sets::OfCompact(table) => on_compact::play(table, words, out),
-        Sets::OfTwo(table) => tables::play(table, words, out),
-        Sets::OfThree(table) => tables::play(table, words, out),
+/// Two databases, before a set is begun.
+fn two(alloc: Global) -> Table<Two> {
+    Table {
+        set: (Held::Away, Held::Away),
+        open: Named::new(alloc),
+        sealed: Named::new(alloc),
+        targets: Named::new(alloc),
+    }
+}
+
+/// Three databases, before a set is begun.
+fn three(alloc: Global) -> Table<Three> {
+    Table {
+        set: (Held::Away, (Held::Away, Held::Away)),
+        open: Named::new(alloc),
+        sealed: Named::new(alloc),
+        targets: Named::new(alloc),
+    }
+}
+
+/// What a line answers where there is no set.
+fn say_none(words: &[&str], out: &mut String) -> Said {
+    match words {
+        ["set", ..] => say(out, "no such kind"),
+        _ => say(out, "no set"),
     }
 }
 
@@ -85,32 +93,59 @@ fn play_barrier(barrier: &mut Option<Barrier>, words: &[&str], out: &mut String)
     }
 }
 
+/// `barrier PLACE..`: begins one.
+fn begin_barrier(barrier: &mut Option<Barrier>, words: &[&str], out: &mut String) -> Said {
+    let begun = barriers::of_places(*out.allocator(), words)?;
+    let poll = begun.poll();
+    *barrier = Some(begun);
+    barriers::say_poll(poll, out)
+}
+
+impl Databases {
+    /// What a line says of the set.
+    fn play_set(&mut self, words: &[&str], out: &mut String) -> Said {
+        match self.kind {
+            Kind::None => say_none(words, out),
+            Kind::Plain => on_plain::play(&mut self.plain, words, out),
+            Kind::Any => on_any::play(&mut self.any, words, out),
+            Kind::Keyless => on_keyless::play(&mut self.keyless, words, out),
+            Kind::Compact => on_compact::play(&mut self.compact, words, out),
+            Kind::Two => tables::play(&mut self.two, words, out),
+            Kind::Three => tables::play(&mut self.three, words, out),
+        }
+    }
+
+    /// What a line says.
+    fn play_words(&mut self, words: &[&str], out: &mut String) -> Said {
+        match words {
+            ["barrier", places @ ..] => begin_barrier(&mut self.barrier, places, out),
+            ["handle" | "answer" | "poll", ..] => play_barrier(&mut self.barrier, words, out),
+            _ => self.play_set(words, out),
+        }
+    }
+}
+
 impl Shell for Databases {
     fn new(alloc: Global) -> Databases {
         Databases {
             alloc,
-            sets: Sets::None,
+            kind: Kind::None,
+            plain: on_plain::new(alloc),
+            any: on_any::new(alloc),
+            keyless: on_keyless::new(alloc),
+            compact: on_compact::new(alloc),
+            two: two(alloc),
+            three: three(alloc),
             barrier: None,
         }
     }
 
     fn play(&mut self, line: &str, out: &mut String) -> Result<(), OutOfMemory> {
         let words: Vec<&str> = line.split_whitespace().collect(self.alloc)?;
-        let words = words.as_slice();
-        match words {
-            ["set", kind, failing @ ..] => {
-                self.sets = fresh(self.alloc, kind, failing)?;
-                Ok(())
-            }
-            ["barrier", places @ ..] => {
-                let barrier = barriers::of_places(self.alloc, places)?;
-                let poll = barrier.poll();
-                self.barrier = Some(barrier);
-                barriers::say_poll(poll, out)
-            }
-            ["handle" | "answer" | "poll", ..] => play_barrier(&mut self.barrier, words, out),
-            _ => play_sets(&mut self.sets, words, out),
+        if let ["set", kind, ..] = words.as_slice() {
+            self.kind = kind_of(kind);
         }
+        self.play_words(words.as_slice(), out)
     }
 
     fn end(&mut self, _out: &mut String) -> Result<(), OutOfMemory> {

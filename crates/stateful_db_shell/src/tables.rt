@@ -3,7 +3,7 @@
 ghost use Rattle.std.specs.Prelude.{IsTrue};
 
 use crate::named::Named;
-use crate::sets::{Failing, Playable};
+use crate::sets::{Failing, Playable, failing_call};
 use crate::words::{
     Said, index, push_value, say, say_both, say_failed, say_not_opened, say_refused, target,
 };
@@ -20,18 +20,26 @@ pub(crate) struct Table<S: Playable> {
     pub(crate) targets: Named<S::SyncTargets>,
 }
 
-/// Closed databases over empty media, at which these calls fail.
-pub(crate) fn new<S: Playable>(
-    alloc: Global,
-    failing: &[Failing],
-) -> Result<Table<S>, OutOfMemory> {
-    let set = S::make(alloc, 0, failing)?;
-    Ok(Table {
-        set,
-        open: Named::new(alloc),
-        sealed: Named::new(alloc),
-        targets: Named::new(alloc),
-    })
+/// The calls that fail, as words say.
+fn failings(alloc: Global, words: &[&str]) -> Result<Vec<Failing>, OutOfMemory> {
+    let mut calls = Vec::new(alloc);
+    for word in words {
+        if let Some(call) = failing_call(word) {
+            calls.push(call)?;
+        }
+    }
+    Ok(calls)
+}
+
+/// `set KIND D:CALL:N..`: closed databases over empty media, at which these calls fail.
+fn start<S: Playable>(table: &mut Table<S>, words: &[&str], out: &String) -> Said {
+    let alloc = *out.allocator();
+    let calls = failings(alloc, words)?;
+    table.set = S::make(alloc, 0, calls.as_slice())?;
+    table.open = Named::new(alloc);
+    table.sealed = Named::new(alloc);
+    table.targets = Named::new(alloc);
+    Ok(())
 }
 
 /// `ok`, or why a call of a set failed.
@@ -355,6 +363,7 @@ fn play_targets<S: Playable>(table: &mut Table<S>, words: &[&str], out: &mut Str
 /// What a line says that every set knows.
 pub(crate) fn play<S: Playable>(table: &mut Table<S>, words: &[&str], out: &mut String) -> Said {
     match words {
+        ["set", _, failing @ ..] => start(table, failing, out),
         ["begin", name] => begin(table, name, out),
         ["fork", name, parent] => fork(table, name, parent, out),
         ["seal", name] => seal(table, name, out),
