@@ -1,24 +1,24 @@
 //! Commands on finalizations.
 
-use crate::block::FakeBlock;
-use crate::machine::{Machine, Made, closed, quiet};
+use crate::machine::{Machine, Made, quiet};
+use crate::played::Played;
 use crate::told::{Told, tell, yes_or_no};
 use stateful_db::DatabaseSet;
 use stateful_exec::Stage;
 use stateful_types::Digested;
 
 /// `past BLOCK`.
-pub(crate) fn past(machine: &Machine, block: &Digested<FakeBlock>) -> Made {
+pub(crate) fn past<A: Played>(machine: &Machine<A>, block: &Digested<A::Block>) -> Made {
     Ok(yes_or_no(machine.handler.redelivered(block)?))
 }
 
 /// `begin BLOCK`.
-pub(crate) fn begin(machine: &mut Machine, block: &Digested<FakeBlock>) -> Made {
+pub(crate) fn begin<A: Played>(machine: &mut Machine<A>, block: &Digested<A::Block>) -> Made {
     quiet(machine.handler.begin(block))
 }
 
 /// `run BLOCK`.
-pub(crate) fn run(machine: &mut Machine, block: &Digested<FakeBlock>) -> Made {
+pub(crate) fn run<A: Played>(machine: &mut Machine<A>, block: &Digested<A::Block>) -> Made {
     quiet(
         machine
             .handler
@@ -27,22 +27,20 @@ pub(crate) fn run(machine: &mut Machine, block: &Digested<FakeBlock>) -> Made {
 }
 
 /// `advance BLOCK`.
-pub(crate) fn advance(machine: &mut Machine, block: &Digested<FakeBlock>) -> Made {
-    let (batch, ()) = machine.handler.advance(&machine.databases, block)?;
+pub(crate) fn advance<A: Played>(machine: &mut Machine<A>, block: &Digested<A::Block>) -> Made {
+    let (batch, _captured) = machine.handler.advance(&machine.databases, block)?;
     machine.databases.apply(batch)?;
     Ok(tell(""))
 }
 
 /// `observe BLOCK`.
-pub(crate) fn observe(machine: &mut Machine, block: &Digested<FakeBlock>) -> Made {
-    let live = machine
-        .handler
-        .hook(&machine.databases, block, (), &mut machine.marks)?;
+pub(crate) fn observe<A: Played>(machine: &mut Machine<A>, block: &Digested<A::Block>) -> Made {
+    let live = machine.handler.hook(&machine.databases, block, A::captured(), &mut machine.marks)?;
     Ok(yes_or_no(live))
 }
 
 /// `turn_hook JOB`.
-pub(crate) fn turn_hook(machine: &mut Machine, job: u64) -> Made {
+pub(crate) fn turn_hook<A: Played>(machine: &mut Machine<A>, job: u64) -> Made {
     quiet(
         machine
             .handler
@@ -51,19 +49,19 @@ pub(crate) fn turn_hook(machine: &mut Machine, job: u64) -> Made {
 }
 
 /// `close`.
-pub(crate) fn close(machine: &mut Machine) -> Told {
-    machine.databases = closed(machine.alloc);
+pub(crate) fn close<A: Played>(machine: &mut Machine<A>) -> Told {
+    machine.databases = A::closed(machine.alloc);
     tell("")
 }
 
 /// `drop`.
-pub(crate) fn drop_front(machine: &mut Machine) -> Told {
+pub(crate) fn drop_front<A: Played>(machine: &mut Machine<A>) -> Told {
     machine.handler.drop_root();
     tell("")
 }
 
 /// `front`.
-pub(crate) fn front(machine: &Machine) -> Told {
+pub(crate) fn front<A: Played>(machine: &Machine<A>) -> Told {
     let Some(front) = machine.handler.front() else {
         return tell("no front");
     };
@@ -78,11 +76,11 @@ pub(crate) fn front(machine: &Machine) -> Told {
 }
 
 /// `anchor`.
-pub(crate) fn anchor(machine: &Machine) -> Told {
+pub(crate) fn anchor<A: Played>(machine: &Machine<A>) -> Told {
     tell("anchor").block(machine.handler.branch_anchor().digest)
 }
 
 /// `cached BLOCK`.
-pub(crate) fn cached(machine: &Machine, block: &Digested<FakeBlock>) -> Told {
+pub(crate) fn cached<A: Played>(machine: &Machine<A>, block: &Digested<A::Block>) -> Told {
     yes_or_no(machine.handler.cached(&block.digest()))
 }

@@ -1,10 +1,8 @@
 //! Execution, with what it works on.
 
-use crate::block::FakeBlock;
-use crate::fake::Fake;
+use crate::played::Played;
 use crate::told::{Told, tell};
-use stateful_db::{DatabaseSet, Held};
-use stateful_db_plain::{Plain, PlainMedium};
+use stateful_db::DatabaseSet;
 use stateful_exec::{ExecError, Processor, Verifier};
 use stateful_history::Mark;
 use stateful_types::{Anchor, Digested, MemoryStore, OutOfMemory};
@@ -15,34 +13,32 @@ pub(crate) type Made = Result<Told, ExecError>;
 
 /// Execution, with its databases, its store and the marks of the call that goes on.
 #[derive(Drop)]
-pub(crate) struct Machine {
+pub(crate) struct Machine<A: Played> {
     pub(crate) alloc: Global,
-    pub(crate) databases: Held<Plain>,
-    pub(crate) store: MemoryStore<FakeBlock>,
-    pub(crate) handler: Verifier<Fake>,
-    pub(crate) marks: Vec<Mark<FakeBlock>>,
+    pub(crate) databases: A::Databases,
+    pub(crate) store: MemoryStore<A::Block>,
+    pub(crate) handler: Verifier<A>,
+    pub(crate) marks: Vec<Mark<A::Block>>,
 }
 
-/// A database that isn't here, without entries.
-pub(crate) fn closed(alloc: Global) -> Held<Plain> {
-    Held::<Plain>::Closed(PlainMedium::empty(alloc, Vec::new(alloc)))
-}
-
-/// A database that is here, without entries.
-fn empty(alloc: Global) -> Held<Plain> {
-    let mut databases = closed(alloc);
-    let _opened = databases.init(&(), None);
+/// Databases that are here, without entries.
+fn empty<A: Played>(alloc: Global) -> A::Databases {
+    let mut databases = A::closed(alloc);
+    let _opened = databases.init(&A::config(), None);
     databases
 }
 
-impl Machine {
+impl<A: Played> Machine<A> {
     /// Nothing goes on over a block.
-    pub(crate) fn over(alloc: Global, block: &Digested<FakeBlock>) -> Result<Machine, OutOfMemory> {
-        let processor = Processor::new(alloc, Fake, Anchor::from_block(block))?;
-        let handler = Verifier::<Fake>::new(processor)?;
+    pub(crate) fn over(
+        alloc: Global,
+        block: &Digested<A::Block>,
+    ) -> Result<Machine<A>, OutOfMemory> {
+        let processor = Processor::new(alloc, A::fresh(), Anchor::from_block(block))?;
+        let handler = Verifier::<A>::new(processor)?;
         Ok(Machine {
             alloc,
-            databases: empty(alloc),
+            databases: empty::<A>(alloc),
             store: MemoryStore::new(alloc),
             handler,
             marks: Vec::new(alloc),

@@ -1,22 +1,23 @@
 //! Which command a line is.
 
-use crate::block::FakeBlock;
-use crate::blocks::{Blocks, number};
+use crate::blocks::Blocks;
 use crate::building::{build, building, ready, turn_build};
 use crate::finalizing::{
     advance, anchor, begin, cached, close, drop_front, front, observe, past, run, turn_hook,
 };
 use crate::machine::{Machine, Made};
+use crate::played::Played;
 use crate::requesting::{
     answered, cancel, fetched, next, pause, pause_for, process, recover, reopen, resume, settle,
     start, store, turn, verify,
 };
 use crate::told::{tell, yes_or_no};
+use crate::words::number;
 use stateful_db::ProposalKind;
 use stateful_types::Digested;
 
 /// A command without anything behind it.
-fn play_alone(machine: &mut Machine, word: &str) -> Made {
+fn play_alone<A: Played>(machine: &mut Machine<A>, word: &str) -> Made {
     match word {
         "pause" => pause(machine),
         "resume" => resume(machine),
@@ -37,7 +38,7 @@ fn play_alone(machine: &mut Machine, word: &str) -> Made {
 }
 
 /// A command on a block.
-fn play_block(machine: &mut Machine, word: &str, block: &Digested<FakeBlock>) -> Made {
+fn play_block<A: Played>(machine: &mut Machine<A>, word: &str, block: &Digested<A::Block>) -> Made {
     match word {
         "pause" => pause_for(machine, block),
         "past" => past(machine, block),
@@ -52,7 +53,7 @@ fn play_block(machine: &mut Machine, word: &str, block: &Digested<FakeBlock>) ->
 }
 
 /// A command on a ticket, a job or a fetch.
-fn play_number(machine: &mut Machine, word: &str, number: u64) -> Made {
+fn play_number<A: Played>(machine: &mut Machine<A>, word: &str, number: u64) -> Made {
     match word {
         "fetched" => answered(machine, number, None),
         "cancel" => cancel(machine, number),
@@ -68,7 +69,12 @@ fn play_number(machine: &mut Machine, word: &str, number: u64) -> Made {
 }
 
 /// A command on a number and a block.
-fn play_both(machine: &mut Machine, word: &str, number: u64, block: &Digested<FakeBlock>) -> Made {
+fn play_both<A: Played>(
+    machine: &mut Machine<A>,
+    word: &str,
+    number: u64,
+    block: &Digested<A::Block>,
+) -> Made {
     match word {
         "verify" => verify(machine, number, block, None),
         "fetched" => fetched(machine, number, block),
@@ -77,7 +83,11 @@ fn play_both(machine: &mut Machine, word: &str, number: u64, block: &Digested<Fa
 }
 
 /// Does what the words of a line say.
-pub(crate) fn play(machine: &mut Machine, blocks: &Blocks, words: &[&str]) -> Made {
+pub(crate) fn play<A: Played>(
+    machine: &mut Machine<A>,
+    blocks: &Blocks<A::Block>,
+    words: &[&str],
+) -> Made {
     match words {
         [word] => play_alone(machine, word),
         ["propose", rest @ ..] => recover(machine, blocks, ProposalKind::Propose, rest),

@@ -1,23 +1,21 @@
 //! Commands on requests, runs and pauses.
 
-use crate::block::{End, FakeBlock};
-use crate::blocks::{Blocks, end, number, round, small};
-use crate::fake::Order;
+use crate::blocks::Blocks;
 use crate::machine::{Machine, Made, quiet};
+use crate::played::Played;
 use crate::told::{Told, tell, yes_or_no};
+use crate::words::number;
 use stateful_db::{AppFault, ProposalKind};
 use stateful_exec::{Acquired, Joined, ReplayPath, Request};
-use stateful_types::{
-    Ancestry, Anchor, Digested, Handoff, Items, Moved, OutOfMemory, Round, Share,
-};
+use stateful_types::{Ancestry, Anchor, Block, Digested, Items, Moved, OutOfMemory, Share};
 use std::alloc::Global;
 
 /// A block, with its parent behind it where there is one at hand.
-fn ancestry(
+fn ancestry<B: Block + Drop>(
     alloc: Global,
-    first: &Digested<FakeBlock>,
-    parent: Option<&Digested<FakeBlock>>,
-) -> Result<Ancestry<FakeBlock>, OutOfMemory> {
+    first: &Digested<B>,
+    parent: Option<&Digested<B>>,
+) -> Result<Ancestry<B>, OutOfMemory> {
     let mut rest = Items::new(alloc);
     if let Some(parent) = parent {
         rest.push(parent.share()?)?;
@@ -26,7 +24,10 @@ fn ancestry(
     Ok(Ancestry { first, rest })
 }
 
-fn schedule(machine: &mut Machine, request: Request<FakeBlock, Round, Order>) -> Made {
+fn schedule<A: Played>(
+    machine: &mut Machine<A>,
+    request: Request<A::Block, A::Context, A::Input>,
+) -> Made {
     quiet(
         machine.handler.schedule(
             &mut machine.databases,
@@ -38,58 +39,44 @@ fn schedule(machine: &mut Machine, request: Request<FakeBlock, Round, Order>) ->
 }
 
 /// `verify TICKET BLOCK [PARENT]`.
-pub(crate) fn verify(
-    machine: &mut Machine,
+pub(crate) fn verify<A: Played>(
+    machine: &mut Machine<A>,
     ticket: u64,
-    first: &Digested<FakeBlock>,
-    parent: Option<&Digested<FakeBlock>>,
+    first: &Digested<A::Block>,
+    parent: Option<&Digested<A::Block>>,
 ) -> Made {
     let ancestry = ancestry(machine.alloc, first, parent)?;
     schedule(machine, Request::Verify { ticket, ancestry })
 }
 
-/// What a build is ordered to do that hands over this block.
-fn order_of(block: &FakeBlock, how: &str, turns: u8, end: End) -> Order {
-    let given = match how {
-        "vote" => Handoff::Vote(*block),
-        "stage" => Handoff::Stage(*block),
-        _ => Handoff::Wait,
-    };
-    Order { turns, end, given }
-}
-
 /// What a build is ordered to do, by the words `HOW [BLOCK [TURNS END]]`.
-fn order(blocks: &Blocks, words: &[&str]) -> Option<Order> {
+fn order<A: Played>(blocks: &Blocks<A::Block>, words: &[&str]) -> Option<A::Input> {
     match words {
-        ["wait"] => Some(Order {
-            turns: 0,
-            end: End::States,
-            given: Handoff::Wait,
-        }),
+        ["wait"] => Some(A::wait()),
         [how, name] => {
             let block = blocks.find(name)?;
-            Some(order_of(block.inner(), how, 0, End::States))
+            Some(A::give(block.inner(), how, "0", "states"))
         }
         [how, name, turns, last] => {
             let block = blocks.find(name)?;
-            Some(order_of(block.inner(), how, small(turns), end(last)))
+            Some(A::give(block.inner(), how, turns, last))
         }
         _ => None,
     }
 }
 
-fn bid(
-    machine: &mut Machine,
+fn bid<A: Played>(
+    machine: &mut Machine<A>,
     kind: ProposalKind,
     ticket: u64,
-    parent: &Digested<FakeBlock>,
+    parent: &Digested<A::Block>,
     view: u64,
-    input: Order,
+    input: A::Input,
 ) -> Made {
     let ancestry = ancestry(machine.alloc, parent, None)?;
     let request = Request::Recover {
         ticket,
-        context: round(view),
+        context: A::context(view),
         ancestry,
         input,
         kind,
@@ -99,16 +86,16 @@ fn bid(
 
 /// `propose TICKET PARENT VIEW HOW [BLOCK [TURNS END]]`, and `prepare`, by the words behind the
 /// first.
-pub(crate) fn recover(
-    machine: &mut Machine,
-    blocks: &Blocks,
+pub(crate) fn recover<A: Played>(
+    machine: &mut Machine<A>,
+    blocks: &Blocks<A::Block>,
     kind: ProposalKind,
     words: &[&str],
 ) -> Made {
     let [ticket, parent, view, rest @ ..] = words else {
         return Ok(tell("no such command"));
     };
-    match (blocks.find(parent), order(blocks, rest)) {
+    match (blocks.find(parent), order::<A>(blocks, rest)) {
         (Some(parent), Some(input)) => {
             bid(machine, kind, number(ticket), parent, number(view), input)
         }
@@ -117,16 +104,20 @@ pub(crate) fn recover(
 }
 
 /// `fetched FETCH BLOCK`.
-pub(crate) fn fetched(machine: &mut Machine, fetch: u64, block: &Digested<FakeBlock>) -> Made {
+pub(crate) fn fetched<A: Played>(
+    machine: &mut Machine<A>,
+    fetch: u64,
+    block: &Digested<A::Block>,
+) -> Made {
     let answer = block.share()?;
     answered(machine, fetch, Some(answer))
 }
 
 /// `fetched FETCH`, and with a block.
-pub(crate) fn answered(
-    machine: &mut Machine,
+pub(crate) fn answered<A: Played>(
+    machine: &mut Machine<A>,
     fetch: u64,
-    answer: Option<Digested<FakeBlock>>,
+    answer: Option<Digested<A::Block>>,
 ) -> Made {
     quiet(
         machine.handler.fetched(
@@ -140,13 +131,13 @@ pub(crate) fn answered(
 }
 
 /// `cancel TICKET`.
-pub(crate) fn cancel(machine: &mut Machine, ticket: u64) -> Made {
+pub(crate) fn cancel<A: Played>(machine: &mut Machine<A>, ticket: u64) -> Made {
     machine.handler.cancel(ticket, &mut machine.marks)?;
     Ok(tell(""))
 }
 
 /// `turn JOB`.
-pub(crate) fn turn(machine: &mut Machine, job: u64) -> Made {
+pub(crate) fn turn<A: Played>(machine: &mut Machine<A>, job: u64) -> Made {
     quiet(
         machine
             .handler
@@ -155,7 +146,7 @@ pub(crate) fn turn(machine: &mut Machine, job: u64) -> Made {
 }
 
 /// `settle JOB HOW`.
-pub(crate) fn settle(machine: &mut Machine, job: u64, how: &str) -> Made {
+pub(crate) fn settle<A: Played>(machine: &mut Machine<A>, job: u64, how: &str) -> Made {
     let answer = match how {
         "pending" => Ok(Moved::Pending),
         "fails" => Err(AppFault::Failed),
@@ -169,13 +160,13 @@ pub(crate) fn settle(machine: &mut Machine, job: u64, how: &str) -> Made {
 }
 
 /// A request is to go along this path.
-fn set_out(machine: &mut Machine, ticket: u64, path: ReplayPath<FakeBlock>) -> Made {
+fn set_out<A: Played>(machine: &mut Machine<A>, ticket: u64, path: ReplayPath<A::Block>) -> Made {
     let set = machine.handler.start(ticket, path)?;
     Ok(yes_or_no(set))
 }
 
 /// `start TICKET`.
-pub(crate) fn start(machine: &mut Machine, ticket: u64) -> Made {
+pub(crate) fn start<A: Played>(machine: &mut Machine<A>, ticket: u64) -> Made {
     let Some(needed) = machine.handler.prepare(ticket, &machine.store)? else {
         return Ok(tell("no request"));
     };
@@ -189,7 +180,7 @@ pub(crate) fn start(machine: &mut Machine, ticket: u64) -> Made {
 }
 
 /// `next TICKET`.
-pub(crate) fn next(machine: &Machine, ticket: u64) -> Made {
+pub(crate) fn next<A: Played>(machine: &Machine<A>, ticket: u64) -> Made {
     match machine.handler.next(ticket) {
         Some(step) => Ok(tell("next").block(step.digest)),
         None => Ok(tell("none next")),
@@ -197,7 +188,7 @@ pub(crate) fn next(machine: &Machine, ticket: u64) -> Made {
 }
 
 /// `process TICKET`.
-pub(crate) fn process(machine: &mut Machine, ticket: u64) -> Made {
+pub(crate) fn process<A: Played>(machine: &mut Machine<A>, ticket: u64) -> Made {
     let joined = machine
         .handler
         .process(ticket, &mut machine.databases, &mut machine.marks)?;
@@ -210,20 +201,20 @@ pub(crate) fn process(machine: &mut Machine, ticket: u64) -> Made {
 }
 
 /// `pause`.
-pub(crate) fn pause(machine: &mut Machine) -> Made {
+pub(crate) fn pause<A: Played>(machine: &mut Machine<A>) -> Made {
     let awaited = machine.handler.pause(None, &mut machine.marks)?;
     Ok(tell("awaits").number(awaited as u64))
 }
 
 /// `pause BLOCK`.
-pub(crate) fn pause_for(machine: &mut Machine, block: &Digested<FakeBlock>) -> Made {
+pub(crate) fn pause_for<A: Played>(machine: &mut Machine<A>, block: &Digested<A::Block>) -> Made {
     let boundary = machine.handler.boundary(block)?;
     let awaited = machine.handler.pause(Some(boundary), &mut machine.marks)?;
     Ok(tell("awaits").number(awaited as u64))
 }
 
 /// `resume`.
-pub(crate) fn resume(machine: &mut Machine) -> Made {
+pub(crate) fn resume<A: Played>(machine: &mut Machine<A>) -> Made {
     quiet(
         machine
             .handler
@@ -232,16 +223,16 @@ pub(crate) fn resume(machine: &mut Machine) -> Made {
 }
 
 /// `store BLOCK`.
-pub(crate) fn store(machine: &mut Machine, block: &Digested<FakeBlock>) -> Made {
+pub(crate) fn store<A: Played>(machine: &mut Machine<A>, block: &Digested<A::Block>) -> Made {
     let block = block.share()?;
     machine.store.insert(block)?;
     Ok(tell(""))
 }
 
 /// `reopen BLOCK JOB FETCH`. Numbers never fall.
-pub(crate) fn reopen(
-    machine: &mut Machine,
-    block: &Digested<FakeBlock>,
+pub(crate) fn reopen<A: Played>(
+    machine: &mut Machine<A>,
+    block: &Digested<A::Block>,
     job: u64,
     fetch: u64,
 ) -> Told {

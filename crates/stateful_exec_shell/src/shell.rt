@@ -2,6 +2,7 @@
 
 use crate::blocks::Blocks;
 use crate::machine::{Machine, Made};
+use crate::played::Played;
 use crate::playing::play;
 use crate::telling::{of_error, of_mark};
 use stateful_shell::Shell;
@@ -10,15 +11,15 @@ use std::alloc::Global;
 
 /// The blocks that were named, and execution, once it was opened.
 #[derive(Drop)]
-pub(crate) struct ExecShell {
-    blocks: Blocks,
-    machine: Option<Machine>,
+pub(crate) struct ExecShell<A: Played> {
+    blocks: Blocks<A::Block>,
+    machine: Option<Machine<A>>,
 }
 
 /// Appends a line: what the marks tell, and what the call answers or why it is refused.
-fn say(
-    machine: &mut Machine,
-    blocks: &Blocks,
+fn say<A: Played>(
+    machine: &mut Machine<A>,
+    blocks: &Blocks<A::Block>,
     made: Made,
     out: &mut String,
 ) -> Result<(), OutOfMemory> {
@@ -39,7 +40,7 @@ fn say(
     Ok(())
 }
 
-impl ExecShell {
+impl<A: Played> ExecShell<A> {
     /// `block ..`.
     fn name(
         &mut self,
@@ -48,10 +49,14 @@ impl ExecShell {
         words: &[&str],
         out: &mut String,
     ) -> Result<(), OutOfMemory> {
-        if !self.blocks.add(name, parent, words)? {
-            out.push_str("no such block\n")?;
+        let parent = self.blocks.digest_of(parent);
+        match A::block(self.blocks.alloc, parent, words) {
+            Some(block) => self.blocks.put(name, block),
+            None => {
+                out.push_str("no such block\n")?;
+                Ok(())
+            }
         }
-        Ok(())
     }
 
     /// `open BLOCK`.
@@ -76,8 +81,8 @@ impl ExecShell {
     }
 }
 
-impl Shell for ExecShell {
-    fn new(alloc: Global) -> ExecShell {
+impl<A: Played> Shell for ExecShell<A> {
+    fn new(alloc: Global) -> ExecShell<A> {
         ExecShell {
             blocks: Blocks::new(alloc),
             machine: None,

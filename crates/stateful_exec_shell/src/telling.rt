@@ -1,6 +1,5 @@
 //! What marks and errors tell.
 
-use crate::block::FakeBlock;
 use crate::told::{Told, tell};
 use stateful_exec::{ExecError, ProposalFault};
 use stateful_history::{Decision, How, JobKind, Mark};
@@ -35,7 +34,7 @@ fn decision_word(decision: Decision) -> &'static str {
 }
 
 /// What a mark tells.
-pub(crate) fn of_mark(mark: &Mark<FakeBlock>) -> Told {
+pub(crate) fn of_mark<B>(mark: &Mark<B>) -> Told {
     match mark {
         Mark::Asked {
             fetch,

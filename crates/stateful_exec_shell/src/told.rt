@@ -1,7 +1,7 @@
 //! What is printed of one thing that was done or answered.
 
 use crate::blocks::Blocks;
-use stateful_types::{Digest, OutOfMemory};
+use stateful_types::{Block, Digest, OutOfMemory};
 
 /// A word, with up to two numbers and up to two blocks behind it.
 #[derive(Clone, Copy)]
@@ -35,7 +35,11 @@ fn push_number(out: &mut String, number: u64) -> Result<(), OutOfMemory> {
     Ok(())
 }
 
-fn push_name(out: &mut String, blocks: &Blocks, digest: Digest) -> Result<(), OutOfMemory> {
+fn push_name<B: Block + Drop>(
+    out: &mut String,
+    blocks: &Blocks<B>,
+    digest: Digest,
+) -> Result<(), OutOfMemory> {
     out.push(' ')?;
     out.push_str(blocks.name_of(digest))?;
     Ok(())
@@ -86,7 +90,11 @@ impl Told {
         }
     }
 
-    fn push_blocks(&self, out: &mut String, blocks: &Blocks) -> Result<(), OutOfMemory> {
+    fn push_blocks<B: Block + Drop>(
+        &self,
+        out: &mut String,
+        blocks: &Blocks<B>,
+    ) -> Result<(), OutOfMemory> {
         if let Some(digest) = self.block {
             push_name(out, blocks, digest)?;
         }
@@ -97,10 +105,10 @@ impl Told {
     }
 
     /// Appends it, behind a comma where something stands before it in its line.
-    pub(crate) fn push(
+    pub(crate) fn push<B: Block + Drop>(
         &self,
         out: &mut String,
-        blocks: &Blocks,
+        blocks: &Blocks<B>,
         begin: usize,
     ) -> Result<(), OutOfMemory> {
         if self.word.is_empty() {
