@@ -19,18 +19,27 @@ pub(crate) fn refused(out: &mut String) -> Shown {
     say("refused", out)
 }
 
+/// The byte of a digest that is 32 times the same.
+fn repeated(digest: Digest) -> Option<u8> {
+    let first = digest.0[0];
+    for byte in digest.0 {
+        if byte != first {
+            return None;
+        }
+    }
+    Some(first)
+}
+
 /// A digest in hex. The byte of one that is 32 times the same: `7*32`.
 #[derive(Clone, Copy)]
 pub(crate) struct Hex(pub(crate) Digest);
 
 impl fmt::Display for Hex {
     fn fmt<W: fmt::Write>(&self, f: &mut fmt::Formatter<W>) -> fmt::Result {
-        let bytes = self.0.0;
-        let first = bytes[0];
-        if bytes.iter().all(|byte| *byte == first) {
-            return write!(f, "{first}*32");
+        if let Some(byte) = repeated(self.0) {
+            return write!(f, "{byte}*32");
         }
-        for byte in bytes {
+        for byte in self.0.0 {
             write!(f, "{byte:02x}")?;
         }
         Ok(())
