@@ -71,7 +71,7 @@ use std::process::ExitCode;
 
 /// The worlds that a file can name.
 #[derive(Clone, Copy)]
-enum World {
+enum Kind {
     Plain,
     Pair,
     Triple,
@@ -83,18 +83,18 @@ struct BankShell {
     draft: Draft,
     state: PlainState,
     chain: Chain,
-    world: World,
+    kind: Kind,
     plain: Option<Desk<Single>>,
     pair: Option<Desk<Pair>>,
     triple: Option<Desk<Triple>>,
 }
 
 /// The world of a name.
-fn world_of(name: &str) -> World {
+fn kind_of(name: &str) -> Kind {
     match name {
-        "pair" => World::Pair,
-        "triple" => World::Triple,
-        _ => World::Plain,
+        "pair" => Kind::Pair,
+        "triple" => Kind::Triple,
+        _ => Kind::Plain,
     }
 }
 
@@ -109,13 +109,13 @@ fn print_depth(depth: Option<usize>, out: &mut String) -> Result<(), OutOfMemory
 impl BankShell {
     /// How deep a batch is. The one plain database doesn't tell.
     fn depth(&self, batch: u64) -> Option<usize> {
-        match self.world {
-            World::Plain => None,
-            World::Pair => {
+        match self.kind {
+            Kind::Plain => None,
+            Kind::Pair => {
                 let desk = self.pair.as_ref()?;
                 desk.sealed.get(&batch).map(|sealed| sealed.0.depth())
             }
-            World::Triple => {
+            Kind::Triple => {
                 let desk = self.triple.as_ref()?;
                 desk.sealed.get(&batch).map(|sealed| sealed.0.depth())
             }
@@ -124,10 +124,10 @@ impl BankShell {
 
     /// Does what the words of a line say of databases.
     fn play_world(&mut self, words: &[&str], out: &mut String) -> Result<(), OutOfMemory> {
-        match self.world {
-            World::Plain => world::play(&mut self.plain, &self.chain, words, out),
-            World::Pair => world::play(&mut self.pair, &self.chain, words, out),
-            World::Triple => world::play(&mut self.triple, &self.chain, words, out),
+        match self.kind {
+            Kind::Plain => world::play(&mut self.plain, &self.chain, words, out),
+            Kind::Pair => world::play(&mut self.pair, &self.chain, words, out),
+            Kind::Triple => world::play(&mut self.triple, &self.chain, words, out),
         }
     }
 
@@ -152,7 +152,7 @@ impl Shell for BankShell {
             draft: Draft::new(alloc),
             state: PlainState::empty(alloc),
             chain: Chain::new(alloc),
-            world: World::Plain,
+            kind: Kind::Plain,
             plain: None,
             pair: None,
             triple: None,
@@ -162,7 +162,7 @@ impl Shell for BankShell {
     fn play(&mut self, line: &str, out: &mut String) -> Result<(), OutOfMemory> {
         let words: Vec<&str> = line.split_whitespace().collect(*out.allocator())?;
         if let ["world", name] = words.as_slice() {
-            self.world = world_of(name);
+            self.kind = kind_of(name);
         }
         self.play_words(words.as_slice(), out)
     }
