@@ -18,6 +18,8 @@
 
 mod case;
 mod playing;
+mod words;
 
 pub use case::{Shell, Tally};
 pub use playing::play_files;
+pub use words::word;
