@@ -45,11 +45,6 @@ pub(crate) struct Cases<S: Shell> {
     pub(crate) tally: Tally,
 }
 
-/// Whether a line stands for itself alone: a comment, or a blank one.
-fn is_beside(line: &str) -> bool {
-    line.is_empty() || line.starts_with('#')
-}
-
 /// Appends a line.
 fn push_line(text: &mut String, line: &str) -> Result<(), OutOfMemory> {
     text.push_str(line)?;
@@ -83,7 +78,8 @@ impl<S: Shell> Cases<S> {
                 self.part = Part::Answer;
                 Ok(None)
             }
-            Part::Commands if is_beside(line) => Ok(None),
+            Part::Commands if line.is_empty() => self.finish(),
+            Part::Commands if line.starts_with('#') => Ok(None),
             Part::Commands => {
                 push_line(&mut self.commands, line)?;
                 self.shell.play(line, &mut self.printed)?;
@@ -92,10 +88,13 @@ impl<S: Shell> Cases<S> {
         }
     }
 
-    /// The case is over, if one was begun.
+    /// The case is over, if one was begun. One without a line `----` prints nothing, by its file.
     pub(crate) fn finish(&mut self) -> Result<Option<String>, OutOfMemory> {
         if self.part == Part::Commands && self.commands.is_empty() {
             return Ok(None);
+        }
+        if self.part == Part::Commands {
+            self.shell.end(&mut self.printed)?;
         }
         let alloc = *self.commands.allocator();
         let commands = mem::replace(&mut self.commands, String::new(alloc));

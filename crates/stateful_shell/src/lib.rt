@@ -1,6 +1,6 @@
 //! Commands with what they print beside them, as data. A file has cases: lines of commands, a line
 //! `----`, what these print, and a blank line. Lines that begin with `#` are comments, which say
-//! what a case shows.
+//! what a case shows. A case without a line `----` is to print nothing.
 //!
 //!     # a block of height 1 is held until a barrier over it is done
 //!     apply 1 7
