@@ -3,6 +3,7 @@
 use crate::words::{Said, index, number, say, say_value};
 use stateful_base::OutOfMemory;
 use stateful_db::{Barrier, BarrierPoll, FlushToken, Flushed};
+use stateful_shell::word;
 use std::alloc::Global;
 
 /// `barrier PLACE..`: a barrier of tokens of these places.
@@ -37,15 +38,21 @@ fn answer(barrier: &mut Barrier, number: usize, answer: Flushed, out: &mut Strin
     }
 }
 
+/// How a flush went, by the word for it.
+fn play_answer(barrier: &mut Barrier, words: &[&str], out: &mut String) -> Said {
+    match word(words, 2) {
+        "good" => answer(barrier, index(word(words, 1)), Flushed::Good, out),
+        "interrupted" => answer(barrier, index(word(words, 1)), Flushed::Interrupted, out),
+        _ => say(out, "no such command"),
+    }
+}
+
 /// What a line says of a barrier.
 pub(crate) fn play(barrier: &mut Barrier, words: &[&str], out: &mut String) -> Said {
-    match words {
-        ["handle", number] => handle(barrier, index(number), out),
-        ["answer", number, "good"] => answer(barrier, index(number), Flushed::Good, out),
-        ["answer", number, "interrupted"] => {
-            answer(barrier, index(number), Flushed::Interrupted, out)
-        }
-        ["poll"] => say_poll(barrier.poll(), out),
+    match word(words, 0) {
+        "handle" => handle(barrier, index(word(words, 1)), out),
+        "answer" => play_answer(barrier, words, out),
+        "poll" => say_poll(barrier.poll(), out),
         _ => say(out, "no such command"),
     }
 }

@@ -4,10 +4,13 @@ use crate::named::Named;
 use crate::sets::Member;
 use crate::staging::{self, Staging};
 use crate::tables::{self, Table};
-use crate::words::{Said, number, numbers, push_root, say, say_read, say_reads, say_value, write};
+use crate::words::{
+    Said, number, numbers, push_root, rest, say, say_read, say_reads, say_value, write,
+};
 use stateful_base::Target;
 use stateful_db::{DbCall, Held};
 use stateful_db_any::{AnyDb, AnyMedium};
+use stateful_shell::word;
 use std::alloc::Global;
 
 /// The database, from numbers to numbers.
@@ -157,34 +160,58 @@ fn metadata(table: &Table<Held<Map>>, out: &mut String) -> Said {
     }
 }
 
+/// `metadata`, `metadata B VALUE`.
+fn play_metadata(table: &mut Table<Held<Map>>, words: &[&str], out: &mut String) -> Said {
+    match words.len() {
+        1 => metadata(table, out),
+        _ => with(table, word(words, 1), number(word(words, 2)), out),
+    }
+}
+
+/// `get KEY`, `get B KEY`.
+fn play_get(table: &Table<Held<Map>>, words: &[&str], out: &mut String) -> Said {
+    match words.len() {
+        3 => get_in(table, word(words, 1), number(word(words, 2)), out),
+        _ => get(table, number(word(words, 1)), out),
+    }
+}
+
 /// What a line says of the database.
 fn play_map(table: &mut Table<Held<Map>>, words: &[&str], out: &mut String) -> Said {
-    match words {
-        ["write", name, writes @ ..] => put(table, name, writes, out),
-        ["metadata", name, metadata] => with(table, name, number(metadata), out),
-        ["get", name, key] => get_in(table, name, number(key), out),
-        ["many", name, keys @ ..] => many_in(table, name, keys, out),
-        ["bounds", name] => bounds(table, name, out),
-        ["get", key] => get(table, number(key), out),
-        ["entries"] => entries(table, out),
-        ["metadata"] => metadata(table, out),
-        ["root"] => root(table, out),
+    match word(words, 0) {
+        "write" => put(table, word(words, 1), rest(words, 2), out),
+        "metadata" => play_metadata(table, words, out),
+        "get" => play_get(table, words, out),
+        "many" => many_in(table, word(words, 1), rest(words, 2), out),
+        "bounds" => bounds(table, word(words, 1), out),
+        "entries" => entries(table, out),
+        "root" => root(table, out),
         _ => tables::play(table, words, out),
+    }
+}
+
+/// `set any D:CALL:N..`: nothing is staged any more.
+fn restart(any: &mut AnyTable, words: &[&str], out: &mut String) -> Said {
+    any.staging = None;
+    play_map(&mut any.table, words, out)
+}
+
+/// `staged`, `staged VALUE`.
+fn play_staged(any: &mut AnyTable, words: &[&str], out: &mut String) -> Said {
+    match words.len() {
+        1 => staging::show(any, out),
+        _ => staging::with(any, number(word(words, 1)), out),
     }
 }
 
 /// What a line says of a set of one.
 pub(crate) fn play(any: &mut AnyTable, words: &[&str], out: &mut String) -> Said {
-    match words {
-        ["set", ..] => {
-            any.staging = None;
-            play_map(&mut any.table, words, out)
-        }
-        ["stage", name, keys @ ..] => staging::stage(any, name, keys, out),
-        ["expand", keys @ ..] => staging::expand(any, keys, out),
-        ["staged", metadata] => staging::with(any, number(metadata), out),
-        ["staged"] => staging::show(any, out),
-        ["finish", name, slots @ ..] => staging::finish(any, name, slots, out),
+    match word(words, 0) {
+        "set" => restart(any, words, out),
+        "stage" => staging::stage(any, word(words, 1), rest(words, 2), out),
+        "expand" => staging::expand(any, rest(words, 1), out),
+        "staged" => play_staged(any, words, out),
+        "finish" => staging::finish(any, word(words, 1), rest(words, 2), out),
         _ => play_map(&mut any.table, words, out),
     }
 }

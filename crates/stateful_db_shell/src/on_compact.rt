@@ -3,10 +3,11 @@
 use crate::named::Named;
 use crate::sets::Member;
 use crate::tables::{self, Table};
-use crate::words::{Said, number, push_root, say, say_value};
+use crate::words::{Said, number, push_root, rest, say, say_value};
 use stateful_base::{CompactTarget, Location, Target};
 use stateful_db::{DbCall, Held};
 use stateful_db_keyless::{CompactDb, CompactMedium};
+use stateful_shell::word;
 use std::alloc::Global;
 
 /// A set of one of it.
@@ -107,15 +108,22 @@ fn metadata(table: &CompactTable, out: &mut String) -> Said {
     }
 }
 
+/// `metadata`, `metadata B VALUE`.
+fn play_metadata(table: &mut CompactTable, words: &[&str], out: &mut String) -> Said {
+    match words.len() {
+        1 => metadata(table, out),
+        _ => with(table, word(words, 1), number(word(words, 2)), out),
+    }
+}
+
 /// What a line says of a set of one.
 pub(crate) fn play(table: &mut CompactTable, words: &[&str], out: &mut String) -> Said {
-    match words {
-        ["append", name, values @ ..] => append(table, name, values, out),
-        ["metadata", name, metadata] => with(table, name, number(metadata), out),
-        ["floor", name, at] => floor(table, name, number(at), out),
-        ["bounds", name] => bounds(table, name, out),
-        ["metadata"] => metadata(table, out),
-        ["root"] => root(table, out),
+    match word(words, 0) {
+        "append" => append(table, word(words, 1), rest(words, 2), out),
+        "metadata" => play_metadata(table, words, out),
+        "floor" => floor(table, word(words, 1), number(word(words, 2)), out),
+        "bounds" => bounds(table, word(words, 1), out),
+        "root" => root(table, out),
         _ => tables::play(table, words, out),
     }
 }

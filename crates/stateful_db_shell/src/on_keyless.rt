@@ -3,10 +3,11 @@
 use crate::named::Named;
 use crate::sets::Member;
 use crate::tables::{self, Table};
-use crate::words::{Said, number, numbers, push_root, say, say_read, say_reads, say_value};
+use crate::words::{Said, number, push_root, rest, say, say_read, say_reads, say_value};
 use stateful_base::{Location, OutOfMemory, Target};
 use stateful_db::{DbCall, Held};
 use stateful_db_keyless::{KeylessDb, KeylessMedium};
+use stateful_shell::word;
 use std::alloc::Global;
 
 /// A set of one of it.
@@ -151,18 +152,32 @@ fn metadata(table: &KeylessTable, out: &mut String) -> Said {
     }
 }
 
+/// `metadata`, `metadata B VALUE`.
+fn play_metadata(table: &mut KeylessTable, words: &[&str], out: &mut String) -> Said {
+    match words.len() {
+        1 => metadata(table, out),
+        _ => with(table, word(words, 1), number(word(words, 2)), out),
+    }
+}
+
+/// `get LOCATION`, `get B LOCATION`.
+fn play_get(table: &KeylessTable, words: &[&str], out: &mut String) -> Said {
+    match words.len() {
+        3 => get_in(table, word(words, 1), number(word(words, 2)), out),
+        _ => get(table, number(word(words, 1)), out),
+    }
+}
+
 /// What a line says of a set of one.
 pub(crate) fn play(table: &mut KeylessTable, words: &[&str], out: &mut String) -> Said {
-    match words {
-        ["append", name, values @ ..] => append(table, name, values, out),
-        ["metadata", name, metadata] => with(table, name, number(metadata), out),
-        ["floor", name, at] => floor(table, name, number(at), out),
-        ["get", name, at] => get_in(table, name, number(at), out),
-        ["many", name, all @ ..] => many_in(table, name, all, out),
-        ["bounds", name] => bounds(table, name, out),
-        ["get", at] => get(table, number(at), out),
-        ["metadata"] => metadata(table, out),
-        ["root"] => root(table, out),
+    match word(words, 0) {
+        "append" => append(table, word(words, 1), rest(words, 2), out),
+        "metadata" => play_metadata(table, words, out),
+        "floor" => floor(table, word(words, 1), number(word(words, 2)), out),
+        "get" => play_get(table, words, out),
+        "many" => many_in(table, word(words, 1), rest(words, 2), out),
+        "bounds" => bounds(table, word(words, 1), out),
+        "root" => root(table, out),
         _ => tables::play(table, words, out),
     }
 }

@@ -3,10 +3,11 @@
 use crate::named::Named;
 use crate::sets::{Member, count};
 use crate::tables::{self, Table};
-use crate::words::{Said, number, say, say_read, say_value, write};
+use crate::words::{Said, number, rest, say, say_read, say_value, write};
 use stateful_base::Target;
 use stateful_db::{BatchError, DbCall, Held};
 use stateful_db_plain::{Plain, PlainMedium};
+use stateful_shell::word;
 use std::alloc::Global;
 
 /// A set of one of it.
@@ -94,13 +95,20 @@ fn entries(table: &PlainTable, out: &mut String) -> Said {
     say(out, "")
 }
 
+/// `get KEY`, `get B KEY`.
+fn play_get(table: &PlainTable, words: &[&str], out: &mut String) -> Said {
+    match words.len() {
+        3 => get_in(table, word(words, 1), number(word(words, 2)), out),
+        _ => get(table, number(word(words, 1)), out),
+    }
+}
+
 /// What a line says of a set of one.
 pub(crate) fn play(table: &mut PlainTable, words: &[&str], out: &mut String) -> Said {
-    match words {
-        ["write", name, writes @ ..] => put(table, name, writes, out),
-        ["get", name, key] => get_in(table, name, number(key), out),
-        ["get", key] => get(table, number(key), out),
-        ["entries"] => entries(table, out),
+    match word(words, 0) {
+        "write" => put(table, word(words, 1), rest(words, 2), out),
+        "get" => play_get(table, words, out),
+        "entries" => entries(table, out),
         _ => tables::play(table, words, out),
     }
 }

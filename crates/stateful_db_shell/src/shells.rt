@@ -7,11 +7,11 @@ use crate::on_compact::{self, CompactTable};
 use crate::on_keyless::{self, KeylessTable};
 use crate::on_plain::{self, PlainTable};
 use crate::tables::{self, Table};
-use crate::words::{Said, say};
+use crate::words::{Said, rest, say};
 use stateful_base::OutOfMemory;
 use stateful_db::{Barrier, Held};
 use stateful_db_plain::Plain;
-use stateful_shell::Shell;
+use stateful_shell::{Shell, word};
 use std::alloc::Global;
 
 type Two = (Held<Plain>, Held<Plain>);
@@ -30,17 +30,28 @@ enum Kind {
     Three,
 }
 
-/// A set of each kind, which of them is played on, and a barrier.
+/// Sets of plain databases.
 #[derive(Drop)]
-pub(crate) struct Databases {
-    alloc: Global,
-    kind: Kind,
-    plain: PlainTable,
+struct Plains {
+    one: PlainTable,
+    two: Table<Two>,
+    three: Table<Three>,
+}
+
+/// Sets of one database that is kept as a log.
+#[derive(Drop)]
+struct Logs {
     any: AnyTable,
     keyless: KeylessTable,
     compact: CompactTable,
-    two: Table<Two>,
-    three: Table<Three>,
+}
+
+/// A set of each kind, which of them is played on, and a barrier.
+#[derive(Drop)]
+pub(crate) struct Databases {
+    kind: Kind,
+    plains: Plains,
+    logs: Logs,
     barrier: Option<Barrier>,
 }
 
@@ -77,10 +88,28 @@ fn three(alloc: Global) -> Table<Three> {
     }
 }
 
+/// Sets of plain databases, before one is begun.
+fn plains(alloc: Global) -> Plains {
+    Plains {
+        one: on_plain::new(alloc),
+        two: two(alloc),
+        three: three(alloc),
+    }
+}
+
+/// Sets of logs, before one is begun.
+fn logs(alloc: Global) -> Logs {
+    Logs {
+        any: on_any::new(alloc),
+        keyless: on_keyless::new(alloc),
+        compact: on_compact::new(alloc),
+    }
+}
+
 /// What a line answers where there is no set.
 fn say_none(words: &[&str], out: &mut String) -> Said {
-    match words {
-        ["set", ..] => say(out, "no such kind"),
+    match word(words, 0) {
+        "set" => say(out, "no such kind"),
         _ => say(out, "no set"),
     }
 }
@@ -101,25 +130,49 @@ fn begin_barrier(barrier: &mut Option<Barrier>, words: &[&str], out: &mut String
     barriers::say_poll(poll, out)
 }
 
+/// What a line says of a set of plain databases.
+fn play_plains(plains: &mut Plains, kind: Kind, words: &[&str], out: &mut String) -> Said {
+    match kind {
+        Kind::Two => tables::play(&mut plains.two, words, out),
+        Kind::Three => tables::play(&mut plains.three, words, out),
+        _ => on_plain::play(&mut plains.one, words, out),
+    }
+}
+
+/// What a line says of a set of one log.
+fn play_logs(logs: &mut Logs, kind: Kind, words: &[&str], out: &mut String) -> Said {
+    match kind {
+        Kind::Keyless => on_keyless::play(&mut logs.keyless, words, out),
+        Kind::Compact => on_compact::play(&mut logs.compact, words, out),
+        _ => on_any::play(&mut logs.any, words, out),
+    }
+}
+
 impl Databases {
     /// What a line says of the set.
     fn play_set(&mut self, words: &[&str], out: &mut String) -> Said {
-        match self.kind {
+        let kind = self.kind;
+        match kind {
             Kind::None => say_none(words, out),
-            Kind::Plain => on_plain::play(&mut self.plain, words, out),
-            Kind::Any => on_any::play(&mut self.any, words, out),
-            Kind::Keyless => on_keyless::play(&mut self.keyless, words, out),
-            Kind::Compact => on_compact::play(&mut self.compact, words, out),
-            Kind::Two => tables::play(&mut self.two, words, out),
-            Kind::Three => tables::play(&mut self.three, words, out),
+            Kind::Any | Kind::Keyless | Kind::Compact => {
+                play_logs(&mut self.logs, kind, words, out)
+            }
+            _ => play_plains(&mut self.plains, kind, words, out),
         }
+    }
+
+    /// `set KIND D:CALL:N..`: a set of this kind is played on from now on.
+    fn begin_set(&mut self, words: &[&str], out: &mut String) -> Said {
+        self.kind = kind_of(word(words, 1));
+        self.play_set(words, out)
     }
 
     /// What a line says.
     fn play_words(&mut self, words: &[&str], out: &mut String) -> Said {
-        match words {
-            ["barrier", places @ ..] => begin_barrier(&mut self.barrier, places, out),
-            ["handle" | "answer" | "poll", ..] => play_barrier(&mut self.barrier, words, out),
+        match word(words, 0) {
+            "barrier" => begin_barrier(&mut self.barrier, rest(words, 1), out),
+            "set" => self.begin_set(words, out),
+            "handle" | "answer" | "poll" => play_barrier(&mut self.barrier, words, out),
             _ => self.play_set(words, out),
         }
     }
@@ -128,23 +181,15 @@ impl Databases {
 impl Shell for Databases {
     fn new(alloc: Global) -> Databases {
         Databases {
-            alloc,
             kind: Kind::None,
-            plain: on_plain::new(alloc),
-            any: on_any::new(alloc),
-            keyless: on_keyless::new(alloc),
-            compact: on_compact::new(alloc),
-            two: two(alloc),
-            three: three(alloc),
+            plains: plains(alloc),
+            logs: logs(alloc),
             barrier: None,
         }
     }
 
     fn play(&mut self, line: &str, out: &mut String) -> Result<(), OutOfMemory> {
-        let words: Vec<&str> = line.split_whitespace().collect(self.alloc)?;
-        if let ["set", kind, ..] = words.as_slice() {
-            self.kind = kind_of(kind);
-        }
+        let words: Vec<&str> = line.split_whitespace().collect(*out.allocator())?;
         self.play_words(words.as_slice(), out)
     }
 

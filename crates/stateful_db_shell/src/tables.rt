@@ -5,10 +5,11 @@ ghost use Rattle.std.specs.Prelude.{IsTrue};
 use crate::named::Named;
 use crate::sets::{Failing, Playable, failing_call};
 use crate::words::{
-    Said, index, push_value, say, say_both, say_failed, say_not_opened, say_refused, target,
+    Said, index, push_value, rest, say, say_both, say_failed, say_not_opened, say_refused, target,
 };
 use stateful_base::{OutOfMemory, Target};
 use stateful_db::{Barrier, SetError, SetInit};
+use stateful_shell::word;
 use std::alloc::Global;
 
 /// A set, with open batches, sealed ones and targets by name.
@@ -107,11 +108,11 @@ fn keep<S: Playable>(
 }
 
 /// `expect T D ROOT START END`: other targets at the database of this number.
-fn expect<S: Playable>(table: &mut Table<S>, words: &[&str; 5], out: &mut String) -> Said {
-    let [name, database, root, start, end] = words;
-    match table.targets.get_mut(name) {
+fn expect<S: Playable>(table: &mut Table<S>, words: &[&str], out: &mut String) -> Said {
+    let expected = target(word(words, 3), word(words, 4), word(words, 5));
+    match table.targets.get_mut(word(words, 1)) {
         Some(targets) => {
-            S::expect(targets, index(database), target(root, start, end));
+            S::expect(targets, index(word(words, 2)), expected);
             Ok(())
         }
         None => say(out, "no such targets"),
@@ -329,47 +330,52 @@ fn faults<S: Playable>(set: &S, out: &mut String) -> Said {
     Ok(())
 }
 
+/// `init`, `init T`.
+fn play_init<S: Playable>(table: &mut Table<S>, words: &[&str], out: &mut String) -> Said {
+    match words.len() {
+        1 => init(&mut table.set, None, out),
+        _ => init_at(table, word(words, 1), out),
+    }
+}
+
 /// What a line says of the set.
 fn play_set<S: Playable>(table: &mut Table<S>, words: &[&str], out: &mut String) -> Said {
-    match words {
-        ["init"] => init(&mut table.set, None, out),
-        ["init", name] => init_at(table, name, out),
-        ["show"] => show(&table.set, out),
-        ["faults"] => faults(&table.set, out),
-        ["finalize"] => finalize(&mut table.set, out),
-        ["flush", database] => flush(&mut table.set, index(database), out),
-        ["prune", name] => prune(table, name, out),
-        ["crash", keep @ ..] => crash(table, keep, out),
-        ["take"] => take(table, out),
+    match word(words, 0) {
+        "init" => play_init(table, words, out),
+        "show" => show(&table.set, out),
+        "faults" => faults(&table.set, out),
+        "finalize" => finalize(&mut table.set, out),
+        "flush" => flush(&mut table.set, index(word(words, 1)), out),
+        "prune" => prune(table, word(words, 1), out),
+        "crash" => crash(table, rest(words, 1), out),
+        "take" => take(table, out),
         _ => say(out, "no such command"),
     }
 }
 
 /// What a line says of targets.
 fn play_targets<S: Playable>(table: &mut Table<S>, words: &[&str], out: &mut String) -> Said {
-    match words {
-        ["targets", name] => targets(table, name, out),
-        ["initial", name] => initial(table, name, out),
-        ["target", name, batch] => target_of(table, name, batch, out),
-        ["operations", name] => operations(table, name, out),
-        ["match", batch, name] => matches(table, batch, name, out),
-        ["expect", name, database, root, start, end] => {
-            expect(table, &[*name, *database, *root, *start, *end], out)
-        }
+    match word(words, 0) {
+        "targets" => targets(table, word(words, 1), out),
+        "initial" => initial(table, word(words, 1), out),
+        "target" => target_of(table, word(words, 1), word(words, 2), out),
+        "operations" => operations(table, word(words, 1), out),
+        "match" => matches(table, word(words, 1), word(words, 2), out),
+        "expect" => expect(table, words, out),
         _ => play_set(table, words, out),
     }
 }
 
 /// What a line says that every set knows.
 pub(crate) fn play<S: Playable>(table: &mut Table<S>, words: &[&str], out: &mut String) -> Said {
-    match words {
-        ["set", _, failing @ ..] => start(table, failing, out),
-        ["begin", name] => begin(table, name, out),
-        ["fork", name, parent] => fork(table, name, parent, out),
-        ["seal", name] => seal(table, name, out),
-        ["share", name, of] => share(table, name, of, out),
-        ["apply", name] => apply(table, name, out),
-        ["step"] => step(&mut table.set, out),
+    match word(words, 0) {
+        "set" => start(table, rest(words, 2), out),
+        "begin" => begin(table, word(words, 1), out),
+        "fork" => fork(table, word(words, 1), word(words, 2), out),
+        "seal" => seal(table, word(words, 1), out),
+        "share" => share(table, word(words, 1), word(words, 2), out),
+        "apply" => apply(table, word(words, 1), out),
+        "step" => step(&mut table.set, out),
         _ => play_targets(table, words, out),
     }
 }

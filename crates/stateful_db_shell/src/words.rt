@@ -18,6 +18,11 @@ pub(crate) fn index(word: &str) -> usize {
     word.parse::<usize>().unwrap_or(0)
 }
 
+/// The words from this number on.
+pub(crate) fn rest<'a, 'b>(words: &'a [&'b str], from: usize) -> &'a [&'b str] {
+    words.get(from..).unwrap_or(&[])
+}
+
 /// Numbers.
 pub(crate) fn numbers(alloc: Global, words: &[&str]) -> Result<Vec<u64>, OutOfMemory> {
     let mut numbers = Vec::new(alloc);
@@ -142,19 +147,24 @@ pub(crate) fn say_not_opened(out: &mut String, refused: SetInit) -> Said {
 
 /// Prints why a batch refused a read or a seal.
 pub(crate) fn say_refused(out: &mut String, error: BatchError) -> Said {
+    write!(out, "{error}")?;
     match error {
-        BatchError::LocationOutOfBounds { location }
-        | BatchError::LocationOutOfOrder { location }
-        | BatchError::BelowInactivityFloor { location } => Ok(writeln!(
-            out,
-            "{error} {}",
-            location.0
-        )?),
-        BatchError::SlotCount { expected, given } => {
-            Ok(writeln!(out, "{error} expected {expected} given {given}")?)
-        }
-        other => Ok(writeln!(out, "{other}")?),
+        BatchError::LocationOutOfBounds { location } => say_location(out, location),
+        BatchError::LocationOutOfOrder { location } => say_location(out, location),
+        BatchError::BelowInactivityFloor { location } => say_location(out, location),
+        BatchError::SlotCount { expected, given } => say_slots(out, expected, given),
+        _ => say(out, ""),
     }
+}
+
+/// Prints the location that was refused, behind why.
+fn say_location(out: &mut String, location: Location) -> Said {
+    Ok(writeln!(out, " {}", location.0)?)
+}
+
+/// Prints how many slots were expected and given, behind why.
+fn say_slots(out: &mut String, expected: usize, given: usize) -> Said {
+    Ok(writeln!(out, " expected {expected} given {given}")?)
 }
 
 /// Prints what a read of one value gave.
