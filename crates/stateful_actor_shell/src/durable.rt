@@ -3,6 +3,7 @@
 use crate::words::{number, say, say_whether};
 use stateful_base::{Height, OutOfMemory};
 use stateful_durability::Durability;
+use stateful_shell::word;
 use std::alloc::Global;
 
 /// Says the heights, the oldest barrier, and whether another may and has to begin.
@@ -41,6 +42,23 @@ fn apply_and_hold(
     durability.applied(Height(height));
     durability.record(Height(height), ticket)?;
     show(durability, out)
+}
+
+/// A block is applied, and where there is a third word, its receipt held.
+fn apply_by(
+    durability: &mut Durability,
+    words: &[&str],
+    out: &mut String,
+) -> Result<(), OutOfMemory> {
+    match words.len() {
+        3 => apply_and_hold(
+            durability,
+            number(word(words, 1)),
+            number(word(words, 2)),
+            out,
+        ),
+        _ => apply(durability, number(word(words, 1)), out),
+    }
 }
 
 /// Another receipt of a durable height is held.
@@ -119,17 +137,19 @@ pub(crate) fn play(
     words: &[&str],
     out: &mut String,
 ) -> Result<(), OutOfMemory> {
-    match words {
-        ["apply", height] => apply(durability, number(height), out),
-        ["apply", height, ticket] => {
-            apply_and_hold(durability, number(height), number(ticket), out)
-        }
-        ["again", height, ticket] => again(durability, number(height), number(ticket), out),
-        ["twice"] => twice(alloc, durability, out),
-        ["show"] => show(durability, out),
-        ["barrier"] => barrier(durability, out),
-        ["end", how] => end(durability, *how == "good", out),
-        ["covers", height] => covers(durability, number(height), out),
+    match word(words, 0) {
+        "apply" => apply_by(durability, words, out),
+        "again" => again(
+            durability,
+            number(word(words, 1)),
+            number(word(words, 2)),
+            out,
+        ),
+        "twice" => twice(alloc, durability, out),
+        "show" => show(durability, out),
+        "barrier" => barrier(durability, out),
+        "end" => end(durability, word(words, 1) == "good", out),
+        "covers" => covers(durability, number(word(words, 1)), out),
         _ => say(out, "no such command"),
     }
 }

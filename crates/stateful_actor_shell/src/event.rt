@@ -9,6 +9,7 @@ use crate::words::{letter, number, size};
 use stateful_base::{Floor, Items, OutOfMemory};
 use stateful_db::Flushed;
 use stateful_history::Event;
+use stateful_shell::word;
 use std::alloc::Global;
 
 /// An event over blocks of a letter, whose contexts and inputs are numbers.
@@ -62,56 +63,70 @@ fn finalized(alloc: Global, ticket: u64, letter: u8) -> Result<Option<Told>, Out
     Ok(Some(Event::Finalized { ticket, block }))
 }
 
-/// An event without a block. None where the words are none.
-fn plain_event(alloc: Global, words: &[&str]) -> Option<Told> {
-    match words {
-        ["subscribe", ticket] => Some(Event::Subscribe {
-            ticket: number(ticket),
-        }),
-        ["cancel", ticket] => Some(Event::Cancel {
-            ticket: number(ticket),
-        }),
-        ["fetched", fetch] => Some(Event::Fetched {
-            fetch: number(fetch),
+fn flushed(barrier: u64, database: usize) -> Option<Told> {
+    Some(Event::Flushed {
+        barrier,
+        database,
+        answer: Flushed::Good,
+    })
+}
+
+fn progress(database: usize) -> Option<Told> {
+    Some(Event::Progress { database })
+}
+
+fn restart(alloc: Global) -> Option<Told> {
+    Some(Event::Restart {
+        floor: FLOOR,
+        keep: Items::new(alloc),
+    })
+}
+
+/// An event that tells of a number and no more, or of nothing, by its first word. None where the
+/// word is none.
+fn number_event(kind: &str, number: u64) -> Option<Told> {
+    match kind {
+        "subscribe" => Some(Event::Subscribe { ticket: number }),
+        "cancel" => Some(Event::Cancel { ticket: number }),
+        "fetched" => Some(Event::Fetched {
+            fetch: number,
             answer: None,
         }),
-        ["turn", job] => Some(Event::Turn { job: number(job) }),
-        ["flushed", barrier, database] => Some(Event::Flushed {
-            barrier: number(barrier),
-            database: size(database),
-            answer: Flushed::Good,
-        }),
-        ["progress", database] => Some(Event::Progress {
-            database: size(database),
-        }),
-        ["stop"] => Some(Event::Stop),
-        ["restart"] => Some(Event::Restart {
-            floor: FLOOR,
-            keep: Items::new(alloc),
-        }),
+        "turn" => Some(Event::Turn { job: number }),
+        "stop" => Some(Event::Stop),
         _ => None,
     }
 }
 
-/// The event of these words. None where they are none.
+/// An event without a block, by the words behind the first. None where the words are none.
+fn plain_event(alloc: Global, words: &[&str]) -> Option<Told> {
+    match word(words, 1) {
+        "flushed" => flushed(number(word(words, 2)), size(word(words, 3))),
+        "progress" => progress(size(word(words, 2))),
+        "restart" => restart(alloc),
+        kind => number_event(kind, number(word(words, 2))),
+    }
+}
+
+/// The event of the words behind the first. None where they are none.
 pub(crate) fn event_of(alloc: Global, words: &[&str]) -> Result<Option<Told>, OutOfMemory> {
-    match words {
-        ["verify", ticket, block] => verify(alloc, number(ticket), letter(block)),
-        ["propose", ticket, context, block, input] => propose(
+    match word(words, 1) {
+        "verify" => verify(alloc, number(word(words, 2)), letter(word(words, 3))),
+        "propose" => propose(
             alloc,
-            number(ticket),
-            number(context),
-            letter(block),
-            number(input),
+            number(word(words, 2)),
+            number(word(words, 3)),
+            letter(word(words, 4)),
+            number(word(words, 5)),
         ),
-        ["prepare", ticket, context, block, input] => prepare(
+        "prepare" => prepare(
             alloc,
-            number(ticket),
-            number(context),
-            letter(block),
-            number(input),
+            number(word(words, 2)),
+            number(word(words, 3)),
+            letter(word(words, 4)),
+            number(word(words, 5)),
         ),
-        ["finalized", ticket, block] => finalized(alloc, number(ticket), letter(block)),
+        "finalized" => finalized(alloc, number(word(words, 2)), letter(word(words, 3))),
         _ => Ok(plain_event(alloc, words)),
     }
 }

@@ -6,6 +6,7 @@ use crate::words::{letter, number, say, say_letter, say_number};
 use stateful_actor_mailbox::{Mailbox, Reply, Stopped};
 use stateful_base::{Ancestry, Digested, Handoff, Moved, OutOfMemory};
 use stateful_history::Event;
+use stateful_shell::word;
 use stateful_types::{DrawError, Feedback};
 use std::alloc::Global;
 
@@ -27,30 +28,26 @@ fn sent(out: &mut String, answer: Result<(Feedback, u64), DrawError>) -> Result<
 fn prepare(
     alloc: Global,
     mailbox: &mut Letters,
-    words: (&str, &str, &str),
+    words: &[&str],
     out: &mut String,
 ) -> Result<(), OutOfMemory> {
-    let (context, block, input) = words;
-    let ancestry = ancestry(alloc, letter(block))?;
-    sent(
-        out,
-        mailbox.prepare(number(context), ancestry, number(input)),
-    )
+    let context = number(word(words, 1));
+    let input = number(word(words, 3));
+    let ancestry = ancestry(alloc, letter(word(words, 2)))?;
+    sent(out, mailbox.prepare(context, ancestry, input))
 }
 
 /// Asks for a block to be built.
 fn propose(
     alloc: Global,
     mailbox: &mut Letters,
-    words: (&str, &str, &str),
+    words: &[&str],
     out: &mut String,
 ) -> Result<(), OutOfMemory> {
-    let (context, block, input) = words;
-    let ancestry = ancestry(alloc, letter(block))?;
-    sent(
-        out,
-        mailbox.propose(number(context), ancestry, number(input)),
-    )
+    let context = number(word(words, 1));
+    let input = number(word(words, 3));
+    let ancestry = ancestry(alloc, letter(word(words, 2)))?;
+    sent(out, mailbox.propose(context, ancestry, input))
 }
 
 /// Asks whether a block is valid.
@@ -186,16 +183,12 @@ fn ask(
     words: &[&str],
     out: &mut String,
 ) -> Result<(), OutOfMemory> {
-    match words {
-        ["prepare", context, block, input] => {
-            prepare(alloc, mailbox, (*context, *block, *input), out)
-        }
-        ["propose", context, block, input] => {
-            propose(alloc, mailbox, (*context, *block, *input), out)
-        }
-        ["verify", block] => verify(alloc, mailbox, block, out),
-        ["report", block] => report(alloc, mailbox, block, out),
-        ["subscribe"] => sent(out, mailbox.subscribe_databases()),
+    match word(words, 0) {
+        "prepare" => prepare(alloc, mailbox, words, out),
+        "propose" => propose(alloc, mailbox, words, out),
+        "verify" => verify(alloc, mailbox, word(words, 1), out),
+        "report" => report(alloc, mailbox, word(words, 1), out),
+        "subscribe" => sent(out, mailbox.subscribe_databases()),
         _ => say(out, "no such command"),
     }
 }
@@ -208,11 +201,11 @@ pub(crate) fn play(
     words: &[&str],
     out: &mut String,
 ) -> Result<(), OutOfMemory> {
-    match words {
-        ["take"] => take(mailbox, out),
-        ["poll", ticket] => poll(mailbox, number(ticket), out),
-        ["cancel", ticket] => cancel(mailbox, number(ticket), out),
-        ["answer"] => answer(alloc, mailbox, line, out),
+    match word(words, 0) {
+        "take" => take(mailbox, out),
+        "poll" => poll(mailbox, number(word(words, 1)), out),
+        "cancel" => cancel(mailbox, number(word(words, 1)), out),
+        "answer" => answer(alloc, mailbox, line, out),
         _ => ask(alloc, mailbox, words, out),
     }
 }

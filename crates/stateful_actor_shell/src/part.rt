@@ -9,6 +9,7 @@ use stateful_actor_mailbox::Mailbox;
 use stateful_base::{Height, OutOfMemory};
 use stateful_durability::Durability;
 use stateful_pruning::{PruneConfig, Pruning};
+use stateful_shell::word;
 use std::alloc::Global;
 
 /// A part of the machine.
@@ -21,6 +22,12 @@ pub(crate) enum Part {
     Pruning(Pruning<u8>),
 }
 
+/// Begins a part in place of the one before.
+fn begin(part: &mut Part, begun: Part, out: &mut String) -> Result<(), OutOfMemory> {
+    *part = begun;
+    say(out, "begun")
+}
+
 /// Begins a mailbox in which so many messages are ready at most.
 fn begin_mailbox(
     alloc: Global,
@@ -31,8 +38,10 @@ fn begin_mailbox(
     if capacity == 0 {
         return say(out, "refused");
     }
-    *part = Part::Mailbox(Mailbox::new(alloc, capacity)?);
-    say(out, "begun")
+    match Mailbox::new(alloc, capacity) {
+        Ok(mailbox) => begin(part, Part::Mailbox(mailbox), out),
+        Err(error) => Err(error),
+    }
 }
 
 /// Begins the register of a new machine of so many databases.
@@ -42,8 +51,7 @@ fn begin_register(
     databases: usize,
     out: &mut String,
 ) -> Result<(), OutOfMemory> {
-    *part = Part::Register(Registers::new(alloc, databases));
-    say(out, "begun")
+    begin(part, Part::Register(Registers::new(alloc, databases)), out)
 }
 
 /// Begins durability at a height that is applied and durable.
@@ -53,28 +61,37 @@ fn begin_durability(
     height: u64,
     out: &mut String,
 ) -> Result<(), OutOfMemory> {
-    *part = Part::Durability(Durability::new(alloc, Height(height)));
-    say(out, "begun")
+    begin(
+        part,
+        Part::Durability(Durability::new(alloc, Height(height))),
+        out,
+    )
+}
+
+/// Begins pruning by a config.
+fn begin_by(
+    alloc: Global,
+    part: &mut Part,
+    config: PruneConfig,
+    words: &[&str],
+    out: &mut String,
+) -> Result<(), OutOfMemory> {
+    match Pruning::new(alloc, config, size(word(words, 5)), number(word(words, 6))) {
+        Ok(pruning) => begin(part, Part::Pruning(pruning), out),
+        Err(error) => prunes::say_error(out, error),
+    }
 }
 
 /// Begins pruning.
 fn begin_pruning(
     alloc: Global,
     part: &mut Part,
-    config: Option<PruneConfig>,
-    max_pending_acks: usize,
-    offset: u64,
+    words: &[&str],
     out: &mut String,
 ) -> Result<(), OutOfMemory> {
-    let Some(config) = config else {
-        return say(out, "refused");
-    };
-    match Pruning::new(alloc, config, max_pending_acks, offset) {
-        Ok(pruning) => {
-            *part = Part::Pruning(pruning);
-            say(out, "begun")
-        }
-        Err(error) => prunes::say_error(out, error),
+    match config_of(words) {
+        Some(config) => begin_by(alloc, part, config, words, out),
+        None => say(out, "refused"),
     }
 }
 
@@ -103,26 +120,11 @@ pub(crate) fn play(
     words: &[&str],
     out: &mut String,
 ) -> Result<(), OutOfMemory> {
-    match words {
-        ["mailbox", capacity] => begin_mailbox(alloc, part, size(capacity), out),
-        ["register", databases] => begin_register(alloc, part, size(databases), out),
-        ["durability", height] => begin_durability(alloc, part, number(height), out),
-        [
-            "pruning",
-            interval,
-            marshal,
-            databases,
-            operations,
-            acks,
-            offset,
-        ] => begin_pruning(
-            alloc,
-            part,
-            config_of((*interval, *marshal, *databases, *operations)),
-            size(acks),
-            number(offset),
-            out,
-        ),
+    match word(words, 0) {
+        "mailbox" => begin_mailbox(alloc, part, size(word(words, 1)), out),
+        "register" => begin_register(alloc, part, size(word(words, 1)), out),
+        "durability" => begin_durability(alloc, part, number(word(words, 1)), out),
+        "pruning" => begin_pruning(alloc, part, words, out),
         _ => go_on(alloc, part, line, words, out),
     }
 }

@@ -3,18 +3,18 @@
 use crate::words::{letter, number, say, size};
 use stateful_base::{Height, OutOfMemory};
 use stateful_pruning::{InvalidPruneConfig, Prune, PruneConfig, Pruning, PruningError};
+use stateful_shell::word;
 use std::num::NonZeroUsize;
 
-/// What prunes retain, by the interval, the blocks of marshal, those of the databases, and the
-/// operations of the databases. None where the interval is 0.
-pub(crate) fn config_of(words: (&str, &str, &str, &str)) -> Option<PruneConfig> {
-    let (interval, marshal, databases, operations) = words;
-    match NonZeroUsize::new(size(interval)) {
+/// What prunes retain, by the words behind the first: the interval, the blocks of marshal, those
+/// of the databases, and the operations of the databases. None where the interval is 0.
+pub(crate) fn config_of(words: &[&str]) -> Option<PruneConfig> {
+    match NonZeroUsize::new(size(word(words, 1))) {
         Some(maintenance_interval) => Some(PruneConfig {
             maintenance_interval,
-            retained_marshal_blocks: size(marshal),
-            retained_qmdb_blocks: size(databases),
-            retained_qmdb_operations: number(operations),
+            retained_marshal_blocks: size(word(words, 2)),
+            retained_qmdb_blocks: size(word(words, 3)),
+            retained_qmdb_operations: number(word(words, 4)),
         }),
         None => None,
     }
@@ -74,19 +74,16 @@ pub(crate) fn play(
     words: &[&str],
     out: &mut String,
 ) -> Result<(), OutOfMemory> {
-    match words {
-        ["observe", height, targets, operations] => observe(
+    match word(words, 0) {
+        "observe" => observe(
             pruning,
-            number(height),
-            letter(targets),
-            number(operations),
+            number(word(words, 1)),
+            letter(word(words, 2)),
+            number(word(words, 3)),
             out,
         ),
-        ["valid", interval, marshal, databases, operations] => valid(
-            config_of((*interval, *marshal, *databases, *operations)),
-            out,
-        ),
-        ["no-memory"] => say_error(out, PruningError::OutOfMemory),
+        "valid" => valid(config_of(words), out),
+        "no-memory" => say_error(out, PruningError::OutOfMemory),
         _ => say(out, "no such command"),
     }
 }

@@ -7,6 +7,7 @@ use crate::words::{say, say_number, say_whether, size};
 use stateful_actor_register::Register;
 use stateful_base::OutOfMemory;
 use stateful_history::{How, Mark};
+use stateful_shell::word;
 use std::alloc::Global;
 use std::mem;
 
@@ -117,13 +118,13 @@ pub(crate) fn play(
     words: &[&str],
     out: &mut String,
 ) -> Result<(), OutOfMemory> {
-    match words {
-        ["record", event @ ..] => record(alloc, registers, line, event, out),
-        ["allows", event @ ..] => allows(alloc, &registers.register, event, out),
-        ["ends"] => ends(alloc, &registers.register, out),
-        ["copy"] => copy(registers, out),
-        ["swap"] => swap(registers, out),
-        ["databases", count] => databases(registers, size(count), out),
+    match word(words, 0) {
+        "record" => record(alloc, registers, line, words, out),
+        "allows" => allows(alloc, &registers.register, words, out),
+        "ends" => ends(alloc, &registers.register, out),
+        "copy" => copy(registers, out),
+        "swap" => swap(registers, out),
+        "databases" => databases(registers, size(word(words, 1)), out),
         _ => say(out, "no such command"),
     }
 }

@@ -6,6 +6,7 @@ use stateful_bank::{Ask, apply_ops, is_acceptable};
 use stateful_bank_plain::step;
 use stateful_base::{OutOfMemory, Share};
 use stateful_db_plain::PlainState;
+use stateful_shell::word;
 
 /// What the accounts have after operations on some entries.
 fn do_ops(words: &[&str], out: &mut String) -> Result<(), OutOfMemory> {
@@ -26,11 +27,10 @@ fn accept(words: &[&str], out: &mut String) -> Result<(), OutOfMemory> {
 }
 
 /// Shares what a request to build brings.
-fn ask(how: &str, words: &[&str], out: &mut String) -> Result<(), OutOfMemory> {
-    let ask = Ask {
-        decision: decision(how),
-        ops: ops(*out.allocator(), words)?,
-    };
+fn ask(words: &[&str], out: &mut String) -> Result<(), OutOfMemory> {
+    let ops = ops(*out.allocator(), words)?;
+    let decision = decision(word(words, 1));
+    let ask = Ask { decision, ops };
     let copy = ask.share()?;
     let decision = copy.decision;
     writeln!(out, "{decision:?}")?;
@@ -39,10 +39,10 @@ fn ask(how: &str, words: &[&str], out: &mut String) -> Result<(), OutOfMemory> {
 
 /// Does what the words of a line say.
 pub(crate) fn play(words: &[&str], out: &mut String) -> Result<(), OutOfMemory> {
-    match words {
-        ["do", words @ ..] => do_ops(words, out),
-        ["accept", words @ ..] => accept(words, out),
-        ["ask", how, words @ ..] => ask(how, words, out),
+    match word(words, 0) {
+        "do" => do_ops(words, out),
+        "accept" => accept(words, out),
+        "ask" => ask(words, out),
         _ => say(out, "no command"),
     }
 }
@@ -53,14 +53,9 @@ fn print_state(state: &PlainState, out: &mut String) -> Result<(), OutOfMemory> 
 }
 
 /// Begins at a state.
-fn set(
-    state: &mut PlainState,
-    size: u64,
-    words: &[&str],
-    out: &mut String,
-) -> Result<(), OutOfMemory> {
+fn set(state: &mut PlainState, words: &[&str], out: &mut String) -> Result<(), OutOfMemory> {
     let entries = entries(*out.allocator(), words)?;
-    *state = PlainState::new(size, entries);
+    *state = PlainState::new(number(word(words, 1)), entries);
     print_state(state, out)
 }
 
@@ -83,16 +78,23 @@ fn empty(state: &mut PlainState, out: &mut String) -> Result<(), OutOfMemory> {
     print_state(state, out)
 }
 
+/// Begins at the empty state, where no size is said, or at the one of that size.
+fn begin(state: &mut PlainState, words: &[&str], out: &mut String) -> Result<(), OutOfMemory> {
+    match words.len() {
+        1 => empty(state, out),
+        _ => set(state, words, out),
+    }
+}
+
 /// Does what the words of a line say of a state.
 pub(crate) fn play_state(
     state: &mut PlainState,
     words: &[&str],
     out: &mut String,
 ) -> Result<(), OutOfMemory> {
-    match words {
-        ["state"] => empty(state, out),
-        ["state", size, words @ ..] => set(state, number(size), words, out),
-        ["step", words @ ..] => go_on(state, words, out),
+    match word(words, 0) {
+        "state" => begin(state, words, out),
+        "step" => go_on(state, words, out),
         _ => say(out, "no command"),
     }
 }

@@ -3,7 +3,8 @@
 use crate::shown::{print_block, print_digest, print_hex, say};
 use crate::words::{decision, digest, number, ops, targets};
 use stateful_bank::{BankBlock, Proposal, one_is_given};
-use stateful_base::{Block, Digest, Epoch, Handoff, Height, Items, OutOfMemory, Round, View};
+use stateful_base::{Block, Digest, Epoch, Height, Items, OutOfMemory, Round, View};
+use stateful_shell::word;
 use std::alloc::Global;
 
 /// The block of the commands.
@@ -50,13 +51,14 @@ fn genesis(draft: &mut Draft, words: &[&str], out: &mut String) -> Result<(), Ou
 }
 
 /// A block on a parent.
-fn child(
-    draft: &mut Draft,
-    place: Place,
-    words: &[&str],
-    out: &mut String,
-) -> Result<(), OutOfMemory> {
+fn child(draft: &mut Draft, words: &[&str], out: &mut String) -> Result<(), OutOfMemory> {
     let alloc = *out.allocator();
+    let place = place_of(
+        word(words, 1),
+        word(words, 2),
+        word(words, 3),
+        word(words, 4),
+    );
     let targets = targets(alloc, words)?;
     let ops = ops(alloc, words)?;
     match BankBlock::child(place.height, place.parent, place.round, ops, targets) {
@@ -68,25 +70,31 @@ fn child(
     }
 }
 
+/// The proposal that the words say.
+fn proposal(alloc: Global, words: &[&str]) -> Result<Proposal, OutOfMemory> {
+    let place = place_of(
+        word(words, 2),
+        word(words, 3),
+        word(words, 4),
+        word(words, 5),
+    );
+    let ops = ops(alloc, words)?;
+    Ok(Proposal {
+        decision: decision(word(words, 1)),
+        height: place.height,
+        parent: place.parent,
+        round: place.round,
+        ops,
+    })
+}
+
 /// The block of a proposal.
-fn propose(
-    draft: &mut Draft,
-    how: Handoff<()>,
-    place: Place,
-    words: &[&str],
-    out: &mut String,
-) -> Result<(), OutOfMemory> {
+fn propose(draft: &mut Draft, words: &[&str], out: &mut String) -> Result<(), OutOfMemory> {
     // The law of builds can be had at a type.
     one_is_given::<u64>();
     let alloc = *out.allocator();
     let targets = targets(alloc, words)?;
-    let proposal = Proposal {
-        decision: how,
-        height: place.height,
-        parent: place.parent,
-        round: place.round,
-        ops: ops(alloc, words)?,
-    };
+    let proposal = proposal(alloc, words)?;
     if proposal.is_declined() {
         return say(out, "declined");
     }
@@ -110,17 +118,12 @@ pub(crate) fn encode(block: &BankBlock, out: &mut String) -> Result<(), OutOfMem
 
 /// Does what the words of a line say.
 pub(crate) fn play(draft: &mut Draft, words: &[&str], out: &mut String) -> Result<(), OutOfMemory> {
-    match words {
-        ["genesis", words @ ..] => genesis(draft, words, out),
-        ["child", height, parent, epoch, view, words @ ..] => {
-            child(draft, place_of(height, parent, epoch, view), words, out)
-        }
-        ["propose", how, height, parent, epoch, view, words @ ..] => {
-            let place = place_of(height, parent, epoch, view);
-            propose(draft, decision(how), place, words, out)
-        }
-        ["slow", turns] => slow(draft, number(turns), out),
-        ["encode"] => encode(&draft.block, out),
+    match word(words, 0) {
+        "genesis" => genesis(draft, words, out),
+        "child" => child(draft, words, out),
+        "propose" => propose(draft, words, out),
+        "slow" => slow(draft, number(word(words, 1)), out),
+        "encode" => encode(&draft.block, out),
         _ => say(out, "no command"),
     }
 }

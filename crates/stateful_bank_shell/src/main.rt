@@ -65,7 +65,7 @@ use stateful_bank_plain::Single;
 use stateful_bank_triple::Triple;
 use stateful_base::OutOfMemory;
 use stateful_db_plain::PlainState;
-use stateful_shell::Shell;
+use stateful_shell::{Shell, word};
 use std::alloc::Global;
 use std::process::ExitCode;
 
@@ -133,14 +133,14 @@ impl BankShell {
 
     /// Does what the words of a line say.
     fn play_words(&mut self, words: &[&str], out: &mut String) -> Result<(), OutOfMemory> {
-        match words {
-            ["do" | "accept" | "ask", ..] => accounts::play(words, out),
-            ["state" | "step", ..] => accounts::play_state(&mut self.state, words, out),
-            ["genesis" | "child" | "propose" | "slow" | "encode", ..] => {
+        match word(words, 0) {
+            "do" | "accept" | "ask" => accounts::play(words, out),
+            "state" | "step" => accounts::play_state(&mut self.state, words, out),
+            "genesis" | "child" | "propose" | "slow" | "encode" => {
                 blocks::play(&mut self.draft, words, out)
             }
-            ["keep", targets @ ..] => opening::keep(&mut self.chain, targets, out),
-            ["depth", batch] => print_depth(self.depth(number(batch)), out),
+            "keep" => opening::keep(&mut self.chain, words, out),
+            "depth" => print_depth(self.depth(number(word(words, 1))), out),
             _ => self.play_world(words, out),
         }
     }
@@ -161,8 +161,8 @@ impl Shell for BankShell {
 
     fn play(&mut self, line: &str, out: &mut String) -> Result<(), OutOfMemory> {
         let words: Vec<&str> = line.split_whitespace().collect(*out.allocator())?;
-        if let ["world", name] = words.as_slice() {
-            self.kind = kind_of(name);
+        if word(words.as_slice(), 0) == "world" {
+            self.kind = kind_of(word(words.as_slice(), 1));
         }
         self.play_words(words.as_slice(), out)
     }

@@ -8,6 +8,7 @@ use stateful_bank::BankBlock;
 use stateful_bank_app::{Bank, Fresh};
 use stateful_base::{Anchor, Digested, Height, Items, MemoryStore, OutOfMemory};
 use stateful_db::DatabaseSet;
+use stateful_shell::word;
 use stateful_sync_plan::{Missing, SyncError, open_set};
 use std::alloc::Global;
 
@@ -90,14 +91,12 @@ fn print_refusal(refusal: SyncError, out: &mut String) -> Result<(), OutOfMemory
 pub(crate) fn open<W: Fresh>(
     desk: &mut Desk<W>,
     chain: &Chain,
-    processed: &str,
-    completed: &str,
-    digest: &str,
+    words: &[&str],
     out: &mut String,
 ) -> Result<(), OutOfMemory> {
-    let processed = number_or_none(processed).map(Height);
-    let digest = digest_or_none(digest);
-    let completed = number_or_none(completed).map(|height| (Height(height), digest));
+    let processed = number_or_none(word(words, 1)).map(Height);
+    let digest = digest_or_none(word(words, 3));
+    let completed = number_or_none(word(words, 2)).map(|height| (Height(height), digest));
     desk.databases = W::empty(*out.allocator());
     let config = W::config();
     let databases = &mut desk.databases;

@@ -3,6 +3,7 @@
 use hex::FromHex;
 use stateful_bank::Op;
 use stateful_base::{Digest, Finality, Handoff, Items, Location, OutOfMemory, Target};
+use stateful_shell::word;
 use std::alloc::Global;
 use std::collections::BTreeMap;
 
@@ -53,15 +54,27 @@ pub(crate) fn decision(word: &str) -> Handoff<()> {
 
 /// An operation.
 fn op(parts: &[&str]) -> Option<Op> {
-    match parts {
-        ["mint", to, amount] => Some(Op::Mint {
-            account: account(to),
-            amount: number(amount),
+    match word(parts, 0) {
+        "mint" => Some(Op::Mint {
+            account: account(word(parts, 1)),
+            amount: number(word(parts, 2)),
         }),
-        ["move", from, to, amount] => Some(Op::Move {
-            from: account(from),
-            to: account(to),
-            amount: number(amount),
+        "move" => Some(Op::Move {
+            from: account(word(parts, 1)),
+            to: account(word(parts, 2)),
+            amount: number(word(parts, 3)),
+        }),
+        _ => None,
+    }
+}
+
+/// A target of three parts.
+fn three(parts: &[&str]) -> Option<Target> {
+    match parts.len() {
+        3 => Some(Target {
+            root: digest(word(parts, 0)),
+            start: Location(number(word(parts, 1))),
+            end: Location(number(word(parts, 2))),
         }),
         _ => None,
     }
@@ -69,21 +82,16 @@ fn op(parts: &[&str]) -> Option<Op> {
 
 /// A target.
 fn target(parts: &[&str]) -> Option<Target> {
-    match parts {
-        ["mint" | "move", ..] => None,
-        [root, start, end] => Some(Target {
-            root: digest(root),
-            start: Location(number(start)),
-            end: Location(number(end)),
-        }),
-        _ => None,
+    match word(parts, 0) {
+        "mint" | "move" => None,
+        _ => three(parts),
     }
 }
 
 /// An entry.
 fn entry(parts: &[&str]) -> Option<(u64, u64)> {
-    match parts {
-        [account, amount] => Some((number(account), number(amount))),
+    match parts.len() {
+        2 => Some((number(word(parts, 0)), number(word(parts, 1)))),
         _ => None,
     }
 }
@@ -91,8 +99,8 @@ fn entry(parts: &[&str]) -> Option<(u64, u64)> {
 /// The operations among the words.
 pub(crate) fn ops(alloc: Global, words: &[&str]) -> Result<Items<Op>, OutOfMemory> {
     let mut ops = Items::new(alloc);
-    for word in words {
-        let parts: Vec<&str> = word.split(':').collect(alloc)?;
+    for text in words {
+        let parts: Vec<&str> = text.split(':').collect(alloc)?;
         if let Some(op) = op(parts.as_slice()) {
             ops.push(op)?;
         }
@@ -103,8 +111,8 @@ pub(crate) fn ops(alloc: Global, words: &[&str]) -> Result<Items<Op>, OutOfMemor
 /// The targets among the words.
 pub(crate) fn targets(alloc: Global, words: &[&str]) -> Result<Items<Target>, OutOfMemory> {
     let mut targets = Items::new(alloc);
-    for word in words {
-        let parts: Vec<&str> = word.split(':').collect(alloc)?;
+    for text in words {
+        let parts: Vec<&str> = text.split(':').collect(alloc)?;
         if let Some(target) = target(parts.as_slice()) {
             targets.push(target)?;
         }
@@ -115,8 +123,8 @@ pub(crate) fn targets(alloc: Global, words: &[&str]) -> Result<Items<Target>, Ou
 /// The entries among the words.
 pub(crate) fn entries(alloc: Global, words: &[&str]) -> Result<BTreeMap<u64, u64>, OutOfMemory> {
     let mut entries = BTreeMap::new(alloc);
-    for word in words {
-        let parts: Vec<&str> = word.split(':').collect(alloc)?;
+    for text in words {
+        let parts: Vec<&str> = text.split(':').collect(alloc)?;
         if let Some((account, amount)) = entry(parts.as_slice()) {
             entries.insert(account, amount)?;
         }

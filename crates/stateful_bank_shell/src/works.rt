@@ -4,11 +4,12 @@ use crate::desk::Desk;
 use crate::shown::{print_block, say};
 use crate::words::{decision, finality, number, ops};
 use stateful_bank::{Ask, BankBlock};
-use stateful_bank_app::{Bank, Drafted, Fresh, Sealed, seal_block};
+use stateful_bank_app::{Bank, BankBuild, BankRun, Drafted, Fresh, Sealed, seal_block};
 use stateful_base::{
     Ancestry, Digested, Epoch, Handoff, Height, Items, Moved, OutOfMemory, Round, View,
 };
 use stateful_db::{AppFault, Application, DatabaseSet, Input, ProposedBlock};
+use stateful_shell::word;
 use std::alloc::Global;
 
 /// The round of blocks that are run and built.
@@ -19,18 +20,18 @@ pub(crate) const ROUND: Round = Round {
 
 /// The number that a batch is to have, the batch that it is on, and a height.
 #[derive(Clone, Copy)]
-pub(crate) struct Place {
+struct Place {
     number: u64,
     parent: u64,
     height: Height,
 }
 
 /// The place that these words say.
-pub(crate) fn place_of(batch: &str, parent: &str, height: &str) -> Place {
+fn place_of(words: &[&str]) -> Place {
     Place {
-        number: number(batch),
-        parent: number(parent),
-        height: Height(number(height)),
+        number: number(word(words, 1)),
+        parent: number(word(words, 3)),
+        height: Height(number(word(words, 5))),
     }
 }
 
@@ -51,25 +52,25 @@ fn alone(alloc: Global, block: BankBlock) -> Result<Ancestry<BankBlock>, OutOfMe
     Ok(Ancestry { first, rest })
 }
 
-/// Begins to run a block.
-pub(crate) fn run<W: Fresh>(
+/// A block that is to be run, with no ancestors at hand.
+fn block_of(alloc: Global, words: &[&str]) -> Result<Ancestry<BankBlock>, OutOfMemory> {
+    let ops = ops(alloc, words)?;
+    let mut block = BankBlock::genesis(alloc, Items::new(alloc));
+    block.height = place_of(words).height;
+    block.ops = ops;
+    alone(alloc, block)
+}
+
+/// Keeps a run that was begun.
+fn keep_run<W: Fresh>(
     desk: &mut Desk<W>,
-    place: Place,
-    why: &str,
-    words: &[&str],
+    number: u64,
+    begun: Result<BankRun<Drafted<W>>, AppFault>,
     out: &mut String,
 ) -> Result<(), OutOfMemory> {
-    let alloc = *out.allocator();
-    let mut block = BankBlock::genesis(alloc, Items::new(alloc));
-    block.height = place.height;
-    block.ops = ops(alloc, words)?;
-    let ancestry = alone(alloc, block)?;
-    let Some(batch) = batch_on(desk, place.parent) else {
-        return say(out, "refused");
-    };
-    match desk.bank.process(ROUND, ancestry, batch, finality(why)) {
+    match begun {
         Ok(run) => {
-            desk.number = place.number;
+            desk.number = number;
             desk.run = Some(run);
             Ok(())
         }
@@ -77,47 +78,109 @@ pub(crate) fn run<W: Fresh>(
     }
 }
 
-/// Prints why a call failed.
-fn print_fault(fault: AppFault, out: &mut String) -> Result<(), OutOfMemory> {
-    Ok(writeln!(out, "{fault}")?)
-}
-
-/// Begins to build a block.
-pub(crate) fn build<W: Fresh>(
+/// Begins to run a block.
+pub(crate) fn run<W: Fresh>(
     desk: &mut Desk<W>,
-    place: Place,
-    kind: &str,
-    how: &str,
     words: &[&str],
     out: &mut String,
 ) -> Result<(), OutOfMemory> {
-    let alloc = *out.allocator();
-    let upstream = Ask {
-        decision: decision(how),
-        ops: ops(alloc, words)?,
-    };
-    let Ok(mut parent) = desk.bank.genesis() else {
-        return say(out, "refused");
-    };
-    parent.height = place.height;
-    let ancestry = alone(alloc, parent)?;
-    let Some(batch) = batch_on(desk, place.parent) else {
-        return say(out, "refused");
-    };
-    let provider = ();
-    let input = Input { upstream, provider };
-    let begun = match kind {
+    let ancestry = block_of(*out.allocator(), words)?;
+    let place = place_of(words);
+    match batch_on(desk, place.parent) {
+        Some(batch) => {
+            let why = finality(word(words, 6));
+            let begun = desk.bank.process(ROUND, ancestry, batch, why);
+            keep_run(desk, place.number, begun, out)
+        }
+        None => say(out, "refused"),
+    }
+}
+
+/// Prints why a call failed.
+pub(crate) fn print_fault(fault: AppFault, out: &mut String) -> Result<(), OutOfMemory> {
+    Ok(writeln!(out, "{fault}")?)
+}
+
+/// What a request to build brings.
+fn ask_of(alloc: Global, words: &[&str]) -> Result<Ask, OutOfMemory> {
+    let ops = ops(alloc, words)?;
+    let decision = decision(word(words, 7));
+    Ok(Ask { decision, ops })
+}
+
+/// The world's first block, at a height. None where the bank gives none.
+fn parent_of<W: Fresh>(desk: &mut Desk<W>, height: Height) -> Option<BankBlock> {
+    let mut parent = desk.bank.genesis().ok()?;
+    parent.height = height;
+    Some(parent)
+}
+
+/// Begins a build as it is asked for.
+fn begin_build<W: Fresh>(
+    desk: &mut Desk<W>,
+    kind: &str,
+    ancestry: Ancestry<BankBlock>,
+    batch: Drafted<W>,
+    input: Input<Ask, ()>,
+) -> Result<BankBuild<Drafted<W>>, AppFault> {
+    match kind {
         "propose" => desk.bank.propose(ROUND, ancestry, batch, input),
         _ => desk.bank.prepare(ROUND, ancestry, batch, input),
-    };
+    }
+}
+
+/// Keeps a build that was begun.
+fn keep_build<W: Fresh>(
+    desk: &mut Desk<W>,
+    number: u64,
+    begun: Result<BankBuild<Drafted<W>>, AppFault>,
+    out: &mut String,
+) -> Result<(), OutOfMemory> {
     match begun {
         Ok(build) => {
-            desk.number = place.number;
+            desk.number = number;
             desk.run = None;
             desk.build = Some(build);
             Ok(())
         }
         Err(fault) => print_fault(fault, out),
+    }
+}
+
+/// Begins to build a block on a parent.
+fn build_on<W: Fresh>(
+    desk: &mut Desk<W>,
+    words: &[&str],
+    ancestry: Ancestry<BankBlock>,
+    upstream: Ask,
+    out: &mut String,
+) -> Result<(), OutOfMemory> {
+    let place = place_of(words);
+    match batch_on(desk, place.parent) {
+        Some(batch) => {
+            let provider = ();
+            let input = Input { upstream, provider };
+            let begun = begin_build(desk, word(words, 6), ancestry, batch, input);
+            keep_build(desk, place.number, begun, out)
+        }
+        None => say(out, "refused"),
+    }
+}
+
+/// Begins to build a block.
+pub(crate) fn build<W: Fresh>(
+    desk: &mut Desk<W>,
+    words: &[&str],
+    out: &mut String,
+) -> Result<(), OutOfMemory> {
+    let alloc = *out.allocator();
+    match parent_of(desk, place_of(words).height) {
+        Some(parent) => {
+            let ancestry = alone(alloc, parent)?;
+            let upstream = ask_of(alloc, words)?;
+            build_on(desk, words, ancestry, upstream, out)
+        }
+        None => say(out, "refused"),
     }
 }
 
@@ -147,6 +210,24 @@ fn turn_run<W: Fresh>(desk: &mut Desk<W>, out: &mut String) -> Result<bool, OutO
     Ok(false)
 }
 
+/// Whether a batch leads to what a block commits to.
+fn is_led_to<W: Fresh>(block: &BankBlock, sealed: &Sealed<W>) -> bool {
+    let targets = Bank::<W>::sync_targets(block);
+    W::Databases::matches_sync_targets(sealed, &targets)
+}
+
+/// Prints a block that was built, and whether its batch leads to what it commits to.
+fn print_built(
+    how: &str,
+    block: &BankBlock,
+    matches: bool,
+    out: &mut String,
+) -> Result<(), OutOfMemory> {
+    say(out, how)?;
+    print_block(block, out)?;
+    Ok(writeln!(out, "matches {matches}")?)
+}
+
 /// Prints a block that was built, and whether its batch leads to what it commits to. Keeps that.
 fn take_built<W: Fresh>(
     desk: &mut Desk<W>,
@@ -156,11 +237,8 @@ fn take_built<W: Fresh>(
 ) -> Result<(), OutOfMemory> {
     let number = desk.number;
     let ProposedBlock { block, merkleized } = built;
-    say(out, how)?;
-    print_block(&block, out)?;
-    let targets = Bank::<W>::sync_targets(&block);
-    let matches = W::Databases::matches_sync_targets(&merkleized, &targets);
-    writeln!(out, "matches {matches}")?;
+    let matches = is_led_to::<W>(&block, &merkleized);
+    print_built(how, &block, matches, out)?;
     keep(desk, number, merkleized, out)
 }
 
@@ -210,11 +288,11 @@ pub(crate) fn turns<W: Fresh>(desk: &mut Desk<W>, out: &mut String) -> Result<()
 /// Runs a block at once.
 pub(crate) fn seal<W: Fresh>(
     desk: &mut Desk<W>,
-    place: Place,
     words: &[&str],
     out: &mut String,
 ) -> Result<(), OutOfMemory> {
     let ops = ops(*out.allocator(), words)?;
+    let place = place_of(words);
     let Some(batch) = batch_on(desk, place.parent) else {
         return say(out, "refused");
     };

@@ -5,11 +5,13 @@ use crate::desk::{Desk, opened};
 use crate::opening::{Chain, open};
 use crate::shown::{print_targets, say};
 use crate::words::{number, targets};
-use crate::works::{ROUND, build, place_of, run, seal, turn, turns};
+use crate::works::{ROUND, build, print_fault, run, seal, turn, turns};
 use stateful_bank::BankBlock;
 use stateful_bank_app::{Bank, BankHook, Fresh};
 use stateful_base::{Items, Moved, OutOfMemory};
 use stateful_db::{Application, DatabaseSet, Hooked, Targets};
+use stateful_shell::word;
+use std::alloc::Global;
 
 /// The world's first block.
 fn first<W: Fresh>(desk: &mut Desk<W>, out: &mut String) -> Result<(), OutOfMemory> {
@@ -96,6 +98,43 @@ fn turns_of<W: Fresh>(desk: &Desk<W>, hook: BankHook) -> u64 {
     0
 }
 
+/// A block whose hook takes so many turns.
+fn slow_block(alloc: Global, slow: u64) -> BankBlock {
+    let mut block = BankBlock::genesis(alloc, Items::new(alloc));
+    block.slow = u8::try_from(slow).unwrap_or(0);
+    block
+}
+
+/// Whether the bank captures what it needs of a block. None where the batch isn't kept.
+fn capture<W: Fresh>(desk: &mut Desk<W>, batch: u64, block: &BankBlock) -> Option<bool> {
+    match desk.sealed.get(&batch) {
+        Some(sealed) => Some(
+            desk.bank
+                .capture(ROUND, block, sealed, &desk.databases)
+                .is_ok(),
+        ),
+        None => None,
+    }
+}
+
+/// Prints how many turns a hook takes.
+fn print_turns(turns: u64, out: &mut String) -> Result<(), OutOfMemory> {
+    Ok(writeln!(out, "turns {turns}")?)
+}
+
+/// Finalizes a block that was captured.
+fn finish<W: Fresh>(
+    desk: &mut Desk<W>,
+    block: &BankBlock,
+    out: &mut String,
+) -> Result<(), OutOfMemory> {
+    match desk.bank.finalized(ROUND, block, (), &desk.databases) {
+        Ok(Hooked::Done) => say(out, "no hook"),
+        Ok(Hooked::Pending(hook)) => print_turns(turns_of(desk, hook), out),
+        Err(fault) => print_fault(fault, out),
+    }
+}
+
 /// Finalizes a block with a batch.
 fn finalize<W: Fresh>(
     desk: &mut Desk<W>,
@@ -103,22 +142,27 @@ fn finalize<W: Fresh>(
     slow: u64,
     out: &mut String,
 ) -> Result<(), OutOfMemory> {
-    let alloc = *out.allocator();
-    let Some(sealed) = desk.sealed.get(&batch) else {
-        return say(out, "refused");
-    };
-    let mut block = BankBlock::genesis(alloc, Items::new(alloc));
-    block.slow = u8::try_from(slow).unwrap_or(0);
-    let Ok(()) = desk.bank.capture(ROUND, &block, sealed, &desk.databases) else {
-        return say(out, "Failed");
-    };
-    match desk.bank.finalized(ROUND, &block, (), &desk.databases) {
-        Ok(Hooked::Done) => say(out, "no hook"),
-        Ok(Hooked::Pending(hook)) => {
-            let turns = turns_of(desk, hook);
-            Ok(writeln!(out, "turns {turns}")?)
-        }
-        Err(fault) => Ok(writeln!(out, "{fault}")?),
+    let block = slow_block(*out.allocator(), slow);
+    match capture(desk, batch, &block) {
+        Some(true) => finish(desk, &block, out),
+        Some(false) => say(out, "Failed"),
+        None => say(out, "refused"),
+    }
+}
+
+/// Does what the words of a line say of one batch.
+fn play_sealed<W: Fresh>(
+    desk: &mut Desk<W>,
+    words: &[&str],
+    out: &mut String,
+) -> Result<(), OutOfMemory> {
+    let batch = number(word(words, 1));
+    match word(words, 0) {
+        "leads" => leads(desk, batch, out),
+        "apply" => apply(desk, batch, out),
+        "matches" => matches(desk, batch, words, out),
+        "hook" => finalize(desk, batch, number(word(words, 2)), out),
+        _ => say(out, "no command"),
     }
 }
 
@@ -128,31 +172,13 @@ fn play_batch<W: Fresh>(
     words: &[&str],
     out: &mut String,
 ) -> Result<(), OutOfMemory> {
-    match words {
-        ["run", batch, "on", parent, "at", height, why, ops @ ..] => {
-            run(desk, place_of(batch, parent, height), why, ops, out)
-        }
-        [
-            "build",
-            batch,
-            "on",
-            parent,
-            "at",
-            height,
-            kind,
-            how,
-            ops @ ..,
-        ] => { build(desk, place_of(batch, parent, height), kind, how, ops, out) }
-        ["seal", batch, "on", parent, "at", height, ops @ ..] => {
-            seal(desk, place_of(batch, parent, height), ops, out)
-        }
-        ["turn"] => turn(desk, out),
-        ["turns"] => turns(desk, out),
-        ["leads", batch] => leads(desk, number(batch), out),
-        ["apply", batch] => apply(desk, number(batch), out),
-        ["matches", batch, targets @ ..] => matches(desk, number(batch), targets, out),
-        ["hook", batch, turns] => finalize(desk, number(batch), number(turns), out),
-        _ => say(out, "no command"),
+    match word(words, 0) {
+        "run" => run(desk, words, out),
+        "build" => build(desk, words, out),
+        "seal" => seal(desk, words, out),
+        "turn" => turn(desk, out),
+        "turns" => turns(desk, out),
+        _ => play_sealed(desk, words, out),
     }
 }
 
@@ -163,13 +189,11 @@ fn play_desk<W: Fresh>(
     words: &[&str],
     out: &mut String,
 ) -> Result<(), OutOfMemory> {
-    match words {
-        ["first"] => first(desk, out),
-        ["roots"] => roots(desk, out),
-        ["commits", targets @ ..] => commits::<W>(targets, out),
-        ["open", processed, completed, digest] => {
-            open(desk, chain, processed, completed, digest, out)
-        }
+    match word(words, 0) {
+        "first" => first(desk, out),
+        "roots" => roots(desk, out),
+        "commits" => commits::<W>(words, out),
+        "open" => open(desk, chain, words, out),
         _ => play_batch(desk, words, out),
     }
 }
@@ -181,7 +205,7 @@ pub(crate) fn play<W: Fresh>(
     words: &[&str],
     out: &mut String,
 ) -> Result<(), OutOfMemory> {
-    if let ["world", _] = words {
+    if word(words, 0) == "world" {
         *desk = Some(opened(*out.allocator()));
         return Ok(());
     }

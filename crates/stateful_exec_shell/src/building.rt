@@ -2,26 +2,32 @@
 
 use crate::machine::{Machine, Made, quiet};
 use crate::played::Played;
-use crate::told::{Told, tell};
-use stateful_exec::BuildStart;
+use crate::told::tell;
+use stateful_exec::{BuildStart, ExecError};
 
 /// `ready`.
-pub(crate) fn ready<A: Played>(machine: &mut Machine<A>) -> Told {
+pub(crate) fn ready<A: Played>(machine: &mut Machine<A>) -> Made {
     match machine.handler.ready() {
-        Some(ticket) => tell("ready").number(ticket),
-        None => tell("none ready"),
+        Some(ticket) => Ok(tell("ready").number(ticket)),
+        None => Ok(tell("none ready")),
+    }
+}
+
+fn started(start: Result<BuildStart, ExecError>) -> Made {
+    match start {
+        Ok(BuildStart::Started(job)) => Ok(tell("job").number(job)),
+        Ok(BuildStart::Declined) => Ok(tell("no job")),
+        Err(error) => Err(error),
     }
 }
 
 /// `build TICKET`.
 pub(crate) fn build<A: Played>(machine: &mut Machine<A>, ticket: u64) -> Made {
-    match machine
-        .handler
-        .propose(ticket, &mut machine.databases, A::provider())?
-    {
-        BuildStart::Started(job) => Ok(tell("job").number(job)),
-        BuildStart::Declined => Ok(tell("no job")),
-    }
+    started(
+        machine
+            .handler
+            .propose(ticket, &mut machine.databases, A::provider()),
+    )
 }
 
 /// `turn_build JOB`.
@@ -31,14 +37,4 @@ pub(crate) fn turn_build<A: Played>(machine: &mut Machine<A>, job: u64) -> Made 
             .handler
             .turn_build(&machine.databases, job, &mut machine.marks),
     )
-}
-
-/// `building`.
-pub(crate) fn building<A: Played>(machine: &Machine<A>) -> Told {
-    match machine.handler.build() {
-        Some(build) => tell("building")
-            .numbers(build.job, build.ticket)
-            .block(build.parent.digest()),
-        None => tell("no build"),
-    }
 }

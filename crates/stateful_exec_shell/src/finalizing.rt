@@ -2,9 +2,9 @@
 
 use crate::machine::{Machine, Made, quiet};
 use crate::played::Played;
-use crate::told::{Told, tell, yes_or_no};
-use stateful_db::DatabaseSet;
-use stateful_exec::Stage;
+use crate::told::{tell, yes_or_no};
+use stateful_db::{Batch, DatabaseSet};
+use stateful_exec::ExecError;
 use stateful_types::Digested;
 
 /// `past BLOCK`.
@@ -26,11 +26,30 @@ pub(crate) fn run<A: Played>(machine: &mut Machine<A>, block: &Digested<A::Block
     )
 }
 
+/// The batch of the block that becomes the anchor.
+fn step<A: Played>(
+    machine: &mut Machine<A>,
+    block: &Digested<A::Block>,
+) -> Result<Batch<A>, ExecError> {
+    match machine.handler.advance(&machine.databases, block) {
+        Ok((batch, _captured)) => Ok(batch),
+        Err(error) => Err(error),
+    }
+}
+
+fn apply<A: Played>(machine: &mut Machine<A>, batch: Batch<A>) -> Made {
+    match machine.databases.apply(batch) {
+        Ok(()) => Ok(tell("")),
+        Err(fault) => Err(ExecError::from(fault)),
+    }
+}
+
 /// `advance BLOCK`.
 pub(crate) fn advance<A: Played>(machine: &mut Machine<A>, block: &Digested<A::Block>) -> Made {
-    let (batch, _captured) = machine.handler.advance(&machine.databases, block)?;
-    machine.databases.apply(batch)?;
-    Ok(tell(""))
+    match step(machine, block) {
+        Ok(batch) => apply(machine, batch),
+        Err(error) => Err(error),
+    }
 }
 
 /// `observe BLOCK`.
@@ -49,38 +68,13 @@ pub(crate) fn turn_hook<A: Played>(machine: &mut Machine<A>, job: u64) -> Made {
 }
 
 /// `close`.
-pub(crate) fn close<A: Played>(machine: &mut Machine<A>) -> Told {
+pub(crate) fn close<A: Played>(machine: &mut Machine<A>) -> Made {
     machine.databases = A::closed(machine.alloc);
-    tell("")
+    Ok(tell(""))
 }
 
 /// `drop`.
-pub(crate) fn drop_front<A: Played>(machine: &mut Machine<A>) -> Told {
+pub(crate) fn drop_front<A: Played>(machine: &mut Machine<A>) -> Made {
     machine.handler.drop_root();
-    tell("")
-}
-
-/// `front`.
-pub(crate) fn front<A: Played>(machine: &Machine<A>) -> Told {
-    let Some(front) = machine.handler.front() else {
-        return tell("no front");
-    };
-    let stage = match front.stage {
-        Stage::Begun => tell("begun"),
-        Stage::Running { job, .. } => tell("running").number(job),
-        Stage::Ran(_) => tell("ran"),
-        Stage::Advanced => tell("advanced"),
-        Stage::Hooking { job, .. } => tell("hooking").number(job),
-    };
-    stage.block(front.block.digest())
-}
-
-/// `anchor`.
-pub(crate) fn anchor<A: Played>(machine: &Machine<A>) -> Told {
-    tell("anchor").block(machine.handler.branch_anchor().digest)
-}
-
-/// `cached BLOCK`.
-pub(crate) fn cached<A: Played>(machine: &Machine<A>, block: &Digested<A::Block>) -> Told {
-    yes_or_no(machine.handler.cached(&block.digest()))
+    Ok(tell(""))
 }

@@ -28,22 +28,47 @@ fn empty<A: Played>(alloc: Global) -> A::Databases {
     databases
 }
 
+fn handler<A: Played>(
+    alloc: Global,
+    block: &Digested<A::Block>,
+) -> Result<Verifier<A>, OutOfMemory> {
+    match Processor::new(alloc, A::fresh(), Anchor::from_block(block)) {
+        Ok(processor) => Verifier::<A>::new(processor),
+        Err(refused) => Err(refused),
+    }
+}
+
 impl<A: Played> Machine<A> {
-    /// Nothing goes on over a block.
-    pub(crate) fn over(
-        alloc: Global,
-        block: &Digested<A::Block>,
-    ) -> Result<Machine<A>, OutOfMemory> {
-        let processor = Processor::new(alloc, A::fresh(), Anchor::from_block(block))?;
-        let handler = Verifier::<A>::new(processor)?;
-        Ok(Machine {
+    fn of(alloc: Global, handler: Verifier<A>) -> Machine<A> {
+        Machine {
             alloc,
             databases: empty::<A>(alloc),
             store: MemoryStore::new(alloc),
             handler,
             marks: Vec::new(alloc),
-        })
+        }
     }
+
+    /// Nothing goes on over a block.
+    pub(crate) fn over(
+        alloc: Global,
+        block: &Digested<A::Block>,
+    ) -> Result<Machine<A>, OutOfMemory> {
+        match handler::<A>(alloc, block) {
+            Ok(handler) => Ok(Machine::of(alloc, handler)),
+            Err(refused) => Err(refused),
+        }
+    }
+}
+
+/// There is no such command.
+pub(crate) fn no_command() -> Made {
+    Ok(tell("no such command"))
+}
+
+/// There is no such block.
+pub(crate) fn no_block() -> Made {
+    Ok(tell("no such block"))
 }
 
 /// A call that answers nothing.

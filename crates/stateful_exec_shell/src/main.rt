@@ -53,6 +53,7 @@
 //!     gives TICKET BLOCK, votes TICKET BLOCK, stages TICKET BLOCK, declines TICKET
 #![tactic(auto)]
 
+mod asking;
 mod block;
 mod blocks;
 mod building;

@@ -5,6 +5,7 @@ use crate::fake::{Fake, Order};
 use crate::words::{number, small};
 use stateful_db::{Application, DatabaseSet, Held};
 use stateful_db_plain::{Plain, PlainMedium, PlainState};
+use stateful_shell::word;
 use stateful_types::{Digest, Epoch, Handoff, Height, Round, Target, View};
 use std::alloc::Global;
 use std::collections::BTreeMap;
@@ -66,6 +67,20 @@ fn target(alloc: Global, height: u64) -> Target {
     PlainState::new(height.saturating_add(1), BTreeMap::new(alloc)).target()
 }
 
+/// The block of which the words of a line say the rest.
+fn fake_block(parent: Digest, target: Target, words: &[&str]) -> FakeBlock {
+    FakeBlock {
+        name: small(word(words, 3)),
+        parent,
+        height: Height(number(word(words, 4))),
+        round: round(number(word(words, 5))),
+        target,
+        turns: small(word(words, 7)),
+        end: end(word(words, 8)),
+        hook: small(word(words, 9)),
+    }
+}
+
 impl Played for Fake {
     fn fresh() -> Fake {
         Fake
@@ -86,17 +101,8 @@ impl Played for Fake {
     }
 
     fn block(alloc: Global, parent: Digest, words: &[&str]) -> Option<FakeBlock> {
-        match words {
-            [byte, height, view, states, turns, how, hook] => Some(FakeBlock {
-                name: small(byte),
-                parent,
-                height: Height(number(height)),
-                round: round(number(view)),
-                target: target(alloc, number(states)),
-                turns: small(turns),
-                end: end(how),
-                hook: small(hook),
-            }),
+        match words.len() {
+            10 => Some(fake_block(parent, target(alloc, number(word(words, 6))), words)),
             _ => None,
         }
     }

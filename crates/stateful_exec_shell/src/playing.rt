@@ -1,45 +1,52 @@
 //! Which command a line is.
 
+use crate::asking::{anchor, awaited, building, cached, front, idle, numbers};
 use crate::blocks::Blocks;
-use crate::building::{build, building, ready, turn_build};
-use crate::finalizing::{
-    advance, anchor, begin, cached, close, drop_front, front, observe, past, run, turn_hook,
-};
-use crate::machine::{Machine, Made};
+use crate::building::{build, ready, turn_build};
+use crate::finalizing::{advance, begin, close, drop_front, observe, past, run, turn_hook};
+use crate::machine::{Machine, Made, no_block, no_command};
 use crate::played::Played;
 use crate::requesting::{
     answered, cancel, fetched, next, pause, pause_for, process, recover, reopen, resume, settle,
     start, store, turn, verify,
 };
-use crate::told::{tell, yes_or_no};
 use crate::words::number;
 use stateful_db::ProposalKind;
+use stateful_shell::word;
 use stateful_types::Digested;
 
+/// A question.
+fn play_question<A: Played>(machine: &Machine<A>, first: &str) -> Made {
+    match first {
+        "building" => building(machine),
+        "front" => front(machine),
+        "anchor" => anchor(machine),
+        "awaited" => awaited(machine),
+        "idle" => idle(machine),
+        "numbers" => numbers(machine),
+        _ => no_command(),
+    }
+}
+
 /// A command without anything behind it.
-fn play_alone<A: Played>(machine: &mut Machine<A>, word: &str) -> Made {
-    match word {
+fn play_alone<A: Played>(machine: &mut Machine<A>, first: &str) -> Made {
+    match first {
         "pause" => pause(machine),
         "resume" => resume(machine),
-        "ready" => Ok(ready(machine)),
-        "building" => Ok(building(machine)),
-        "drop" => Ok(drop_front(machine)),
-        "close" => Ok(close(machine)),
-        "front" => Ok(front(machine)),
-        "anchor" => Ok(anchor(machine)),
-        "awaited" => Ok(tell("awaits").number(machine.handler.awaited() as u64)),
-        "idle" => Ok(yes_or_no(machine.handler.flights_idle())),
-        "numbers" => {
-            let (job, fetch) = machine.handler.numbers();
-            Ok(tell("numbers").numbers(job, fetch))
-        }
-        _ => Ok(tell("no such command")),
+        "ready" => ready(machine),
+        "drop" => drop_front(machine),
+        "close" => close(machine),
+        _ => play_question(machine, first),
     }
 }
 
 /// A command on a block.
-fn play_block<A: Played>(machine: &mut Machine<A>, word: &str, block: &Digested<A::Block>) -> Made {
-    match word {
+fn play_block<A: Played>(
+    machine: &mut Machine<A>,
+    first: &str,
+    block: &Digested<A::Block>,
+) -> Made {
+    match first {
         "pause" => pause_for(machine, block),
         "past" => past(machine, block),
         "begin" => begin(machine, block),
@@ -47,14 +54,14 @@ fn play_block<A: Played>(machine: &mut Machine<A>, word: &str, block: &Digested<
         "advance" => advance(machine, block),
         "observe" => observe(machine, block),
         "store" => store(machine, block),
-        "cached" => Ok(cached(machine, block)),
-        _ => Ok(tell("no such command")),
+        "cached" => cached(machine, block),
+        _ => no_command(),
     }
 }
 
 /// A command on a ticket, a job or a fetch.
-fn play_number<A: Played>(machine: &mut Machine<A>, word: &str, number: u64) -> Made {
-    match word {
+fn play_number<A: Played>(machine: &mut Machine<A>, first: &str, number: u64) -> Made {
+    match first {
         "fetched" => answered(machine, number, None),
         "cancel" => cancel(machine, number),
         "turn" => turn(machine, number),
@@ -64,21 +71,79 @@ fn play_number<A: Played>(machine: &mut Machine<A>, word: &str, number: u64) -> 
         "build" => build(machine, number),
         "turn_build" => turn_build(machine, number),
         "turn_hook" => turn_hook(machine, number),
-        _ => Ok(tell("no such command")),
+        _ => no_command(),
     }
 }
 
-/// A command on a number and a block.
-fn play_both<A: Played>(
+/// A command on a block or a number.
+fn play_one<A: Played>(
     machine: &mut Machine<A>,
-    word: &str,
-    number: u64,
-    block: &Digested<A::Block>,
+    blocks: &Blocks<A::Block>,
+    first: &str,
+    name: &str,
 ) -> Made {
-    match word {
-        "verify" => verify(machine, number, block, None),
-        "fetched" => fetched(machine, number, block),
-        _ => Ok(tell("no such command")),
+    match blocks.find(name) {
+        Some(block) => play_block(machine, first, block),
+        None => play_number(machine, first, number(name)),
+    }
+}
+
+/// `fetched FETCH BLOCK`.
+fn play_fetched<A: Played>(
+    machine: &mut Machine<A>,
+    blocks: &Blocks<A::Block>,
+    words: &[&str],
+) -> Made {
+    match blocks.find(word(words, 2)) {
+        Some(block) => fetched(machine, number(word(words, 1)), block),
+        None => no_block(),
+    }
+}
+
+/// `verify TICKET BLOCK [PARENT]`.
+fn play_verify<A: Played>(
+    machine: &mut Machine<A>,
+    blocks: &Blocks<A::Block>,
+    words: &[&str],
+) -> Made {
+    let parent = blocks.find(word(words, 3));
+    match blocks.find(word(words, 2)) {
+        Some(block) => verify(machine, number(word(words, 1)), block, parent),
+        None => no_block(),
+    }
+}
+
+/// `reopen BLOCK JOB FETCH`.
+fn play_reopen<A: Played>(
+    machine: &mut Machine<A>,
+    blocks: &Blocks<A::Block>,
+    words: &[&str],
+) -> Made {
+    match blocks.find(word(words, 1)) {
+        Some(block) => reopen(
+            machine,
+            block,
+            number(word(words, 2)),
+            number(word(words, 3)),
+        ),
+        None => no_block(),
+    }
+}
+
+/// A command on several things.
+fn play_several<A: Played>(
+    machine: &mut Machine<A>,
+    blocks: &Blocks<A::Block>,
+    words: &[&str],
+) -> Made {
+    match word(words, 0) {
+        "propose" => recover(machine, blocks, ProposalKind::Propose, words),
+        "prepare" => recover(machine, blocks, ProposalKind::Prepare, words),
+        "settle" => settle(machine, number(word(words, 1)), word(words, 2)),
+        "fetched" => play_fetched(machine, blocks, words),
+        "verify" => play_verify(machine, blocks, words),
+        "reopen" => play_reopen(machine, blocks, words),
+        _ => no_command(),
     }
 }
 
@@ -88,27 +153,9 @@ pub(crate) fn play<A: Played>(
     blocks: &Blocks<A::Block>,
     words: &[&str],
 ) -> Made {
-    match words {
-        [word] => play_alone(machine, word),
-        ["propose", rest @ ..] => recover(machine, blocks, ProposalKind::Propose, rest),
-        ["prepare", rest @ ..] => recover(machine, blocks, ProposalKind::Prepare, rest),
-        ["settle", job, how] => settle(machine, number(job), how),
-        [word, name] => match blocks.find(name) {
-            Some(block) => play_block(machine, word, block),
-            None => play_number(machine, word, number(name)),
-        },
-        [word, count, name] => match blocks.find(name) {
-            Some(block) => play_both(machine, word, number(count), block),
-            None => Ok(tell("no such block")),
-        },
-        ["verify", ticket, name, parent] => match blocks.find(name) {
-            Some(block) => verify(machine, number(ticket), block, blocks.find(parent)),
-            None => Ok(tell("no such block")),
-        },
-        ["reopen", name, job, fetch] => match blocks.find(name) {
-            Some(block) => Ok(reopen(machine, block, number(job), number(fetch))),
-            None => Ok(tell("no such block")),
-        },
-        _ => Ok(tell("no such command")),
+    match words.len() {
+        1 => play_alone(machine, word(words, 0)),
+        2 => play_one(machine, blocks, word(words, 0), word(words, 1)),
+        _ => play_several(machine, blocks, words),
     }
 }

@@ -1,12 +1,13 @@
 //! Commands on requests, runs and pauses.
 
 use crate::blocks::Blocks;
-use crate::machine::{Machine, Made, quiet};
+use crate::machine::{Machine, Made, no_block, quiet};
 use crate::played::Played;
-use crate::told::{Told, tell, yes_or_no};
+use crate::told::{tell, yes_or_no};
 use crate::words::number;
 use stateful_db::{AppFault, ProposalKind};
 use stateful_exec::{Acquired, Joined, ReplayPath, Request};
+use stateful_shell::word;
 use stateful_types::{Ancestry, Anchor, Block, Digested, Items, Moved, OutOfMemory, Share};
 use std::alloc::Global;
 
@@ -49,18 +50,31 @@ pub(crate) fn verify<A: Played>(
     schedule(machine, Request::Verify { ticket, ancestry })
 }
 
+fn wait<A: Played>(how: &str) -> Option<A::Input> {
+    match how {
+        "wait" => Some(A::wait()),
+        _ => None,
+    }
+}
+
+fn give<A: Played>(
+    blocks: &Blocks<A::Block>,
+    words: &[&str],
+    turns: &str,
+    last: &str,
+) -> Option<A::Input> {
+    match blocks.find(word(words, 5)) {
+        Some(block) => Some(A::give(block.inner(), word(words, 4), turns, last)),
+        None => None,
+    }
+}
+
 /// What a build is ordered to do, by the words `HOW [BLOCK [TURNS END]]`.
 fn order<A: Played>(blocks: &Blocks<A::Block>, words: &[&str]) -> Option<A::Input> {
-    match words {
-        ["wait"] => Some(A::wait()),
-        [how, name] => {
-            let block = blocks.find(name)?;
-            Some(A::give(block.inner(), how, "0", "states"))
-        }
-        [how, name, turns, last] => {
-            let block = blocks.find(name)?;
-            Some(A::give(block.inner(), how, turns, last))
-        }
+    match words.len() {
+        5 => wait::<A>(word(words, 4)),
+        6 => give::<A>(blocks, words, "0", "states"),
+        8 => give::<A>(blocks, words, word(words, 6), word(words, 7)),
         _ => None,
     }
 }
@@ -84,22 +98,31 @@ fn bid<A: Played>(
     schedule(machine, request)
 }
 
-/// `propose TICKET PARENT VIEW HOW [BLOCK [TURNS END]]`, and `prepare`, by the words behind the
-/// first.
+fn recover_on<A: Played>(
+    machine: &mut Machine<A>,
+    blocks: &Blocks<A::Block>,
+    kind: ProposalKind,
+    parent: &Digested<A::Block>,
+    words: &[&str],
+) -> Made {
+    let ticket = number(word(words, 1));
+    let view = number(word(words, 3));
+    match order::<A>(blocks, words) {
+        Some(input) => bid(machine, kind, ticket, parent, view, input),
+        None => no_block(),
+    }
+}
+
+/// `propose TICKET PARENT VIEW HOW [BLOCK [TURNS END]]`, and `prepare`.
 pub(crate) fn recover<A: Played>(
     machine: &mut Machine<A>,
     blocks: &Blocks<A::Block>,
     kind: ProposalKind,
     words: &[&str],
 ) -> Made {
-    let [ticket, parent, view, rest @ ..] = words else {
-        return Ok(tell("no such command"));
-    };
-    match (blocks.find(parent), order::<A>(blocks, rest)) {
-        (Some(parent), Some(input)) => {
-            bid(machine, kind, number(ticket), parent, number(view), input)
-        }
-        _ => Ok(tell("no such block")),
+    match blocks.find(word(words, 2)) {
+        Some(parent) => recover_on(machine, blocks, kind, parent, words),
+        None => no_block(),
     }
 }
 
@@ -235,13 +258,13 @@ pub(crate) fn reopen<A: Played>(
     block: &Digested<A::Block>,
     job: u64,
     fetch: u64,
-) -> Told {
+) -> Made {
     let (next_job, next_fetch) = machine.handler.numbers();
     if job < next_job || fetch < next_fetch {
-        return tell("refused");
+        return Ok(tell("refused"));
     }
     machine
         .handler
         .reopen(Anchor::from_block(block), job, fetch);
-    tell("")
+    Ok(tell(""))
 }

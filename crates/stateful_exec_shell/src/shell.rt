@@ -5,7 +5,7 @@ use crate::machine::{Machine, Made};
 use crate::played::Played;
 use crate::playing::play;
 use crate::telling::{of_error, of_mark};
-use stateful_shell::Shell;
+use stateful_shell::{Shell, word};
 use stateful_types::OutOfMemory;
 use std::alloc::Global;
 
@@ -42,16 +42,10 @@ fn say<A: Played>(
 
 impl<A: Played> ExecShell<A> {
     /// `block ..`.
-    fn name(
-        &mut self,
-        name: &str,
-        parent: &str,
-        words: &[&str],
-        out: &mut String,
-    ) -> Result<(), OutOfMemory> {
-        let parent = self.blocks.digest_of(parent);
+    fn name(&mut self, words: &[&str], out: &mut String) -> Result<(), OutOfMemory> {
+        let parent = self.blocks.digest_of(word(words, 2));
         match A::block(self.blocks.alloc, parent, words) {
-            Some(block) => self.blocks.put(name, block),
+            Some(block) => self.blocks.put(word(words, 1), block),
             None => {
                 out.push_str("no such block\n")?;
                 Ok(())
@@ -79,6 +73,14 @@ impl<A: Played> ExecShell<A> {
         let made = play(machine, &self.blocks, words);
         say(machine, &self.blocks, made, out)
     }
+
+    fn play_words(&mut self, words: &[&str], out: &mut String) -> Result<(), OutOfMemory> {
+        match word(words, 0) {
+            "block" => self.name(words, out),
+            "open" => self.open(word(words, 1), out),
+            _ => self.call(words, out),
+        }
+    }
 }
 
 impl<A: Played> Shell for ExecShell<A> {
@@ -91,11 +93,7 @@ impl<A: Played> Shell for ExecShell<A> {
 
     fn play(&mut self, line: &str, out: &mut String) -> Result<(), OutOfMemory> {
         let words: Vec<&str> = line.split_whitespace().collect(self.blocks.alloc)?;
-        match words.as_slice() {
-            ["block", name, parent, rest @ ..] => self.name(name, parent, rest, out),
-            ["open", name] => self.open(name, out),
-            words => self.call(words, out),
-        }
+        self.play_words(words.as_slice(), out)
     }
 
     fn end(&mut self, _out: &mut String) -> Result<(), OutOfMemory> {

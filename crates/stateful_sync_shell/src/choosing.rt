@@ -3,6 +3,7 @@
 use crate::letter::{Letter, block, push_block, store};
 use crate::shown::{Hex, Shown, say};
 use crate::words::{height, letter, round};
+use stateful_shell::word;
 use stateful_sync::{Resolved, SyncError, resolve, resolve_fetched};
 use stateful_types::{
     Digest, Digested, Epoch, Finalization, Floor, Items, OutOfMemory, Round, View,
@@ -51,21 +52,21 @@ fn say_error(error: SyncError, out: &mut String) -> Shown {
     Ok(())
 }
 
-/// The start of a sync to a finalized block, or the digest of the one to fetch.
-pub(crate) fn resolved(
-    alloc: Global,
-    words: [&str; 4],
-    blocks: &[&str],
-    out: &mut String,
-) -> Shown {
-    let [processed, cutoff, at, name] = words;
-    let store = store(alloc, blocks)?;
-    let finalization = finalization(alloc, at, name);
-    match resolve(&store, &floor(processed, cutoff), &finalization) {
+/// Appends where a sync starts, or which block is to be fetched.
+fn say_resolved(resolved: Result<Resolved<Letter>, SyncError>, out: &mut String) -> Shown {
+    match resolved {
         Ok(Resolved::Block(block)) => say_start(&block, out),
         Ok(Resolved::Fetch(digest)) => say_fetch(digest, out),
         Err(error) => say_error(error, out),
     }
+}
+
+/// The start of a sync to a finalized block, or the digest of the one to fetch.
+pub(crate) fn resolved(alloc: Global, words: &[&str], out: &mut String) -> Shown {
+    let store = store(alloc, words, 5)?;
+    let floor = floor(word(words, 1), word(words, 2));
+    let finalization = finalization(alloc, word(words, 3), word(words, 4));
+    say_resolved(resolve(&store, &floor, &finalization), out)
 }
 
 /// A fetched block, or none.
@@ -77,16 +78,10 @@ fn fetched(alloc: Global, word: &str) -> Result<Option<Digested<Letter>>, OutOfM
 }
 
 /// The start of a sync whose floor was fetched.
-pub(crate) fn answer(
-    alloc: Global,
-    processed: &str,
-    word: &str,
-    blocks: &[&str],
-    out: &mut String,
-) -> Shown {
-    let store = store(alloc, blocks)?;
-    let answer = fetched(alloc, word)?;
-    match resolve_fetched(&store, &floor(processed, "none"), answer) {
+pub(crate) fn answer(alloc: Global, words: &[&str], out: &mut String) -> Shown {
+    let store = store(alloc, words, 3)?;
+    let answer = fetched(alloc, word(words, 2))?;
+    match resolve_fetched(&store, &floor(word(words, 1), "none"), answer) {
         Ok(block) => say_start(&block, out),
         Err(error) => say_error(error, out),
     }

@@ -2,6 +2,7 @@
 
 use crate::letter::{Letter, block, push_block};
 use crate::shown::{Hex, Shown, say};
+use stateful_shell::word;
 use stateful_sync::{Handover, SyncError, classify};
 use stateful_types::{Anchor, Digested, OutOfMemory};
 use std::alloc::Global;
@@ -47,19 +48,19 @@ fn say_error(error: SyncError, out: &mut String) -> Shown {
     Ok(())
 }
 
-/// Blocks under ascending tickets.
+/// Blocks under ascending tickets, from the third word on.
 fn retained(alloc: Global, words: &[&str]) -> Result<Vec<(u64, Digested<Letter>)>, OutOfMemory> {
     let mut retained = Vec::new(alloc);
-    for (ticket, word) in words.iter().enumerate() {
-        let block = block(alloc, word)?;
+    for (ticket, text) in words.iter().skip(2).enumerate() {
+        let block = block(alloc, text)?;
         retained.push((ticket as u64, block))?;
     }
     Ok(retained)
 }
 
 /// What becomes of blocks, once the databases have converged to the anchor.
-pub(crate) fn classified(alloc: Global, anchor: &str, words: &[&str], out: &mut String) -> Shown {
-    let anchor = Anchor::from_block(&block(alloc, anchor)?);
+pub(crate) fn classified(alloc: Global, words: &[&str], out: &mut String) -> Shown {
+    let anchor = Anchor::from_block(&block(alloc, word(words, 1))?);
     let retained = retained(alloc, words)?;
     match classify(alloc, anchor, retained) {
         Ok(handovers) => say_handovers(handovers.as_slice(), out),

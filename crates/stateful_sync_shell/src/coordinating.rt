@@ -4,6 +4,7 @@ ghost use Rattle.std.specs.Prelude.{◌≤◌, length};
 
 use crate::shown::{Place, Shown, refused, say};
 use crate::words::{anchor, index, number};
+use stateful_shell::word;
 use stateful_sync::{CoordinatorAction, CoordinatorState};
 use stateful_types::Anchor;
 use std::alloc::Global;
@@ -76,6 +77,27 @@ impl Coordinated {
         self.next(Some(database), out)
     }
 
+    /// What is to be done next. With the word `same`, the database of the third word has the same
+    /// target.
+    fn next_of(&mut self, words: &[&str], out: &mut String) -> Shown {
+        match word(words, 1) {
+            "same" => self.next_same(index(word(words, 2)), out),
+            _ => self.next(None, out),
+        }
+    }
+
+    /// Does what the words of a line say of the coordinator.
+    fn play(&mut self, words: &[&str], out: &mut String) -> Shown {
+        let first = word(words, 1);
+        let targets = number(word(words, 2));
+        match word(words, 0) {
+            "reached" => self.reached(index(first), targets, out),
+            "tip" => self.tip(anchor(first), targets, out),
+            "next" => self.next_of(words, out),
+            _ => say("no such command", out),
+        }
+    }
+
     /// Appends a word, and which databases seek, to which a dispatch goes, and which are there.
     fn say_seeking(&self, word: &str, out: &mut String) -> Shown {
         out.push_str(word)?;
@@ -106,22 +128,25 @@ impl Coordinating {
         made.say_seeking("made", out)
     }
 
+    /// Makes the coordinator that the words say.
+    fn coordinate_of(&mut self, words: &[&str], out: &mut String) -> Shown {
+        let place = anchor(word(words, 2));
+        self.coordinate(index(word(words, 1)), place, number(word(words, 3)), out)
+    }
+
+    /// Does what the words of a line say of the coordinator, once one was made.
+    fn play_made(&mut self, words: &[&str], out: &mut String) -> Shown {
+        match &mut self.made {
+            Some(made) => made.play(words, out),
+            None => say("no coordinator", out),
+        }
+    }
+
     /// Does what the words of a line say.
     pub(crate) fn play(&mut self, words: &[&str], out: &mut String) -> Shown {
-        if let ["coordinate", count, height, targets] = words {
-            return self.coordinate(index(count), anchor(height), number(targets), out);
-        }
-        let Some(made) = &mut self.made else {
-            return say("no coordinator", out);
-        };
-        match words {
-            ["reached", database, generation] => {
-                made.reached(index(database), number(generation), out)
-            }
-            ["tip", height, targets] => made.tip(anchor(height), number(targets), out),
-            ["next"] => made.next(None, out),
-            ["next", "same", database] => made.next_same(index(database), out),
-            _ => say("no such command", out),
+        match word(words, 0) {
+            "coordinate" => self.coordinate_of(words, out),
+            _ => self.play_made(words, out),
         }
     }
 }

@@ -62,10 +62,14 @@ pub(crate) fn block(alloc: Global, word: &str) -> Result<Digested<Letter>, OutOf
     Digested::compute(alloc, block)
 }
 
-/// A block store of these blocks.
-pub(crate) fn store(alloc: Global, words: &[&str]) -> Result<MemoryStore<Letter>, OutOfMemory> {
+/// A block store of the blocks from this word on.
+pub(crate) fn store(
+    alloc: Global,
+    words: &[&str],
+    first: usize,
+) -> Result<MemoryStore<Letter>, OutOfMemory> {
     let mut store = MemoryStore::new(alloc);
-    for word in words {
+    for word in words.iter().skip(first) {
         store.insert(block(alloc, word)?)?;
     }
     Ok(store)

@@ -4,6 +4,7 @@ ghost use Rattle.std.specs.Prelude.{◌≤◌, length};
 
 use crate::shown::{Place, Shown, refused, say};
 use crate::words::{anchor, number};
+use stateful_shell::word;
 use stateful_sync::{Mailbox, TipUpdate};
 use stateful_types::{Anchor, Moved};
 use std::alloc::Global;
@@ -26,6 +27,11 @@ fn say_update(update: TipUpdate<u64>, out: &mut String) -> Shown {
         None => write!(out, "{place}, targets {targets}, not observed\n")?,
     }
     Ok(())
+}
+
+/// The update that the words say, which is in no mailbox.
+fn update_of(words: &[&str]) -> TipUpdate<u64> {
+    TipUpdate::new(anchor(word(words, 1)), number(word(words, 2)))
 }
 
 impl Mailing {
@@ -99,19 +105,30 @@ impl Mailing {
         Ok(())
     }
 
+    /// The sync answers an update with a block, or with none.
+    fn respond_of(&mut self, words: &[&str], out: &mut String) -> Shown {
+        let ticket = number(word(words, 1));
+        match word(words, 2) {
+            "none" => self.respond(ticket, None, out),
+            height => self.respond(ticket, Some(anchor(height)), out),
+        }
+    }
+
+    /// A block is finalized.
+    fn retarget_of(&mut self, words: &[&str], out: &mut String) -> Shown {
+        self.retarget(anchor(word(words, 1)), number(word(words, 2)), out)
+    }
+
     /// Does what the words of a line say.
     pub(crate) fn play(&mut self, words: &[&str], out: &mut String) -> Shown {
-        match words {
-            ["mailbox"] => self.begin(out),
-            ["retarget", height, targets] => self.retarget(anchor(height), number(targets), out),
-            ["take"] => self.take(out),
-            ["respond", ticket, "none"] => self.respond(number(ticket), None, out),
-            ["respond", ticket, height] => self.respond(number(ticket), Some(anchor(height)), out),
-            ["observed", ticket, how] => self.observed(number(ticket), *how == "yes", out),
-            ["poll", ticket] => self.poll(number(ticket), out),
-            ["update", height, targets] => {
-                say_update(TipUpdate::new(anchor(height), number(targets)), out)
-            }
+        match word(words, 0) {
+            "mailbox" => self.begin(out),
+            "retarget" => self.retarget_of(words, out),
+            "take" => self.take(out),
+            "respond" => self.respond_of(words, out),
+            "observed" => self.observed(number(word(words, 1)), word(words, 2) == "yes", out),
+            "poll" => self.poll(number(word(words, 1)), out),
+            "update" => say_update(update_of(words), out),
             _ => say("no such command", out),
         }
     }

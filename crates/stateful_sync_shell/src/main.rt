@@ -57,7 +57,7 @@ use crate::mailing::Mailing;
 use crate::planning::Planning;
 use crate::shown::Shown;
 use stateful_base::OutOfMemory;
-use stateful_shell::{Shell, play_files};
+use stateful_shell::{Shell, play_files, word};
 use std::alloc::Global;
 use std::process::ExitCode;
 
@@ -73,19 +73,14 @@ struct Syncing {
 impl Syncing {
     /// Does what the words of a line say.
     fn play_words(&mut self, words: &[&str], out: &mut String) -> Shown {
-        match words {
-            [
-                "store" | "reload" | "floor" | "complete" | "start" | "state",
-                ..
-            ] => { self.planning.play(words, out) }
-            ["resolve", processed, cutoff, round, letter, blocks @ ..] => {
-                resolved(self.alloc, [processed, cutoff, round, letter], blocks, out)
+        match word(words, 0) {
+            "store" | "reload" | "floor" | "complete" | "start" | "state" => {
+                self.planning.play(words, out)
             }
-            ["answer", processed, block, blocks @ ..] => {
-                answer(self.alloc, processed, block, blocks, out)
-            }
-            ["classify", anchor, blocks @ ..] => classified(self.alloc, anchor, blocks, out),
-            ["coordinate" | "reached" | "tip" | "next", ..] => self.coordinating.play(words, out),
+            "resolve" => resolved(self.alloc, words, out),
+            "answer" => answer(self.alloc, words, out),
+            "classify" => classified(self.alloc, words, out),
+            "coordinate" | "reached" | "tip" | "next" => self.coordinating.play(words, out),
             _ => self.mailing.play(words, out),
         }
     }

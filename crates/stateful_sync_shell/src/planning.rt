@@ -3,9 +3,10 @@
 use crate::shown::{Hex, Shown, Turn, refused, say};
 use crate::words::{bytes, digest, number, round};
 use bytes::Bytes;
+use stateful_shell::word;
 use stateful_sync::{MemoryPlanStore, PlanCall, PlanError, Start, SyncPlan, SyncState};
 use stateful_types::{
-    CodecError, Digest, Faulty, Finalization, Height, Items, OutOfMemory, View, VoteScheme,
+    CodecError, Digest, Faulty, Finalization, Height, Items, OutOfMemory, Round, View, VoteScheme,
 };
 use std::alloc::Global;
 
@@ -107,40 +108,45 @@ fn say_done(done: Result<(), PlanError>, plan: &Plan, out: &mut String) -> Shown
     }
 }
 
-/// A certificate of these signers.
+/// A certificate of the signers from the fourth word on.
 fn signers(alloc: Global, words: &[&str]) -> Result<Items<u32>, OutOfMemory> {
     let mut signers = Items::new(alloc);
-    for word in words {
-        signers.push(word.parse::<u32>().unwrap_or(0))?;
+    for text in words.iter().skip(3) {
+        signers.push(text.parse::<u32>().unwrap_or(0))?;
     }
     Ok(signers)
 }
 
 /// A floor of this round and payload, signed by these.
-fn set_floor(
+fn set_floor_at(
     alloc: Global,
     plan: &mut Plan,
-    at: &str,
-    byte: &str,
-    names: &[&str],
+    round: Round,
+    words: &[&str],
     out: &mut String,
 ) -> Shown {
-    let Some(round) = round(at) else {
-        return refused(out);
-    };
-    let certificate = signers(alloc, names)?;
+    let certificate = signers(alloc, words)?;
     let done = plan.set_floor(Finalization {
         round,
         parent: View(0),
-        payload: digest(byte),
+        payload: digest(word(words, 2)),
         certificate,
     });
     say_done(done, plan, out)
 }
 
+/// The floor that the words say.
+fn set_floor(alloc: Global, plan: &mut Plan, words: &[&str], out: &mut String) -> Shown {
+    match round(word(words, 1)) {
+        Some(round) => set_floor_at(alloc, plan, round, words, out),
+        None => refused(out),
+    }
+}
+
 /// A completion at this height, of this digest.
-fn set_completed(plan: &mut Plan, height: u64, byte: &str, out: &mut String) -> Shown {
-    let done = plan.set_completed(Height(height), digest(byte));
+fn set_completed(plan: &mut Plan, words: &[&str], out: &mut String) -> Shown {
+    let height = number(word(words, 1));
+    let done = plan.set_completed(Height(height), digest(word(words, 2)));
     say_done(done, plan, out)
 }
 
@@ -156,16 +162,30 @@ fn say_start(plan: &Plan, genesis: u64, out: &mut String) -> Shown {
     }
 }
 
-/// The calls of a store that fail.
+/// Does what the words of a line say of a plan.
+fn play_plan(alloc: Global, plan: &mut Plan, words: &[&str], out: &mut String) -> Shown {
+    match word(words, 0) {
+        "floor" => set_floor(alloc, plan, words, out),
+        "complete" => set_completed(plan, words, out),
+        "start" => say_start(plan, number(word(words, 1)), out),
+        _ => say("no such command", out),
+    }
+}
+
+/// The call of a store of this name.
+fn call_of(name: &str) -> PlanCall {
+    match name {
+        "load" => PlanCall::Load,
+        _ => PlanCall::Put,
+    }
+}
+
+/// The calls of a store that fail, from the third word on.
 fn failing(alloc: Global, words: &[&str]) -> Result<Vec<(PlanCall, u64)>, OutOfMemory> {
     let mut calls = Vec::new(alloc);
-    for word in words {
-        let (call, count) = word.split_once(':').unwrap_or((*word, ""));
-        let call = match call {
-            "load" => PlanCall::Load,
-            _ => PlanCall::Put,
-        };
-        calls.push((call, number(count)))?;
+    for text in words.iter().skip(2) {
+        let (call, count) = text.split_once(':').unwrap_or((*text, ""));
+        calls.push((call_of(call), number(count)))?;
     }
     Ok(calls)
 }
@@ -209,6 +229,14 @@ fn say_spelling(
     say(text.as_str(), out)
 }
 
+/// The value of a store, or none.
+fn value_of(alloc: Global, word: &str) -> Option<Bytes> {
+    match word {
+        "none" => None,
+        _ => Some(bytes(alloc, word)),
+    }
+}
+
 impl Planning {
     /// No plan.
     pub(crate) fn new(alloc: Global) -> Planning {
@@ -224,13 +252,10 @@ impl Planning {
     }
 
     /// A plan is loaded from a store of these bytes.
-    fn store(&mut self, word: &str, calls: &[&str], out: &mut String) -> Shown {
-        let calls = failing(self.alloc, calls)?;
-        let value = match word {
-            "none" => None,
-            _ => Some(bytes(self.alloc, word)),
-        };
+    fn store(&mut self, words: &[&str], out: &mut String) -> Shown {
         self.plan = None;
+        let calls = failing(self.alloc, words)?;
+        let value = value_of(self.alloc, word(words, 1));
         self.load(MemoryPlanStore::new(value, calls), out)
     }
 
@@ -244,22 +269,21 @@ impl Planning {
         self.load(store, out)
     }
 
+    /// Does what the words of a line say of the plan, once one was loaded.
+    fn play_loaded(&mut self, words: &[&str], out: &mut String) -> Shown {
+        match &mut self.plan {
+            Some(plan) => play_plan(self.alloc, plan, words, out),
+            None => say("no plan", out),
+        }
+    }
+
     /// Does what the words of a line say.
     pub(crate) fn play(&mut self, words: &[&str], out: &mut String) -> Shown {
-        match words {
-            ["store", word, calls @ ..] => return self.store(word, calls, out),
-            ["reload"] => return self.reload(out),
-            ["state", word] => return say_state(self.alloc, word, out),
-            _ => {}
-        }
-        let Some(plan) = &mut self.plan else {
-            return say("no plan", out);
-        };
-        match words {
-            ["floor", at, byte, names @ ..] => set_floor(self.alloc, plan, at, byte, names, out),
-            ["complete", height, byte] => set_completed(plan, number(height), byte, out),
-            ["start", genesis] => say_start(plan, number(genesis), out),
-            _ => say("no such command", out),
+        match word(words, 0) {
+            "store" => self.store(words, out),
+            "reload" => self.reload(out),
+            "state" => say_state(self.alloc, word(words, 1), out),
+            _ => self.play_loaded(words, out),
         }
     }
 }
