@@ -285,19 +285,43 @@ pub(crate) fn turns<W: Fresh>(desk: &mut Desk<W>, out: &mut String) -> Result<()
     say(out, "goes on")
 }
 
+/// The batch of a block that is run at once. None where it is rejected.
+fn sealed_on<W: Fresh>(
+    desk: &Desk<W>,
+    batch: Drafted<W>,
+    alloc: Global,
+    words: &[&str],
+) -> Result<Option<Sealed<W>>, OutOfMemory> {
+    let ops = ops(alloc, words)?;
+    seal_block::<W>(
+        batch,
+        &desk.databases,
+        ops.as_slice(),
+        place_of(words).height,
+    )
+}
+
+/// Runs a block at once on a batch, and keeps what it makes.
+fn seal_on<W: Fresh>(
+    desk: &mut Desk<W>,
+    batch: Drafted<W>,
+    words: &[&str],
+    out: &mut String,
+) -> Result<(), OutOfMemory> {
+    match sealed_on(desk, batch, *out.allocator(), words)? {
+        Some(sealed) => keep(desk, place_of(words).number, sealed, out),
+        None => say(out, "no batch"),
+    }
+}
+
 /// Runs a block at once.
 pub(crate) fn seal<W: Fresh>(
     desk: &mut Desk<W>,
     words: &[&str],
     out: &mut String,
 ) -> Result<(), OutOfMemory> {
-    let ops = ops(*out.allocator(), words)?;
-    let place = place_of(words);
-    let Some(batch) = batch_on(desk, place.parent) else {
-        return say(out, "refused");
-    };
-    match seal_block::<W>(batch, &desk.databases, ops.as_slice(), place.height)? {
-        Some(sealed) => keep(desk, place.number, sealed, out),
-        None => say(out, "no batch"),
+    match batch_on(desk, place_of(words).parent) {
+        Some(batch) => seal_on(desk, batch, words, out),
+        None => say(out, "refused"),
     }
 }

@@ -7,7 +7,7 @@ use crate::shown::{print_targets, say};
 use crate::words::{number, targets};
 use crate::works::{ROUND, build, print_fault, run, seal, turn, turns};
 use stateful_bank::BankBlock;
-use stateful_bank_app::{Bank, BankHook, Fresh};
+use stateful_bank_app::{Bank, BankHook, Fresh, Sealed};
 use stateful_base::{Items, Moved, OutOfMemory};
 use stateful_db::{Application, DatabaseSet, Hooked, Targets};
 use stateful_shell::word;
@@ -47,14 +47,23 @@ fn leads<W: Fresh>(desk: &Desk<W>, batch: u64, out: &mut String) -> Result<(), O
     }
 }
 
-/// Applies a batch.
-fn apply<W: Fresh>(desk: &mut Desk<W>, batch: u64, out: &mut String) -> Result<(), OutOfMemory> {
-    let Some(sealed) = desk.sealed.remove(&batch) else {
-        return say(out, "refused");
-    };
+/// Applies a batch that was kept.
+fn apply_sealed<W: Fresh>(
+    desk: &mut Desk<W>,
+    sealed: Sealed<W>,
+    out: &mut String,
+) -> Result<(), OutOfMemory> {
     match desk.databases.apply(sealed) {
         Ok(()) => say(out, "applied"),
         Err(refusal) => Ok(writeln!(out, "{refusal}")?),
+    }
+}
+
+/// Applies a batch.
+fn apply<W: Fresh>(desk: &mut Desk<W>, batch: u64, out: &mut String) -> Result<(), OutOfMemory> {
+    match desk.sealed.remove(&batch) {
+        Some(sealed) => apply_sealed(desk, sealed, out),
+        None => say(out, "refused"),
     }
 }
 
@@ -79,11 +88,13 @@ fn matches<W: Fresh>(
     out: &mut String,
 ) -> Result<(), OutOfMemory> {
     let committed = committed::<W>(words, out)?;
-    let Some(sealed) = desk.sealed.get(&batch) else {
-        return say(out, "refused");
-    };
-    let matches = W::Databases::matches_sync_targets(sealed, &committed);
-    Ok(writeln!(out, "matches {matches}")?)
+    match desk.sealed.get(&batch) {
+        Some(sealed) => {
+            let matches = W::Databases::matches_sync_targets(sealed, &committed);
+            Ok(writeln!(out, "matches {matches}")?)
+        }
+        None => say(out, "refused"),
+    }
 }
 
 /// How many turns a hook takes, 300 at most.
