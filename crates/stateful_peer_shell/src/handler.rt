@@ -1,7 +1,8 @@
 //! What an engine hands to a resolver, on its way.
 
-use crate::word::{Hex, Key, bytes, no_such_command, number, push_line, request, small};
+use crate::words::{Hex, Key, bytes, no_such_command, number, push_line, put, request, small};
 use stateful_p2p::{ActorEvent, Handler};
+use stateful_shell::word;
 use stateful_types::{DrawError, Feedback, OutOfMemory, Request};
 use std::alloc::Global;
 use std::fmt::Write;
@@ -12,8 +13,7 @@ fn new(alloc: Global, handler: &mut Option<Handler>, capacity: usize, out: &mut 
     if capacity == 0 {
         return push_line(out, "refused");
     }
-    *handler = Some(Handler::new(alloc, capacity)?);
-    push_line(out, "new")
+    put(handler, Handler::new(alloc, capacity), "new", out)
 }
 
 /// Prints what became of a message, with its number.
@@ -41,32 +41,40 @@ fn cancel(handler: &mut Handler, delivery: u64, out: &mut String) -> Done {
     push_line(out, "cancelled")
 }
 
+fn delivery(delivery: u64, key: &Request, value: &[u8], out: &mut String) -> Done {
+    Ok(writeln!(out, "delivery {delivery} {} {}", Key(key), Hex(value))?)
+}
+
+fn production(serve: u64, key: &Request, out: &mut String) -> Done {
+    Ok(writeln!(out, "production {serve} {}", Key(key))?)
+}
+
+/// Prints an event that was handed out.
+fn handed(event: &ActorEvent, out: &mut String) -> Done {
+    match event {
+        ActorEvent::Deliver {
+            delivery: number,
+            key,
+            value,
+        } => delivery(*number, key, value.as_slice(), out),
+        ActorEvent::Produce { serve, key } => production(*serve, key, out),
+        _ => push_line(out, "something else"),
+    }
+}
+
 fn take(handler: &mut Handler, out: &mut String) -> Done {
     match handler.take() {
-        Some(
-            ActorEvent::Deliver {
-                delivery,
-                key,
-                value,
-            },
-        ) => {
-            let value = Hex(value.as_slice());
-            Ok(writeln!(out, "delivery {delivery} {} {value}", Key(&key))?)
-        }
-        Some(ActorEvent::Produce { serve, key }) => {
-            Ok(writeln!(out, "production {serve} {}", Key(&key))?)
-        }
-        Some(_) => push_line(out, "something else"),
+        Some(event) => handed(&event, out),
         None => push_line(out, "nothing"),
     }
 }
 
 fn play_on(alloc: Global, handler: &mut Handler, words: &[&str], out: &mut String) -> Done {
-    match words {
-        ["deliver", key, hex] => deliver(alloc, handler, request(key), hex, out),
-        ["produce", key] => tell(handler.produce(request(key)), out),
-        ["cancel", delivery] => cancel(handler, number(delivery), out),
-        ["take"] => take(handler, out),
+    match word(words, 1) {
+        "deliver" => deliver(alloc, handler, request(word(words, 2)), word(words, 3), out),
+        "produce" => tell(handler.produce(request(word(words, 2))), out),
+        "cancel" => cancel(handler, number(word(words, 2)), out),
+        "take" => take(handler, out),
         _ => no_such_command(out),
     }
 }
@@ -78,8 +86,8 @@ pub(crate) fn play(
     words: &[&str],
     out: &mut String,
 ) -> Done {
-    if let ["new", capacity] = words {
-        return new(alloc, handler, small(capacity) as usize, out);
+    if word(words, 1) == "new" {
+        return new(alloc, handler, small(word(words, 2)) as usize, out);
     }
     match handler {
         Some(handler) => play_on(alloc, handler, words, out),

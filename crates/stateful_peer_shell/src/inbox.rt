@@ -1,7 +1,8 @@
 //! The mailbox of a probe.
 
-use crate::word::{no_such_command, push_line, small};
+use crate::words::{no_such_command, push_line, put, small};
 use stateful_probe::{Event, Mailbox};
+use stateful_shell::word;
 use stateful_types::{DrawError, OutOfMemory, VoteScheme};
 use std::alloc::Global;
 use std::fmt::Write;
@@ -15,8 +16,7 @@ fn new(alloc: Global, inbox: &mut Option<Inbox>, capacity: usize, out: &mut Stri
     if capacity == 0 {
         return push_line(out, "refused");
     }
-    *inbox = Some(Mailbox::new(alloc, capacity)?);
-    push_line(out, "new")
+    put(inbox, Mailbox::new(alloc, capacity), "new", out)
 }
 
 fn subscribe(inbox: &mut Inbox, out: &mut String) -> Done {
@@ -42,10 +42,10 @@ fn take(inbox: &mut Inbox, out: &mut String) -> Done {
 }
 
 fn play_on(inbox: &mut Inbox, words: &[&str], out: &mut String) -> Done {
-    match words {
-        ["subscribe"] => subscribe(inbox, out),
-        ["attach"] => attach(inbox, out),
-        ["take"] => take(inbox, out),
+    match word(words, 1) {
+        "subscribe" => subscribe(inbox, out),
+        "attach" => attach(inbox, out),
+        "take" => take(inbox, out),
         _ => no_such_command(out),
     }
 }
@@ -57,8 +57,8 @@ pub(crate) fn play(
     words: &[&str],
     out: &mut String,
 ) -> Done {
-    if let ["new", capacity] = words {
-        return new(alloc, inbox, small(capacity) as usize, out);
+    if word(words, 1) == "new" {
+        return new(alloc, inbox, small(word(words, 2)) as usize, out);
     }
     match inbox {
         Some(inbox) => play_on(inbox, words, out),

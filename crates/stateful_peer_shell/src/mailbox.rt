@@ -1,6 +1,7 @@
 //! A mailbox of a bounded size, with notes.
 
-use crate::word::{no_such_command, number, push_line, small};
+use crate::words::{no_such_command, number, push_line, put, small};
+use stateful_shell::word;
 use stateful_types::{Bounded, Feedback, OutOfMemory, Policy, Predicate};
 use std::alloc::Global;
 use std::collections::VecDeque;
@@ -46,8 +47,7 @@ fn new(alloc: Global, notes: &mut Option<Notes>, capacity: usize, out: &mut Stri
     if capacity == 0 {
         return push_line(out, "refused");
     }
-    *notes = Some(Bounded::new(alloc, capacity)?);
-    push_line(out, "empty")
+    put(notes, Bounded::new(alloc, capacity), "empty", out)
 }
 
 fn enqueue(notes: &mut Notes, number: u64, out: &mut String) -> Done {
@@ -73,11 +73,11 @@ fn close(notes: &mut Notes, out: &mut String) -> Done {
 }
 
 fn play_on(notes: &mut Notes, words: &[&str], out: &mut String) -> Done {
-    match words {
-        ["enqueue", note] => enqueue(notes, number(note), out),
-        ["receive"] => receive(notes, out),
-        ["retain", note] => retain(notes, number(note), out),
-        ["close"] => close(notes, out),
+    match word(words, 1) {
+        "enqueue" => enqueue(notes, number(word(words, 2)), out),
+        "receive" => receive(notes, out),
+        "retain" => retain(notes, number(word(words, 2)), out),
+        "close" => close(notes, out),
         _ => no_such_command(out),
     }
 }
@@ -89,8 +89,8 @@ pub(crate) fn play(
     words: &[&str],
     out: &mut String,
 ) -> Done {
-    if let ["new", capacity] = words {
-        return new(alloc, notes, small(capacity) as usize, out);
+    if word(words, 1) == "new" {
+        return new(alloc, notes, small(word(words, 2)) as usize, out);
     }
     match notes {
         Some(notes) => play_on(notes, words, out),

@@ -64,7 +64,7 @@ mod sample;
 mod source;
 mod update;
 mod votes;
-mod word;
+mod words;
 mod writing;
 
 use crate::inbox::Inbox;
@@ -72,10 +72,10 @@ use crate::mailbox::Notes;
 use crate::probe::Votings;
 use crate::resolver::Two;
 use crate::sample::Replies;
-use crate::word::{Votes, no_such_command};
+use crate::words::{Votes, no_such_command};
 use stateful_p2p::Handler;
 use stateful_probe::Sample;
-use stateful_shell::{Shell, play_files};
+use stateful_shell::{Shell, play_files, word};
 use stateful_types::{Epoch, MemoryLatest, OutOfMemory};
 use std::alloc::Global;
 use std::process::ExitCode;
@@ -95,15 +95,15 @@ struct PeerShell {
 
 /// The commands that keep nothing.
 fn play_values(alloc: Global, words: &[&str], out: &mut String) -> Result<(), OutOfMemory> {
-    match words {
-        ["read", kind @ .., hex] => reading::read(alloc, kind, hex, out),
-        ["cuts", kind @ .., hex] => reading::cuts(alloc, kind, hex, out),
-        ["write", value @ ..] => writing::write(alloc, value, out),
-        ["size", what, words @ ..] => writing::size(alloc, what, words, out),
-        ["less", key, other] => votes::less(key, other, out),
-        ["verify", keys, signers] => votes::verify(alloc, keys, signers, out),
-        ["most", what @ ..] => votes::most(what, out),
-        ["errors", which] => votes::errors(which, out),
+    match word(words, 0) {
+        "read" => reading::read(alloc, words, out),
+        "cuts" => reading::cuts(alloc, words, out),
+        "write" => writing::write(alloc, words, out),
+        "size" => writing::size(alloc, words, out),
+        "less" => votes::less(word(words, 1), word(words, 2), out),
+        "verify" => votes::verify(alloc, word(words, 1), word(words, 2), out),
+        "most" => votes::most(words, out),
+        "errors" => votes::errors(word(words, 1), out),
         _ => no_such_command(out),
     }
 }
@@ -112,22 +112,16 @@ impl PeerShell {
     /// The command of these words.
     fn play_words(&mut self, words: &[&str], out: &mut String) -> Result<(), OutOfMemory> {
         let alloc = self.alloc;
-        match words {
-            ["latest", words @ ..] => votes::play_latest(alloc, &mut self.latest, words, out),
-            ["mailbox", words @ ..] => mailbox::play(alloc, &mut self.notes, words, out),
-            ["handler", words @ ..] => handler::play(alloc, &mut self.handler, words, out),
-            ["resolvers", words @ ..] => {
-                resolver::play_both(alloc, &mut self.resolvers, words, out)
-            }
-            ["resolver", words @ ..] => {
-                resolver::play(alloc, &mut self.resolvers, true, words, out)
-            }
-            ["other", words @ ..] => resolver::play(alloc, &mut self.resolvers, false, words, out),
-            ["probe", words @ ..] => {
-                probe::play(alloc, &mut self.probe, &self.latest, words, out)
-            }
-            ["inbox", words @ ..] => inbox::play(alloc, &mut self.inbox, words, out),
-            ["sample", words @ ..] => sample::play(alloc, &mut self.sample, words, out),
+        match word(words, 0) {
+            "latest" => votes::play_latest(alloc, &mut self.latest, words, out),
+            "mailbox" => mailbox::play(alloc, &mut self.notes, words, out),
+            "handler" => handler::play(alloc, &mut self.handler, words, out),
+            "resolvers" => resolver::play_both(alloc, &mut self.resolvers, words, out),
+            "resolver" => resolver::play_first(alloc, &mut self.resolvers, words, out),
+            "other" => resolver::play_other(alloc, &mut self.resolvers, words, out),
+            "probe" => probe::play(alloc, &mut self.probe, &self.latest, words, out),
+            "inbox" => inbox::play(alloc, &mut self.inbox, words, out),
+            "sample" => sample::play(alloc, &mut self.sample, words, out),
             _ => play_values(alloc, words, out),
         }
     }

@@ -2,13 +2,14 @@
 
 ghost use Rattle.std.specs.Prelude.{◌≡◌, ◌^◌, ◌<◌, length, IfOk};
 
-use crate::word::{
-    Final, Hex, Votes, bytes, digest, finalization, no_such_command, number, numbers, push_line,
-    signers,
+use crate::words::{
+    Hex, Votes, bytes, digest, finalization, fmt_named, no_such_command, number, numbers,
+    push_line, put, signers,
 };
 use bytes::Bytes;
 use stateful_probe::{Config, Event, Message, Out, Probe, ProbeError, ProbeOut};
-use stateful_types::{Epoch, Items, MemoryLatest, OutOfMemory, VoteScheme};
+use stateful_shell::word;
+use stateful_types::{Epoch, Finalization, Items, MemoryLatest, OutOfMemory, VoteScheme};
 use std::alloc::Global;
 use std::fmt;
 use std::fmt::Write;
@@ -46,21 +47,59 @@ fn probe(
     Probe::new(alloc, config)
 }
 
-fn new(
+fn begin(
     alloc: Global,
     place: &mut Option<Votings>,
     minimum_epoch: u64,
-    epochs: &str,
-    keys: &str,
+    epochs: &[u64],
+    keys: &[u64],
     out: &mut String,
 ) -> Done {
-    let epochs = numbers(alloc, epochs)?;
-    let keys = numbers(alloc, keys)?;
     if u32::try_from(keys.len()).is_err() {
         return push_line(out, "refused");
     }
-    *place = Some(probe(alloc, minimum_epoch, epochs.as_slice(), keys.as_slice())?);
-    push_line(out, "new")
+    put(place, probe(alloc, minimum_epoch, epochs, keys), "new", out)
+}
+
+fn begin_among(
+    alloc: Global,
+    place: &mut Option<Votings>,
+    words: &[&str],
+    keys: &[u64],
+    out: &mut String,
+) -> Done {
+    let epochs = numbers(alloc, word(words, 3))?;
+    begin(
+        alloc,
+        place,
+        number(word(words, 2)),
+        epochs.as_slice(),
+        keys,
+        out,
+    )
+}
+
+fn new(alloc: Global, place: &mut Option<Votings>, words: &[&str], out: &mut String) -> Done {
+    let keys = numbers(alloc, word(words, 4))?;
+    begin_among(alloc, place, words, keys.as_slice(), out)
+}
+
+fn fmt_floor<W: fmt::Write>(
+    ticket: u64,
+    floor: &Finalization<Votes>,
+    f: &mut fmt::Formatter<W>,
+) -> fmt::Result {
+    let (epoch, view) = (floor.round.epoch.0, floor.round.view.0);
+    let signers = floor.certificate.as_slice();
+    write!(f, "floor {ticket} at {epoch} {view} by {signers:?}")
+}
+
+fn fmt_request<W: fmt::Write>(peers: &[u64], f: &mut fmt::Formatter<W>) -> fmt::Result {
+    write!(f, "request {peers:?}")
+}
+
+fn fmt_response<W: fmt::Write>(peer: u64, value: &[u8], f: &mut fmt::Formatter<W>) -> fmt::Result {
+    write!(f, "response {peer} {}", Hex(value))
 }
 
 /// What is to be done, in words.
@@ -73,20 +112,11 @@ impl fmt::Display for Told<'_> {
             Out::Floor {
                 ticket,
                 finalization,
-            } => {
-                let (epoch, view) = (finalization.round.epoch.0, finalization.round.view.0);
-                let signers = finalization.certificate.as_slice();
-                write!(f, "floor {ticket} at {epoch} {view} by {signers:?}")
-            }
-            Out::Closed { ticket } => write!(f, "closed {ticket}"),
-            Out::Request { peers } => {
-                let peers = peers.as_slice();
-                write!(f, "request {peers:?}")
-            }
-            Out::Response { peer, value } => {
-                write!(f, "response {peer} {}", Hex(value.as_slice()))
-            }
-            Out::Block { peer } => write!(f, "block {peer}"),
+            } => fmt_floor(*ticket, finalization, f),
+            Out::Closed { ticket } => fmt_named("closed", *ticket, f),
+            Out::Request { peers } => fmt_request(peers.as_slice(), f),
+            Out::Response { peer, value } => fmt_response(*peer, value.as_slice(), f),
+            Out::Block { peer } => fmt_named("block", *peer, f),
         }
     }
 }
@@ -127,43 +157,84 @@ fn received(
     step(probe, latest, Event::Received { peer, value }, out)
 }
 
-/// The bytes of a response with a finalization of this epoch, view and signers.
-fn response(alloc: Global, words: [&str; 3]) -> Result<Vec<u8>, OutOfMemory> {
-    let [epoch, view, by] = words;
-    let certificate = signers(alloc, by)?;
-    let reply = finalization((number(epoch), number(view)), 8, digest("7"), certificate);
-    let mut bytes = Vec::new(alloc);
-    Message::Response(reply).write::<VoteScheme>(&mut bytes)?;
-    Ok(bytes)
+/// Appends a response with a finalization of this epoch, view and signers.
+fn write_response(alloc: Global, words: &[&str], bytes: &mut Vec<u8>) -> Done {
+    let certificate = signers(alloc, word(words, 5))?;
+    let round = (number(word(words, 3)), number(word(words, 4)));
+    let reply = finalization(round, 8, digest("7"), certificate);
+    Message::Response(reply).write::<VoteScheme>(bytes)
 }
 
-/// A peer's reply: whole, without its last byte, or with one byte more.
-fn reply(alloc: Global, how: &str, words: [&str; 3]) -> Result<Bytes, OutOfMemory> {
-    let mut bytes = response(alloc, words)?;
-    match how {
-        "cut" => {
-            bytes.pop();
-        }
-        "longer" => bytes.push(0)?,
-        _ => {}
+fn cut(bytes: &mut Vec<u8>) -> Done {
+    bytes.pop();
+    Ok(())
+}
+
+fn lengthen(bytes: &mut Vec<u8>) -> Done {
+    Ok(bytes.push(0)?)
+}
+
+/// Appends a peer's reply: whole, without its last byte, or with one byte more.
+fn write_reply(alloc: Global, words: &[&str], bytes: &mut Vec<u8>) -> Done {
+    write_response(alloc, words, bytes)?;
+    match word(words, 1) {
+        "cut" => cut(bytes),
+        "longer" => lengthen(bytes),
+        _ => Ok(()),
     }
+}
+
+fn reply(alloc: Global, words: &[&str]) -> Result<Bytes, OutOfMemory> {
+    let mut bytes = Vec::new(alloc);
+    write_reply(alloc, words, &mut bytes)?;
     Ok(Bytes::from_vec(bytes)?)
 }
 
 /// An event that needs no bytes, if the words are one.
 fn event(words: &[&str]) -> Option<Event<u64>> {
-    match words {
-        ["subscribe", ticket] => Some(Event::Subscribe {
-            ticket: number(ticket),
-        }),
-        ["cancel", ticket] => Some(Event::Cancel {
-            ticket: number(ticket),
-        }),
-        ["attach"] => Some(Event::Attach),
-        ["retry"] => Some(Event::Retry),
-        ["stop"] => Some(Event::Stop),
+    let ticket = number(word(words, 2));
+    match word(words, 1) {
+        "subscribe" => Some(Event::Subscribe { ticket }),
+        "cancel" => Some(Event::Cancel { ticket }),
+        "attach" => Some(Event::Attach),
+        "retry" => Some(Event::Retry),
+        "stop" => Some(Event::Stop),
         _ => None,
     }
+}
+
+fn play_event(
+    probe: &mut Votings,
+    latest: &MemoryLatest<Votes>,
+    words: &[&str],
+    out: &mut String,
+) -> Done {
+    match event(words) {
+        Some(event) => step(probe, latest, event, out),
+        None => no_such_command(out),
+    }
+}
+
+fn play_bytes(
+    alloc: Global,
+    probe: &mut Votings,
+    latest: &MemoryLatest<Votes>,
+    words: &[&str],
+    out: &mut String,
+) -> Done {
+    let value = bytes(alloc, word(words, 3))?;
+    received(probe, latest, number(word(words, 2)), value, out)
+}
+
+fn play_reply(
+    alloc: Global,
+    probe: &mut Votings,
+    latest: &MemoryLatest<Votes>,
+    words: &[&str],
+    out: &mut String,
+) -> Done {
+    let value = reply(alloc, words)?;
+    received(probe, latest, number(word(words, 2)), value, out)
 }
 
 fn play_on(
@@ -173,19 +244,12 @@ fn play_on(
     words: &[&str],
     out: &mut String,
 ) -> Done {
-    match words {
-        ["bytes", peer, hex] => {
-            let value = bytes(alloc, hex)?;
-            received(probe, latest, number(peer), value, out)
-        }
-        [how, peer, epoch, view, by] => {
-            let value = reply(alloc, how, [epoch, view, by])?;
-            received(probe, latest, number(peer), value, out)
-        }
-        _ => match event(words) {
-            Some(event) => step(probe, latest, event, out),
-            None => no_such_command(out),
-        },
+    match word(words, 1) {
+        "bytes" => play_bytes(alloc, probe, latest, words, out),
+        "reply" => play_reply(alloc, probe, latest, words, out),
+        "cut" => play_reply(alloc, probe, latest, words, out),
+        "longer" => play_reply(alloc, probe, latest, words, out),
+        _ => play_event(probe, latest, words, out),
     }
 }
 
@@ -197,8 +261,8 @@ pub(crate) fn play(
     words: &[&str],
     out: &mut String,
 ) -> Done {
-    if let ["new", minimum_epoch, epochs, keys] = words {
-        return new(alloc, probe, number(minimum_epoch), epochs, keys, out);
+    if word(words, 1) == "new" {
+        return new(alloc, probe, words, out);
     }
     match probe {
         Some(probe) => play_on(alloc, probe, latest, words, out),

@@ -1,9 +1,10 @@
 //! Values that are read from bytes.
 
 use crate::update::Update;
-use crate::word::{Final, Hex, Key, bytes, no_such_command, request};
+use crate::words::{Final, Hex, Key, bytes, no_such_command, request};
 use bytes::Bytes;
 use stateful_probe::{Message, Tag};
+use stateful_shell::word;
 use stateful_types::{
     CodecError, Finalization, Height, OutOfMemory, Request, Response, Share, VoteScheme, read_u8,
     read_u32, read_u64,
@@ -89,62 +90,82 @@ fn response(alloc: Global, key: &Request, input: &mut Bytes, out: &mut String) -
     Ok(push_response(&copy, out)?)
 }
 
-/// Reads a value of this kind: one of those that need no memory, or a larger one.
-fn value(alloc: Global, kind: &[&str], input: &mut Bytes, out: &mut String) -> Read {
-    match kind {
-        ["u8"] => byte(input, out),
-        ["u32"] => four_bytes(input, out),
-        ["u64"] => eight_bytes(input, out),
-        ["height"] => height(input, out),
-        ["tag"] => tag(input, out),
-        ["request"] => a_request(input, out),
-        ["finalization"] => finalization(alloc, input, out),
-        ["message"] => message(alloc, input, out),
-        ["response", key] => response(alloc, &request(key), input, out),
+/// Reads a value of the kind that is named: one of those that need no memory, or a larger one.
+fn value(alloc: Global, words: &[&str], input: &mut Bytes, out: &mut String) -> Read {
+    match word(words, 1) {
+        "u8" => byte(input, out),
+        "u32" => four_bytes(input, out),
+        "u64" => eight_bytes(input, out),
+        "height" => height(input, out),
+        "tag" => tag(input, out),
+        "request" => a_request(input, out),
+        "finalization" => finalization(alloc, input, out),
+        "message" => message(alloc, input, out),
+        "response" => response(alloc, &request(word(words, 2)), input, out),
         _ => Ok(no_such_command(out)?),
     }
 }
 
-/// `read KIND HEX`: the value, and the bytes that are left behind it.
-pub(crate) fn read(
-    alloc: Global,
-    kind: &[&str],
-    hex: &str,
-    out: &mut String,
-) -> Result<(), OutOfMemory> {
-    let mut input = bytes(alloc, hex)?;
-    match value(alloc, kind, &mut input, out) {
-        Ok(()) => Ok(writeln!(out, ", left {}", Hex(input.as_slice()))?),
+/// The word behind the kind.
+fn hex_of<'a>(words: &[&'a str]) -> &'a str {
+    match word(words, 1) {
+        "response" => word(words, 3),
+        _ => word(words, 2),
+    }
+}
+
+/// Ends the line of a read.
+fn tell(read: Read, input: &[u8], out: &mut String) -> Result<(), OutOfMemory> {
+    match read {
+        Ok(()) => Ok(writeln!(out, ", left {}", Hex(input))?),
         Err(CodecError::OutOfMemory) => Err(OutOfMemory),
         Err(error) => Ok(writeln!(out, "{error:?}")?),
     }
 }
 
+/// `read KIND HEX`: the value, and the bytes that are left behind it.
+pub(crate) fn read(alloc: Global, words: &[&str], out: &mut String) -> Result<(), OutOfMemory> {
+    let mut input = bytes(alloc, hex_of(words))?;
+    let read = value(alloc, words, &mut input, out);
+    tell(read, input.as_slice(), out)
+}
+
 /// Whether the first so many bytes end inside the value.
-fn ends_inside(alloc: Global, kind: &[&str], bytes: &[u8]) -> Result<bool, OutOfMemory> {
+fn ends_inside(alloc: Global, words: &[&str], bytes: &[u8]) -> Result<bool, OutOfMemory> {
     let mut text = String::new(alloc);
     let mut input = Bytes::copy_from_slice(alloc, bytes)?;
-    match value(alloc, kind, &mut input, &mut text) {
+    match value(alloc, words, &mut input, &mut text) {
         Err(CodecError::EndOfBuffer) => Ok(true),
         Err(CodecError::OutOfMemory) => Err(OutOfMemory),
         _ => Ok(false),
     }
 }
 
-/// `cuts KIND HEX`: how many of the bytes' beginnings end inside the value.
-pub(crate) fn cuts(
-    alloc: Global,
-    kind: &[&str],
-    hex: &str,
-    out: &mut String,
-) -> Result<(), OutOfMemory> {
-    let whole = bytes(alloc, hex)?;
+/// How many of the bytes' beginnings end inside the value.
+fn count_short(alloc: Global, words: &[&str], whole: &[u8]) -> Result<usize, OutOfMemory> {
     let count = whole.len();
     let mut short = 0usize;
     for cut in 0..count {
-        if ends_inside(alloc, kind, &whole.as_slice()[..cut])? {
+        if ends_inside(alloc, words, &whole[..cut])? {
             short = short.saturating_add(1);
         }
     }
+    Ok(short)
+}
+
+fn tell_cuts(
+    alloc: Global,
+    words: &[&str],
+    whole: &[u8],
+    out: &mut String,
+) -> Result<(), OutOfMemory> {
+    let short = count_short(alloc, words, whole)?;
+    let count = whole.len();
     Ok(writeln!(out, "{short} of {count} beginnings are EndOfBuffer")?)
+}
+
+/// `cuts KIND HEX`: how many of the bytes' beginnings end inside the value.
+pub(crate) fn cuts(alloc: Global, words: &[&str], out: &mut String) -> Result<(), OutOfMemory> {
+    let whole = bytes(alloc, hex_of(words))?;
+    tell_cuts(alloc, words, whole.as_slice(), out)
 }

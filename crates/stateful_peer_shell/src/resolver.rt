@@ -1,13 +1,17 @@
 //! Two resolvers with their mailboxes.
 
-ghost use Rattle.std.specs.Prelude.{◌≡◌};
+ghost use Rattle.std.specs.Prelude.{◌≡◌, ◌≤◌};
 
 use crate::reading::push_response;
 use crate::source::Fixed;
-use crate::word::{Hex, Key, bytes, no_such_command, number, push_line, request, small};
+use crate::update::Update;
+use crate::words::{
+    Hex, Key, bytes, fmt_named, no_such_command, number, push_line, put, request, small,
+};
 use stateful_db_source::AttachableResolverSet;
 use stateful_p2p::{Actor, ActorError, ActorEvent, ActorOut, Config, Mailbox, ResponseDropped};
-use stateful_types::{DrawError, Moved, OutOfMemory, Request};
+use stateful_shell::word;
+use stateful_types::{DrawError, Moved, OutOfMemory, Request, Response};
 use std::alloc::Global;
 use std::fmt;
 use std::fmt::Write;
@@ -22,6 +26,23 @@ pub(crate) struct Two {
     mailboxes: (Mailbox<Fixed>, Mailbox<Fixed>),
 }
 
+fn fmt_fetch<W: fmt::Write>(ticket: u64, key: &Request, f: &mut fmt::Formatter<W>) -> fmt::Result {
+    write!(f, "fetch {ticket} {}", Key(key))
+}
+
+fn fmt_feedback<W: fmt::Write>(
+    delivery: u64,
+    valid: bool,
+    f: &mut fmt::Formatter<W>,
+) -> fmt::Result {
+    write!(f, "feedback {delivery} {valid}")
+}
+
+fn fmt_served<W: fmt::Write>(serve: u64, bytes: &[u8], f: &mut fmt::Formatter<W>) -> fmt::Result {
+    let count = bytes.len();
+    write!(f, "served {serve} {count} bytes {}", Hex(bytes))
+}
+
 /// What is to be done, in words.
 #[derive(Drop)]
 struct Told<'a>(&'a ActorOut);
@@ -29,16 +50,13 @@ struct Told<'a>(&'a ActorOut);
 impl fmt::Display for Told<'_> {
     fn fmt<W: fmt::Write>(&self, f: &mut fmt::Formatter<W>) -> fmt::Result {
         match self.0 {
-            ActorOut::Fetch { ticket, key } => write!(f, "fetch {ticket} {}", Key(key)),
-            ActorOut::Forget { ticket } => write!(f, "forget {ticket}"),
-            ActorOut::Candidate { ticket } => write!(f, "candidate {ticket}"),
-            ActorOut::Feedback { delivery, valid } => write!(f, "feedback {delivery} {valid}"),
-            ActorOut::Unjudged { delivery } => write!(f, "unjudged {delivery}"),
-            ActorOut::Served { serve, bytes } => {
-                let count = bytes.len();
-                write!(f, "served {serve} {count} bytes {}", Hex(bytes.as_slice()))
-            }
-            ActorOut::Unserved { serve } => write!(f, "unserved {serve}"),
+            ActorOut::Fetch { ticket, key } => fmt_fetch(*ticket, key, f),
+            ActorOut::Forget { ticket } => fmt_named("forget", *ticket, f),
+            ActorOut::Candidate { ticket } => fmt_named("candidate", *ticket, f),
+            ActorOut::Feedback { delivery, valid } => fmt_feedback(*delivery, *valid, f),
+            ActorOut::Unjudged { delivery } => fmt_named("unjudged", *delivery, f),
+            ActorOut::Served { serve, bytes } => fmt_served(*serve, bytes.as_slice(), f),
+            ActorOut::Unserved { serve } => fmt_named("unserved", *serve, f),
         }
     }
 }
@@ -73,14 +91,14 @@ fn deliver(
     alloc: Global,
     actor: &mut Actor<Fixed>,
     mailbox: &mut Mailbox<Fixed>,
-    words: [&str; 3],
+    words: &[&str],
     out: &mut String,
 ) -> Done {
-    let [delivery, key, hex] = words;
+    let value = bytes(alloc, word(words, 4))?;
     let event = ActorEvent::Deliver {
-        delivery: number(delivery),
-        key: request(key),
-        value: bytes(alloc, hex)?,
+        delivery: number(word(words, 2)),
+        key: request(word(words, 3)),
+        value,
     };
     step(actor, mailbox, event, out)
 }
@@ -103,31 +121,32 @@ fn cancel(mailbox: &mut Mailbox<Fixed>, ticket: u64, out: &mut String) -> Done {
     push_line(out, "cancelled")
 }
 
+fn tell_response(response: &Response<Update>, out: &mut String) -> Done {
+    push_response(response, out)?;
+    push_line(out, "")
+}
+
 fn poll(mailbox: &mut Mailbox<Fixed>, ticket: u64, out: &mut String) -> Done {
     match mailbox.poll(ticket) {
         Ok(Moved::Pending) => push_line(out, "pending"),
-        Ok(Moved::Done(response)) => {
-            push_response(&response, out)?;
-            push_line(out, "")
-        }
+        Ok(Moved::Done(response)) => tell_response(&response, out),
         Err(ResponseDropped) => push_line(out, "dropped"),
     }
 }
 
 /// An event that needs no bytes, if the words are one.
 fn event(words: &[&str]) -> Option<ActorEvent> {
-    match words {
-        ["message"] => Some(ActorEvent::Message),
-        ["judge", ticket, how] => Some(ActorEvent::Judge {
-            ticket: number(ticket),
-            valid: *how == "good",
+    let of = number(word(words, 2));
+    match word(words, 1) {
+        "message" => Some(ActorEvent::Message),
+        "judge" => Some(ActorEvent::Judge {
+            ticket: of,
+            valid: word(words, 3) == "good",
         }),
-        ["leave", ticket] => Some(ActorEvent::Leave {
-            ticket: number(ticket),
-        }),
-        ["produce", serve, key] => Some(ActorEvent::Produce {
-            serve: number(serve),
-            key: request(key),
+        "leave" => Some(ActorEvent::Leave { ticket: of }),
+        "produce" => Some(ActorEvent::Produce {
+            serve: of,
+            key: request(word(words, 3)),
         }),
         _ => None,
     }
@@ -152,33 +171,39 @@ fn play_on(
     words: &[&str],
     out: &mut String,
 ) -> Done {
-    match words {
-        ["serve", key] => serve(mailbox, request(key), out),
-        ["attach", answer] => attach(mailbox, Fixed::new(alloc, answer), out),
-        ["cancel", ticket] => cancel(mailbox, number(ticket), out),
-        ["poll", ticket] => poll(mailbox, number(ticket), out),
-        ["deliver", delivery, key, hex] => {
-            deliver(alloc, actor, mailbox, [delivery, key, hex], out)
-        }
+    match word(words, 1) {
+        "serve" => serve(mailbox, request(word(words, 2)), out),
+        "attach" => attach(mailbox, Fixed::new(alloc, word(words, 2)), out),
+        "cancel" => cancel(mailbox, number(word(words, 2)), out),
+        "poll" => poll(mailbox, number(word(words, 2)), out),
+        "deliver" => deliver(alloc, actor, mailbox, words, out),
         _ => play_event(actor, mailbox, words, out),
     }
 }
 
-/// The commands of the first resolver, or of the other.
-pub(crate) fn play(
+/// `resolver ..`: the commands of the first resolver.
+pub(crate) fn play_first(
     alloc: Global,
     two: &mut Option<Two>,
-    is_first: bool,
     words: &[&str],
     out: &mut String,
 ) -> Done {
-    let Some(two) = two else {
-        return push_line(out, "no resolvers");
-    };
-    if is_first {
-        play_on(alloc, &mut two.actors.0, &mut two.mailboxes.0, words, out)
-    } else {
-        play_on(alloc, &mut two.actors.1, &mut two.mailboxes.1, words, out)
+    match two {
+        Some(two) => play_on(alloc, &mut two.actors.0, &mut two.mailboxes.0, words, out),
+        None => push_line(out, "no resolvers"),
+    }
+}
+
+/// `other ..`: the commands of the other resolver.
+pub(crate) fn play_other(
+    alloc: Global,
+    two: &mut Option<Two>,
+    words: &[&str],
+    out: &mut String,
+) -> Done {
+    match two {
+        Some(two) => play_on(alloc, &mut two.actors.1, &mut two.mailboxes.1, words, out),
+        None => push_line(out, "no resolvers"),
     }
 }
 
@@ -191,20 +216,58 @@ fn config(max_serve_ops: NonZeroU64, mailbox_size: usize) -> Config
     }
 }
 
-fn new(alloc: Global, two: &mut Option<Two>, max_ops: &str, size: usize, out: &mut String) -> Done {
-    let Some(max_ops) = NonZeroU64::new(number(max_ops)) else {
-        return push_line(out, "refused");
-    };
+/// A resolver with its mailbox.
+type Resolver = (Actor<Fixed>, Mailbox<Fixed>);
+
+fn resolver(alloc: Global, max_ops: NonZeroU64, size: usize) -> Result<Resolver, OutOfMemory>
+    requires { 1 ≤ size }
+{
+    Actor::new(alloc, config(max_ops, size))
+}
+
+/// What two have first, and what they have second, where both were made.
+fn both<A: Drop, B: Drop>(
+    one: Result<(A, B), OutOfMemory>,
+    other: Result<(A, B), OutOfMemory>,
+) -> Result<((A, A), (B, B)), OutOfMemory> {
+    let (first, second) = one?;
+    let (other_first, other_second) = other?;
+    Ok(((first, other_first), (second, other_second)))
+}
+
+/// Two resolvers alike.
+fn resolvers(alloc: Global, max_ops: NonZeroU64, size: usize) -> Result<Two, OutOfMemory>
+    requires { 1 ≤ size }
+{
+    let one = resolver(alloc, max_ops, size);
+    let other = resolver(alloc, max_ops, size);
+    let (actors, mailboxes) = both(one, other)?;
+    Ok(Two { actors, mailboxes })
+}
+
+fn begin(
+    alloc: Global,
+    two: &mut Option<Two>,
+    max_ops: NonZeroU64,
+    size: usize,
+    out: &mut String,
+) -> Done {
     if size == 0 {
         return push_line(out, "refused");
     }
-    let (first, mailbox) = Actor::new(alloc, config(max_ops, size))?;
-    let (second, other) = Actor::new(alloc, config(max_ops, size))?;
-    *two = Some(Two {
-        actors: (first, second),
-        mailboxes: (mailbox, other),
-    });
-    push_line(out, "new")
+    put(two, resolvers(alloc, max_ops, size), "new", out)
+}
+
+fn new(alloc: Global, two: &mut Option<Two>, max_ops: u64, size: usize, out: &mut String) -> Done {
+    match NonZeroU64::new(max_ops) {
+        Some(max_ops) => begin(alloc, two, max_ops, size, out),
+        None => push_line(out, "refused"),
+    }
+}
+
+fn attach_to(two: &mut Two, databases: (Fixed, Fixed), out: &mut String) -> Done {
+    two.mailboxes.attach_databases(databases)?;
+    push_line(out, "attached")
 }
 
 fn attach_both(
@@ -214,12 +277,16 @@ fn attach_both(
     second: &str,
     out: &mut String,
 ) -> Done {
-    let Some(two) = two else {
-        return push_line(out, "no resolvers");
-    };
     let databases = (Fixed::new(alloc, first), Fixed::new(alloc, second));
-    two.mailboxes.attach_databases(databases)?;
-    push_line(out, "attached")
+    match two {
+        Some(two) => attach_to(two, databases, out),
+        None => push_line(out, "no resolvers"),
+    }
+}
+
+fn new_of(alloc: Global, two: &mut Option<Two>, words: &[&str], out: &mut String) -> Done {
+    let size = small(word(words, 3)) as usize;
+    new(alloc, two, number(word(words, 2)), size, out)
 }
 
 /// `resolvers ..`: the commands of both.
@@ -229,9 +296,9 @@ pub(crate) fn play_both(
     words: &[&str],
     out: &mut String,
 ) -> Done {
-    match words {
-        ["new", max_ops, size] => new(alloc, two, max_ops, small(size) as usize, out),
-        ["attach", first, second] => attach_both(alloc, two, first, second, out),
+    match word(words, 1) {
+        "new" => new_of(alloc, two, words, out),
+        "attach" => attach_both(alloc, two, word(words, 2), word(words, 3), out),
         _ => no_such_command(out),
     }
 }

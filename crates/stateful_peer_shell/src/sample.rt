@@ -1,7 +1,8 @@
 //! A sample of replies, from which a floor is selected.
 
-use crate::word::{Votes, digest, finalization, no_such_command, number, push_line, small};
+use crate::words::{Votes, digest, finalization, no_such_command, number, push_line, small};
 use stateful_probe::Sample;
+use stateful_shell::word;
 use stateful_types::{Epoch, Finalization, Items, OutOfMemory};
 use std::alloc::Global;
 use std::cell::Cell;
@@ -76,20 +77,26 @@ fn minimum(sample: &Replies, out: &mut String) -> Done {
     Ok(writeln!(out, "{epoch}")?)
 }
 
+/// The view that can't be judged, if the words name one.
+fn unjudged(words: &[&str]) -> Option<u64> {
+    match word(words, 3) {
+        "without" => Some(number(word(words, 4))),
+        _ => None,
+    }
+}
+
 /// `sample ..`
 pub(crate) fn play(alloc: Global, sample: &mut Replies, words: &[&str], out: &mut String) -> Done {
-    match words {
-        ["new", epoch] => new(alloc, sample, number(epoch), out),
-        ["record", peer, view] => record(alloc, sample, number(peer), number(view), out),
-        ["select", committee] => select(sample, small(committee), None, out),
-        ["select", committee, "without", view] => {
-            select(sample, small(committee), Some(number(view)), out)
-        }
-        ["look", committee] => look(sample, small(committee), out),
-        ["floor"] => tell(sample.floor(), out),
-        ["awaits", peer] => awaits(sample, number(peer), out),
-        ["minimum"] => minimum(sample, out),
-        ["reset"] => reset(sample, out),
+    let of = word(words, 2);
+    match word(words, 1) {
+        "new" => new(alloc, sample, number(of), out),
+        "record" => record(alloc, sample, number(of), number(word(words, 3)), out),
+        "select" => select(sample, small(of), unjudged(words), out),
+        "look" => look(sample, small(of), out),
+        "floor" => tell(sample.floor(), out),
+        "awaits" => awaits(sample, number(of), out),
+        "minimum" => minimum(sample, out),
+        "reset" => reset(sample, out),
         _ => no_such_command(out),
     }
 }

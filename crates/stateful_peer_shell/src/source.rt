@@ -1,7 +1,7 @@
 //! A database that always answers the same.
 
 use crate::update::Update;
-use crate::word::number;
+use crate::words::number;
 use stateful_db_source::{ServeFault, SyncSource};
 use stateful_types::{Digest, Faulty, Items, OutOfMemory, Request, Response};
 use std::alloc::Global;

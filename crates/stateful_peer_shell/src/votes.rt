@@ -1,6 +1,6 @@
 //! Schemes, the latest finalization, orders, limits and errors.
 
-use crate::word::{
+use crate::words::{
     Final, Votes, digest, finalization, no_such_command, number, numbers, push_line, request,
     signers, small,
 };
@@ -8,9 +8,10 @@ use crate::writing::final_of;
 use stateful_db_source::ServeFault;
 use stateful_p2p::{ActorError, ResponseDropped, TooManyOps, max_payload_size};
 use stateful_probe::{Message, ProbeError};
+use stateful_shell::word;
 use stateful_types::{
-    CodecError, DrawError, Failed, Items, Latest, MemoryLatest, OutOfMemory, ReadError, Scheme,
-    SinkFault, VoteScheme, max_faults,
+    CodecError, DrawError, Failed, Finalization, Items, Latest, MemoryLatest, OutOfMemory,
+    ReadError, Scheme, SinkFault, VoteScheme, max_faults,
 };
 use std::alloc::Global;
 use std::fmt::Write;
@@ -36,22 +37,46 @@ pub(crate) fn less(key: &str, other: &str, out: &mut String) -> Done {
     Ok(writeln!(out, "{is_less}")?)
 }
 
-/// Shows the latest finalization, as it is handed out.
-fn show_latest(latest: &MemoryLatest<Votes>, out: &mut String) -> Done {
-    match latest.latest()? {
-        Some(found) => Ok(writeln!(out, "{}", Final(&found))?),
+fn show(found: &Finalization<Votes>, out: &mut String) -> Done {
+    Ok(writeln!(out, "{}", Final(found))?)
+}
+
+fn show_found(found: Option<&Finalization<Votes>>, out: &mut String) -> Done {
+    match found {
+        Some(found) => show(found, out),
         None => push_line(out, "none"),
     }
 }
 
+/// Shows the latest finalization, as it is handed out.
+fn show_latest(latest: &MemoryLatest<Votes>, out: &mut String) -> Done {
+    let found = latest.latest()?;
+    show_found(found.as_ref(), out)
+}
+
+fn clear_latest(latest: &mut MemoryLatest<Votes>, out: &mut String) -> Done {
+    latest.finalization = None;
+    show_latest(latest, out)
+}
+
 fn set_latest(
-    alloc: Global,
     latest: &mut MemoryLatest<Votes>,
-    words: &[&str; 5],
+    finalization: Finalization<Votes>,
     out: &mut String,
 ) -> Done {
-    latest.finalization = Some(final_of(alloc, words)?);
+    latest.finalization = Some(finalization);
     show_latest(latest, out)
+}
+
+fn set_named(
+    alloc: Global,
+    latest: &mut MemoryLatest<Votes>,
+    words: &[&str],
+    out: &mut String,
+) -> Done {
+    let round = (word(words, 1), word(words, 2));
+    let named = final_of(alloc, round, word(words, 3), word(words, 4), word(words, 5))?;
+    set_latest(latest, named, out)
 }
 
 /// `latest ..`
@@ -61,25 +86,15 @@ pub(crate) fn play_latest(
     words: &[&str],
     out: &mut String,
 ) -> Done {
-    match words {
-        [] => show_latest(latest, out),
-        ["none"] => {
-            latest.finalization = None;
-            show_latest(latest, out)
-        }
-        [epoch, view, parent, byte, by] => {
-            set_latest(alloc, latest, &[epoch, view, parent, byte, by], out)
-        }
-        _ => no_such_command(out),
+    match word(words, 1) {
+        "" => show_latest(latest, out),
+        "none" => clear_latest(latest, out),
+        _ => set_named(alloc, latest, words, out),
     }
 }
 
 /// How many bytes a payload has at most.
-fn payload(max_ops: &str, op: &str, out: &mut String) -> Done {
-    let op = small(op) as usize;
-    let Some(max_ops) = NonZeroU64::new(number(max_ops)) else {
-        return push_line(out, "refused");
-    };
+fn payload_of(max_ops: NonZeroU64, op: usize, out: &mut String) -> Done {
     if op > 16_777_216 {
         return push_line(out, "refused");
     }
@@ -89,19 +104,36 @@ fn payload(max_ops: &str, op: &str, out: &mut String) -> Done {
     }
 }
 
+fn payload(max_ops: u64, op: u32, out: &mut String) -> Done {
+    match NonZeroU64::new(max_ops) {
+        Some(max_ops) => payload_of(max_ops, op as usize, out),
+        None => push_line(out, "refused"),
+    }
+}
+
+fn faults(n: u32, out: &mut String) -> Done {
+    let most = max_faults(n);
+    Ok(writeln!(out, "{most}")?)
+}
+
+fn certificate(n: u32, out: &mut String) -> Done {
+    let size = VoteScheme::max_certificate_size(n);
+    Ok(writeln!(out, "{size}")?)
+}
+
+fn message(n: u32, out: &mut String) -> Done {
+    let size = Message::<Votes>::max_encode_size::<VoteScheme>(n);
+    Ok(writeln!(out, "{size}")?)
+}
+
 /// `most ..`: the limits.
 pub(crate) fn most(words: &[&str], out: &mut String) -> Done {
-    match words {
-        ["faults", n] => Ok(writeln!(out, "{}", max_faults(small(n)))?),
-        ["certificate", n] => {
-            let size = VoteScheme::max_certificate_size(small(n));
-            Ok(writeln!(out, "{size}")?)
-        }
-        ["message", n] => {
-            let size = Message::<Votes>::max_encode_size::<VoteScheme>(small(n));
-            Ok(writeln!(out, "{size}")?)
-        }
-        ["payload", max_ops, op] => payload(max_ops, op, out),
+    let n = word(words, 2);
+    match word(words, 1) {
+        "faults" => faults(small(n), out),
+        "certificate" => certificate(small(n), out),
+        "message" => message(small(n), out),
+        "payload" => payload(number(n), small(word(words, 3)), out),
         _ => no_such_command(out),
     }
 }

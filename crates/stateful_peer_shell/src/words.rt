@@ -113,9 +113,29 @@ pub(crate) fn push_line(out: &mut String, line: &str) -> Result<(), OutOfMemory>
     Ok(())
 }
 
+/// Puts what was made in its place, and prints what is said of it.
+pub(crate) fn put<T: Drop>(
+    place: &mut Option<T>,
+    made: Result<T, OutOfMemory>,
+    said: &str,
+    out: &mut String,
+) -> Result<(), OutOfMemory> {
+    *place = Some(made?);
+    push_line(out, said)
+}
+
 /// The line of a command that there isn't.
 pub(crate) fn no_such_command(out: &mut String) -> Result<(), OutOfMemory> {
     push_line(out, "no such command")
+}
+
+/// Prints a name and a number.
+pub(crate) fn fmt_named<W: fmt::Write>(
+    name: &str,
+    number: u64,
+    f: &mut fmt::Formatter<W>,
+) -> fmt::Result {
+    write!(f, "{name} {number}")
 }
 
 /// Bytes, printed in hex, and as `-` where there are none.
