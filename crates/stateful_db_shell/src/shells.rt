@@ -89,7 +89,7 @@ fn three(alloc: Global) -> Table<Three> {
 }
 
 /// Sets of plain databases, before one is begun.
-fn plains(alloc: Global) -> Plains {
+fn make_plains(alloc: Global) -> Plains {
     Plains {
         one: on_plain::new(alloc),
         two: two(alloc),
@@ -98,7 +98,7 @@ fn plains(alloc: Global) -> Plains {
 }
 
 /// Sets of logs, before one is begun.
-fn logs(alloc: Global) -> Logs {
+fn make_logs(alloc: Global) -> Logs {
     Logs {
         any: on_any::new(alloc),
         keyless: on_keyless::new(alloc),
@@ -182,8 +182,8 @@ impl Shell for Databases {
     fn new(alloc: Global) -> Databases {
         Databases {
             kind: Kind::None,
-            plains: plains(alloc),
-            logs: logs(alloc),
+            plains: make_plains(alloc),
+            logs: make_logs(alloc),
             barrier: None,
         }
     }
