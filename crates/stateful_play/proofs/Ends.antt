@@ -3,7 +3,7 @@ use Rattle.std.proofs.Common.{◌≡◌, ◌≢◌, ℕ, ◌⊎◌, inl, inr, Bo
 use Rattle.std.specs.Io.KnownBytes.{Appends}
 use Rattle.stateful_types.proofs.Known.{appends_none}
 use Rattle.stateful_actor.specs.declared.driving.Halted.{Halted}
-use Rattle.stateful_play_bank.specs.declared.play.Played.{Played}
+use Rattle.stateful_play_bank.specs.declared.playing.Played.{Played}
 use Rattle.stateful_play.specs.declared.status.Status.{Status}
 use Rattle.stateful_play.specs.declared.status.Status.TheVariants.{Done, Usage, ReadFault, WriteFault, NoMemory}
 use Rattle.stateful_play.specs.declared.status.Status.TheVariants as status

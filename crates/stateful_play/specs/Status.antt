@@ -11,7 +11,7 @@ use Rattle.stateful_script.specs.declared.script.Script.{Script}
 use Rattle.stateful_script_text.specs.Transcript.{usage_line, script_line}
 use Rattle.stateful_script_text.specs.declared.shown.Label.{Label}
 use Rattle.stateful_script_text.specs.declared.shown.Shown.{Shown}
-use Rattle.stateful_play_bank.specs.declared.play.Played.{Played}
+use Rattle.stateful_play_bank.specs.declared.playing.Played.{Played}
 use Rattle.stateful_play.specs.declared.status.Status.{Status}
 use Rattle.stateful_play.specs.declared.status.Status.TheVariants as status
 use Rattle.stateful_play.specs.declared.top.Stop.{Stop}

@@ -8,7 +8,7 @@ ghost use Rattle.std.specs.Str.{bytes_eq};
 ghost use Rattle.std.specs.Io.KnownBytes.{Appends};
 ghost use Rattle.stateful_base.specs.Causes.{Rose};
 ghost use Rattle.stateful_script_text.specs.Transcript.{usage_line, script_line};
-ghost use Rattle.stateful_play_bank.specs.declared.play.Played.{Played};
+ghost use Rattle.stateful_play_bank.specs.declared.playing.Played.{Played};
 ghost use Rattle.stateful_play.specs.Status.{asks_play, IsLoaded, IsUnread, Stops, IsPlayed, AsksFor};
 ghost use Rattle.stateful_play.specs.Status.{HoldsPrefix, HoldsPart, IsHaltedAt, status_by, Writes};
 ghost use Rattle.stateful_play.specs.Status.{IsOrCut, IsScript, IsRefused};

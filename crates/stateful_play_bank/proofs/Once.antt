@@ -5,7 +5,7 @@ use Rattle.stateful_db.specs.Member.{Member, here, closed, lost, away}
 use Rattle.stateful_db_any.specs.Any.{State}
 use Rattle.stateful_db_any.specs.Entries.{HasOneList}
 use Rattle.stateful_script_text.specs.declared.shown.Shown.{Shown}
-use Rattle.stateful_play_bank.specs.declared.play.Databases.TheVariants as databases
+use Rattle.stateful_play_bank.specs.declared.playing.Databases.TheVariants as databases
 use Rattle.stateful_play_bank.specs.Database.{ShowsKeys}
 use Rattle.stateful_play_bank.specs.Shown.{AreShownOnce}
 use Rattle.stateful_bank_logs.specs.Kept.{balances_member}

@@ -8,11 +8,11 @@ use Rattle.stateful_play_world.specs.Play.{IsPlayOn}
 use Rattle.stateful_play_bank.specs.Plain.{plain}
 use Rattle.stateful_play_bank.specs.Pair.{pair}
 use Rattle.stateful_play_bank.specs.Triple.{triple}
-use Rattle.stateful_play_bank.specs.declared.play.Databases.{Databases}
-use Rattle.stateful_play_bank.specs.declared.play.Databases.TheVariants as databases
-use Rattle.stateful_play_bank.specs.declared.play.History.{History}
-use Rattle.stateful_play_bank.specs.declared.play.History.TheVariants as history
-use Rattle.stateful_play_bank.specs.declared.play.Played.{Played}
+use Rattle.stateful_play_bank.specs.declared.playing.Databases.{Databases}
+use Rattle.stateful_play_bank.specs.declared.playing.Databases.TheVariants as databases
+use Rattle.stateful_play_bank.specs.declared.playing.History.{History}
+use Rattle.stateful_play_bank.specs.declared.playing.History.TheVariants as history
+use Rattle.stateful_play_bank.specs.declared.playing.Played.{Played}
 
 -- this was played of the script, over the databases of one world
 abbrev pub IsPlayIn : Script → List Label → Option Halted → History → Databases → Type 0

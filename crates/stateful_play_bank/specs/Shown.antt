@@ -10,11 +10,11 @@ use Rattle.stateful_actor.specs.declared.driving.Halted.{Halted}
 use Rattle.stateful_script_text.specs.declared.shown.Label.{Label}
 use Rattle.stateful_script_text.specs.declared.shown.Shown.{Shown}
 use Rattle.stateful_script_text.specs.Transcript.{Ending, WithLast, HaltedAt, transcript}
-use Rattle.stateful_play_bank.specs.declared.play.Databases.{Databases}
-use Rattle.stateful_play_bank.specs.declared.play.Databases.TheVariants as databases
-use Rattle.stateful_play_bank.specs.declared.play.History.{History}
-use Rattle.stateful_play_bank.specs.declared.play.History.TheVariants as history
-use Rattle.stateful_play_bank.specs.declared.play.Played.{Played}
+use Rattle.stateful_play_bank.specs.declared.playing.Databases.{Databases}
+use Rattle.stateful_play_bank.specs.declared.playing.Databases.TheVariants as databases
+use Rattle.stateful_play_bank.specs.declared.playing.History.{History}
+use Rattle.stateful_play_bank.specs.declared.playing.History.TheVariants as history
+use Rattle.stateful_play_bank.specs.declared.playing.Played.{Played}
 use Rattle.stateful_play_bank.specs.Database.{whole_of, ShowsKeys, range_of, size_of}
 use Rattle.stateful_bank_plain.specs.Blank.{member_of}
 use Rattle.stateful_bank_logs.specs.Kept.{balances_member, amounts_member}

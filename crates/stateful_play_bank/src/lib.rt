@@ -2,10 +2,10 @@
 #![tactic(auto)]
 
 mod law;
-mod play;
+mod playing;
 mod shown;
 mod text;
 
 pub use law::databases_are_shown_once;
-pub use play::{Databases, History, Played, Told, play};
+pub use playing::{Databases, History, Played, Told, play};
 pub use text::text_of;

@@ -7,7 +7,7 @@ ghost use Rattle.stateful_bank_triple.specs.Blank.{latest_member};
 ghost use Rattle.stateful_play_bank.specs.Database.{whole_of, ShowsKeys, range_of, size_of};
 ghost use Rattle.stateful_play_bank.specs.Shown.{AreShown};
 
-use crate::play::Databases;
+use crate::playing::Databases;
 use stateful_db::Held;
 use stateful_db_any::AnyDb;
 use stateful_db_keyless::{CompactDb, KeylessDb};

@@ -4,7 +4,7 @@ ghost use Rattle.std.specs.Prelude.{◌≡◌, IfOk};
 ghost use Rattle.stateful_script_text.specs.Transcript.{ending_of};
 ghost use Rattle.stateful_play_bank.specs.Shown.{error_name, ending_by, text_of};
 
-use crate::play::{History, Told};
+use crate::playing::{History, Told};
 use stateful_actor::{Halted, StepError};
 use stateful_script_text::{End, transcript};
 use stateful_types::OutOfMemory;
