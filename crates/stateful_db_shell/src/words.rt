@@ -20,7 +20,10 @@ pub(crate) fn index(word: &str) -> usize {
 
 /// The words from this number on.
 pub(crate) fn rest<'a, 'b>(words: &'a [&'b str], from: usize) -> &'a [&'b str] {
-    words.get(from..).unwrap_or(&[])
+    if from > words.len() {
+        return &words[..0];
+    }
+    &words[from..]
 }
 
 /// Numbers.
