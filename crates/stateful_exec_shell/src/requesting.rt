@@ -25,6 +25,13 @@ fn ancestry<B: Block + Drop>(
     Ok(Ancestry { first, rest })
 }
 
+/// A block with no parent at hand.
+fn alone<B: Block + Drop>(alloc: Global, first: &Digested<B>) -> Result<Ancestry<B>, OutOfMemory> {
+    let first = first.share()?;
+    let rest = Items::new(alloc);
+    Ok(Ancestry { first, rest })
+}
+
 fn schedule<A: Played>(
     machine: &mut Machine<A>,
     request: Request<A::Block, A::Context, A::Input>,
@@ -87,7 +94,7 @@ fn bid<A: Played>(
     view: u64,
     input: A::Input,
 ) -> Made {
-    let ancestry = ancestry(machine.alloc, parent, None)?;
+    let ancestry = alone(machine.alloc, parent)?;
     let request = Request::Recover {
         ticket,
         context: A::context(view),
