@@ -2,7 +2,7 @@
 //!
 //! First all work ends that was live after the last event that was taken in: its marks are made
 //! while the register still has it. Then execution and the loop are cleared, and the databases are
-//! opened (`opening.rt` of `stateful_loop_finals`). The mark `Opened` is the last one.
+//! opened (`opening.rt` of `stateful_loop_opens`). The mark `Opened` is the last one.
 //!
 //! It is done alike whether the machine is up, down or has failed. Numbers of jobs, fetches and
 //! barriers go on from where they stood, so none is used twice. Where the opening is refused no

@@ -25,8 +25,10 @@ use stateful_db::{Application, DatabaseSet};
 use stateful_exec_builds::give_up;
 use stateful_exec_finals::{complete_run, settle_run};
 use stateful_exec_model::Worked;
-use stateful_exec_runs::{Turned, acquire, fetched, resume};
-use stateful_exec_tables::{ExecError, FinalizationBoundary, Pause, Request, Requested, Tables};
+use stateful_exec_pause::{FinalizationBoundary, Pause};
+use stateful_exec_resumes::resume;
+use stateful_exec_runs::{Turned, acquire, fetched};
+use stateful_exec_tables::{ExecError, Request, Requested, Tables};
 use stateful_history::Mark;
 use std::marker::PhantomData;
 

@@ -9,10 +9,11 @@ pub use handler::{Handler, Handling};
 pub use processor::{Execution, Processing, Processor};
 pub use stateful_db::ProposalKind;
 pub use stateful_exec_model::{BuildStart, Building, Front, Joined, Stage, Worked};
+pub use stateful_exec_pause::{Disposition, ExecutionStep, FinalizationBoundary, Pause};
 pub use stateful_exec_runs::Turned;
 pub use stateful_exec_tables::{
-    Acquired, Disposition, ExecError, ExecutionStep, FinalizationBoundary, LiveRun, Pause, Phase,
-    Proposal, ProposalFault, Released, ReplayPath, Request, Requested, Tables, Verdict,
+    Acquired, ExecError, LiveRun, Phase, Proposal, ProposalFault, Released, ReplayPath, Request,
+    Requested, Tables, Verdict,
 };
 pub use stateful_history::{Entry, Mark};
 pub use verifying::Verifier;

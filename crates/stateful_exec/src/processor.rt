@@ -25,7 +25,7 @@ ghost use Rattle.stateful_exec_model.specs.Building.{Proposes, FaultsPropose};
 ghost use Rattle.stateful_exec_model.specs.Built.{TurnsBuild, FaultsTurn};
 ghost use Rattle.stateful_exec_model.specs.Causes.{FaultsStart};
 ghost use Rattle.stateful_exec_model.specs.Finalizing.{IsRedelivered, Conflicts, MayBegin, FaultsBegin};
-ghost use Rattle.stateful_exec_tables.specs.Boundary.{IsBoundaryOf};
+ghost use Rattle.stateful_exec_pause.specs.Boundary.{IsBoundaryOf};
 ghost use Rattle.stateful_exec_model.specs.Finalizing.{front_at, RunsFinal, Moves};
 ghost use Rattle.stateful_exec_model.specs.Finalizing.{FaultsMove, Observes, FaultsObserve, TurnsHook};
 ghost use Rattle.stateful_exec_model.specs.Finalizing.{FaultsHook};
@@ -39,8 +39,9 @@ use stateful_exec_finals::{
     FrontOf, advance_to, begin, is_redelivered, observe, run_finalized, turn_hook,
 };
 use stateful_exec_model::{BuildStart, Stage, Worked};
+use stateful_exec_pause::FinalizationBoundary;
 use stateful_exec_runs::TablesOf;
-use stateful_exec_tables::{ExecError, FinalizationBoundary, Tables};
+use stateful_exec_tables::{ExecError, Tables};
 use stateful_history::Mark;
 use std::alloc::Global;
 use std::marker::{Model, PhantomData};

@@ -18,7 +18,7 @@ ghost use Rattle.std.specs.Prelude.{◌≡◌, ◌≤◌, ℕ};
 ghost use Rattle.std.specs.Prelude.{IfOk, IfErr, IfSome, IfNone, IsErrOf};
 ghost use Rattle.stateful_base.specs.Causes.{Rose};
 ghost use Rattle.stateful_base.specs.Names.{Named};
-ghost use Rattle.stateful_exec_tables.specs.Boundary.{step_by};
+ghost use Rattle.stateful_exec_pause.specs.Boundary.{step_by};
 ghost use Rattle.stateful_exec_model.specs.Moments.{moment};
 ghost use Rattle.stateful_exec_tables.specs.Tables.{Rises};
 ghost use Rattle.stateful_exec_tables.specs.Stepping.{HasNext, SetsOut};
@@ -30,8 +30,9 @@ use crate::processor::Execution;
 use stateful_base::{Block, BlockStore, OutOfMemory};
 use stateful_db::{Application, DatabaseSet};
 use stateful_exec_model::{Joined, Worked};
+use stateful_exec_pause::ExecutionStep;
 use stateful_exec_runs::{TablesOf, launch};
-use stateful_exec_tables::{Acquired, ExecError, ExecutionStep, Met, ReplayPath, Verdict, prepare};
+use stateful_exec_tables::{Acquired, ExecError, Met, ReplayPath, Verdict, prepare};
 use stateful_history::Mark;
 
 /// An application with its requests, whose paths are taken a block at a time.

@@ -7,8 +7,8 @@ use Rattle.stateful_table.specs.Table.{at, without}
 use Rattle.stateful_exec_model.specs.Workings.{Workings}
 use Rattle.stateful_exec_model.specs.Moments.{moment}
 use Rattle.stateful_exec_model.specs.Ending.{IsTold, EndsRun}
-use Rattle.stateful_exec_tables.specs.Fates.{Crosses}
-use Rattle.stateful_exec_tables.specs.declared.pause.Pause.{Pause}
+use Rattle.stateful_exec_pause.specs.Fates.{Crosses}
+use Rattle.stateful_exec_pause.specs.declared.pause.Pause.{Pause}
 use Rattle.stateful_exec_tables.specs.declared.state.Tables.{Tables}
 use Rattle.stateful_exec_tables.specs.declared.tables.LiveRun.{LiveRun}
 

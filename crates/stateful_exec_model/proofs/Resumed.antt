@@ -8,7 +8,7 @@ use Rattle.stateful_exec_tables.specs.Phase.{parked_in, not_parked, unacquired_i
 use Rattle.stateful_exec_model.specs.Ending.{InTurn, StopsAt}
 use Rattle.stateful_exec_model.specs.Pausing.{GoesAlong, AcquiresAnew, Resumes, FaultsAnew, FaultsResume, anew, unparked, unsettled}
 use Rattle.stateful_exec_tables.specs.declared.error.ExecError.{ExecError}
-use Rattle.stateful_exec_tables.specs.declared.pause.Pause.TheVariants.{Free}
+use Rattle.stateful_exec_pause.specs.declared.pause.Pause.TheVariants.{Free}
 use Rattle.stateful_exec_tables.specs.declared.state.Tables.{Tables}
 use Rattle.stateful_exec_tables.specs.declared.tables.Released.{Released}
 use Rattle.stateful_exec_tables.specs.declared.tables.Requested.{Requested}

@@ -10,7 +10,7 @@ use Rattle.stateful_exec_model.specs.Workings.{Workings}
 use Rattle.stateful_exec_model.specs.Moments.{Moment, moment}
 use Rattle.stateful_exec_tables.specs.Phase.{released_on}
 use Rattle.stateful_exec_model.specs.Ending.{InTurn, Follows, EndsRun, SettlesBy}
-use Rattle.stateful_exec_tables.specs.Fates.{released}
+use Rattle.stateful_exec_tables.specs.Tables.{released}
 use Rattle.stateful_exec_model.specs.Causes.{FaultsFollow, FaultsAnswer}
 use Rattle.stateful_exec_model.specs.Causes.FaultsSettle.{following}
 use Rattle.stateful_exec_tables.specs.declared.error.ExecError.{ExecError}

@@ -15,7 +15,7 @@ use Rattle.stateful_exec_model.specs.Moments.{Moment}
 use Rattle.stateful_exec_tables.specs.Tables.{IsLeft}
 use Rattle.stateful_exec_model.specs.Ending.{StopsAt, EndsRun, Follows, TurnsRun}
 use Rattle.stateful_exec_tables.specs.Keeping.{FaultsTake}
-use Rattle.stateful_exec_tables.specs.Fates.{released}
+use Rattle.stateful_exec_tables.specs.Tables.{released}
 use Rattle.stateful_exec_tables.specs.Tables.{Knows, RunsNone}
 use Rattle.stateful_exec_tables.specs.Meeting.{GoesOn}
 use Rattle.stateful_exec_tables.specs.Meeting.{Reaches}

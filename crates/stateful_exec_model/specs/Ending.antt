@@ -23,15 +23,16 @@ use Rattle.stateful_exec_model.specs.Workings.{Workings, Point}
 use Rattle.stateful_exec_model.specs.Moments.{Moment, Becomes}
 use Rattle.stateful_exec_tables.specs.Tables.{moved, requested}
 use Rattle.stateful_exec_model.specs.Rules.{Concludes, Advances}
-use Rattle.stateful_exec_tables.specs.declared.pause.Pause.{Pause}
-use Rattle.stateful_exec_tables.specs.declared.pause.Pause.TheVariants.{Pruning}
+use Rattle.stateful_exec_pause.specs.declared.pause.Pause.{Pause}
+use Rattle.stateful_exec_pause.specs.declared.pause.Pause.TheVariants.{Pruning}
 use Rattle.stateful_exec_tables.specs.declared.request.Verdict.TheVariants.{Invalid}
 use Rattle.stateful_exec_tables.specs.declared.state.Tables.{Tables}
 use Rattle.stateful_exec_tables.specs.declared.tables.LiveRun.{LiveRun}
 use Rattle.stateful_exec_tables.specs.declared.tables.Phase.TheVariants.{Parked}
 use Rattle.stateful_exec_tables.specs.declared.tables.Released.{Released}
 use Rattle.stateful_exec_tables.specs.Keeping.{Takes}
-use Rattle.stateful_exec_tables.specs.Fates.{Crosses, IsGivenUp, AwaitsBoundary, released}
+use Rattle.stateful_exec_pause.specs.Fates.{Crosses, IsGivenUp, AwaitsBoundary}
+use Rattle.stateful_exec_tables.specs.Tables.{released}
 
 -- one relation after another, for each of these
 pub data InTurn {X M : Type 0} (R : X → M → M → Type 0) : List X → M → M → Type 0 where

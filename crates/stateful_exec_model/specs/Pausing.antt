@@ -10,7 +10,7 @@ use Rattle.stateful_exec_model.specs.Causes.{FaultsAdvance, FaultsAcquire}
 use Rattle.stateful_exec_model.specs.Ending.{InTurn, StopsAt}
 use Rattle.stateful_exec_tables.specs.declared.error.ExecError.{ExecError}
 use Rattle.stateful_exec_tables.specs.declared.error.ExecError.TheVariants.{OutOfMemory}
-use Rattle.stateful_exec_tables.specs.declared.pause.Pause.TheVariants.{Free}
+use Rattle.stateful_exec_pause.specs.declared.pause.Pause.TheVariants.{Free}
 use Rattle.stateful_exec_tables.specs.declared.tables.Released.{Released}
 use Rattle.stateful_exec_tables.specs.declared.tables.Requested.{Requested}
 

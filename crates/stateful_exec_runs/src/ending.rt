@@ -19,15 +19,16 @@ ghost use Rattle.stateful_exec_model.specs.Moments.{moment};
 ghost use Rattle.stateful_exec_tables.specs.Tables.{Rises};
 ghost use Rattle.stateful_exec_model.specs.Causes.{FaultsEnd, FaultsAdvance, FaultsFollow, FaultsAnswer};
 ghost use Rattle.stateful_exec_model.specs.Causes.{FaultsStep};
-ghost use Rattle.stateful_exec_model.specs.Ending.{InTurn, IsTold, EndsRun, TurnsRun};
-ghost use Rattle.stateful_exec_tables.specs.Keeping.{FaultsTake};
+ghost use Rattle.stateful_exec_model.specs.Ending.{InTurn, EndsRun};
 ghost use Rattle.stateful_exec_model.specs.Ending.{Follows, SettlesBy, Steps};
 
-use crate::running::{TablesOf, advance};
-use stateful_base::{Digested, Moved, OutOfMemory};
-use stateful_db::{AppFault, Application, Batch, DatabaseSet};
+use crate::running::advance;
+use stateful_base::{Digested, Moved};
+use stateful_db::{Application, Batch, DatabaseSet};
 use stateful_exec_model::Worked;
-use stateful_exec_tables::{ExecError, Fate, Released, Verdict};
+use stateful_exec_pause::Fate;
+use stateful_exec_tables::{ExecError, Released, Verdict};
+use stateful_exec_turns::{TablesOf, Turned, end, turn};
 use stateful_history::{How, Mark};
 
 /// The requests of an application that have waited for a run.
@@ -36,32 +37,6 @@ pub type ReleasedOf<A> = Released<
     <A as Application>::Context,
     <A as Application>::Input,
 >;
-
-/// What a turn of a run answers.
-pub type Turned<A> = Result<Moved<Option<Batch<A>>>, AppFault>;
-
-/// How a candidate run ended: without states, with other targets than its block commits to, or with
-/// a batch that the cache takes or misses.
-fn end<A: Application>(
-    tables: &mut TablesOf<A>,
-    block: &Digested<A::Block>,
-    ended: Option<Batch<A>>,
-) -> Result<How, ExecError>
-    ensures told { IfOk result (IsTold ⟦<A as Worked>⟧.workings tables.old.anchor block.now
-        tables.old.cache tables.new.cache ended) }
-    ensures rest { OnOk result (tables.new ≡ record tables.old { cache = tables.new.cache }) }
-    ensures numbers { Rises tables.old tables.new }
-    ensures fault { IfErr result (FaultsTake A.Block.header block.now tables.old.cache) }
-{
-    let Some(batch) = ended else {
-        return Ok(How::Rejected);
-    };
-    let targets = A::sync_targets(block.inner());
-    if !A::Databases::matches_sync_targets(&batch, &targets) {
-        return Ok(How::Mismatched);
-    }
-    tables.keep(block, batch)
-}
 
 /// The run of a job ends.
 fn end_run<A: Application>(
@@ -193,24 +168,6 @@ pub fn settle<A: Application>(
     let (block, how) = end_run::<A>(tables, job, ended, marks)?;
     let released = tables.release(job)?;
     follow_each(application, tables, databases, released, &block, how, marks)
-}
-
-/// The run of a job has a turn.
-fn turn<A: Application>(
-    tables: &mut TablesOf<A>,
-    databases: &A::Databases,
-    job: u64,
-) -> Result<Turned<A>, OutOfMemory>
-    requires { IsSome (at tables.old.runs job) }
-    ensures ok { IfOk result (TurnsRun ⟦<A as Worked>⟧.workings A.Run.count
-        (A.Databases.members databases.now) job tables.old tables.new) }
-    ensures there { OnOk result (IsSome (at tables.new.runs job)) }
-    ensures numbers { Rises tables.old tables.new }
-{
-    let mut live = tables.take_run(job);
-    let answer = A::turn(&mut live.run, databases);
-    tables.put_run(job, live)?;
-    Ok(answer)
 }
 
 /// The run of a job has a turn. Where it has ended, the requests that waited for it follow.

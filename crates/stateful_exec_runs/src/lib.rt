@@ -2,9 +2,8 @@
 #![tactic(auto)]
 
 mod ending;
-mod resuming;
 mod running;
 
-pub use ending::{Turned, complete, settle};
-pub use resuming::resume;
-pub use running::{TablesOf, acquire, begin, fetched, launch};
+pub use ending::{ReleasedOf, complete, settle};
+pub use running::{acquire, advance, begin, fetched, launch};
+pub use stateful_exec_turns::{TablesOf, Turned};

@@ -30,43 +30,15 @@ ghost use Rattle.stateful_exec_model.specs.Fetching.{IsFetched, FaultsFetched};
 ghost use Rattle.stateful_exec_model.specs.Causes.{FaultsBatches, FaultsStart, FaultsAdvance};
 ghost use Rattle.stateful_exec_model.specs.Causes.{FaultsAcquire};
 
-use stateful_base::{
-    Ancestry, Anchor, Block, BlockStore, Digested, Finality, Items, OutOfMemory, Share,
-};
+use stateful_base::{Anchor, Block, BlockStore, Digested, Finality};
 use stateful_db::{Application, Batch, DatabaseSet, OpenBatch};
 use stateful_exec_cache::Cache;
 use stateful_exec_model::Worked;
 use stateful_exec_tables::{
-    Acquired, ExecError, Met, Phase, ReplayPath, Request, Requested, Tables, Verdict, prepare,
+    Acquired, ExecError, Met, Phase, ReplayPath, Request, Requested, Verdict, prepare,
 };
+use stateful_exec_turns::{TablesOf, pair};
 use stateful_history::{JobKind, Mark};
-use std::alloc::Global;
-
-/// The tables of an application.
-pub type TablesOf<A> = Tables<
-    <A as Application>::Block,
-    <A as Application>::Context,
-    <A as Application>::Input,
-    <A as Application>::Run,
-    Batch<A>,
->;
-
-/// A block and its parent.
-fn pair<B: Drop>(
-    alloc: Global,
-    block: &Digested<B>,
-    parent: Digested<B>,
-) -> Result<Ancestry<B>, OutOfMemory>
-    ensures { IfOk result (λ ancestry. ancestry
-        ≡ record { first = block.now; rest = parent ∷ [] }) }
-{
-    let mut rest = Items::new(alloc);
-    rest.push(parent)?;
-    Ok(Ancestry {
-        first: block.share()?,
-        rest,
-    })
-}
 
 /// Batches over the states of a known block.
 pub fn begin<A: Application>(

@@ -2,10 +2,10 @@
 use Rattle.std.proofs.Common.{◌↔◌, inl, inr}
 use Rattle.stateful_base.specs.Names.{Header, Named}
 use Rattle.stateful_history.specs.declared.mark.How.{How}
-use Rattle.stateful_exec_tables.specs.Fates.{IsFate}
-use Rattle.stateful_exec_tables.specs.declared.pause.Pause.{Pause}
-use Rattle.stateful_exec_tables.specs.declared.tables.Fate.{Fate}
-use Rattle.stateful_exec_tables.specs.declared.tables.Fate.TheVariants as fate
+use Rattle.stateful_exec_pause.specs.Fates.{IsFate}
+use Rattle.stateful_exec_pause.specs.declared.pause.Pause.{Pause}
+use Rattle.stateful_exec_pause.specs.declared.pause.Fate.{Fate}
+use Rattle.stateful_exec_pause.specs.declared.pause.Fate.TheVariants as fate
 
 module _ {B : Type 0} (header : Header B) (pause : Pause) (b : Named B) (how : How) (known same : Type 0) (both : known ↔ same) where
   -- what is the same as that the block is known tells the same

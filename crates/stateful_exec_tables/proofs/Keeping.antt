@@ -8,11 +8,11 @@ use Rattle.stateful_base.specs.declared.anchor.Anchor.{Anchor}
 use Rattle.stateful_exec_cache.specs.Cache.{IsIn, IsAtHand}
 use Rattle.stateful_exec_cache.specs.declared.cache.Cached.{Cached}
 use Rattle.stateful_history.specs.declared.mark.How.TheVariants.{Kept, Missed}
-use Rattle.stateful_exec_tables.specs.Boundary.{step_by}
+use Rattle.stateful_exec_pause.specs.Boundary.{step_by}
 use Rattle.stateful_exec_tables.specs.Keeping.{step_in, ChangesPending}
 use Rattle.stateful_exec_tables.specs.Keeping.{Takes}
 use Rattle.stateful_exec_tables.specs.Keeping.Takes.{there, added, missed}
-use Rattle.stateful_exec_tables.specs.declared.boundary.ExecutionStep.{ExecutionStep}
+use Rattle.stateful_exec_pause.specs.declared.boundary.ExecutionStep.{ExecutionStep}
 
 module _ {B U : Type 0} (header : Header B) (anchor : Anchor) (b : Named B) (batch : U) (cache : List (Cached U)) (step : ExecutionStep) (of : step ≡ step_by header b) where
   not_in : All (λ e. e.digest ≢ step.digest) cache → IsIn cache b.digest → ⊥

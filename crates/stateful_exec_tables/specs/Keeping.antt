@@ -8,8 +8,8 @@ use Rattle.stateful_history.specs.declared.mark.How.TheVariants.{Kept, Missed}
 use Rattle.stateful_exec_cache.specs.Cache.{IsIn, IsAtHand}
 use Rattle.stateful_exec_cache.specs.declared.cache.Cached.{Cached}
 use Rattle.stateful_table.specs.Table.{at}
-use Rattle.stateful_exec_tables.specs.Boundary.{step_by}
-use Rattle.stateful_exec_tables.specs.declared.boundary.ExecutionStep.{ExecutionStep}
+use Rattle.stateful_exec_pause.specs.Boundary.{step_by}
+use Rattle.stateful_exec_pause.specs.declared.boundary.ExecutionStep.{ExecutionStep}
 use Rattle.stateful_exec_tables.specs.declared.error.ExecError.{ExecError}
 use Rattle.stateful_exec_tables.specs.declared.error.ExecError.TheVariants.{OutOfMemory}
 use Rattle.stateful_exec_tables.specs.declared.error.ExecError.TheVariants.{PendingChanged}

@@ -1,4 +1,3 @@
-pub mod Boundary
 pub mod Errors
 pub mod Request
 pub mod Path
@@ -7,7 +6,6 @@ pub mod Walk
 pub mod Tables
 pub mod Meeting
 pub mod Keeping
-pub mod Fates
 pub mod Fetching
 pub mod Cancelling
 pub mod Pausing

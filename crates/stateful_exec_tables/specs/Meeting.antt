@@ -1,11 +1,11 @@
 -- What a request meets on its path.
 use Rattle.std.specs.Prelude.{◌≡◌, ◌≢◌, ◌+◌, ◌++◌, ◌∷◌, [], List, All}
 use Rattle.stateful_base.specs.Names.{Header, Named}
-use Rattle.stateful_exec_tables.specs.Boundary.{step_by, IsRetained}
+use Rattle.stateful_exec_pause.specs.Boundary.{step_by, IsRetained}
 use Rattle.stateful_exec_tables.specs.Path.{Path, IsLastOf}
 use Rattle.stateful_exec_tables.specs.declared.state.Tables.{Tables}
-use Rattle.stateful_exec_tables.specs.declared.pause.Pause.{Pause}
-use Rattle.stateful_exec_tables.specs.declared.pause.Pause.TheVariants.{Finalizing}
+use Rattle.stateful_exec_pause.specs.declared.pause.Pause.{Pause}
+use Rattle.stateful_exec_pause.specs.declared.pause.Pause.TheVariants.{Finalizing}
 use Rattle.stateful_exec_tables.specs.declared.met.Met.{Met}
 use Rattle.stateful_exec_tables.specs.Tables.{Knows, HasRun, RunsNone}
 use Rattle.stateful_exec_tables.specs.declared.met.Met.TheVariants as met

@@ -1,29 +1,16 @@
 -- Pauses for a finalization or a prune.
-use Rattle.std.specs.Prelude.{◌≡◌, ◌↔◌, ◌+◌, ◌∷◌, [], ℕ, Option, Some, None, List, map, Contains}
+use Rattle.std.specs.Prelude.{◌≡◌, ◌↔◌, ◌+◌, ◌∷◌, [], ℕ, Option, List, map, Contains}
 use Rattle.std.specs.List.Sorted.{IsStrictlySortedBy}
 use Rattle.std.specs.Ordering.{nat_cmp}
-use Rattle.stateful_base.specs.Names.{Header, Named}
+use Rattle.stateful_base.specs.Names.{Header}
 use Rattle.stateful_history.specs.declared.mark.Mark.{Mark}
-use Rattle.stateful_exec_tables.specs.Boundary.{Boundary, step_by, IsRetained}
+use Rattle.stateful_exec_pause.specs.Boundary.{Boundary}
+use Rattle.stateful_exec_pause.specs.Pausing.{pause_for, IsAwaited}
 use Rattle.stateful_exec_tables.specs.Phase.{dropped}
 use Rattle.stateful_exec_tables.specs.Fetching.{IsLiveFetch}
-use Rattle.stateful_exec_tables.specs.declared.pause.Pause.{Pause}
-use Rattle.stateful_exec_tables.specs.declared.pause.Pause.TheVariants.{Free, Finalizing, Pruning}
 use Rattle.stateful_exec_tables.specs.declared.state.Tables.{Tables}
 use Rattle.stateful_exec_tables.specs.declared.tables.LiveRun.{LiveRun}
 use Rattle.stateful_history.specs.declared.mark.Mark.TheVariants as mark
-
--- what execution is paused for: a finalization, or a prune
-abbrev pub pause_for : Option Boundary → Pause
-pause_for None = Pruning
-pause_for (Some boundary) = Finalizing boundary
-
--- The pause waits for the end of a run of the block: before a prune of each run, and before a
--- finalization of each that doesn't go on over it.
-abbrev pub IsAwaited : {B : Type 0} → Header B → Pause → Named B → Type 0
-IsAwaited header Free b = ⊥
-IsAwaited header Pruning b = Unit {0}
-IsAwaited header (Finalizing boundary) b = IsRetained boundary (step_by header b) → ⊥
 
 -- so many of these have the property
 pub data IsCount {T : Type 0} (P : T → Type 0) : List T → ℕ → Type 0 where

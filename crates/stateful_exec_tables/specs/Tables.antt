@@ -10,6 +10,7 @@ use Rattle.stateful_exec_tables.specs.declared.request.Request.{Request}
 use Rattle.stateful_exec_tables.specs.declared.request.Request.TheVariants.{Verify, Recover}
 use Rattle.stateful_exec_tables.specs.declared.request.Verdict.{Verdict}
 use Rattle.stateful_exec_tables.specs.declared.request.Verdict.TheVariants.{Valid, Invalid}
+use Rattle.stateful_exec_tables.specs.Phase.{not_on}
 use Rattle.stateful_exec_tables.specs.declared.tables.Phase.{Phase}
 use Rattle.stateful_exec_tables.specs.declared.tables.Phase.TheVariants.{Open}
 use Rattle.stateful_exec_tables.specs.declared.tables.Requested.{Requested}
@@ -63,3 +64,7 @@ module _ {B C I R U : Type 0} (v : Tables B C I R U) where
   -- no live run is of the block of this digest
   abbrev pub RunsNone : Digest → Type 0
   RunsNone digest = All (λ e. e.1.block.digest ≢ digest) v.runs
+
+-- the requests that wait for the run of a job are taken out of their table
+abbrev pub released : {B C I R U : Type 0} → ℕ → Tables B C I R U → Tables B C I R U
+released job v = record v { requests = not_on job v.requests }

@@ -1,8 +1,8 @@
 //! Why execution refused a call.
 
-use crate::boundary::ExecutionStep;
 use stateful_base::{Digest, Height, OutOfMemory, Round, Target};
 use stateful_db::{AppFault, SetError};
+use stateful_exec_pause::ExecutionStep;
 use std::alloc::{AllocError, AllocFailed};
 use thiserror::Error;
 

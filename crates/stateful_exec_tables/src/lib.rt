@@ -2,12 +2,10 @@
 //! requests through their ancestors. Nothing here knows an application.
 #![tactic(auto)]
 
-mod boundary;
 mod cutting;
 mod error;
 mod met;
 mod path;
-mod pause;
 mod pausing;
 mod queued;
 mod queueing;
@@ -19,14 +17,12 @@ mod tables;
 mod tickets;
 mod walk;
 
-pub use boundary::{Disposition, ExecutionStep, FinalizationBoundary};
 pub use error::{ExecError, ProposalFault};
 pub use met::Met;
 pub use path::ReplayPath;
-pub use pause::Pause;
 pub use queued::Queued;
 pub use request::{Proposal, Request, Verdict};
 pub use state::Tables;
-pub use tables::{Fate, LiveRun, Phase, Released, Requested};
+pub use tables::{LiveRun, Phase, Released, Requested};
 pub use tickets::Tickets;
 pub use walk::{Acquired, prepare};

@@ -11,52 +11,26 @@
 //! `Pauses` and `AwaitsRuns` of `specs/Pausing.antt` have the rules, and docs/RULES.md says them in
 //! words, "A pause".
 
-ghost use Rattle.std.specs.Prelude.{◌≡◌, ◌↔◌, ◌++◌, map, IsTrue, List, None, OnOk, IfOk, IfErr};
+ghost use Rattle.std.specs.Prelude.{◌≡◌, ◌++◌, map, List, None, OnOk, IfOk, IfErr};
 ghost use Rattle.std.specs.BTreeSet.{keys};
 ghost use Rattle.stateful_history.specs.declared.mark.Mark.{Mark as Marked};
 ghost use Rattle.stateful_history.specs.declared.mark.Mark.TheVariants as mark;
 ghost use Rattle.stateful_exec_tables.specs.Phase.{unfetched, dropped, parked_path, parked_in, not_parked};
 ghost use Rattle.stateful_exec_tables.specs.Phase.{unacquired_in, not_unacquired};
 ghost use Rattle.stateful_exec_tables.specs.Tables.{Rises};
-ghost use Rattle.stateful_exec_tables.specs.Pausing.{pause_for, IsAwaited, AwaitsRuns, AreFetches};
+ghost use Rattle.stateful_exec_tables.specs.Pausing.{AwaitsRuns, AreFetches};
 ghost use Rattle.stateful_exec_tables.specs.Pausing.{Pauses};
 
-use crate::boundary::{Disposition, ExecutionStep, FinalizationBoundary};
 use crate::path::ReplayPath;
-use crate::pause::Pause;
 use crate::request::Request;
 use crate::state::Tables;
 use crate::tables::{Phase, Released, Requested};
 use stateful_base::{Block, Digested, OutOfMemory};
+use stateful_exec_pause::{FinalizationBoundary, Pause};
 use stateful_history::Mark;
 use stateful_table::Table;
 use std::collections::BTreeSet;
 use std::mem;
-
-impl Pause {
-    /// What execution is paused for.
-    fn of(boundary: Option<FinalizationBoundary>) -> Pause
-        ensures { result ≡ pause_for boundary }
-    {
-        match boundary {
-            Some(boundary) => Pause::Finalizing(boundary),
-            None => Pause::Pruning,
-        }
-    }
-
-    /// Whether the end of a run of this block is waited for.
-    fn awaits<B: Block + Drop>(&self, block: &Digested<B>) -> bool
-        ensures { IsTrue result ↔ IsAwaited B.header self.now block.now }
-    {
-        match self {
-            Pause::Free => false,
-            Pause::Pruning => true,
-            Pause::Finalizing(boundary) => {
-                boundary.disposition(&ExecutionStep::of(block)) != Disposition::Retain
-            }
-        }
-    }
-}
 
 impl<B, C, I> Requested<B, C, I> {
     /// The request with its blocks, where it is parked; else as it is.

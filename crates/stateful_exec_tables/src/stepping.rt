@@ -3,7 +3,7 @@
 ghost use Rattle.std.specs.Prelude.{◌≡◌, ◌≢◌, ◌↔◌, ◌++◌, ◌∷◌, [], IsTrue, IfOk, IfSome, IfNone};
 ghost use Rattle.std.specs.Option.{option_copied};
 ghost use Rattle.stateful_base.specs.Names.{Named};
-ghost use Rattle.stateful_exec_tables.specs.Boundary.{step_by};
+ghost use Rattle.stateful_exec_pause.specs.Boundary.{step_by};
 ghost use Rattle.stateful_exec_tables.specs.Cancelling.{IsIdle};
 ghost use Rattle.stateful_exec_tables.specs.Meeting.{JoinsAs, MeetsOnKnown};
 ghost use Rattle.stateful_exec_tables.specs.Path.{Path};
@@ -11,7 +11,6 @@ ghost use Rattle.stateful_exec_tables.specs.Stepping.{IsFree, IsParked, HasNext,
 ghost use Rattle.stateful_exec_tables.specs.Tables.{taken, Rises};
 ghost use Rattle.stateful_exec_tables.specs.declared.request.Request.{Request as Req};
 
-use crate::boundary::ExecutionStep;
 use crate::met::Met;
 use crate::path::ReplayPath;
 use crate::request::Request;
@@ -19,6 +18,7 @@ use crate::state::Tables;
 use crate::tables::{Phase, Requested};
 use crate::walk::{Acquired, prepare};
 use stateful_base::{Block, BlockStore, Digested, OutOfMemory};
+use stateful_exec_pause::ExecutionStep;
 
 impl<B> Phase<B> {
     /// Whether the request waits for no run and no fetch.

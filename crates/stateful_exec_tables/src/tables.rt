@@ -131,11 +131,3 @@ pub struct Released<B, C, I> {
     pub request: Request<B, C, I>,
     pub path: ReplayPath<B>,
 }
-
-/// What becomes of a request that has waited for a run.
-#[derive(Clone, Copy, Debug, PartialEq, Eq)]
-pub enum Fate {
-    Invalid,
-    Parked,
-    GoesOn,
-}

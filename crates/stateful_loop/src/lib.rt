@@ -6,7 +6,8 @@ mod intake;
 
 pub use going::go_on;
 pub use intake::take_in;
-pub use stateful_loop_finals::{clear, open};
+pub use stateful_loop_finals::clear;
 pub use stateful_loop_model::{
     Action, Active, Asks, Barriers, Finalizing, Message, Processing, ProcessingOf, Queue, StepError,
 };
+pub use stateful_loop_opens::open;

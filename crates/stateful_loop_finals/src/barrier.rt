@@ -14,7 +14,7 @@
 //! `specs/Rules.antt` and `specs/Intake.antt` of `stateful_loop_model` have the rules;
 //! docs/RULES.md says them in words, "Barriers and receipts".
 
-ghost use Rattle.std.specs.Prelude.{◌≡◌, ◌≢◌, ◌<◌, ◌≤◌, ◌∷◌, ◌++◌, [], ℕ, Some, None, OnOk, OnErr};
+ghost use Rattle.std.specs.Prelude.{◌≡◌, ◌≢◌, ◌<◌, ◌≤◌, ◌++◌, [], ℕ, Some, OnOk, OnErr};
 ghost use Rattle.std.specs.Prelude.{IfErr, IsSome, Contains, length, option_and_then, slice_get};
 ghost use Rattle.std.specs.Prelude.{map};
 ghost use Rattle.std.specs.Option.{ForSome};

@@ -1,7 +1,6 @@
 //! How all that goes on is dropped.
 
-ghost use Rattle.std.specs.Prelude.{◌≡◌, ◌≤◌, [], ℕ, List, false, None};
-ghost use Rattle.stateful_exec_tables.specs.Tables.{Rises};
+ghost use Rattle.std.specs.Prelude.{◌≡◌, List};
 ghost use Rattle.stateful_history.specs.declared.mark.Mark.{Mark as Marked};
 ghost use Rattle.stateful_loop_model.specs.Clearing.{IsCleared};
 ghost use Rattle.stateful_loop_model.specs.Moments.{executing, moment};

@@ -1,12 +1,10 @@
-//! Finalizations in the loop and the barriers behind them, openings, and what a stop clears.
+//! Finalizations in the loop and the barriers behind them, and what a stop clears.
 #![tactic(auto)]
 
 mod barrier;
 mod clearing;
 mod finalizing;
-mod opening;
 
 pub use barrier::{begin_barrier, complete_barrier, flushed};
 pub use clearing::clear;
 pub use finalizing::{begin_finalization, go_on_finalizing};
-pub use opening::open;

@@ -8,7 +8,7 @@ use Rattle.stateful_history.specs.declared.mark.Mark.{Mark}
 use Rattle.stateful_history.specs.declared.mark.Mark.TheVariants.{Withdrawn, Ended, Declined}
 use Rattle.stateful_history.specs.declared.mark.Mark.TheVariants.{Dropped, Stopped}
 use Rattle.stateful_exec_model.specs.Workings.{Workings}
-use Rattle.stateful_exec_tables.specs.declared.pause.Pause.TheVariants.{Free}
+use Rattle.stateful_exec_pause.specs.declared.pause.Pause.TheVariants.{Free}
 use Rattle.stateful_exec_laws.specs.Standing.{NumbersStand}
 use Rattle.stateful_loop_model.specs.Moments.{Moment}
 

@@ -9,14 +9,14 @@ use Rattle.stateful_history.specs.Finalizations.{IsChildOf}
 use Rattle.stateful_history.specs.Met.{Met, TrueNames}
 use Rattle.stateful_history.specs.Past.{Past, EachMark, after}
 use Rattle.stateful_history.specs.declared.mark.Mark.{Mark}
-use Rattle.stateful_exec_tables.specs.Boundary.{Boundary}
+use Rattle.stateful_exec_pause.specs.Boundary.{Boundary}
 use Rattle.stateful_exec_tables.specs.Meeting.{GoesOn}
 use Rattle.stateful_exec_model.specs.Workings.{Workings, Point}
 use Rattle.stateful_exec_model.specs.declared.front.Front.{Front}
 use Rattle.stateful_exec_model.specs.declared.front.Stage.{Stage}
 use Rattle.stateful_exec_model.specs.declared.front.Stage.TheVariants.{Begun, Running, Ran, Advanced}
 use Rattle.stateful_exec_model.specs.declared.front.Stage.TheVariants.{Hooking}
-use Rattle.stateful_exec_tables.specs.declared.pause.Pause.TheVariants.{Free, Finalizing}
+use Rattle.stateful_exec_pause.specs.declared.pause.Pause.TheVariants.{Free, Finalizing}
 use Rattle.stateful_exec_tables.specs.declared.state.Tables.{Tables}
 use Rattle.stateful_exec_tables.specs.declared.tables.Phase.TheVariants.{Fetching}
 use Rattle.stateful_exec_tables.specs.declared.tables.Requested.{Requested}

@@ -10,7 +10,7 @@ use Rattle.stateful_history.specs.Requests.{proposed, subscribed}
 use Rattle.stateful_history.specs.declared.mark.Mark.{Mark}
 use Rattle.stateful_table.specs.Table.{at}
 use Rattle.stateful_exec_model.specs.Workings.{Workings}
-use Rattle.stateful_exec_tables.specs.declared.pause.Pause.TheVariants.{Free}
+use Rattle.stateful_exec_pause.specs.declared.pause.Pause.TheVariants.{Free}
 use Rattle.stateful_exec_tables.specs.declared.tables.Phase.TheVariants.{Open}
 use Rattle.stateful_exec_tables.specs.declared.tables.Requested.{Requested}
 use Rattle.stateful_exec_laws.specs.Outstanding.{RunsGoOn}

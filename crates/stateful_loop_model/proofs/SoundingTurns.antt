@@ -11,7 +11,7 @@ use Rattle.stateful_history.specs.declared.mark.How.{How}
 use Rattle.stateful_history.specs.declared.mark.Mark.{Mark}
 use Rattle.stateful_exec_model.specs.Built.{EndsBuild, TurnsBuild, other, goes_on, ends, GivesUp, building, asking}
 use Rattle.stateful_exec_model.specs.Ending.{InTurn, none, next, Follows, EndsRun, Settles, SettlesBy, Steps}
-use Rattle.stateful_exec_tables.specs.Fates.{released}
+use Rattle.stateful_exec_tables.specs.Tables.{released}
 use Rattle.stateful_exec_model.specs.Ending as ending
 use Rattle.stateful_exec_model.specs.Fetching.{serving, IsFetched}
 use Rattle.stateful_exec_tables.specs.Cancelling.{Cancels}

@@ -1,7 +1,7 @@
 -- How all that goes on is dropped.
 use Rattle.std.specs.Prelude.{◌≡◌, [], false, None}
 use Rattle.stateful_exec_model.specs.Workings.{Workings}
-use Rattle.stateful_exec_tables.specs.declared.pause.Pause.TheVariants.{Free}
+use Rattle.stateful_exec_pause.specs.declared.pause.Pause.TheVariants.{Free}
 use Rattle.stateful_loop_model.specs.Moments.{Moment}
 
 module _ {B C I P R D H G U : Type 0} (w : Workings B C I P R D H G U) where

@@ -9,7 +9,7 @@ use Rattle.stateful_db.specs.declared.database.InitError.TheVariants as init
 use Rattle.stateful_history.specs.Restarts.{reopened_height}
 use Rattle.stateful_history.specs.declared.mark.Mark.TheVariants as mark
 use Rattle.stateful_exec_model.specs.Workings.{Workings}
-use Rattle.stateful_exec_tables.specs.declared.pause.Pause.TheVariants.{Free}
+use Rattle.stateful_exec_pause.specs.declared.pause.Pause.TheVariants.{Free}
 use Rattle.stateful_loop_model.specs.Moments.{Moment}
 use Rattle.stateful_loop_model.specs.declared.error.StepError.{StepError}
 use Rattle.stateful_loop_model.specs.declared.error.StepError.TheVariants.{Database, TargetMismatch}

@@ -19,7 +19,7 @@ use Rattle.stateful_exec_tables.specs.Tables.{IsLeft}
 use Rattle.stateful_exec_tables.specs.Queueing.{IsReady, unqueued}
 use Rattle.stateful_exec_model.specs.Building.{StartsBuild}
 use Rattle.stateful_exec_model.specs.Finalizing.{IsRedelivered, MayBegin, front_at}
-use Rattle.stateful_exec_tables.specs.Boundary.{IsBoundaryOf}
+use Rattle.stateful_exec_pause.specs.Boundary.{IsBoundaryOf}
 use Rattle.stateful_exec_model.specs.Finalizing.{RunsFinal, Moves, Observes}
 use Rattle.stateful_exec_tables.specs.Pausing.{AwaitsRuns}
 use Rattle.stateful_exec_tables.specs.Pausing.{Pauses}

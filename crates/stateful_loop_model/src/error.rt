@@ -2,7 +2,8 @@
 
 use stateful_base::{Digest, Height, OutOfMemory, Round, Target};
 use stateful_db::{DbCall, InitError, SetError, SetInit};
-use stateful_exec_tables::{ExecError, ExecutionStep, ProposalFault};
+use stateful_exec_pause::ExecutionStep;
+use stateful_exec_tables::{ExecError, ProposalFault};
 use std::alloc::{AllocError, AllocFailed};
 use thiserror::Error;
 

@@ -1,6 +1,6 @@
 //! The top call.
 
-ghost use Rattle.std.specs.Prelude.{◌≡◌, ◌≢◌, ◌⊎◌, ◌≤◌, ℕ, List, [], true, false, Option, None};
+ghost use Rattle.std.specs.Prelude.{◌≡◌, ◌≢◌, ◌⊎◌, ℕ, List, [], true, false, Option, None};
 ghost use Rattle.std.specs.Prelude.{Some, IfOk, IfErr, IsNone, IsSome, IsSomeAnd, codes};
 ghost use Rattle.std.specs.Prelude.{string_bytes};
 ghost use Rattle.std.specs.List.{list_all};
@@ -8,7 +8,6 @@ ghost use Rattle.std.specs.Str.{bytes_eq};
 ghost use Rattle.std.specs.Io.KnownBytes.{Appends};
 ghost use Rattle.stateful_base.specs.Causes.{Rose};
 ghost use Rattle.stateful_script_text.specs.Transcript.{usage_line, script_line};
-ghost use Rattle.stateful_play_bank.specs.declared.playing.Played.{Played};
 ghost use Rattle.stateful_play.specs.Status.{asks_play, IsLoaded, IsUnread, Stops, IsPlayed, AsksFor};
 ghost use Rattle.stateful_play.specs.Status.{HoldsPrefix, HoldsPart, IsHaltedAt, status_by, Writes};
 ghost use Rattle.stateful_play.specs.Status.{IsOrCut, IsScript, IsRefused};
@@ -16,7 +15,8 @@ ghost use Rattle.stateful_play_bank.specs.Shown.{text_of};
 ghost use Rattle.stateful_script.specs.Laws.{IsPlan};
 
 use crate::status::{Outcome, Status};
-use stateful_play_bank::{Played, Told, play, text_of};
+use stateful_actor::Halted;
+use stateful_play_bank::{Told, play, text_of};
 use stateful_script::{Script, ScriptError, read_script};
 use stateful_script_text::{script_line, usage_line};
 use stateful_types::{OutOfMemory, ReadError, Sink, SinkFault, Source, read_all, write_all};
@@ -94,19 +94,30 @@ fn write_text<K: Sink>(sink: &mut K, text: &[u8], status: Status) -> Outcome
     }
 }
 
-/// A run with a play whose transcript is written.
-fn outcome_of(played: Played) -> Outcome
-    ensures { result ≡ record { status = status_by played.end; played = Some played } }
+/// The status behind a play that ended so, where its transcript is written.
+fn status_of(end: &Option<Halted>) -> Status
+    ensures { result ≡ status_by end.now }
 {
-    match played.end {
-        Some(halted) => Outcome {
-            status: Status::Halted { at: halted.at },
-            played: Some(played),
-        },
-        None => Outcome {
-            status: Status::Done,
-            played: Some(played),
-        },
+    match end {
+        Some(halted) => Status::Halted { at: halted.at },
+        None => Status::Done,
+    }
+}
+
+/// Writes the text of a play, and answers with which status.
+fn write_told<K: Sink>(alloc: Global, sink: &mut K, told: &Told) -> Status
+    ensures { Writes (Rose (K.count sink.old) (K.count sink.new)) (K.written sink.old)
+        (K.written sink.new) (text_of told.now.labels.items told.now.shown.items told.now.played)
+        (status_by told.now.played.end) result }
+{
+    let text = match text_of(alloc, told) {
+        Ok(text) => text,
+        Err(OutOfMemory) => return Status::NoMemory,
+    };
+    match write_all(sink, text.as_slice()) {
+        Ok(()) => status_of(&told.played.end),
+        Err(SinkFault::Failed) => Status::WriteFault,
+        Err(SinkFault::OutOfMemory) => Status::NoMemory,
     }
 }
 
@@ -118,17 +129,12 @@ fn write_transcript<K: Sink>(alloc: Global, sink: &mut K, told: Told) -> Outcome
     ensures played { ((result.status ≡ Status.NoMemory) × IsNone result.played)
         ⊎ ((result.status ≢ Status.NoMemory) × (result.played ≡ Some told.played)) }
 {
-    let text = match text_of(alloc, &told) {
-        Ok(text) => text,
-        Err(OutOfMemory) => return without_play(Status::NoMemory),
-    };
-    match write_all(sink, text.as_slice()) {
-        Ok(()) => outcome_of(told.played),
-        Err(SinkFault::Failed) => Outcome {
-            status: Status::WriteFault,
+    match write_told(alloc, sink, &told) {
+        Status::NoMemory => without_play(Status::NoMemory),
+        status => Outcome {
+            status,
             played: Some(told.played),
         },
-        Err(SinkFault::OutOfMemory) => without_play(Status::NoMemory),
     }
 }
 

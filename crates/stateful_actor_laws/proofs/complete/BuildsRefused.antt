@@ -33,8 +33,8 @@ use Rattle.stateful_exec_tables.specs.declared.error.ExecError.{ExecError}
 use Rattle.stateful_exec_tables.specs.declared.error.ExecError.TheVariants as exec_error
 use Rattle.stateful_exec_tables.specs.declared.error.ProposalFault.{ProposalFault}
 use Rattle.stateful_exec_tables.specs.declared.error.ProposalFault.TheVariants.{Targets, Parent, Round as AnotherRound}
-use Rattle.stateful_exec_tables.specs.declared.pause.Pause.{Pause}
-use Rattle.stateful_exec_tables.specs.declared.pause.Pause.TheVariants.{Free}
+use Rattle.stateful_exec_pause.specs.declared.pause.Pause.{Pause}
+use Rattle.stateful_exec_pause.specs.declared.pause.Pause.TheVariants.{Free}
 use Rattle.stateful_exec_laws.specs.Building.{BuildStands, IsBuilding}
 use Rattle.stateful_exec_laws.specs.Setting.{setting}
 use Rattle.stateful_exec_laws.specs.Standing.{TablesStand}

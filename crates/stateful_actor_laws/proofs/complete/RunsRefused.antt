@@ -22,7 +22,7 @@ use Rattle.stateful_history.specs.Past.{Past}
 use Rattle.stateful_exec_cache.specs.declared.cache.Cached.{Cached}
 use Rattle.stateful_table.specs.Table.{at, put}
 use Rattle.stateful_table.proofs.Tables.{at-put}
-use Rattle.stateful_exec_tables.specs.Boundary.{step_by}
+use Rattle.stateful_exec_pause.specs.Boundary.{step_by}
 use Rattle.stateful_exec_model.specs.Causes.{FaultsEnd, FaultsAnswer, FaultsStep}
 use Rattle.stateful_exec_model.specs.Causes as cause
 use Rattle.stateful_exec_tables.specs.Keeping.{step_in, ChangesPending, FaultsTake}
@@ -33,7 +33,7 @@ use Rattle.stateful_exec_model.specs.Moments as exec
 use Rattle.stateful_exec_model.specs.Workings.{Workings, Point}
 use Rattle.stateful_exec_tables.specs.declared.error.ExecError.{ExecError}
 use Rattle.stateful_exec_tables.specs.declared.error.ExecError.TheVariants as exec_error
-use Rattle.stateful_exec_tables.specs.declared.boundary.ExecutionStep.{ExecutionStep}
+use Rattle.stateful_exec_pause.specs.declared.boundary.ExecutionStep.{ExecutionStep}
 use Rattle.stateful_exec_model.specs.declared.front.Front.{Front}
 use Rattle.stateful_exec_model.specs.declared.front.Stage.TheVariants.{Running}
 use Rattle.stateful_exec_tables.specs.declared.state.Tables.{Tables}

@@ -14,15 +14,15 @@ use Rattle.stateful_exec_cache.specs.Cache.{IsIn}
 use Rattle.stateful_exec_cache.specs.Cut.{AreNamed, GoesOn}
 use Rattle.stateful_exec_cache.specs.declared.cache.Cached.{Cached}
 use Rattle.stateful_exec_cache.proofs.Cutting.{Any-from}
-use Rattle.stateful_exec_tables.specs.Boundary.{Boundary, step_by, IsRetained, Completes}
+use Rattle.stateful_exec_pause.specs.Boundary.{Boundary, step_by, IsRetained, Completes}
 use Rattle.stateful_exec_tables.specs.Keeping.{step_in, there, added, missed}
 use Rattle.stateful_exec_tables.specs.Keeping.{Takes}
 use Rattle.stateful_exec_model.specs.Ending.{IsTold, rejected, mismatched, agreed}
-use Rattle.stateful_exec_tables.specs.Fates.{Crosses}
-use Rattle.stateful_exec_tables.specs.Boundary.{IsBoundaryOf}
+use Rattle.stateful_exec_pause.specs.Fates.{Crosses}
+use Rattle.stateful_exec_pause.specs.Boundary.{IsBoundaryOf}
 use Rattle.stateful_exec_model.specs.Workings.{Workings, Point}
-use Rattle.stateful_exec_tables.specs.declared.pause.Pause.{Pause}
-use Rattle.stateful_exec_tables.specs.declared.pause.Pause.TheVariants.{Free, Finalizing, Pruning}
+use Rattle.stateful_exec_pause.specs.declared.pause.Pause.{Pause}
+use Rattle.stateful_exec_pause.specs.declared.pause.Pause.TheVariants.{Free, Finalizing, Pruning}
 use Rattle.stateful_exec_laws.specs.Setting.{setting}
 use Rattle.stateful_exec_laws.specs.Caching.{IsCached, CacheStands}
 use Rattle.stateful_exec_laws.proofs.ended.Points.{parent_at_hand}

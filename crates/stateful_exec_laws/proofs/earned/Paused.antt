@@ -12,12 +12,12 @@ use Rattle.stateful_history.specs.Past.{Past}
 use Rattle.stateful_exec_cache.specs.Cache.{IsAtHand}
 use Rattle.stateful_exec_cache.specs.Cut.{AreNamed}
 use Rattle.stateful_exec_cache.specs.declared.cache.Cached.{Cached}
-use Rattle.stateful_exec_tables.specs.Boundary.{Boundary, step_by, IsRetained}
+use Rattle.stateful_exec_pause.specs.Boundary.{Boundary, step_by, IsRetained}
 use Rattle.stateful_exec_tables.specs.Keeping.{step_in}
 use Rattle.stateful_exec_tables.specs.Meeting.{GoesOn}
 use Rattle.stateful_exec_model.specs.Workings.{Workings, Point}
-use Rattle.stateful_exec_tables.specs.declared.pause.Pause.{Pause}
-use Rattle.stateful_exec_tables.specs.declared.pause.Pause.TheVariants.{Free, Finalizing, Pruning}
+use Rattle.stateful_exec_pause.specs.declared.pause.Pause.{Pause}
+use Rattle.stateful_exec_pause.specs.declared.pause.Pause.TheVariants.{Free, Finalizing, Pruning}
 use Rattle.stateful_exec_laws.specs.Setting.{setting}
 use Rattle.stateful_exec_laws.specs.Caching.{IsCached, CacheStands}
 use Rattle.stateful_exec_laws.proofs.ended.Kept.{IsRoundOf}

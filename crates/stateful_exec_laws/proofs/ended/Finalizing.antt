@@ -15,11 +15,11 @@ use Rattle.stateful_history.specs.declared.mark.Mark.TheVariants.{Ended}
 use Rattle.stateful_exec_cache.specs.Cache.{IsIn, IsAtHand}
 use Rattle.stateful_exec_cache.specs.declared.cache.Cached.{Cached}
 use Rattle.stateful_table.specs.Table.{at}
-use Rattle.stateful_exec_tables.specs.Boundary.{Boundary, step_by, IsRetained, Completes}
+use Rattle.stateful_exec_pause.specs.Boundary.{Boundary, step_by, IsRetained, Completes}
 use Rattle.stateful_exec_tables.specs.Keeping.{step_in}
 use Rattle.stateful_exec_model.specs.Workings.{Workings, Point}
-use Rattle.stateful_exec_tables.specs.declared.boundary.ExecutionStep.{ExecutionStep}
-use Rattle.stateful_exec_tables.specs.declared.pause.Pause.TheVariants.{Finalizing}
+use Rattle.stateful_exec_pause.specs.declared.boundary.ExecutionStep.{ExecutionStep}
+use Rattle.stateful_exec_pause.specs.declared.pause.Pause.TheVariants.{Finalizing}
 use Rattle.stateful_exec_tables.specs.declared.state.Tables.{Tables}
 use Rattle.stateful_exec_tables.specs.declared.tables.LiveRun.{LiveRun}
 use Rattle.stateful_exec_laws.specs.Setting.{setting}

@@ -16,7 +16,7 @@ use Rattle.stateful_history.specs.declared.mark.Mark.{Mark}
 use Rattle.stateful_history.specs.declared.mark.Mark.TheVariants.{Ended}
 use Rattle.stateful_exec_tables.specs.declared.state.Tables.{Tables}
 use Rattle.stateful_exec_model.specs.Ending.{InTurn, Follows, given_up, at_boundary, failed, parked, goes_on}
-use Rattle.stateful_exec_tables.specs.Fates.{released}
+use Rattle.stateful_exec_tables.specs.Tables.{released}
 use Rattle.stateful_exec_model.specs.Moments.{Moment, Becomes}
 use Rattle.stateful_exec_tables.specs.Path.{Path}
 use Rattle.stateful_exec_tables.specs.Phase.{is_on, released_on, not_on}

@@ -19,14 +19,14 @@ use Rattle.stateful_history.specs.declared.mark.Mark.TheVariants.{Ended}
 use Rattle.stateful_exec_cache.specs.Cache.{IsIn, IsAtHand}
 use Rattle.stateful_exec_cache.specs.declared.cache.Cached.{Cached}
 use Rattle.stateful_table.specs.Table.{at}
-use Rattle.stateful_exec_tables.specs.Boundary.{Boundary, step_by, IsRetained, Completes}
+use Rattle.stateful_exec_pause.specs.Boundary.{Boundary, step_by, IsRetained, Completes}
 use Rattle.stateful_exec_tables.specs.Keeping.{step_in, there, added, missed}
-use Rattle.stateful_exec_tables.specs.Fates.{Crosses}
+use Rattle.stateful_exec_pause.specs.Fates.{Crosses}
 use Rattle.stateful_exec_model.specs.Ending.{Turns, IsTold, rejected, mismatched, agreed}
 use Rattle.stateful_exec_model.specs.Workings.{Workings, Point}
-use Rattle.stateful_exec_tables.specs.declared.boundary.ExecutionStep.{ExecutionStep}
-use Rattle.stateful_exec_tables.specs.declared.pause.Pause.{Pause}
-use Rattle.stateful_exec_tables.specs.declared.pause.Pause.TheVariants.{Free, Finalizing, Pruning}
+use Rattle.stateful_exec_pause.specs.declared.boundary.ExecutionStep.{ExecutionStep}
+use Rattle.stateful_exec_pause.specs.declared.pause.Pause.{Pause}
+use Rattle.stateful_exec_pause.specs.declared.pause.Pause.TheVariants.{Free, Finalizing, Pruning}
 use Rattle.stateful_exec_tables.specs.declared.state.Tables.{Tables}
 use Rattle.stateful_exec_tables.specs.declared.tables.LiveRun.{LiveRun}
 use Rattle.stateful_exec_laws.specs.Setting.{setting}

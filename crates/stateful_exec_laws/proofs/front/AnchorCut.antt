@@ -17,10 +17,10 @@ use Rattle.stateful_history.specs.declared.mark.Mark.TheVariants.{Applied}
 use Rattle.stateful_exec_cache.specs.Cache.{IsIn, IsAtHand, InOrder}
 use Rattle.stateful_exec_cache.specs.Cut.{GoesOn, IsCutTo}
 use Rattle.stateful_exec_cache.specs.declared.cache.Cached.{Cached}
-use Rattle.stateful_exec_tables.specs.Boundary.{Boundary, IsRetained}
+use Rattle.stateful_exec_pause.specs.Boundary.{Boundary, IsRetained}
 use Rattle.stateful_exec_tables.specs.Keeping.{step_in}
 use Rattle.stateful_exec_model.specs.Workings.{Workings, Point}
-use Rattle.stateful_exec_tables.specs.declared.pause.Pause.TheVariants.{Finalizing}
+use Rattle.stateful_exec_pause.specs.declared.pause.Pause.TheVariants.{Finalizing}
 use Rattle.stateful_exec_laws.specs.Setting.{setting}
 use Rattle.stateful_exec_laws.specs.Chains.{Chain, Leads}
 use Rattle.stateful_exec_laws.specs.Caching.{IsCached, CacheStands}

@@ -14,10 +14,10 @@ use Rattle.stateful_history.specs.States.{fold}
 use Rattle.stateful_history.specs.declared.mark.Mark.TheVariants.{Began, Applied}
 use Rattle.stateful_exec_cache.specs.Cache.{IsIn}
 use Rattle.stateful_exec_cache.specs.declared.cache.Cached.{Cached}
-use Rattle.stateful_exec_tables.specs.Boundary.{Boundary}
-use Rattle.stateful_exec_tables.specs.Boundary.{IsBoundaryOf}
+use Rattle.stateful_exec_pause.specs.Boundary.{Boundary}
+use Rattle.stateful_exec_pause.specs.Boundary.{IsBoundaryOf}
 use Rattle.stateful_exec_model.specs.Workings.{Workings, Point}
-use Rattle.stateful_exec_tables.specs.declared.pause.Pause.TheVariants.{Free, Finalizing}
+use Rattle.stateful_exec_pause.specs.declared.pause.Pause.TheVariants.{Free, Finalizing}
 use Rattle.stateful_exec_laws.specs.Setting.{setting}
 use Rattle.stateful_exec_laws.specs.Caching.{CacheStands}
 use Rattle.stateful_exec_laws.proofs.earned.Closed.{IsClosed-begins}

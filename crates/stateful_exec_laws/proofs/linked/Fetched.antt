@@ -15,7 +15,7 @@ use Rattle.stateful_history.specs.declared.mark.How.TheVariants.{Cancelled}
 use Rattle.stateful_history.specs.declared.mark.Mark.{Mark}
 use Rattle.stateful_history.specs.declared.mark.Mark.TheVariants.{Withdrawn, Ended}
 use Rattle.stateful_table.specs.Table.{without}
-use Rattle.stateful_exec_tables.specs.Boundary.{Boundary}
+use Rattle.stateful_exec_pause.specs.Boundary.{Boundary}
 use Rattle.stateful_exec_tables.specs.Fetching.{Fetches, with_block}
 use Rattle.stateful_exec_model.specs.Fetching.{serving, IsFetched, found, waits, declines, dead}
 use Rattle.stateful_exec_tables.specs.Cancelling.{Cancels}
@@ -25,7 +25,7 @@ use Rattle.stateful_exec_tables.specs.Pausing.{Pauses}
 use Rattle.stateful_exec_tables.specs.Phase.{unfetched, dropped}
 use Rattle.stateful_exec_tables.specs.Tables.{taken}
 use Rattle.stateful_exec_model.specs.Workings.{Workings, Point}
-use Rattle.stateful_exec_tables.specs.declared.pause.Pause.TheVariants.{Free}
+use Rattle.stateful_exec_pause.specs.declared.pause.Pause.TheVariants.{Free}
 use Rattle.stateful_exec_tables.specs.declared.request.Proposal.{Proposal}
 use Rattle.stateful_exec_tables.specs.declared.request.Verdict.TheVariants as verdict
 use Rattle.stateful_exec_tables.specs.declared.state.Tables.{Tables}

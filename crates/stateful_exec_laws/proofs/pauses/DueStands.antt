@@ -23,7 +23,7 @@ use Rattle.stateful_exec_cache.specs.declared.cache.Cached.{Cached}
 use Rattle.stateful_exec_tables.specs.Keeping.{Takes}
 use Rattle.stateful_exec_model.specs.Ending.{IsTold, rejected, mismatched, agreed, EndsRun, TurnsRun, Follows, SettlesBy, Steps}
 use Rattle.stateful_exec_tables.specs.Keeping.{there, added, missed}
-use Rattle.stateful_exec_tables.specs.Fates.{released}
+use Rattle.stateful_exec_tables.specs.Tables.{released}
 use Rattle.stateful_db.specs.declared.application.Hooked.{Hooked}
 use Rattle.stateful_db.specs.declared.application.Hooked.TheVariants as hooked
 use Rattle.stateful_exec_model.specs.Finalizing.{front_at, RunsFinal, StepsFinal, turned, not_live, Moves, HooksOn, TurnsHook, hook_turned, unhooked}
@@ -33,7 +33,7 @@ use Rattle.stateful_exec_model.specs.Workings.{Workings, Point}
 use Rattle.stateful_exec_model.specs.declared.front.Front.{Front}
 use Rattle.stateful_exec_model.specs.declared.front.Stage.{Stage}
 use Rattle.stateful_exec_model.specs.declared.front.Stage.TheVariants.{Begun, Running, Ran, Advanced, Hooking}
-use Rattle.stateful_exec_tables.specs.declared.pause.Pause.TheVariants.{Free}
+use Rattle.stateful_exec_pause.specs.declared.pause.Pause.TheVariants.{Free}
 use Rattle.stateful_exec_tables.specs.declared.state.Tables.{Tables}
 use Rattle.stateful_exec_laws.specs.Setting.{setting}
 use Rattle.stateful_exec_laws.specs.Caching.{CacheStands}
@@ -46,7 +46,7 @@ use Rattle.std.proofs.lemmas.Bool.{eq-eqb}
 use Rattle.stateful_table.proofs.Tables.{at-put}
 use Rattle.stateful_table.specs.Table.{at, put}
 use Rattle.stateful_exec_tables.specs.declared.tables.LiveRun.{LiveRun}
-use Rattle.stateful_exec_tables.specs.declared.boundary.ExecutionStep.{ExecutionStep}
+use Rattle.stateful_exec_pause.specs.declared.boundary.ExecutionStep.{ExecutionStep}
 use Rattle.stateful_exec_laws.proofs.requests.Quiet.{AreQuiet, IsQuiet, unmoved, GoesQuietly, GoesQuietly-follows, GoesQuietly-in_turn}
 
 module _ {B C I S T : Type 0} (s : Setting B S T) (p : Past B C I) {U : Type 0} (d : Digest) where

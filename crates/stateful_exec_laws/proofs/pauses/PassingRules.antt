@@ -15,10 +15,10 @@ use Rattle.stateful_exec_cache.specs.Cache.{IsIn}
 use Rattle.stateful_exec_cache.specs.declared.cache.Cached.{Cached}
 use Rattle.stateful_table.specs.Table.{at}
 use Rattle.stateful_table.proofs.Tables.{is_at_number}
-use Rattle.stateful_exec_tables.specs.Boundary.{Boundary}
+use Rattle.stateful_exec_pause.specs.Boundary.{Boundary}
 use Rattle.stateful_exec_model.specs.Ending.{InTurn, IsTold, rejected, mismatched, agreed, EndsRun, TurnsRun, Follows, Settles, SettlesBy, Steps}
 use Rattle.stateful_exec_tables.specs.Keeping.{there, added, missed}
-use Rattle.stateful_exec_tables.specs.Fates.{released}
+use Rattle.stateful_exec_tables.specs.Tables.{released}
 use Rattle.stateful_exec_tables.specs.Fetching.{Fetches, with_block}
 use Rattle.stateful_exec_model.specs.Fetching.{serving, IsFetched, found, waits, declines, dead}
 use Rattle.stateful_exec_tables.specs.Cancelling.{Cancels}

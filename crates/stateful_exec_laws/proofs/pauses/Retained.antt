@@ -10,11 +10,12 @@ use Rattle.stateful_base.specs.Names.{Header}
 use Rattle.stateful_base.specs.Round.{IsLater}
 use Rattle.stateful_base.specs.declared.digest.Digest.{Digest}
 use Rattle.stateful_base.specs.declared.round.Round.{Round}
-use Rattle.stateful_exec_tables.specs.Boundary.{Boundary, step_by, IsRetained}
-use Rattle.stateful_exec_tables.specs.Pausing.{IsAwaited, IsCount, none, one, other, AwaitsRuns}
-use Rattle.stateful_exec_tables.specs.declared.boundary.ExecutionStep.{ExecutionStep}
-use Rattle.stateful_exec_tables.specs.declared.pause.Pause.{Pause}
-use Rattle.stateful_exec_tables.specs.declared.pause.Pause.TheVariants.{Finalizing}
+use Rattle.stateful_exec_pause.specs.Boundary.{Boundary, step_by, IsRetained}
+use Rattle.stateful_exec_pause.specs.Pausing.{IsAwaited}
+use Rattle.stateful_exec_tables.specs.Pausing.{IsCount, none, one, other, AwaitsRuns}
+use Rattle.stateful_exec_pause.specs.declared.boundary.ExecutionStep.{ExecutionStep}
+use Rattle.stateful_exec_pause.specs.declared.pause.Pause.{Pause}
+use Rattle.stateful_exec_pause.specs.declared.pause.Pause.TheVariants.{Finalizing}
 use Rattle.stateful_exec_tables.specs.declared.state.Tables.{Tables}
 use Rattle.stateful_exec_tables.specs.declared.tables.LiveRun.{LiveRun}
 use Rattle.stateful_exec_laws.proofs.ended.Points.{same_or_not}

@@ -16,7 +16,7 @@ use Rattle.stateful_history.specs.declared.mark.Mark.{Mark}
 use Rattle.stateful_history.specs.declared.mark.Mark.TheVariants.{Ended}
 use Rattle.stateful_history.proofs.Marks.{Met-after}
 use Rattle.stateful_exec_model.specs.Ending.{InTurn, none, next, TurnsRun, Follows, Settles, SettlesBy, Steps}
-use Rattle.stateful_exec_tables.specs.Fates.{released}
+use Rattle.stateful_exec_tables.specs.Tables.{released}
 use Rattle.stateful_exec_model.specs.Moments.{Moment}
 use Rattle.stateful_exec_tables.specs.Phase.{released_on}
 use Rattle.stateful_exec_model.specs.Workings.{Workings, Point}

@@ -16,7 +16,7 @@ use Rattle.stateful_history.specs.Setting.{Setting}
 use Rattle.stateful_history.specs.declared.event.Event.{Event}
 use Rattle.stateful_history.specs.declared.mark.Mark.{Mark}
 use Rattle.stateful_history.specs.declared.mark.Mark.TheVariants.{Withdrawn}
-use Rattle.stateful_exec_tables.specs.Boundary.{Boundary}
+use Rattle.stateful_exec_pause.specs.Boundary.{Boundary}
 use Rattle.stateful_exec_tables.specs.Fetching.{IsLiveFetch}
 use Rattle.stateful_exec_tables.specs.Pausing.{Pauses}
 use Rattle.stateful_exec_model.specs.Workings.{Workings, Point}

@@ -13,10 +13,10 @@ use Rattle.stateful_history.specs.Setting.{parent_of}
 use Rattle.stateful_exec_cache.specs.Cache.{IsIn, IsAtHand}
 use Rattle.stateful_exec_cache.specs.declared.cache.Cached.{Cached}
 use Rattle.stateful_exec_cache.proofs.Digests.{same, finds}
-use Rattle.stateful_exec_tables.specs.Boundary.{Boundary, step_by, IsRetained}
+use Rattle.stateful_exec_pause.specs.Boundary.{Boundary, step_by, IsRetained}
 use Rattle.stateful_exec_model.specs.Workings.{Workings, Point}
-use Rattle.stateful_exec_tables.specs.declared.pause.Pause.{Pause}
-use Rattle.stateful_exec_tables.specs.declared.pause.Pause.TheVariants.{Free, Finalizing, Pruning}
+use Rattle.stateful_exec_pause.specs.declared.pause.Pause.{Pause}
+use Rattle.stateful_exec_pause.specs.declared.pause.Pause.TheVariants.{Free, Finalizing, Pruning}
 use Rattle.stateful_exec_laws.specs.Setting.{setting}
 use Rattle.stateful_exec_laws.proofs.earned.Path.{IsFolded}
 use Rattle.stateful_exec_laws.proofs.earned.Closed.{cached-compatible}

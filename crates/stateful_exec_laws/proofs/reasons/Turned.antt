@@ -14,7 +14,8 @@ use Rattle.stateful_history.specs.declared.mark.How.{How}
 use Rattle.stateful_history.specs.declared.mark.Mark.{Mark}
 use Rattle.stateful_history.specs.declared.mark.Mark.TheVariants.{Ended}
 use Rattle.stateful_table.specs.Table.{at, put, without}
-use Rattle.stateful_exec_tables.specs.Fates.{released, Crosses}
+use Rattle.stateful_exec_pause.specs.Fates.{Crosses}
+use Rattle.stateful_exec_tables.specs.Tables.{released}
 use Rattle.stateful_exec_model.specs.Ending.{IsTold, EndsRun, TurnsRun, Turns, InTurn, Follows}
 use Rattle.stateful_exec_model.specs.Moments.{Moment, moment}
 use Rattle.stateful_exec_tables.specs.Phase.{is_on, released_on}

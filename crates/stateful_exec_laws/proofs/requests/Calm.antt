@@ -16,7 +16,7 @@ use Rattle.stateful_history.specs.Live.{live_job}
 use Rattle.stateful_history.specs.Jobs.{started_for, turns}
 use Rattle.stateful_exec_cache.specs.declared.cache.Cached.{Cached}
 use Rattle.stateful_exec_model.specs.Workings.{Workings, Point}
-use Rattle.stateful_exec_tables.specs.declared.pause.Pause.{Pause}
+use Rattle.stateful_exec_pause.specs.declared.pause.Pause.{Pause}
 use Rattle.stateful_exec_tables.specs.declared.tables.LiveRun.{LiveRun}
 use Rattle.stateful_exec_laws.specs.Setting.{setting}
 use Rattle.stateful_exec_laws.specs.Chains.{Stacked, here, further, Chain, Leads}

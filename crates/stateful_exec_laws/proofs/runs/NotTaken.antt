@@ -12,13 +12,13 @@ use Rattle.stateful_history.specs.declared.mark.How.TheVariants.{Missed}
 use Rattle.stateful_table.specs.Table.{at}
 use Rattle.stateful_exec_cache.specs.Cache.{IsAtHand}
 use Rattle.stateful_exec_cache.specs.declared.cache.Cached.{Cached}
-use Rattle.stateful_exec_tables.specs.Boundary.{step_by}
+use Rattle.stateful_exec_pause.specs.Boundary.{step_by}
 use Rattle.stateful_exec_model.specs.Built.{IsNamed, FaultsBuilt, memory, other, not_kept}
 use Rattle.stateful_exec_model.specs.Causes.{FaultsEnd}
 use Rattle.stateful_exec_tables.specs.Keeping.{step_in, ChangesPending, FaultsTake, missed}
 use Rattle.stateful_exec_tables.specs.Keeping.{Takes}
 use Rattle.stateful_exec_model.specs.Workings.{Workings, Point}
-use Rattle.stateful_exec_tables.specs.declared.boundary.ExecutionStep.{ExecutionStep}
+use Rattle.stateful_exec_pause.specs.declared.boundary.ExecutionStep.{ExecutionStep}
 use Rattle.stateful_exec_model.specs.declared.building.Building.{Building}
 use Rattle.stateful_exec_tables.specs.declared.error.ExecError.TheVariants.{PendingChanged, ProposalStale}
 use Rattle.stateful_exec_tables.specs.declared.state.Tables.{Tables}

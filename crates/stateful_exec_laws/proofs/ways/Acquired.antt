@@ -14,7 +14,7 @@ use Rattle.stateful_exec_model.specs.Rules.{Acquires, valid, invalid, asks, wait
 use Rattle.stateful_exec_tables.specs.Walk.{IsPrepared}
 use Rattle.stateful_exec_tables.specs.Walk as walk
 use Rattle.stateful_exec_model.specs.Workings.{Workings, Point}
-use Rattle.stateful_exec_tables.specs.declared.pause.Pause.TheVariants.{Free}
+use Rattle.stateful_exec_pause.specs.declared.pause.Pause.TheVariants.{Free}
 use Rattle.stateful_exec_tables.specs.declared.request.Request.{Request}
 use Rattle.stateful_exec_tables.specs.declared.request.Request.TheVariants.{Verify, Recover}
 use Rattle.stateful_exec_tables.specs.declared.request.Verdict.TheVariants as verdict

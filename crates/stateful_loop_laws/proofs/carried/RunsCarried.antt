@@ -16,7 +16,7 @@ use Rattle.stateful_exec_cache.specs.declared.cache.Cached.{Cached}
 use Rattle.stateful_table.specs.Table.{at, put, without}
 use Rattle.stateful_exec_model.specs.Built.{GivesUp, building, asking}
 use Rattle.stateful_exec_model.specs.Ending.{InTurn, none as in_none, next as in_next, Turns, TurnsRun, Settles, SettlesBy, Steps, Follows, given_up, at_boundary, failed, parked, goes_on}
-use Rattle.stateful_exec_tables.specs.Fates.{released}
+use Rattle.stateful_exec_tables.specs.Tables.{released}
 use Rattle.stateful_exec_tables.specs.Fetching.{Fetches, with_block}
 use Rattle.stateful_exec_model.specs.Fetching.{IsFetched, found, waits as awaits, declines, dead, serving}
 use Rattle.stateful_exec_tables.specs.Cancelling.{Cancels}

@@ -8,9 +8,9 @@ use Rattle.stateful_base.specs.declared.outcome.Moved.TheVariants.{Pending, Done
 use Rattle.stateful_db.specs.declared.application.AppFault.{AppFault}
 use Rattle.stateful_history.specs.declared.mark.How.{How}
 use Rattle.stateful_history.specs.declared.mark.Mark.{Mark}
-use Rattle.stateful_exec_tables.specs.Boundary.{Boundary, step_by, IsRetained}
+use Rattle.stateful_exec_pause.specs.Boundary.{Boundary, step_by, IsRetained}
 use Rattle.stateful_exec_model.specs.Ending.{InTurn, none, next, EndsRun, TurnsRun, Follows, given_up, at_boundary, failed, parked, goes_on, Settles, SettlesBy, Steps}
-use Rattle.stateful_exec_tables.specs.Fates.{Crosses}
+use Rattle.stateful_exec_pause.specs.Fates.{Crosses}
 use Rattle.stateful_exec_tables.specs.Cancelling.{Cancels}
 use Rattle.stateful_exec_tables.specs.Cancelling.{idle, withdraws, leaves, ends, unqueued}
 use Rattle.stateful_exec_model.specs.Finalizing.{RunsFinal}
@@ -24,8 +24,8 @@ use Rattle.stateful_exec_tables.specs.Tables.{ended, requested}
 use Rattle.stateful_exec_model.specs.Rules.{Concludes, Advances, Acquires}
 use Rattle.stateful_exec_model.specs.Workings.{Workings}
 use Rattle.stateful_exec_model.specs.declared.front.Front.{Front}
-use Rattle.stateful_exec_tables.specs.declared.pause.Pause.{Pause}
-use Rattle.stateful_exec_tables.specs.declared.pause.Pause.TheVariants.{Free, Finalizing, Pruning}
+use Rattle.stateful_exec_pause.specs.declared.pause.Pause.{Pause}
+use Rattle.stateful_exec_pause.specs.declared.pause.Pause.TheVariants.{Free, Finalizing, Pruning}
 use Rattle.stateful_exec_tables.specs.declared.request.Request.{Request}
 use Rattle.stateful_exec_tables.specs.declared.request.Request.TheVariants.{Verify, Recover}
 use Rattle.stateful_exec_tables.specs.declared.request.Verdict.{Verdict}

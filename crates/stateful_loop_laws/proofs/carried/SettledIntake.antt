@@ -9,7 +9,7 @@ use Rattle.stateful_history.specs.declared.event.Event.{Event}
 use Rattle.stateful_history.specs.declared.mark.Mark.{Mark}
 use Rattle.stateful_table.specs.Table.{without}
 use Rattle.stateful_exec_model.specs.Built.{TurnsBuild, other, goes_on, ends, EndsBuild, GivesUp, building, asking}
-use Rattle.stateful_exec_tables.specs.Fates.{Crosses}
+use Rattle.stateful_exec_pause.specs.Fates.{Crosses}
 use Rattle.stateful_exec_model.specs.Fetching.{IsFetched, found, waits as awaits, declines, dead, serving}
 use Rattle.stateful_exec_tables.specs.Cancelling.{Cancels}
 use Rattle.stateful_exec_tables.specs.Fetching.{with_block}
@@ -19,8 +19,8 @@ use Rattle.stateful_exec_model.specs.Finalizing.{candidate, finalized}
 use Rattle.stateful_exec_model.specs.Moments as exec
 use Rattle.stateful_exec_model.specs.Workings.{Workings}
 use Rattle.stateful_exec_model.specs.declared.building.Building.{Building}
-use Rattle.stateful_exec_tables.specs.declared.pause.Pause.{Pause}
-use Rattle.stateful_exec_tables.specs.declared.pause.Pause.TheVariants.{Free, Finalizing, Pruning}
+use Rattle.stateful_exec_pause.specs.declared.pause.Pause.{Pause}
+use Rattle.stateful_exec_pause.specs.declared.pause.Pause.TheVariants.{Free, Finalizing, Pruning}
 use Rattle.stateful_exec_tables.specs.declared.request.Verdict.TheVariants.{Invalid}
 use Rattle.stateful_exec_tables.specs.declared.state.Tables.{Tables}
 use Rattle.stateful_exec_tables.specs.declared.tables.Phase.TheVariants.{Open}

@@ -8,7 +8,7 @@ use Rattle.stateful_db.specs.declared.application.AppFault.{AppFault}
 use Rattle.stateful_history.specs.declared.mark.How.{How}
 use Rattle.stateful_table.specs.Table.{put}
 use Rattle.stateful_exec_model.specs.Ending.{InTurn, none as in_none, next as in_next, Settles, SettlesBy, Steps, Follows, given_up, at_boundary, failed, parked, goes_on}
-use Rattle.stateful_exec_tables.specs.Fates.{released}
+use Rattle.stateful_exec_tables.specs.Tables.{released}
 use Rattle.stateful_exec_model.specs.Fetching.{IsFetched, found, waits as awaits, declines, dead, serving}
 use Rattle.stateful_exec_tables.specs.Fetching.{with_block}
 use Rattle.stateful_exec_model.specs.Moments.{Moment, Becomes}

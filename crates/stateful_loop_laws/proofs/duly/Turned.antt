@@ -21,7 +21,7 @@ use Rattle.stateful_history.specs.declared.mark.Mark.TheVariants.{Ended, Built, 
 use Rattle.stateful_exec_cache.specs.declared.cache.Cached.{Cached}
 use Rattle.stateful_table.specs.Table.{put}
 use Rattle.stateful_exec_model.specs.Built.{decided, Gives, HasTurn, EndsBuild, TurnsBuild, other, goes_on, ends}
-use Rattle.stateful_exec_tables.specs.Fates.{released}
+use Rattle.stateful_exec_tables.specs.Tables.{released}
 use Rattle.stateful_exec_tables.specs.Keeping.{Takes}
 use Rattle.stateful_exec_model.specs.Ending.{IsTold, rejected, mismatched, agreed, EndsRun, TurnsRun, Settles, SettlesBy}
 use Rattle.stateful_exec_tables.specs.Keeping.{there, added, missed}

@@ -18,7 +18,7 @@ use Rattle.stateful_exec_model.specs.Workings.{Workings}
 use Rattle.stateful_exec_model.specs.declared.building.Building.{Building}
 use Rattle.stateful_exec_model.specs.declared.front.Front.{Front}
 use Rattle.stateful_exec_model.specs.declared.front.Stage.TheVariants.{Begun}
-use Rattle.stateful_exec_tables.specs.declared.pause.Pause.TheVariants.{Finalizing}
+use Rattle.stateful_exec_pause.specs.declared.pause.Pause.TheVariants.{Finalizing}
 use Rattle.stateful_exec_tables.specs.declared.state.Tables.{Tables}
 use Rattle.stateful_exec_tables.specs.declared.tables.Phase.TheVariants.{Fetching}
 use Rattle.stateful_exec_tables.specs.declared.tables.Requested.{Requested}

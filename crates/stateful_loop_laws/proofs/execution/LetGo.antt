@@ -16,8 +16,8 @@ use Rattle.stateful_exec_model.specs.Workings.{Workings, Point}
 use Rattle.stateful_exec_model.specs.declared.front.Front.{Front}
 use Rattle.stateful_exec_model.specs.declared.front.Stage.{Stage}
 use Rattle.stateful_exec_model.specs.declared.front.Stage.TheVariants.{Begun, Running, Ran, Advanced, Hooking}
-use Rattle.stateful_exec_tables.specs.declared.pause.Pause.{Pause}
-use Rattle.stateful_exec_tables.specs.declared.pause.Pause.TheVariants.{Free}
+use Rattle.stateful_exec_pause.specs.declared.pause.Pause.{Pause}
+use Rattle.stateful_exec_pause.specs.declared.pause.Pause.TheVariants.{Free}
 use Rattle.stateful_exec_tables.specs.declared.state.Tables.{Tables}
 use Rattle.stateful_exec_laws.specs.Ground.{IsFolded}
 use Rattle.stateful_exec_laws.specs.Setting.{setting}

@@ -16,7 +16,7 @@ use Rattle.stateful_history.proofs.Marks.{after-append}
 use Rattle.stateful_table.specs.Table.{at, put}
 use Rattle.stateful_table.proofs.Tables.{is_at_number, at-put, at-without}
 use Rattle.stateful_exec_model.specs.Ending.{InTurn, none as in_none, next as in_next, Settles, SettlesBy, Steps, TurnsRun, Follows, given_up, at_boundary, failed, parked, goes_on}
-use Rattle.stateful_exec_tables.specs.Fates.{released}
+use Rattle.stateful_exec_tables.specs.Tables.{released}
 use Rattle.stateful_exec_model.specs.Fetching.{IsFetched, found, waits as awaits, declines, dead, serving}
 use Rattle.stateful_exec_tables.specs.Fetching.{with_block}
 use Rattle.stateful_exec_model.specs.Moments.{Moment, Becomes}

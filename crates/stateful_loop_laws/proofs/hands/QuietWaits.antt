@@ -20,7 +20,8 @@ use Rattle.stateful_history.specs.Telling.{telling_of}
 use Rattle.stateful_history.specs.Waiting.{Waits, finalization, barrier, AllWait}
 use Rattle.stateful_table.specs.Table.{at}
 use Rattle.stateful_exec_model.specs.Finalizing.{front_at}
-use Rattle.stateful_exec_tables.specs.Pausing.{IsAwaited, IsCount, none as no_count}
+use Rattle.stateful_exec_pause.specs.Pausing.{IsAwaited}
+use Rattle.stateful_exec_tables.specs.Pausing.{IsCount, none as no_count}
 use Rattle.stateful_exec_model.specs.Workings.{Workings, Point}
 use Rattle.stateful_exec_model.specs.declared.building.Building.{Building}
 use Rattle.stateful_exec_model.specs.declared.front.Front.{Front}

@@ -20,7 +20,7 @@ use Rattle.stateful_exec_model.specs.Workings.{Workings}
 use Rattle.stateful_exec_model.specs.declared.building.Building.{Building}
 use Rattle.stateful_exec_model.specs.declared.front.Front.{Front}
 use Rattle.stateful_exec_model.specs.declared.front.Stage.TheVariants.{Begun}
-use Rattle.stateful_exec_tables.specs.declared.pause.Pause.{Pause}
+use Rattle.stateful_exec_pause.specs.declared.pause.Pause.{Pause}
 use Rattle.stateful_exec_tables.specs.declared.state.Tables.{Tables}
 use Rattle.stateful_exec_tables.specs.declared.request.Proposal.{Proposal}
 use Rattle.stateful_exec_tables.specs.declared.tables.Requested.{Requested}

@@ -13,7 +13,7 @@ use Rattle.stateful_history.specs.Runs.{MayRun, MayRunAgain}
 use Rattle.stateful_history.specs.declared.mark.How.{How}
 use Rattle.stateful_history.specs.declared.mark.Mark.{Mark}
 use Rattle.stateful_exec_cache.specs.Cache.{IsIn, IsAtHand}
-use Rattle.stateful_exec_tables.specs.Fates.{IsGivenUp, AwaitsBoundary}
+use Rattle.stateful_exec_pause.specs.Fates.{IsGivenUp, AwaitsBoundary}
 use Rattle.stateful_exec_model.specs.Ending.{Follows, given_up, at_boundary, failed, parked, goes_on}
 use Rattle.stateful_exec_model.specs.Moments.{Moment}
 use Rattle.stateful_exec_tables.specs.Path.{Path}
@@ -22,8 +22,8 @@ use Rattle.stateful_exec_tables.specs.Meeting.{Reaches}
 use Rattle.stateful_exec_model.specs.Rules.{Concludes, Advances, arrives, leaves, joins, starts, misses}
 use Rattle.stateful_exec_tables.specs.Tables.{RunsNone, Knows, told, requested}
 use Rattle.stateful_exec_model.specs.Workings.{Workings, Point}
-use Rattle.stateful_exec_tables.specs.declared.pause.Pause.{Pause}
-use Rattle.stateful_exec_tables.specs.declared.pause.Pause.TheVariants.{Free, Finalizing, Pruning}
+use Rattle.stateful_exec_pause.specs.declared.pause.Pause.{Pause}
+use Rattle.stateful_exec_pause.specs.declared.pause.Pause.TheVariants.{Free, Finalizing, Pruning}
 use Rattle.stateful_exec_tables.specs.declared.request.Request.{Request}
 use Rattle.stateful_exec_tables.specs.declared.request.Request.TheVariants.{Verify, Recover}
 use Rattle.stateful_exec_tables.specs.declared.request.Verdict.TheVariants as verdict

@@ -16,7 +16,7 @@ use Rattle.stateful_history.specs.declared.mark.JobKind.TheVariants.{Candidate}
 use Rattle.stateful_history.specs.declared.mark.Mark.{Mark}
 use Rattle.stateful_history.specs.declared.mark.Mark.TheVariants.{Ended}
 use Rattle.stateful_table.specs.Table.{at, put}
-use Rattle.stateful_exec_tables.specs.Fates.{released}
+use Rattle.stateful_exec_tables.specs.Tables.{released}
 use Rattle.stateful_exec_model.specs.Ending.{EndsRun, TurnsRun, Settles, InTurn, next, Follows}
 use Rattle.stateful_exec_model.specs.Moments as exec
 use Rattle.stateful_exec_tables.specs.Path.{Path}

@@ -8,7 +8,7 @@ use Rattle.stateful_base.specs.declared.digest.Digest.{Digest}
 use Rattle.stateful_base.specs.declared.round.Round.{Round}
 use Rattle.stateful_history.specs.Past.{Past}
 use Rattle.stateful_exec_model.specs.Workings.{Workings, Point}
-use Rattle.stateful_exec_tables.specs.declared.pause.Pause.TheVariants.{Finalizing}
+use Rattle.stateful_exec_pause.specs.declared.pause.Pause.TheVariants.{Finalizing}
 use Rattle.stateful_exec_tables.specs.declared.state.Tables.{Tables}
 use Rattle.stateful_exec_laws.specs.Ground.{IsGround}
 use Rattle.stateful_loop_laws.specs.Execution.{IsPausedFor}

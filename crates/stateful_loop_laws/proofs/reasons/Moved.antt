@@ -15,8 +15,8 @@ use Rattle.stateful_history.specs.declared.mark.How.{How}
 use Rattle.stateful_history.specs.declared.mark.How.TheVariants.{Missed}
 use Rattle.stateful_history.specs.declared.mark.Mark.{Mark}
 use Rattle.stateful_exec_cache.specs.Cache.{IsIn, IsAtHand}
-use Rattle.stateful_exec_tables.specs.Boundary.{Boundary, IsRetained, step_by}
-use Rattle.stateful_exec_tables.specs.Fates.{IsGivenUp}
+use Rattle.stateful_exec_pause.specs.Boundary.{Boundary, IsRetained, step_by}
+use Rattle.stateful_exec_pause.specs.Fates.{IsGivenUp}
 use Rattle.stateful_exec_model.specs.Ending.{Follows, given_up, at_boundary, failed, parked, goes_on}
 use Rattle.stateful_exec_model.specs.Moments.{Moment, moment}
 use Rattle.stateful_exec_tables.specs.Path.{Path}
@@ -25,8 +25,8 @@ use Rattle.stateful_exec_tables.specs.Meeting.{Reaches}
 use Rattle.stateful_exec_model.specs.Rules.{Concludes, Advances, arrives, leaves, joins, starts, misses}
 use Rattle.stateful_exec_tables.specs.Tables.{requested, ended, told}
 use Rattle.stateful_exec_model.specs.Workings.{Workings, Point}
-use Rattle.stateful_exec_tables.specs.declared.pause.Pause.{Pause}
-use Rattle.stateful_exec_tables.specs.declared.pause.Pause.TheVariants.{Free, Finalizing, Pruning}
+use Rattle.stateful_exec_pause.specs.declared.pause.Pause.{Pause}
+use Rattle.stateful_exec_pause.specs.declared.pause.Pause.TheVariants.{Free, Finalizing, Pruning}
 use Rattle.stateful_exec_tables.specs.declared.request.Verdict.TheVariants as verdict
 use Rattle.stateful_exec_tables.specs.declared.state.Tables.{Tables}
 use Rattle.stateful_exec_tables.specs.declared.tables.Released.{Released}

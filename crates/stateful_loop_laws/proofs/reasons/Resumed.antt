@@ -14,7 +14,7 @@ use Rattle.stateful_exec_model.specs.Pausing.{GoesAlong, unparked, Resumes}
 use Rattle.stateful_exec_tables.specs.Phase.{parked_in, unacquired_in}
 use Rattle.stateful_exec_tables.specs.Tables.{requested}
 use Rattle.stateful_exec_model.specs.Workings.{Workings, Point}
-use Rattle.stateful_exec_tables.specs.declared.pause.Pause.TheVariants.{Free}
+use Rattle.stateful_exec_pause.specs.declared.pause.Pause.TheVariants.{Free}
 use Rattle.stateful_exec_tables.specs.declared.tables.Released.{Released}
 use Rattle.stateful_exec_laws.specs.Setting.{setting}
 use Rattle.stateful_exec_laws.specs.Gathering.{GatheringsStand}

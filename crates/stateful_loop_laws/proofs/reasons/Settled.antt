@@ -13,12 +13,12 @@ use Rattle.stateful_history.specs.declared.mark.How.{How}
 use Rattle.stateful_history.specs.declared.mark.Mark.{Mark}
 use Rattle.stateful_history.specs.declared.mark.Mark.TheVariants.{Ended}
 use Rattle.stateful_table.specs.Table.{put}
-use Rattle.stateful_exec_tables.specs.Fates.{released}
+use Rattle.stateful_exec_tables.specs.Tables.{released}
 use Rattle.stateful_exec_model.specs.Ending.{EndsRun, TurnsRun, InTurn, Follows}
 use Rattle.stateful_exec_model.specs.Moments.{Moment}
 use Rattle.stateful_exec_tables.specs.Phase.{released_on}
 use Rattle.stateful_exec_model.specs.Workings.{Workings, Point}
-use Rattle.stateful_exec_tables.specs.declared.pause.Pause.TheVariants.{Free}
+use Rattle.stateful_exec_pause.specs.declared.pause.Pause.TheVariants.{Free}
 use Rattle.stateful_exec_tables.specs.declared.state.Tables.{Tables}
 use Rattle.stateful_exec_laws.specs.Standing.{TablesStand}
 use Rattle.stateful_exec_laws.specs.Ways.{WaysStand}

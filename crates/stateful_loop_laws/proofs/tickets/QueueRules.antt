@@ -9,7 +9,7 @@ use Rattle.stateful_base.specs.declared.outcome.Moved.TheVariants.{Pending, Done
 use Rattle.stateful_db.specs.declared.application.AppFault.{AppFault}
 use Rattle.stateful_history.specs.declared.mark.How.{How}
 use Rattle.stateful_table.specs.Table.{at, put}
-use Rattle.stateful_exec_tables.specs.Fates.{released}
+use Rattle.stateful_exec_tables.specs.Tables.{released}
 use Rattle.stateful_exec_model.specs.Ending.{TurnsRun, Follows, given_up, at_boundary, failed, parked, goes_on, Settles, SettlesBy, Steps}
 use Rattle.stateful_exec_tables.specs.Fetching.{Fetches, with_block}
 use Rattle.stateful_exec_model.specs.Fetching.{serving, IsFetched, found, waits as awaits, declines, dead}

@@ -15,7 +15,7 @@ use Rattle.stateful_exec_cache.specs.declared.judgement.Judgement.TheVariants as
 use Rattle.stateful_exec_tables.specs.Walk as walk
 use Rattle.stateful_exec_tables.specs.Walk.{IsNeeded, IsVerified, IsPrepared}
 use Rattle.stateful_exec_model.specs.Workings.{Workings, Point}
-use Rattle.stateful_exec_tables.specs.declared.pause.Pause.TheVariants.{Free}
+use Rattle.stateful_exec_pause.specs.declared.pause.Pause.TheVariants.{Free}
 use Rattle.stateful_exec_tables.specs.declared.request.Request.{Request}
 use Rattle.stateful_exec_tables.specs.declared.request.Request.TheVariants.{Verify, Recover}
 use Rattle.stateful_exec_tables.specs.declared.walk.Acquired.TheVariants as acquired

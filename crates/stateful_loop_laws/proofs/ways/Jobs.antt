@@ -23,7 +23,7 @@ use Rattle.stateful_exec_model.specs.Moments as exec
 use Rattle.stateful_exec_model.specs.Workings.{Workings}
 use Rattle.stateful_exec_model.specs.declared.building.Building.{Building}
 use Rattle.stateful_exec_model.specs.declared.front.Front.{Front}
-use Rattle.stateful_exec_tables.specs.declared.pause.Pause.TheVariants.{Free}
+use Rattle.stateful_exec_pause.specs.declared.pause.Pause.TheVariants.{Free}
 use Rattle.stateful_exec_laws.proofs.earned.Carried.{IsMild}
 use Rattle.stateful_loop_model.specs.Intake.{Counts, Builds, TurnsJob}
 use Rattle.stateful_loop_model.specs.Intake as intake

@@ -1,5 +1,5 @@
 use Rattle.std.proofs.Common.{ℕ, ◌<◌, ◌^◌, length}
-use Rattle.stateful_exec_tables.specs.Pausing.{IsAwaited}
+use Rattle.stateful_exec_pause.specs.Pausing.{IsAwaited}
 use Rattle.stateful_exec_tables.specs.declared.tables.LiveRun.{LiveRun}
 use Rattle.stateful_exec_tables.proofs.Pauses.{Counts}
 use Rattle.stateful_exec_tables.proofs.state.Tables.awaited.Given as goal

@@ -1,0 +1,22 @@
+use Rattle.std.proofs.Common.{◌≡◌, ◌≤◌, ℕ}
+use Rattle.stateful_exec_tables.specs.Tables.{Rises}
+use Rattle.stateful_exec_model.specs.Workings.{workings}
+use Rattle.stateful_exec_model.specs.Moments.{moment}
+use Rattle.stateful_exec_model.specs.Pausing.{AcquiresAnew}
+use Rattle.stateful_exec_model.proofs.Following.{Reached}
+use Rattle.stateful_exec_resumes.proofs.resuming.acquire_each.Given as goal
+
+abbrev pub invariant-loop-ticket : goal.invariant-loop-ticket
+invariant-loop-ticket g l =
+    let w = workings g.A.Block.Block.header g.A.Block.Block.context_of g.A.Context.Rounded.round_of g.A.Application.works g.A.Databases.DatabaseSet.kind g.A.Databases.DatabaseSet.shows in
+    record {
+      reached : Reached (AcquiresAnew w (g.S.BlockStore.stored l.store)) l.fn.unacquired.items
+          (moment w l.fn.tables (g.A.Databases.DatabaseSet.members l.fn.databases) (g.A.Databases.DatabaseSet.next l.fn.databases) l.fn.marks.items)
+          l.yielded l.ticket-iterator.rest.items
+          (moment w l.tables (g.A.Databases.DatabaseSet.members l.databases) (g.A.Databases.DatabaseSet.next l.databases) l.marks.items);
+      members : g.A.Databases.DatabaseSet.members l.databases ≡ g.A.Databases.DatabaseSet.members l.fn.databases;
+      numbers : Rises l.fn.tables l.tables;
+      counts : (n : ℕ) → g.A.Databases.DatabaseSet.counted l.databases n ≡ g.A.Databases.DatabaseSet.counted l.fn.databases n;
+      notes : g.A.Application.notes l.application ≡ g.A.Application.notes l.fn.application;
+      later : g.A.Faulty.count l.fn.application ≤ g.A.Faulty.count l.application;
+    }
