@@ -1,10 +1,14 @@
 //! The words of a line.
 
+ghost use Rattle.std.specs.Prelude.{◌≡◌, [], MatchOption, slice_get};
+
 /// The word of this number, from 0. An empty one where there are fewer.
 ///
 /// A shell matches on the first word, and takes the others by their numbers: patterns of whole
 /// lists of words take ten times as long to prove.
-pub fn word<'a>(words: &[&'a str], at: usize) -> &'a str {
+pub fn word<'a>(words: &[&'a str], at: usize) -> &'a str
+    ensures { MatchOption (slice_get words.now at) (result.now ≡ []) (λ word. result ≡ word) }
+{
     match words.get(at) {
         Some(word) => word,
         None => "",
