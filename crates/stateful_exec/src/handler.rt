@@ -5,7 +5,7 @@ ghost use Rattle.std.specs.Prelude.{IfSome, IfNone, IsErrOf};
 ghost use Rattle.stateful_base.specs.Causes.{Rose};
 ghost use Rattle.stateful_history.specs.declared.mark.Mark.{Mark as Marked};
 ghost use Rattle.stateful_exec_model.specs.Moments.{moment};
-ghost use Rattle.stateful_exec_tables.specs.Request.{ticket_by};
+ghost use Rattle.stateful_exec_walk.specs.Request.{ticket_by};
 ghost use Rattle.stateful_exec_tables.specs.Tables.{Rises};
 ghost use Rattle.stateful_exec_tables.specs.Tables.{requested};
 ghost use Rattle.stateful_exec_model.specs.Rules.{Acquires};
@@ -28,7 +28,8 @@ use stateful_exec_model::Worked;
 use stateful_exec_pause::{FinalizationBoundary, Pause};
 use stateful_exec_resumes::resume;
 use stateful_exec_runs::{Turned, acquire, fetched};
-use stateful_exec_tables::{ExecError, Request, Requested, Tables};
+use stateful_exec_tables::{ExecError, Requested, Tables};
+use stateful_exec_walk::Request;
 use stateful_history::Mark;
 use std::marker::PhantomData;
 

@@ -12,8 +12,8 @@ pub use stateful_exec_model::{BuildStart, Building, Front, Joined, Stage, Worked
 pub use stateful_exec_pause::{Disposition, ExecutionStep, FinalizationBoundary, Pause};
 pub use stateful_exec_runs::Turned;
 pub use stateful_exec_tables::{
-    Acquired, ExecError, LiveRun, Phase, Proposal, ProposalFault, Released, ReplayPath, Request,
-    Requested, Tables, Verdict,
+    ExecError, LiveRun, Phase, ProposalFault, Released, Requested, Tables,
 };
+pub use stateful_exec_walk::{Acquired, Proposal, ReplayPath, Request, Verdict};
 pub use stateful_history::{Entry, Mark};
 pub use verifying::Verifier;

@@ -32,7 +32,8 @@ use stateful_db::{Application, DatabaseSet};
 use stateful_exec_model::{Joined, Worked};
 use stateful_exec_pause::ExecutionStep;
 use stateful_exec_runs::{TablesOf, launch};
-use stateful_exec_tables::{Acquired, ExecError, Met, ReplayPath, Verdict, prepare};
+use stateful_exec_tables::{ExecError, Met};
+use stateful_exec_walk::{Acquired, ReplayPath, Verdict, prepare};
 use stateful_history::Mark;
 
 /// An application with its requests, whose paths are taken a block at a time.

@@ -27,7 +27,8 @@ use stateful_base::{Block, Digested, Share};
 use stateful_db::{AppFault, Application, DatabaseSet, Input, OpenBatch, ProposalKind};
 use stateful_exec_model::{BuildStart, Building, Worked};
 use stateful_exec_runs::{TablesOf, begin};
-use stateful_exec_tables::{ExecError, Proposal, Queued};
+use stateful_exec_tables::{ExecError, Queued};
+use stateful_exec_walk::Proposal;
 
 /// A build of an application.
 pub type BuildingOf<A> = Building<

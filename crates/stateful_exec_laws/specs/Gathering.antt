@@ -10,8 +10,8 @@ use Rattle.stateful_history.specs.Past.{Past}
 use Rattle.stateful_history.specs.Setting.{Setting, parent_of}
 use Rattle.stateful_history.specs.Honest.{Descends, IsHonest, IsAnswered}
 use Rattle.stateful_table.specs.Table.{at}
-use Rattle.stateful_exec_tables.specs.declared.request.Request.{Request}
-use Rattle.stateful_exec_tables.specs.declared.request.Request.TheVariants.{Verify, Recover}
+use Rattle.stateful_exec_walk.specs.declared.request.Request.{Request}
+use Rattle.stateful_exec_walk.specs.declared.request.Request.TheVariants.{Verify, Recover}
 use Rattle.stateful_exec_tables.specs.declared.tables.Phase.TheVariants.{Fetching}
 use Rattle.stateful_exec_tables.specs.declared.tables.Requested.{Requested}
 

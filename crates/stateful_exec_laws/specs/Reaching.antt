@@ -7,7 +7,7 @@ use Rattle.stateful_history.specs.Past.{Past}
 use Rattle.stateful_history.specs.Reasons.{Missing, IsCovered}
 use Rattle.stateful_history.specs.Setting.{parent_of}
 use Rattle.stateful_exec_model.specs.Workings.{Workings}
-use Rattle.stateful_exec_tables.specs.declared.request.Proposal.{Proposal}
+use Rattle.stateful_exec_walk.specs.declared.request.Proposal.{Proposal}
 use Rattle.stateful_exec_laws.specs.Setting.{setting}
 
 module _ {B C I P R D H G U : Type 0} (w : Workings B C I P R D H G U)

@@ -13,14 +13,14 @@ use Rattle.stateful_history.specs.Requests.{IsLiveVerification, IsLiveProposal}
 use Rattle.stateful_history.specs.Fetches.{Abstains}
 use Rattle.stateful_table.specs.Table.{at}
 use Rattle.stateful_exec_tables.specs.Fetching.{IsVerification}
-use Rattle.stateful_exec_tables.specs.Path.{Path, Descends}
+use Rattle.stateful_exec_walk.specs.Path.{Path, Descends}
 use Rattle.stateful_exec_tables.specs.Phase.{tickets_on}
-use Rattle.stateful_exec_tables.specs.Request.{ticket_by}
+use Rattle.stateful_exec_walk.specs.Request.{ticket_by}
 use Rattle.stateful_exec_tables.specs.Meeting.{first_or}
-use Rattle.stateful_exec_tables.specs.declared.request.Proposal.{Proposal}
+use Rattle.stateful_exec_walk.specs.declared.request.Proposal.{Proposal}
 use Rattle.stateful_exec_model.specs.Workings.{Workings}
-use Rattle.stateful_exec_tables.specs.declared.request.Request.{Request}
-use Rattle.stateful_exec_tables.specs.declared.request.Request.TheVariants.{Verify, Recover}
+use Rattle.stateful_exec_walk.specs.declared.request.Request.{Request}
+use Rattle.stateful_exec_walk.specs.declared.request.Request.TheVariants.{Verify, Recover}
 use Rattle.stateful_exec_tables.specs.declared.tables.LiveRun.{LiveRun}
 use Rattle.stateful_exec_tables.specs.declared.tables.Phase.{Phase}
 use Rattle.stateful_exec_tables.specs.declared.tables.Phase.TheVariants.{Open, Fetching, Waiting}

@@ -5,7 +5,7 @@ use Rattle.stateful_base.specs.Names.{Named}
 use Rattle.stateful_base.specs.declared.digest.Digest.{Digest}
 use Rattle.stateful_history.specs.declared.mark.Mark.{Mark}
 use Rattle.stateful_history.specs.declared.mark.Mark.TheVariants as mark
-use Rattle.stateful_exec_tables.specs.Path.{Path}
+use Rattle.stateful_exec_walk.specs.Path.{Path}
 use Rattle.stateful_exec_model.specs.Workings.{Workings}
 use Rattle.stateful_exec_model.specs.Moments.{Moment, moment}
 use Rattle.stateful_exec_tables.specs.Tables.{IsLeft}
@@ -17,7 +17,7 @@ use Rattle.stateful_exec_tables.specs.declared.error.ExecError.TheVariants.{OutO
 use Rattle.stateful_exec_tables.specs.declared.state.Tables.{Tables}
 use Rattle.stateful_exec_tables.specs.declared.tables.Phase.TheVariants.{Fetching}
 use Rattle.stateful_exec_tables.specs.declared.tables.Requested.{Requested}
-use Rattle.stateful_exec_tables.specs.declared.walk.Acquired.TheVariants.{Ask, Ready}
+use Rattle.stateful_exec_walk.specs.declared.walk.Acquired.TheVariants.{Ask, Ready}
 
 module _ {B C I P R D H G U : Type 0} (w : Workings B C I P R D H G U) (stored : ℕ → Option (Named B)) (members : w.kind.Members) (next : w.Ids) (old new : Tables B C I R U) (before after : List (Mark B)) (t : ℕ) (r : Requested B C I) (digest : Digest) where
   pub asked : Needs w stored (moment w old members next before) r (Ask digest) → IsLeft old.next_fetch

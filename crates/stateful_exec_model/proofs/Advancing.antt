@@ -6,7 +6,7 @@ use Rattle.stateful_base.specs.Names.{Named}
 use Rattle.stateful_history.specs.declared.mark.Mark.{Mark}
 use Rattle.stateful_history.specs.declared.mark.Mark.TheVariants as mark
 use Rattle.stateful_history.specs.declared.mark.JobKind.TheVariants as job
-use Rattle.stateful_exec_tables.specs.Path.{Path}
+use Rattle.stateful_exec_walk.specs.Path.{Path}
 use Rattle.stateful_exec_model.specs.Workings.{Workings}
 use Rattle.stateful_exec_model.specs.Moments.{Moment, moment, Becomes}
 use Rattle.stateful_exec_model.specs.Starting.{StartsRun}
@@ -15,8 +15,8 @@ use Rattle.stateful_exec_tables.specs.Meeting.{Skips, to_end, to_left, to_met}
 use Rattle.stateful_exec_model.specs.Rules.{Advances, arrives, leaves, joins, starts, misses}
 use Rattle.stateful_exec_model.specs.Causes.{FaultsStart, FaultsAdvance, starting}
 use Rattle.stateful_exec_tables.specs.declared.error.ExecError.{ExecError}
-use Rattle.stateful_exec_tables.specs.declared.request.Request.{Request}
-use Rattle.stateful_exec_tables.specs.declared.request.Verdict.TheVariants.{Valid, Invalid}
+use Rattle.stateful_exec_walk.specs.declared.request.Request.{Request}
+use Rattle.stateful_exec_walk.specs.declared.request.Verdict.TheVariants.{Valid, Invalid}
 use Rattle.stateful_exec_tables.specs.declared.state.Tables.{Tables}
 use Rattle.stateful_exec_tables.specs.declared.tables.Phase.TheVariants.{Executing}
 use Rattle.stateful_exec_tables.specs.declared.met.Met.{Met}

@@ -11,9 +11,9 @@ use Rattle.stateful_exec_model.specs.Causes.{FaultsAcquire}
 use Rattle.stateful_exec_tables.specs.Fetching.{IsVerification, Fetches, with_block}
 use Rattle.stateful_exec_model.specs.Fetching.{serving, IsFetched, found, waits, declines, FaultsFetched, acquiring}
 use Rattle.stateful_exec_tables.specs.declared.error.ExecError.{ExecError}
-use Rattle.stateful_exec_tables.specs.declared.request.Request.{Request}
-use Rattle.stateful_exec_tables.specs.declared.request.Request.TheVariants.{Verify, Recover}
-use Rattle.stateful_exec_tables.specs.declared.request.Verdict.TheVariants.{Invalid}
+use Rattle.stateful_exec_walk.specs.declared.request.Request.{Request}
+use Rattle.stateful_exec_walk.specs.declared.request.Request.TheVariants.{Verify, Recover}
+use Rattle.stateful_exec_walk.specs.declared.request.Verdict.TheVariants.{Invalid}
 use Rattle.stateful_exec_tables.specs.declared.state.Tables.{Tables}
 use Rattle.stateful_exec_tables.specs.declared.tables.Phase.TheVariants.{Waiting}
 use Rattle.stateful_exec_tables.specs.declared.tables.Requested.{Requested}

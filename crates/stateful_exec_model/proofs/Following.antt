@@ -5,7 +5,7 @@ use Rattle.std.proofs.lemmas.Result.{err_from_is_err_and}
 use Rattle.stateful_base.specs.Causes.{Rose}
 use Rattle.stateful_base.specs.Names.{Named}
 use Rattle.stateful_exec_model.specs.Workings.{Workings}
-use Rattle.stateful_exec_tables.specs.Path.{Path}
+use Rattle.stateful_exec_walk.specs.Path.{Path}
 use Rattle.stateful_exec_model.specs.Moments.{Moment}
 use Rattle.stateful_exec_tables.specs.Tables.{Rises}
 use Rattle.stateful_exec_model.specs.Ending.{InTurn, StopsAt}

@@ -6,7 +6,7 @@ use Rattle.stateful_base.specs.Names.{Named}
 use Rattle.stateful_history.specs.declared.mark.Mark.{Mark}
 use Rattle.stateful_history.specs.declared.mark.Mark.TheVariants as mark
 use Rattle.stateful_history.specs.declared.mark.JobKind.TheVariants as job
-use Rattle.stateful_exec_tables.specs.Path.{Path}
+use Rattle.stateful_exec_walk.specs.Path.{Path}
 use Rattle.stateful_exec_model.specs.Workings.{Workings}
 use Rattle.stateful_exec_model.specs.Moments.{Moment, moment, Becomes}
 use Rattle.stateful_exec_model.specs.Starting.{StartsRun}
@@ -18,8 +18,8 @@ use Rattle.stateful_exec_tables.specs.Stepping.{IsAbout}
 use Rattle.stateful_exec_model.specs.Verifying.{Processes, passes, joins_run, starts_run, ends, FaultsProcess, not_started}
 use Rattle.stateful_exec_tables.specs.declared.error.ExecError.{ExecError}
 use Rattle.stateful_exec_tables.specs.declared.error.ExecError.TheVariants.{OutOfMemory}
-use Rattle.stateful_exec_tables.specs.declared.request.Request.{Request}
-use Rattle.stateful_exec_tables.specs.declared.request.Verdict.TheVariants.{Invalid}
+use Rattle.stateful_exec_walk.specs.declared.request.Request.{Request}
+use Rattle.stateful_exec_walk.specs.declared.request.Verdict.TheVariants.{Invalid}
 use Rattle.stateful_exec_tables.specs.declared.state.Tables.{Tables}
 use Rattle.stateful_exec_tables.specs.declared.tables.Phase.TheVariants.{Executing, Parked}
 use Rattle.stateful_exec_tables.specs.declared.met.Met.TheVariants as met

@@ -13,7 +13,7 @@ use Rattle.stateful_exec_model.specs.declared.building.BuildStart.TheVariants.{S
 use Rattle.stateful_exec_tables.specs.declared.error.ExecError.{ExecError}
 use Rattle.stateful_exec_tables.specs.declared.error.ExecError.TheVariants.{OutOfMemory, Exhausted}
 use Rattle.stateful_exec_tables.specs.declared.queued.Queued.{Queued}
-use Rattle.stateful_exec_tables.specs.declared.request.Proposal.{Proposal}
+use Rattle.stateful_exec_walk.specs.declared.request.Proposal.{Proposal}
 use Rattle.stateful_exec_tables.specs.declared.state.Tables.{Tables}
 
 module _ {B C I P R D H G U : Type 0} (w : Workings B C I P R D H G U) (t : ℕ) (provider : P) (m : w.kind.Members) (next : w.Ids) (old new : Tables B C I R U) (before : Option (Building B C D)) where

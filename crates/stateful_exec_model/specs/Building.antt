@@ -11,7 +11,7 @@ use Rattle.stateful_exec_model.specs.declared.building.BuildStart.{BuildStart}
 use Rattle.stateful_exec_model.specs.declared.building.BuildStart.TheVariants.{Started, Declined}
 use Rattle.stateful_exec_tables.specs.declared.error.ExecError.{ExecError}
 use Rattle.stateful_exec_tables.specs.declared.error.ExecError.TheVariants.{OutOfMemory}
-use Rattle.stateful_exec_tables.specs.declared.request.Proposal.{Proposal}
+use Rattle.stateful_exec_walk.specs.declared.request.Proposal.{Proposal}
 use Rattle.stateful_exec_tables.specs.declared.state.Tables.{Tables}
 use Rattle.stateful_exec_tables.specs.Queueing.{unqueued, IsReady}
 

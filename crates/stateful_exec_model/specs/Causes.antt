@@ -8,7 +8,7 @@ use Rattle.stateful_db.specs.declared.application.AppFault.{AppFault}
 use Rattle.stateful_history.specs.declared.mark.How.{How}
 use Rattle.stateful_table.specs.Table.{at}
 use Rattle.stateful_exec_tables.specs.Errors.{error_of_app}
-use Rattle.stateful_exec_tables.specs.Path.{Path}
+use Rattle.stateful_exec_walk.specs.Path.{Path}
 use Rattle.stateful_exec_tables.specs.Phase.{released_on}
 use Rattle.stateful_exec_model.specs.Workings.{Workings}
 use Rattle.stateful_exec_model.specs.Moments.{Moment}
@@ -26,7 +26,7 @@ use Rattle.stateful_exec_tables.specs.declared.error.ExecError.TheVariants.{OutO
 use Rattle.stateful_exec_tables.specs.declared.state.Tables.{Tables}
 use Rattle.stateful_exec_tables.specs.declared.tables.Released.{Released}
 use Rattle.stateful_exec_tables.specs.declared.tables.Requested.{Requested}
-use Rattle.stateful_exec_tables.specs.declared.walk.Acquired.TheVariants as acquired
+use Rattle.stateful_exec_walk.specs.declared.walk.Acquired.TheVariants as acquired
 
 module _ {B C I P R D H G U : Type 0} (w : Workings B C I P R D H G U) where
   -- no batches were made: a database isn't here, or has no batch id left

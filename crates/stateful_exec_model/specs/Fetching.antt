@@ -8,7 +8,7 @@ use Rattle.stateful_exec_model.specs.Rules.{Concludes, Acquires}
 use Rattle.stateful_exec_model.specs.Causes.{FaultsAcquire}
 use Rattle.stateful_exec_tables.specs.declared.error.ExecError.{ExecError}
 use Rattle.stateful_exec_tables.specs.declared.error.ExecError.TheVariants.{OutOfMemory}
-use Rattle.stateful_exec_tables.specs.declared.request.Verdict.TheVariants.{Invalid}
+use Rattle.stateful_exec_walk.specs.declared.request.Verdict.TheVariants.{Invalid}
 use Rattle.stateful_exec_tables.specs.declared.tables.Phase.TheVariants.{Waiting}
 use Rattle.stateful_exec_tables.specs.declared.tables.Requested.{Requested}
 use Rattle.stateful_exec_tables.specs.Fetching.{IsVerification, Fetches, IsLiveFetch, with_block}

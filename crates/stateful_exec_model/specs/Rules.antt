@@ -4,20 +4,20 @@ use Rattle.stateful_base.specs.Names.{Named}
 use Rattle.stateful_base.specs.declared.digest.Digest.{Digest}
 use Rattle.stateful_history.specs.declared.mark.Mark.TheVariants as mark
 use Rattle.stateful_history.specs.declared.mark.JobKind.TheVariants as job
-use Rattle.stateful_exec_tables.specs.Path.{Path}
+use Rattle.stateful_exec_walk.specs.Path.{Path}
 use Rattle.stateful_exec_tables.specs.declared.state.Tables.{Tables}
-use Rattle.stateful_exec_tables.specs.Walk.{IsPrepared}
+use Rattle.stateful_exec_walk.specs.Walk.{IsPrepared}
 use Rattle.stateful_exec_model.specs.Workings.{Workings}
 use Rattle.stateful_exec_model.specs.Moments.{Moment, Becomes}
 use Rattle.stateful_exec_tables.specs.Tables.{IsLeft}
 use Rattle.stateful_exec_model.specs.Starting.{StartsRun}
-use Rattle.stateful_exec_tables.specs.declared.request.Verdict.{Verdict}
-use Rattle.stateful_exec_tables.specs.declared.request.Verdict.TheVariants.{Valid, Invalid}
+use Rattle.stateful_exec_walk.specs.declared.request.Verdict.{Verdict}
+use Rattle.stateful_exec_walk.specs.declared.request.Verdict.TheVariants.{Valid, Invalid}
 use Rattle.stateful_exec_tables.specs.declared.tables.Phase.TheVariants.{Fetching, Waiting}
 use Rattle.stateful_exec_tables.specs.declared.tables.Phase.TheVariants.{Executing}
 use Rattle.stateful_exec_tables.specs.declared.tables.Requested.{Requested}
-use Rattle.stateful_exec_tables.specs.declared.walk.Acquired.{Acquired}
-use Rattle.stateful_exec_tables.specs.declared.walk.Acquired.TheVariants as acquired
+use Rattle.stateful_exec_walk.specs.declared.walk.Acquired.{Acquired}
+use Rattle.stateful_exec_walk.specs.declared.walk.Acquired.TheVariants as acquired
 use Rattle.stateful_exec_tables.specs.Tables.{requested, told, moved, ended, Knows, HasRun, RunsNone}
 use Rattle.stateful_exec_tables.specs.Meeting.{GoesOn, IsPassed, Reaches}
 

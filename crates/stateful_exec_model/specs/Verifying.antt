@@ -10,8 +10,8 @@ use Rattle.stateful_exec_model.specs.Fetching.{serving}
 use Rattle.stateful_exec_model.specs.Causes.{FaultsStart}
 use Rattle.stateful_exec_tables.specs.declared.error.ExecError.{ExecError}
 use Rattle.stateful_exec_tables.specs.declared.error.ExecError.TheVariants.{OutOfMemory}
-use Rattle.stateful_exec_tables.specs.declared.request.Request.{Request}
-use Rattle.stateful_exec_tables.specs.declared.request.Verdict.TheVariants.{Invalid}
+use Rattle.stateful_exec_walk.specs.declared.request.Request.{Request}
+use Rattle.stateful_exec_walk.specs.declared.request.Verdict.TheVariants.{Invalid}
 use Rattle.stateful_exec_tables.specs.declared.tables.Phase.TheVariants.{Executing, Parked}
 use Rattle.stateful_exec_model.specs.declared.joined.Joined.{Joined}
 use Rattle.stateful_exec_model.specs.declared.joined.Joined.TheVariants.{Known, Run, Missed}

@@ -27,8 +27,9 @@ use stateful_base::{Digested, Moved};
 use stateful_db::{Application, Batch, DatabaseSet};
 use stateful_exec_model::Worked;
 use stateful_exec_pause::Fate;
-use stateful_exec_tables::{ExecError, Released, Verdict};
+use stateful_exec_tables::{ExecError, Released};
 use stateful_exec_turns::{TablesOf, Turned, end, turn};
+use stateful_exec_walk::Verdict;
 use stateful_history::{How, Mark};
 
 /// The requests of an application that have waited for a run.

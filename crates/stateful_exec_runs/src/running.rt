@@ -34,10 +34,9 @@ use stateful_base::{Anchor, Block, BlockStore, Digested, Finality};
 use stateful_db::{Application, Batch, DatabaseSet, OpenBatch};
 use stateful_exec_cache::Cache;
 use stateful_exec_model::Worked;
-use stateful_exec_tables::{
-    Acquired, ExecError, Met, Phase, ReplayPath, Request, Requested, Verdict, prepare,
-};
+use stateful_exec_tables::{ExecError, Met, Phase, Requested};
 use stateful_exec_turns::{TablesOf, pair};
+use stateful_exec_walk::{Acquired, ReplayPath, Request, Verdict, prepare};
 use stateful_history::{JobKind, Mark};
 
 /// Batches over the states of a known block.

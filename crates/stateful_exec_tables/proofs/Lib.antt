@@ -1,5 +1,4 @@
 pub mod Tests
-pub mod Walking
 pub mod Skipping
 pub mod Entries
 pub mod Cancelling

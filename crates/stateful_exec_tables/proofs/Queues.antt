@@ -8,7 +8,7 @@ use Rattle.stateful_exec_tables.specs.Tables.{Knows}
 use Rattle.stateful_exec_tables.specs.Queueing.{IsReady, Unqueues}
 use Rattle.stateful_exec_tables.specs.Queueing.Unqueues.{ready, declined}
 use Rattle.stateful_exec_tables.specs.declared.error.ExecError.{ExecError}
-use Rattle.stateful_exec_tables.specs.declared.request.Proposal.{Proposal}
+use Rattle.stateful_exec_walk.specs.declared.request.Proposal.{Proposal}
 use Rattle.stateful_exec_tables.specs.declared.state.Tables.{Tables}
 
 -- what holds of an error holds where it is handed on

@@ -10,7 +10,7 @@ use Rattle.std.proofs.lemmas.List.{append_assoc, append-nil, nil_from_length}
 use Rattle.std.proofs.lemmas.Map.Keys.{sorted_head, sorted_tail}
 use Rattle.stateful_table.specs.Table.{at, without}
 use Rattle.stateful_table.proofs.Tables.{is_at_number}
-use Rattle.stateful_exec_tables.specs.Path.{Path}
+use Rattle.stateful_exec_walk.specs.Path.{Path}
 use Rattle.stateful_exec_tables.specs.Phase.{is_on, tickets_on, path_on, released_on, not_on}
 use Rattle.stateful_exec_tables.specs.Tables.{taken}
 use Rattle.stateful_exec_tables.specs.declared.state.Tables.{Tables}

@@ -3,7 +3,7 @@ use Rattle.std.proofs.Common.{◌≡◌, ◌≢◌, ◌++◌, ◌∷◌, [], ◌
 use Rattle.std.proofs.lemmas.List.{append_assoc, append-nil, length-append}
 use Rattle.std.proofs.lemmas.List.Elements.{All-nil, All-cons}
 use Rattle.stateful_base.specs.Names.{Header, Named}
-use Rattle.stateful_exec_tables.specs.Path.{Path, IsLastOf}
+use Rattle.stateful_exec_walk.specs.Path.{Path, IsLastOf}
 use Rattle.stateful_exec_tables.specs.declared.state.Tables.{Tables}
 use Rattle.stateful_exec_tables.specs.Meeting.{IsPassed, HasPassed, Meets, MeetsOnKnown, Skips, to_end, to_left, to_met}
 use Rattle.stateful_exec_tables.specs.Tables.{Knows}

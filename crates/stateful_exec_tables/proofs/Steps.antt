@@ -3,11 +3,11 @@ use Rattle.std.proofs.Common.{◌≡◌, ◌≢◌, ◌++◌, ◌∷◌, [], ℕ
 use Rattle.stateful_base.specs.Names.{Header, Named}
 use Rattle.stateful_table.specs.Table.{at}
 use Rattle.stateful_exec_tables.specs.Cancelling.{IsIdle}
-use Rattle.stateful_exec_tables.specs.Path.{Path, IsLastOf}
+use Rattle.stateful_exec_walk.specs.Path.{Path, IsLastOf}
 use Rattle.stateful_exec_tables.specs.Tables.{Knows}
 use Rattle.stateful_exec_tables.specs.Meeting.{JoinsAs, MeetsOnKnown}
 use Rattle.stateful_exec_tables.specs.Stepping.{IsFree, IsParked, HasNext}
-use Rattle.stateful_exec_tables.specs.declared.request.Request.{Request}
+use Rattle.stateful_exec_walk.specs.declared.request.Request.{Request}
 use Rattle.stateful_exec_tables.specs.declared.state.Tables.{Tables}
 use Rattle.stateful_exec_tables.specs.declared.tables.Phase.TheVariants.{Parked}
 use Rattle.stateful_exec_tables.specs.declared.tables.Requested.{Requested}

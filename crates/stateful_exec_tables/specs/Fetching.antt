@@ -2,8 +2,8 @@
 use Rattle.std.specs.Prelude.{◌≡◌, ◌++◌, ◌∷◌, [], ℕ, Some, Any}
 use Rattle.stateful_base.specs.Names.{Named}
 use Rattle.stateful_table.specs.Table.{at}
-use Rattle.stateful_exec_tables.specs.declared.request.Request.{Request}
-use Rattle.stateful_exec_tables.specs.declared.request.Request.TheVariants.{Verify, Recover}
+use Rattle.stateful_exec_walk.specs.declared.request.Request.{Request}
+use Rattle.stateful_exec_walk.specs.declared.request.Request.TheVariants.{Verify, Recover}
 use Rattle.stateful_exec_tables.specs.declared.state.Tables.{Tables}
 use Rattle.stateful_exec_tables.specs.declared.tables.Phase.TheVariants.{Fetching}
 use Rattle.stateful_exec_tables.specs.declared.tables.Requested.{Requested}

@@ -1,8 +1,5 @@
 pub mod Errors
-pub mod Request
-pub mod Path
 pub mod Phase
-pub mod Walk
 pub mod Tables
 pub mod Meeting
 pub mod Keeping

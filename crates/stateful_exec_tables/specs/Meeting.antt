@@ -2,7 +2,7 @@
 use Rattle.std.specs.Prelude.{◌≡◌, ◌≢◌, ◌+◌, ◌++◌, ◌∷◌, [], List, All}
 use Rattle.stateful_base.specs.Names.{Header, Named}
 use Rattle.stateful_exec_pause.specs.Boundary.{step_by, IsRetained}
-use Rattle.stateful_exec_tables.specs.Path.{Path, IsLastOf}
+use Rattle.stateful_exec_walk.specs.Path.{Path, IsLastOf}
 use Rattle.stateful_exec_tables.specs.declared.state.Tables.{Tables}
 use Rattle.stateful_exec_pause.specs.declared.pause.Pause.{Pause}
 use Rattle.stateful_exec_pause.specs.declared.pause.Pause.TheVariants.{Finalizing}

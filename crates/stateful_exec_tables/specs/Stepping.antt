@@ -2,15 +2,15 @@
 use Rattle.std.specs.Prelude.{◌≡◌, ◌++◌, ◌∷◌, [], ℕ, Bool, true, false, Option, Some, None, List}
 use Rattle.stateful_base.specs.Names.{Header, Named}
 use Rattle.stateful_table.specs.Table.{at}
-use Rattle.stateful_exec_tables.specs.Path.{Path, IsLastOf}
-use Rattle.stateful_exec_tables.specs.Walk.{IsPrepared}
+use Rattle.stateful_exec_walk.specs.Path.{Path, IsLastOf}
+use Rattle.stateful_exec_walk.specs.Walk.{IsPrepared}
 use Rattle.stateful_exec_tables.specs.Tables.{requested, taken, moved}
 use Rattle.stateful_exec_tables.specs.Cancelling.{IsIdle}
-use Rattle.stateful_exec_tables.specs.declared.request.Request.{Request}
+use Rattle.stateful_exec_walk.specs.declared.request.Request.{Request}
 use Rattle.stateful_exec_tables.specs.declared.state.Tables.{Tables}
 use Rattle.stateful_exec_tables.specs.declared.tables.Phase.TheVariants.{Parked}
 use Rattle.stateful_exec_tables.specs.declared.tables.Requested.{Requested}
-use Rattle.stateful_exec_tables.specs.declared.walk.Acquired.{Acquired}
+use Rattle.stateful_exec_walk.specs.declared.walk.Acquired.{Acquired}
 
 module _ {B C I R U : Type 0} (v : Tables B C I R U) (t : ℕ) where
   -- the request of this ticket waits for no run and no fetch

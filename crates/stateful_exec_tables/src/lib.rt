@@ -5,24 +5,18 @@
 mod cutting;
 mod error;
 mod met;
-mod path;
 mod pausing;
 mod queued;
 mod queueing;
-mod request;
 mod serving;
 mod state;
 mod stepping;
 mod tables;
 mod tickets;
-mod walk;
 
 pub use error::{ExecError, ProposalFault};
 pub use met::Met;
-pub use path::ReplayPath;
 pub use queued::Queued;
-pub use request::{Proposal, Request, Verdict};
 pub use state::Tables;
 pub use tables::{LiveRun, Phase, Released, Requested};
 pub use tickets::Tickets;
-pub use walk::{Acquired, prepare};

@@ -21,12 +21,11 @@ ghost use Rattle.stateful_exec_tables.specs.Tables.{Rises};
 ghost use Rattle.stateful_exec_tables.specs.Pausing.{AwaitsRuns, AreFetches};
 ghost use Rattle.stateful_exec_tables.specs.Pausing.{Pauses};
 
-use crate::path::ReplayPath;
-use crate::request::Request;
 use crate::state::Tables;
 use crate::tables::{Phase, Released, Requested};
 use stateful_base::{Block, Digested, OutOfMemory};
 use stateful_exec_pause::{FinalizationBoundary, Pause};
+use stateful_exec_walk::{ReplayPath, Request};
 use stateful_history::Mark;
 use stateful_table::Table;
 use std::collections::BTreeSet;

@@ -1,7 +1,7 @@
 //! A proposal that has left the queue.
 
-use crate::request::Proposal;
 use stateful_base::Digested;
+use stateful_exec_walk::Proposal;
 
 /// A proposal that has left the queue, with its parent, which is known, and the job of its build.
 #[derive(Drop)]

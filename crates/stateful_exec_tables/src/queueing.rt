@@ -7,9 +7,9 @@ ghost use Rattle.stateful_exec_tables.specs.Tables.{IsLeft, Knows, Rises};
 
 use crate::error::ExecError;
 use crate::queued::Queued;
-use crate::request::Proposal;
 use crate::state::Tables;
 use stateful_base::{Block, Digested, Rounded, Share};
+use stateful_exec_walk::Proposal;
 use stateful_history::How;
 
 impl<B: Block + Drop, C: Copy, I: Drop, R: Drop, U: Drop> Tables<B, C, I, R, U> {

@@ -23,13 +23,13 @@ ghost use Rattle.stateful_exec_tables.specs.Tables.{Rises};
 ghost use Rattle.stateful_exec_tables.specs.Tables.{taken, moved, ended, told};
 ghost use Rattle.stateful_exec_tables.specs.Fetching.{IsVerification, Fetches, IsLiveFetch, with_block};
 ghost use Rattle.stateful_exec_tables.specs.Cancelling.{Cancels};
-ghost use Rattle.stateful_exec_tables.specs.declared.request.Verdict.TheVariants as verdict;
+ghost use Rattle.stateful_exec_walk.specs.declared.request.Verdict.TheVariants as verdict;
 ghost use Rattle.stateful_exec_tables.specs.declared.tables.Phase.TheVariants as phase;
 
-use crate::request::{Request, Verdict};
 use crate::state::Tables;
 use crate::tables::{Phase, Requested};
 use stateful_base::{Block, Digested, OutOfMemory};
+use stateful_exec_walk::{Request, Verdict};
 use stateful_history::{How, Mark};
 
 impl<B, C, I> Requested<B, C, I> {

@@ -22,13 +22,12 @@ ghost use Rattle.stateful_exec_tables.specs.declared.tables.Phase.TheVariants as
 
 use crate::error::ExecError;
 use crate::met::Met;
-use crate::path::ReplayPath;
-use crate::request::{Proposal, Request, Verdict};
 use crate::tables::{LiveRun, Phase, Released, Requested};
 use crate::tickets::Tickets;
 use stateful_base::{Anchor, Block, Digest, Digested, Items, OutOfMemory, Share};
 use stateful_exec_cache::{Cache, Cached, knows};
 use stateful_exec_pause::{Disposition, ExecutionStep, Fate, Pause};
+use stateful_exec_walk::{Proposal, ReplayPath, Request, Verdict};
 use stateful_history::{How, Mark};
 use stateful_table::Table;
 use std::alloc::Global;

@@ -6,19 +6,17 @@ ghost use Rattle.stateful_base.specs.Names.{Named};
 ghost use Rattle.stateful_exec_pause.specs.Boundary.{step_by};
 ghost use Rattle.stateful_exec_tables.specs.Cancelling.{IsIdle};
 ghost use Rattle.stateful_exec_tables.specs.Meeting.{JoinsAs, MeetsOnKnown};
-ghost use Rattle.stateful_exec_tables.specs.Path.{Path};
+ghost use Rattle.stateful_exec_walk.specs.Path.{Path};
 ghost use Rattle.stateful_exec_tables.specs.Stepping.{IsFree, IsParked, HasNext, SetsOut, Prepares};
 ghost use Rattle.stateful_exec_tables.specs.Tables.{taken, Rises};
-ghost use Rattle.stateful_exec_tables.specs.declared.request.Request.{Request as Req};
+ghost use Rattle.stateful_exec_walk.specs.declared.request.Request.{Request as Req};
 
 use crate::met::Met;
-use crate::path::ReplayPath;
-use crate::request::Request;
 use crate::state::Tables;
 use crate::tables::{Phase, Requested};
-use crate::walk::{Acquired, prepare};
 use stateful_base::{Block, BlockStore, Digested, OutOfMemory};
 use stateful_exec_pause::ExecutionStep;
+use stateful_exec_walk::{Acquired, ReplayPath, Request, prepare};
 
 impl<B> Phase<B> {
     /// Whether the request waits for no run and no fetch.

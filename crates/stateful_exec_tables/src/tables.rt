@@ -16,9 +16,8 @@ ghost use Rattle.std.specs.Prelude.{◌≡◌, ◌↔◌, ℕ, IsTrue, IfSome, I
 ghost use Rattle.stateful_exec_tables.specs.Phase.{is_on, is_unacquired};
 ghost use Rattle.stateful_exec_tables.specs.Tables.{requested};
 
-use crate::path::ReplayPath;
-use crate::request::Request;
 use stateful_base::{Digested, Items};
+use stateful_exec_walk::{ReplayPath, Request};
 use std::alloc::Global;
 
 /// A candidate run that goes on.

@@ -10,12 +10,12 @@ use Rattle.stateful_durability.specs.Durability.{Coverage, covered_by_barriers, 
 use Rattle.stateful_history.specs.declared.mark.Mark.{Mark}
 use Rattle.stateful_exec_model.specs.Finalizing.{front_at, HooksOn}
 use Rattle.stateful_exec_tables.specs.Phase.{dropped}
-use Rattle.stateful_exec_tables.specs.Request.{ticket_by}
+use Rattle.stateful_exec_walk.specs.Request.{ticket_by}
 use Rattle.stateful_exec_tables.specs.Tables.{requested}
 use Rattle.stateful_exec_model.specs.Workings.{Workings}
 use Rattle.stateful_exec_model.specs.declared.front.Front.{Front}
 use Rattle.stateful_exec_model.specs.declared.front.Stage.TheVariants.{Begun, Running, Ran, Advanced}
-use Rattle.stateful_exec_tables.specs.declared.request.Request.{Request}
+use Rattle.stateful_exec_walk.specs.declared.request.Request.{Request}
 use Rattle.stateful_exec_tables.specs.declared.state.Tables.{Tables}
 use Rattle.stateful_loop_model.proofs.FallingParts.{action_weight, reached_weight, front_weight, uncovered, uncovered_by, up_weight, uncovered_few, uncovered_two, covered_now, covered_still, weighs, weighs_captured}
 pub use Rattle.stateful_loop_model.proofs.FallingParts.{weight}

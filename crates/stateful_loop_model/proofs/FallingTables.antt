@@ -8,16 +8,16 @@ use Rattle.stateful_base.specs.Names.{Named}
 use Rattle.stateful_table.specs.Table.{put}
 use Rattle.stateful_exec_model.specs.Ending.{InTurn, none, next}
 use Rattle.stateful_exec_model.specs.Moments as exec
-use Rattle.stateful_exec_tables.specs.Path.{Path}
+use Rattle.stateful_exec_walk.specs.Path.{Path}
 use Rattle.stateful_exec_model.specs.Pausing.{GoesAlong, AcquiresAnew, unparked, unsettled, Resumes}
 use Rattle.stateful_exec_tables.specs.Phase.{parked_path, parked_from, parked_in, not_parked, is_unacquired, unacquired_in}
 use Rattle.stateful_exec_tables.specs.Tables.{ended, moved, requested}
 use Rattle.stateful_exec_model.specs.Rules.{Concludes, Advances, Acquires, arrives, leaves, joins, starts, misses, valid, invalid, asks, waits, runs}
 use Rattle.stateful_exec_model.specs.Workings.{Workings}
-use Rattle.stateful_exec_tables.specs.declared.request.Request.{Request}
-use Rattle.stateful_exec_tables.specs.declared.request.Request.TheVariants.{Verify, Recover}
-use Rattle.stateful_exec_tables.specs.declared.request.Verdict.{Verdict}
-use Rattle.stateful_exec_tables.specs.declared.request.Verdict.TheVariants.{Valid, Invalid}
+use Rattle.stateful_exec_walk.specs.declared.request.Request.{Request}
+use Rattle.stateful_exec_walk.specs.declared.request.Request.TheVariants.{Verify, Recover}
+use Rattle.stateful_exec_walk.specs.declared.request.Verdict.{Verdict}
+use Rattle.stateful_exec_walk.specs.declared.request.Verdict.TheVariants.{Valid, Invalid}
 use Rattle.stateful_exec_tables.specs.declared.state.Tables.{Tables}
 use Rattle.stateful_exec_tables.specs.declared.tables.Phase.{Phase}
 use Rattle.stateful_exec_tables.specs.declared.tables.Requested.{Requested}

@@ -4,7 +4,7 @@ use Rattle.stateful_base.specs.Names.{Named}
 use Rattle.stateful_exec_model.specs.Causes.{FaultsAcquire}
 use Rattle.stateful_exec_tables.specs.Tables.{requested}
 use Rattle.stateful_exec_model.specs.Workings.{Workings}
-use Rattle.stateful_exec_tables.specs.declared.request.Request.{Request}
+use Rattle.stateful_exec_walk.specs.declared.request.Request.{Request}
 use Rattle.stateful_loop_model.specs.Causes.{Via, FaultsMessage, FaultsRule}
 use Rattle.stateful_loop_model.specs.Causes.FaultsRule.{memory, scheduling, taking}
 use Rattle.stateful_loop_model.specs.Message.{is_verification}

@@ -2,11 +2,11 @@
 use Rattle.std.proofs.Common.{◌≡◌, ℕ, Option, refl, sym, subst}
 use Rattle.stateful_base.specs.Names.{Named}
 use Rattle.stateful_exec_model.specs.Moments as exec
-use Rattle.stateful_exec_tables.specs.Request.{ticket_by}
+use Rattle.stateful_exec_walk.specs.Request.{ticket_by}
 use Rattle.stateful_exec_tables.specs.Tables.{requested}
 use Rattle.stateful_exec_model.specs.Workings.{Workings}
 use Rattle.stateful_exec_model.specs.declared.front.Front.{Front}
-use Rattle.stateful_exec_tables.specs.declared.request.Request.{Request}
+use Rattle.stateful_exec_walk.specs.declared.request.Request.{Request}
 use Rattle.stateful_loop_model.proofs.SoundingFront.{turned_sound}
 use Rattle.stateful_loop_model.proofs.Staying.{Stays, Acquires-stays}
 use Rattle.stateful_loop_model.specs.Moments.{Moment, inner, with_inner}

@@ -10,14 +10,14 @@ use Rattle.stateful_exec_model.specs.Building.{Proposes}
 use Rattle.stateful_exec_model.specs.Building.Proposes.{starts, declines}
 use Rattle.stateful_exec_model.specs.Finalizing.{IsRedelivered}
 use Rattle.stateful_exec_model.specs.Moments as exec
-use Rattle.stateful_exec_tables.specs.Request.{ticket_by}
+use Rattle.stateful_exec_walk.specs.Request.{ticket_by}
 use Rattle.stateful_exec_tables.specs.Tables.{requested}
 use Rattle.stateful_exec_model.specs.Rules.{Acquires}
 use Rattle.stateful_exec_model.specs.Workings.{Workings}
 use Rattle.stateful_exec_model.specs.declared.building.Building.{Building}
 use Rattle.stateful_exec_model.specs.declared.building.BuildStart.{BuildStart}
 use Rattle.stateful_exec_model.specs.declared.building.BuildStart.TheVariants.{Started, Declined}
-use Rattle.stateful_exec_tables.specs.declared.request.Request.{Request}
+use Rattle.stateful_exec_walk.specs.declared.request.Request.{Request}
 use Rattle.stateful_loop_model.specs.Moments.{Executing, Moment, moment}
 use Rattle.stateful_loop_model.specs.Rules.{Schedules, Builds, DoesMessage}
 use Rattle.stateful_loop_model.specs.Rules.Builds.{starts as builds, declines as builds_none}

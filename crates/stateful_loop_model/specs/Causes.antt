@@ -16,7 +16,7 @@ use Rattle.stateful_exec_tables.specs.Tables.{IsLeft}
 use Rattle.stateful_exec_model.specs.Workings.{Workings}
 use Rattle.stateful_exec_tables.specs.declared.error.ExecError.{ExecError}
 use Rattle.stateful_exec_model.specs.declared.front.Stage.TheVariants.{Begun, Advanced}
-use Rattle.stateful_exec_tables.specs.declared.request.Request.{Request}
+use Rattle.stateful_exec_walk.specs.declared.request.Request.{Request}
 use Rattle.stateful_exec_cache.specs.Cache.{IsIn}
 use Rattle.stateful_loop_model.specs.Errors.{error_of_exec}
 use Rattle.stateful_loop_model.specs.Message.{is_verification}

@@ -19,7 +19,7 @@ use Rattle.stateful_exec_model.specs.Moments as exec
 use Rattle.stateful_exec_model.specs.Workings.{Workings}
 use Rattle.stateful_exec_model.specs.declared.building.Building.{Building}
 use Rattle.stateful_exec_model.specs.declared.front.Front.{Front}
-use Rattle.stateful_exec_tables.specs.declared.request.Request.TheVariants as request
+use Rattle.stateful_exec_walk.specs.declared.request.Request.TheVariants as request
 use Rattle.stateful_exec_tables.specs.declared.state.Tables.{Tables}
 use Rattle.stateful_loop_model.specs.Barriers.{awaiting, with_answer}
 use Rattle.stateful_loop_model.specs.Causes.{FaultsFlush, Via}

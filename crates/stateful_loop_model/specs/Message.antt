@@ -1,7 +1,7 @@
 -- What waits to be taken.
 use Rattle.std.specs.Prelude.{ℕ, ◌==◌, Bool, true, false}
-use Rattle.stateful_exec_tables.specs.Request.{ticket_by}
-use Rattle.stateful_exec_tables.specs.declared.request.Request.TheVariants.{Verify, Recover}
+use Rattle.stateful_exec_walk.specs.Request.{ticket_by}
+use Rattle.stateful_exec_walk.specs.declared.request.Request.TheVariants.{Verify, Recover}
 use Rattle.stateful_loop_model.specs.declared.message.Action.{Action}
 use Rattle.stateful_loop_model.specs.declared.message.Action.TheVariants as action
 use Rattle.stateful_loop_model.specs.declared.message.Message.{Message}

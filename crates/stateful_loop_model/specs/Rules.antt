@@ -12,7 +12,7 @@ use Rattle.stateful_history.specs.declared.mark.Mark.TheVariants as mark
 use Rattle.stateful_exec_cache.specs.Cache.{IsIn}
 use Rattle.stateful_exec_model.specs.Workings.{Workings, Point}
 use Rattle.stateful_exec_model.specs.Moments as exec
-use Rattle.stateful_exec_tables.specs.Request.{ticket_by}
+use Rattle.stateful_exec_walk.specs.Request.{ticket_by}
 use Rattle.stateful_exec_tables.specs.Tables.{requested}
 use Rattle.stateful_exec_model.specs.Rules.{Acquires}
 use Rattle.stateful_exec_tables.specs.Tables.{IsLeft}
@@ -25,7 +25,7 @@ use Rattle.stateful_exec_tables.specs.Pausing.{AwaitsRuns}
 use Rattle.stateful_exec_tables.specs.Pausing.{Pauses}
 use Rattle.stateful_exec_model.specs.Pausing.{Resumes}
 use Rattle.stateful_exec_model.specs.declared.front.Stage.TheVariants.{Begun, Ran, Advanced}
-use Rattle.stateful_exec_tables.specs.declared.request.Request.{Request}
+use Rattle.stateful_exec_walk.specs.declared.request.Request.{Request}
 use Rattle.stateful_loop_model.specs.Barriers.{broken, flushed}
 use Rattle.stateful_loop_model.specs.Message.{is_verification}
 use Rattle.stateful_loop_model.specs.Moments.{Moment, inner, with_inner, with_loop}

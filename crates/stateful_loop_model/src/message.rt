@@ -5,7 +5,7 @@ ghost use Rattle.stateful_loop_model.specs.Message.{asks_of, asks_for, is_verifi
 
 use crate::queue::Asks;
 use stateful_base::Digested;
-use stateful_exec_tables::Request;
+use stateful_exec_walk::Request;
 
 /// What came and waits, over blocks `B`, contexts `C` and inputs `I`.
 #[derive(Drop)]

@@ -12,7 +12,7 @@ use Rattle.stateful_exec_model.specs.Finalizing as final
 use Rattle.stateful_exec_model.specs.Fetching.{FaultsFetched}
 use Rattle.stateful_exec_model.specs.Fetching as fetching
 use Rattle.stateful_exec_model.specs.Moments as exec
-use Rattle.stateful_exec_tables.specs.Path.{Path}
+use Rattle.stateful_exec_walk.specs.Path.{Path}
 use Rattle.stateful_exec_model.specs.Pausing.{FaultsResume, GoesAlong, AcquiresAnew, unparked, unsettled}
 use Rattle.stateful_exec_model.specs.Pausing as pausing
 use Rattle.stateful_exec_tables.specs.Phase.{parked_in, unacquired_in}

@@ -12,7 +12,7 @@ use Rattle.stateful_history.specs.declared.mark.Mark.TheVariants.{Applied}
 use Rattle.stateful_exec_cache.specs.Cache.{IsAtHand}
 use Rattle.stateful_exec_model.specs.Ending.{TurnsRun}
 use Rattle.stateful_exec_model.specs.Workings.{Workings, Point}
-use Rattle.stateful_exec_tables.specs.declared.request.Proposal.{Proposal}
+use Rattle.stateful_exec_walk.specs.declared.request.Proposal.{Proposal}
 use Rattle.stateful_exec_tables.specs.declared.state.Tables.{Tables}
 use Rattle.stateful_exec_tables.specs.declared.tables.LiveRun.{LiveRun}
 use Rattle.stateful_exec_laws.specs.Setting.{setting}

@@ -23,7 +23,7 @@ use Rattle.stateful_exec_model.specs.Moments.{Moment, moment}
 use Rattle.stateful_exec_tables.specs.Phase.{released_on}
 use Rattle.stateful_exec_tables.specs.Tables.{requested}
 use Rattle.stateful_exec_model.specs.Workings.{Workings, Point}
-use Rattle.stateful_exec_tables.specs.declared.request.Proposal.{Proposal}
+use Rattle.stateful_exec_walk.specs.declared.request.Proposal.{Proposal}
 use Rattle.stateful_exec_tables.specs.declared.state.Tables.{Tables}
 use Rattle.stateful_exec_tables.specs.declared.tables.LiveRun.{LiveRun}
 use Rattle.stateful_exec_tables.specs.declared.tables.Released.{Released}

@@ -22,7 +22,7 @@ use Rattle.stateful_table.specs.Table.{at}
 use Rattle.stateful_exec_model.specs.Built.{HasTurn, EndsBuild, TurnsBuild, other, goes_on, ends, IsBuildFor, GivesUp, building, asking}
 use Rattle.stateful_exec_tables.specs.Cancelling.{Cancels}
 use Rattle.stateful_exec_model.specs.Moments.{Moment}
-use Rattle.stateful_exec_tables.specs.Path.{Path}
+use Rattle.stateful_exec_walk.specs.Path.{Path}
 use Rattle.stateful_exec_model.specs.Workings.{Workings, Point}
 use Rattle.stateful_exec_model.specs.declared.building.Building.{Building}
 use Rattle.stateful_exec_tables.specs.declared.state.Tables.{Tables}

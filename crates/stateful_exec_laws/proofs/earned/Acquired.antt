@@ -9,14 +9,14 @@ use Rattle.stateful_exec_cache.specs.Cache.{IsAtHand}
 use Rattle.stateful_exec_model.specs.Moments.{Moment}
 use Rattle.stateful_exec_model.specs.Rules.{Needs, Concludes, Acquires, valid, invalid, asks, waits, runs}
 use Rattle.stateful_exec_tables.specs.Tables.{requested}
-use Rattle.stateful_exec_tables.specs.Walk.{IsNeeded, child, IsVerified, IsPrepared}
-use Rattle.stateful_exec_tables.specs.Walk as walk
+use Rattle.stateful_exec_walk.specs.Walk.{IsNeeded, child, IsVerified, IsPrepared}
+use Rattle.stateful_exec_walk.specs.Walk as walk
 use Rattle.stateful_exec_model.specs.Workings.{Workings, Point}
-use Rattle.stateful_exec_tables.specs.declared.request.Request.{Request}
-use Rattle.stateful_exec_tables.specs.declared.request.Request.TheVariants.{Verify, Recover}
-use Rattle.stateful_exec_tables.specs.declared.request.Verdict.TheVariants as verdict
+use Rattle.stateful_exec_walk.specs.declared.request.Request.{Request}
+use Rattle.stateful_exec_walk.specs.declared.request.Request.TheVariants.{Verify, Recover}
+use Rattle.stateful_exec_walk.specs.declared.request.Verdict.TheVariants as verdict
 use Rattle.stateful_exec_tables.specs.declared.tables.Requested.{Requested}
-use Rattle.stateful_exec_tables.specs.declared.walk.Acquired.TheVariants as acquired
+use Rattle.stateful_exec_walk.specs.declared.walk.Acquired.TheVariants as acquired
 use Rattle.stateful_exec_laws.specs.Setting.{setting}
 use Rattle.stateful_exec_laws.specs.Requesting.{first_of, IsRequestOf}
 use Rattle.stateful_exec_laws.specs.Standing.{TablesStand, IsInHand}

@@ -13,13 +13,13 @@ use Rattle.stateful_exec_cache.specs.Cache.{IsAtHand}
 use Rattle.stateful_exec_cache.specs.declared.cache.Cached.{Cached}
 use Rattle.stateful_exec_model.specs.Ending.{InTurn, Follows}
 use Rattle.stateful_exec_model.specs.Moments.{Moment}
-use Rattle.stateful_exec_tables.specs.Path.{Path}
+use Rattle.stateful_exec_walk.specs.Path.{Path}
 use Rattle.stateful_exec_model.specs.Pausing.{GoesAlong}
 use Rattle.stateful_exec_tables.specs.Tables.{requested}
 use Rattle.stateful_exec_model.specs.Workings.{Workings, Point}
 use Rattle.stateful_exec_pause.specs.declared.pause.Pause.{Pause}
 use Rattle.stateful_exec_pause.specs.declared.pause.Pause.TheVariants.{Free}
-use Rattle.stateful_exec_tables.specs.declared.request.Request.{Request}
+use Rattle.stateful_exec_walk.specs.declared.request.Request.{Request}
 use Rattle.stateful_exec_tables.specs.declared.tables.Released.{Released}
 use Rattle.stateful_exec_laws.specs.Setting.{setting}
 use Rattle.stateful_exec_laws.specs.Requesting.{steps}

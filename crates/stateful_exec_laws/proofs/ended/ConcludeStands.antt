@@ -11,11 +11,11 @@ use Rattle.stateful_history.specs.declared.mark.Mark.TheVariants.{Verdict, Decli
 use Rattle.stateful_table.specs.Table.{at, put}
 use Rattle.stateful_exec_tables.specs.Tables.{told, ended}
 use Rattle.stateful_exec_model.specs.Workings.{Workings, Point}
-use Rattle.stateful_exec_tables.specs.declared.request.Proposal.{Proposal}
-use Rattle.stateful_exec_tables.specs.declared.request.Request.{Request}
-use Rattle.stateful_exec_tables.specs.declared.request.Request.TheVariants.{Verify, Recover}
-use Rattle.stateful_exec_tables.specs.declared.request.Verdict.TheVariants as verdict
-use Rattle.stateful_exec_tables.specs.declared.request.Verdict.{Verdict as Verdicts}
+use Rattle.stateful_exec_walk.specs.declared.request.Proposal.{Proposal}
+use Rattle.stateful_exec_walk.specs.declared.request.Request.{Request}
+use Rattle.stateful_exec_walk.specs.declared.request.Request.TheVariants.{Verify, Recover}
+use Rattle.stateful_exec_walk.specs.declared.request.Verdict.TheVariants as verdict
+use Rattle.stateful_exec_walk.specs.declared.request.Verdict.{Verdict as Verdicts}
 use Rattle.stateful_exec_tables.specs.declared.state.Tables.{Tables}
 use Rattle.stateful_exec_laws.specs.Setting.{setting}
 use Rattle.stateful_exec_laws.specs.Standing.{TablesStand, IsInHand}

@@ -12,7 +12,7 @@ use Rattle.stateful_history.specs.declared.mark.How.TheVariants.{Cancelled}
 use Rattle.stateful_history.specs.declared.mark.Mark.TheVariants.{Ended}
 use Rattle.stateful_exec_cache.specs.declared.cache.Cached.{Cached}
 use Rattle.stateful_table.specs.Table.{at, without}
-use Rattle.stateful_exec_tables.specs.Path.{Path}
+use Rattle.stateful_exec_walk.specs.Path.{Path}
 use Rattle.stateful_exec_tables.specs.Phase.{is_on, tickets_on}
 use Rattle.stateful_exec_tables.specs.Tables.{taken}
 use Rattle.stateful_exec_model.specs.Workings.{Workings, Point}

@@ -4,12 +4,12 @@ use Rattle.stateful_base.specs.Names.{Header, Named}
 use Rattle.stateful_base.specs.declared.anchor.Anchor.{Anchor}
 use Rattle.stateful_exec_cache.specs.Cache.{IsAtHand}
 use Rattle.stateful_exec_cache.specs.declared.cache.Cached.{Cached}
-use Rattle.stateful_exec_tables.specs.Path.{Path}
-use Rattle.stateful_exec_tables.specs.Walk.{IsNeeded, child, IsVerified, IsPrepared}
-use Rattle.stateful_exec_tables.specs.Walk as walk
-use Rattle.stateful_exec_tables.specs.declared.request.Request.{Request}
-use Rattle.stateful_exec_tables.specs.declared.request.Request.TheVariants.{Verify, Recover}
-use Rattle.stateful_exec_tables.specs.declared.walk.Acquired.TheVariants as acquired
+use Rattle.stateful_exec_walk.specs.Path.{Path}
+use Rattle.stateful_exec_walk.specs.Walk.{IsNeeded, child, IsVerified, IsPrepared}
+use Rattle.stateful_exec_walk.specs.Walk as walk
+use Rattle.stateful_exec_walk.specs.declared.request.Request.{Request}
+use Rattle.stateful_exec_walk.specs.declared.request.Request.TheVariants.{Verify, Recover}
+use Rattle.stateful_exec_walk.specs.declared.walk.Acquired.TheVariants as acquired
 
 module _ {B U : Type 0} (header : Header B) (anchor : Anchor) (cache : List (Cached U)) where
   needed-at_hand : {b : Named B} {chain : List (Named B)} {path : Path B} → IsNeeded header anchor cache b chain (acquired.Ready path) → IsAtHand anchor cache path.parent.digest

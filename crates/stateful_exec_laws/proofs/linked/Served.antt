@@ -16,13 +16,13 @@ use Rattle.stateful_exec_cache.specs.Cache.{IsIn, IsAtHand}
 use Rattle.stateful_exec_pause.specs.Fates.{IsGivenUp}
 use Rattle.stateful_exec_model.specs.Ending.{Follows, given_up, at_boundary, failed, parked, goes_on}
 use Rattle.stateful_exec_model.specs.Moments.{Moment}
-use Rattle.stateful_exec_tables.specs.Path.{Path}
+use Rattle.stateful_exec_walk.specs.Path.{Path}
 use Rattle.stateful_exec_tables.specs.Meeting.{IsPassed}
 use Rattle.stateful_exec_tables.specs.Tables.{requested}
 use Rattle.stateful_exec_model.specs.Rules.{Concludes, Advances, Acquires}
 use Rattle.stateful_exec_model.specs.Workings.{Workings, Point}
 use Rattle.stateful_exec_pause.specs.declared.pause.Pause.TheVariants.{Free}
-use Rattle.stateful_exec_tables.specs.declared.request.Verdict.TheVariants as verdict
+use Rattle.stateful_exec_walk.specs.declared.request.Verdict.TheVariants as verdict
 use Rattle.stateful_exec_tables.specs.declared.tables.Released.{Released}
 use Rattle.stateful_exec_tables.specs.declared.tables.Requested.{Requested}
 use Rattle.stateful_exec_laws.specs.Setting.{setting}

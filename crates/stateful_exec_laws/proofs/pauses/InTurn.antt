@@ -9,9 +9,9 @@ use Rattle.stateful_history.specs.Met.{Met, TrueNames}
 use Rattle.stateful_history.proofs.Marks.{after-append}
 use Rattle.stateful_exec_model.specs.Ending.{InTurn, none, next}
 use Rattle.stateful_exec_model.specs.Moments.{Moment}
-use Rattle.stateful_exec_tables.specs.Path.{Path}
+use Rattle.stateful_exec_walk.specs.Path.{Path}
 use Rattle.stateful_exec_model.specs.Workings.{Workings, Point}
-use Rattle.stateful_exec_tables.specs.declared.request.Request.{Request}
+use Rattle.stateful_exec_walk.specs.declared.request.Request.{Request}
 use Rattle.stateful_exec_laws.specs.Setting.{setting}
 use Rattle.stateful_exec_laws.specs.Requesting.{steps, IsWayOf}
 use Rattle.stateful_exec_laws.specs.Standing.{TablesStand, IsInHand, StandsBehind}

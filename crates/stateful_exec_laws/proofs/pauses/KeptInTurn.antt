@@ -15,7 +15,7 @@ use Rattle.stateful_exec_model.specs.Ending.{InTurn}
 use Rattle.stateful_exec_model.specs.Moments.{Moment}
 use Rattle.stateful_exec_model.specs.Workings.{Workings, Point}
 use Rattle.stateful_exec_pause.specs.declared.pause.Pause.{Pause}
-use Rattle.stateful_exec_tables.specs.declared.request.Request.{Request}
+use Rattle.stateful_exec_walk.specs.declared.request.Request.{Request}
 use Rattle.stateful_exec_laws.specs.Setting.{setting}
 use Rattle.stateful_exec_laws.specs.Standing.{IsInHand}
 use Rattle.stateful_exec_laws.proofs.earned.Carried.{IsMild}

@@ -24,13 +24,13 @@ use Rattle.stateful_exec_model.specs.Fetching.{serving, IsFetched, found, waits,
 use Rattle.stateful_exec_tables.specs.Cancelling.{Cancels}
 use Rattle.stateful_exec_tables.specs.Cancelling.{idle, withdraws, leaves, ends, unqueued}
 use Rattle.stateful_exec_model.specs.Moments.{Moment}
-use Rattle.stateful_exec_tables.specs.Path.{Path}
+use Rattle.stateful_exec_walk.specs.Path.{Path}
 use Rattle.stateful_exec_tables.specs.Pausing.{Pauses}
 use Rattle.stateful_exec_model.specs.Pausing.{GoesAlong, AcquiresAnew, unparked, unsettled, Resumes}
 use Rattle.stateful_exec_tables.specs.Phase.{is_on, released_on, parked_path, parked_in, is_unacquired, unacquired_in}
 use Rattle.stateful_exec_tables.specs.Tables.{taken, requested}
 use Rattle.stateful_exec_model.specs.Workings.{Workings}
-use Rattle.stateful_exec_tables.specs.declared.request.Verdict.TheVariants.{Invalid}
+use Rattle.stateful_exec_walk.specs.declared.request.Verdict.TheVariants.{Invalid}
 use Rattle.stateful_exec_tables.specs.declared.state.Tables.{Tables}
 use Rattle.stateful_exec_tables.specs.declared.tables.Phase.TheVariants.{Waiting, Executing}
 use Rattle.stateful_exec_tables.specs.declared.tables.Requested.{Requested}

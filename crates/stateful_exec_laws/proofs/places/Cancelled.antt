@@ -23,7 +23,7 @@ use Rattle.stateful_exec_model.specs.Ending.{IsTold, rejected, mismatched, agree
 use Rattle.stateful_exec_tables.specs.Keeping.{there, added, missed}
 use Rattle.stateful_exec_tables.specs.Cancelling.{Cancels}
 use Rattle.stateful_exec_tables.specs.Cancelling.{idle, withdraws, leaves, ends, unqueued}
-use Rattle.stateful_exec_tables.specs.Path.{Path}
+use Rattle.stateful_exec_walk.specs.Path.{Path}
 use Rattle.stateful_exec_model.specs.Workings.{Workings, Point}
 use Rattle.stateful_exec_tables.specs.declared.state.Tables.{Tables}
 use Rattle.stateful_exec_tables.specs.declared.tables.LiveRun.{LiveRun}

@@ -15,20 +15,20 @@ use Rattle.stateful_exec_cache.specs.Cache.{IsAtHand}
 use Rattle.stateful_exec_cache.specs.Judgement.{IsJudged}
 use Rattle.stateful_exec_cache.specs.declared.judgement.Judgement.TheVariants as judged
 use Rattle.stateful_exec_model.specs.Moments.{Moment}
-use Rattle.stateful_exec_tables.specs.Path.{Path}
+use Rattle.stateful_exec_walk.specs.Path.{Path}
 use Rattle.stateful_exec_tables.specs.Meeting.{IsPassed, GoesOn, first_or}
 use Rattle.stateful_exec_tables.specs.Tables.{Knows, requested}
 use Rattle.stateful_exec_tables.specs.Meeting.{Reaches}
 use Rattle.stateful_exec_model.specs.Rules.{Advances, arrives, leaves, joins, starts, misses, Acquires, valid, invalid, asks, waits, runs}
-use Rattle.stateful_exec_tables.specs.Walk.{IsNeeded, IsVerified, IsPrepared}
-use Rattle.stateful_exec_tables.specs.Walk as walk
+use Rattle.stateful_exec_walk.specs.Walk.{IsNeeded, IsVerified, IsPrepared}
+use Rattle.stateful_exec_walk.specs.Walk as walk
 use Rattle.stateful_exec_model.specs.Workings.{Workings, Point}
 use Rattle.stateful_exec_pause.specs.declared.pause.Pause.{Pause}
 use Rattle.stateful_exec_pause.specs.declared.pause.Pause.TheVariants.{Free}
-use Rattle.stateful_exec_tables.specs.declared.request.Request.{Request}
-use Rattle.stateful_exec_tables.specs.declared.request.Request.TheVariants.{Verify, Recover}
+use Rattle.stateful_exec_walk.specs.declared.request.Request.{Request}
+use Rattle.stateful_exec_walk.specs.declared.request.Request.TheVariants.{Verify, Recover}
 use Rattle.stateful_exec_tables.specs.declared.tables.Requested.{Requested}
-use Rattle.stateful_exec_tables.specs.declared.walk.Acquired.TheVariants as acquired
+use Rattle.stateful_exec_walk.specs.declared.walk.Acquired.TheVariants as acquired
 use Rattle.stateful_exec_laws.specs.Setting.{setting}
 use Rattle.stateful_exec_laws.specs.Gathering.{gathered, AreLinked}
 use Rattle.stateful_exec_laws.specs.Requesting.{brought_by}

@@ -19,10 +19,10 @@ use Rattle.stateful_exec_cache.specs.Cache.{IsIn, IsAtHand}
 use Rattle.stateful_exec_cache.specs.Judgement.{IsJudged}
 use Rattle.stateful_exec_cache.specs.declared.cache.Cached.{Cached}
 use Rattle.stateful_exec_cache.specs.declared.judgement.Judgement.TheVariants as judged
-use Rattle.stateful_exec_tables.specs.Path.{IsMissing, Leads}
-use Rattle.stateful_exec_tables.specs.Walk.{Walks}
+use Rattle.stateful_exec_walk.specs.Path.{IsMissing, Leads}
+use Rattle.stateful_exec_walk.specs.Walk.{Walks}
 use Rattle.stateful_exec_model.specs.Workings.{Workings, Point}
-use Rattle.stateful_exec_tables.specs.declared.walk.Acquired.TheVariants as acquired
+use Rattle.stateful_exec_walk.specs.declared.walk.Acquired.TheVariants as acquired
 use Rattle.stateful_exec_laws.specs.Setting.{setting}
 use Rattle.stateful_exec_laws.specs.Gathering.{AreLinked}
 use Rattle.stateful_exec_laws.proofs.requests.Acquired.{leads_down, first_walked}

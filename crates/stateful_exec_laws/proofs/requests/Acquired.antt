@@ -12,19 +12,19 @@ use Rattle.stateful_history.specs.Fetches.{Abstains}
 use Rattle.stateful_history.specs.declared.mark.Mark.TheVariants.{Asked}
 use Rattle.stateful_exec_tables.specs.Fetching.{IsVerification}
 use Rattle.stateful_exec_model.specs.Moments.{Moment, Becomes}
-use Rattle.stateful_exec_tables.specs.Path.{Path, Descends}
+use Rattle.stateful_exec_walk.specs.Path.{Path, Descends}
 use Rattle.stateful_exec_tables.specs.Tables.{moved, requested}
 use Rattle.stateful_exec_tables.specs.Meeting.{first_or}
 use Rattle.stateful_exec_model.specs.Rules.{Needs, Acquires, valid, invalid, asks, waits, runs}
-use Rattle.stateful_exec_tables.specs.Walk.{Walks, IsPrepared}
-use Rattle.stateful_exec_tables.specs.Walk as walk
+use Rattle.stateful_exec_walk.specs.Walk.{Walks, IsPrepared}
+use Rattle.stateful_exec_walk.specs.Walk as walk
 use Rattle.stateful_exec_model.specs.Workings.{Workings, Point}
-use Rattle.stateful_exec_tables.specs.declared.request.Request.{Request}
-use Rattle.stateful_exec_tables.specs.declared.request.Request.TheVariants.{Verify, Recover}
-use Rattle.stateful_exec_tables.specs.declared.request.Verdict.TheVariants as verdict
+use Rattle.stateful_exec_walk.specs.declared.request.Request.{Request}
+use Rattle.stateful_exec_walk.specs.declared.request.Request.TheVariants.{Verify, Recover}
+use Rattle.stateful_exec_walk.specs.declared.request.Verdict.TheVariants as verdict
 use Rattle.stateful_exec_tables.specs.declared.tables.Phase.TheVariants.{Fetching, Waiting}
 use Rattle.stateful_exec_tables.specs.declared.tables.Requested.{Requested}
-use Rattle.stateful_exec_tables.specs.declared.walk.Acquired.TheVariants as acquired
+use Rattle.stateful_exec_walk.specs.declared.walk.Acquired.TheVariants as acquired
 use Rattle.stateful_exec_laws.specs.Setting.{setting}
 use Rattle.stateful_exec_laws.specs.Requesting.{first_of, brought_by, LeadsDown, IsWayOf}
 use Rattle.stateful_exec_laws.specs.Standing.{TablesStand, IsInHand, StandsBehind}

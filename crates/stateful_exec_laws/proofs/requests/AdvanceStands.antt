@@ -6,11 +6,11 @@ use Rattle.stateful_base.specs.Names.{Header, Named}
 use Rattle.stateful_history.specs.Setting.{parent_of}
 use Rattle.stateful_history.specs.Past.{Past}
 use Rattle.stateful_history.specs.Met.{Met}
-use Rattle.stateful_exec_tables.specs.Path.{Path, Descends}
+use Rattle.stateful_exec_walk.specs.Path.{Path, Descends}
 use Rattle.stateful_exec_tables.specs.Meeting.{first_or}
 use Rattle.stateful_exec_tables.specs.Meeting.{Reaches}
 use Rattle.stateful_exec_model.specs.Workings.{Workings}
-use Rattle.stateful_exec_tables.specs.declared.request.Request.{Request}
+use Rattle.stateful_exec_walk.specs.declared.request.Request.{Request}
 use Rattle.stateful_exec_tables.specs.declared.state.Tables.{Tables}
 use Rattle.stateful_exec_laws.specs.Setting.{setting}
 use Rattle.stateful_exec_laws.specs.Requesting.{steps, LeadsDown, IsWayOf}

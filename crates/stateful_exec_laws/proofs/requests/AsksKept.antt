@@ -12,20 +12,20 @@ use Rattle.stateful_history.specs.declared.mark.Mark.TheVariants.{Asked}
 use Rattle.stateful_table.specs.Table.{at, put}
 use Rattle.stateful_exec_model.specs.Ending.{Follows, given_up, at_boundary, failed, parked, goes_on}
 use Rattle.stateful_exec_model.specs.Moments.{Moment}
-use Rattle.stateful_exec_tables.specs.Path.{Path}
+use Rattle.stateful_exec_walk.specs.Path.{Path}
 use Rattle.stateful_exec_tables.specs.Tables.{told, ended, requested}
 use Rattle.stateful_exec_model.specs.Rules.{Needs, Concludes, Advances, arrives, leaves, joins, starts, misses, Acquires, valid, invalid, asks, waits, runs}
 use Rattle.stateful_exec_model.specs.Workings.{Workings}
-use Rattle.stateful_exec_tables.specs.declared.request.Request.{Request}
-use Rattle.stateful_exec_tables.specs.declared.request.Request.TheVariants.{Verify, Recover}
-use Rattle.stateful_exec_tables.specs.declared.request.Verdict as said
-use Rattle.stateful_exec_tables.specs.declared.request.Verdict.TheVariants as verdict
+use Rattle.stateful_exec_walk.specs.declared.request.Request.{Request}
+use Rattle.stateful_exec_walk.specs.declared.request.Request.TheVariants.{Verify, Recover}
+use Rattle.stateful_exec_walk.specs.declared.request.Verdict as said
+use Rattle.stateful_exec_walk.specs.declared.request.Verdict.TheVariants as verdict
 use Rattle.stateful_exec_tables.specs.declared.state.Tables.{Tables}
 use Rattle.stateful_exec_tables.specs.declared.tables.Phase.{Phase}
 use Rattle.stateful_exec_tables.specs.declared.tables.Phase.TheVariants.{Fetching, Waiting, Executing, Parked}
 use Rattle.stateful_exec_tables.specs.declared.tables.Released.{Released}
 use Rattle.stateful_exec_tables.specs.declared.tables.Requested.{Requested}
-use Rattle.stateful_exec_tables.specs.declared.walk.Acquired.TheVariants as acquired
+use Rattle.stateful_exec_walk.specs.declared.walk.Acquired.TheVariants as acquired
 use Rattle.stateful_exec_laws.specs.Setting.{setting}
 use Rattle.stateful_exec_laws.specs.Gathering.{gathered, AsksParents, AsksAlong, AsksForThese}
 use Rattle.stateful_exec_laws.proofs.requests.Putting.{All-put, put_here, put_other}

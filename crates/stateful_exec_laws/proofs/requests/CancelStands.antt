@@ -17,7 +17,7 @@ use Rattle.stateful_exec_tables.specs.Cancelling.{idle, withdraws, leaves, ends,
 use Rattle.stateful_exec_tables.specs.Phase.{is_on, tickets_on}
 use Rattle.stateful_exec_tables.specs.Tables.{taken}
 use Rattle.stateful_exec_model.specs.Workings.{Workings, Point}
-use Rattle.stateful_exec_tables.specs.declared.request.Proposal.{Proposal}
+use Rattle.stateful_exec_walk.specs.declared.request.Proposal.{Proposal}
 use Rattle.stateful_exec_tables.specs.declared.state.Tables.{Tables}
 use Rattle.stateful_exec_tables.specs.declared.tables.Phase.TheVariants.{Fetching, Executing}
 use Rattle.stateful_exec_tables.specs.declared.tables.Requested.{Requested}

@@ -19,11 +19,11 @@ use Rattle.stateful_exec_tables.specs.Phase.{is_on}
 use Rattle.stateful_exec_tables.specs.Tables.{taken}
 use Rattle.stateful_exec_model.specs.Rules.{Needs}
 use Rattle.stateful_exec_model.specs.Workings.{Workings, Point}
-use Rattle.stateful_exec_tables.specs.declared.request.Verdict.TheVariants.{Invalid}
+use Rattle.stateful_exec_walk.specs.declared.request.Verdict.TheVariants.{Invalid}
 use Rattle.stateful_exec_tables.specs.declared.state.Tables.{Tables}
 use Rattle.stateful_exec_tables.specs.declared.tables.Phase.TheVariants.{Fetching, Waiting}
 use Rattle.stateful_exec_tables.specs.declared.tables.Requested.{Requested}
-use Rattle.stateful_exec_tables.specs.declared.walk.Acquired.TheVariants.{Waits}
+use Rattle.stateful_exec_walk.specs.declared.walk.Acquired.TheVariants.{Waits}
 use Rattle.stateful_exec_laws.specs.Setting.{setting}
 use Rattle.stateful_exec_laws.specs.Requesting.{first_of, IsStanding, QueueStands}
 use Rattle.stateful_exec_laws.specs.Standing.{TablesStand, IsInHand, StandsBehind}

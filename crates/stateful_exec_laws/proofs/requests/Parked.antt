@@ -12,7 +12,7 @@ use Rattle.stateful_base.specs.Names.{Named}
 use Rattle.stateful_base.specs.declared.digest.Digest.{Digest}
 use Rattle.stateful_history.specs.Past.{Past}
 use Rattle.stateful_table.specs.Table.{at}
-use Rattle.stateful_exec_tables.specs.Path.{Path}
+use Rattle.stateful_exec_walk.specs.Path.{Path}
 use Rattle.stateful_exec_tables.specs.Phase.{is_on, tickets_on, parked_path, parked_in}
 use Rattle.stateful_exec_model.specs.Workings.{Workings, Point}
 use Rattle.stateful_exec_tables.specs.declared.state.Tables.{Tables}

@@ -11,7 +11,7 @@ use Rattle.stateful_history.specs.declared.mark.JobKind.TheVariants.{Candidate}
 use Rattle.stateful_history.specs.declared.mark.Mark.TheVariants.{Started}
 use Rattle.stateful_exec_cache.specs.Cache.{IsAtHand}
 use Rattle.stateful_table.specs.Table.{at, put}
-use Rattle.stateful_exec_tables.specs.Path.{Path}
+use Rattle.stateful_exec_walk.specs.Path.{Path}
 use Rattle.stateful_exec_tables.specs.Phase.{tickets_on}
 use Rattle.stateful_exec_tables.specs.Tables.{moved}
 use Rattle.stateful_exec_model.specs.Starting.{StartsRun}

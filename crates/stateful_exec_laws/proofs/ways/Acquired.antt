@@ -7,20 +7,20 @@ use Rattle.stateful_base.specs.declared.digest.Digest.{Digest}
 use Rattle.stateful_history.specs.Met.{Met}
 use Rattle.stateful_history.specs.Past.{Past}
 use Rattle.stateful_exec_model.specs.Moments.{Moment}
-use Rattle.stateful_exec_tables.specs.Path.{Path, IsMissing}
+use Rattle.stateful_exec_walk.specs.Path.{Path, IsMissing}
 use Rattle.stateful_exec_tables.specs.Meeting.{first_or}
 use Rattle.stateful_exec_tables.specs.Tables.{requested}
 use Rattle.stateful_exec_model.specs.Rules.{Acquires, valid, invalid, asks, waits, runs}
-use Rattle.stateful_exec_tables.specs.Walk.{IsPrepared}
-use Rattle.stateful_exec_tables.specs.Walk as walk
+use Rattle.stateful_exec_walk.specs.Walk.{IsPrepared}
+use Rattle.stateful_exec_walk.specs.Walk as walk
 use Rattle.stateful_exec_model.specs.Workings.{Workings, Point}
 use Rattle.stateful_exec_pause.specs.declared.pause.Pause.TheVariants.{Free}
-use Rattle.stateful_exec_tables.specs.declared.request.Request.{Request}
-use Rattle.stateful_exec_tables.specs.declared.request.Request.TheVariants.{Verify, Recover}
-use Rattle.stateful_exec_tables.specs.declared.request.Verdict.TheVariants as verdict
+use Rattle.stateful_exec_walk.specs.declared.request.Request.{Request}
+use Rattle.stateful_exec_walk.specs.declared.request.Request.TheVariants.{Verify, Recover}
+use Rattle.stateful_exec_walk.specs.declared.request.Verdict.TheVariants as verdict
 use Rattle.stateful_exec_tables.specs.declared.tables.Phase.TheVariants.{Fetching, Waiting}
 use Rattle.stateful_exec_tables.specs.declared.tables.Requested.{Requested}
-use Rattle.stateful_exec_tables.specs.declared.walk.Acquired.TheVariants as acquired
+use Rattle.stateful_exec_walk.specs.declared.walk.Acquired.TheVariants as acquired
 use Rattle.stateful_exec_laws.specs.Setting.{setting}
 use Rattle.stateful_exec_laws.specs.Requesting.{first_of, brought_by}
 use Rattle.stateful_exec_laws.specs.Standing.{IsInHand}

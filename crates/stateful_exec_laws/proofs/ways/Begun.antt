@@ -14,11 +14,11 @@ use Rattle.stateful_history.specs.declared.mark.Mark.TheVariants.{Began}
 use Rattle.stateful_exec_cache.specs.declared.cache.Cached.{Cached}
 use Rattle.stateful_table.specs.Table.{at}
 use Rattle.stateful_exec_pause.specs.Boundary.{Boundary}
-use Rattle.stateful_exec_tables.specs.Path.{Path}
+use Rattle.stateful_exec_walk.specs.Path.{Path}
 use Rattle.stateful_exec_model.specs.Workings.{Workings, Point}
 use Rattle.stateful_exec_pause.specs.declared.pause.Pause.{Pause}
 use Rattle.stateful_exec_pause.specs.declared.pause.Pause.TheVariants.{Free, Finalizing}
-use Rattle.stateful_exec_tables.specs.declared.request.Request.{Request}
+use Rattle.stateful_exec_walk.specs.declared.request.Request.{Request}
 use Rattle.stateful_exec_tables.specs.declared.state.Tables.{Tables}
 use Rattle.stateful_exec_tables.specs.declared.tables.Phase.{Phase}
 use Rattle.stateful_exec_tables.specs.declared.tables.Phase.TheVariants.{Open, Fetching, Waiting, Executing, Parked}

@@ -25,18 +25,18 @@ use Rattle.stateful_exec_cache.specs.declared.cache.Cached.{Cached}
 use Rattle.stateful_table.specs.Table.{at}
 use Rattle.stateful_exec_model.specs.Ending.{Turns}
 use Rattle.stateful_exec_tables.specs.Fetching.{Fetches}
-use Rattle.stateful_exec_tables.specs.Walk.{IsPrepared}
+use Rattle.stateful_exec_walk.specs.Walk.{IsPrepared}
 use Rattle.stateful_exec_model.specs.Workings.{Workings, Point}
 use Rattle.stateful_exec_model.specs.declared.building.Building.{Building}
 use Rattle.stateful_exec_model.specs.declared.front.Front.{Front}
 use Rattle.stateful_exec_model.specs.declared.front.Stage.TheVariants.{Hooking}
 use Rattle.stateful_exec_pause.specs.declared.pause.Pause.TheVariants.{Free}
-use Rattle.stateful_exec_tables.specs.declared.request.Request.{Request}
+use Rattle.stateful_exec_walk.specs.declared.request.Request.{Request}
 use Rattle.stateful_exec_tables.specs.declared.tables.LiveRun.{LiveRun}
 use Rattle.stateful_exec_tables.specs.declared.tables.Phase.{Phase}
 use Rattle.stateful_exec_tables.specs.declared.tables.Phase.TheVariants.{Fetching, Waiting}
 use Rattle.stateful_exec_tables.specs.declared.tables.Requested.{Requested}
-use Rattle.stateful_exec_tables.specs.declared.walk.Acquired.TheVariants as acquired
+use Rattle.stateful_exec_walk.specs.declared.walk.Acquired.TheVariants as acquired
 use Rattle.stateful_exec_laws.specs.Building.{IsBuilding}
 use Rattle.stateful_exec_laws.specs.Fronting.{RunsTakeTurns, IsAtStage}
 use Rattle.stateful_exec_laws.specs.Requesting.{first_of, IsInPhase, IsStanding}

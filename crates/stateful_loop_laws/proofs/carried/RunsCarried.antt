@@ -22,25 +22,25 @@ use Rattle.stateful_exec_model.specs.Fetching.{IsFetched, found, waits as awaits
 use Rattle.stateful_exec_tables.specs.Cancelling.{Cancels}
 use Rattle.stateful_exec_tables.specs.Cancelling.{idle, withdraws, leaves as leaves_run, ends as ends_run, unqueued}
 use Rattle.stateful_exec_model.specs.Moments.{Moment, Becomes}
-use Rattle.stateful_exec_tables.specs.Path.{Path}
+use Rattle.stateful_exec_walk.specs.Path.{Path}
 use Rattle.stateful_exec_model.specs.Pausing.{Resumes, GoesAlong, AcquiresAnew, unparked, unsettled}
 use Rattle.stateful_exec_tables.specs.Phase.{is_on, released_on, is_unacquired, parked_in, unacquired_in, not_unacquired}
 use Rattle.stateful_exec_tables.specs.Tables.{requested, moved, ended}
 use Rattle.stateful_exec_model.specs.Rules.{Concludes, Advances, arrives, leaves, joins, starts, misses, Acquires, valid, invalid, asks, waits, runs as needs_runs}
-use Rattle.stateful_exec_tables.specs.Walk.{IsPrepared}
+use Rattle.stateful_exec_walk.specs.Walk.{IsPrepared}
 use Rattle.stateful_exec_model.specs.Workings.{Workings}
 use Rattle.stateful_exec_model.specs.declared.building.Building.{Building}
-use Rattle.stateful_exec_tables.specs.declared.request.Request.{Request}
-use Rattle.stateful_exec_tables.specs.declared.request.Request.TheVariants.{Verify, Recover}
-use Rattle.stateful_exec_tables.specs.declared.request.Verdict.{Verdict}
-use Rattle.stateful_exec_tables.specs.declared.request.Verdict.TheVariants.{Valid, Invalid}
+use Rattle.stateful_exec_walk.specs.declared.request.Request.{Request}
+use Rattle.stateful_exec_walk.specs.declared.request.Request.TheVariants.{Verify, Recover}
+use Rattle.stateful_exec_walk.specs.declared.request.Verdict.{Verdict}
+use Rattle.stateful_exec_walk.specs.declared.request.Verdict.TheVariants.{Valid, Invalid}
 use Rattle.stateful_exec_tables.specs.declared.state.Tables.{Tables}
 use Rattle.stateful_exec_tables.specs.declared.tables.LiveRun.{LiveRun}
 use Rattle.stateful_exec_tables.specs.declared.tables.Phase.{Phase}
 use Rattle.stateful_exec_tables.specs.declared.tables.Phase.TheVariants.{Fetching, Waiting, Executing, Parked}
 use Rattle.stateful_exec_tables.specs.declared.tables.Released.{Released}
 use Rattle.stateful_exec_tables.specs.declared.tables.Requested.{Requested}
-use Rattle.stateful_exec_tables.specs.declared.walk.Acquired.TheVariants as acquired
+use Rattle.stateful_exec_walk.specs.declared.walk.Acquired.TheVariants as acquired
 use Rattle.stateful_exec_laws.specs.Requesting.{first_of}
 use Rattle.stateful_exec_laws.proofs.earned.Carried.{IsMild}
 use Rattle.stateful_exec_laws.proofs.earned.Left.{LeavesBehind-concludes, LeavesBehind-advances, LeavesBehind-acquires}

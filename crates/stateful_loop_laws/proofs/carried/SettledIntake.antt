@@ -21,7 +21,7 @@ use Rattle.stateful_exec_model.specs.Workings.{Workings}
 use Rattle.stateful_exec_model.specs.declared.building.Building.{Building}
 use Rattle.stateful_exec_pause.specs.declared.pause.Pause.{Pause}
 use Rattle.stateful_exec_pause.specs.declared.pause.Pause.TheVariants.{Free, Finalizing, Pruning}
-use Rattle.stateful_exec_tables.specs.declared.request.Verdict.TheVariants.{Invalid}
+use Rattle.stateful_exec_walk.specs.declared.request.Verdict.TheVariants.{Invalid}
 use Rattle.stateful_exec_tables.specs.declared.state.Tables.{Tables}
 use Rattle.stateful_exec_tables.specs.declared.tables.Phase.TheVariants.{Open}
 use Rattle.stateful_exec_tables.specs.declared.tables.Requested.{Requested}

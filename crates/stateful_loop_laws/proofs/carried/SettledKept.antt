@@ -12,16 +12,16 @@ use Rattle.stateful_exec_tables.specs.Tables.{released}
 use Rattle.stateful_exec_model.specs.Fetching.{IsFetched, found, waits as awaits, declines, dead, serving}
 use Rattle.stateful_exec_tables.specs.Fetching.{with_block}
 use Rattle.stateful_exec_model.specs.Moments.{Moment, Becomes}
-use Rattle.stateful_exec_tables.specs.Path.{Path}
+use Rattle.stateful_exec_walk.specs.Path.{Path}
 use Rattle.stateful_exec_model.specs.Pausing.{Resumes, AcquiresAnew, unsettled}
 use Rattle.stateful_exec_tables.specs.Phase.{is_on, released_on, is_unacquired, unacquired_in, not_unacquired}
 use Rattle.stateful_exec_tables.specs.Tables.{requested, moved, ended}
 use Rattle.stateful_exec_model.specs.Rules.{Concludes, Advances, arrives, leaves, joins, starts, misses, Acquires, valid, invalid, asks, waits, runs}
 use Rattle.stateful_exec_model.specs.Workings.{Workings}
-use Rattle.stateful_exec_tables.specs.declared.request.Request.{Request}
-use Rattle.stateful_exec_tables.specs.declared.request.Request.TheVariants.{Verify, Recover}
-use Rattle.stateful_exec_tables.specs.declared.request.Verdict.{Verdict}
-use Rattle.stateful_exec_tables.specs.declared.request.Verdict.TheVariants.{Valid, Invalid}
+use Rattle.stateful_exec_walk.specs.declared.request.Request.{Request}
+use Rattle.stateful_exec_walk.specs.declared.request.Request.TheVariants.{Verify, Recover}
+use Rattle.stateful_exec_walk.specs.declared.request.Verdict.{Verdict}
+use Rattle.stateful_exec_walk.specs.declared.request.Verdict.TheVariants.{Valid, Invalid}
 use Rattle.stateful_exec_tables.specs.declared.state.Tables.{Tables}
 use Rattle.stateful_exec_tables.specs.declared.tables.Phase.{Phase}
 use Rattle.stateful_exec_tables.specs.declared.tables.Phase.TheVariants.{Open, Fetching, Waiting, Executing, Parked}

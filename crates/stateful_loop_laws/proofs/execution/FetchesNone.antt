@@ -11,16 +11,16 @@ use Rattle.stateful_exec_pause.specs.Boundary.{Boundary}
 use Rattle.stateful_exec_model.specs.Ending.{InTurn, none, next, TurnsRun, Follows, given_up, at_boundary, failed, parked, goes_on, Settles, SettlesBy, Steps}
 use Rattle.stateful_exec_tables.specs.Tables.{released}
 use Rattle.stateful_exec_model.specs.Moments.{Moment}
-use Rattle.stateful_exec_tables.specs.Path.{Path}
+use Rattle.stateful_exec_walk.specs.Path.{Path}
 use Rattle.stateful_exec_tables.specs.Pausing.{Pauses}
 use Rattle.stateful_exec_tables.specs.Phase.{is_on, released_on, dropped}
 use Rattle.stateful_exec_tables.specs.Tables.{moved, requested, ended}
 use Rattle.stateful_exec_model.specs.Rules.{Concludes, Advances, arrives, leaves, joins, starts, misses}
 use Rattle.stateful_exec_model.specs.Workings.{Workings}
-use Rattle.stateful_exec_tables.specs.declared.request.Request.{Request}
-use Rattle.stateful_exec_tables.specs.declared.request.Request.TheVariants.{Verify, Recover}
-use Rattle.stateful_exec_tables.specs.declared.request.Verdict.{Verdict}
-use Rattle.stateful_exec_tables.specs.declared.request.Verdict.TheVariants.{Valid, Invalid}
+use Rattle.stateful_exec_walk.specs.declared.request.Request.{Request}
+use Rattle.stateful_exec_walk.specs.declared.request.Request.TheVariants.{Verify, Recover}
+use Rattle.stateful_exec_walk.specs.declared.request.Verdict.{Verdict}
+use Rattle.stateful_exec_walk.specs.declared.request.Verdict.TheVariants.{Valid, Invalid}
 use Rattle.stateful_exec_tables.specs.declared.state.Tables.{Tables}
 use Rattle.stateful_exec_tables.specs.declared.tables.Phase.{Phase}
 use Rattle.stateful_exec_tables.specs.declared.tables.Phase.TheVariants.{Fetching, Parked}

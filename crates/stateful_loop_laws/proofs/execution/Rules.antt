@@ -7,7 +7,7 @@ use Rattle.stateful_history.specs.declared.mark.Mark.TheVariants.{BarrierDone}
 use Rattle.stateful_exec_model.specs.Finalizing.{front_at}
 use Rattle.stateful_exec_model.specs.Workings.{Workings}
 use Rattle.stateful_exec_model.specs.declared.front.Stage.TheVariants.{Advanced}
-use Rattle.stateful_exec_tables.specs.declared.request.Request.{Request}
+use Rattle.stateful_exec_walk.specs.declared.request.Request.{Request}
 use Rattle.stateful_exec_laws.specs.Building.{BuildsTakeTurns}
 use Rattle.stateful_exec_laws.specs.Fronting.{RunsTakeTurns}
 use Rattle.stateful_exec_laws.specs.Setting.{setting}

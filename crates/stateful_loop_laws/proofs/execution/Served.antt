@@ -18,7 +18,7 @@ use Rattle.stateful_exec_model.specs.Rules.{Concludes, Acquires}
 use Rattle.stateful_exec_model.specs.Workings.{Workings, Point}
 use Rattle.stateful_exec_model.specs.declared.building.Building.{Building}
 use Rattle.stateful_exec_model.specs.declared.front.Front.{Front}
-use Rattle.stateful_exec_tables.specs.declared.request.Verdict.TheVariants.{Invalid}
+use Rattle.stateful_exec_walk.specs.declared.request.Verdict.TheVariants.{Invalid}
 use Rattle.stateful_exec_tables.specs.declared.tables.Phase.TheVariants.{Waiting}
 use Rattle.stateful_exec_tables.specs.declared.tables.Requested.{Requested}
 use Rattle.stateful_exec_laws.specs.Setting.{setting}

@@ -13,9 +13,9 @@ use Rattle.stateful_history.specs.declared.ticket.Ticket.TheVariants as tickets
 use Rattle.stateful_table.specs.Table.{at}
 use Rattle.stateful_exec_model.specs.Workings.{Workings, Point}
 use Rattle.stateful_exec_model.specs.declared.building.Building.{Building}
-use Rattle.stateful_exec_tables.specs.declared.request.Proposal.{Proposal}
-use Rattle.stateful_exec_tables.specs.declared.request.Request.{Request}
-use Rattle.stateful_exec_tables.specs.declared.request.Request.TheVariants.{Verify, Recover}
+use Rattle.stateful_exec_walk.specs.declared.request.Proposal.{Proposal}
+use Rattle.stateful_exec_walk.specs.declared.request.Request.{Request}
+use Rattle.stateful_exec_walk.specs.declared.request.Request.TheVariants.{Verify, Recover}
 use Rattle.stateful_exec_tables.specs.declared.state.Tables.{Tables}
 use Rattle.stateful_exec_tables.specs.declared.tables.Requested.{Requested}
 use Rattle.stateful_exec_laws.specs.Setting.{setting}

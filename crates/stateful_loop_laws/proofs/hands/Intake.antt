@@ -43,7 +43,7 @@ use Rattle.stateful_loop_model.specs.declared.message.Action.{Action}
 use Rattle.stateful_loop_model.specs.declared.message.Action.TheVariants as action
 use Rattle.stateful_loop_model.specs.declared.message.Message.{Message}
 use Rattle.stateful_loop_model.specs.declared.message.Message.TheVariants as message
-use Rattle.stateful_exec_tables.specs.declared.request.Request.TheVariants as request
+use Rattle.stateful_exec_walk.specs.declared.request.Request.TheVariants as request
 use Rattle.stateful_loop_laws.specs.InHand.{IsPutOff, IsFound, requested, recovered, built, waiting as found_waiting, waiting_in, AllInHand, InHandBehind}
 use Rattle.stateful_loop_laws.specs.Tickets.{ticket_in, ticket_under}
 use Rattle.stateful_loop_laws.proofs.hands.HandKept.{IsTabled, HandsOn, live_before, unless_ended, hands_fetched, hands_steps}

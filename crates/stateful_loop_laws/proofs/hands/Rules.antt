@@ -11,10 +11,10 @@ use Rattle.stateful_history.specs.Past.{Past, Made, after}
 use Rattle.stateful_history.specs.declared.mark.Mark.{Mark}
 use Rattle.stateful_history.specs.declared.mark.Mark.TheVariants as mark
 use Rattle.stateful_exec_model.specs.Finalizing.{HooksOn}
-use Rattle.stateful_exec_tables.specs.Request.{ticket_by}
+use Rattle.stateful_exec_walk.specs.Request.{ticket_by}
 use Rattle.stateful_exec_tables.specs.Tables.{requested as fresh}
 use Rattle.stateful_exec_model.specs.Workings.{Workings}
-use Rattle.stateful_exec_tables.specs.declared.request.Request.{Request}
+use Rattle.stateful_exec_walk.specs.declared.request.Request.{Request}
 use Rattle.stateful_exec_tables.specs.declared.state.Tables.{Tables}
 use Rattle.stateful_db.specs.declared.application.Hooked.{Hooked}
 use Rattle.stateful_db.specs.declared.application.Hooked.TheVariants as hooked

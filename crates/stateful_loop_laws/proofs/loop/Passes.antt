@@ -6,10 +6,10 @@ use Rattle.stateful_history.specs.Past.{Past}
 use Rattle.stateful_history.specs.declared.mark.Mark.{Mark}
 use Rattle.stateful_history.specs.declared.mark.Mark.TheVariants.{Opened, Converged, Applied, BarrierBegun, BarrierDone, Acknowledged, Stopped}
 use Rattle.stateful_exec_model.specs.Moments as exec
-use Rattle.stateful_exec_tables.specs.Request.{ticket_by}
+use Rattle.stateful_exec_walk.specs.Request.{ticket_by}
 use Rattle.stateful_exec_tables.specs.Tables.{requested}
 use Rattle.stateful_exec_model.specs.Workings.{Workings}
-use Rattle.stateful_exec_tables.specs.declared.request.Request.{Request}
+use Rattle.stateful_exec_walk.specs.declared.request.Request.{Request}
 use Rattle.stateful_exec_laws.proofs.pauses.Passing.{IsBeside, PassesBy, PassesBy-acquires}
 use Rattle.stateful_exec_laws.proofs.pauses.PassingRules.{PassesBy-resumes}
 use Rattle.stateful_loop_laws.specs.Durability.{LoopBehind}

@@ -17,13 +17,13 @@ use Rattle.stateful_exec_model.specs.Moments.{Moment}
 use Rattle.stateful_exec_model.specs.Pausing.{GoesAlong, AcquiresAnew, unparked, unsettled, Resumes}
 use Rattle.stateful_exec_tables.specs.Phase.{parked_path, parked_in, is_unacquired, unacquired_in}
 use Rattle.stateful_exec_tables.specs.Tables.{requested}
-use Rattle.stateful_exec_tables.specs.Walk.{IsPrepared}
+use Rattle.stateful_exec_walk.specs.Walk.{IsPrepared}
 use Rattle.stateful_exec_model.specs.Workings.{Workings, Point}
 use Rattle.stateful_exec_pause.specs.declared.pause.Pause.{Pause}
 use Rattle.stateful_exec_pause.specs.declared.pause.Pause.TheVariants.{Free}
 use Rattle.stateful_exec_tables.specs.declared.tables.Phase.TheVariants.{Fetching}
 use Rattle.stateful_exec_tables.specs.declared.tables.Requested.{Requested}
-use Rattle.stateful_exec_tables.specs.declared.walk.Acquired.TheVariants as acquired
+use Rattle.stateful_exec_walk.specs.declared.walk.Acquired.TheVariants as acquired
 use Rattle.stateful_exec_laws.specs.Gathering.{gathered, but_last, AsksParents, AsksAlong, AsksNothing}
 use Rattle.stateful_exec_laws.specs.Orderly.{IsOrderly}
 use Rattle.stateful_exec_laws.specs.Requesting.{first_of}

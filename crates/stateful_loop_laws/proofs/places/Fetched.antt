@@ -15,14 +15,14 @@ use Rattle.stateful_exec_model.specs.Fetching.{serving, IsFetched, found, waits,
 use Rattle.stateful_exec_model.specs.Moments as exec
 use Rattle.stateful_exec_model.specs.Workings.{Workings}
 use Rattle.stateful_exec_model.specs.declared.front.Front.{Front}
-use Rattle.stateful_exec_tables.specs.declared.request.Request.{Request}
-use Rattle.stateful_exec_tables.specs.declared.request.Request.TheVariants.{Verify, Recover}
-use Rattle.stateful_exec_tables.specs.declared.request.Verdict.TheVariants as verdict
+use Rattle.stateful_exec_walk.specs.declared.request.Request.{Request}
+use Rattle.stateful_exec_walk.specs.declared.request.Request.TheVariants.{Verify, Recover}
+use Rattle.stateful_exec_walk.specs.declared.request.Verdict.TheVariants as verdict
 use Rattle.stateful_exec_tables.specs.declared.tables.Phase.TheVariants.{Fetching, Waiting}
 use Rattle.stateful_exec_tables.specs.declared.tables.Requested.{Requested}
 use Rattle.stateful_exec_tables.specs.declared.state.Tables.{Tables}
 use Rattle.stateful_exec_tables.specs.Tables.{ended}
-use Rattle.stateful_exec_tables.specs.declared.request.Verdict as said
+use Rattle.stateful_exec_walk.specs.declared.request.Verdict as said
 use Rattle.stateful_exec_laws.specs.Building.{IsElsewhere}
 use Rattle.stateful_exec_laws.specs.Gathering.{gathered, but_last, AsksParents, AsksAlong}
 use Rattle.stateful_exec_laws.specs.Setting.{setting}

@@ -16,7 +16,7 @@ use Rattle.stateful_exec_cache.specs.Cache.{IsIn, IsAtHand}
 use Rattle.stateful_exec_pause.specs.Fates.{IsGivenUp, AwaitsBoundary}
 use Rattle.stateful_exec_model.specs.Ending.{Follows, given_up, at_boundary, failed, parked, goes_on}
 use Rattle.stateful_exec_model.specs.Moments.{Moment}
-use Rattle.stateful_exec_tables.specs.Path.{Path}
+use Rattle.stateful_exec_walk.specs.Path.{Path}
 use Rattle.stateful_exec_tables.specs.Meeting.{GoesOn, IsPassed, first_or}
 use Rattle.stateful_exec_tables.specs.Meeting.{Reaches}
 use Rattle.stateful_exec_model.specs.Rules.{Concludes, Advances, arrives, leaves, joins, starts, misses}
@@ -24,9 +24,9 @@ use Rattle.stateful_exec_tables.specs.Tables.{RunsNone, Knows, told, requested}
 use Rattle.stateful_exec_model.specs.Workings.{Workings, Point}
 use Rattle.stateful_exec_pause.specs.declared.pause.Pause.{Pause}
 use Rattle.stateful_exec_pause.specs.declared.pause.Pause.TheVariants.{Free, Finalizing, Pruning}
-use Rattle.stateful_exec_tables.specs.declared.request.Request.{Request}
-use Rattle.stateful_exec_tables.specs.declared.request.Request.TheVariants.{Verify, Recover}
-use Rattle.stateful_exec_tables.specs.declared.request.Verdict.TheVariants as verdict
+use Rattle.stateful_exec_walk.specs.declared.request.Request.{Request}
+use Rattle.stateful_exec_walk.specs.declared.request.Request.TheVariants.{Verify, Recover}
+use Rattle.stateful_exec_walk.specs.declared.request.Verdict.TheVariants as verdict
 use Rattle.stateful_exec_tables.specs.declared.tables.Released.{Released}
 use Rattle.stateful_exec_tables.specs.declared.tables.Requested.{Requested}
 use Rattle.stateful_exec_laws.specs.Caching.{CacheStands}

@@ -13,8 +13,8 @@ use Rattle.stateful_exec_tables.specs.Tables.{requested}
 use Rattle.stateful_exec_model.specs.Workings.{Workings, Point}
 use Rattle.stateful_exec_model.specs.declared.front.Front.{Front}
 use Rattle.stateful_exec_pause.specs.declared.pause.Pause.{Pause}
-use Rattle.stateful_exec_tables.specs.declared.request.Request.{Request}
-use Rattle.stateful_exec_tables.specs.Request.{ticket_by}
+use Rattle.stateful_exec_walk.specs.declared.request.Request.{Request}
+use Rattle.stateful_exec_walk.specs.Request.{ticket_by}
 use Rattle.stateful_exec_laws.specs.Gathering.{gathered, but_last, AsksParents}
 use Rattle.stateful_exec_laws.specs.Ground.{IsGround}
 use Rattle.stateful_exec_laws.specs.Setting.{setting}

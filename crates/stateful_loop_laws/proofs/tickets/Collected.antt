@@ -8,7 +8,7 @@ use Rattle.stateful_history.specs.Past.{Past}
 use Rattle.stateful_history.specs.Requests.{IsLiveReceipt}
 use Rattle.stateful_table.specs.Table.{at}
 use Rattle.stateful_exec_model.specs.Workings.{Workings}
-use Rattle.stateful_exec_tables.specs.declared.request.Request.TheVariants.{Verify, Recover}
+use Rattle.stateful_exec_walk.specs.declared.request.Request.TheVariants.{Verify, Recover}
 use Rattle.stateful_exec_tables.specs.declared.state.Tables.{Tables}
 use Rattle.stateful_exec_laws.specs.Building.{IsElsewhere}
 use Rattle.stateful_exec_laws.specs.Setting.{setting}

@@ -14,13 +14,13 @@ use Rattle.stateful_exec_model.specs.Ending.{TurnsRun, Follows, given_up, at_bou
 use Rattle.stateful_exec_tables.specs.Fetching.{Fetches, with_block}
 use Rattle.stateful_exec_model.specs.Fetching.{serving, IsFetched, found, waits as awaits, declines, dead}
 use Rattle.stateful_exec_model.specs.Moments.{Moment}
-use Rattle.stateful_exec_tables.specs.Path.{Path}
+use Rattle.stateful_exec_walk.specs.Path.{Path}
 use Rattle.stateful_exec_model.specs.Pausing.{GoesAlong, AcquiresAnew, unparked, unsettled, Resumes}
 use Rattle.stateful_exec_tables.specs.Phase.{is_on, released_on, parked_path, parked_in, is_unacquired, unacquired_in}
 use Rattle.stateful_exec_tables.specs.Tables.{taken, requested}
 use Rattle.stateful_exec_model.specs.Rules.{Launches, Advances, arrives, leaves, joins, starts, misses, Acquires, valid, invalid, asks, waits, runs}
 use Rattle.stateful_exec_model.specs.Workings.{Workings}
-use Rattle.stateful_exec_tables.specs.declared.request.Verdict.TheVariants.{Valid, Invalid}
+use Rattle.stateful_exec_walk.specs.declared.request.Verdict.TheVariants.{Valid, Invalid}
 use Rattle.stateful_exec_tables.specs.declared.state.Tables.{Tables}
 use Rattle.stateful_exec_tables.specs.declared.tables.Phase.TheVariants.{Executing, Fetching, Waiting}
 use Rattle.stateful_exec_tables.specs.declared.tables.Released.{Released}

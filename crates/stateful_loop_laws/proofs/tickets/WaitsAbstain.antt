@@ -12,13 +12,13 @@ use Rattle.stateful_history.specs.Setting.{Setting}
 use Rattle.stateful_exec_cache.specs.Judgement.{IsJudged}
 use Rattle.stateful_exec_cache.specs.declared.cache.Cached.{Cached}
 use Rattle.stateful_exec_cache.specs.declared.judgement.Judgement.TheVariants as judged
-use Rattle.stateful_exec_tables.specs.Walk as walk
-use Rattle.stateful_exec_tables.specs.Walk.{IsNeeded, IsVerified, IsPrepared}
+use Rattle.stateful_exec_walk.specs.Walk as walk
+use Rattle.stateful_exec_walk.specs.Walk.{IsNeeded, IsVerified, IsPrepared}
 use Rattle.stateful_exec_model.specs.Workings.{Workings, Point}
 use Rattle.stateful_exec_pause.specs.declared.pause.Pause.TheVariants.{Free}
-use Rattle.stateful_exec_tables.specs.declared.request.Request.{Request}
-use Rattle.stateful_exec_tables.specs.declared.request.Request.TheVariants.{Verify, Recover}
-use Rattle.stateful_exec_tables.specs.declared.walk.Acquired.TheVariants as acquired
+use Rattle.stateful_exec_walk.specs.declared.request.Request.{Request}
+use Rattle.stateful_exec_walk.specs.declared.request.Request.TheVariants.{Verify, Recover}
+use Rattle.stateful_exec_walk.specs.declared.walk.Acquired.TheVariants as acquired
 use Rattle.stateful_exec_laws.specs.Ground.{IsGround}
 use Rattle.stateful_exec_laws.specs.Requesting.{first_of}
 use Rattle.stateful_exec_laws.specs.Setting.{setting}

@@ -14,10 +14,10 @@ use Rattle.stateful_history.specs.declared.event.Event.{Event}
 use Rattle.stateful_history.specs.declared.event.Event.TheVariants.{Restart}
 use Rattle.stateful_history.specs.declared.mark.Mark.{Mark}
 use Rattle.stateful_exec_cache.specs.declared.cache.Cached.{Cached}
-use Rattle.stateful_exec_tables.specs.Path.{Path}
+use Rattle.stateful_exec_walk.specs.Path.{Path}
 use Rattle.stateful_exec_model.specs.Workings.{Workings}
 use Rattle.stateful_exec_pause.specs.declared.pause.Pause.{Pause}
-use Rattle.stateful_exec_tables.specs.declared.request.Request.{Request}
+use Rattle.stateful_exec_walk.specs.declared.request.Request.{Request}
 use Rattle.stateful_exec_tables.specs.declared.state.Tables.{Tables}
 use Rattle.stateful_exec_tables.specs.declared.tables.Phase.{Phase}
 use Rattle.stateful_exec_tables.specs.declared.tables.Phase.TheVariants.{Open, Fetching, Waiting, Executing, Parked}

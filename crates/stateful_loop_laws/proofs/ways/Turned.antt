@@ -17,7 +17,7 @@ use Rattle.stateful_exec_model.specs.Ending.{InTurn, none, next, EndsRun, TurnsR
 use Rattle.stateful_exec_pause.specs.Fates.{Crosses}
 use Rattle.stateful_exec_tables.specs.Tables.{released}
 use Rattle.stateful_exec_model.specs.Moments as exec
-use Rattle.stateful_exec_tables.specs.Path.{Path}
+use Rattle.stateful_exec_walk.specs.Path.{Path}
 use Rattle.stateful_exec_tables.specs.Phase.{is_on, not_on, released_on}
 use Rattle.stateful_exec_model.specs.Workings.{Workings, Point}
 use Rattle.stateful_exec_pause.specs.declared.pause.Pause.{Pause}

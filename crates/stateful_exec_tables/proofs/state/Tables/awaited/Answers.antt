@@ -1,7 +1,7 @@
 use Rattle.std.proofs.Common.{ℕ, ◌<◌, ◌^◌, List, length, subst, ◌∙◌, refl}
 use Rattle.stateful_exec_pause.specs.Pausing.{IsAwaited}
 use Rattle.stateful_exec_tables.specs.declared.tables.LiveRun.{LiveRun}
-use Rattle.stateful_exec_tables.proofs.Walking.{refused}
+use Rattle.stateful_exec_walk.proofs.Walking.{refused}
 use Rattle.stateful_exec_tables.proofs.Pauses.{Counts-first, Counts-one, Counts-other, Counts-all}
 use Rattle.stateful_exec_tables.proofs.state.Tables.awaited.Goals as goal
 

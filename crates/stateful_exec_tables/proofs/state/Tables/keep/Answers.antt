@@ -1,4 +1,4 @@
-use Rattle.stateful_exec_tables.proofs.Walking.{refused}
+use Rattle.stateful_exec_walk.proofs.Walking.{refused}
 use Rattle.stateful_exec_tables.proofs.Keeping.{stays, changed, not_later, orphaned, more}
 use Rattle.stateful_exec_tables.proofs.state.Tables.keep.Goals as goal
 use Rattle.stateful_exec_tables.proofs.state.Tables.keep.Goals.{then-not-is_later_than-via-then-not-is_later_than, then-not-is_later_than-via-else-not-is_later_than+then-not-knows}

@@ -1,5 +1,5 @@
 use Rattle.std.proofs.Common.{refl}
-use Rattle.stateful_exec_tables.proofs.Walking.{refused}
+use Rattle.stateful_exec_walk.proofs.Walking.{refused}
 use Rattle.stateful_exec_tables.proofs.state.Tables.meet.Goals as goal
 
 pub returns-then-not-goes_on : goal.returns-then-not-goes_on

@@ -1,6 +1,6 @@
 use Rattle.std.proofs.Common.{◌≡◌, ◌∙◌}
 use Rattle.stateful_exec_tables.specs.declared.tables.Phase.TheVariants.{Fetching}
-use Rattle.stateful_exec_tables.proofs.Walking.{refused}
+use Rattle.stateful_exec_walk.proofs.Walking.{refused}
 use Rattle.stateful_exec_tables.proofs.Entries.{Searches-first, Searches-found, Searches-next}
 use Rattle.stateful_exec_tables.proofs.state.Tables.request_of.Goals as goal
 

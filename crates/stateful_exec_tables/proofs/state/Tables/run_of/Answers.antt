@@ -1,5 +1,5 @@
 use Rattle.std.proofs.Common.{◌≡◌, ◌∙◌, sym}
-use Rattle.stateful_exec_tables.proofs.Walking.{refused}
+use Rattle.stateful_exec_walk.proofs.Walking.{refused}
 use Rattle.stateful_exec_tables.proofs.Entries.{Searches-first, Searches-found, Searches-next}
 use Rattle.stateful_exec_tables.proofs.state.Tables.run_of.Goals as goal
 

@@ -1,6 +1,6 @@
 use Rattle.std.proofs.lemmas.Result.{IfOk-weaker}
-use Rattle.stateful_exec_tables.specs.Walk.IsVerified.{valid, invalid, waits, runs}
-use Rattle.stateful_exec_tables.proofs.walk.prepare.Goals as goal
+use Rattle.stateful_exec_walk.specs.Walk.IsVerified.{valid, invalid, waits, runs}
+use Rattle.stateful_exec_walk.proofs.walk.prepare.Goals as goal
 
 pub returns-in-Valid : goal.returns-in-Valid
 returns-in-Valid g c = rw c.in-Verify.is (valid (rw c.in-Valid.is at c.in_ok-judge-in-Verify.ensures))

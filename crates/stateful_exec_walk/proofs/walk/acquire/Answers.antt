@@ -1,6 +1,6 @@
 use Rattle.std.proofs.Common.{◌≡◌, ◌≤◌, ◌++◌, ◌∷◌, [], List, length, take, arith, refl}
-use Rattle.stateful_exec_tables.specs.Walk.IsNeeded.{orphan}
-use Rattle.stateful_exec_tables.proofs.walk.acquire.Goals as goal
+use Rattle.stateful_exec_walk.specs.Walk.IsNeeded.{orphan}
+use Rattle.stateful_exec_walk.proofs.walk.acquire.Goals as goal
 
 -- there is no parent
 none_left : {X : Type 0} (rest acquired : List X) → length rest ≤ 0 → length acquired ≡ 0 → take 1 rest ++ acquired ≡ []

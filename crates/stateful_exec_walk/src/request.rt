@@ -14,7 +14,7 @@
 //! runs that they share".
 
 ghost use Rattle.std.specs.Prelude.{◌≡◌};
-ghost use Rattle.stateful_exec_tables.specs.Request.{ticket_by};
+ghost use Rattle.stateful_exec_walk.specs.Request.{ticket_by};
 
 use stateful_base::Ancestry;
 use stateful_db::ProposalKind;

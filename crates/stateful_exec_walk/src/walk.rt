@@ -14,8 +14,8 @@
 //! words, "What a request needs".
 
 ghost use Rattle.std.specs.Prelude.{◌↔◌, ◌++◌, ◌∷◌, IfOk, IsTrue, take};
-ghost use Rattle.stateful_exec_tables.specs.Path.{IsOneAbove};
-ghost use Rattle.stateful_exec_tables.specs.Walk.{Walks, StandsAt, IsNeeded, IsPrepared};
+ghost use Rattle.stateful_exec_walk.specs.Path.{IsOneAbove};
+ghost use Rattle.stateful_exec_walk.specs.Walk.{Walks, StandsAt, IsNeeded, IsPrepared};
 
 use crate::path::ReplayPath;
 use crate::request::Request;

@@ -8,11 +8,11 @@ use Rattle.stateful_base.specs.declared.digest.Digest.{Digest}
 use Rattle.stateful_base.specs.declared.anchor.Anchor.{Anchor}
 use Rattle.stateful_exec_cache.specs.Cache.{IsAtHand}
 use Rattle.stateful_exec_cache.specs.declared.cache.Cached.{Cached}
-use Rattle.stateful_exec_tables.specs.Path.{Path, IsOneAbove, Descends, IsMissing, IsCovered, Leads}
-use Rattle.stateful_exec_tables.specs.Walk.{Walks, IsNeeded}
-use Rattle.stateful_exec_tables.specs.Walk.IsNeeded.{child}
-use Rattle.stateful_exec_tables.specs.declared.walk.Acquired.{Acquired}
-use Rattle.stateful_exec_tables.specs.declared.walk.Acquired.TheVariants.{Invalid, Ask, Ready}
+use Rattle.stateful_exec_walk.specs.Path.{Path, IsOneAbove, Descends, IsMissing, IsCovered, Leads}
+use Rattle.stateful_exec_walk.specs.Walk.{Walks, IsNeeded}
+use Rattle.stateful_exec_walk.specs.Walk.IsNeeded.{child}
+use Rattle.stateful_exec_walk.specs.declared.walk.Acquired.{Acquired}
+use Rattle.stateful_exec_walk.specs.declared.walk.Acquired.TheVariants.{Invalid, Ask, Ready}
 
 -- a test that failed refutes what it tests
 pub refused : (r : Bool) (P : Type 0) → (IsTrue r ↔ P) → r ≡ false → P → ⊥

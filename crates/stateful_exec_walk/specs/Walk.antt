@@ -7,14 +7,14 @@ use Rattle.stateful_exec_cache.specs.Cache.{IsAtHand}
 use Rattle.stateful_exec_cache.specs.Judgement.{IsJudged}
 use Rattle.stateful_exec_cache.specs.declared.cache.Cached.{Cached}
 use Rattle.stateful_exec_cache.specs.declared.judgement.Judgement.TheVariants as judged
-use Rattle.stateful_exec_tables.specs.Path.{IsMissing, IsCovered, Leads, IsOneAbove}
-use Rattle.stateful_exec_tables.specs.declared.request.Request.{Request}
-use Rattle.stateful_exec_tables.specs.declared.request.Request.TheVariants.{Verify, Recover}
-use Rattle.stateful_exec_tables.specs.declared.walk.Standing.{Standing}
-use Rattle.stateful_exec_tables.specs.declared.walk.Standing.TheVariants.{AtHand, Covered, Missing}
-use Rattle.stateful_exec_tables.specs.declared.walk.Acquired.{Acquired}
-use Rattle.stateful_exec_tables.specs.declared.walk.Acquired.TheVariants.{Valid, Invalid, Ask, Waits}
-use Rattle.stateful_exec_tables.specs.declared.walk.Acquired.TheVariants.{Ready}
+use Rattle.stateful_exec_walk.specs.Path.{IsMissing, IsCovered, Leads, IsOneAbove}
+use Rattle.stateful_exec_walk.specs.declared.request.Request.{Request}
+use Rattle.stateful_exec_walk.specs.declared.request.Request.TheVariants.{Verify, Recover}
+use Rattle.stateful_exec_walk.specs.declared.walk.Standing.{Standing}
+use Rattle.stateful_exec_walk.specs.declared.walk.Standing.TheVariants.{AtHand, Covered, Missing}
+use Rattle.stateful_exec_walk.specs.declared.walk.Acquired.{Acquired}
+use Rattle.stateful_exec_walk.specs.declared.walk.Acquired.TheVariants.{Valid, Invalid, Ask, Waits}
+use Rattle.stateful_exec_walk.specs.declared.walk.Acquired.TheVariants.{Ready}
 
 module _ {B U : Type 0} (header : Header B) (anchor : Anchor) (cache : List (Cached U)) where
   abbrev pub StandsAt : Named B → Standing → Type 0

@@ -1,8 +1,8 @@
 use Rattle.std.proofs.Common.{◌≡◌, ◌∷◌, [], ◌∙◌, refl, sym}
 use Rattle.std.proofs.lemmas.Result.{IfOk-weaker}
-use Rattle.stateful_exec_tables.specs.Walk.IsNeeded.{stranger}
-use Rattle.stateful_exec_tables.proofs.Walking.{IsNeeded-child, refused}
-use Rattle.stateful_exec_tables.proofs.walk.walk_above.Goals as goal
+use Rattle.stateful_exec_walk.specs.Walk.IsNeeded.{stranger}
+use Rattle.stateful_exec_walk.proofs.Walking.{IsNeeded-child, refused}
+use Rattle.stateful_exec_walk.proofs.walk.walk_above.Goals as goal
 
 pub returns-then-not-is : goal.returns-then-not-is
 returns-then-not-is g c = stranger refl (λ e. refused _ _ c.is.ensures c.if-not-is.true (c.digest.ensures ∙ e ∙ sym c.parent.ensures))

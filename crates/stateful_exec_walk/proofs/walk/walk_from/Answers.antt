@@ -1,6 +1,6 @@
-use Rattle.stateful_exec_tables.specs.Path.{IsMissing, IsOneAbove}
-use Rattle.stateful_exec_tables.proofs.Walking.{Reaches-first, Reaches-next, Walks-ready, Walks-covered, Walks-broken, Walks-ask, refused}
-use Rattle.stateful_exec_tables.proofs.walk.walk_from.Goals as goal
+use Rattle.stateful_exec_walk.specs.Path.{IsMissing, IsOneAbove}
+use Rattle.stateful_exec_walk.proofs.Walking.{Reaches-first, Reaches-next, Walks-ready, Walks-covered, Walks-broken, Walks-ask, refused}
+use Rattle.stateful_exec_walk.proofs.walk.walk_from.Goals as goal
 
 pub loop-next-init : goal.loop-next-init
 loop-next-init g c = Reaches-first g.B.Block.header c.args.anchor c.args.cache.now c.args.path

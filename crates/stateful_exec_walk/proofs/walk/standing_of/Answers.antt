@@ -1,5 +1,5 @@
-use Rattle.stateful_exec_tables.proofs.Walking.{not_at_hand}
-use Rattle.stateful_exec_tables.proofs.walk.standing_of.Goals as goal
+use Rattle.stateful_exec_walk.proofs.Walking.{not_at_hand}
+use Rattle.stateful_exec_walk.proofs.walk.standing_of.Goals as goal
 
 pub returns-then-knows : goal.returns-then-knows
 returns-then-knows g c = rw c.digest.ensures at (c.knows.ensures.0 c.if-knows.true)

@@ -11,7 +11,7 @@
 
 ghost use Rattle.std.specs.Prelude.{◌≡◌, ◌≢◌, ◌++◌, ◌∷◌, [], OnOk, IfOk, IfSome, IfNone};
 ghost use Rattle.std.specs.Option.{option_copied};
-ghost use Rattle.stateful_exec_tables.specs.Path.{IsLastOf};
+ghost use Rattle.stateful_exec_walk.specs.Path.{IsLastOf};
 
 use stateful_base::{Digested, OutOfMemory, Share};
 use std::alloc::Global;
@@ -28,7 +28,7 @@ pub struct ReplayPath<B> {
 }
 
 impl<B> Model for ReplayPath<B> {
-    ghost use Rattle.stateful_exec_tables.specs.Path.{Path};
+    ghost use Rattle.stateful_exec_walk.specs.Path.{Path};
 
     ghost Value = { Path B };
 
