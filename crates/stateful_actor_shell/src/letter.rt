@@ -1,9 +1,9 @@
 //! The blocks that events and marks carry.
 
 use stateful_base::{
-    Ancestry, Block, Digest, Digested, Epoch, Height, Items, OutOfMemory, Round, View,
+    Ancestry, Block, Digest, Digested, Epoch, Height, Items, OutOfMemory, Round, View, write_u8,
 };
-use std::alloc::Global;
+use stateful_shell::Page;
 
 /// A block of height 1 whose one byte is a letter.
 #[derive(Drop)]
@@ -41,20 +41,26 @@ impl Block for Letter {
     }
 
     fn encode(&self, out: &mut Vec<u8>) -> Result<(), OutOfMemory> {
-        out.push(self.letter)?;
-        Ok(())
+        write_u8(self.letter, out)
     }
 }
 
-/// The block of a letter.
-pub(crate) fn block(alloc: Global, letter: u8) -> Result<Digested<Letter>, OutOfMemory> {
-    Digested::compute(alloc, Letter { letter })
+/// The block of a letter. None where memory lacks, which the page notes.
+pub(crate) fn block(letter: u8, page: &mut Page) -> Option<Digested<Letter>> {
+    match Digested::compute(page.alloc(), Letter { letter }) {
+        Ok(block) => Some(block),
+        Err(_) => {
+            page.lack();
+            None
+        }
+    }
 }
 
-/// The block of a letter, with no ancestors at hand.
-pub(crate) fn ancestry(alloc: Global, letter: u8) -> Result<Ancestry<Letter>, OutOfMemory> {
-    Ok(Ancestry {
-        first: block(alloc, letter)?,
-        rest: Items::new(alloc),
+/// The block of a letter, with no ancestors at hand. None where memory lacks.
+pub(crate) fn ancestry(letter: u8, page: &mut Page) -> Option<Ancestry<Letter>> {
+    let first = block(letter, page)?;
+    Some(Ancestry {
+        first,
+        rest: Items::new(page.alloc()),
     })
 }

@@ -54,37 +54,9 @@ mod register;
 mod words;
 
 use crate::part::Part;
-use stateful_base::OutOfMemory;
-use stateful_shell::{Shell, play_files};
-use std::alloc::Global;
+use stateful_shell::play_files;
 use std::process::ExitCode;
 
-/// The part that lines go to.
-#[derive(Drop)]
-struct ActorShell {
-    alloc: Global,
-    part: Part,
-}
-
-impl Shell for ActorShell {
-    fn new(alloc: Global) -> ActorShell {
-        ActorShell {
-            alloc,
-            part: Part::Nothing,
-        }
-    }
-
-    fn play(&mut self, line: &str, out: &mut String) -> Result<(), OutOfMemory> {
-        let command = line.split('/').next().unwrap_or(line);
-        let words: Vec<&str> = command.split_whitespace().collect(self.alloc)?;
-        part::play(self.alloc, &mut self.part, line, words.as_slice(), out)
-    }
-
-    fn end(&mut self, _out: &mut String) -> Result<(), OutOfMemory> {
-        Ok(())
-    }
-}
-
 fn main(rt: HostRuntime) -> Result<ExitCode, anyhow::Error> {
-    play_files::<ActorShell>(&rt)
+    play_files::<Part>(&rt)
 }

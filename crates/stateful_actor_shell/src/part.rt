@@ -3,14 +3,14 @@
 use crate::mailbox::Letters;
 use crate::prunes::config_of;
 use crate::register::Registers;
-use crate::words::{number, say, size};
 use crate::{durable, mailbox, prunes, register};
 use stateful_actor_mailbox::Mailbox;
-use stateful_base::{Height, OutOfMemory};
+use stateful_base::Height;
 use stateful_durability::Durability;
-use stateful_pruning::{PruneConfig, Pruning};
-use stateful_shell::word;
+use stateful_pruning::Pruning;
+use stateful_shell::{Page, Shell, index, number, word};
 use std::alloc::Global;
+use std::mem;
 
 /// A part of the machine.
 #[derive(Drop)]
@@ -22,109 +22,62 @@ pub(crate) enum Part {
     Pruning(Pruning<u8>),
 }
 
-/// Begins a part in place of the one before.
-fn begin(part: &mut Part, begun: Part, out: &mut String) -> Result<(), OutOfMemory> {
-    *part = begun;
-    say(out, "begun")
-}
-
-/// Begins a mailbox in which so many messages are ready at most.
-fn begin_mailbox(
-    alloc: Global,
-    part: &mut Part,
-    capacity: usize,
-    out: &mut String,
-) -> Result<(), OutOfMemory> {
-    if capacity == 0 {
-        return say(out, "refused");
+impl Part {
+    /// Begins a part in place of the one before.
+    fn begin(&mut self, begun: Part, page: &mut Page) {
+        drop(mem::replace(self, begun));
+        page.say("begun")
     }
-    match Mailbox::new(alloc, capacity) {
-        Ok(mailbox) => begin(part, Part::Mailbox(mailbox), out),
-        Err(error) => Err(error),
+
+    /// Begins a mailbox in which so many messages are ready at most.
+    fn begin_mailbox(&mut self, capacity: usize, page: &mut Page) {
+        if capacity == 0 {
+            return page.say("refused");
+        }
+        match Mailbox::new(page.alloc(), capacity) {
+            Ok(mailbox) => self.begin(Part::Mailbox(mailbox), page),
+            Err(_) => page.lack(),
+        }
     }
-}
 
-/// Begins the register of a new machine of so many databases.
-fn begin_register(
-    alloc: Global,
-    part: &mut Part,
-    databases: usize,
-    out: &mut String,
-) -> Result<(), OutOfMemory> {
-    begin(part, Part::Register(Registers::new(alloc, databases)), out)
-}
-
-/// Begins durability at a height that is applied and durable.
-fn begin_durability(
-    alloc: Global,
-    part: &mut Part,
-    height: u64,
-    out: &mut String,
-) -> Result<(), OutOfMemory> {
-    begin(
-        part,
-        Part::Durability(Durability::new(alloc, Height(height))),
-        out,
-    )
-}
-
-/// Begins pruning by a config.
-fn begin_by(
-    alloc: Global,
-    part: &mut Part,
-    config: PruneConfig,
-    words: &[&str],
-    out: &mut String,
-) -> Result<(), OutOfMemory> {
-    match Pruning::new(alloc, config, size(word(words, 5)), number(word(words, 6))) {
-        Ok(pruning) => begin(part, Part::Pruning(pruning), out),
-        Err(error) => prunes::say_error(out, error),
+    /// Begins pruning.
+    fn begin_pruning(&mut self, words: &[&str], page: &mut Page) {
+        let Some(config) = config_of(words) else {
+            return page.say("refused");
+        };
+        match Pruning::new(page.alloc(), config, index(words, 5), number(words, 6)) {
+            Ok(pruning) => self.begin(Part::Pruning(pruning), page),
+            Err(error) => page.line(&error),
+        }
     }
 }
 
-/// Begins pruning.
-fn begin_pruning(
-    alloc: Global,
-    part: &mut Part,
-    words: &[&str],
-    out: &mut String,
-) -> Result<(), OutOfMemory> {
-    match config_of(words) {
-        Some(config) => begin_by(alloc, part, config, words, out),
-        None => say(out, "refused"),
+impl Shell for Part {
+    fn new(_alloc: Global) -> Part {
+        Part::Nothing
     }
-}
 
-/// Does to a part what a line says.
-fn go_on(
-    alloc: Global,
-    part: &mut Part,
-    line: &str,
-    words: &[&str],
-    out: &mut String,
-) -> Result<(), OutOfMemory> {
-    match part {
-        Part::Mailbox(mailbox) => mailbox::play(alloc, mailbox, line, words, out),
-        Part::Register(registers) => register::play(alloc, registers, line, words, out),
-        Part::Durability(durability) => durable::play(alloc, durability, words, out),
-        Part::Pruning(pruning) => prunes::play(pruning, words, out),
-        Part::Nothing => say(out, "no such command"),
+    fn play(&mut self, words: &[&str], page: &mut Page) {
+        match word(words, 0) {
+            "mailbox" => self.begin_mailbox(index(words, 1), page),
+            "register" => {
+                let registers = Registers::new(page.alloc(), index(words, 1));
+                self.begin(Part::Register(registers), page)
+            }
+            "durability" => {
+                let durability = Durability::new(page.alloc(), Height(number(words, 1)));
+                self.begin(Part::Durability(durability), page)
+            }
+            "pruning" => self.begin_pruning(words, page),
+            _ => match self {
+                Part::Mailbox(mailbox) => mailbox::play(mailbox, words, page),
+                Part::Register(registers) => register::play(registers, words, page),
+                Part::Durability(durability) => durable::play(durability, words, page),
+                Part::Pruning(pruning) => prunes::play(pruning, words, page),
+                Part::Nothing => page.say("no such command"),
+            },
+        }
     }
-}
 
-/// Begins a part, or does to it what a line says.
-pub(crate) fn play(
-    alloc: Global,
-    part: &mut Part,
-    line: &str,
-    words: &[&str],
-    out: &mut String,
-) -> Result<(), OutOfMemory> {
-    match word(words, 0) {
-        "mailbox" => begin_mailbox(alloc, part, size(word(words, 1)), out),
-        "register" => begin_register(alloc, part, size(word(words, 1)), out),
-        "durability" => begin_durability(alloc, part, number(word(words, 1)), out),
-        "pruning" => begin_pruning(alloc, part, words, out),
-        _ => go_on(alloc, part, line, words, out),
-    }
+    fn end(&mut self, _page: &mut Page) {}
 }

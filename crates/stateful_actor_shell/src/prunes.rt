@@ -1,89 +1,45 @@
 //! Commands on pruning. main.rt has their table.
 
-use crate::words::{letter, number, say, size};
-use stateful_base::{Height, OutOfMemory};
-use stateful_pruning::{InvalidPruneConfig, Prune, PruneConfig, Pruning, PruningError};
-use stateful_shell::word;
+use crate::words::letter;
+use stateful_base::Height;
+use stateful_pruning::{PruneConfig, Pruning, PruningError};
+use stateful_shell::{Page, index, number, word};
 use std::num::NonZeroUsize;
 
 /// What prunes retain, by the words behind the first: the interval, the blocks of marshal, those
 /// of the databases, and the operations of the databases. None where the interval is 0.
 pub(crate) fn config_of(words: &[&str]) -> Option<PruneConfig> {
-    match NonZeroUsize::new(size(word(words, 1))) {
-        Some(maintenance_interval) => Some(PruneConfig {
-            maintenance_interval,
-            retained_marshal_blocks: size(word(words, 2)),
-            retained_qmdb_blocks: size(word(words, 3)),
-            retained_qmdb_operations: number(word(words, 4)),
-        }),
-        None => None,
-    }
-}
-
-/// Says a prune.
-fn say_prune(out: &mut String, prune: &Prune<u8>) -> Result<(), OutOfMemory> {
-    let marshal = prune.marshal_height.0;
-    let barrier = prune.barrier_height.0;
-    let target = prune.qmdb_target as char;
-    writeln!(
-        out,
-        "prune marshal to {marshal}, databases at {barrier} to {target}"
-    )?;
-    Ok(())
-}
-
-/// A height is final.
-fn observe(
-    pruning: &mut Pruning<u8>,
-    height: u64,
-    targets: u8,
-    operations: u64,
-    out: &mut String,
-) -> Result<(), OutOfMemory> {
-    match pruning.observe(Height(height), targets, operations)? {
-        Some(prune) => say_prune(out, &prune),
-        None => say(out, "no prune"),
-    }
-}
-
-/// Asks whether a config may be.
-fn valid(config: Option<PruneConfig>, out: &mut String) -> Result<(), OutOfMemory> {
-    match config {
-        Some(config) => match config.assert_valid() {
-            Ok(()) => say(out, "valid"),
-            Err(error) => say_invalid(out, error),
-        },
-        None => say(out, "refused"),
-    }
-}
-
-fn say_invalid(out: &mut String, error: InvalidPruneConfig) -> Result<(), OutOfMemory> {
-    writeln!(out, "{error}")?;
-    Ok(())
-}
-
-/// Says why no pruning was made.
-pub(crate) fn say_error(out: &mut String, error: PruningError) -> Result<(), OutOfMemory> {
-    writeln!(out, "{error}")?;
-    Ok(())
+    Some(PruneConfig {
+        maintenance_interval: NonZeroUsize::new(index(words, 1))?,
+        retained_marshal_blocks: index(words, 2),
+        retained_qmdb_blocks: index(words, 3),
+        retained_qmdb_operations: number(words, 4),
+    })
 }
 
 /// Does what a line says to pruning.
-pub(crate) fn play(
-    pruning: &mut Pruning<u8>,
-    words: &[&str],
-    out: &mut String,
-) -> Result<(), OutOfMemory> {
+pub(crate) fn play(pruning: &mut Pruning<u8>, words: &[&str], page: &mut Page) {
     match word(words, 0) {
-        "observe" => observe(
-            pruning,
-            number(word(words, 1)),
-            letter(word(words, 2)),
-            number(word(words, 3)),
-            out,
-        ),
-        "valid" => valid(config_of(words), out),
-        "no-memory" => say_error(out, PruningError::OutOfMemory),
-        _ => say(out, "no such command"),
+        "observe" => {
+            match pruning.observe(Height(number(words, 1)), letter(words, 2), number(words, 3)) {
+                Ok(Some(prune)) => {
+                    page.field("prune marshal to ", prune.marshal_height.0);
+                    page.field(", databases at ", prune.barrier_height.0);
+                    page.push(" to ");
+                    page.line(&char::from(prune.qmdb_target))
+                }
+                Ok(None) => page.say("no prune"),
+                Err(_) => page.lack(),
+            }
+        }
+        "valid" => match config_of(words) {
+            None => page.say("refused"),
+            Some(config) => match config.assert_valid() {
+                Ok(()) => page.say("valid"),
+                Err(error) => page.line(&error),
+            },
+        },
+        "no-memory" => page.line(&PruningError::OutOfMemory),
+        _ => page.say("no such command"),
     }
 }

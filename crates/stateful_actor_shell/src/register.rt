@@ -3,11 +3,10 @@
 use crate::event::event_of;
 use crate::letter::Letter;
 use crate::mark::marks_of;
-use crate::words::{say, say_number, say_whether, size};
+use crate::words::say_whether;
 use stateful_actor_register::Register;
-use stateful_base::OutOfMemory;
 use stateful_history::{How, Mark};
-use stateful_shell::word;
+use stateful_shell::{Page, index, word};
 use std::alloc::Global;
 use std::mem;
 
@@ -30,101 +29,71 @@ impl Registers {
     }
 }
 
-/// Asks whether an event may come.
-fn allows(
-    alloc: Global,
-    register: &Register,
-    words: &[&str],
-    out: &mut String,
-) -> Result<(), OutOfMemory> {
-    match event_of(alloc, words)? {
-        Some(event) => say_whether(out, register.allows(&event)),
-        None => say(out, "no such event"),
-    }
-}
-
 /// Records an event with its marks.
-fn record(
-    alloc: Global,
-    registers: &mut Registers,
-    line: &str,
-    words: &[&str],
-    out: &mut String,
-) -> Result<(), OutOfMemory> {
-    let marks = marks_of(alloc, line)?;
-    let Some(event) = event_of(alloc, words)? else {
-        return say(out, "no such event");
+fn record(registers: &mut Registers, words: &[&str], page: &mut Page) {
+    let Ok(marks) = marks_of(words, page) else {
+        return page.lack();
     };
-    match registers
-        .register
-        .record(registers.databases, &event, marks.as_slice())
-    {
-        Ok(()) => say_number(out, "recorded", marks.len() as u64),
-        Err(OutOfMemory) => say(out, "OutOfMemory"),
+    let Some(event) = event_of(words, page) else {
+        return;
+    };
+    let count = registers.databases;
+    match registers.register.record(count, &event, marks.as_slice()) {
+        Ok(()) => page.field("recorded ", marks.len() as u64),
+        Err(_) => page.push("OutOfMemory"),
     }
+    page.end();
+    drop(event)
 }
 
-/// Says a mark by which live work ends.
-fn say_end(out: &mut String, mark: &Mark<Letter>) -> Result<(), OutOfMemory> {
-    match mark {
-        Mark::Withdrawn { fetch } => say_number(out, "withdrawn", *fetch),
-        Mark::Ended {
-            job,
-            how: How::Cancelled,
-        } => say_number(out, "cancelled", *job),
-        Mark::Declined { ticket } => say_number(out, "declined", *ticket),
-        Mark::Dropped { ticket } => say_number(out, "dropped", *ticket),
-        _ => say(out, "something else"),
-    }
-}
-
-/// Says the marks by which all live work ends.
-fn ends(alloc: Global, register: &Register, out: &mut String) -> Result<(), OutOfMemory> {
-    let mut marks: Vec<Mark<Letter>> = Vec::new(alloc);
-    register.end_all::<Letter, u64, u64>(&mut marks)?;
+/// Prints the marks by which all live work ends.
+fn ends(register: &Register, page: &mut Page) {
+    let mut marks: Vec<Mark<Letter>> = Vec::new(page.alloc());
+    page.note(register.end_all::<Letter, u64, u64>(&mut marks));
     for mark in &marks {
-        say_end(out, mark)?;
+        match mark {
+            Mark::Withdrawn { fetch } => page.field("withdrawn ", *fetch),
+            Mark::Ended {
+                job,
+                how: How::Cancelled,
+            } => page.field("cancelled ", *job),
+            Mark::Declined { ticket } => page.field("declined ", *ticket),
+            Mark::Dropped { ticket } => page.field("dropped ", *ticket),
+            _ => page.push("something else"),
+        }
+        page.end();
     }
-    say_number(out, "ends", marks.len() as u64)
-}
-
-/// Keeps a copy.
-fn copy(registers: &mut Registers, out: &mut String) -> Result<(), OutOfMemory> {
-    registers.copy = registers.register.share()?;
-    say(out, "copied")
-}
-
-/// Goes on with the copy, and keeps the register in its place.
-fn swap(registers: &mut Registers, out: &mut String) -> Result<(), OutOfMemory> {
-    mem::swap(&mut registers.register, &mut registers.copy);
-    say(out, "swapped")
-}
-
-/// From now on there are so many databases.
-fn databases(
-    registers: &mut Registers,
-    databases: usize,
-    out: &mut String,
-) -> Result<(), OutOfMemory> {
-    registers.databases = databases;
-    say_number(out, "databases", databases as u64)
+    page.field("ends ", marks.len() as u64);
+    page.end()
 }
 
 /// Does what a line says to a register.
-pub(crate) fn play(
-    alloc: Global,
-    registers: &mut Registers,
-    line: &str,
-    words: &[&str],
-    out: &mut String,
-) -> Result<(), OutOfMemory> {
+pub(crate) fn play(registers: &mut Registers, words: &[&str], page: &mut Page) {
     match word(words, 0) {
-        "record" => record(alloc, registers, line, words, out),
-        "allows" => allows(alloc, &registers.register, words, out),
-        "ends" => ends(alloc, &registers.register, out),
-        "copy" => copy(registers, out),
-        "swap" => swap(registers, out),
-        "databases" => databases(registers, size(word(words, 1)), out),
-        _ => say(out, "no such command"),
+        "record" => record(registers, words, page),
+        "allows" => {
+            if let Some(event) = event_of(words, page) {
+                say_whether(registers.register.allows(&event), page);
+                drop(event)
+            }
+        }
+        "ends" => ends(&registers.register, page),
+        "copy" => match registers.register.share() {
+            Ok(copy) => {
+                drop(mem::replace(&mut registers.copy, copy));
+                page.say("copied")
+            }
+            Err(_) => page.lack(),
+        },
+        "swap" => {
+            mem::swap(&mut registers.register, &mut registers.copy);
+            page.say("swapped")
+        }
+        "databases" => {
+            registers.databases = index(words, 1);
+            page.field("databases ", registers.databases as u64);
+            page.end()
+        }
+        _ => page.say("no such command"),
     }
 }

@@ -1,14 +1,14 @@
 //! Commands on a store of blocks, and on databases that are opened at one of them.
 
-use crate::desk::Desk;
-use crate::shown::{print_digest, print_target, say};
-use crate::words::{digest_or_none, number_or_none, targets};
-use crate::works::ROUND;
+use crate::desk::{Desk, ROUND};
+use crate::shown::{print_digest, print_target};
+use crate::words::targets;
+use hex::FromHex;
 use stateful_bank::BankBlock;
 use stateful_bank_app::{Bank, Fresh};
-use stateful_base::{Anchor, Digested, Height, Items, MemoryStore, OutOfMemory};
+use stateful_base::{Anchor, Digest, Digested, Height, Items, MemoryStore};
 use stateful_db::DatabaseSet;
-use stateful_shell::word;
+use stateful_shell::{Page, word};
 use stateful_sync_plan::{Missing, SyncError, open_set};
 use std::alloc::Global;
 
@@ -30,80 +30,106 @@ impl Chain {
 }
 
 /// Prints an anchor.
-fn print_anchor(word: &str, anchor: Anchor, out: &mut String) -> Result<(), OutOfMemory> {
-    let height = anchor.height.0;
-    let epoch = anchor.round.epoch.0;
-    let view = anchor.round.view.0;
-    writeln!(out, "{word} height {height} epoch {epoch} view {view}")?;
-    print_digest("digest", anchor.digest, out)
+fn print_anchor(name: &str, anchor: Anchor, page: &mut Page) {
+    page.push(name);
+    page.field(" height ", anchor.height.0);
+    page.field(" epoch ", anchor.round.epoch.0);
+    page.field(" view ", anchor.round.view.0);
+    page.end();
+    print_digest("digest ", anchor.digest, page)
 }
 
 /// Keeps one block more.
-pub(crate) fn keep(chain: &mut Chain, words: &[&str], out: &mut String) -> Result<(), OutOfMemory> {
-    let alloc = *out.allocator();
-    let targets = targets(alloc, words)?;
+pub(crate) fn keep(chain: &mut Chain, words: &[&str], page: &mut Page) {
+    let alloc = page.alloc();
+    let targets = targets(words, page);
     let ops = Items::new(alloc);
     let block = match chain.last {
         None => Some(BankBlock::genesis(alloc, targets)),
         Some(parent) => BankBlock::child(parent.height, parent.digest, ROUND, ops, targets),
     };
     let Some(block) = block else {
-        return say(out, "no height is left");
+        return page.say("no height is left");
     };
-    let block = Digested::compute(alloc, block)?;
+    let Ok(block) = Digested::compute(alloc, block) else {
+        return page.lack();
+    };
     let anchor = Anchor::from_block(&block);
-    chain.store.insert(block)?;
+    if chain.store.insert(block).is_err() {
+        return page.lack();
+    }
     chain.last = Some(anchor);
-    print_anchor("kept", anchor, out)
+    print_anchor("kept", anchor, page)
 }
 
 /// Prints why databases didn't open.
-fn print_refusal(refusal: SyncError, out: &mut String) -> Result<(), OutOfMemory> {
-    writeln!(out, "{refusal}")?;
+fn print_refusal(refusal: SyncError, page: &mut Page) {
+    page.line(&refusal);
     match refusal {
-        SyncError::Database { index } => Ok(writeln!(out, "index {index}")?),
+        SyncError::Database { index } => {
+            page.push("index ");
+            page.line(&index)
+        }
         SyncError::TargetMismatch {
             index,
             expected,
             recovered,
         } => {
-            writeln!(out, "index {index}")?;
-            print_target("expected", &expected, out)?;
-            print_target("recovered", &recovered, out)
+            page.push("index ");
+            page.line(&index);
+            print_target("expected ", &expected, page);
+            print_target("recovered ", &recovered, page)
         }
         SyncError::MissingBlock(Missing::AtHeight(Height(height))) => {
-            Ok(writeln!(out, "height {height}")?)
+            page.field("height ", height);
+            page.end()
         }
         SyncError::CompletedConflict {
             height: Height(height),
             recorded,
             given,
         } => {
-            writeln!(out, "height {height}")?;
-            print_digest("recorded", recorded, out)?;
-            print_digest("given", given, out)
+            page.field("height ", height);
+            page.end();
+            print_digest("recorded ", recorded, page);
+            print_digest("given ", given, page)
         }
-        _ => Ok(()),
+        _ => {}
     }
 }
 
-/// Opens empty databases where the node has come to these heights.
-pub(crate) fn open<W: Fresh>(
-    desk: &mut Desk<W>,
-    chain: &Chain,
-    words: &[&str],
-    out: &mut String,
-) -> Result<(), OutOfMemory> {
-    let processed = number_or_none(word(words, 1)).map(Height);
-    let digest = digest_or_none(word(words, 3));
-    let completed = number_or_none(word(words, 2)).map(|height| (Height(height), digest));
-    desk.databases = W::empty(*out.allocator());
-    let config = W::config();
-    let databases = &mut desk.databases;
-    match open_set::<Bank<W>, _>(databases, &config, &chain.store, processed, completed) {
-        Ok(anchor) => print_anchor("opened", anchor, out)?,
-        Err(refusal) => print_refusal(refusal, out)?,
+/// Prints how databases opened, and whether they are here.
+fn print_opened(opened: Result<Anchor, SyncError>, is_here: bool, page: &mut Page) {
+    match opened {
+        Ok(anchor) => print_anchor("opened", anchor, page),
+        Err(refusal) => print_refusal(refusal, page),
     }
-    let is_here = desk.databases.is_here();
-    Ok(writeln!(out, "here {is_here}")?)
+    page.push("here ");
+    page.line(&is_here)
+}
+
+/// The height of a word, if it stands for one.
+fn height(word: &str) -> Option<Height> {
+    word.parse::<u64>().ok().map(Height)
+}
+
+/// The digest of a word, if it stands for one.
+fn digest(word: &str) -> Option<Digest> {
+    <[u8; 32] as FromHex>::from_hex(word).ok().map(Digest)
+}
+
+/// Opens empty databases where the node has come to these heights.
+pub(crate) fn open<W: Fresh>(desk: &mut Desk<W>, chain: &Chain, words: &[&str], page: &mut Page) {
+    let processed = height(word(words, 1));
+    let digest = digest(word(words, 3));
+    let completed = height(word(words, 2)).map(|height| (height, digest));
+    desk.databases = W::empty(page.alloc());
+    let opened = open_set::<Bank<W>, _>(
+        &mut desk.databases,
+        &W::config(),
+        &chain.store,
+        processed,
+        completed,
+    );
+    print_opened(opened, desk.databases.is_here(), page)
 }

@@ -1,84 +1,85 @@
 //! How values are printed.
 
 use stateful_bank::{BankBlock, Op};
-use stateful_base::{Digest, OutOfMemory, Target};
-use std::collections::BTreeMap;
-
-/// Prints a line.
-pub(crate) fn say(out: &mut String, text: &str) -> Result<(), OutOfMemory> {
-    Ok(writeln!(out, "{text}")?)
-}
-
-/// Prints bytes in hex behind a word.
-pub(crate) fn print_hex(word: &str, bytes: &[u8], out: &mut String) -> Result<(), OutOfMemory> {
-    let text = hex::encode(*out.allocator(), bytes)?;
-    Ok(writeln!(out, "{word} {text}")?)
-}
+use stateful_base::{Block, Digest, Target};
+use stateful_shell::Page;
 
 /// Prints a digest behind a word.
-pub(crate) fn print_digest(
-    word: &str,
-    digest: Digest,
-    out: &mut String,
-) -> Result<(), OutOfMemory> {
-    print_hex(word, digest.0.as_slice(), out)
+pub(crate) fn print_digest(name: &str, digest: Digest, page: &mut Page) {
+    page.push(name);
+    page.hex(digest.0.as_slice());
+    page.end()
 }
 
 /// Prints a target behind a word.
-pub(crate) fn print_target(
-    word: &str,
-    target: &Target,
-    out: &mut String,
-) -> Result<(), OutOfMemory> {
-    let root = hex::encode(*out.allocator(), target.root.0.as_slice())?;
-    let start = target.start.0;
-    let end = target.end.0;
-    Ok(writeln!(out, "{word} {root}:{start}:{end}")?)
+pub(crate) fn print_target(name: &str, target: &Target, page: &mut Page) {
+    page.push(name);
+    page.hex(target.root.0.as_slice());
+    page.field(":", target.start.0);
+    page.field(":", target.end.0);
+    page.end()
 }
 
 /// Prints targets.
-pub(crate) fn print_targets(targets: &[Target], out: &mut String) -> Result<(), OutOfMemory> {
+pub(crate) fn print_targets(targets: &[Target], page: &mut Page) {
     for target in targets {
-        print_target("target", target, out)?;
-    }
-    Ok(())
-}
-
-/// Prints an operation.
-fn print_op(op: &Op, out: &mut String) -> Result<(), OutOfMemory> {
-    match op {
-        Op::Mint { account, amount } => Ok(writeln!(out, "mint:{account}:{amount}")?),
-        Op::Move { from, to, amount } => Ok(writeln!(out, "move:{from}:{to}:{amount}")?),
+        print_target("target ", target, page);
     }
 }
 
 /// Prints operations.
-pub(crate) fn print_ops(ops: &[Op], out: &mut String) -> Result<(), OutOfMemory> {
+pub(crate) fn print_ops(ops: &[Op], page: &mut Page) {
     for op in ops {
-        print_op(op, out)?;
+        match op {
+            Op::Mint { account, amount } => {
+                page.field("mint:", u64::from(*account));
+                page.field(":", *amount);
+            }
+            Op::Move { from, to, amount } => {
+                page.field("move:", u64::from(*from));
+                page.field(":", u64::from(*to));
+                page.field(":", *amount);
+            }
+        }
+        page.end();
     }
-    Ok(())
-}
-
-/// Prints entries.
-pub(crate) fn print_entries(
-    entries: &BTreeMap<u64, u64>,
-    out: &mut String,
-) -> Result<(), OutOfMemory> {
-    for (account, balance) in entries {
-        writeln!(out, "{account}:{balance}")?;
-    }
-    Ok(())
 }
 
 /// Prints a block.
-pub(crate) fn print_block(block: &BankBlock, out: &mut String) -> Result<(), OutOfMemory> {
-    let height = block.height.0;
-    let epoch = block.round.epoch.0;
-    let view = block.round.view.0;
-    let slow = block.slow;
-    writeln!(out, "height {height} epoch {epoch} view {view} slow {slow}")?;
-    print_digest("parent", block.parent, out)?;
-    print_ops(block.ops.as_slice(), out)?;
-    print_targets(block.targets.as_slice(), out)
+pub(crate) fn print_block(block: &BankBlock, page: &mut Page) {
+    page.field("height ", block.height.0);
+    page.field(" epoch ", block.round.epoch.0);
+    page.field(" view ", block.round.view.0);
+    page.field(" slow ", u64::from(block.slow));
+    page.end();
+    print_digest("parent ", block.parent, page);
+    print_ops(block.ops.as_slice(), page);
+    print_targets(block.targets.as_slice(), page)
+}
+
+/// Prints a block's bytes and its digest.
+pub(crate) fn print_bytes(block: &BankBlock, page: &mut Page) {
+    let mut bytes = Vec::new(page.alloc());
+    page.note(block.encode(&mut bytes));
+    page.push("bytes ");
+    page.hex(bytes.as_slice());
+    page.end();
+    print_digest("digest ", Digest::of(bytes.as_slice()), page)
+}
+
+/// Prints whether a batch leads to what a block commits to.
+pub(crate) fn print_matches(matches: bool, page: &mut Page) {
+    page.push("matches ");
+    page.line(&matches)
+}
+
+/// Prints how deep a batch is.
+pub(crate) fn print_depth(depth: Option<usize>, page: &mut Page) {
+    match depth {
+        Some(depth) => {
+            page.push("depth ");
+            page.line(&depth)
+        }
+        None => page.say("refused"),
+    }
 }

@@ -1,46 +1,92 @@
 //! What the words of a line stand for. A word that stands for nothing is 0, or is left out.
 
 use hex::FromHex;
-use stateful_bank::Op;
-use stateful_base::{Digest, Finality, Handoff, Items, Location, OutOfMemory, Target};
-use stateful_shell::word;
+use stateful_bank::{BankBlock, Op};
+use stateful_base::{Digest, Handoff, Height, Items, Location, OutOfMemory, Target};
+use stateful_shell::{Page, number, word};
 use std::alloc::Global;
 use std::collections::BTreeMap;
 
-/// A number.
-pub(crate) fn number(word: &str) -> u64 {
-    word.parse::<u64>().unwrap_or(0)
+/// The first word of a line.
+#[derive(Clone, Copy)]
+pub(crate) enum Command {
+    Do,
+    Accept,
+    Ask,
+    Genesis,
+    Child,
+    Propose,
+    Slow,
+    Encode,
+    State,
+    Step,
+    Keep,
+    World,
+    First,
+    Run,
+    Build,
+    Turn,
+    Turns,
+    Seal,
+    Leads,
+    Apply,
+    Roots,
+    Depth,
+    Commits,
+    Matches,
+    Hook,
+    Open,
+    Unknown,
 }
 
-/// A number, or none.
-pub(crate) fn number_or_none(word: &str) -> Option<u64> {
-    word.parse::<u64>().ok()
-}
+/// The commands by their words.
+const COMMANDS: &[(&str, Command)] = &[
+    ("do", Command::Do),
+    ("accept", Command::Accept),
+    ("ask", Command::Ask),
+    ("genesis", Command::Genesis),
+    ("child", Command::Child),
+    ("propose", Command::Propose),
+    ("slow", Command::Slow),
+    ("encode", Command::Encode),
+    ("state", Command::State),
+    ("step", Command::Step),
+    ("keep", Command::Keep),
+    ("world", Command::World),
+    ("first", Command::First),
+    ("run", Command::Run),
+    ("build", Command::Build),
+    ("turn", Command::Turn),
+    ("turns", Command::Turns),
+    ("seal", Command::Seal),
+    ("leads", Command::Leads),
+    ("apply", Command::Apply),
+    ("roots", Command::Roots),
+    ("depth", Command::Depth),
+    ("commits", Command::Commits),
+    ("matches", Command::Matches),
+    ("hook", Command::Hook),
+    ("open", Command::Open),
+];
 
-/// An account.
-fn account(word: &str) -> u16 {
-    word.parse::<u16>().unwrap_or(0)
-}
-
-/// A digest in hex, or none.
-pub(crate) fn digest_or_none(word: &str) -> Option<Digest> {
-    match <[u8; 32] as FromHex>::from_hex(word) {
-        Ok(bytes) => Some(Digest(bytes)),
-        Err(_) => None,
+/// The command of a word.
+pub(crate) fn command_of(word: &str) -> Command {
+    for (name, command) in COMMANDS {
+        if *name == word {
+            return *command;
+        }
     }
+    Command::Unknown
+}
+
+/// The words of a line.
+pub(crate) fn words_of<'a>(line: &'a str, alloc: Global) -> Result<Vec<&'a str>, OutOfMemory> {
+    Ok(line.split_whitespace().collect(alloc)?)
 }
 
 /// A digest in hex.
-pub(crate) fn digest(word: &str) -> Digest {
-    digest_or_none(word).unwrap_or(Digest([0; 32]))
-}
-
-/// Why a block is run.
-pub(crate) fn finality(word: &str) -> Finality {
-    match word {
-        "finalized" => Finality::Finalized,
-        _ => Finality::Candidate,
-    }
+pub(crate) fn digest(words: &[&str], at: usize) -> Digest {
+    Digest(<[u8; 32] as FromHex>::from_hex(word(words, at)).unwrap_or([0; 32]))
 }
 
 /// How a block is handed over.
@@ -52,82 +98,99 @@ pub(crate) fn decision(word: &str) -> Handoff<()> {
     }
 }
 
-/// An operation.
-fn op(parts: &[&str]) -> Option<Op> {
-    match word(parts, 0) {
+/// A number.
+fn number_of(text: &str) -> u64 {
+    text.parse::<u64>().unwrap_or(0)
+}
+
+/// An account.
+fn account(text: &str) -> u16 {
+    text.parse::<u16>().unwrap_or(0)
+}
+
+/// The operation of a word, if it stands for one.
+fn op(word: &str) -> Option<Op> {
+    let (kind, rest) = word.split_once(':')?;
+    let (first, rest) = rest.split_once(':')?;
+    match kind {
         "mint" => Some(Op::Mint {
-            account: account(word(parts, 1)),
-            amount: number(word(parts, 2)),
+            account: account(first),
+            amount: number_of(rest),
         }),
-        "move" => Some(Op::Move {
-            from: account(word(parts, 1)),
-            to: account(word(parts, 2)),
-            amount: number(word(parts, 3)),
-        }),
+        "move" => {
+            let (to, amount) = rest.split_once(':')?;
+            Some(Op::Move {
+                from: account(first),
+                to: account(to),
+                amount: number_of(amount),
+            })
+        }
         _ => None,
     }
 }
 
-/// A target of three parts.
-fn three(parts: &[&str]) -> Option<Target> {
-    match parts.len() {
-        3 => Some(Target {
-            root: digest(word(parts, 0)),
-            start: Location(number(word(parts, 1))),
-            end: Location(number(word(parts, 2))),
-        }),
-        _ => None,
-    }
+/// The target of a word, if it stands for one.
+fn target(word: &str) -> Option<Target> {
+    let (root, range) = word.split_once(':')?;
+    let (start, end) = range.split_once(':')?;
+    Some(Target {
+        root: Digest(<[u8; 32] as FromHex>::from_hex(root).ok()?),
+        start: Location(number_of(start)),
+        end: Location(number_of(end)),
+    })
 }
 
-/// A target.
-fn target(parts: &[&str]) -> Option<Target> {
-    match word(parts, 0) {
-        "mint" | "move" => None,
-        _ => three(parts),
-    }
-}
-
-/// An entry.
-fn entry(parts: &[&str]) -> Option<(u64, u64)> {
-    match parts.len() {
-        2 => Some((number(word(parts, 0)), number(word(parts, 1)))),
-        _ => None,
-    }
+/// The entry of a word, if it stands for one.
+fn entry(word: &str) -> Option<(u64, u64)> {
+    let (account, amount) = word.split_once(':')?;
+    Some((account.parse::<u64>().ok()?, number_of(amount)))
 }
 
 /// The operations among the words.
-pub(crate) fn ops(alloc: Global, words: &[&str]) -> Result<Items<Op>, OutOfMemory> {
-    let mut ops = Items::new(alloc);
-    for text in words {
-        let parts: Vec<&str> = text.split(':').collect(alloc)?;
-        if let Some(op) = op(parts.as_slice()) {
-            ops.push(op)?;
+pub(crate) fn ops(words: &[&str], page: &mut Page) -> Items<Op> {
+    let mut ops = Items::new(page.alloc());
+    for word in words {
+        if let Some(op) = op(word) {
+            if ops.push(op).is_err() {
+                page.lack();
+            }
         }
     }
-    Ok(ops)
+    ops
 }
 
 /// The targets among the words.
-pub(crate) fn targets(alloc: Global, words: &[&str]) -> Result<Items<Target>, OutOfMemory> {
-    let mut targets = Items::new(alloc);
-    for text in words {
-        let parts: Vec<&str> = text.split(':').collect(alloc)?;
-        if let Some(target) = target(parts.as_slice()) {
-            targets.push(target)?;
+pub(crate) fn targets(words: &[&str], page: &mut Page) -> Items<Target> {
+    let mut targets = Items::new(page.alloc());
+    for word in words {
+        if let Some(target) = target(word) {
+            if targets.push(target).is_err() {
+                page.lack();
+            }
         }
     }
-    Ok(targets)
+    targets
 }
 
 /// The entries among the words.
-pub(crate) fn entries(alloc: Global, words: &[&str]) -> Result<BTreeMap<u64, u64>, OutOfMemory> {
-    let mut entries = BTreeMap::new(alloc);
-    for text in words {
-        let parts: Vec<&str> = text.split(':').collect(alloc)?;
-        if let Some((account, amount)) = entry(parts.as_slice()) {
-            entries.insert(account, amount)?;
+pub(crate) fn entries(words: &[&str], page: &mut Page) -> BTreeMap<u64, u64> {
+    let mut entries = BTreeMap::new(page.alloc());
+    for word in words {
+        if let Some((account, amount)) = entry(word) {
+            if entries.insert(account, amount).is_err() {
+                page.lack();
+            }
         }
     }
-    Ok(entries)
+    entries
+}
+
+/// The block that a line on databases brings: its height and the turns of its hook, as far as the
+/// line says them, its operations and its targets.
+pub(crate) fn block_of(words: &[&str], page: &mut Page) -> BankBlock {
+    let mut block = BankBlock::genesis(page.alloc(), targets(words, page));
+    block.height = Height(number(words, 5));
+    block.slow = u8::try_from(number(words, 2)).unwrap_or(0);
+    block.ops = ops(words, page);
+    block
 }

@@ -1,58 +1,65 @@
 //! Barriers by themselves.
 
-use crate::words::{Said, index, number, say, say_value};
+use crate::words::say_value;
 use stateful_base::OutOfMemory;
-use stateful_db::{Barrier, BarrierPoll, FlushToken, Flushed};
-use stateful_shell::word;
+use stateful_db::{Barrier, FlushToken, Flushed};
+use stateful_shell::{Page, index, number, word};
 use std::alloc::Global;
 
-/// `barrier PLACE..`: a barrier of tokens of these places.
-pub(crate) fn of_places(alloc: Global, places: &[&str]) -> Result<Barrier, OutOfMemory> {
+/// A barrier of tokens of these places.
+fn of_places(alloc: Global, words: &[&str]) -> Result<Barrier, OutOfMemory> {
     let mut tokens = Vec::new(alloc);
-    for place in places {
+    for at in 1..words.len() {
         tokens.push(FlushToken {
-            place: number(place),
+            place: number(words, at),
         })?;
     }
     Barrier::from_handles(tokens)
 }
 
-/// Prints how a barrier stands.
-pub(crate) fn say_poll(poll: BarrierPoll, out: &mut String) -> Said {
-    Ok(writeln!(out, "{poll:?}")?)
+/// `barrier PLACE..`: begins one.
+pub(crate) fn begin(kept: &mut Option<Barrier>, words: &[&str], page: &mut Page) {
+    match of_places(page.alloc(), words) {
+        Ok(barrier) => {
+            say_poll(&barrier, page);
+            *kept = Some(barrier);
+        }
+        Err(OutOfMemory) => page.lack(),
+    }
 }
 
-/// `handle N`: the place of the token of this number, while it has no answer.
-fn handle(barrier: &Barrier, number: usize, out: &mut String) -> Said {
-    match barrier.handle(number) {
-        Some(token) => say_value(out, Some(token.place)),
-        None => say(out, "none"),
-    }
+/// Prints how a barrier stands.
+fn say_poll(barrier: &Barrier, page: &mut Page) {
+    page.debug(&barrier.poll());
+    page.end();
 }
 
 /// `answer N good`, `answer N interrupted`: how a flush went.
-fn answer(barrier: &mut Barrier, number: usize, answer: Flushed, out: &mut String) -> Said {
-    match barrier.handle(number) {
-        Some(_) => say_poll(barrier.durable(number, answer), out),
-        None => say(out, "refused"),
+fn answer(barrier: &mut Barrier, words: &[&str], page: &mut Page) {
+    let number = index(words, 1);
+    let answer = match word(words, 2) {
+        "good" => Flushed::Good,
+        "interrupted" => Flushed::Interrupted,
+        _ => return page.say("no such command"),
+    };
+    if barrier.handle(number).is_none() {
+        return page.say("refused");
     }
-}
-
-/// How a flush went, by the word for it.
-fn play_answer(barrier: &mut Barrier, words: &[&str], out: &mut String) -> Said {
-    match word(words, 2) {
-        "good" => answer(barrier, index(word(words, 1)), Flushed::Good, out),
-        "interrupted" => answer(barrier, index(word(words, 1)), Flushed::Interrupted, out),
-        _ => say(out, "no such command"),
-    }
+    page.debug(&barrier.durable(number, answer));
+    page.end();
 }
 
 /// What a line says of a barrier.
-pub(crate) fn play(barrier: &mut Barrier, words: &[&str], out: &mut String) -> Said {
+pub(crate) fn play(kept: &mut Option<Barrier>, words: &[&str], page: &mut Page) {
+    let Some(barrier) = kept else {
+        return page.say("no barrier");
+    };
     match word(words, 0) {
-        "handle" => handle(barrier, index(word(words, 1)), out),
-        "answer" => play_answer(barrier, words, out),
-        "poll" => say_poll(barrier.poll(), out),
-        _ => say(out, "no such command"),
+        "handle" => {
+            let token = barrier.handle(index(words, 1));
+            say_value(page, token.map(|token| token.place));
+        }
+        "answer" => answer(barrier, words, page),
+        _ => say_poll(barrier, page),
     }
 }

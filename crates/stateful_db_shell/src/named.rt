@@ -1,6 +1,6 @@
 //! Things by name.
 
-use crate::words::{Said, say};
+use stateful_shell::Page;
 use std::alloc::Global;
 use std::collections::BTreeMap;
 
@@ -10,25 +10,32 @@ pub(crate) struct Named<T> {
     things: BTreeMap<String, T>,
 }
 
-impl<T: Drop> Named<T> {
+impl<T> Named<T> {
     /// No things.
     pub(crate) fn new(alloc: Global) -> Named<T> {
         Named {
             things: BTreeMap::new(alloc),
         }
     }
+}
 
+impl<T: Drop> Named<T> {
     /// Keeps a thing under a name, in place of the one that was there.
-    pub(crate) fn keep(&mut self, name: &str, thing: T, out: &String) -> Said {
-        let name = String::from_str(*out.allocator(), name)?;
-        self.things.insert(name, thing)?;
-        Ok(())
+    pub(crate) fn keep(&mut self, name: &str, thing: T, page: &mut Page) {
+        match String::from_str(page.alloc(), name) {
+            Ok(name) => {
+                if self.things.insert(name, thing).is_err() {
+                    page.lack();
+                }
+            }
+            Err(_) => page.lack(),
+        }
     }
 
     /// The same, and prints `ok`.
-    pub(crate) fn put(&mut self, name: &str, thing: T, out: &mut String) -> Said {
-        self.keep(name, thing, out)?;
-        say(out, "ok")
+    pub(crate) fn put(&mut self, name: &str, thing: T, page: &mut Page) {
+        self.keep(name, thing, page);
+        page.say("ok");
     }
 
     /// The thing of this name.

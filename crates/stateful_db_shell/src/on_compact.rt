@@ -3,28 +3,30 @@
 use crate::named::Named;
 use crate::sets::Member;
 use crate::tables::{self, Table};
-use crate::words::{Said, number, push_root, rest, say, say_value};
-use stateful_base::{CompactTarget, Location, Target};
+use crate::words::say_value;
+use stateful_base::{CompactTarget, Location, OutOfMemory, Target};
 use stateful_db::{DbCall, Held};
-use stateful_db_keyless::{CompactDb, CompactMedium};
-use stateful_shell::word;
+use stateful_db_keyless::{
+    CompactDb, CompactMedium, KeylessUnjournaledMerkleized, KeylessUnjournaledUnmerkleized,
+};
+use stateful_db_log::Field;
+use stateful_shell::{Page, number, word};
 use std::alloc::Global;
 
+/// The database, of numbers.
+type Log = CompactDb<u64>;
+
+/// An open batch of it.
+type Open = KeylessUnjournaledUnmerkleized<u64>;
+
+/// A sealed one.
+type Sealed = KeylessUnjournaledMerkleized<u64>;
+
 /// A set of one of it.
-pub(crate) type CompactTable = Table<Held<CompactDb<u64>>>;
+pub(crate) type CompactTable = Table<Held<Log>, Open, Sealed, CompactTarget>;
 
-/// Before a set is begun.
-pub(crate) fn new(alloc: Global) -> CompactTable {
-    Table {
-        set: Held::Away,
-        open: Named::new(alloc),
-        sealed: Named::new(alloc),
-        targets: Named::new(alloc),
-    }
-}
-
-impl Member for CompactDb<u64> {
-    fn empty(alloc: Global, failing: Vec<(DbCall, u64)>) -> CompactMedium<u64> {
+impl<V: Field> Member for CompactDb<V> {
+    fn empty(alloc: Global, failing: Vec<(DbCall, u64)>) -> CompactMedium<V> {
         CompactMedium::empty(alloc, failing)
     }
 
@@ -37,14 +39,11 @@ impl Member for CompactDb<u64> {
         }
     }
 
-    fn push_open(&self, out: &mut String) -> Said {
-        write!(out, ", size {}", self.size())?;
-        Ok(())
+    fn push_open(&self, page: &mut Page) {
+        page.field(", size ", self.size());
     }
 
-    fn push_medium(_medium: &CompactMedium<u64>, _out: &mut String) -> Said {
-        Ok(())
-    }
+    fn push_medium(_medium: &CompactMedium<V>, _page: &mut Page) {}
 
     fn has_room(&self) -> bool {
         false
@@ -52,78 +51,78 @@ impl Member for CompactDb<u64> {
 }
 
 /// `append B VALUE..`: the batch with these values behind the others.
-fn append(table: &mut CompactTable, name: &str, words: &[&str], out: &mut String) -> Said {
-    let Some(mut batch) = table.open.take(name) else {
-        return say(out, "no such batch");
+fn append(open: &mut Named<Open>, words: &[&str], page: &mut Page) {
+    let Some(mut batch) = open.take(word(words, 1)) else {
+        return page.say("no such batch");
     };
-    for word in words {
-        batch = batch.append(number(word))?;
-    }
-    table.open.keep(name, batch, out)
-}
-
-/// `metadata B VALUE`: the batch with this metadata.
-fn with(table: &mut CompactTable, name: &str, metadata: u64, out: &mut String) -> Said {
-    match table.open.take(name) {
-        Some(batch) => table.open.keep(name, batch.with_metadata(metadata), out),
-        None => say(out, "no such batch"),
-    }
-}
-
-/// `floor B LOCATION`: the batch with this inactivity floor.
-fn floor(table: &mut CompactTable, name: &str, floor: u64, out: &mut String) -> Said {
-    match table.open.take(name) {
-        Some(batch) => {
-            let batch = batch.with_inactivity_floor(Location(floor));
-            table.open.keep(name, batch, out)
+    for at in 2..words.len() {
+        match batch.append(number(words, at)) {
+            Ok(next) => batch = next,
+            Err(OutOfMemory) => return page.lack(),
         }
-        None => say(out, "no such batch"),
     }
+    open.keep(word(words, 1), batch, page);
+}
+
+/// `metadata B VALUE`, `floor B LOCATION`: the batch with this metadata or inactivity floor.
+fn with(open: &mut Named<Open>, words: &[&str], page: &mut Page) {
+    let Some(batch) = open.take(word(words, 1)) else {
+        return page.say("no such batch");
+    };
+    let given = number(words, 2);
+    let batch = match word(words, 0) {
+        "floor" => batch.with_inactivity_floor(Location(given)),
+        _ => batch.with_metadata(given),
+    };
+    open.keep(word(words, 1), batch, page);
 }
 
 /// `bounds B`: the floor of a sealed batch, and its end.
-fn bounds(table: &CompactTable, name: &str, out: &mut String) -> Said {
-    let Some(batch) = table.sealed.get(name) else {
-        return say(out, "no such batch");
+fn bounds(sealed: &Named<Sealed>, name: &str, page: &mut Page) {
+    let Some(batch) = sealed.get(name) else {
+        return page.say("no such batch");
     };
     let bounds = batch.bounds();
-    let (floor, size) = (bounds.inactivity_floor.0, bounds.size.0);
-    Ok(writeln!(out, "{floor}..{size}")?)
+    page.number(bounds.inactivity_floor.0);
+    page.field("..", bounds.size.0);
+    page.end();
 }
 
-/// `root`: the digest behind all operations.
-fn root(table: &CompactTable, out: &mut String) -> Said {
-    let Held::Here(database) = &table.set else {
-        return say(out, "not here");
+/// `root`, `metadata`: of the latest commit.
+fn read(set: &Held<Log>, words: &[&str], page: &mut Page) {
+    let Held::Here(database) = set else {
+        return page.say("not here");
     };
-    push_root(out, &database.root())?;
-    say(out, "")
-}
-
-/// `metadata`: that of the latest commit.
-fn metadata(table: &CompactTable, out: &mut String) -> Said {
-    match &table.set {
-        Held::Here(database) => say_value(out, database.get_metadata().copied()),
-        _ => say(out, "not here"),
+    match word(words, 0) {
+        "root" => {
+            page.hex(database.root().0.as_slice());
+            page.end();
+        }
+        _ => say_value(page, database.get_metadata().copied()),
     }
 }
 
-/// `metadata`, `metadata B VALUE`.
-fn play_metadata(table: &mut CompactTable, words: &[&str], out: &mut String) -> Said {
-    match words.len() {
-        1 => metadata(table, out),
-        _ => with(table, word(words, 1), number(word(words, 2)), out),
-    }
+/// What a line says that every set knows. The set is met here for fields of any kind.
+fn play_set<V: Field>(
+    table: &mut Table<
+        Held<CompactDb<V>>,
+        KeylessUnjournaledUnmerkleized<V>,
+        KeylessUnjournaledMerkleized<V>,
+        CompactTarget,
+    >,
+    words: &[&str],
+    page: &mut Page,
+) {
+    tables::play::<Held<CompactDb<V>>>(table, words, page);
 }
 
 /// What a line says of a set of one.
-pub(crate) fn play(table: &mut CompactTable, words: &[&str], out: &mut String) -> Said {
+pub(crate) fn play(table: &mut CompactTable, words: &[&str], page: &mut Page) {
     match word(words, 0) {
-        "append" => append(table, word(words, 1), rest(words, 2), out),
-        "metadata" => play_metadata(table, words, out),
-        "floor" => floor(table, word(words, 1), number(word(words, 2)), out),
-        "bounds" => bounds(table, word(words, 1), out),
-        "root" => root(table, out),
-        _ => tables::play(table, words, out),
+        "append" => append(&mut table.open, words, page),
+        "metadata" | "floor" if words.len() > 1 => with(&mut table.open, words, page),
+        "bounds" => bounds(&table.sealed, word(words, 1), page),
+        "root" | "metadata" => read(&table.set, words, page),
+        _ => play_set(table, words, page),
     }
 }

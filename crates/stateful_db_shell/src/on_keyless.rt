@@ -3,28 +3,28 @@
 use crate::named::Named;
 use crate::sets::Member;
 use crate::tables::{self, Table};
-use crate::words::{Said, number, push_root, rest, say, say_read, say_reads, say_value};
+use crate::words::{say_read, say_reads, say_value};
 use stateful_base::{Location, OutOfMemory, Target};
 use stateful_db::{DbCall, Held};
-use stateful_db_keyless::{KeylessDb, KeylessMedium};
-use stateful_shell::word;
+use stateful_db_keyless::{KeylessDb, KeylessMedium, KeylessMerkleized, KeylessUnmerkleized};
+use stateful_db_log::Field;
+use stateful_shell::{Page, number, word};
 use std::alloc::Global;
 
+/// The database, of numbers.
+type Log = KeylessDb<u64>;
+
+/// An open batch of it.
+type Open = KeylessUnmerkleized<u64>;
+
+/// A sealed one.
+type Sealed = KeylessMerkleized<u64>;
+
 /// A set of one of it.
-pub(crate) type KeylessTable = Table<Held<KeylessDb<u64>>>;
+pub(crate) type KeylessTable = Table<Held<Log>, Open, Sealed, Target>;
 
-/// Before a set is begun.
-pub(crate) fn new(alloc: Global) -> KeylessTable {
-    Table {
-        set: Held::Away,
-        open: Named::new(alloc),
-        sealed: Named::new(alloc),
-        targets: Named::new(alloc),
-    }
-}
-
-impl Member for KeylessDb<u64> {
-    fn empty(alloc: Global, failing: Vec<(DbCall, u64)>) -> KeylessMedium<u64> {
+impl<V: Field> Member for KeylessDb<V> {
+    fn empty(alloc: Global, failing: Vec<(DbCall, u64)>) -> KeylessMedium<V> {
         KeylessMedium::empty(alloc, failing)
     }
 
@@ -34,15 +34,13 @@ impl Member for KeylessDb<u64> {
         target
     }
 
-    fn push_open(&self, out: &mut String) -> Said {
+    fn push_open(&self, page: &mut Page) {
         let range = self.range();
-        write!(out, ", range {}..{}", range.start, range.end)?;
-        Ok(())
+        page.field(", range ", range.start);
+        page.field("..", range.end);
     }
 
-    fn push_medium(_medium: &KeylessMedium<u64>, _out: &mut String) -> Said {
-        Ok(())
-    }
+    fn push_medium(_medium: &KeylessMedium<V>, _page: &mut Page) {}
 
     fn has_room(&self) -> bool {
         false
@@ -50,134 +48,117 @@ impl Member for KeylessDb<u64> {
 }
 
 /// `append B VALUE..`: the batch with these values behind the others.
-fn append(table: &mut KeylessTable, name: &str, words: &[&str], out: &mut String) -> Said {
-    let Some(mut batch) = table.open.take(name) else {
-        return say(out, "no such batch");
+fn append(open: &mut Named<Open>, words: &[&str], page: &mut Page) {
+    let Some(mut batch) = open.take(word(words, 1)) else {
+        return page.say("no such batch");
     };
-    for word in words {
-        batch = batch.append(number(word))?;
-    }
-    table.open.keep(name, batch, out)
-}
-
-/// `metadata B VALUE`: the batch with this metadata.
-fn with(table: &mut KeylessTable, name: &str, metadata: u64, out: &mut String) -> Said {
-    match table.open.take(name) {
-        Some(batch) => table.open.keep(name, batch.with_metadata(metadata), out),
-        None => say(out, "no such batch"),
-    }
-}
-
-/// `floor B LOCATION`: the batch with this inactivity floor.
-fn floor(table: &mut KeylessTable, name: &str, floor: u64, out: &mut String) -> Said {
-    match table.open.take(name) {
-        Some(batch) => {
-            let batch = batch.with_inactivity_floor(Location(floor));
-            table.open.keep(name, batch, out)
+    for at in 2..words.len() {
+        match batch.append(number(words, at)) {
+            Ok(next) => batch = next,
+            Err(OutOfMemory) => return page.lack(),
         }
-        None => say(out, "no such batch"),
     }
+    open.keep(word(words, 1), batch, page);
+}
+
+/// `metadata B VALUE`, `floor B LOCATION`: the batch with this metadata or inactivity floor.
+fn with(open: &mut Named<Open>, words: &[&str], page: &mut Page) {
+    let Some(batch) = open.take(word(words, 1)) else {
+        return page.say("no such batch");
+    };
+    let given = number(words, 2);
+    let batch = match word(words, 0) {
+        "floor" => batch.with_inactivity_floor(Location(given)),
+        _ => batch.with_metadata(given),
+    };
+    open.keep(word(words, 1), batch, page);
 }
 
 /// `get B LOCATION`: what a batch has there.
-fn get_in(table: &KeylessTable, name: &str, at: u64, out: &mut String) -> Said {
+fn get_in(table: &KeylessTable, words: &[&str], page: &mut Page) {
     let Held::Here(database) = &table.set else {
-        return say(out, "not here");
+        return page.say("not here");
     };
-    if let Some(batch) = table.open.get(name) {
-        return say_read(out, batch.get(database, Location(at)));
+    let at = Location(number(words, 2));
+    if let Some(batch) = table.open.get(word(words, 1)) {
+        return say_read(page, batch.get(database, at));
     }
-    match table.sealed.get(name) {
-        Some(batch) => say_read(out, batch.get(database, Location(at))),
-        None => say(out, "no such batch"),
+    match table.sealed.get(word(words, 1)) {
+        Some(batch) => say_read(page, batch.get(database, at)),
+        None => page.say("no such batch"),
     }
 }
 
-/// Locations.
+/// The locations from the third word on.
 fn locations(alloc: Global, words: &[&str]) -> Result<Vec<Location>, OutOfMemory> {
     let mut locations = Vec::new(alloc);
-    for word in words {
-        locations.push(Location(number(word)))?;
+    for at in 2..words.len() {
+        locations.push(Location(number(words, at)))?;
     }
     Ok(locations)
 }
 
 /// `many B LOCATION..`: what a batch has there.
-fn many_in(table: &KeylessTable, name: &str, words: &[&str], out: &mut String) -> Said {
-    let all = locations(*out.allocator(), words)?;
-    let Held::Here(database) = &table.set else {
-        return say(out, "not here");
+fn many_in(table: &KeylessTable, words: &[&str], page: &mut Page) {
+    let Ok(all) = locations(page.alloc(), words) else {
+        return page.lack();
     };
-    if let Some(batch) = table.open.get(name) {
-        return say_reads(out, batch.get_many(database, all.as_slice()));
+    let Held::Here(database) = &table.set else {
+        return page.say("not here");
+    };
+    if let Some(batch) = table.open.get(word(words, 1)) {
+        return say_reads(page, batch.get_many(database, all.as_slice()));
     }
-    match table.sealed.get(name) {
-        Some(batch) => say_reads(out, batch.get_many(database, all.as_slice())),
-        None => say(out, "no such batch"),
+    match table.sealed.get(word(words, 1)) {
+        Some(batch) => say_reads(page, batch.get_many(database, all.as_slice())),
+        None => page.say("no such batch"),
     }
 }
 
 /// `bounds B`: the floor of a sealed batch, and its end.
-fn bounds(table: &KeylessTable, name: &str, out: &mut String) -> Said {
-    let Some(batch) = table.sealed.get(name) else {
-        return say(out, "no such batch");
+fn bounds(sealed: &Named<Sealed>, name: &str, page: &mut Page) {
+    let Some(batch) = sealed.get(name) else {
+        return page.say("no such batch");
     };
     let bounds = batch.bounds();
-    let (floor, size) = (bounds.inactivity_floor.0, bounds.size.0);
-    Ok(writeln!(out, "{floor}..{size}")?)
+    page.number(bounds.inactivity_floor.0);
+    page.field("..", bounds.size.0);
+    page.end();
 }
 
-/// `get LOCATION`: what the database has there.
-fn get(table: &KeylessTable, at: u64, out: &mut String) -> Said {
-    match &table.set {
-        Held::Here(database) => say_read(out, database.get(Location(at))),
-        _ => say(out, "not here"),
-    }
-}
-
-/// `root`: the digest behind all operations.
-fn root(table: &KeylessTable, out: &mut String) -> Said {
-    let Held::Here(database) = &table.set else {
-        return say(out, "not here");
+/// `get LOCATION`, `root`, `metadata`: what the database has.
+fn read(set: &Held<Log>, words: &[&str], page: &mut Page) {
+    let Held::Here(database) = set else {
+        return page.say("not here");
     };
-    push_root(out, &database.root())?;
-    say(out, "")
-}
-
-/// `metadata`: that of the last commit.
-fn metadata(table: &KeylessTable, out: &mut String) -> Said {
-    match &table.set {
-        Held::Here(database) => say_value(out, database.get_metadata().copied()),
-        _ => say(out, "not here"),
+    match word(words, 0) {
+        "get" => say_read(page, database.get(Location(number(words, 1)))),
+        "root" => {
+            page.hex(database.root().0.as_slice());
+            page.end();
+        }
+        _ => say_value(page, database.get_metadata().copied()),
     }
 }
 
-/// `metadata`, `metadata B VALUE`.
-fn play_metadata(table: &mut KeylessTable, words: &[&str], out: &mut String) -> Said {
-    match words.len() {
-        1 => metadata(table, out),
-        _ => with(table, word(words, 1), number(word(words, 2)), out),
-    }
-}
-
-/// `get LOCATION`, `get B LOCATION`.
-fn play_get(table: &KeylessTable, words: &[&str], out: &mut String) -> Said {
-    match words.len() {
-        3 => get_in(table, word(words, 1), number(word(words, 2)), out),
-        _ => get(table, number(word(words, 1)), out),
-    }
+/// What a line says that every set knows. The set is met here for fields of any kind.
+fn play_set<V: Field>(
+    table: &mut Table<Held<KeylessDb<V>>, KeylessUnmerkleized<V>, KeylessMerkleized<V>, Target>,
+    words: &[&str],
+    page: &mut Page,
+) {
+    tables::play::<Held<KeylessDb<V>>>(table, words, page);
 }
 
 /// What a line says of a set of one.
-pub(crate) fn play(table: &mut KeylessTable, words: &[&str], out: &mut String) -> Said {
+pub(crate) fn play(table: &mut KeylessTable, words: &[&str], page: &mut Page) {
     match word(words, 0) {
-        "append" => append(table, word(words, 1), rest(words, 2), out),
-        "metadata" => play_metadata(table, words, out),
-        "floor" => floor(table, word(words, 1), number(word(words, 2)), out),
-        "get" => play_get(table, words, out),
-        "many" => many_in(table, word(words, 1), rest(words, 2), out),
-        "bounds" => bounds(table, word(words, 1), out),
-        "root" => root(table, out),
-        _ => tables::play(table, words, out),
+        "append" => append(&mut table.open, words, page),
+        "metadata" | "floor" if words.len() > 1 => with(&mut table.open, words, page),
+        "get" if words.len() > 2 => get_in(table, words, page),
+        "many" => many_in(table, words, page),
+        "bounds" => bounds(&table.sealed, word(words, 1), page),
+        "get" | "root" | "metadata" => read(&table.set, words, page),
+        _ => play_set(table, words, page),
     }
 }

@@ -3,25 +3,15 @@
 use crate::named::Named;
 use crate::sets::{Member, count};
 use crate::tables::{self, Table};
-use crate::words::{Said, number, rest, say, say_read, say_value, write};
-use stateful_base::Target;
-use stateful_db::{BatchError, DbCall, Held};
-use stateful_db_plain::{Plain, PlainMedium};
-use stateful_shell::word;
+use crate::words::{say_read, say_value, write};
+use stateful_base::{OutOfMemory, Target};
+use stateful_db::{DbCall, Held};
+use stateful_db_plain::{Plain, PlainMedium, PlainMerkleized, PlainUnmerkleized};
+use stateful_shell::{Page, number, word};
 use std::alloc::Global;
 
 /// A set of one of it.
-pub(crate) type PlainTable = Table<Held<Plain>>;
-
-/// Before a set is begun.
-pub(crate) fn new(alloc: Global) -> PlainTable {
-    Table {
-        set: Held::Away,
-        open: Named::new(alloc),
-        sealed: Named::new(alloc),
-        targets: Named::new(alloc),
-    }
-}
+pub(crate) type PlainTable = Table<Held<Plain>, PlainUnmerkleized, PlainMerkleized, Target>;
 
 impl Member for Plain {
     fn empty(alloc: Global, failing: Vec<(DbCall, u64)>) -> PlainMedium {
@@ -34,16 +24,15 @@ impl Member for Plain {
         target
     }
 
-    fn push_open(&self, out: &mut String) -> Said {
-        Self::push_medium(self.medium(), out)?;
-        write!(out, ", out {}", count(self.tokens()))?;
-        Ok(())
+    fn push_open(&self, page: &mut Page) {
+        Self::push_medium(self.medium(), page);
+        page.field(", out ", count(self.tokens()));
     }
 
-    fn push_medium(medium: &PlainMedium, out: &mut String) -> Said {
-        let (end, durable, pruned) = (medium.end(), medium.durable(), medium.pruned());
-        write!(out, ", end {end}, durable {durable}, pruned {pruned}")?;
-        Ok(())
+    fn push_medium(medium: &PlainMedium, page: &mut Page) {
+        page.field(", end ", medium.end());
+        page.field(", durable ", medium.durable());
+        page.field(", pruned ", medium.pruned());
     }
 
     fn has_room(&self) -> bool {
@@ -52,63 +41,62 @@ impl Member for Plain {
 }
 
 /// `write B KEY=VALUE..`: the batch with these values.
-fn put(table: &mut PlainTable, name: &str, words: &[&str], out: &mut String) -> Said {
-    let Some(mut batch) = table.open.take(name) else {
-        return say(out, "no such batch");
+fn put(open: &mut Named<PlainUnmerkleized>, words: &[&str], page: &mut Page) {
+    let Some(mut batch) = open.take(word(words, 1)) else {
+        return page.say("no such batch");
     };
-    for word in words {
-        let (key, value) = write(word);
-        batch = batch.write(key, value)?;
+    for at in 2..words.len() {
+        let (key, value) = write(word(words, at));
+        match batch.write(key, value) {
+            Ok(next) => batch = next,
+            Err(OutOfMemory) => return page.lack(),
+        }
     }
-    table.open.keep(name, batch, out)
+    open.keep(word(words, 1), batch, page);
 }
 
 /// `get B KEY`: what an open batch has there.
-fn get_in(table: &PlainTable, name: &str, key: u64, out: &mut String) -> Said {
+fn get_in(table: &PlainTable, words: &[&str], page: &mut Page) {
     let Held::Here(database) = &table.set else {
-        return say_read(out, Err(BatchError::StaleRead));
+        return page.say("StaleRead");
     };
-    match table.open.get(name) {
-        Some(batch) => say_read(out, batch.get(database, key)),
-        None => say(out, "no such batch"),
+    match table.open.get(word(words, 1)) {
+        Some(batch) => say_read(page, batch.get(database, number(words, 2))),
+        None => page.say("no such batch"),
     }
 }
 
-/// `get KEY`: what the database has there.
-fn get(table: &PlainTable, key: u64, out: &mut String) -> Said {
-    match &table.set {
-        Held::Here(database) => say_value(out, database.entries().get(&key).copied()),
-        _ => say(out, "not here"),
-    }
-}
-
-/// `entries`: all that it has, and its range.
-fn entries(table: &PlainTable, out: &mut String) -> Said {
-    let Held::Here(database) = &table.set else {
-        return say(out, "not here");
-    };
-    let (range, size) = (database.range(), database.size());
-    write!(out, "{}..{} of {size}:", range.start, range.end)?;
+/// All that a database has, and its range.
+fn say_entries(database: &Plain, page: &mut Page) {
+    let range = database.range();
+    page.number(range.start);
+    page.field("..", range.end);
+    page.field(" of ", database.size());
+    page.push(":");
     for (key, value) in database.entries() {
-        write!(out, " {key}={value}")?;
+        page.field(" ", *key);
+        page.field("=", *value);
     }
-    say(out, "")
+    page.end();
 }
 
-/// `get KEY`, `get B KEY`.
-fn play_get(table: &PlainTable, words: &[&str], out: &mut String) -> Said {
-    match words.len() {
-        3 => get_in(table, word(words, 1), number(word(words, 2)), out),
-        _ => get(table, number(word(words, 1)), out),
+/// `get KEY`, `entries`: what the database has.
+fn read(set: &Held<Plain>, words: &[&str], page: &mut Page) {
+    let Held::Here(database) = set else {
+        return page.say("not here");
+    };
+    match word(words, 0) {
+        "entries" => say_entries(database, page),
+        _ => say_value(page, database.entries().get(&number(words, 1)).copied()),
     }
 }
 
 /// What a line says of a set of one.
-pub(crate) fn play(table: &mut PlainTable, words: &[&str], out: &mut String) -> Said {
+pub(crate) fn play(table: &mut PlainTable, words: &[&str], page: &mut Page) {
     match word(words, 0) {
-        "write" => put(table, word(words, 1), rest(words, 2), out),
-        "get" => play_get(table, words, out),
-        "entries" => entries(table, out),
-        _ => tables::play(table, words, out),
+        "write" => put(&mut table.open, words, page),
+        "get" if words.len() > 2 => get_in(table, words, page),
+        "get" | "entries" => read(&table.set, words, page),
+        _ => tables::play::<Held<Plain>>(table, words, page),
     }
 }

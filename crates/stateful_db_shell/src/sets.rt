@@ -1,27 +1,36 @@
 //! The sets that a shell plays on, and the databases in them.
 
-use crate::words::{Said, call, index, number, push_target};
+use crate::words::{call, say_target, value};
 use stateful_base::{Faulty, OutOfMemory, Target};
 use stateful_db::{DatabaseSet, DbCall, Held, ManagedDb, Merkleized, Targeted, Tokens};
+use stateful_shell::Page;
 use std::alloc::Global;
 
-/// A call of the database of this number, by kind and by number from 0 on, which fails.
-#[derive(Clone, Copy)]
-pub(crate) struct Failing {
-    database: usize,
-    call: DbCall,
-    number: u64,
+/// What a word `DATABASE:CALL:NUMBER` says of the database of this number: the call by kind and by
+/// number from 0 on, which fails.
+fn failing_call(word: &str, database: u64) -> Option<(DbCall, u64)> {
+    let (of, call_and_number) = word.split_once(':')?;
+    let (kind, place) = call_and_number.split_once(':')?;
+    if value(of)? == database {
+        Some((call(kind)?, value(place)?))
+    } else {
+        None
+    }
 }
 
-/// What a word `DATABASE:CALL:NUMBER` says.
-pub(crate) fn failing_call(word: &str) -> Option<Failing> {
-    let (database, call_and_number) = word.split_once(':')?;
-    let (kind, place) = call_and_number.split_once(':')?;
-    Some(Failing {
-        database: index(database),
-        call: call(kind)?,
-        number: number(place),
-    })
+/// The calls of the database of this number that fail, as words say.
+fn failing_calls(
+    alloc: Global,
+    database: u64,
+    words: &[&str],
+) -> Result<Vec<(DbCall, u64)>, OutOfMemory> {
+    let mut calls = Vec::new(alloc);
+    for word in words {
+        if let Some(call) = failing_call(word, database) {
+            calls.push(call)?;
+        }
+    }
+    Ok(calls)
 }
 
 /// A database of a set.
@@ -37,10 +46,10 @@ pub(crate) trait Member: ManagedDb {
     fn expected(target: Target) -> Self::SyncTarget;
 
     /// Appends what is printed of an open database.
-    fn push_open(&self, out: &mut String) -> Said;
+    fn push_open(&self, page: &mut Page);
 
     /// Appends what is printed of a medium.
-    fn push_medium(medium: &Self::Medium, out: &mut String) -> Said;
+    fn push_medium(medium: &Self::Medium, page: &mut Page);
 
     /// Whether a token more may be out at it, as far as it tells.
     fn has_room(&self) -> bool
@@ -61,13 +70,14 @@ pub(crate) fn count(tokens: Tokens) -> u64 {
 pub(crate) trait Playable: DatabaseSet + Drop {
     ghost use Rattle.std.specs.Prelude.{IsTrue};
 
-    /// Closed databases over empty media. The first one has this number.
-    fn make(alloc: Global, first: usize, failing: &[Failing]) -> Result<Self, OutOfMemory>;
+    /// Closed databases over empty media, at which the calls of these words fail. The first one
+    /// has this number.
+    fn make(alloc: Global, first: u64, words: &[&str]) -> Result<Self, OutOfMemory>;
 
     fn config() -> Self::Config;
 
     /// Expects this target of the database of this number.
-    fn expect(targets: &mut Self::SyncTargets, database: usize, target: Target);
+    fn expect(targets: &mut Self::SyncTargets, database: u64, target: Target);
 
     /// What a sealed batch leads to.
     fn targets_of(batch: &Self::Merkleized) -> Self::SyncTargets;
@@ -76,10 +86,10 @@ pub(crate) trait Playable: DatabaseSet + Drop {
     fn share(batch: &Self::Merkleized) -> Result<Self::Merkleized, OutOfMemory>;
 
     /// Prints a line for each target. The first one has this number.
-    fn say_targets(targets: &Self::SyncTargets, first: usize, out: &mut String) -> Said;
+    fn say_targets(targets: &Self::SyncTargets, first: u64, page: &mut Page);
 
     /// Prints a line for each database. The first one has this number.
-    fn say_rows(&self, first: usize, out: &mut String) -> Said;
+    fn say_rows(&self, first: u64, page: &mut Page);
 
     /// Whether every database is here and a token more may be out at it.
     fn has_room(&self) -> bool
@@ -91,47 +101,32 @@ pub(crate) trait Playable: DatabaseSet + Drop {
 }
 
 /// Prints the line of an open database.
-fn say_open<D: Member>(database: &D, number: usize, out: &mut String) -> Said {
-    write!(out, "{number}: here, faults {}", database.faults())?;
-    database.push_open(out)?;
-    out.push('\n')?;
-    Ok(())
+fn say_open<D: Member>(database: &D, number: u64, page: &mut Page) {
+    page.number(number);
+    page.field(": here, faults ", database.faults());
+    database.push_open(page);
+    page.end();
 }
 
 /// Prints the line of a database that is its medium alone.
-fn say_medium<D: Member>(medium: &D::Medium, number: usize, at: &str, out: &mut String) -> Said {
-    write!(out, "{number}: {at}, faults {}", medium.faults())?;
-    D::push_medium(medium, out)?;
-    out.push('\n')?;
-    Ok(())
+fn say_medium<D: Member>(medium: &D::Medium, number: u64, at: &str, page: &mut Page) {
+    page.number(number);
+    page.push(at);
+    page.number(medium.faults());
+    D::push_medium(medium, page);
+    page.end();
 }
 
 /// Prints the line of a target.
-fn say_target(target: &Target, number: usize, out: &mut String) -> Said {
-    write!(out, "{number}: ")?;
-    push_target(out, target)?;
-    out.push('\n')?;
-    Ok(())
-}
-
-/// The calls of the database of this number.
-fn calls_of(
-    alloc: Global,
-    database: usize,
-    failing: &[Failing],
-) -> Result<Vec<(DbCall, u64)>, OutOfMemory> {
-    let mut calls = Vec::new(alloc);
-    for failing in failing {
-        if failing.database == database {
-            calls.push((failing.call, failing.number))?;
-        }
-    }
-    Ok(calls)
+fn say_target_at(target: &Target, number: u64, page: &mut Page) {
+    page.number(number);
+    page.push(": ");
+    say_target(page, target);
 }
 
 impl<D: Member> Playable for Held<D> {
-    fn make(alloc: Global, first: usize, failing: &[Failing]) -> Result<Self, OutOfMemory> {
-        let calls = calls_of(alloc, first, failing)?;
+    fn make(alloc: Global, first: u64, words: &[&str]) -> Result<Self, OutOfMemory> {
+        let calls = failing_calls(alloc, first, words)?;
         Ok(Held::Closed(D::empty(alloc, calls)))
     }
 
@@ -139,7 +134,7 @@ impl<D: Member> Playable for Held<D> {
         D::config()
     }
 
-    fn expect(targets: &mut D::SyncTarget, database: usize, target: Target) {
+    fn expect(targets: &mut D::SyncTarget, database: u64, target: Target) {
         if database == 0 {
             *targets = D::expected(target);
         }
@@ -153,16 +148,19 @@ impl<D: Member> Playable for Held<D> {
         batch.share()
     }
 
-    fn say_targets(targets: &D::SyncTarget, first: usize, out: &mut String) -> Said {
-        say_target(&targets.target(), first, out)
+    fn say_targets(targets: &D::SyncTarget, first: u64, page: &mut Page) {
+        say_target_at(&targets.target(), first, page);
     }
 
-    fn say_rows(&self, first: usize, out: &mut String) -> Said {
+    fn say_rows(&self, first: u64, page: &mut Page) {
         match self {
-            Held::Here(database) => say_open(database, first, out),
-            Held::Closed(medium) => say_medium::<D>(medium, first, "closed", out),
-            Held::Lost(medium) => say_medium::<D>(medium, first, "lost", out),
-            Held::Away => Ok(writeln!(out, "{first}: away")?),
+            Held::Here(database) => say_open(database, first, page),
+            Held::Closed(medium) => say_medium::<D>(medium, first, ": closed, faults ", page),
+            Held::Lost(medium) => say_medium::<D>(medium, first, ": lost, faults ", page),
+            Held::Away => {
+                page.number(first);
+                page.say(": away");
+            }
         }
     }
 
@@ -179,9 +177,9 @@ impl<D: Member> Playable for Held<D> {
 }
 
 impl<D: Member, R: Playable> Playable for (Held<D>, R) {
-    fn make(alloc: Global, first: usize, failing: &[Failing]) -> Result<Self, OutOfMemory> {
-        let one = Held::<D>::make(alloc, first, failing)?;
-        let others = R::make(alloc, first.saturating_add(1), failing)?;
+    fn make(alloc: Global, first: u64, words: &[&str]) -> Result<Self, OutOfMemory> {
+        let one = Held::<D>::make(alloc, first, words)?;
+        let others = R::make(alloc, first.saturating_add(1), words)?;
         Ok((one, others))
     }
 
@@ -189,7 +187,7 @@ impl<D: Member, R: Playable> Playable for (Held<D>, R) {
         (D::config(), R::config())
     }
 
-    fn expect(targets: &mut (D::SyncTarget, R::SyncTargets), database: usize, target: Target) {
+    fn expect(targets: &mut (D::SyncTarget, R::SyncTargets), database: u64, target: Target) {
         match database.checked_sub(1) {
             Some(behind) => R::expect(&mut targets.1, behind, target),
             None => targets.0 = D::expected(target),
@@ -208,18 +206,14 @@ impl<D: Member, R: Playable> Playable for (Held<D>, R) {
         Ok((one, others))
     }
 
-    fn say_targets(
-        targets: &(D::SyncTarget, R::SyncTargets),
-        first: usize,
-        out: &mut String,
-    ) -> Said {
-        say_target(&targets.0.target(), first, out)?;
-        R::say_targets(&targets.1, first.saturating_add(1), out)
+    fn say_targets(targets: &(D::SyncTarget, R::SyncTargets), first: u64, page: &mut Page) {
+        say_target_at(&targets.0.target(), first, page);
+        R::say_targets(&targets.1, first.saturating_add(1), page);
     }
 
-    fn say_rows(&self, first: usize, out: &mut String) -> Said {
-        self.0.say_rows(first, out)?;
-        self.1.say_rows(first.saturating_add(1), out)
+    fn say_rows(&self, first: u64, page: &mut Page) {
+        self.0.say_rows(first, page);
+        self.1.say_rows(first.saturating_add(1), page);
     }
 
     fn has_room(&self) -> bool {

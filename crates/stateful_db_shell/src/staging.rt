@@ -1,76 +1,75 @@
 //! Batches whose keys are staged.
 
 use crate::on_any::AnyTable;
-use crate::words::{Said, numbers, say, say_refused, say_values, write};
+use crate::words::{numbers, say_refused, say_values, write};
 use stateful_base::OutOfMemory;
 use stateful_db::Held;
 use stateful_db_any::{AnyStaged, Slot};
+use stateful_shell::{Page, number, word};
 use std::alloc::Global;
-use std::ops::Range;
 
 /// A batch, and its staged keys.
 pub(crate) type Staging = AnyStaged<u64, u64>;
 
 /// `stage B KEY..`: reads keys of an open batch, and stages them.
-pub(crate) fn stage(any: &mut AnyTable, name: &str, words: &[&str], out: &mut String) -> Said {
-    let keys = numbers(*out.allocator(), words)?;
-    let Some(batch) = any.table.open.take(name) else {
-        return say(out, "no such batch");
+fn stage(table: &mut AnyTable, kept: &mut Option<Staging>, words: &[&str], page: &mut Page) {
+    let Ok(keys) = numbers(page.alloc(), words, 2) else {
+        return page.lack();
     };
-    let Held::Here(database) = &any.table.set else {
-        return say(out, "not here");
+    let Some(batch) = table.open.take(word(words, 1)) else {
+        return page.say("no such batch");
+    };
+    let Held::Here(database) = &table.set else {
+        return page.say("not here");
     };
     match batch.stage(database, keys.as_slice()) {
         Ok((values, staged)) => {
-            any.staging = Some(staged);
-            say_values(out, values.as_slice())
+            *kept = Some(staged);
+            say_values(page, values.as_slice());
         }
-        Err(error) => say_refused(out, error),
+        Err(error) => say_refused(page, error),
     }
 }
 
 /// `expand KEY..`: reads more keys, and stages them behind the others.
-pub(crate) fn expand(any: &mut AnyTable, words: &[&str], out: &mut String) -> Said {
-    let keys = numbers(*out.allocator(), words)?;
-    let Some(staged) = any.staging.take() else {
-        return say(out, "nothing is staged");
+fn expand(table: &AnyTable, kept: &mut Option<Staging>, words: &[&str], page: &mut Page) {
+    let Ok(keys) = numbers(page.alloc(), words, 1) else {
+        return page.lack();
     };
-    let Held::Here(database) = &any.table.set else {
-        return say(out, "not here");
+    let Some(staged) = kept.take() else {
+        return page.say("nothing is staged");
+    };
+    let Held::Here(database) = &table.set else {
+        return page.say("not here");
     };
     match staged.expand(database, keys.as_slice()) {
         Ok((range, values, staged)) => {
-            any.staging = Some(staged);
-            say_range(out, range, values.as_slice())
+            *kept = Some(staged);
+            page.show(&range.start);
+            page.push("..");
+            page.show(&range.end);
+            page.push(" ");
+            say_values(page, values.as_slice());
         }
-        Err(error) => say_refused(out, error),
+        Err(error) => say_refused(page, error),
     }
 }
 
-/// Prints the numbers of keys, and their values.
-fn say_range(out: &mut String, range: Range<usize>, values: &[Option<u64>]) -> Said {
-    write!(out, "{}..{} ", range.start, range.end)?;
-    say_values(out, values)
-}
-
-/// `staged VALUE`: the batch with this metadata.
-pub(crate) fn with(any: &mut AnyTable, metadata: u64, out: &mut String) -> Said {
-    match any.staging.take() {
-        Some(staged) => {
-            any.staging = Some(staged.with_metadata(metadata));
-            Ok(())
-        }
-        None => say(out, "nothing is staged"),
+/// `staged`, `staged VALUE`: how many keys are staged; the batch with this metadata.
+fn show(kept: &mut Option<Staging>, words: &[&str], page: &mut Page) {
+    let Some(staged) = kept.take() else {
+        return page.say("nothing is staged");
+    };
+    if words.len() > 1 {
+        *kept = Some(staged.with_metadata(number(words, 1)));
+        return;
     }
-}
-
-/// `staged`: how many keys are staged.
-pub(crate) fn show(any: &AnyTable, out: &mut String) -> Said {
-    match &any.staging {
-        Some(staged) if staged.is_empty() => say(out, "no keys"),
-        Some(staged) => Ok(writeln!(out, "{}", staged.len())?),
-        None => say(out, "nothing is staged"),
+    if staged.is_empty() {
+        page.say("no keys");
+    } else {
+        page.line(&staged.len());
     }
+    *kept = Some(staged);
 }
 
 /// What becomes of the staged keys, and the writes beside them.
@@ -93,7 +92,8 @@ fn slot(word: &str) -> Slot<u64> {
 fn fill(alloc: Global, words: &[&str]) -> Result<Filling, OutOfMemory> {
     let mut slots = Vec::new(alloc);
     let mut unstaged = Vec::new(alloc);
-    for word in words {
+    for at in 2..words.len() {
+        let word = word(words, at);
         if word.contains('=') {
             unstaged.push(write(word))?;
         } else {
@@ -104,16 +104,33 @@ fn fill(alloc: Global, words: &[&str]) -> Result<Filling, OutOfMemory> {
 }
 
 /// `finish B SLOT.. KEY=VALUE..`: seals it with slots for the staged keys and with other writes.
-pub(crate) fn finish(any: &mut AnyTable, name: &str, words: &[&str], out: &mut String) -> Said {
-    let Filling { slots, unstaged } = fill(*out.allocator(), words)?;
-    let Some(staged) = any.staging.take() else {
-        return say(out, "nothing is staged");
+fn finish(table: &mut AnyTable, kept: &mut Option<Staging>, words: &[&str], page: &mut Page) {
+    let Ok(Filling { slots, unstaged }) = fill(page.alloc(), words) else {
+        return page.lack();
     };
-    let Held::Here(database) = &any.table.set else {
-        return say(out, "not here");
+    let Some(staged) = kept.take() else {
+        return page.say("nothing is staged");
+    };
+    let Held::Here(database) = &table.set else {
+        return page.say("not here");
     };
     match staged.merkleize(database, slots, unstaged) {
-        Ok(batch) => any.table.sealed.put(name, batch, out),
-        Err(error) => say_refused(out, error),
+        Ok(batch) => table.sealed.put(word(words, 1), batch, page),
+        Err(error) => say_refused(page, error),
+    }
+}
+
+/// What a line says of staged keys.
+pub(crate) fn play(
+    table: &mut AnyTable,
+    kept: &mut Option<Staging>,
+    words: &[&str],
+    page: &mut Page,
+) {
+    match word(words, 0) {
+        "stage" => stage(table, kept, words, page),
+        "expand" => expand(table, kept, words, page),
+        "staged" => show(kept, words, page),
+        _ => finish(table, kept, words, page),
     }
 }

@@ -3,238 +3,205 @@
 ghost use Rattle.std.specs.Prelude.{IsTrue};
 
 use crate::named::Named;
-use crate::sets::{Failing, Playable, failing_call};
-use crate::words::{
-    Said, index, push_value, rest, say, say_both, say_failed, say_not_opened, say_refused, target,
-};
+use crate::sets::Playable;
+use crate::words::{push_value, say_both, say_done, say_failed, say_opened, say_refused, target};
 use stateful_base::{OutOfMemory, Target};
-use stateful_db::{Barrier, SetError, SetInit};
-use stateful_shell::word;
+use stateful_db::{Barrier, DatabaseSet, SetError, SetInit};
+use stateful_shell::{Page, index, number, rest, word};
 use std::alloc::Global;
 
 /// A set, with open batches, sealed ones and targets by name.
 #[derive(Drop)]
-pub(crate) struct Table<S: Playable> {
+pub(crate) struct Table<S, U, M, T> {
     pub(crate) set: S,
-    pub(crate) open: Named<S::Unmerkleized>,
-    pub(crate) sealed: Named<S::Merkleized>,
-    pub(crate) targets: Named<S::SyncTargets>,
+    pub(crate) open: Named<U>,
+    pub(crate) sealed: Named<M>,
+    pub(crate) targets: Named<T>,
 }
 
-/// The calls that fail, as words say.
-fn failings(alloc: Global, words: &[&str]) -> Result<Vec<Failing>, OutOfMemory> {
-    let mut calls = Vec::new(alloc);
-    for word in words {
-        if let Some(call) = failing_call(word) {
-            calls.push(call)?;
+/// A set's own table.
+pub(crate) type TableOf<S> = Table<
+    S,
+    <S as DatabaseSet>::Unmerkleized,
+    <S as DatabaseSet>::Merkleized,
+    <S as DatabaseSet>::SyncTargets,
+>;
+
+impl<S, U, M, T> Table<S, U, M, T> {
+    /// A set without batches and targets.
+    pub(crate) fn new(alloc: Global, set: S) -> Table<S, U, M, T> {
+        Table {
+            set,
+            open: Named::new(alloc),
+            sealed: Named::new(alloc),
+            targets: Named::new(alloc),
         }
     }
-    Ok(calls)
 }
 
 /// `set KIND D:CALL:N..`: closed databases over empty media, at which these calls fail.
-fn start<S: Playable>(table: &mut Table<S>, words: &[&str], out: &String) -> Said {
-    let alloc = *out.allocator();
-    let calls = failings(alloc, words)?;
-    table.set = S::make(alloc, 0, calls.as_slice())?;
-    table.open = Named::new(alloc);
-    table.sealed = Named::new(alloc);
-    table.targets = Named::new(alloc);
-    Ok(())
-}
-
-/// `ok`, or why a call of a set failed.
-fn say_done(out: &mut String, outcome: Result<(), SetError>) -> Said {
-    match outcome {
-        Ok(()) => say(out, "ok"),
-        Err(error) => say_failed(out, error),
+fn start<S: Playable>(table: &mut TableOf<S>, words: &[&str], page: &mut Page) {
+    let alloc = page.alloc();
+    match S::make(alloc, 0, words) {
+        Ok(set) => *table = Table::new(alloc, set),
+        Err(OutOfMemory) => page.lack(),
     }
 }
 
-/// `show`: each database, where it is.
-fn show<S: Playable>(set: &S, out: &mut String) -> Said {
-    set.say_rows(0, out)
+/// `init`, `init T`: opens the closed and the lost databases, at these targets or at the latest.
+fn init<S: Playable>(table: &mut TableOf<S>, words: &[&str], page: &mut Page) {
+    let expected = match words.len() {
+        1 => None,
+        _ => match table.targets.get(word(words, 1)) {
+            Some(targets) => Some(*targets),
+            None => return page.say("no such targets"),
+        },
+    };
+    say_opened(page, table.set.init(&S::config(), expected));
 }
 
-/// `init`: opens the closed and the lost ones, at expected targets or at the latest.
-fn init<S: Playable>(set: &mut S, expected: Option<S::SyncTargets>, out: &mut String) -> Said {
-    match set.init(&S::config(), expected) {
-        Ok(()) => say(out, "ok"),
-        Err(refused) => say_not_opened(out, refused),
-    }
-}
-
-/// `init T`: the same, at the targets of this name.
-fn init_at<S: Playable>(table: &mut Table<S>, name: &str, out: &mut String) -> Said {
-    match table.targets.get(name) {
-        Some(targets) => init(&mut table.set, Some(*targets), out),
-        None => say(out, "no such targets"),
-    }
-}
-
-/// `targets T`: keeps what the databases hold.
-fn targets<S: Playable>(table: &mut Table<S>, name: &str, out: &mut String) -> Said {
-    match table.set.committed_targets() {
-        Ok(targets) => keep(table, name, targets, out),
-        Err(lost) => Ok(writeln!(out, "{lost}")?),
-    }
-}
-
-/// `initial T`: keeps the targets of empty media.
-fn initial<S: Playable>(table: &mut Table<S>, name: &str, out: &mut String) -> Said {
-    keep(table, name, S::initial_sync_targets(), out)
-}
-
-/// `target T B`: keeps what a sealed batch leads to.
-fn target_of<S: Playable>(table: &mut Table<S>, name: &str, batch: &str, out: &mut String) -> Said {
-    match table.sealed.get(batch) {
-        Some(sealed) => {
-            let targets = S::targets_of(sealed);
-            keep(table, name, targets, out)
-        }
-        None => say(out, "no such batch"),
-    }
-}
-
-/// Keeps targets under a name, and prints them.
-fn keep<S: Playable>(
-    table: &mut Table<S>,
-    name: &str,
-    targets: S::SyncTargets,
-    out: &mut String,
-) -> Said {
-    table.targets.keep(name, targets, out)?;
-    S::say_targets(&targets, 0, out)
+/// `targets T`, `initial T`, `target T B`: keeps what the databases hold, what empty media have, or
+/// what a sealed batch leads to.
+fn keep<S: Playable>(table: &mut TableOf<S>, words: &[&str], page: &mut Page) {
+    let targets = match word(words, 0) {
+        "initial" => S::initial_sync_targets(),
+        "target" => match table.sealed.get(word(words, 2)) {
+            Some(batch) => S::targets_of(batch),
+            None => return page.say("no such batch"),
+        },
+        _ => match table.set.committed_targets() {
+            Ok(targets) => targets,
+            Err(lost) => return page.line(&lost),
+        },
+    };
+    table.targets.keep(word(words, 1), targets, page);
+    S::say_targets(&targets, 0, page);
 }
 
 /// `expect T D ROOT START END`: other targets at the database of this number.
-fn expect<S: Playable>(table: &mut Table<S>, words: &[&str], out: &mut String) -> Said {
-    let expected = target(word(words, 3), word(words, 4), word(words, 5));
+fn expect<S: Playable>(table: &mut TableOf<S>, words: &[&str], page: &mut Page) {
     match table.targets.get_mut(word(words, 1)) {
-        Some(targets) => {
-            S::expect(targets, index(word(words, 2)), expected);
-            Ok(())
-        }
-        None => say(out, "no such targets"),
+        Some(targets) => S::expect(targets, number(words, 2), target(words, 3)),
+        None => page.say("no such targets"),
     }
 }
 
 /// `operations T`: the sum of the ends of the ranges.
-fn operations<S: Playable>(table: &Table<S>, name: &str, out: &mut String) -> Said {
+fn operations<S: Playable>(table: &TableOf<S>, name: &str, page: &mut Page) {
     match table.targets.get(name) {
-        Some(targets) => Ok(writeln!(out, "{}", S::operations(targets))?),
-        None => say(out, "no such targets"),
+        Some(targets) => page.line(&S::operations(targets)),
+        None => page.say("no such targets"),
     }
 }
 
 /// `begin B`: a batch over the states.
-fn begin<S: Playable>(table: &mut Table<S>, name: &str, out: &mut String) -> Said {
+fn begin<S: Playable>(table: &mut TableOf<S>, name: &str, page: &mut Page) {
     match table.set.new_batches() {
-        Ok(batch) => table.open.put(name, batch, out),
-        Err(error) => say_failed(out, error),
+        Ok(batch) => table.open.put(name, batch, page),
+        Err(error) => say_failed(page, error),
     }
 }
 
 /// `fork B P`: a batch over a sealed one.
-fn fork<S: Playable>(table: &mut Table<S>, name: &str, parent: &str, out: &mut String) -> Said {
-    let Some(parent) = table.sealed.get(parent) else {
-        return say(out, "no such batch");
+fn fork<S: Playable>(table: &mut TableOf<S>, words: &[&str], page: &mut Page) {
+    let Some(parent) = table.sealed.get(word(words, 2)) else {
+        return page.say("no such batch");
     };
     match table.set.fork_batches(parent) {
-        Ok(batch) => table.open.put(name, batch, out),
-        Err(error) => say_failed(out, error),
+        Ok(batch) => table.open.put(word(words, 1), batch, page),
+        Err(error) => say_failed(page, error),
     }
 }
 
 /// `seal B`: seals a batch.
-fn seal<S: Playable>(table: &mut Table<S>, name: &str, out: &mut String) -> Said {
+fn seal<S: Playable>(table: &mut TableOf<S>, name: &str, page: &mut Page) {
     let Some(batch) = table.open.take(name) else {
-        return say(out, "no such batch");
+        return page.say("no such batch");
     };
     match table.set.seal(batch) {
-        Ok(batch) => table.sealed.put(name, batch, out),
-        Err(error) => say_refused(out, error),
+        Ok(batch) => table.sealed.put(name, batch, page),
+        Err(error) => say_refused(page, error),
     }
 }
 
 /// `share C B`: a batch that is equal to a sealed one.
-fn share<S: Playable>(table: &mut Table<S>, name: &str, of: &str, out: &mut String) -> Said {
-    let Some(batch) = table.sealed.get(of) else {
-        return say(out, "no such batch");
+fn share<S: Playable>(table: &mut TableOf<S>, words: &[&str], page: &mut Page) {
+    let Some(batch) = table.sealed.get(word(words, 2)) else {
+        return page.say("no such batch");
     };
-    let copy = S::share(batch)?;
-    table.sealed.put(name, copy, out)
+    match S::share(batch) {
+        Ok(copy) => table.sealed.put(word(words, 1), copy, page),
+        Err(OutOfMemory) => page.lack(),
+    }
 }
 
 /// `match B T`: whether a sealed batch leads to these targets, and else where it doesn't.
-fn matches<S: Playable>(table: &Table<S>, batch: &str, name: &str, out: &mut String) -> Said {
-    let Some(batch) = table.sealed.get(batch) else {
-        return say(out, "no such batch");
+fn matches<S: Playable>(table: &TableOf<S>, words: &[&str], page: &mut Page) {
+    let Some(batch) = table.sealed.get(word(words, 1)) else {
+        return page.say("no such batch");
     };
-    let Some(targets) = table.targets.get(name) else {
-        return say(out, "no such targets");
+    let Some(targets) = table.targets.get(word(words, 2)) else {
+        return page.say("no such targets");
     };
-    let is_same = S::matches_sync_targets(batch, targets);
-    writeln!(out, "{is_same}")?;
-    match S::mismatch(batch, targets) {
-        Some((index, expected, given)) => say_mismatch(out, index, &expected, &given),
-        None => Ok(()),
+    page.line(&S::matches_sync_targets(batch, targets));
+    if let Some((number, expected, given)) = S::mismatch(batch, targets) {
+        say_mismatch(page, number, &expected, &given);
     }
 }
 
 /// Prints the first target that differs.
-fn say_mismatch(out: &mut String, number: usize, expected: &Target, given: &Target) -> Said {
-    writeln!(out, "{number} differs")?;
-    say_both(out, expected, given)
+fn say_mismatch(page: &mut Page, number: usize, expected: &Target, given: &Target) {
+    page.show(&number);
+    page.say(" differs");
+    say_both(page, expected, given);
 }
 
 /// `apply B`: applies a sealed batch.
-fn apply<S: Playable>(table: &mut Table<S>, name: &str, out: &mut String) -> Said {
+fn apply<S: Playable>(table: &mut TableOf<S>, name: &str, page: &mut Page) {
     match table.sealed.take(name) {
-        Some(batch) => say_done(out, table.set.apply(batch)),
-        None => say(out, "no such batch"),
+        Some(batch) => say_done(page, table.set.apply(batch)),
+        None => page.say("no such batch"),
     }
 }
 
 /// `step`: applies a batch without changes.
-fn step<S: Playable>(set: &mut S, out: &mut String) -> Said {
+fn step<S: Playable>(set: &mut S, page: &mut Page) {
     let batch = match set.new_batches() {
         Ok(batch) => batch,
-        Err(error) => return say_failed(out, error),
+        Err(error) => return say_failed(page, error),
     };
     match set.seal(batch) {
-        Ok(batch) => say_done(out, set.apply(batch)),
-        Err(error) => say_refused(out, error),
+        Ok(batch) => say_done(page, set.apply(batch)),
+        Err(error) => say_refused(page, error),
     }
 }
 
 /// `finalize`: starts persisting all checkpoints. Prints the places of the tokens.
-fn finalize<S: Playable>(set: &mut S, out: &mut String) -> Said {
+fn finalize<S: Playable>(set: &mut S, page: &mut Page) {
     if !set.has_room() {
-        return say(out, "refused");
+        return page.say("refused");
     }
-    match set.finalize(*out.allocator()) {
-        Ok(barrier) => say_barrier(&barrier, S::count(), out),
-        Err(error) => say_failed(out, error),
+    match set.finalize(page.alloc()) {
+        Ok(barrier) => say_barrier(&barrier, S::count(), page),
+        Err(error) => say_failed(page, error),
     }
 }
 
 /// Prints the places of so many tokens.
-fn say_barrier(barrier: &Barrier, count: usize, out: &mut String) -> Said {
-    out.push_str("places")?;
+fn say_barrier(barrier: &Barrier, count: usize, page: &mut Page) {
+    page.push("places");
     for number in 0..count {
-        push_value(out, barrier.handle(number).map(|token| token.place))?;
+        push_value(page, " ", barrier.handle(number).map(|token| token.place));
     }
-    out.push('\n')?;
-    Ok(())
+    page.end();
 }
 
 /// `flush D`: starts persisting all checkpoints, and flushes those of the database of this number.
-fn flush<S: Playable>(set: &mut S, database: usize, out: &mut String) -> Said {
-    match flush_at(set, *out.allocator(), database) {
-        Ok(true) => say(out, "ok"),
-        Ok(false) => say(out, "refused"),
-        Err(error) => say_failed(out, error),
+fn flush<S: Playable>(set: &mut S, database: usize, page: &mut Page) {
+    match flush_at(set, page.alloc(), database) {
+        Ok(true) => page.say("ok"),
+        Ok(false) => page.say("refused"),
+        Err(error) => say_failed(page, error),
     }
 }
 
@@ -274,16 +241,16 @@ fn close<S: Playable>(set: &mut S, keep: &[usize]) -> bool
 
 /// `prune T`: closes all databases, opens them at the targets of this name, and prunes all older
 /// checkpoints.
-fn prune<S: Playable>(table: &mut Table<S>, name: &str, out: &mut String) -> Said {
+fn prune<S: Playable>(table: &mut TableOf<S>, name: &str, page: &mut Page) {
     let Some(targets) = table.targets.get(name) else {
-        return say(out, "no such targets");
+        return page.say("no such targets");
     };
     if !close(&mut table.set, &[]) {
-        return say(out, "refused");
+        return page.say("refused");
     }
     match prune_to(&mut table.set, targets) {
-        Ok(outcome) => say_done(out, outcome),
-        Err(refused) => say_not_opened(out, refused),
+        Ok(outcome) => say_done(page, outcome),
+        Err(refused) => say_opened(page, Err(refused)),
     }
 }
 
@@ -298,84 +265,65 @@ fn prune_to<S: Playable>(
     Ok(set.prune(targets))
 }
 
-/// `crash KEEP..`: closes all databases, with so many checkpoints of each at least.
-fn crash<S: Playable>(table: &mut Table<S>, words: &[&str], out: &mut String) -> Said {
-    let mut keep = Vec::new(*out.allocator());
-    for word in words {
-        keep.push(index(word))?;
+/// The numbers of checkpoints that a crash keeps.
+fn kept(alloc: Global, words: &[&str]) -> Result<Vec<usize>, OutOfMemory> {
+    let mut kept = Vec::new(alloc);
+    for at in 1..words.len() {
+        kept.push(index(words, at))?;
     }
-    if close(&mut table.set, keep.as_slice()) {
-        Ok(())
-    } else {
-        say(out, "refused")
-    }
+    Ok(kept)
 }
 
-/// `take`: takes the set and shows it. Its databases are away.
-fn take<S: Playable>(table: &mut Table<S>, out: &mut String) -> Said {
-    let taken = table.set.take();
-    show(&taken, out)
+/// `crash KEEP..`: closes all databases, with so many checkpoints of each at least.
+fn crash<S: Playable>(set: &mut S, words: &[&str], page: &mut Page) {
+    match kept(page.alloc(), words) {
+        Ok(kept) if close(set, kept.as_slice()) => {}
+        Ok(_) => page.say("refused"),
+        Err(OutOfMemory) => page.lack(),
+    }
 }
 
 /// `faults`: how often each database has failed.
-fn faults<S: Playable>(set: &S, out: &mut String) -> Said {
+fn faults<S: Playable>(set: &S, page: &mut Page) {
     if !set.is_home() {
-        return say(out, "refused");
+        return page.say("refused");
     }
-    out.push_str("faults")?;
+    page.push("faults");
     for number in 0..S::count() {
-        write!(out, " {}", set.faults(number))?;
+        page.field(" ", set.faults(number));
     }
-    out.push('\n')?;
-    Ok(())
-}
-
-/// `init`, `init T`.
-fn play_init<S: Playable>(table: &mut Table<S>, words: &[&str], out: &mut String) -> Said {
-    match words.len() {
-        1 => init(&mut table.set, None, out),
-        _ => init_at(table, word(words, 1), out),
-    }
+    page.end();
 }
 
 /// What a line says of the set.
-fn play_set<S: Playable>(table: &mut Table<S>, words: &[&str], out: &mut String) -> Said {
+fn play_set<S: Playable>(table: &mut TableOf<S>, words: &[&str], page: &mut Page) {
     match word(words, 0) {
-        "init" => play_init(table, words, out),
-        "show" => show(&table.set, out),
-        "faults" => faults(&table.set, out),
-        "finalize" => finalize(&mut table.set, out),
-        "flush" => flush(&mut table.set, index(word(words, 1)), out),
-        "prune" => prune(table, word(words, 1), out),
-        "crash" => crash(table, rest(words, 1), out),
-        "take" => take(table, out),
-        _ => say(out, "no such command"),
-    }
-}
-
-/// What a line says of targets.
-fn play_targets<S: Playable>(table: &mut Table<S>, words: &[&str], out: &mut String) -> Said {
-    match word(words, 0) {
-        "targets" => targets(table, word(words, 1), out),
-        "initial" => initial(table, word(words, 1), out),
-        "target" => target_of(table, word(words, 1), word(words, 2), out),
-        "operations" => operations(table, word(words, 1), out),
-        "match" => matches(table, word(words, 1), word(words, 2), out),
-        "expect" => expect(table, words, out),
-        _ => play_set(table, words, out),
+        "set" => start(table, rest(words, 2), page),
+        "init" => init(table, words, page),
+        "show" => table.set.say_rows(0, page),
+        "faults" => faults(&table.set, page),
+        "step" => step(&mut table.set, page),
+        "finalize" => finalize(&mut table.set, page),
+        "flush" => flush(&mut table.set, index(words, 1), page),
+        "prune" => prune(table, word(words, 1), page),
+        "crash" => crash(&mut table.set, words, page),
+        "take" => table.set.take().say_rows(0, page),
+        _ => page.say("no such command"),
     }
 }
 
 /// What a line says that every set knows.
-pub(crate) fn play<S: Playable>(table: &mut Table<S>, words: &[&str], out: &mut String) -> Said {
+pub(crate) fn play<S: Playable>(table: &mut TableOf<S>, words: &[&str], page: &mut Page) {
     match word(words, 0) {
-        "set" => start(table, rest(words, 2), out),
-        "begin" => begin(table, word(words, 1), out),
-        "fork" => fork(table, word(words, 1), word(words, 2), out),
-        "seal" => seal(table, word(words, 1), out),
-        "share" => share(table, word(words, 1), word(words, 2), out),
-        "apply" => apply(table, word(words, 1), out),
-        "step" => step(&mut table.set, out),
-        _ => play_targets(table, words, out),
+        "begin" => begin(table, word(words, 1), page),
+        "fork" => fork(table, words, page),
+        "seal" => seal(table, word(words, 1), page),
+        "share" => share(table, words, page),
+        "apply" => apply(table, word(words, 1), page),
+        "targets" | "initial" | "target" => keep(table, words, page),
+        "operations" => operations(table, word(words, 1), page),
+        "match" => matches(table, words, page),
+        "expect" => expect(table, words, page),
+        _ => play_set(table, words, page),
     }
 }

@@ -3,34 +3,14 @@
 use hex::FromHex;
 use stateful_base::{Digest, Location, OutOfMemory, Target};
 use stateful_db::{BatchError, DbCall, InitError, SetError, SetInit};
+use stateful_shell::{Page, number, word};
 use std::alloc::Global;
 
-/// Whether memory was there for what a command does and prints.
-pub(crate) type Said = Result<(), OutOfMemory>;
-
-/// A number. 0 where the word is none.
-pub(crate) fn number(word: &str) -> u64 {
-    word.parse::<u64>().unwrap_or(0)
-}
-
-/// A number of a database or of a handle. 0 where the word is none.
-pub(crate) fn index(word: &str) -> usize {
-    word.parse::<usize>().unwrap_or(0)
-}
-
-/// The words from this number on.
-pub(crate) fn rest<'a, 'b>(words: &'a [&'b str], from: usize) -> &'a [&'b str] {
-    if from > words.len() {
-        return &words[..0];
-    }
-    &words[from..]
-}
-
-/// Numbers.
-pub(crate) fn numbers(alloc: Global, words: &[&str]) -> Result<Vec<u64>, OutOfMemory> {
+/// The numbers from this word on.
+pub(crate) fn numbers(alloc: Global, words: &[&str], from: usize) -> Result<Vec<u64>, OutOfMemory> {
     let mut numbers = Vec::new(alloc);
-    for word in words {
-        numbers.push(number(word))?;
+    for at in from..words.len() {
+        numbers.push(number(words, at))?;
     }
     Ok(numbers)
 }
@@ -42,10 +22,8 @@ pub(crate) fn value(word: &str) -> Option<u64> {
 
 /// The number before a `=`, and the value behind it.
 pub(crate) fn write(word: &str) -> (u64, Option<u64>) {
-    match word.split_once('=') {
-        Some((key, written)) => (number(key), value(written)),
-        None => (number(word), None),
-    }
+    let (key, written) = word.split_once('=').unwrap_or((word, ""));
+    (value(key).unwrap_or(0), value(written))
 }
 
 /// A kind of call.
@@ -61,127 +39,124 @@ pub(crate) fn call(word: &str) -> Option<DbCall> {
     }
 }
 
-/// A root in hex, with the start and the end of a range. What isn't hex is a root of zeros.
-pub(crate) fn target(root: &str, start: &str, end: &str) -> Target {
+/// From this word on, a root in hex, with the start and the end of a range. What isn't hex is a
+/// root of zeros.
+pub(crate) fn target(words: &[&str], from: usize) -> Target {
+    let root = word(words, from);
     Target {
         root: Digest(<[u8; 32] as FromHex>::from_hex(root).unwrap_or([0; 32])),
-        start: Location(number(start)),
-        end: Location(number(end)),
+        start: Location(number(words, from.saturating_add(1))),
+        end: Location(number(words, from.saturating_add(2))),
     }
 }
 
-/// Prints a line.
-pub(crate) fn say(out: &mut String, text: &str) -> Said {
-    out.push_str(text)?;
-    out.push('\n')?;
-    Ok(())
-}
-
-/// Prints a value, or `none`.
-pub(crate) fn say_value(out: &mut String, value: Option<u64>) -> Said {
+/// Prints a value, or `none`, behind a text.
+pub(crate) fn push_value(page: &mut Page, before: &str, value: Option<u64>) {
+    page.push(before);
     match value {
-        Some(value) => Ok(writeln!(out, "{value}")?),
-        None => say(out, "none"),
+        Some(value) => page.number(value),
+        None => page.push("none"),
     }
 }
 
 /// Prints values in a line.
-pub(crate) fn say_values(out: &mut String, values: &[Option<u64>]) -> Said {
-    out.push_str("values")?;
+pub(crate) fn say_values(page: &mut Page, values: &[Option<u64>]) {
+    page.push("values");
     for value in values {
-        push_value(out, *value)?;
+        push_value(page, " ", *value);
     }
-    out.push('\n')?;
-    Ok(())
+    page.end();
 }
 
-/// Appends a blank and a value, or `none`.
-pub(crate) fn push_value(out: &mut String, value: Option<u64>) -> Said {
-    match value {
-        Some(value) => Ok(write!(out, " {value}")?),
-        None => Ok(out.push_str(" none")?),
-    }
-}
-
-/// Appends a root in hex.
-pub(crate) fn push_root(out: &mut String, root: &Digest) -> Said {
-    let root = hex::encode(*out.allocator(), root.0.as_slice())?;
-    out.push_str(root.as_str())?;
-    Ok(())
-}
-
-/// Appends a root with its range.
-pub(crate) fn push_target(out: &mut String, target: &Target) -> Said {
-    let Target { root, start, end } = target;
-    push_root(out, root)?;
-    write!(out, " {}..{}", start.0, end.0)?;
-    Ok(())
+/// Prints a root with its range, in a line.
+pub(crate) fn say_target(page: &mut Page, target: &Target) {
+    page.hex(target.root.0.as_slice());
+    page.field(" ", target.start.0);
+    page.field("..", target.end.0);
+    page.end();
 }
 
 /// Prints the expected and the other target, each in a line.
-pub(crate) fn say_both(out: &mut String, expected: &Target, other: &Target) -> Said {
-    out.push_str("  expected ")?;
-    push_target(out, expected)?;
-    out.push_str("\n  here ")?;
-    push_target(out, other)?;
-    out.push('\n')?;
-    Ok(())
+pub(crate) fn say_both(page: &mut Page, expected: &Target, other: &Target) {
+    page.push("  expected ");
+    say_target(page, expected);
+    page.push("  here ");
+    say_target(page, other);
 }
 
 /// Prints why a call of a set failed, and at which database.
-pub(crate) fn say_failed(out: &mut String, error: SetError) -> Said {
-    match error {
-        SetError::DatabaseFault { index, call } => Ok(writeln!(out, "{error} {index} {call:?}")?),
-        other => Ok(writeln!(out, "{other}")?),
+pub(crate) fn say_failed(page: &mut Page, error: SetError) {
+    page.show(&error);
+    if let SetError::DatabaseFault { index, call } = error {
+        page.push(" ");
+        page.show(&index);
+        page.push(" ");
+        page.debug(&call);
+    }
+    page.end();
+}
+
+/// `ok`, or why a call of a set failed.
+pub(crate) fn say_done(page: &mut Page, outcome: Result<(), SetError>) {
+    match outcome {
+        Ok(()) => page.say("ok"),
+        Err(error) => say_failed(page, error),
     }
 }
 
-/// Prints which database didn't open, and why.
-pub(crate) fn say_not_opened(out: &mut String, refused: SetInit) -> Said {
-    writeln!(out, "{}: {refused}", refused.index)?;
-    match refused.why {
-        InitError::TargetMismatch {
-            expected,
-            recovered,
-        } => say_both(out, &expected, &recovered),
-        _ => Ok(()),
+/// `ok`, or which database didn't open, and why.
+pub(crate) fn say_opened(page: &mut Page, outcome: Result<(), SetInit>) {
+    let Err(refused) = outcome else {
+        return page.say("ok");
+    };
+    page.show(&refused.index);
+    page.push(": ");
+    page.line(&refused);
+    if let InitError::TargetMismatch {
+        expected,
+        recovered,
+    } = refused.why
+    {
+        say_both(page, &expected, &recovered);
     }
 }
 
 /// Prints why a batch refused a read or a seal.
-pub(crate) fn say_refused(out: &mut String, error: BatchError) -> Said {
-    write!(out, "{error}")?;
+pub(crate) fn say_refused(page: &mut Page, error: BatchError) {
+    page.show(&error);
     match error {
-        BatchError::LocationOutOfBounds { location } => say_location(out, location),
-        BatchError::LocationOutOfOrder { location } => say_location(out, location),
-        BatchError::BelowInactivityFloor { location } => say_location(out, location),
-        BatchError::SlotCount { expected, given } => say_slots(out, expected, given),
-        _ => say(out, ""),
+        BatchError::LocationOutOfBounds { location }
+        | BatchError::LocationOutOfOrder { location }
+        | BatchError::BelowInactivityFloor { location } => page.field(" ", location.0),
+        BatchError::SlotCount { expected, given } => {
+            page.push(" expected ");
+            page.show(&expected);
+            page.push(" given ");
+            page.show(&given);
+        }
+        _ => {}
     }
-}
-
-/// Prints the location that was refused, behind why.
-fn say_location(out: &mut String, location: Location) -> Said {
-    Ok(writeln!(out, " {}", location.0)?)
-}
-
-/// Prints how many slots were expected and given, behind why.
-fn say_slots(out: &mut String, expected: usize, given: usize) -> Said {
-    Ok(writeln!(out, " expected {expected} given {given}")?)
+    page.end();
 }
 
 /// Prints what a read of one value gave.
-pub(crate) fn say_read(out: &mut String, read: Result<Option<u64>, BatchError>) -> Said {
+pub(crate) fn say_read(page: &mut Page, read: Result<Option<u64>, BatchError>) {
     match read {
-        Ok(value) => say_value(out, value),
-        Err(error) => say_refused(out, error),
+        Ok(value) => say_value(page, value),
+        Err(error) => say_refused(page, error),
     }
 }
 
+/// Prints a value, or `none`, in a line.
+pub(crate) fn say_value(page: &mut Page, value: Option<u64>) {
+    push_value(page, "", value);
+    page.end();
+}
+
 /// Prints what a read of several values gave.
-pub(crate) fn say_reads(out: &mut String, read: Result<Vec<Option<u64>>, BatchError>) -> Said {
+pub(crate) fn say_reads(page: &mut Page, read: Result<Vec<Option<u64>>, BatchError>) {
     match read {
-        Ok(values) => say_values(out, values.as_slice()),
-        Err(error) => say_refused(out, error),
+        Ok(values) => say_values(page, values.as_slice()),
+        Err(error) => say_refused(page, error),
     }
 }

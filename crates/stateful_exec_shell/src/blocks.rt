@@ -1,6 +1,9 @@
 //! Blocks by their names.
 
-use stateful_types::{Block, Digest, Digested, OutOfMemory};
+use crate::block::FakeBlock;
+use crate::words::block_of;
+use stateful_shell::{Page, word};
+use stateful_types::{Digest, Digested, OutOfMemory, Share};
 use std::alloc::Global;
 
 #[derive(Drop)]
@@ -12,50 +15,72 @@ struct Named<B> {
 /// Blocks by their names, in the order in which they were named.
 #[derive(Drop)]
 pub(crate) struct Blocks<B> {
-    pub(crate) alloc: Global,
     all: Vec<Named<B>>,
 }
 
-impl<B: Block + Drop> Blocks<B> {
+impl<B: Drop> Blocks<B> {
     /// None.
     pub(crate) fn new(alloc: Global) -> Blocks<B> {
         Blocks {
-            alloc,
             all: Vec::new(alloc),
         }
     }
 
     /// The block of a name.
     pub(crate) fn find(&self, name: &str) -> Option<&Digested<B>> {
-        let named = self.all.iter().find(|named| named.name.as_str() == name)?;
-        Some(&named.block)
+        for named in &self.all {
+            if named.name.as_str() == name {
+                return Some(&named.block);
+            }
+        }
+        None
+    }
+
+    /// The same, shared.
+    pub(crate) fn share(&self, name: &str) -> Result<Option<Digested<B>>, OutOfMemory> {
+        match self.find(name) {
+            Some(block) => Ok(Some(block.share()?)),
+            None => Ok(None),
+        }
     }
 
     /// The digest of the block of a name. Zeros where there is none.
-    pub(crate) fn digest_of(&self, name: &str) -> Digest {
+    fn digest_of(&self, name: &str) -> Digest {
         match self.find(name) {
             Some(block) => block.digest(),
             None => Digest([0; 32]),
         }
     }
 
-    /// The name of the first block of a digest. A question mark where there is none.
-    pub(crate) fn name_of(&self, digest: Digest) -> &str {
-        match self
-            .all
-            .iter()
-            .find(|named| named.block.digest().is(digest))
-        {
-            Some(named) => named.name.as_str(),
-            None => "?",
+    /// Prints the name of the first block of a digest, behind a space. A question mark where there
+    /// is none.
+    pub(crate) fn show(&self, digest: Digest, page: &mut Page) {
+        for named in &self.all {
+            if named.block.digest().is(digest) {
+                page.push(" ");
+                return page.push(named.name.as_str());
+            }
         }
+        page.push(" ?")
     }
+}
 
+impl Blocks<FakeBlock> {
     /// Names a block.
-    pub(crate) fn put(&mut self, name: &str, block: B) -> Result<(), OutOfMemory> {
-        let block = Digested::compute(self.alloc, block)?;
-        let name = name.to_string(self.alloc)?;
+    fn put(&mut self, alloc: Global, name: &str, block: FakeBlock) -> Result<(), OutOfMemory> {
+        let block = Digested::compute(alloc, block)?;
+        let name = name.to_string(alloc)?;
         self.all.push(Named { name, block })?;
         Ok(())
+    }
+
+    /// `block NAME PARENT BYTE HEIGHT VIEW TARGET TURNS END HOOK`.
+    pub(crate) fn name(&mut self, words: &[&str], page: &mut Page) {
+        if words.len() != 10 {
+            return page.say("no such block");
+        }
+        let parent = self.digest_of(word(words, 2));
+        let block = block_of(page.alloc(), parent, words);
+        page.note(self.put(page.alloc(), word(words, 1), block))
     }
 }

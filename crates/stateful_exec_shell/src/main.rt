@@ -1,6 +1,7 @@
 //! Plays commands on execution, over an application whose blocks say what becomes of them
-//! (`fake.rt`) and a database that is kept whole. Cases stand in `data/`. Commands are generic over
-//! the application (`played.rt`), so that they are proved without it, which takes less long.
+//! (`fake.rt`) and a database that is kept whole. Cases stand in `data/`. Calls of execution are
+//! generic over the application (`played.rt`), so that they are proved without it, which takes less
+//! long.
 //!
 //! Commands and answers speak of blocks by names. Blocks of one byte have one digest: answers name
 //! the first of them. Tickets, jobs and fetches are numbers.
@@ -53,26 +54,21 @@
 //!     gives TICKET BLOCK, votes TICKET BLOCK, stages TICKET BLOCK, declines TICKET
 #![tactic(auto)]
 
-mod asking;
+mod answer;
 mod block;
 mod blocks;
-mod building;
 mod fake;
-mod finalizing;
 mod machine;
 mod played;
-mod playing;
-mod requesting;
+mod requests;
 mod shell;
 mod telling;
-mod told;
 mod words;
 mod work;
 
-use fake::Fake;
 use shell::ExecShell;
 use std::process::ExitCode;
 
 fn main(rt: HostRuntime) -> Result<ExitCode, anyhow::Error> {
-    stateful_shell::play_files::<ExecShell<Fake>>(&rt)
+    stateful_shell::play_files::<ExecShell>(&rt)
 }

@@ -1,102 +1,51 @@
 //! The shell.
 
+use crate::block::FakeBlock;
 use crate::blocks::Blocks;
-use crate::machine::{Machine, Made};
-use crate::played::Played;
-use crate::playing::play;
-use crate::telling::{of_error, of_mark};
-use stateful_shell::{Shell, word};
-use stateful_types::OutOfMemory;
+use crate::fake::Fake;
+use crate::machine::Machine;
+use stateful_shell::{Page, Shell, word};
 use std::alloc::Global;
 
 /// The blocks that were named, and execution, once it was opened.
 #[derive(Drop)]
-pub(crate) struct ExecShell<A: Played> {
-    blocks: Blocks<A::Block>,
-    machine: Option<Machine<A>>,
+pub(crate) struct ExecShell {
+    blocks: Blocks<FakeBlock>,
+    machine: Option<Machine<Fake>>,
 }
 
-/// Appends a line: what the marks tell, and what the call answers or why it is refused.
-fn say<A: Played>(
-    machine: &mut Machine<A>,
-    blocks: &Blocks<A::Block>,
-    made: Made,
-    out: &mut String,
-) -> Result<(), OutOfMemory> {
-    let begin = out.len();
-    for mark in &machine.marks {
-        of_mark(mark).push(out, blocks, begin)?;
-    }
-    let answer = match made {
-        Ok(answer) => answer,
-        Err(error) => of_error(error),
-    };
-    answer.push(out, blocks, begin)?;
-    machine.marks.clear();
-    if out.len() == begin {
-        out.push_str("nothing")?;
-    }
-    out.push('\n')?;
-    Ok(())
-}
-
-impl<A: Played> ExecShell<A> {
-    /// `block ..`.
-    fn name(&mut self, words: &[&str], out: &mut String) -> Result<(), OutOfMemory> {
-        let parent = self.blocks.digest_of(word(words, 2));
-        match A::block(self.blocks.alloc, parent, words) {
-            Some(block) => self.blocks.put(word(words, 1), block),
-            None => {
-                out.push_str("no such block\n")?;
-                Ok(())
-            }
-        }
-    }
-
+impl ExecShell {
     /// `open BLOCK`.
-    fn open(&mut self, name: &str, out: &mut String) -> Result<(), OutOfMemory> {
+    fn open(&mut self, name: &str, page: &mut Page) {
         let Some(block) = self.blocks.find(name) else {
-            out.push_str("no such block\n")?;
-            return Ok(());
+            return page.say("no such block");
         };
-        let machine = Machine::over(self.blocks.alloc, block)?;
-        self.machine = Some(machine);
-        out.push_str("opened\n")?;
-        Ok(())
-    }
-
-    fn call(&mut self, words: &[&str], out: &mut String) -> Result<(), OutOfMemory> {
-        let Some(machine) = &mut self.machine else {
-            out.push_str("not open\n")?;
-            return Ok(());
-        };
-        let made = play(machine, &self.blocks, words);
-        say(machine, &self.blocks, made, out)
-    }
-
-    fn play_words(&mut self, words: &[&str], out: &mut String) -> Result<(), OutOfMemory> {
-        match word(words, 0) {
-            "block" => self.name(words, out),
-            "open" => self.open(word(words, 1), out),
-            _ => self.call(words, out),
+        match Machine::open(page.alloc(), block) {
+            Ok(machine) => drop(self.machine.replace(machine)),
+            Err(_) => page.lack(),
         }
+        page.say("opened")
     }
 }
 
-impl<A: Played> Shell for ExecShell<A> {
-    fn new(alloc: Global) -> ExecShell<A> {
+impl Shell for ExecShell {
+    fn new(alloc: Global) -> ExecShell {
         ExecShell {
             blocks: Blocks::new(alloc),
             machine: None,
         }
     }
 
-    fn play(&mut self, line: &str, out: &mut String) -> Result<(), OutOfMemory> {
-        let words: Vec<&str> = line.split_whitespace().collect(self.blocks.alloc)?;
-        self.play_words(words.as_slice(), out)
+    fn play(&mut self, words: &[&str], page: &mut Page) {
+        match word(words, 0) {
+            "block" => self.blocks.name(words, page),
+            "open" => self.open(word(words, 1), page),
+            _ => match &mut self.machine {
+                Some(machine) => machine.play(&self.blocks, words, page),
+                None => page.say("not open"),
+            },
+        }
     }
 
-    fn end(&mut self, _out: &mut String) -> Result<(), OutOfMemory> {
-        Ok(())
-    }
+    fn end(&mut self, _page: &mut Page) {}
 }

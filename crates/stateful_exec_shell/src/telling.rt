@@ -1,107 +1,181 @@
-//! What marks and errors tell.
+//! What is printed of marks, answers and errors.
 
-use crate::told::{Told, tell};
+use crate::answer::{Answer, Made};
+use crate::blocks::Blocks;
 use stateful_exec::{ExecError, ProposalFault};
 use stateful_history::{Decision, How, JobKind, Mark};
+use stateful_shell::Page;
+use stateful_types::Round;
 
 fn kind_word(kind: JobKind) -> &'static str {
     match kind {
-        JobKind::Candidate => "runs",
-        JobKind::Finalized => "finalizes",
-        JobKind::Build => "builds",
-        JobKind::Hook => "hooks",
+        JobKind::Candidate => "runs ",
+        JobKind::Finalized => "finalizes ",
+        JobKind::Build => "builds ",
+        JobKind::Hook => "hooks ",
     }
 }
 
 fn end_word(how: How) -> &'static str {
     match how {
-        How::Kept => "kept",
-        How::Rejected => "rejected",
-        How::Mismatched => "mismatched",
-        How::Missed => "missed",
-        How::Cancelled => "cancelled",
-        How::Nothing => "empty",
-        How::Hooked => "hooked",
+        How::Kept => "kept ",
+        How::Rejected => "rejected ",
+        How::Mismatched => "mismatched ",
+        How::Missed => "missed ",
+        How::Cancelled => "cancelled ",
+        How::Nothing => "empty ",
+        How::Hooked => "hooked ",
     }
 }
 
 fn decision_word(decision: Decision) -> &'static str {
     match decision {
-        Decision::Block => "gives",
-        Decision::Vote => "votes",
-        Decision::Stage => "stages",
+        Decision::Block => "gives ",
+        Decision::Vote => "votes ",
+        Decision::Stage => "stages ",
     }
 }
 
 /// What a mark tells.
-pub(crate) fn of_mark<B>(mark: &Mark<B>) -> Told {
+fn tell_mark<B: Drop>(mark: &Mark<B>, blocks: &Blocks<B>, page: &mut Page) {
     match mark {
         Mark::Asked {
             fetch,
             ticket: Some(ticket),
             digest,
-        } => tell("asks").numbers(*fetch, *ticket).block(*digest),
-        Mark::Withdrawn { fetch } => tell("withdraws").number(*fetch),
-        Mark::Started { job, kind, digest } => tell(kind_word(*kind)).number(*job).block(*digest),
-        Mark::Ended { job, how } => tell(end_word(*how)).number(*job),
+        } => {
+            page.field("asks ", *fetch);
+            page.field(" ", *ticket);
+            blocks.show(*digest, page)
+        }
+        Mark::Withdrawn { fetch } => page.field("withdraws ", *fetch),
+        Mark::Started { job, kind, digest } => {
+            page.field(kind_word(*kind), *job);
+            blocks.show(*digest, page)
+        }
+        Mark::Ended { job, how } => page.field(end_word(*how), *job),
         Mark::Built { job, ticket, block } => {
-            tell("built").numbers(*job, *ticket).block(block.digest())
+            page.field("built ", *job);
+            page.field(" ", *ticket);
+            blocks.show(block.digest(), page)
         }
         Mark::Verdict { ticket, valid } => {
-            tell(if *valid { "valid" } else { "invalid" }).number(*ticket)
+            page.field(if *valid { "valid " } else { "invalid " }, *ticket)
         }
         Mark::Answered {
             ticket,
             decision,
             block,
-        } => tell(decision_word(*decision))
-            .number(*ticket)
-            .block(block.digest()),
-        Mark::Declined { ticket } => tell("declines").number(*ticket),
-        _ => tell("another mark"),
+        } => {
+            page.field(decision_word(*decision), *ticket);
+            blocks.show(block.digest(), page)
+        }
+        Mark::Declined { ticket } => page.field("declines ", *ticket),
+        _ => page.push("another mark"),
     }
 }
 
-fn of_fault(fault: ProposalFault) -> Told {
-    match fault {
-        ProposalFault::Targets { index, .. } => {
-            tell("refused ProposalMismatch Targets").number(index as u64)
+/// What a call answers.
+fn tell_answer<B: Drop>(answer: Answer, blocks: &Blocks<B>, page: &mut Page) {
+    match answer {
+        Answer::Nothing => {}
+        Answer::Word(word) => page.push(word),
+        Answer::Number(word, number) => {
+            page.push(word);
+            page.field(" ", number)
         }
+        Answer::Numbers(word, first, second) => {
+            page.push(word);
+            page.field(" ", first);
+            page.field(" ", second)
+        }
+        Answer::Block(word, digest) => {
+            page.push(word);
+            blocks.show(digest, page)
+        }
+        Answer::Job(word, job, digest) => {
+            page.push(word);
+            page.field(" ", job);
+            blocks.show(digest, page)
+        }
+        Answer::Build(job, ticket, digest) => {
+            page.field("building ", job);
+            page.field(" ", ticket);
+            blocks.show(digest, page)
+        }
+    }
+}
+
+/// The views of two rounds.
+fn tell_views(first: Round, second: Round, page: &mut Page) {
+    page.field(" ", first.view.0);
+    page.field(" ", second.view.0)
+}
+
+fn tell_fault<B: Drop>(fault: ProposalFault, blocks: &Blocks<B>, page: &mut Page) {
+    match fault {
+        ProposalFault::Targets { index, .. } => page.field(" Targets ", index as u64),
         ProposalFault::Parent { expected, given } => {
-            tell("refused ProposalMismatch Parent").blocks(expected, given)
+            page.push(" Parent");
+            blocks.show(expected, page);
+            blocks.show(given, page)
         }
         ProposalFault::Round { expected, given } => {
-            tell("refused ProposalMismatch Round").numbers(expected.view.0, given.view.0)
+            page.push(" Round");
+            tell_views(expected, given, page)
         }
     }
 }
 
-/// What an error tells.
-pub(crate) fn of_error(error: ExecError) -> Told {
+/// Why a call is refused.
+fn tell_error<B: Drop>(error: ExecError, blocks: &Blocks<B>, page: &mut Page) {
+    page.push("refused ");
+    page.show(&error);
     match error {
-        ExecError::Lost => tell("refused Lost"),
         ExecError::SkippedHeight { expected, given } => {
-            tell("refused SkippedHeight").numbers(expected.0, given.0)
+            page.field(" ", expected.0);
+            page.field(" ", given.0)
         }
-        ExecError::NotExtending { expected, given } => {
-            tell("refused NotExtending").blocks(expected, given)
+        ExecError::NotExtending { expected, given }
+        | ExecError::ConflictAtAnchor { expected, given } => {
+            blocks.show(expected, page);
+            blocks.show(given, page)
         }
-        ExecError::ConflictAtAnchor { expected, given } => {
-            tell("refused ConflictAtAnchor").blocks(expected, given)
-        }
-        ExecError::FinalizedRejected { digest } => tell("refused FinalizedRejected").block(digest),
-        ExecError::FinalizedMismatch { index, .. } => {
-            tell("refused FinalizedMismatch").number(index as u64)
-        }
-        ExecError::ProposalMismatch(fault) => of_fault(fault),
-        ExecError::ProposalStale { anchor, round } => {
-            tell("refused ProposalStale").numbers(anchor.view.0, round.view.0)
-        }
+        ExecError::FinalizedRejected { digest } => blocks.show(digest, page),
+        ExecError::FinalizedMismatch { index, .. } => page.field(" ", index as u64),
+        ExecError::ProposalMismatch(fault) => tell_fault(fault, blocks, page),
+        ExecError::ProposalStale { anchor, round } => tell_views(anchor, round, page),
         ExecError::PendingChanged { before, after } => {
-            tell("refused PendingChanged").numbers(before.round.view.0, after.round.view.0)
+            tell_views(before.round, after.round, page)
         }
-        ExecError::Application => tell("refused Application"),
-        ExecError::Exhausted => tell("refused Exhausted"),
-        ExecError::OutOfMemory => tell("refused OutOfMemory"),
+        ExecError::Lost | ExecError::Application | ExecError::Exhausted | ExecError::OutOfMemory =>
+            {}
     }
+}
+
+/// A line: what the marks of a call tell, and what it answers or why it is refused.
+pub(crate) fn tell_line<B: Drop>(
+    marks: &Vec<Mark<B>>,
+    made: Made,
+    blocks: &Blocks<B>,
+    page: &mut Page,
+) {
+    let mut comma = "";
+    for mark in marks {
+        page.push(comma);
+        tell_mark(mark, blocks, page);
+        comma = ", ";
+    }
+    match made {
+        Ok(Answer::Nothing) => page.push(if comma.is_empty() { "nothing" } else { "" }),
+        Ok(answer) => {
+            page.push(comma);
+            tell_answer(answer, blocks, page)
+        }
+        Err(error) => {
+            page.push(comma);
+            tell_error(error, blocks, page)
+        }
+    }
+    page.end()
 }

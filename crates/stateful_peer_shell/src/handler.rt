@@ -1,96 +1,58 @@
 //! What an engine hands to a resolver, on its way.
 
-use crate::words::{Hex, Key, bytes, no_such_command, number, push_line, put, request, small};
+use crate::named::{Word, named};
+use crate::words::{bytes, put, request, show_bytes, show_request, tell_drawn};
 use stateful_p2p::{ActorEvent, Handler};
-use stateful_shell::word;
-use stateful_types::{DrawError, Feedback, OutOfMemory, Request};
-use std::alloc::Global;
-use std::fmt::Write;
-
-type Done = Result<(), OutOfMemory>;
-
-fn new(alloc: Global, handler: &mut Option<Handler>, capacity: usize, out: &mut String) -> Done {
-    if capacity == 0 {
-        return push_line(out, "refused");
-    }
-    put(handler, Handler::new(alloc, capacity), "new", out)
-}
-
-/// Prints what became of a message, with its number.
-fn tell(sent: Result<(Feedback, u64), DrawError>, out: &mut String) -> Done {
-    match sent {
-        Ok((feedback, number)) => Ok(writeln!(out, "{number} {feedback:?}")?),
-        Err(DrawError::OutOfMemory) => Err(OutOfMemory),
-        Err(error) => Ok(writeln!(out, "{error:?}")?),
-    }
-}
-
-fn deliver(
-    alloc: Global,
-    handler: &mut Handler,
-    key: Request,
-    hex: &str,
-    out: &mut String,
-) -> Done {
-    let value = bytes(alloc, hex)?;
-    tell(handler.deliver(key, value), out)
-}
-
-fn cancel(handler: &mut Handler, delivery: u64, out: &mut String) -> Done {
-    handler.cancel(delivery);
-    push_line(out, "cancelled")
-}
-
-fn delivery(delivery: u64, key: &Request, value: &[u8], out: &mut String) -> Done {
-    Ok(writeln!(out, "delivery {delivery} {} {}", Key(key), Hex(value))?)
-}
-
-fn production(serve: u64, key: &Request, out: &mut String) -> Done {
-    Ok(writeln!(out, "production {serve} {}", Key(key))?)
-}
+use stateful_shell::{Page, index, number};
 
 /// Prints an event that was handed out.
-fn handed(event: &ActorEvent, out: &mut String) -> Done {
+fn tell_taken(event: Option<&ActorEvent>, page: &mut Page) {
     match event {
-        ActorEvent::Deliver {
-            delivery: number,
-            key,
-            value,
-        } => delivery(*number, key, value.as_slice(), out),
-        ActorEvent::Produce { serve, key } => production(*serve, key, out),
-        _ => push_line(out, "something else"),
-    }
-}
-
-fn take(handler: &mut Handler, out: &mut String) -> Done {
-    match handler.take() {
-        Some(event) => handed(&event, out),
-        None => push_line(out, "nothing"),
-    }
-}
-
-fn play_on(alloc: Global, handler: &mut Handler, words: &[&str], out: &mut String) -> Done {
-    match word(words, 1) {
-        "deliver" => deliver(alloc, handler, request(word(words, 2)), word(words, 3), out),
-        "produce" => tell(handler.produce(request(word(words, 2))), out),
-        "cancel" => cancel(handler, number(word(words, 2)), out),
-        "take" => take(handler, out),
-        _ => no_such_command(out),
+        Some(
+            ActorEvent::Deliver {
+                delivery,
+                key,
+                value,
+            },
+        ) => {
+            page.field("delivery ", *delivery);
+            show_request(" ", *key, page);
+            show_bytes(" ", value.as_slice(), page)
+        }
+        Some(ActorEvent::Produce { serve, key }) => {
+            page.field("production ", *serve);
+            show_request(" ", *key, page)
+        }
+        Some(_) => page.push("something else"),
+        None => page.push("nothing"),
     }
 }
 
 /// `handler ..`
-pub(crate) fn play(
-    alloc: Global,
-    handler: &mut Option<Handler>,
-    words: &[&str],
-    out: &mut String,
-) -> Done {
-    if word(words, 1) == "new" {
-        return new(alloc, handler, small(word(words, 2)) as usize, out);
+pub(crate) fn play(handler: &mut Option<Handler>, words: &[&str], page: &mut Page) {
+    let command = named(words, 1);
+    if let Word::New = command {
+        let capacity = index(words, 2);
+        if capacity == 0 {
+            return page.push("refused");
+        }
+        put(handler, Handler::new(page.alloc(), capacity), page);
+        return page.push("new");
     }
-    match handler {
-        Some(handler) => play_on(alloc, handler, words, out),
-        None => push_line(out, "no handler"),
+    let Some(handler) = handler else {
+        return page.push("no handler");
+    };
+    match command {
+        Word::Deliver => {
+            let value = bytes(words, 3, page);
+            tell_drawn(handler.deliver(request(words, 2), value), page)
+        }
+        Word::Produce => tell_drawn(handler.produce(request(words, 2)), page),
+        Word::Cancel => {
+            handler.cancel(number(words, 2));
+            page.push("cancelled")
+        }
+        Word::Take => tell_taken(handler.take().as_ref(), page),
+        _ => page.push("no such command"),
     }
 }

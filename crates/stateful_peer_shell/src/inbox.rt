@@ -1,67 +1,48 @@
 //! The mailbox of a probe.
 
-use crate::words::{no_such_command, push_line, put, small};
+use crate::named::{Word, named};
+use crate::words::put;
 use stateful_probe::{Event, Mailbox};
-use stateful_shell::word;
-use stateful_types::{DrawError, OutOfMemory, VoteScheme};
-use std::alloc::Global;
-use std::fmt::Write;
-
-type Done = Result<(), OutOfMemory>;
+use stateful_shell::{Page, index};
+use stateful_types::VoteScheme;
 
 /// Subscriptions and attachments on their way.
 pub(crate) type Inbox = Mailbox<VoteScheme>;
 
-fn new(alloc: Global, inbox: &mut Option<Inbox>, capacity: usize, out: &mut String) -> Done {
-    if capacity == 0 {
-        return push_line(out, "refused");
-    }
-    put(inbox, Mailbox::new(alloc, capacity), "new", out)
-}
-
-fn subscribe(inbox: &mut Inbox, out: &mut String) -> Done {
-    match inbox.subscribe() {
-        Ok(ticket) => Ok(writeln!(out, "{ticket}")?),
-        Err(DrawError::OutOfMemory) => Err(OutOfMemory),
-        Err(error) => Ok(writeln!(out, "{error:?}")?),
-    }
-}
-
-fn attach(inbox: &mut Inbox, out: &mut String) -> Done {
-    inbox.attach()?;
-    push_line(out, "attached")
-}
-
-fn take(inbox: &mut Inbox, out: &mut String) -> Done {
-    match inbox.take() {
-        Some(Event::Subscribe { ticket }) => Ok(writeln!(out, "subscribe {ticket}")?),
-        Some(Event::Attach) => push_line(out, "attach"),
-        Some(_) => push_line(out, "something else"),
-        None => push_line(out, "nothing"),
-    }
-}
-
-fn play_on(inbox: &mut Inbox, words: &[&str], out: &mut String) -> Done {
-    match word(words, 1) {
-        "subscribe" => subscribe(inbox, out),
-        "attach" => attach(inbox, out),
-        "take" => take(inbox, out),
-        _ => no_such_command(out),
+/// Prints an event that was taken out.
+fn tell_taken(event: Option<&Event<u64>>, page: &mut Page) {
+    match event {
+        Some(Event::Subscribe { ticket }) => page.field("subscribe ", *ticket),
+        Some(Event::Attach) => page.push("attach"),
+        Some(_) => page.push("something else"),
+        None => page.push("nothing"),
     }
 }
 
 /// `inbox ..`
-pub(crate) fn play(
-    alloc: Global,
-    inbox: &mut Option<Inbox>,
-    words: &[&str],
-    out: &mut String,
-) -> Done {
-    if word(words, 1) == "new" {
-        return new(alloc, inbox, small(word(words, 2)) as usize, out);
+pub(crate) fn play(inbox: &mut Option<Inbox>, words: &[&str], page: &mut Page) {
+    let command = named(words, 1);
+    if let Word::New = command {
+        let capacity = index(words, 2);
+        if capacity == 0 {
+            return page.push("refused");
+        }
+        put(inbox, Mailbox::new(page.alloc(), capacity), page);
+        return page.push("new");
     }
-    match inbox {
-        Some(inbox) => play_on(inbox, words, out),
-        None => push_line(out, "no inbox"),
+    let Some(inbox) = inbox else {
+        return page.push("no inbox");
+    };
+    match command {
+        Word::Subscribe => match inbox.subscribe() {
+            Ok(ticket) => page.show(&ticket),
+            Err(error) => page.show(&error),
+        },
+        Word::Attach => {
+            page.note(inbox.attach());
+            page.push("attached")
+        }
+        Word::Take => tell_taken(inbox.take().as_ref(), page),
+        _ => page.push("no such command"),
     }
 }

@@ -1,14 +1,13 @@
 //! A mailbox of a bounded size, with notes.
 
-use crate::words::{no_such_command, number, push_line, put, small};
-use stateful_shell::word;
-use stateful_types::{Bounded, Feedback, OutOfMemory, Policy, Predicate};
-use std::alloc::Global;
+use crate::named::{Word, named};
+use crate::words::{put, tell_feedback};
+use stateful_shell::{Page, index, number};
+use stateful_types::{Bounded, OutOfMemory, Policy, Predicate};
 use std::collections::VecDeque;
-use std::fmt::Write;
 
 /// A message, of which all are kept in order.
-#[derive(Clone, Copy, Debug, PartialEq, Eq)]
+#[derive(Clone, Copy)]
 pub(crate) struct Note(u64);
 
 impl Policy for Note {
@@ -41,59 +40,34 @@ impl Predicate<Note> for Is {
 /// Notes on their way.
 pub(crate) type Notes = Bounded<Note, VecDeque<Note>>;
 
-type Done = Result<(), OutOfMemory>;
-
-fn new(alloc: Global, notes: &mut Option<Notes>, capacity: usize, out: &mut String) -> Done {
-    if capacity == 0 {
-        return push_line(out, "refused");
-    }
-    put(notes, Bounded::new(alloc, capacity), "empty", out)
-}
-
-fn enqueue(notes: &mut Notes, number: u64, out: &mut String) -> Done {
-    let feedback = notes.enqueue(Note(number))?;
-    Ok(writeln!(out, "{feedback:?}")?)
-}
-
-fn receive(notes: &mut Notes, out: &mut String) -> Done {
-    match notes.try_recv() {
-        Some(Note(number)) => Ok(writeln!(out, "{number}")?),
-        None => push_line(out, "none"),
-    }
-}
-
-fn retain(notes: &mut Notes, number: u64, out: &mut String) -> Done {
-    notes.retain_waiting(&Is(number));
-    push_line(out, "retained")
-}
-
-fn close(notes: &mut Notes, out: &mut String) -> Done {
-    notes.close();
-    push_line(out, "closed")
-}
-
-fn play_on(notes: &mut Notes, words: &[&str], out: &mut String) -> Done {
-    match word(words, 1) {
-        "enqueue" => enqueue(notes, number(word(words, 2)), out),
-        "receive" => receive(notes, out),
-        "retain" => retain(notes, number(word(words, 2)), out),
-        "close" => close(notes, out),
-        _ => no_such_command(out),
-    }
-}
-
 /// `mailbox ..`
-pub(crate) fn play(
-    alloc: Global,
-    notes: &mut Option<Notes>,
-    words: &[&str],
-    out: &mut String,
-) -> Done {
-    if word(words, 1) == "new" {
-        return new(alloc, notes, small(word(words, 2)) as usize, out);
+pub(crate) fn play(notes: &mut Option<Notes>, words: &[&str], page: &mut Page) {
+    let command = named(words, 1);
+    if let Word::New = command {
+        let capacity = index(words, 2);
+        if capacity == 0 {
+            return page.push("refused");
+        }
+        put(notes, Bounded::new(page.alloc(), capacity), page);
+        return page.push("empty");
     }
-    match notes {
-        Some(notes) => play_on(notes, words, out),
-        None => push_line(out, "no mailbox"),
+    let Some(notes) = notes else {
+        return page.push("no mailbox");
+    };
+    match command {
+        Word::Enqueue => tell_feedback(notes.enqueue(Note(number(words, 2))), page),
+        Word::Receive => match notes.try_recv() {
+            Some(Note(number)) => page.show(&number),
+            None => page.push("none"),
+        },
+        Word::Retain => {
+            notes.retain_waiting(&Is(number(words, 2)));
+            page.push("retained")
+        }
+        Word::Close => {
+            notes.close();
+            page.push("closed")
+        }
+        _ => page.push("no such command"),
     }
 }

@@ -57,6 +57,7 @@
 mod handler;
 mod inbox;
 mod mailbox;
+mod named;
 mod probe;
 mod reading;
 mod resolver;
@@ -69,21 +70,21 @@ mod writing;
 
 use crate::inbox::Inbox;
 use crate::mailbox::Notes;
+use crate::named::{Word, named};
 use crate::probe::Votings;
 use crate::resolver::Two;
 use crate::sample::Replies;
-use crate::words::{Votes, no_such_command};
+use crate::words::Votes;
 use stateful_p2p::Handler;
 use stateful_probe::Sample;
-use stateful_shell::{Shell, play_files, word};
-use stateful_types::{Epoch, MemoryLatest, OutOfMemory};
+use stateful_shell::{Page, Shell, play_files};
+use stateful_types::{Epoch, MemoryLatest};
 use std::alloc::Global;
 use std::process::ExitCode;
 
 /// What the commands of a file are played on.
 #[derive(Drop)]
 struct PeerShell {
-    alloc: Global,
     latest: MemoryLatest<Votes>,
     notes: Option<Notes>,
     handler: Option<Handler>,
@@ -93,44 +94,9 @@ struct PeerShell {
     sample: Replies,
 }
 
-/// The commands that keep nothing.
-fn play_values(alloc: Global, words: &[&str], out: &mut String) -> Result<(), OutOfMemory> {
-    match word(words, 0) {
-        "read" => reading::read(alloc, words, out),
-        "cuts" => reading::cuts(alloc, words, out),
-        "write" => writing::write(alloc, words, out),
-        "size" => writing::size(alloc, words, out),
-        "less" => votes::less(word(words, 1), word(words, 2), out),
-        "verify" => votes::verify(alloc, word(words, 1), word(words, 2), out),
-        "most" => votes::most(words, out),
-        "errors" => votes::errors(word(words, 1), out),
-        _ => no_such_command(out),
-    }
-}
-
-impl PeerShell {
-    /// The command of these words.
-    fn play_words(&mut self, words: &[&str], out: &mut String) -> Result<(), OutOfMemory> {
-        let alloc = self.alloc;
-        match word(words, 0) {
-            "latest" => votes::play_latest(alloc, &mut self.latest, words, out),
-            "mailbox" => mailbox::play(alloc, &mut self.notes, words, out),
-            "handler" => handler::play(alloc, &mut self.handler, words, out),
-            "resolvers" => resolver::play_both(alloc, &mut self.resolvers, words, out),
-            "resolver" => resolver::play_first(alloc, &mut self.resolvers, words, out),
-            "other" => resolver::play_other(alloc, &mut self.resolvers, words, out),
-            "probe" => probe::play(alloc, &mut self.probe, &self.latest, words, out),
-            "inbox" => inbox::play(alloc, &mut self.inbox, words, out),
-            "sample" => sample::play(alloc, &mut self.sample, words, out),
-            _ => play_values(alloc, words, out),
-        }
-    }
-}
-
 impl Shell for PeerShell {
     fn new(alloc: Global) -> PeerShell {
         PeerShell {
-            alloc,
             latest: MemoryLatest { finalization: None },
             notes: None,
             handler: None,
@@ -141,14 +107,29 @@ impl Shell for PeerShell {
         }
     }
 
-    fn play(&mut self, line: &str, out: &mut String) -> Result<(), OutOfMemory> {
-        let words: Vec<&str> = line.split_whitespace().collect(self.alloc)?;
-        self.play_words(words.as_slice(), out)
+    fn play(&mut self, words: &[&str], page: &mut Page) {
+        match named(words, 0) {
+            Word::Latest => votes::play_latest(&mut self.latest, words, page),
+            Word::Mailbox => mailbox::play(&mut self.notes, words, page),
+            Word::Handler => handler::play(&mut self.handler, words, page),
+            Word::Resolvers => resolver::play_both(&mut self.resolvers, words, page),
+            Word::Resolver | Word::Other => resolver::play_one(&mut self.resolvers, words, page),
+            Word::Probe => probe::play(&mut self.probe, &self.latest, words, page),
+            Word::Inbox => inbox::play(&mut self.inbox, words, page),
+            Word::Sample => sample::play(&mut self.sample, words, page),
+            Word::Read | Word::Cuts => reading::play(words, page),
+            Word::Write => writing::write(words, page),
+            Word::Size => writing::size(words, page),
+            Word::Less => votes::less(words, page),
+            Word::Verify => votes::verify(words, page),
+            Word::Most => votes::most(words, page),
+            Word::Errors => votes::errors(words, page),
+            _ => page.push("no such command"),
+        }
+        page.end()
     }
 
-    fn end(&mut self, _out: &mut String) -> Result<(), OutOfMemory> {
-        Ok(())
-    }
+    fn end(&mut self, _page: &mut Page) {}
 }
 
 fn main(rt: HostRuntime) -> Result<ExitCode, anyhow::Error> {

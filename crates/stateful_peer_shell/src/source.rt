@@ -1,9 +1,10 @@
 //! A database that always answers the same.
 
+use crate::named::{Word, named};
 use crate::update::Update;
-use crate::words::number;
 use stateful_db_source::{ServeFault, SyncSource};
-use stateful_types::{Digest, Faulty, Items, OutOfMemory, Request, Response};
+use stateful_shell::number;
+use stateful_types::{Digest, Faulty, Items, Request, Response};
 use std::alloc::Global;
 
 /// What a database answers to each request.
@@ -15,15 +16,6 @@ enum Answer {
     Failed,
 }
 
-/// The answer that a word names: `not-served`, `failed`, or a value.
-fn named(word: &str) -> Answer {
-    match word {
-        "not-served" => Answer::NotServed,
-        "failed" => Answer::Failed,
-        _ => Answer::Value(number(word)),
-    }
-}
-
 /// A database that always answers the same.
 #[derive(Drop)]
 pub struct Fixed {
@@ -33,11 +25,17 @@ pub struct Fixed {
 }
 
 impl Fixed {
-    /// A database that answers what the word names, and hasn't failed.
-    pub(crate) fn new(alloc: Global, word: &str) -> Fixed {
+    /// A database that answers what the word there names, `not-served`, `failed` or a value, and
+    /// hasn't failed.
+    pub(crate) fn new(alloc: Global, words: &[&str], at: usize) -> Fixed {
+        let answer = match named(words, at) {
+            Word::NotServed => Answer::NotServed,
+            Word::Failed => Answer::Failed,
+            _ => Answer::Value(number(words, at)),
+        };
         Fixed {
             alloc,
-            answer: named(word),
+            answer,
             faults: 0,
         }
     }
@@ -58,30 +56,23 @@ impl SyncSource for Fixed {
 
     fn serve(&mut self, request: Request) -> Result<Response<Update>, ServeFault> {
         match self.answer {
-            Answer::Value(value) => match respond(self.alloc, &request, Update { key: 1, value }) {
-                Ok(response) => Ok(response),
-                Err(OutOfMemory) => Err(ServeFault::OutOfMemory),
-            },
+            Answer::Value(value) => {
+                let op = Update { key: 1, value };
+                if let Request::Boundary { .. } = request {
+                    let before = Digest([7; 32]);
+                    return Ok(Response::Boundary { before, op });
+                }
+                let mut operations = Items::new(self.alloc);
+                match operations.push(op) {
+                    Ok(()) => Ok(Response::Operations { operations }),
+                    Err(_) => Err(ServeFault::OutOfMemory),
+                }
+            }
             Answer::NotServed => Err(ServeFault::NotServed),
             Answer::Failed => {
                 self.faults = self.faults.saturating_add(1);
                 Err(ServeFault::Failed)
             }
         }
-    }
-}
-
-/// The operation alone, or as a boundary.
-fn respond(alloc: Global, request: &Request, op: Update) -> Result<Response<Update>, OutOfMemory> {
-    match request {
-        Request::Operations { .. } => {
-            let mut operations = Items::new(alloc);
-            operations.push(op)?;
-            Ok(Response::Operations { operations })
-        }
-        Request::Boundary { .. } => Ok(Response::Boundary {
-            before: Digest([7; 32]),
-            op,
-        }),
     }
 }

@@ -7,7 +7,7 @@ use stateful_types::{
 use std::alloc::Global;
 
 /// An operation as a database sends it: byte 1, a key and a value.
-#[derive(Clone, Copy, Debug, PartialEq, Eq)]
+#[derive(Clone, Copy)]
 pub struct Update {
     pub key: u64,
     pub value: u64,

@@ -1,213 +1,138 @@
 //! Schemes, the latest finalization, orders, limits and errors.
 
-use crate::words::{
-    Final, Votes, digest, finalization, no_such_command, number, numbers, push_line, request,
-    signers, small,
-};
-use crate::writing::final_of;
+use crate::named::{Word, named};
+use crate::words::{Votes, finalization, numbers, request, show_final, small};
 use stateful_db_source::ServeFault;
 use stateful_p2p::{ActorError, ResponseDropped, TooManyOps, max_payload_size};
 use stateful_probe::{Message, ProbeError};
-use stateful_shell::word;
+use stateful_shell::{Page, index, number, rest, word};
 use stateful_types::{
     CodecError, DrawError, Failed, Finalization, Items, Latest, MemoryLatest, OutOfMemory,
     ReadError, Scheme, SinkFault, VoteScheme, max_faults,
 };
-use std::alloc::Global;
-use std::fmt::Write;
+use std::fmt::Display;
 use std::num::NonZeroU64;
 
-type Done = Result<(), OutOfMemory>;
-
 /// `verify KEYS SIGNERS`: whether a certificate of these signers holds among these participants.
-pub(crate) fn verify(alloc: Global, keys: &str, certificate: &str, out: &mut String) -> Done {
-    let certificate = signers(alloc, certificate)?;
-    let participants = Items::from_vec(numbers(alloc, keys)?);
-    let signed = certificate.len();
-    let finalization = finalization((1, 2), 1, digest("55"), certificate);
-    let scheme = VoteScheme { participants };
-    let count = scheme.participants().len();
-    let holds = scheme.verify(&finalization);
-    Ok(writeln!(out, "{signed} of {count}: {holds}")?)
+pub(crate) fn verify(words: &[&str], page: &mut Page) {
+    let scheme = VoteScheme {
+        participants: Items::from_vec(numbers(words, 1, page)),
+    };
+    let found = finalization(&["1", "2", "1", "55", word(words, 2)], page);
+    page.number(found.certificate.len() as u64);
+    page.field(" of ", scheme.participants().len() as u64);
+    page.push(": ");
+    page.show(&scheme.verify(&found))
 }
 
 /// `less KEY OTHER`: whether a request is ordered before another.
-pub(crate) fn less(key: &str, other: &str, out: &mut String) -> Done {
-    let is_less = request(key) < request(other);
-    Ok(writeln!(out, "{is_less}")?)
+pub(crate) fn less(words: &[&str], page: &mut Page) {
+    let is_less = request(words, 1) < request(words, 2);
+    page.show(&is_less)
 }
 
-fn show(found: &Finalization<Votes>, out: &mut String) -> Done {
-    Ok(writeln!(out, "{}", Final(found))?)
-}
-
-fn show_found(found: Option<&Finalization<Votes>>, out: &mut String) -> Done {
-    match found {
-        Some(found) => show(found, out),
-        None => push_line(out, "none"),
+/// `latest ..`: sets the latest finalization, if the words say so, and shows it as it is handed
+/// out.
+pub(crate) fn play_latest(latest: &mut MemoryLatest<Votes>, words: &[&str], page: &mut Page) {
+    if let Word::None = named(words, 1) {
+        latest.finalization = None
+    } else if words.len() > 1 {
+        latest.finalization = Some(finalization(rest(words, 1), page))
     }
-}
-
-/// Shows the latest finalization, as it is handed out.
-fn show_latest(latest: &MemoryLatest<Votes>, out: &mut String) -> Done {
-    let found = latest.latest()?;
-    show_found(found.as_ref(), out)
-}
-
-fn clear_latest(latest: &mut MemoryLatest<Votes>, out: &mut String) -> Done {
-    latest.finalization = None;
-    show_latest(latest, out)
-}
-
-fn set_latest(
-    latest: &mut MemoryLatest<Votes>,
-    finalization: Finalization<Votes>,
-    out: &mut String,
-) -> Done {
-    latest.finalization = Some(finalization);
-    show_latest(latest, out)
-}
-
-fn set_named(
-    alloc: Global,
-    latest: &mut MemoryLatest<Votes>,
-    words: &[&str],
-    out: &mut String,
-) -> Done {
-    let round = (word(words, 1), word(words, 2));
-    let named = final_of(alloc, round, word(words, 3), word(words, 4), word(words, 5))?;
-    set_latest(latest, named, out)
-}
-
-/// `latest ..`
-pub(crate) fn play_latest(
-    alloc: Global,
-    latest: &mut MemoryLatest<Votes>,
-    words: &[&str],
-    out: &mut String,
-) -> Done {
-    match word(words, 1) {
-        "" => show_latest(latest, out),
-        "none" => clear_latest(latest, out),
-        _ => set_named(alloc, latest, words, out),
+    match latest.latest() {
+        Ok(Some(found)) => show_final("", &found, page),
+        Ok(None) => page.push("none"),
+        Err(OutOfMemory) => page.lack(),
     }
-}
-
-/// How many bytes a payload has at most.
-fn payload_of(max_ops: NonZeroU64, op: usize, out: &mut String) -> Done {
-    if op > 16_777_216 {
-        return push_line(out, "refused");
-    }
-    match max_payload_size(max_ops, op) {
-        Ok(size) => Ok(writeln!(out, "{size}")?),
-        Err(error) => Ok(writeln!(out, "{error:?}")?),
-    }
-}
-
-fn payload(max_ops: u64, op: u32, out: &mut String) -> Done {
-    match NonZeroU64::new(max_ops) {
-        Some(max_ops) => payload_of(max_ops, op as usize, out),
-        None => push_line(out, "refused"),
-    }
-}
-
-fn faults(n: u32, out: &mut String) -> Done {
-    let most = max_faults(n);
-    Ok(writeln!(out, "{most}")?)
-}
-
-fn certificate(n: u32, out: &mut String) -> Done {
-    let size = VoteScheme::max_certificate_size(n);
-    Ok(writeln!(out, "{size}")?)
-}
-
-fn message(n: u32, out: &mut String) -> Done {
-    let size = Message::<Votes>::max_encode_size::<VoteScheme>(n);
-    Ok(writeln!(out, "{size}")?)
 }
 
 /// `most ..`: the limits.
-pub(crate) fn most(words: &[&str], out: &mut String) -> Done {
-    let n = word(words, 2);
-    match word(words, 1) {
-        "faults" => faults(small(n), out),
-        "certificate" => certificate(small(n), out),
-        "message" => message(small(n), out),
-        "payload" => payload(number(n), small(word(words, 3)), out),
-        _ => no_such_command(out),
+pub(crate) fn most(words: &[&str], page: &mut Page) {
+    let n = small(words, 2);
+    let op = index(words, 3);
+    match named(words, 1) {
+        Word::Faults => page.show(&max_faults(n)),
+        Word::Certificate => page.show(&VoteScheme::max_certificate_size(n)),
+        Word::Message => page.show(&Message::<Votes>::max_encode_size::<VoteScheme>(n)),
+        Word::Payload => match NonZeroU64::new(number(words, 2)) {
+            Some(max_ops) if op <= 16_777_216 => match max_payload_size(max_ops, op) {
+                Ok(size) => page.show(&size),
+                Err(error) => page.debug(&error),
+            },
+            _ => page.push("refused"),
+        },
+        _ => page.push("no such command"),
     }
 }
 
-fn plain_errors(out: &mut String) -> Done {
-    let [last, full] = [DrawError::Exhausted, DrawError::OutOfMemory];
-    Ok(writeln!(out, "{last} {full} {Failed} {OutOfMemory}")?)
-}
+const DRAW: &[DrawError] = &[DrawError::Exhausted, DrawError::OutOfMemory];
 
-fn codec_errors(out: &mut String) -> Done {
-    let [wrong, short, full] = [
-        CodecError::InvalidEnum(7),
-        CodecError::EndOfBuffer,
-        CodecError::OutOfMemory,
-    ];
-    Ok(writeln!(out, "{wrong} {short} {full}")?)
-}
+const CODEC: &[CodecError] = &[
+    CodecError::InvalidEnum(7),
+    CodecError::EndOfBuffer,
+    CodecError::OutOfMemory,
+];
 
-fn io_errors(out: &mut String) -> Done {
-    let [failed, long, full] = [
-        ReadError::Failed,
-        ReadError::TooLong,
-        ReadError::OutOfMemory,
-    ];
-    Ok(writeln!(out, "{failed} {long} {full}")?)
-}
+const READ: &[ReadError] = &[
+    ReadError::Failed,
+    ReadError::TooLong,
+    ReadError::OutOfMemory,
+];
 
-fn sink_errors(out: &mut String) -> Done {
-    let [failed, full] = [SinkFault::Failed, SinkFault::OutOfMemory];
-    Ok(writeln!(out, "{failed} {full}")?)
-}
+const SINK: &[SinkFault] = &[SinkFault::Failed, SinkFault::OutOfMemory];
 
-fn serve_errors(out: &mut String) -> Done {
-    let [failed, none, full] = [
-        ServeFault::Failed,
-        ServeFault::NotServed,
-        ServeFault::OutOfMemory,
-    ];
-    Ok(writeln!(out, "{failed} {none} {full}")?)
-}
+const SERVE: &[ServeFault] = &[
+    ServeFault::Failed,
+    ServeFault::NotServed,
+    ServeFault::OutOfMemory,
+];
 
-fn resolver_errors(out: &mut String) -> Done {
-    let [bad, failed, last, full] = [
-        ActorError::BadEvent,
-        ActorError::Failed,
-        ActorError::Exhausted,
-        ActorError::OutOfMemory,
-    ];
-    Ok(writeln!(
-        out,
-        "{bad} {failed} {last} {full}; {ResponseDropped}; {TooManyOps}"
-    )?)
-}
+const RESOLVER: &[ActorError] = &[
+    ActorError::BadEvent,
+    ActorError::Failed,
+    ActorError::Exhausted,
+    ActorError::OutOfMemory,
+];
 
-fn probe_errors(out: &mut String) -> Done {
-    let [bad, failed, last, full] = [
-        ProbeError::BadEvent,
-        ProbeError::Failed,
-        ProbeError::Exhausted,
-        ProbeError::OutOfMemory,
-    ];
-    Ok(writeln!(out, "{bad} {failed} {last} {full}")?)
+const PROBE: &[ProbeError] = &[
+    ProbeError::BadEvent,
+    ProbeError::Failed,
+    ProbeError::Exhausted,
+    ProbeError::OutOfMemory,
+];
+
+/// Appends each of these errors.
+fn show_each<E: Display>(errors: &[E], page: &mut Page) {
+    let mut between = "";
+    for error in errors {
+        page.push(between);
+        page.show(error);
+        between = " ";
+    }
 }
 
 /// `errors OF`: what is printed of each.
-pub(crate) fn errors(which: &str, out: &mut String) -> Done {
-    match which {
-        "plain" => plain_errors(out),
-        "codec" => codec_errors(out),
-        "read" => io_errors(out),
-        "sink" => sink_errors(out),
-        "serve" => serve_errors(out),
-        "resolver" => resolver_errors(out),
-        "probe" => probe_errors(out),
-        _ => no_such_command(out),
+pub(crate) fn errors(words: &[&str], page: &mut Page) {
+    match named(words, 1) {
+        Word::Plain => {
+            show_each(DRAW, page);
+            page.push(" ");
+            page.show(&Failed);
+            page.push(" ");
+            page.show(&OutOfMemory)
+        }
+        Word::Codec => show_each(CODEC, page),
+        Word::Read => show_each(READ, page),
+        Word::Sink => show_each(SINK, page),
+        Word::Serve => show_each(SERVE, page),
+        Word::Resolver => {
+            show_each(RESOLVER, page);
+            page.push("; ");
+            page.show(&ResponseDropped);
+            page.push("; ");
+            page.show(&TooManyOps)
+        }
+        Word::Probe => show_each(PROBE, page),
+        _ => page.push("no such command"),
     }
 }

@@ -1,67 +1,54 @@
 //! The words of a line, and how values are printed.
 
 use bytes::Bytes;
+use stateful_shell::{Page, number, word};
 use stateful_types::{
-    Digest, Epoch, Finalization, Items, Location, OutOfMemory, Request, Round, View,
+    Digest, DrawError, Epoch, Feedback, Finalization, Items, Location, OutOfMemory, Request, Round,
+    View,
 };
-use std::alloc::Global;
-use std::fmt;
 use std::num::NonZeroU64;
+use std::str::FromStr;
 
 /// What shows that a block is final, in this shell: the numbers of those who signed.
 pub(crate) type Votes = Items<u32>;
 
-/// A number. 0 where it is none.
-pub(crate) fn number(word: &str) -> u64 {
-    word.parse::<u64>().unwrap_or(0)
+/// The number below 2^8 that stands there. 0 where none does.
+pub(crate) fn byte(words: &[&str], at: usize) -> u8 {
+    word(words, at).parse::<u8>().unwrap_or(0)
 }
 
-/// A number below 2^32. 0 where it is none.
-pub(crate) fn small(word: &str) -> u32 {
-    word.parse::<u32>().unwrap_or(0)
+/// The number below 2^32 that stands there. 0 where none does.
+pub(crate) fn small(words: &[&str], at: usize) -> u32 {
+    word(words, at).parse::<u32>().unwrap_or(0)
 }
 
 /// A part of a word. 0 where it is missing, or is no number.
-fn part(word: Option<&str>) -> u64 {
+pub(crate) fn part(word: Option<&str>) -> u64 {
     match word {
-        Some(word) => number(word),
+        Some(word) => word.parse::<u64>().unwrap_or(0),
         None => 0,
     }
 }
 
 /// Numbers with commas between them. What is no number, as `-`, is left out.
-pub(crate) fn numbers(alloc: Global, word: &str) -> Result<Vec<u64>, OutOfMemory> {
-    let mut found = Vec::new(alloc);
-    for part in word.split(',') {
-        if let Ok(n) = part.parse::<u64>() {
-            found.push(n)?;
+pub(crate) fn numbers<T: FromStr + Drop>(words: &[&str], at: usize, page: &mut Page) -> Vec<T>
+where
+    T::Err: Drop,
+{
+    let mut found = Vec::new(page.alloc());
+    for part in word(words, at).split(',') {
+        if let Ok(n) = part.parse::<T>() {
+            if found.push(n).is_err() {
+                page.lack()
+            }
         }
     }
-    Ok(found)
-}
-
-/// Signers with commas between them.
-pub(crate) fn signers(alloc: Global, word: &str) -> Result<Votes, OutOfMemory> {
-    let mut found = Items::new(alloc);
-    for part in word.split(',') {
-        if let Ok(n) = part.parse::<u32>() {
-            found.push(n)?;
-        }
-    }
-    Ok(found)
-}
-
-/// Two numbers with a colon between them.
-pub(crate) fn pair(word: &str) -> (u64, u64) {
-    let mut parts = word.split(':');
-    let first = part(parts.next());
-    let second = part(parts.next());
-    (first, second)
+    found
 }
 
 /// A request: a size and a start, and for operations how many at most, as in `10,3,2`.
-pub(crate) fn request(word: &str) -> Request {
-    let mut parts = word.split(',');
+pub(crate) fn request(words: &[&str], at: usize) -> Request {
+    let mut parts = word(words, at).split(',');
     let size = Location(part(parts.next()));
     let start = Location(part(parts.next()));
     match NonZeroU64::new(part(parts.next())) {
@@ -74,119 +61,103 @@ pub(crate) fn request(word: &str) -> Request {
     }
 }
 
-/// Bytes in hex. None where it isn't hex, as `-`.
-pub(crate) fn bytes(alloc: Global, word: &str) -> Result<Bytes, OutOfMemory> {
-    match hex::decode(alloc, word) {
-        Ok(bytes) => Ok(Bytes::from_vec(bytes)?),
-        Err(_) => Ok(Bytes::from_static(b"")),
+/// Bytes that can be shared.
+pub(crate) fn shared(bytes: Vec<u8>, page: &mut Page) -> Bytes {
+    match Bytes::from_vec(bytes) {
+        Ok(bytes) => bytes,
+        Err(_) => {
+            page.lack();
+            Bytes::new()
+        }
     }
 }
 
-/// A digest whose bytes are all this one.
-pub(crate) fn digest(byte: &str) -> Digest {
-    let byte = byte.parse::<u8>().unwrap_or(0);
-    Digest([byte; 32])
+/// Bytes in hex. None where it isn't hex, as `-`.
+pub(crate) fn bytes(words: &[&str], at: usize, page: &mut Page) -> Bytes {
+    match hex::decode(page.alloc(), word(words, at)) {
+        Ok(bytes) => shared(bytes, page),
+        Err(_) => Bytes::new(),
+    }
 }
 
-/// A finalization of this round, on a block of the parent's view, with these signers.
-pub(crate) fn finalization(
-    round: (u64, u64),
-    parent: u64,
-    payload: Digest,
-    certificate: Votes,
-) -> Finalization<Votes> {
+/// The finalization of these words: its epoch, its view, its parent's view, the byte that its
+/// payload has 32 times, and its signers.
+pub(crate) fn finalization(words: &[&str], page: &mut Page) -> Finalization<Votes> {
     Finalization {
         round: Round {
-            epoch: Epoch(round.0),
-            view: View(round.1),
+            epoch: Epoch(number(words, 0)),
+            view: View(number(words, 1)),
         },
-        parent: View(parent),
-        payload,
-        certificate,
+        parent: View(number(words, 2)),
+        payload: Digest([byte(words, 3); 32]),
+        certificate: Items::from_vec(numbers(words, 4, page)),
     }
 }
 
-/// Appends a line.
-pub(crate) fn push_line(out: &mut String, line: &str) -> Result<(), OutOfMemory> {
-    out.push_str(line)?;
-    out.push('\n')?;
-    Ok(())
-}
-
-/// Puts what was made in its place, and prints what is said of it.
-pub(crate) fn put<T: Drop>(
-    place: &mut Option<T>,
-    made: Result<T, OutOfMemory>,
-    said: &str,
-    out: &mut String,
-) -> Result<(), OutOfMemory> {
-    *place = Some(made?);
-    push_line(out, said)
-}
-
-/// The line of a command that there isn't.
-pub(crate) fn no_such_command(out: &mut String) -> Result<(), OutOfMemory> {
-    push_line(out, "no such command")
-}
-
-/// Prints a name and a number.
-pub(crate) fn fmt_named<W: fmt::Write>(
-    name: &str,
-    number: u64,
-    f: &mut fmt::Formatter<W>,
-) -> fmt::Result {
-    write!(f, "{name} {number}")
-}
-
-/// Bytes, printed in hex, and as `-` where there are none.
-#[derive(Drop)]
-pub(crate) struct Hex<'a>(pub(crate) &'a [u8]);
-
-impl fmt::Display for Hex<'_> {
-    fn fmt<W: fmt::Write>(&self, f: &mut fmt::Formatter<W>) -> fmt::Result {
-        if self.0.is_empty() {
-            return f.write_str("-");
-        }
-        for byte in self.0 {
-            write!(f, "{byte:02x}")?;
-        }
-        Ok(())
+/// Puts what was made in its place.
+pub(crate) fn put<T: Drop>(place: &mut Option<T>, made: Result<T, OutOfMemory>, page: &mut Page) {
+    match made {
+        Ok(made) => *place = Some(made),
+        Err(OutOfMemory) => page.lack(),
     }
 }
 
-/// A request, printed as it is read.
-#[derive(Drop)]
-pub(crate) struct Key<'a>(pub(crate) &'a Request);
+/// Prints what became of a message.
+pub(crate) fn tell_feedback(sent: Result<Feedback, OutOfMemory>, page: &mut Page) {
+    match sent {
+        Ok(feedback) => page.debug(&feedback),
+        Err(OutOfMemory) => page.lack(),
+    }
+}
 
-impl fmt::Display for Key<'_> {
-    fn fmt<W: fmt::Write>(&self, f: &mut fmt::Formatter<W>) -> fmt::Result {
-        match *self.0 {
-            Request::Operations {
-                size,
-                start,
-                max_ops,
-            } => {
-                let (size, start, most) = (size.0, start.0, max_ops.get());
-                write!(f, "{size},{start},{most}")
-            }
-            Request::Boundary { size, start } => {
-                let (size, start) = (size.0, start.0);
-                write!(f, "{size},{start}")
-            }
+/// Prints what became of a message that has drawn a number.
+pub(crate) fn tell_drawn(sent: Result<(Feedback, u64), DrawError>, page: &mut Page) {
+    match sent {
+        Ok((feedback, number)) => {
+            page.number(number);
+            page.push(" ");
+            page.debug(&feedback)
+        }
+        Err(error) => page.show(&error),
+    }
+}
+
+/// Appends text and bytes: in hex, and as `-` where there are none.
+pub(crate) fn show_bytes(before: &str, bytes: &[u8], page: &mut Page) {
+    page.push(before);
+    if bytes.is_empty() {
+        page.push("-")
+    } else {
+        page.hex(bytes)
+    }
+}
+
+/// Appends text and a request, as it is read.
+pub(crate) fn show_request(before: &str, request: Request, page: &mut Page) {
+    match request {
+        Request::Operations {
+            size,
+            start,
+            max_ops,
+        } => {
+            page.field(before, size.0);
+            page.field(",", start.0);
+            page.field(",", max_ops.get())
+        }
+        Request::Boundary { size, start } => {
+            page.field(before, size.0);
+            page.field(",", start.0)
         }
     }
 }
 
-/// A finalization with all that it has.
-#[derive(Drop)]
-pub(crate) struct Final<'a>(pub(crate) &'a Finalization<Votes>);
-
-impl fmt::Display for Final<'_> {
-    fn fmt<W: fmt::Write>(&self, f: &mut fmt::Formatter<W>) -> fmt::Result {
-        let (epoch, view) = (self.0.round.epoch.0, self.0.round.view.0);
-        let parent = self.0.parent.0;
-        let payload = Hex(&self.0.payload.0);
-        let signers = self.0.certificate.as_slice();
-        write!(f, "{epoch} {view} on {parent}, {payload} by {signers:?}")
-    }
+/// Appends text and a finalization, with all that it has.
+pub(crate) fn show_final(before: &str, found: &Finalization<Votes>, page: &mut Page) {
+    page.field(before, found.round.epoch.0);
+    page.field(" ", found.round.view.0);
+    page.field(" on ", found.parent.0);
+    page.push(", ");
+    page.hex(&found.payload.0);
+    page.push(" by ");
+    page.debug(&found.certificate.as_slice())
 }

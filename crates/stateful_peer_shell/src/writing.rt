@@ -1,129 +1,81 @@
 //! Values that are written to bytes.
 
+use crate::named::{Word, named};
 use crate::update::Update;
-use crate::words::{Hex, Votes, digest, finalization, number, pair, request, signers, small};
+use crate::words::{byte, finalization, part, request, show_bytes, small};
 use stateful_probe::{Message, Tag};
-use stateful_shell::word;
+use stateful_shell::{Page, number, rest, word};
 use stateful_types::{
-    Finalization, Height, Items, OutOfMemory, Response, VoteScheme, write_u8, write_u32, write_u64,
+    Digest, Height, Items, OutOfMemory, Response, VoteScheme, write_u8, write_u32, write_u64,
 };
-use std::alloc::Global;
-use std::fmt::Write;
-
-type Written = Result<(), OutOfMemory>;
 
 /// The operation of a key and a value, as in `1:100`.
 fn update(word: &str) -> Update {
-    let (key, value) = pair(word);
+    let mut parts = word.split(':');
+    let key = part(parts.next());
+    let value = part(parts.next());
     Update { key, value }
 }
 
-fn operations(alloc: Global, words: &[&str], bytes: &mut Vec<u8>) -> Written {
-    let mut operations = Items::new(alloc);
-    for at in 2..words.len() {
-        operations.push(update(word(words, at)))?;
+/// A boundary, or the operations of the words from the third on.
+fn response(words: &[&str], page: &mut Page) -> Response<Update> {
+    if let Word::Boundary = named(words, 1) {
+        return Response::Boundary {
+            before: Digest([byte(words, 3); 32]),
+            op: update(word(words, 2)),
+        };
     }
-    Response::Operations { operations }.write(bytes)
-}
-
-fn boundary(op: &str, byte: &str, bytes: &mut Vec<u8>) -> Written {
-    let before = digest(byte);
-    let op = update(op);
-    Response::Boundary { before, op }.write(bytes)
-}
-
-/// The finalization of these words: its epoch, its view, its parent's view, the byte that its
-/// payload has 32 times, and its signers.
-pub(crate) fn final_of(
-    alloc: Global,
-    round: (&str, &str),
-    parent: &str,
-    byte: &str,
-    by: &str,
-) -> Result<Finalization<Votes>, OutOfMemory> {
-    let certificate = signers(alloc, by)?;
-    let round = (number(round.0), number(round.1));
-    Ok(finalization(round, number(parent), digest(byte), certificate))
-}
-
-/// The finalization of the words from the third on.
-fn named(alloc: Global, words: &[&str]) -> Result<Finalization<Votes>, OutOfMemory> {
-    let round = (word(words, 2), word(words, 3));
-    final_of(alloc, round, word(words, 4), word(words, 5), word(words, 6))
-}
-
-fn final_bytes(alloc: Global, words: &[&str], bytes: &mut Vec<u8>) -> Written {
-    named(alloc, words)?.write::<VoteScheme>(bytes)
-}
-
-fn response_bytes(alloc: Global, words: &[&str], bytes: &mut Vec<u8>) -> Written {
-    Message::Response(named(alloc, words)?).write::<VoteScheme>(bytes)
-}
-
-fn message_bytes(alloc: Global, words: &[&str], bytes: &mut Vec<u8>) -> Written {
-    match word(words, 2) {
-        "" => Message::Request.write::<VoteScheme>(bytes),
-        _ => response_bytes(alloc, words, bytes),
+    let mut operations = Items::new(page.alloc());
+    for word in rest(words, 2) {
+        if operations.push(update(word)).is_err() {
+            page.lack()
+        }
     }
+    Response::Operations { operations }
 }
 
-fn tag(word: &str, bytes: &mut Vec<u8>) -> Written {
-    let tag = if word == "request" {
-        Tag::Request
+/// Appends a probe's request, or its response with the finalization of these words.
+pub(crate) fn write_message(
+    words: &[&str],
+    bytes: &mut Vec<u8>,
+    page: &mut Page,
+) -> Result<(), OutOfMemory> {
+    let message = if words.is_empty() {
+        Message::Request
     } else {
-        Tag::Response
+        Message::Response(finalization(words, page))
     };
-    tag.write(bytes)
+    message.write::<VoteScheme>(bytes)
 }
 
-/// Appends the value of these words. Nothing where they are none.
-fn value(alloc: Global, words: &[&str], bytes: &mut Vec<u8>) -> Written {
-    let first = word(words, 2);
-    match word(words, 1) {
-        "u8" => write_u8(first.parse::<u8>().unwrap_or(0), bytes),
-        "u32" => write_u32(small(first), bytes),
-        "u64" => write_u64(number(first), bytes),
-        "height" => Height(number(first)).write(bytes),
-        "tag" => tag(first, bytes),
-        "request" => request(first).write(bytes),
-        "operations" => operations(alloc, words, bytes),
-        "boundary" => boundary(first, word(words, 3), bytes),
-        "finalization" => final_bytes(alloc, words, bytes),
-        "message" => message_bytes(alloc, words, bytes),
+/// `write VALUE`: its bytes. None where there is no such value.
+pub(crate) fn write(words: &[&str], page: &mut Page) {
+    let mut bytes = Vec::new(page.alloc());
+    let written = match named(words, 1) {
+        Word::U8 => write_u8(byte(words, 2), &mut bytes),
+        Word::U32 => write_u32(small(words, 2), &mut bytes),
+        Word::U64 => write_u64(number(words, 2), &mut bytes),
+        Word::Height => Height(number(words, 2)).write(&mut bytes),
+        Word::Tag => match named(words, 2) {
+            Word::Request => Tag::Request.write(&mut bytes),
+            _ => Tag::Response.write(&mut bytes),
+        },
+        Word::Request => request(words, 2).write(&mut bytes),
+        Word::Operations | Word::Boundary => response(words, page).write(&mut bytes),
+        Word::Finalization => finalization(rest(words, 2), page).write::<VoteScheme>(&mut bytes),
+        Word::Message => write_message(rest(words, 2), &mut bytes, page),
         _ => Ok(()),
+    };
+    page.note(written);
+    show_bytes("", bytes.as_slice(), page)
+}
+
+/// `size finalization FINAL`, `size message FINAL`: how many bytes it says that it has.
+pub(crate) fn size(words: &[&str], page: &mut Page) {
+    let found = finalization(rest(words, 2), page);
+    if let Word::Message = named(words, 1) {
+        page.show(&Message::Response(found).encode_size::<VoteScheme>())
+    } else {
+        page.show(&found.encode_size::<VoteScheme>())
     }
-}
-
-fn tell(bytes: &[u8], out: &mut String) -> Written {
-    Ok(writeln!(out, "{}", Hex(bytes))?)
-}
-
-/// `write VALUE`: its bytes.
-pub(crate) fn write(alloc: Global, words: &[&str], out: &mut String) -> Written {
-    let mut bytes = Vec::new(alloc);
-    value(alloc, words, &mut bytes)?;
-    tell(bytes.as_slice(), out)
-}
-
-fn final_size(alloc: Global, words: &[&str]) -> Result<usize, OutOfMemory> {
-    let read = named(alloc, words)?;
-    Ok(read.encode_size::<VoteScheme>())
-}
-
-fn message_size(alloc: Global, words: &[&str]) -> Result<usize, OutOfMemory> {
-    let message = Message::Response(named(alloc, words)?);
-    Ok(message.encode_size::<VoteScheme>())
-}
-
-fn size_of(alloc: Global, words: &[&str]) -> Result<usize, OutOfMemory> {
-    match word(words, 1) {
-        "message" => message_size(alloc, words),
-        _ => final_size(alloc, words),
-    }
-}
-
-/// `size ..`: how many bytes a finalization says that it has, or a message with it.
-pub(crate) fn size(alloc: Global, words: &[&str], out: &mut String) -> Written {
-    let size = size_of(alloc, words)?;
-    Ok(writeln!(out, "{size}")?)
 }

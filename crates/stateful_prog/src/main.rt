@@ -4,15 +4,10 @@
 ghost use Rattle.std.specs.Prelude.{◌≡◌};
 ghost use Rattle.stateful_prog.specs.Numbers.{number_of};
 
-mod edge;
-
-use crate::edge::{StdSink, StdSource};
 use stateful_play::{Status, run};
+use stateful_prog_edge::{StdSink, StdSource};
 use std::process::ExitCode;
 use std::{env, io};
-
-#[cfg(test)]
-mod tests;
 
 /// The words behind the program's name. Where memory has run out, none.
 fn words(rt: &HostRuntime) -> Option<Vec<String>> {

@@ -9,6 +9,9 @@
 //!     repeat N LINE          N lines like this one, in which `%` is the number of the line, from 0
 //!     double N               the script so far is doubled N times
 //!
+//! One blank stands between the words of a line. A `\` before any of them is left out, so there are
+//! two blanks where `\` stands alone between two words.
+//!
 //!     words WORD ..          the words of the run; without this line they are the one word `play`.
 //!                            In a word `_` stands for a blank
 //!     fail read N            the source's call of this number fails, from 0
@@ -34,74 +37,76 @@ mod marks;
 mod reading;
 mod running;
 
-use crate::gathered::Gathered;
-use stateful_base::OutOfMemory;
-use stateful_shell::{Shell, play_files};
+use crate::gathered::Kept;
+use stateful_script::Name;
+use stateful_shell::{Page, Shell, play_files, word};
 use std::alloc::Global;
 use std::process::ExitCode;
 
-/// What the commands are played on.
+/// The script of a case so far, how it is to be run, and the scripts of cases that have a name.
 #[derive(Drop)]
 struct Scripts {
-    gathered: Gathered,
-}
-
-impl Scripts {
-    /// Does a command that says what is gathered, or takes a line of the script.
-    fn gather(&mut self, word: &str, rest: &str, line: &str) -> Result<(), OutOfMemory> {
-        match word {
-            "define" => self.gathered.define(rest),
-            "use" => self.gathered.put_kept(rest),
-            "bytes" => self.gathered.put_bytes(rest),
-            "repeat" => self.gathered.put_repeated(rest),
-            "double" => self.gathered.double(rest),
-            "words" => self.gathered.set_words(rest),
-            "fail" => self.gathered.fail(rest),
-            _ => self
-                .gathered
-                .put_line(line.strip_prefix("\\").unwrap_or(line)),
-        }
-    }
-
-    /// Does a command in whose place nothing is played.
-    fn ask(&mut self, word: &str, rest: &str, out: &mut String) -> Result<(), OutOfMemory> {
-        self.gathered.is_asked = true;
-        match word {
-            "read" => reading::read(&self.gathered, rest, out),
-            "last" => reading::last(&self.gathered, rest, out),
-            "outline" => reading::outline(&self.gathered, out),
-            "number" => reading::spelled(self.gathered.alloc, rest, out),
-            "name" => reading::name(self.gathered.alloc, rest, out),
-            "mark" => marks::mark(self.gathered.alloc, rest, out),
-            "shown" => marks::shown(self.gathered.alloc, rest, out),
-            _ => marks::laws(out),
-        }
-    }
+    bytes: Vec<u8>,
+    /// The words of the run, where a line says them.
+    words: Vec<String>,
+    has_words: bool,
+    /// The calls of the source and of the sink that fail.
+    reads: Vec<u64>,
+    writes: Vec<u64>,
+    /// Whether something else was asked than to play the script.
+    is_asked: bool,
+    /// The name under which the script is to be kept. Empty where it is to be played.
+    name: String,
+    kept: Vec<Kept>,
 }
 
 impl Shell for Scripts {
-    fn new(alloc: Global) -> Self {
+    fn new(alloc: Global) -> Scripts {
         Scripts {
-            gathered: Gathered::new(alloc),
+            bytes: Vec::new(alloc),
+            words: Vec::new(alloc),
+            has_words: false,
+            reads: Vec::new(alloc),
+            writes: Vec::new(alloc),
+            is_asked: false,
+            name: String::new(alloc),
+            kept: Vec::new(alloc),
         }
     }
 
-    fn play(&mut self, line: &str, out: &mut String) -> Result<(), OutOfMemory> {
-        let (word, rest) = line.split_once(" ").unwrap_or((line, ""));
-        match word {
-            "ends" => running::ends(&self.gathered, rest, out),
-            "read" | "last" | "outline" | "number" | "name" | "mark" | "shown" | "laws" => {
-                self.ask(word, rest, out)
+    fn play(&mut self, words: &[&str], page: &mut Page) {
+        let alloc = page.alloc();
+        match word(words, 0) {
+            "read" | "last" | "outline" => self.read(words, page),
+            "number" => {
+                page.debug(&stateful_script::number(word(words, 1).as_bytes()));
+                page.end()
             }
-            _ => self.gather(word, rest, line),
+            "name" => match Name::new(alloc, word(words, 1)) {
+                Ok(name) => page.say(name.as_str()),
+                Err(_) => page.lack(),
+            },
+            "mark" => marks::mark(words, page),
+            "shown" => marks::shown(words, page),
+            "laws" => marks::laws(page),
+            "ends" => return self.ends(words, page),
+            _ => return page.note(self.gather(words, alloc)),
         }
+        self.is_asked = true;
     }
 
-    fn end(&mut self, out: &mut String) -> Result<(), OutOfMemory> {
-        if self.gathered.is_to_play() {
-            running::plays(&self.gathered, out)?;
+    fn end(&mut self, page: &mut Page) {
+        let alloc = page.alloc();
+        if !self.name.is_empty() {
+            page.note(self.keep(alloc));
+        } else if !self.is_asked {
+            self.plays(false, page);
         }
-        self.gathered.begin_anew()
+        self.bytes.clear();
+        self.has_words = false;
+        self.reads.clear();
+        self.writes.clear();
+        self.is_asked = false;
     }
 }
 

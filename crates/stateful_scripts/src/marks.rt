@@ -1,7 +1,6 @@
 //! Lines of transcripts that no script brings about, and laws.
 
-use crate::gathered::number;
-use stateful_bank::{Ask, BankBlock};
+use stateful_bank::BankBlock;
 use stateful_base::{Anchor, Digest, Epoch, Height, Items, OutOfMemory, Round, View};
 use stateful_history::{Entry, Event, Mark};
 use stateful_play::databases_are_shown_once;
@@ -9,15 +8,14 @@ use stateful_script::{
     first_is_named, last_is_ended, number_is_decimal, plans_are_kept, whole_is_read,
 };
 use stateful_script_text::{End, Label, Shown, transcript};
+use stateful_shell::{Page, number, rest, word};
 use std::alloc::Global;
 use std::str;
 
-type Entries = Vec<Entry<BankBlock, Round, Ask>>;
-
 /// A block of this height whose digest is that of a word.
-fn anchor(height: &str, word: &str) -> Anchor {
+fn anchor(height: u64, word: &str) -> Anchor {
     Anchor {
-        height: Height(number(height)),
+        height: Height(height),
         round: Round {
             epoch: Epoch(0),
             view: View(0),
@@ -27,82 +25,70 @@ fn anchor(height: &str, word: &str) -> Anchor {
 }
 
 /// The mark that words name.
-fn mark_of(words: &[&str]) -> Option<Mark<BankBlock>> {
-    match words {
-        ["opened", height, word] => Some(Mark::Opened {
-            anchor: anchor(height, word),
-        }),
-        ["converged", height, word] => Some(Mark::Converged {
-            anchor: anchor(height, word),
-        }),
-        ["recorded", height, word] => Some(Mark::Recorded {
-            anchor: anchor(height, word),
-        }),
-        ["asked", fetch, "floor", word] => Some(Mark::Asked {
-            fetch: number(fetch),
+fn mark_of(words: &[&str]) -> Mark<BankBlock> {
+    let (first, second) = (number(words, 2), number(words, 3));
+    let anchor = anchor(first, word(words, 3));
+    match word(words, 1) {
+        "opened" => Mark::Opened { anchor },
+        "converged" => Mark::Converged { anchor },
+        "recorded" => Mark::Recorded { anchor },
+        "asked" => Mark::Asked {
+            fetch: first,
             ticket: None,
-            digest: Digest::of(word.as_bytes()),
-        }),
-        ["dispatched", generation, height] => Some(Mark::Dispatched {
-            generation: number(generation),
-            height: Height(number(height)),
-        }),
-        ["pruned", marshal, target] => Some(Mark::Pruned {
-            marshal: Height(number(marshal)),
-            target: Height(number(target)),
-        }),
-        ["completed", height] => Some(Mark::Completed {
-            height: Height(number(height)),
-        }),
-        _ => None,
+            digest: Digest::of(word(words, 4).as_bytes()),
+        },
+        "dispatched" => Mark::Dispatched {
+            generation: first,
+            height: Height(second),
+        },
+        "pruned" => Mark::Pruned {
+            marshal: Height(first),
+            target: Height(second),
+        },
+        "completed" => Mark::Completed {
+            height: Height(first),
+        },
+        _ => Mark::Stopped,
     }
 }
 
-/// The names of the digest of the word `n`.
-fn labels(alloc: Global) -> Result<Vec<Label>, OutOfMemory> {
-    let mut labels = Vec::new(alloc);
-    for name in [b"n1", b"n2"] {
-        labels.push(Label {
-            name: Items::from_vec(Vec::from_slice(alloc, name)?),
-            digest: Digest::of(b"n"),
-        })?;
-    }
-    Ok(labels)
+/// A name of the digest of the word `n`.
+fn label(alloc: Global, name: &[u8]) -> Result<Label, OutOfMemory> {
+    Ok(Label {
+        name: Items::from_vec(name.to_vec(alloc)?),
+        digest: Digest::of(b"n"),
+    })
 }
 
-/// Appends the transcript of entries and of databases.
-fn push_transcript(
+/// The transcript of entries and of databases.
+fn text_of(
     alloc: Global,
-    entries: &Entries,
+    entries: &[Entry<BankBlock, (), ()>],
     databases: &[Shown],
-    out: &mut String,
-) -> Result<(), OutOfMemory> {
-    let labels = labels(alloc)?;
-    let text = transcript(
-        alloc,
-        labels.as_slice(),
-        entries.as_slice(),
-        databases,
-        End::Done,
-    )?;
-    out.push_str(str::from_utf8(text.as_slice()).unwrap_or("no text\n"))?;
-    Ok(())
+) -> Result<Vec<u8>, OutOfMemory> {
+    let labels = [label(alloc, b"n1")?, label(alloc, b"n2")?];
+    transcript(alloc, &labels, entries, databases, End::Done)
 }
 
-/// The transcript of one event, which isn't printed, with this mark.
-pub fn mark(alloc: Global, rest: &str, out: &mut String) -> Result<(), OutOfMemory> {
-    let words: Vec<&str> = rest.split_whitespace().collect(alloc)?;
-    let mut marks = Items::new(alloc);
-    match mark_of(words.as_slice()) {
-        Some(mark) => marks.push(mark)?,
-        None => {}
+/// Prints the transcript of entries and of databases.
+fn show_transcript(entries: &[Entry<BankBlock, (), ()>], databases: &[Shown], page: &mut Page) {
+    match text_of(page.alloc(), entries, databases) {
+        Ok(text) => page.push(str::from_utf8(text.as_slice()).unwrap_or("no text\n")),
+        Err(OutOfMemory) => page.lack(),
     }
-    let mut entries: Entries = Vec::new(alloc);
-    entries.push(Entry {
+}
+
+/// Prints the transcript of one event, which isn't shown, with the mark that words name.
+pub(crate) fn mark(words: &[&str], page: &mut Page) {
+    let mut marks = Items::new(page.alloc());
+    if marks.push(mark_of(words)).is_err() {
+        page.lack();
+    }
+    let entry = Entry {
         event: Event::Stop,
         marks,
-    })?;
-    push_transcript(alloc, &entries, &[], out)
+    };
+    show_transcript(&[entry], &[], page)
 }
 
 /// What is shown of a database that a word names.
@@ -114,23 +100,24 @@ fn shown_of(word: &str) -> Shown {
     }
 }
 
-/// The transcript of these databases, without an event.
-pub fn shown(alloc: Global, rest: &str, out: &mut String) -> Result<(), OutOfMemory> {
-    let mut databases = Vec::new(alloc);
-    for word in rest.split_whitespace() {
-        databases.push(shown_of(word))?;
+/// Prints the transcript of these databases, without an event.
+pub(crate) fn shown(words: &[&str], page: &mut Page) {
+    let mut databases = Vec::new(page.alloc());
+    for word in rest(words, 1) {
+        if databases.push(shown_of(word)).is_err() {
+            page.lack();
+        }
     }
-    push_transcript(alloc, &Vec::new(alloc), databases.as_slice(), out)
+    show_transcript(&[], databases.as_slice(), page)
 }
 
 /// Calls each law of scripts and of plays: it does nothing.
-pub fn laws(out: &mut String) -> Result<(), OutOfMemory> {
+pub(crate) fn laws(page: &mut Page) {
     number_is_decimal();
     whole_is_read();
     first_is_named();
     last_is_ended();
     plans_are_kept();
     databases_are_shown_once();
-    out.push_str("called\n")?;
-    Ok(())
+    page.say("called")
 }

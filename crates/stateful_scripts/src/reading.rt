@@ -1,100 +1,86 @@
 //! What a script says, and which line of it is refused.
 
-use crate::gathered::{Gathered, push_line};
+use crate::Scripts;
+use crate::gathered::line_of;
 use stateful_base::OutOfMemory;
-use stateful_script::{Name, Script, ScriptError, number, read_script};
-use std::alloc::Global;
+use stateful_script::{Script, ScriptError, read_script};
+use stateful_shell::{Page, rest, word};
 
-/// Appends how a script was refused.
-fn push_error(alloc: Global, error: ScriptError, out: &mut String) -> Result<(), OutOfMemory> {
-    match error {
-        ScriptError::Line(line) => {
-            out.push_str(format!(in alloc; "line {line} is refused\n")?.as_str())?;
-            Ok(())
-        }
-        ScriptError::OutOfMemory => Err(OutOfMemory),
-    }
-}
-
-/// The script so far, with a line behind it.
-fn grown(gathered: &Gathered, line: &str) -> Result<Vec<u8>, OutOfMemory> {
-    let mut bytes = gathered.bytes.as_slice().to_vec(gathered.alloc)?;
-    if !line.is_empty() {
-        push_line(&mut bytes, line)?;
-    }
-    Ok(bytes)
-}
-
-/// Whether the script is read with a line behind it, which is printed too.
-pub fn read(gathered: &Gathered, line: &str, out: &mut String) -> Result<(), OutOfMemory> {
-    let bytes = grown(gathered, line)?;
-    if !line.is_empty() {
-        out.push_str(line)?;
-        out.push_str(": ")?;
-    }
-    match read_script(gathered.alloc, bytes.as_slice()) {
-        Ok(_) => {
-            out.push_str("read\n")?;
-            Ok(())
-        }
-        Err(error) => push_error(gathered.alloc, error, out),
-    }
-}
-
-/// Appends the last event, or the last block where there is no event.
-fn push_last(alloc: Global, script: &Script, out: &mut String) -> Result<(), OutOfMemory> {
+/// Prints the last event, or the last block where there is no event.
+fn show_last(script: &Script, page: &mut Page) {
     if let Some(event) = script.events.as_slice().last() {
-        out.push_str(format!(in alloc; "{event:?}\n")?.as_str())?;
+        page.debug(event);
+        page.end()
     } else if let Some(block) = script.blocks.as_slice().last() {
-        out.push_str(format!(in alloc; "{block:?}\n")?.as_str())?;
-    }
-    Ok(())
-}
-
-/// What is said last with a line behind the script.
-pub fn last(gathered: &Gathered, line: &str, out: &mut String) -> Result<(), OutOfMemory> {
-    let bytes = grown(gathered, line)?;
-    match read_script(gathered.alloc, bytes.as_slice()) {
-        Ok(script) => push_last(gathered.alloc, &script, out),
-        Err(error) => push_error(gathered.alloc, error, out),
+        page.debug(block);
+        page.end()
     }
 }
 
-/// Appends the world and the names, and the parent, the height and the number of operations of
-/// each block, and the number of events.
-fn push_outline(alloc: Global, script: &Script, out: &mut String) -> Result<(), OutOfMemory> {
-    let (world, events) = (script.world, script.events.len());
-    out.push_str(format!(in alloc; "{world:?} with {events} events:")?.as_str())?;
+/// Prints the world and the names, and the parent, the height and the number of operations of each
+/// block, and the number of events.
+fn show_outline(script: &Script, page: &mut Page) {
+    page.debug(&script.world);
+    page.field(" with ", script.events.len() as u64);
+    page.push(" events:");
     for name in script.names.as_slice() {
-        out.push_str(" ")?;
-        out.push_str(name.as_str())?;
+        page.push(" ");
+        page.push(name.as_str());
     }
-    out.push_str("\n")?;
+    page.end();
     for block in script.blocks.as_slice() {
-        let (parent, height, ops) = (block.parent, block.height.0, block.ops.len());
-        out.push_str(format!(in alloc; "on {parent} at {height} with {ops}\n")?.as_str())?;
-    }
-    Ok(())
-}
-
-/// What the script so far says in short.
-pub fn outline(gathered: &Gathered, out: &mut String) -> Result<(), OutOfMemory> {
-    match read_script(gathered.alloc, gathered.bytes.as_slice()) {
-        Ok(script) => push_outline(gathered.alloc, &script, out),
-        Err(error) => push_error(gathered.alloc, error, out),
+        page.field("on ", block.parent as u64);
+        page.field(" at ", block.height.0);
+        page.field(" with ", block.ops.len() as u64);
+        page.end();
     }
 }
 
-/// The number that a word spells.
-pub fn spelled(alloc: Global, word: &str, out: &mut String) -> Result<(), OutOfMemory> {
-    let spelled = number(word.as_bytes());
-    out.push_str(format!(in alloc; "{spelled:?}\n")?.as_str())?;
-    Ok(())
+/// Prints what a command asks of a script that was read.
+fn show_script(command: &str, script: &Script, page: &mut Page) {
+    match command {
+        "last" => show_last(script, page),
+        "outline" => show_outline(script, page),
+        _ => page.say("read"),
+    }
 }
 
-/// The text of a name.
-pub fn name(alloc: Global, word: &str, out: &mut String) -> Result<(), OutOfMemory> {
-    out.push_str(Name::new(alloc, word)?.as_str())?;
-    out.push_str("\n")?;
-    Ok(())
+impl Scripts {
+    /// Puts a line behind the script, and prints it.
+    pub(crate) fn put_shown(&mut self, words: &[&str], page: &mut Page) {
+        match line_of(page.alloc(), words) {
+            Ok(line) => {
+                page.note(self.put_line(line.as_str()));
+                page.push(line.as_str());
+                page.push(": ")
+            }
+            Err(OutOfMemory) => page.lack(),
+        }
+    }
+
+    /// Reads the script, and prints what a command asks of it, or which line is refused.
+    fn show(&self, command: &str, page: &mut Page) {
+        match read_script(page.alloc(), self.bytes.as_slice()) {
+            Ok(script) => show_script(command, &script, page),
+            Err(ScriptError::Line(line)) => {
+                page.field("line ", line);
+                page.say(" is refused")
+            }
+            Err(ScriptError::OutOfMemory) => page.lack(),
+        }
+    }
+
+    /// Reads the script with the line of a command behind it, and prints what it asks.
+    pub(crate) fn read(&mut self, words: &[&str], page: &mut Page) {
+        let (length, alloc) = (self.bytes.len(), page.alloc());
+        let (command, line) = (word(words, 0), rest(words, 1));
+        if !line.is_empty() {
+            match command {
+                "read" => self.put_shown(line, page),
+                _ => page.note(self.put_words(line, alloc)),
+            }
+        }
+        self.show(command, page);
+        self.bytes.truncate(length);
+    }
 }

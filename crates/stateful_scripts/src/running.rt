@@ -1,84 +1,86 @@
 //! A run of a script, and what is printed of it.
 
-use crate::gathered::{Gathered, push_line};
+use crate::Scripts;
 use stateful_base::OutOfMemory;
-use stateful_play::{Status, run};
+use stateful_play::{Outcome, Status, run};
+use stateful_shell::{Page, rest};
 use stateful_types::{MemorySink, MemorySource};
 use std::alloc::Global;
-use std::str;
+use std::{mem, str};
 
-/// A word in which `_` stands for a blank.
-fn word_of(alloc: Global, text: &str) -> Result<String, OutOfMemory> {
-    let mut word = String::new(alloc);
-    for character in text.chars() {
-        word.push(if character == '_' { ' ' } else { character })?;
-    }
-    Ok(word)
+/// How a run ended, and whether something was played.
+fn ended(outcome: Outcome) -> (Status, bool) {
+    (outcome.status, outcome.played.is_some())
 }
 
-/// The words of a run.
-fn words_of(gathered: &Gathered) -> Result<Vec<String>, OutOfMemory> {
-    let line = match &gathered.words {
-        Some(words) => words.as_str(),
-        None => "play",
-    };
-    let mut words = Vec::new(gathered.alloc);
-    for text in line.split_whitespace() {
-        words.push(word_of(gathered.alloc, text)?)?;
-    }
-    Ok(words)
-}
-
-/// Appends how a run ended.
-fn push_status(
+/// The same of a run of a script with these words.
+fn end_of(
     alloc: Global,
-    status: Status,
-    is_played: bool,
-    out: &mut String,
-) -> Result<(), OutOfMemory> {
-    let (number, word, at) = match status {
-        Status::Done => (0, "", 0),
-        Status::Usage => (1, "", 0),
-        Status::Script { line } => (2, " line ", line),
-        Status::Halted { at } => (3, " event ", at as u64),
-        Status::ReadFault => (4, "", 0),
-        Status::WriteFault => (5, "", 0),
-        Status::NoMemory => (6, "", 0),
-    };
-    out.push_str(format!(in alloc; "status {number}{word}")?.as_str())?;
-    if !word.is_empty() {
-        out.push_str(at.to_string(alloc)?.as_str())?;
+    words: &[String],
+    source: &mut MemorySource,
+    sink: &mut MemorySink,
+) -> (Status, bool) {
+    ended(run(alloc, words, source, sink))
+}
+
+/// Prints how a run ended.
+fn show_status(status: Status, is_played: bool, page: &mut Page) {
+    match status {
+        Status::Done => page.push("status 0"),
+        Status::Usage => page.push("status 1"),
+        Status::Script { line } => page.field("status 2 line ", line),
+        Status::Halted { at } => page.field("status 3 event ", at as u64),
+        Status::ReadFault => page.push("status 4"),
+        Status::WriteFault => page.push("status 5"),
+        Status::NoMemory => page.push("status 6"),
     }
-    out.push_str(if is_played { ", played\n" } else { "\n" })?;
-    Ok(())
+    page.say(if is_played { ", played" } else { "" })
 }
 
-/// Plays what is gathered, and appends what the run wrote and how it ended.
-pub fn plays(gathered: &Gathered, out: &mut String) -> Result<(), OutOfMemory> {
-    let alloc = gathered.alloc;
-    let words = words_of(gathered)?;
-    let bytes = gathered.bytes.as_slice().to_vec(alloc)?;
-    let reads = gathered.reads.as_slice().to_vec(alloc)?;
-    let writes = gathered.writes.as_slice().to_vec(alloc)?;
-    let mut source = MemorySource::new(bytes, reads);
-    let mut sink = MemorySink::new(alloc, writes);
-    let outcome = run(alloc, words.as_slice(), &mut source, &mut sink);
-    let (status, is_played) = (outcome.status, outcome.played.is_some());
-    out.push_str(str::from_utf8(sink.written()).unwrap_or("no text\n"))?;
-    push_status(alloc, status, is_played, out)
+/// Prints what a run wrote and how it ended, or the last line of it.
+fn show_run(written: &[u8], ended: Option<(Status, bool)>, page: &mut Page) {
+    let text = str::from_utf8(written).unwrap_or("no text\n");
+    match ended {
+        Some((status, is_played)) => {
+            page.push(text);
+            show_status(status, is_played, page)
+        }
+        None => page.say(text.lines().last().unwrap_or("nothing")),
+    }
 }
 
-/// Plays what is gathered with a line behind it, and appends the last line that the run wrote.
-pub fn ends(gathered: &Gathered, line: &str, out: &mut String) -> Result<(), OutOfMemory> {
-    let alloc = gathered.alloc;
-    let words = words_of(gathered)?;
-    let mut bytes = gathered.bytes.as_slice().to_vec(alloc)?;
-    push_line(&mut bytes, line)?;
-    let mut source = MemorySource::new(bytes, Vec::new(alloc));
-    let mut sink = MemorySink::new(alloc, Vec::new(alloc));
-    let _ = run(alloc, words.as_slice(), &mut source, &mut sink);
-    let text = str::from_utf8(sink.written()).unwrap_or("no text");
-    let last = text.lines().last().unwrap_or("nothing");
-    out.push_str(format!(in alloc; "{line}: {last}\n")?.as_str())?;
-    Ok(())
+impl Scripts {
+    /// A source of the script, which fails as it is said.
+    fn source(&mut self, alloc: Global) -> Result<MemorySource, OutOfMemory> {
+        if !self.has_words {
+            self.set_words(&["play"], alloc)?;
+        }
+        let bytes = self.bytes.as_slice().to_vec(alloc)?;
+        let reads = mem::replace(&mut self.reads, Vec::new(alloc));
+        Ok(MemorySource::new(bytes, reads))
+    }
+
+    /// Plays the script, and prints what the run wrote and how it ended, or the last line of it.
+    pub(crate) fn plays(&mut self, is_short: bool, page: &mut Page) {
+        let alloc = page.alloc();
+        let Ok(mut source) = self.source(alloc) else {
+            return page.lack();
+        };
+        let writes = mem::replace(&mut self.writes, Vec::new(alloc));
+        let mut sink = MemorySink::new(alloc, writes);
+        let ended = end_of(alloc, self.words.as_slice(), &mut source, &mut sink);
+        show_run(
+            sink.written(),
+            if is_short { None } else { Some(ended) },
+            page,
+        )
+    }
+
+    /// Plays the script with a line behind it, and prints the last line that the run wrote.
+    pub(crate) fn ends(&mut self, words: &[&str], page: &mut Page) {
+        let length = self.bytes.len();
+        self.put_shown(rest(words, 1), page);
+        self.plays(true, page);
+        self.bytes.truncate(length);
+    }
 }

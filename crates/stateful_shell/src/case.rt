@@ -1,5 +1,6 @@
 //! One file of cases, line by line.
 
+use crate::page::Page;
 use stateful_base::OutOfMemory;
 use std::alloc::Global;
 use std::mem;
@@ -9,11 +10,11 @@ pub trait Shell: Drop {
     /// What a file begins with.
     fn new(alloc: Global) -> Self;
 
-    /// Does what a line says, and appends what is printed for it, each line with its line feed.
-    fn play(&mut self, line: &str, out: &mut String) -> Result<(), OutOfMemory>;
+    /// Does what the words of a line say, and prints what it answers.
+    fn play(&mut self, words: &[&str], page: &mut Page);
 
-    /// The commands of a case are over: appends what is printed for all of them.
-    fn end(&mut self, out: &mut String) -> Result<(), OutOfMemory>;
+    /// The commands of a case are over: prints what is printed for all of them.
+    fn end(&mut self, page: &mut Page);
 }
 
 /// How the cases of one file came out.
@@ -39,7 +40,7 @@ pub(crate) struct Cases<S: Shell> {
     shell: S,
     part: Part,
     commands: String,
-    printed: String,
+    page: Page,
     wanted: String,
     /// So far.
     pub(crate) tally: Tally,
@@ -59,10 +60,18 @@ impl<S: Shell> Cases<S> {
             shell: S::new(alloc),
             part: Part::Commands,
             commands: String::new(alloc),
-            printed: String::new(alloc),
+            page: Page::new(alloc),
             wanted: String::new(alloc),
             tally: Tally { same: 0, other: 0 },
         }
+    }
+
+    /// Plays a command.
+    fn play(&mut self, line: &str) -> Result<(), OutOfMemory> {
+        push_line(&mut self.commands, line)?;
+        let words: Vec<&str> = line.split_whitespace().collect(self.page.alloc())?;
+        self.shell.play(words.as_slice(), &mut self.page);
+        Ok(())
     }
 
     /// Takes a line of the file. What is reported of a case that ends with it, if it isn't the same.
@@ -74,15 +83,14 @@ impl<S: Shell> Cases<S> {
                 Ok(None)
             }
             Part::Commands if line == "----" => {
-                self.shell.end(&mut self.printed)?;
+                self.shell.end(&mut self.page);
                 self.part = Part::Answer;
                 Ok(None)
             }
             Part::Commands if line.is_empty() => self.finish(),
             Part::Commands if line.starts_with('#') => Ok(None),
             Part::Commands => {
-                push_line(&mut self.commands, line)?;
-                self.shell.play(line, &mut self.printed)?;
+                self.play(line)?;
                 Ok(None)
             }
         }
@@ -94,11 +102,11 @@ impl<S: Shell> Cases<S> {
             return Ok(None);
         }
         if self.part == Part::Commands {
-            self.shell.end(&mut self.printed)?;
+            self.shell.end(&mut self.page);
         }
         let alloc = *self.commands.allocator();
         let commands = mem::replace(&mut self.commands, String::new(alloc));
-        let printed = mem::replace(&mut self.printed, String::new(alloc));
+        let printed = self.page.take()?;
         let wanted = mem::replace(&mut self.wanted, String::new(alloc));
         self.part = Part::Commands;
         if printed == wanted {
@@ -120,7 +128,7 @@ impl<S: Shell> Cases<S> {
             _ => push_line(&mut text, line)?,
         }
         if was == Part::Commands && self.part == Part::Answer {
-            text.push_str(self.printed.as_str())?;
+            text.push_str(self.page.text())?;
         }
         Ok(text)
     }

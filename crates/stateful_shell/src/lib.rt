@@ -17,9 +17,11 @@
 #![tactic(auto)]
 
 mod case;
+mod page;
 mod playing;
 mod words;
 
 pub use case::{Shell, Tally};
+pub use page::Page;
 pub use playing::play_files;
-pub use words::word;
+pub use words::{index, number, rest, word};

@@ -14,3 +14,21 @@ pub fn word<'a>(words: &[&'a str], at: usize) -> &'a str
         None => "",
     }
 }
+
+/// The number that stands there. 0 where none does.
+pub fn number(words: &[&str], at: usize) -> u64 {
+    word(words, at).parse::<u64>().unwrap_or(0)
+}
+
+/// The same, as an index.
+pub fn index(words: &[&str], at: usize) -> usize {
+    word(words, at).parse::<usize>().unwrap_or(0)
+}
+
+/// The words from this number on.
+pub fn rest<'a, 'b>(words: &'a [&'b str], from: usize) -> &'a [&'b str] {
+    if from > words.len() {
+        return &words[..0];
+    }
+    &words[from..]
+}

@@ -1,11 +1,11 @@
 //! Events, by their words.
 
-use crate::blocks::{Blocks, round_of};
-use crate::number;
+use crate::CounterShell;
+use crate::blocks::round_of;
 use stateful_base::{Ancestry, Floor, Items, OutOfMemory, Round, Share};
 use stateful_db::Flushed;
 use stateful_history::Event;
-use stateful_shell::word;
+use stateful_shell::{Page, number, word};
 use stateful_simple_counter::{Add, CounterBlock};
 use std::alloc::Global;
 
@@ -18,81 +18,68 @@ const FLOOR: Floor = Floor {
     max_pending_acks: 1,
 };
 
-fn verify(blocks: &Blocks, ticket: u64, name: &str) -> Result<Option<Told>, OutOfMemory> {
-    match blocks.ancestry(name)? {
-        Some(ancestry) => Ok(Some(Event::Verify { ticket, ancestry })),
-        None => Ok(None),
-    }
-}
-
-fn propose(
+/// An event about a block. None where the first word is none.
+fn block_event(
     alloc: Global,
-    blocks: &Blocks,
-    ticket: u64,
-    name: &str,
-    added: u64,
-) -> Result<Option<Told>, OutOfMemory> {
-    let Some(parent) = blocks.block(name) else {
-        return Ok(None);
-    };
-    let ancestry = Ancestry {
-        first: parent.share()?,
-        rest: Items::new(alloc),
-    };
-    Ok(Some(Event::Propose {
-        ticket,
-        context: round_of(parent.height().0.saturating_add(1)),
-        ancestry,
-        input: Add(added),
-    }))
-}
-
-fn finalized(blocks: &Blocks, ticket: u64, name: &str) -> Result<Option<Told>, OutOfMemory> {
-    let Some(block) = blocks.block(name) else {
-        return Ok(None);
-    };
-    let block = block.share()?;
-    Ok(Some(Event::Finalized { ticket, block }))
-}
-
-fn restart(alloc: Global) -> Option<Told> {
-    Some(Event::Restart {
-        floor: FLOOR,
-        keep: Items::new(alloc),
-    })
-}
-
-/// An event without a block, by its first word and its number. None where the word is none.
-fn plain_event(alloc: Global, kind: &str, number: u64) -> Option<Told> {
-    match kind {
-        "restart" => restart(alloc),
-        "turn" => Some(Event::Turn { job: number }),
-        "flushed" => Some(Event::Flushed {
-            barrier: number,
-            database: 0,
-            answer: Flushed::Good,
-        }),
-        "stop" => Some(Event::Stop),
-        _ => None,
-    }
-}
-
-/// The event of these words. None where they are none, or name no block.
-pub(crate) fn event_of(
-    alloc: Global,
-    blocks: &Blocks,
+    ancestry: &Ancestry<CounterBlock>,
     words: &[&str],
 ) -> Result<Option<Told>, OutOfMemory> {
+    let ticket = number(words, 1);
     match word(words, 0) {
-        "verify" => verify(blocks, number(word(words, 1)), word(words, 2)),
-        "propose" => propose(
-            alloc,
-            blocks,
-            number(word(words, 1)),
-            word(words, 2),
-            number(word(words, 3)),
-        ),
-        "finalized" => finalized(blocks, number(word(words, 1)), word(words, 2)),
-        kind => Ok(plain_event(alloc, kind, number(word(words, 1)))),
+        "verify" => Ok(Some(Event::Verify {
+            ticket,
+            ancestry: ancestry.share()?,
+        })),
+        "propose" => Ok(Some(Event::Propose {
+            ticket,
+            context: round_of(ancestry.first.height().0.saturating_add(1)),
+            ancestry: Ancestry {
+                first: ancestry.first.share()?,
+                rest: Items::new(alloc),
+            },
+            input: Add(number(words, 3)),
+        })),
+        "finalized" => Ok(Some(Event::Finalized {
+            ticket,
+            block: ancestry.first.share()?,
+        })),
+        _ => Ok(None),
+    }
+}
+
+impl CounterShell {
+    /// The event of these words. None where they are none, or name no block.
+    fn event(&self, alloc: Global, words: &[&str]) -> Result<Option<Told>, OutOfMemory> {
+        let number = number(words, 1);
+        match word(words, 0) {
+            "restart" => Ok(Some(Event::Restart {
+                floor: FLOOR,
+                keep: Items::new(alloc),
+            })),
+            "turn" => Ok(Some(Event::Turn { job: number })),
+            "flushed" => Ok(Some(Event::Flushed {
+                barrier: number,
+                database: 0,
+                answer: Flushed::Good,
+            })),
+            "stop" => Ok(Some(Event::Stop)),
+            _ => match self.find(word(words, 2)) {
+                Some(named) => block_event(alloc, &named.ancestry, words),
+                None => Ok(None),
+            },
+        }
+    }
+
+    /// Puts an event behind the others.
+    pub(crate) fn add_event(&mut self, words: &[&str], page: &mut Page) {
+        match self.event(page.alloc(), words) {
+            Ok(Some(event)) => {
+                if self.events.push(event).is_err() {
+                    page.lack();
+                }
+            }
+            Ok(None) => page.say("no such event"),
+            Err(OutOfMemory) => page.lack(),
+        }
     }
 }

@@ -1,69 +1,53 @@
 //! Blocks that were finalized during a sync.
 
 use crate::letter::{Letter, block, push_block};
-use crate::shown::{Hex, Shown, say};
-use stateful_shell::word;
-use stateful_sync::{Handover, SyncError, classify};
+use crate::shown::say_error;
+use stateful_shell::{Page, rest, word};
+use stateful_sync::{Handover, classify};
 use stateful_types::{Anchor, Digested, OutOfMemory};
-use std::alloc::Global;
 
-/// Appends how a block is handed over.
-fn say_handed(how: &str, block: &Digested<Letter>, ticket: u64, out: &mut String) -> Shown {
-    out.push_str(how)?;
-    push_block(block, out)?;
-    write!(out, " of ticket {ticket}\n")?;
-    Ok(())
+/// Prints how a block is handed over.
+fn say_handed(how: &str, block: &Digested<Letter>, ticket: u64, page: &mut Page) {
+    push_block(how, block, page);
+    page.field(" of ticket ", ticket);
+    page.end()
 }
 
-/// A line of what becomes of a block.
-fn say_handover(handover: &Handover<Letter>, out: &mut String) -> Shown {
-    match handover {
-        Handover::Covered { ticket, block } => say_handed("covered ", block, *ticket, out),
-        Handover::Reflected { ticket, block } => say_handed("reflected ", block, *ticket, out),
-        Handover::Apply { ticket, block } => say_handed("apply ", block, *ticket, out),
-    }
-}
-
-/// Appends what becomes of blocks.
-fn say_handovers(handovers: &[Handover<Letter>], out: &mut String) -> Shown {
+/// Prints what becomes of blocks.
+fn say_handovers(handovers: &[Handover<Letter>], page: &mut Page) {
     for handover in handovers {
-        say_handover(handover, out)?;
-    }
-    say("all", out)
-}
-
-/// Appends why blocks aren't classified.
-fn say_error(error: SyncError, out: &mut String) -> Shown {
-    match error {
-        SyncError::ConflictAtAnchor { expected, given } => {
-            let expected = Hex(expected);
-            let given = Hex(given);
-            write!(
-                out,
-                "ConflictAtAnchor\nexpected {expected}\ngiven {given}\n"
-            )?;
+        match handover {
+            Handover::Covered { ticket, block } => say_handed("covered ", block, *ticket, page),
+            Handover::Reflected { ticket, block } => say_handed("reflected ", block, *ticket, page),
+            Handover::Apply { ticket, block } => say_handed("apply ", block, *ticket, page),
         }
-        _ => write!(out, "{error:?}\n")?,
     }
-    Ok(())
+    page.say("all")
 }
 
-/// Blocks under ascending tickets, from the third word on.
-fn retained(alloc: Global, words: &[&str]) -> Result<Vec<(u64, Digested<Letter>)>, OutOfMemory> {
-    let mut retained = Vec::new(alloc);
-    for (ticket, text) in words.iter().skip(2).enumerate() {
-        let block = block(alloc, text)?;
-        retained.push((ticket as u64, block))?;
+/// The blocks that the words name, under tickets from 0 on.
+fn retained(words: &[&str], page: &mut Page) -> Result<Vec<(u64, Digested<Letter>)>, OutOfMemory> {
+    let mut retained = Vec::new(page.alloc());
+    for (ticket, word) in words.iter().enumerate() {
+        if let Some(block) = block(word, page) {
+            retained.push((ticket as u64, block))?;
+        }
     }
     Ok(retained)
 }
 
 /// What becomes of blocks, once the databases have converged to the anchor.
-pub(crate) fn classified(alloc: Global, words: &[&str], out: &mut String) -> Shown {
-    let anchor = Anchor::from_block(&block(alloc, word(words, 1))?);
-    let retained = retained(alloc, words)?;
-    match classify(alloc, anchor, retained) {
-        Ok(handovers) => say_handovers(handovers.as_slice(), out),
-        Err(error) => say_error(error, out),
+pub(crate) fn say_classified(words: &[&str], page: &mut Page) {
+    let Some(first) = block(word(words, 1), page) else {
+        return;
+    };
+    let anchor = Anchor::from_block(&first);
+    drop(first);
+    let Ok(retained) = retained(rest(words, 2), page) else {
+        return page.lack();
+    };
+    match classify(page.alloc(), anchor, retained) {
+        Ok(handovers) => say_handovers(handovers.as_slice(), page),
+        Err(error) => say_error(error, page),
     }
 }

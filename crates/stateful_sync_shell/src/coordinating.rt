@@ -2,151 +2,99 @@
 
 ghost use Rattle.std.specs.Prelude.{◌≤◌, length};
 
-use crate::shown::{Place, Shown, refused, say};
-use crate::words::{anchor, index, number};
-use stateful_shell::word;
+use crate::shown::push_place;
+use crate::words::anchor;
+use stateful_shell::{Page, index, number, word};
 use stateful_sync::{CoordinatorAction, CoordinatorState};
-use stateful_types::Anchor;
-use std::alloc::Global;
 
 /// A coordinator, and how many databases it was made for.
 #[derive(Drop)]
-struct Coordinated {
+pub(crate) struct Coordinated {
     state: CoordinatorState<u64>,
     count: usize,
     ghost counted: { count ≤ length state.databases },
 }
 
-/// A coordinator, once one was made.
-#[derive(Drop)]
-pub(crate) struct Coordinating {
-    alloc: Global,
-    made: Option<Coordinated>,
-}
-
 impl Coordinated {
-    /// A database has reached a generation.
-    fn reached(&mut self, database: usize, generation: u64, out: &mut String) -> Shown {
-        if database >= self.count {
-            return refused(out);
+    /// What is to be done next. With the word `same`, the database of the third word has the same
+    /// target in what is dispatched.
+    fn next(&mut self, words: &[&str], page: &mut Page) {
+        let is_same = word(words, 1) == "same";
+        let database = index(words, 2);
+        if is_same && database >= self.count {
+            return page.say("refused");
         }
-        self.state.record_reached(database, generation);
-        self.say_seeking("noted", out)
-    }
-
-    /// A block is finalized.
-    fn tip(&mut self, place: Anchor, targets: u64, out: &mut String) -> Shown {
-        self.state.record_tip_update(place, targets);
-        self.say_seeking("noted", out)
-    }
-
-    /// What is to be done next.
-    fn next(&mut self, same: Option<usize>, out: &mut String) -> Shown {
         let Ok(action) = self.state.next_action() else {
-            return say("Exhausted", out);
+            return page.say("Exhausted");
         };
         match action {
-            CoordinatorAction::Wait => self.say_seeking("wait", out),
+            CoordinatorAction::Wait => page.push("wait"),
             CoordinatorAction::Dispatch {
                 generation,
                 anchor,
                 targets,
             } => {
-                if let Some(database) = same
-                    && database < self.count
-                {
+                if is_same && database < self.count {
                     self.state.mark_reached_same_target(database, generation);
                 }
-                let place = Place(anchor);
-                write!(out, "dispatch {generation}: {place}, targets {targets}")?;
-                self.say_seeking("", out)
+                page.field("dispatch ", generation);
+                push_place(": ", anchor, page);
+                page.field(", targets ", targets)
             }
             CoordinatorAction::Converged { anchor, targets } => {
-                let place = Place(anchor);
-                write!(out, "converged: {place}, targets {targets}")?;
-                self.say_seeking("", out)
+                push_place("converged: ", anchor, page);
+                page.field(", targets ", targets)
             }
         }
+        self.say_seeking("", page)
     }
 
-    /// As `next`, where this database has the same target in what is dispatched.
-    fn next_same(&mut self, database: usize, out: &mut String) -> Shown {
-        if database >= self.count {
-            return refused(out);
-        }
-        self.next(Some(database), out)
-    }
-
-    /// What is to be done next. With the word `same`, the database of the third word has the same
-    /// target.
-    fn next_of(&mut self, words: &[&str], out: &mut String) -> Shown {
-        match word(words, 1) {
-            "same" => self.next_same(index(word(words, 2)), out),
-            _ => self.next(None, out),
-        }
-    }
-
-    /// Does what the words of a line say of the coordinator.
-    fn play(&mut self, words: &[&str], out: &mut String) -> Shown {
-        let first = word(words, 1);
-        let targets = number(word(words, 2));
-        match word(words, 0) {
-            "reached" => self.reached(index(first), targets, out),
-            "tip" => self.tip(anchor(first), targets, out),
-            "next" => self.next_of(words, out),
-            _ => say("no such command", out),
-        }
-    }
-
-    /// Appends a word, and which databases seek, to which a dispatch goes, and which are there.
-    fn say_seeking(&self, word: &str, out: &mut String) -> Shown {
-        out.push_str(word)?;
+    /// Prints a word, and which databases seek, to which a dispatch goes, and which are there.
+    fn say_seeking(&self, word: &str, page: &mut Page) {
+        page.push(word);
         for database in 0..self.count {
-            let how = match self.state.should_dispatch(database) {
-                true => "seeks",
-                false => "is there",
-            };
-            write!(out, "; {database} {how}")?;
+            page.field("; ", database as u64);
+            page.push(if self.state.should_dispatch(database) {
+                " seeks"
+            } else {
+                " is there"
+            });
         }
-        say("", out)
+        page.end()
     }
 }
 
-impl Coordinating {
-    /// No coordinator.
-    pub(crate) fn new(alloc: Global) -> Coordinating {
-        Coordinating { alloc, made: None }
+/// Makes a coordinator.
+pub(crate) fn coordinate(made: &mut Option<Coordinated>, words: &[&str], page: &mut Page) {
+    let count = index(words, 1);
+    if count == 0 {
+        return page.say("refused");
     }
+    let place = anchor(word(words, 2));
+    let Ok(state) = CoordinatorState::new(page.alloc(), count, place, number(words, 3)) else {
+        return page.lack();
+    };
+    let made = made.insert(Coordinated { state, count });
+    made.say_seeking("made", page)
+}
 
-    /// Makes a coordinator.
-    fn coordinate(&mut self, count: usize, place: Anchor, targets: u64, out: &mut String) -> Shown {
-        if count == 0 {
-            return refused(out);
+/// Does what the words of a line say of the coordinator, once one was made.
+pub(crate) fn play(made: &mut Option<Coordinated>, words: &[&str], page: &mut Page) {
+    let Some(made) = made else {
+        return page.say("no coordinator");
+    };
+    match word(words, 0) {
+        "reached" => {
+            let database = index(words, 1);
+            if database >= made.count {
+                return page.say("refused");
+            }
+            made.state.record_reached(database, number(words, 2));
         }
-        let state = CoordinatorState::new(self.alloc, count, place, targets)?;
-        let made = self.made.insert(Coordinated { state, count });
-        made.say_seeking("made", out)
+        "tip" => made
+            .state
+            .record_tip_update(anchor(word(words, 1)), number(words, 2)),
+        _ => return made.next(words, page),
     }
-
-    /// Makes the coordinator that the words say.
-    fn coordinate_of(&mut self, words: &[&str], out: &mut String) -> Shown {
-        let place = anchor(word(words, 2));
-        self.coordinate(index(word(words, 1)), place, number(word(words, 3)), out)
-    }
-
-    /// Does what the words of a line say of the coordinator, once one was made.
-    fn play_made(&mut self, words: &[&str], out: &mut String) -> Shown {
-        match &mut self.made {
-            Some(made) => made.play(words, out),
-            None => say("no coordinator", out),
-        }
-    }
-
-    /// Does what the words of a line say.
-    pub(crate) fn play(&mut self, words: &[&str], out: &mut String) -> Shown {
-        match word(words, 0) {
-            "coordinate" => self.coordinate_of(words, out),
-            _ => self.play_made(words, out),
-        }
-    }
+    made.say_seeking("noted", page)
 }

@@ -1,10 +1,10 @@
 //! Blocks that letters tell apart.
 
-use crate::words::{letter, number};
+use crate::words::{letter, parsed};
+use stateful_shell::Page;
 use stateful_types::{
-    Block, Digest, Digested, Epoch, Height, MemoryStore, OutOfMemory, Round, View,
+    Block, Digest, Digested, Epoch, Height, MemoryStore, OutOfMemory, Round, View, write_u8,
 };
-use std::alloc::Global;
 
 /// A block of a height, which is finalized in a view of the same number of epoch 0. It is told from
 /// others of that height by its letter.
@@ -47,38 +47,40 @@ impl Block for Letter {
     }
 
     fn encode(&self, out: &mut Vec<u8>) -> Result<(), OutOfMemory> {
-        out.push(self.letter)?;
-        Ok(())
+        write_u8(self.letter, out)
     }
 }
 
-/// The block of a word HEIGHT:LETTER.
-pub(crate) fn block(alloc: Global, word: &str) -> Result<Digested<Letter>, OutOfMemory> {
+/// The block of a word HEIGHT:LETTER. None where memory lacks, which the page notes.
+pub(crate) fn block(word: &str, page: &mut Page) -> Option<Digested<Letter>> {
     let (height, name) = word.split_once(':').unwrap_or((word, ""));
     let block = Letter {
-        height: number(height),
+        height: parsed(height),
         letter: letter(name),
     };
-    Digested::compute(alloc, block)
-}
-
-/// A block store of the blocks from this word on.
-pub(crate) fn store(
-    alloc: Global,
-    words: &[&str],
-    first: usize,
-) -> Result<MemoryStore<Letter>, OutOfMemory> {
-    let mut store = MemoryStore::new(alloc);
-    for word in words.iter().skip(first) {
-        store.insert(block(alloc, word)?)?;
+    match Digested::compute(page.alloc(), block) {
+        Ok(block) => Some(block),
+        Err(_) => {
+            page.lack();
+            None
+        }
     }
-    Ok(store)
 }
 
-/// Appends a block as it is named, HEIGHT:LETTER.
-pub(crate) fn push_block(block: &Digested<Letter>, out: &mut String) -> Result<(), OutOfMemory> {
-    let height = block.height().0;
-    let letter = char::from(block.inner().letter);
-    write!(out, "{height}:{letter}")?;
-    Ok(())
+/// A block store of the blocks that the words name, but for those for which memory lacks.
+pub(crate) fn store(words: &[&str], page: &mut Page) -> MemoryStore<Letter> {
+    let mut store = MemoryStore::new(page.alloc());
+    for word in words.iter() {
+        if let Some(block) = block(word, page) {
+            page.note(store.insert(block));
+        }
+    }
+    store
+}
+
+/// Prints a block as it is named, HEIGHT:LETTER, behind a word.
+pub(crate) fn push_block(word: &str, block: &Digested<Letter>, page: &mut Page) {
+    page.field(word, block.height().0);
+    page.push(":");
+    page.show(&char::from(block.inner().letter))
 }

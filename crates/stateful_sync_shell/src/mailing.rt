@@ -2,134 +2,98 @@
 
 ghost use Rattle.std.specs.Prelude.{◌≤◌, length};
 
-use crate::shown::{Place, Shown, refused, say};
-use crate::words::{anchor, number};
-use stateful_shell::word;
+use crate::shown::push_place;
+use crate::words::anchor;
+use stateful_shell::{Page, number, word};
 use stateful_sync::{Mailbox, TipUpdate};
-use stateful_types::{Anchor, Moved};
+use stateful_types::Moved;
 use std::alloc::Global;
+use std::mem;
 
 /// A mailbox, and how many tickets were drawn of it.
 #[derive(Drop)]
 pub(crate) struct Mailing {
-    alloc: Global,
     mailbox: Mailbox<u64>,
     drawn: u64,
     ghost counted: { drawn ≤ length mailbox.updates },
 }
 
-/// Appends an update, as it is recorded.
-fn say_update(update: TipUpdate<u64>, out: &mut String) -> Shown {
+/// Prints an update, as it is recorded, behind what is given.
+fn say_update(name: &str, update: TipUpdate<u64>, page: &mut Page) {
     let (anchor, targets, observed) = update.record();
-    let place = Place(anchor);
+    push_place(name, anchor, page);
+    page.field(", targets ", targets);
     match observed {
-        Some(number) => write!(out, "{place}, targets {targets}, observed {number}\n")?,
-        None => write!(out, "{place}, targets {targets}, not observed\n")?,
+        Some(number) => page.field(", observed ", number),
+        None => page.push(", not observed"),
     }
-    Ok(())
-}
-
-/// The update that the words say, which is in no mailbox.
-fn update_of(words: &[&str]) -> TipUpdate<u64> {
-    TipUpdate::new(anchor(word(words, 1)), number(word(words, 2)))
+    page.end()
 }
 
 impl Mailing {
     /// An empty mailbox.
     pub(crate) fn new(alloc: Global) -> Mailing {
         Mailing {
-            alloc,
             mailbox: Mailbox::new(alloc),
             drawn: 0,
         }
     }
 
-    /// Begins with an empty mailbox.
-    fn begin(&mut self, out: &mut String) -> Shown {
-        *self = Mailing::new(self.alloc);
-        say("empty", out)
-    }
-
-    /// A block is finalized.
-    fn retarget(&mut self, place: Anchor, targets: u64, out: &mut String) -> Shown {
-        match self.mailbox.retarget(place, targets) {
-            Ok(ticket) => {
-                self.drawn = ticket.saturating_add(1);
-                write!(out, "ticket {ticket}\n")?;
-            }
-            Err(error) => write!(out, "{error:?}\n")?,
-        }
-        Ok(())
-    }
-
-    /// The sync takes the update that waits.
-    fn take(&mut self, out: &mut String) -> Shown {
-        let Some((ticket, update)) = self.mailbox.next() else {
-            return say("none waits", out);
-        };
-        write!(out, "update {ticket}: ")?;
-        say_update(update, out)
-    }
-
-    /// The sync answers an update.
-    fn respond(&mut self, ticket: u64, answer: Option<Anchor>, out: &mut String) -> Shown {
+    /// Does what the words of a line say of an update that was sent.
+    fn play_sent(&mut self, words: &[&str], page: &mut Page) {
+        let ticket = number(words, 1);
         if ticket >= self.drawn {
-            return refused(out);
+            return page.say("refused");
         }
-        self.mailbox.respond(ticket, answer);
-        self.poll(ticket, out)
-    }
-
-    /// An update was recorded, or dropped unread.
-    fn observed(&mut self, ticket: u64, recorded: bool, out: &mut String) -> Shown {
-        if ticket >= self.drawn {
-            return refused(out);
+        let said = word(words, 2);
+        match word(words, 0) {
+            "respond" if said == "none" => self.mailbox.respond(ticket, None),
+            "respond" => self.mailbox.respond(ticket, Some(anchor(said))),
+            "observed" => self.mailbox.observed(ticket, said == "yes"),
+            _ => {}
         }
-        self.mailbox.observed(ticket, recorded);
-        self.poll(ticket, out)
-    }
-
-    /// What became of an update.
-    fn poll(&mut self, ticket: u64, out: &mut String) -> Shown {
-        if ticket >= self.drawn {
-            return refused(out);
-        }
+        page.number(ticket);
         match self.mailbox.poll(ticket) {
-            Moved::Pending => write!(out, "{ticket} is pending\n")?,
-            Moved::Done(None) => write!(out, "{ticket} is done: none\n")?,
-            Moved::Done(Some(anchor)) => {
-                let place = Place(anchor);
-                write!(out, "{ticket} is done: {place}\n")?;
-            }
+            Moved::Pending => page.push(" is pending"),
+            Moved::Done(None) => page.push(" is done: none"),
+            Moved::Done(Some(anchor)) => push_place(" is done: ", anchor, page),
         }
-        Ok(())
-    }
-
-    /// The sync answers an update with a block, or with none.
-    fn respond_of(&mut self, words: &[&str], out: &mut String) -> Shown {
-        let ticket = number(word(words, 1));
-        match word(words, 2) {
-            "none" => self.respond(ticket, None, out),
-            height => self.respond(ticket, Some(anchor(height)), out),
-        }
-    }
-
-    /// A block is finalized.
-    fn retarget_of(&mut self, words: &[&str], out: &mut String) -> Shown {
-        self.retarget(anchor(word(words, 1)), number(word(words, 2)), out)
+        page.end()
     }
 
     /// Does what the words of a line say.
-    pub(crate) fn play(&mut self, words: &[&str], out: &mut String) -> Shown {
+    pub(crate) fn play(&mut self, words: &[&str], page: &mut Page) {
         match word(words, 0) {
-            "mailbox" => self.begin(out),
-            "retarget" => self.retarget_of(words, out),
-            "take" => self.take(out),
-            "respond" => self.respond_of(words, out),
-            "observed" => self.observed(number(word(words, 1)), word(words, 2) == "yes", out),
-            "poll" => self.poll(number(word(words, 1)), out),
-            "update" => say_update(update_of(words), out),
-            _ => say("no such command", out),
+            "mailbox" => {
+                drop(mem::replace(self, Mailing::new(page.alloc())));
+                page.say("empty")
+            }
+            "retarget" => {
+                match self
+                    .mailbox
+                    .retarget(anchor(word(words, 1)), number(words, 2))
+                {
+                    Ok(ticket) => {
+                        self.drawn = ticket.saturating_add(1);
+                        page.field("ticket ", ticket)
+                    }
+                    Err(error) => page.debug(&error),
+                }
+                page.end()
+            }
+            "take" => match self.mailbox.next() {
+                Some((ticket, update)) => {
+                    page.field("update ", ticket);
+                    say_update(": ", update, page)
+                }
+                None => page.say("none waits"),
+            },
+            "respond" | "observed" | "poll" => self.play_sent(words, page),
+            "update" => {
+                let place = anchor(word(words, 1));
+                say_update("", TipUpdate::new(place, number(words, 2)), page)
+            }
+            _ => page.say("no such command"),
         }
     }
 }

@@ -50,60 +50,48 @@ mod planning;
 mod shown;
 mod words;
 
-use crate::choosing::{answer, resolved};
-use crate::classifying::classified;
-use crate::coordinating::Coordinating;
+use crate::choosing::{say_answered, say_resolved};
+use crate::classifying::say_classified;
+use crate::coordinating::Coordinated;
 use crate::mailing::Mailing;
-use crate::planning::Planning;
-use crate::shown::Shown;
-use stateful_base::OutOfMemory;
-use stateful_shell::{Shell, play_files, word};
+use crate::planning::{Plan, say_state};
+use stateful_shell::{Page, Shell, play_files, word};
 use std::alloc::Global;
 use std::process::ExitCode;
 
-/// A plan, a coordinator and a mailbox.
+/// A plan, once one was loaded, a coordinator, once one was made, and a mailbox.
 #[derive(Drop)]
 struct Syncing {
-    alloc: Global,
-    planning: Planning,
-    coordinating: Coordinating,
+    plan: Option<Plan>,
+    made: Option<Coordinated>,
     mailing: Mailing,
-}
-
-impl Syncing {
-    /// Does what the words of a line say.
-    fn play_words(&mut self, words: &[&str], out: &mut String) -> Shown {
-        match word(words, 0) {
-            "store" | "reload" | "floor" | "complete" | "start" | "state" => {
-                self.planning.play(words, out)
-            }
-            "resolve" => resolved(self.alloc, words, out),
-            "answer" => answer(self.alloc, words, out),
-            "classify" => classified(self.alloc, words, out),
-            "coordinate" | "reached" | "tip" | "next" => self.coordinating.play(words, out),
-            _ => self.mailing.play(words, out),
-        }
-    }
 }
 
 impl Shell for Syncing {
     fn new(alloc: Global) -> Syncing {
         Syncing {
-            alloc,
-            planning: Planning::new(alloc),
-            coordinating: Coordinating::new(alloc),
+            plan: None,
+            made: None,
             mailing: Mailing::new(alloc),
         }
     }
 
-    fn play(&mut self, line: &str, out: &mut String) -> Result<(), OutOfMemory> {
-        let words: Vec<&str> = line.split_whitespace().collect(self.alloc)?;
-        self.play_words(words.as_slice(), out)
+    fn play(&mut self, words: &[&str], page: &mut Page) {
+        match word(words, 0) {
+            "store" => planning::store(&mut self.plan, words, page),
+            "reload" => planning::reload(&mut self.plan, page),
+            "floor" | "complete" | "start" => planning::play(&mut self.plan, words, page),
+            "state" => say_state(words, page),
+            "resolve" => say_resolved(words, page),
+            "answer" => say_answered(words, page),
+            "classify" => say_classified(words, page),
+            "coordinate" => coordinating::coordinate(&mut self.made, words, page),
+            "reached" | "tip" | "next" => coordinating::play(&mut self.made, words, page),
+            _ => self.mailing.play(words, page),
+        }
     }
 
-    fn end(&mut self, _out: &mut String) -> Result<(), OutOfMemory> {
-        Ok(())
-    }
+    fn end(&mut self, _page: &mut Page) {}
 }
 
 fn main(rt: HostRuntime) -> Result<ExitCode, anyhow::Error> {

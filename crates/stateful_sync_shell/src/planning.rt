@@ -1,289 +1,199 @@
 //! What a node remembers of its sync.
 
-use crate::shown::{Hex, Shown, Turn, refused, say};
-use crate::words::{bytes, digest, number, round};
-use bytes::Bytes;
-use stateful_shell::word;
+use crate::shown::push_digest;
+use crate::words::{bytes, digest, parsed, round};
+use stateful_shell::{Page, number, rest, word};
 use stateful_sync::{MemoryPlanStore, PlanCall, PlanError, Start, SyncPlan, SyncState};
-use stateful_types::{
-    CodecError, Digest, Faulty, Finalization, Height, Items, OutOfMemory, Round, View, VoteScheme,
-};
-use std::alloc::Global;
+use stateful_types::{Digest, Faulty, Finalization, Height, Items, View, VoteScheme};
 
-type Plan = SyncPlan<MemoryPlanStore, VoteScheme>;
+/// What a node remembers, over a store in memory.
+pub(crate) type Plan = SyncPlan<MemoryPlanStore, VoteScheme>;
 
-/// A plan, once one was loaded.
-#[derive(Drop)]
-pub(crate) struct Planning {
-    alloc: Global,
-    plan: Option<Plan>,
+/// Prints a floor.
+fn push_floor(floor: &Finalization<Items<u32>>, page: &mut Page) {
+    page.field("floor ", floor.round.epoch.0);
+    page.field(".", floor.round.view.0);
+    page.field(" on view ", floor.parent.0);
+    push_digest(", ", floor.payload, page);
+    page.push(", signers ");
+    page.debug(&floor.certificate.as_slice())
 }
 
-/// Appends a floor.
-fn push_floor(floor: &Finalization<Items<u32>>, out: &mut String) -> Shown {
-    let round = Turn(floor.round);
-    let payload = Hex(floor.payload);
-    let parent = floor.parent.0;
-    let signers = floor.certificate.as_slice();
-    write!(
-        out,
-        "floor {round} on view {parent}, {payload}, signers {signers:?}"
-    )?;
-    Ok(())
-}
-
-/// Appends a completion.
-fn push_completion(height: Height, digest: Option<Digest>, out: &mut String) -> Shown {
-    let height = height.0;
+/// Prints a completion.
+fn push_completion(height: Height, digest: Option<Digest>, page: &mut Page) {
+    page.field("completed ", height.0);
     match digest {
-        Some(digest) => write!(out, "completed {height}, {digest}", digest = Hex(digest))?,
-        None => write!(out, "completed {height}, no digest")?,
+        Some(digest) => push_digest(", ", digest, page),
+        None => page.push(", no digest"),
     }
-    Ok(())
 }
 
-/// Appends what a plan remembers.
-fn push_plan(plan: &Plan, out: &mut String) -> Shown {
+/// Prints what came of a call, what the plan remembers then, and whether a start of the node syncs,
+/// where it isn't asked to and where it is.
+fn say_plan(came: &str, plan: &Plan, page: &mut Page) {
+    page.push(came);
     if let Some(floor) = plan.floor() {
-        return push_floor(floor, out);
+        push_floor(floor, page);
+    } else if let Some(height) = plan.completed() {
+        push_completion(height, plan.completed_digest(), page);
+    } else {
+        page.push("nothing");
     }
-    match plan.completed() {
-        Some(height) => push_completion(height, plan.completed_digest(), out),
-        None => Ok(out.push_str("nothing")?),
-    }
+    page.say(match (plan.should_sync(false), plan.should_sync(true)) {
+        (true, true) => "; syncs",
+        (false, true) => "; syncs if asked",
+        (false, false) => "; never syncs",
+        (true, false) => "; syncs unless asked",
+    })
 }
 
-/// Whether a start of the node syncs, where it isn't asked to and where it is.
-fn say_syncs(plan: &Plan, out: &mut String) -> Shown {
-    match (plan.should_sync(false), plan.should_sync(true)) {
-        (true, true) => say("; syncs", out),
-        (false, true) => say("; syncs if asked", out),
-        (false, false) => say("; never syncs", out),
-        (true, false) => say("; syncs unless asked", out),
-    }
-}
-
-/// Appends what came of a call, and what the plan remembers then.
-fn say_plan(came: &str, plan: &Plan, out: &mut String) -> Shown {
-    out.push_str(came)?;
-    push_plan(plan, out)?;
-    say_syncs(plan, out)
-}
-
-/// Appends why a call was refused.
-fn push_error(error: PlanError, out: &mut String) -> Shown {
+/// Prints why a call was refused.
+fn push_error(error: PlanError, page: &mut Page) {
     match error {
         PlanError::CompletedConflict {
             height,
             recorded,
             given,
         } => {
-            let height = height.0;
-            let recorded = Hex(recorded);
-            let given = Hex(given);
-            write!(
-                out,
-                "CompletedConflict at {height}, recorded {recorded}, given {given}"
-            )?;
+            page.field("CompletedConflict at ", height.0);
+            push_digest(", recorded ", recorded, page);
+            push_digest(", given ", given, page)
         }
-        _ => write!(out, "{error:?}")?,
+        _ => page.debug(&error),
     }
-    Ok(())
 }
 
-/// Appends why no plan was loaded.
-fn say_refusal(error: PlanError, out: &mut String) -> Shown {
-    push_error(error, out)?;
-    say("", out)
-}
-
-/// Appends what came of a change, and what the plan remembers then.
-fn say_done(done: Result<(), PlanError>, plan: &Plan, out: &mut String) -> Shown {
-    match done {
-        Ok(()) => say_plan("ok: ", plan, out),
-        Err(error) => {
-            push_error(error, out)?;
-            say_plan(": ", plan, out)
+/// A certificate of the signers that the words name.
+fn signers(words: &[&str], page: &mut Page) -> Items<u32> {
+    let mut signers = Items::new(page.alloc());
+    for word in words.iter() {
+        if signers.push(word.parse::<u32>().unwrap_or(0)).is_err() {
+            page.lack();
         }
     }
-}
-
-/// A certificate of the signers from the fourth word on.
-fn signers(alloc: Global, words: &[&str]) -> Result<Items<u32>, OutOfMemory> {
-    let mut signers = Items::new(alloc);
-    for text in words.iter().skip(3) {
-        signers.push(text.parse::<u32>().unwrap_or(0))?;
-    }
-    Ok(signers)
-}
-
-/// A floor of this round and payload, signed by these.
-fn set_floor_at(
-    alloc: Global,
-    plan: &mut Plan,
-    round: Round,
-    words: &[&str],
-    out: &mut String,
-) -> Shown {
-    let certificate = signers(alloc, words)?;
-    let done = plan.set_floor(Finalization {
-        round,
-        parent: View(0),
-        payload: digest(word(words, 2)),
-        certificate,
-    });
-    say_done(done, plan, out)
-}
-
-/// The floor that the words say.
-fn set_floor(alloc: Global, plan: &mut Plan, words: &[&str], out: &mut String) -> Shown {
-    match round(word(words, 1)) {
-        Some(round) => set_floor_at(alloc, plan, round, words, out),
-        None => refused(out),
-    }
-}
-
-/// A completion at this height, of this digest.
-fn set_completed(plan: &mut Plan, words: &[&str], out: &mut String) -> Shown {
-    let height = number(word(words, 1));
-    let done = plan.set_completed(Height(height), digest(word(words, 2)));
-    say_done(done, plan, out)
+    signers
 }
 
 /// Where marshal starts, and whether the node may sync.
-fn say_start(plan: &Plan, genesis: u64, out: &mut String) -> Shown {
+fn say_start(plan: &Plan, genesis: u64, page: &mut Page) {
     match plan.marshal_start(genesis) {
-        Start::Floor(floor) => push_floor(floor, out)?,
-        Start::Genesis(genesis) => write!(out, "genesis {genesis}")?,
+        Start::Floor(floor) => push_floor(floor, page),
+        Start::Genesis(genesis) => page.field("genesis ", genesis),
     }
-    match plan.may_sync() {
-        true => say("; may sync", out),
-        false => say("; may not sync", out),
-    }
+    page.say(if plan.may_sync() {
+        "; may sync"
+    } else {
+        "; may not sync"
+    })
 }
 
-/// Does what the words of a line say of a plan.
-fn play_plan(alloc: Global, plan: &mut Plan, words: &[&str], out: &mut String) -> Shown {
-    match word(words, 0) {
-        "floor" => set_floor(alloc, plan, words, out),
-        "complete" => set_completed(plan, words, out),
-        "start" => say_start(plan, number(word(words, 1)), out),
-        _ => say("no such command", out),
-    }
-}
-
-/// The call of a store of this name.
-fn call_of(name: &str) -> PlanCall {
-    match name {
-        "load" => PlanCall::Load,
-        _ => PlanCall::Put,
-    }
-}
-
-/// The calls of a store that fail, from the third word on.
-fn failing(alloc: Global, words: &[&str]) -> Result<Vec<(PlanCall, u64)>, OutOfMemory> {
-    let mut calls = Vec::new(alloc);
-    for text in words.iter().skip(2) {
+/// The calls of a store that fail.
+fn failing(words: &[&str], page: &mut Page) -> Vec<(PlanCall, u64)> {
+    let mut calls = Vec::new(page.alloc());
+    for text in words.iter() {
         let (call, count) = text.split_once(':').unwrap_or((*text, ""));
-        calls.push((call_of(call), number(count)))?;
+        let call = if call == "load" {
+            PlanCall::Load
+        } else {
+            PlanCall::Put
+        };
+        if calls.push((call, parsed(count))).is_err() {
+            page.lack();
+        }
     }
-    Ok(calls)
+    calls
 }
 
 /// Reads a state, and writes it again.
-fn say_state(alloc: Global, word: &str, out: &mut String) -> Shown {
-    let mut input = bytes(alloc, word);
+pub(crate) fn say_state(words: &[&str], page: &mut Page) {
+    let alloc = page.alloc();
+    let mut input = bytes(alloc, word(words, 1));
     match SyncState::<VoteScheme>::read(alloc, &mut input) {
-        Ok(state) => say_spelling(alloc, &state, input.as_slice(), out),
-        Err(error) => say_fault(error, out),
+        Ok(state) => {
+            say_spelling(&state, input.as_slice(), page);
+            drop(state)
+        }
+        Err(error) => {
+            page.debug(&error);
+            page.end()
+        }
     }
+    drop(input)
 }
 
-/// Appends why no state was read.
-fn say_fault(error: CodecError, out: &mut String) -> Shown {
-    write!(out, "{error:?}\n")?;
-    Ok(())
-}
-
-/// Appends a state.
-fn push_state(state: &SyncState<VoteScheme>, out: &mut String) -> Shown {
+/// Prints a state, how many bytes it has, what is left unread behind them, and its bytes.
+fn say_spelling(state: &SyncState<VoteScheme>, left: &[u8], page: &mut Page) {
     match state {
-        SyncState::InProgress(floor) => push_floor(floor, out),
-        SyncState::Complete { height, digest } => push_completion(*height, *digest, out),
+        SyncState::InProgress(floor) => push_floor(floor, page),
+        SyncState::Complete { height, digest } => push_completion(*height, *digest, page),
+    }
+    page.field("\nsize ", state.encode_size() as u64);
+    page.push(", left ");
+    page.debug(&left);
+    page.end();
+    let mut written = Vec::new(page.alloc());
+    page.note(state.write(&mut written));
+    page.hex(written.as_slice());
+    page.end()
+}
+
+/// Loads a plan from a store.
+fn load(plan: &mut Option<Plan>, store: MemoryPlanStore, page: &mut Page) {
+    match Plan::init(page.alloc(), store, "node") {
+        Ok(loaded) => say_plan("loaded: ", plan.insert(loaded), page),
+        Err(error) => {
+            push_error(error, page);
+            page.end()
+        }
     }
 }
 
-/// Appends a state, how many bytes it has, what is left unread behind them, and its bytes.
-fn say_spelling(
-    alloc: Global,
-    state: &SyncState<VoteScheme>,
-    left: &[u8],
-    out: &mut String,
-) -> Shown {
-    push_state(state, out)?;
-    let size = state.encode_size();
-    write!(out, "\nsize {size}, left {left:?}\n")?;
-    let mut written = Vec::new(alloc);
-    state.write(&mut written)?;
-    let text = hex::encode(alloc, written.as_slice())?;
-    say(text.as_str(), out)
-}
-
-/// The value of a store, or none.
-fn value_of(alloc: Global, word: &str) -> Option<Bytes> {
-    match word {
+/// A plan is loaded from a store of these bytes.
+pub(crate) fn store(plan: &mut Option<Plan>, words: &[&str], page: &mut Page) {
+    drop(plan.take());
+    let calls = failing(rest(words, 2), page);
+    let value = match word(words, 1) {
         "none" => None,
-        _ => Some(bytes(alloc, word)),
-    }
+        name => Some(bytes(page.alloc(), name)),
+    };
+    load(plan, MemoryPlanStore::new(value, calls), page)
 }
 
-impl Planning {
-    /// No plan.
-    pub(crate) fn new(alloc: Global) -> Planning {
-        Planning { alloc, plan: None }
-    }
+/// The plan is loaded anew from its store, which tells its faults.
+pub(crate) fn reload(plan: &mut Option<Plan>, page: &mut Page) {
+    let Some(loaded) = plan.take() else {
+        return page.say("no plan");
+    };
+    let store = loaded.into_store();
+    page.field("faults ", store.faults());
+    page.push(", ");
+    load(plan, store, page)
+}
 
-    /// Loads a plan from a store.
-    fn load(&mut self, store: MemoryPlanStore, out: &mut String) -> Shown {
-        match Plan::init(self.alloc, store, "node") {
-            Ok(plan) => say_plan("loaded: ", self.plan.insert(plan), out),
-            Err(error) => say_refusal(error, out),
+/// Does what the words of a line say of the plan, once one was loaded. Behind a change it prints
+/// what came of it, and what the plan remembers then.
+pub(crate) fn play(plan: &mut Option<Plan>, words: &[&str], page: &mut Page) {
+    let Some(plan) = plan else {
+        return page.say("no plan");
+    };
+    let done = match word(words, 0) {
+        "floor" => {
+            let Some(round) = round(word(words, 1)) else {
+                return page.say("refused");
+            };
+            plan.set_floor(Finalization {
+                round,
+                parent: View(0),
+                payload: digest(word(words, 2)),
+                certificate: signers(rest(words, 3), page),
+            })
         }
+        "complete" => plan.set_completed(Height(number(words, 1)), digest(word(words, 2))),
+        _ => return say_start(plan, number(words, 1), page),
+    };
+    match done {
+        Ok(()) => page.push("ok"),
+        Err(error) => push_error(error, page),
     }
-
-    /// A plan is loaded from a store of these bytes.
-    fn store(&mut self, words: &[&str], out: &mut String) -> Shown {
-        self.plan = None;
-        let calls = failing(self.alloc, words)?;
-        let value = value_of(self.alloc, word(words, 1));
-        self.load(MemoryPlanStore::new(value, calls), out)
-    }
-
-    /// The plan is loaded anew from its store, which tells its faults.
-    fn reload(&mut self, out: &mut String) -> Shown {
-        let Some(plan) = self.plan.take() else {
-            return say("no plan", out);
-        };
-        let store = plan.into_store();
-        write!(out, "faults {faults}, ", faults = store.faults())?;
-        self.load(store, out)
-    }
-
-    /// Does what the words of a line say of the plan, once one was loaded.
-    fn play_loaded(&mut self, words: &[&str], out: &mut String) -> Shown {
-        match &mut self.plan {
-            Some(plan) => play_plan(self.alloc, plan, words, out),
-            None => say("no plan", out),
-        }
-    }
-
-    /// Does what the words of a line say.
-    pub(crate) fn play(&mut self, words: &[&str], out: &mut String) -> Shown {
-        match word(words, 0) {
-            "store" => self.store(words, out),
-            "reload" => self.reload(out),
-            "state" => say_state(self.alloc, word(words, 1), out),
-            _ => self.play_loaded(words, out),
-        }
-    }
+    say_plan(": ", plan, page)
 }

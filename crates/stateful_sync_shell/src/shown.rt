@@ -1,75 +1,37 @@
-//! How values are printed.
+//! How values are printed. Each is given what stands before it.
 
-use stateful_base::OutOfMemory;
-use stateful_types::{Anchor, Digest, Round};
-use std::fmt;
+use stateful_shell::Page;
+use stateful_sync::SyncError;
+use stateful_types::{Anchor, Digest};
 
-/// What a command answers: its text has been appended.
-pub(crate) type Shown = Result<(), OutOfMemory>;
-
-/// Appends a line.
-pub(crate) fn say(text: &str, out: &mut String) -> Shown {
-    out.push_str(text)?;
-    out.push('\n')?;
-    Ok(())
-}
-
-/// A call's condition doesn't hold.
-pub(crate) fn refused(out: &mut String) -> Shown {
-    say("refused", out)
-}
-
-/// The byte of a digest that is 32 times the same.
-fn repeated(digest: Digest) -> Option<u8> {
+/// Prints a digest in hex. The byte of one that is 32 times the same: `7*32`.
+pub(crate) fn push_digest(name: &str, digest: Digest, page: &mut Page) {
     let first = digest.0[0];
-    for byte in digest.0 {
-        if byte != first {
-            return None;
-        }
+    if digest.is(Digest([first; 32])) {
+        page.field(name, first as u64);
+        return page.push("*32");
     }
-    Some(first)
+    page.push(name);
+    page.hex(&digest.0)
 }
 
-/// A digest in hex. The byte of one that is 32 times the same: `7*32`.
-#[derive(Clone, Copy)]
-pub(crate) struct Hex(pub(crate) Digest);
-
-impl fmt::Display for Hex {
-    fn fmt<W: fmt::Write>(&self, f: &mut fmt::Formatter<W>) -> fmt::Result {
-        if let Some(byte) = repeated(self.0) {
-            return write!(f, "{byte}*32");
-        }
-        for byte in self.0.0 {
-            write!(f, "{byte:02x}")?;
-        }
-        Ok(())
-    }
+/// Prints an anchor: `block 7 of 0.7, 7*32`.
+pub(crate) fn push_place(name: &str, anchor: Anchor, page: &mut Page) {
+    page.push(name);
+    page.field("block ", anchor.height.0);
+    page.field(" of ", anchor.round.epoch.0);
+    page.field(".", anchor.round.view.0);
+    push_digest(", ", anchor.digest, page)
 }
 
-/// A round: `EPOCH.VIEW`.
-#[derive(Clone, Copy)]
-pub(crate) struct Turn(pub(crate) Round);
-
-impl fmt::Display for Turn {
-    fn fmt<W: fmt::Write>(&self, f: &mut fmt::Formatter<W>) -> fmt::Result {
-        write!(
-            f,
-            "{epoch}.{view}",
-            epoch = self.0.epoch.0,
-            view = self.0.view.0
-        )
+/// Prints why a sync doesn't start, or why its blocks aren't classified.
+pub(crate) fn say_error(error: SyncError, page: &mut Page) {
+    match error {
+        SyncError::ConflictAtAnchor { expected, given } => {
+            push_digest("ConflictAtAnchor\nexpected ", expected, page);
+            push_digest("\ngiven ", given, page)
+        }
+        _ => page.debug(&error),
     }
-}
-
-/// An anchor: `block 7 of 0.7, 7*32`.
-#[derive(Clone, Copy)]
-pub(crate) struct Place(pub(crate) Anchor);
-
-impl fmt::Display for Place {
-    fn fmt<W: fmt::Write>(&self, f: &mut fmt::Formatter<W>) -> fmt::Result {
-        let height = self.0.height.0;
-        let round = Turn(self.0.round);
-        let digest = Hex(self.0.digest);
-        write!(f, "block {height} of {round}, {digest}")
-    }
+    page.end()
 }

@@ -5,13 +5,8 @@ use stateful_types::{Anchor, Digest, Epoch, Height, Round, View};
 use std::alloc::Global;
 
 /// A number: 0 where it is none.
-pub(crate) fn number(word: &str) -> u64 {
-    word.parse::<u64>().unwrap_or(0)
-}
-
-/// A number of a database: 0 where it is none.
-pub(crate) fn index(word: &str) -> usize {
-    word.parse::<usize>().unwrap_or(0)
+pub(crate) fn parsed(text: &str) -> u64 {
+    text.parse::<u64>().unwrap_or(0)
 }
 
 /// A height, or none.
@@ -26,8 +21,8 @@ pub(crate) fn height(word: &str) -> Option<Height> {
 pub(crate) fn round(word: &str) -> Option<Round> {
     let (epoch, view) = word.split_once('.')?;
     Some(Round {
-        epoch: Epoch(number(epoch)),
-        view: View(number(view)),
+        epoch: Epoch(parsed(epoch)),
+        view: View(parsed(view)),
     })
 }
 
@@ -44,7 +39,7 @@ pub(crate) fn letter(word: &str) -> u8 {
 /// The block of this height, which is finalized in a view of the same number of epoch 0. Its digest
 /// is 32 times the height, if that is a byte.
 pub(crate) fn anchor(word: &str) -> Anchor {
-    let height = number(word);
+    let height = parsed(word);
     Anchor {
         height: Height(height),
         round: Round {

@@ -1,5 +1,5 @@
 use Rattle.std.proofs.Common.{length}
-use Rattle.stateful_actor_shell.proofs.durable.release.Given as goal
+use Rattle.stateful_actor_shell.proofs.durable.end.Given as goal
 
 abbrev pub decreases-loop-ticket : goal.decreases-loop-ticket
 decreases-loop-ticket l = length l.durability.held

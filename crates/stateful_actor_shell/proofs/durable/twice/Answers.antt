@@ -1,5 +1,5 @@
 use Rattle.std.proofs.Common.{◌≡◌, [], ◌∷◌, inr, refl, arith, rules}
-use Rattle.stateful_actor_shell.proofs.durable.with_two_barriers.Goals as goal
+use Rattle.stateful_actor_shell.proofs.durable.twice.Goals as goal
 
 pub record_duplicate-requires : goal.record_duplicate-requires
 record_duplicate-requires g =

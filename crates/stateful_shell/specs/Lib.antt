@@ -1,0 +1,2 @@
+-- What contracts speak of.
+pub mod Printed
