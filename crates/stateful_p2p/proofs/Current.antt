@@ -7,12 +7,12 @@ use Rattle.std.proofs.lemmas.List.Elements.{Contains-append_right}
 use Rattle.stateful_types.specs.declared.request.Request.{Request}
 use Rattle.stateful_table.specs.Table.{at, without}
 use Rattle.stateful_p2p.specs.Inbox.{cancelled}
-use Rattle.stateful_p2p.specs.Fanout.{Releases, has_none, releases, Forgets, stranger, forgets, Retires, nobody, unfetched, fetched}
+use Rattle.stateful_p2p_tables.specs.Deliveries.{Releases, has_none, releases, Forgets, stranger, forgets, Retires, nobody, unfetched, fetched}
 use Rattle.stateful_p2p.specs.History.{Entry, outs_of, Since}
 use Rattle.stateful_p2p.specs.Laws.{IsDrawn, Ends, IsLive, WasFetched, IsSubscriber, Hands, Replies, HasToJudge}
-use Rattle.stateful_p2p.specs.declared.state.State.{State}
-use Rattle.stateful_p2p.specs.declared.event.ActorOut.{ActorOut}
-use Rattle.stateful_p2p.specs.declared.event.ActorOut.TheVariants.{Fetch}
+use Rattle.stateful_p2p_tables.specs.declared.state.State.{State}
+use Rattle.stateful_p2p_tables.specs.declared.out.ActorOut.{ActorOut}
+use Rattle.stateful_p2p_tables.specs.declared.out.ActorOut.TheVariants.{Fetch}
 use Rattle.stateful_table.proofs.Tables.{at-without}
 use Rattle.stateful_p2p.proofs.Histories.{once_here, once_before, once_split, since_here, since_before, since_split}
 use Rattle.stateful_p2p.proofs.Moving.{in_cons, in_none}

@@ -9,7 +9,7 @@ use Rattle.stateful_p2p.specs.Inbox.{Inbox}
 use Rattle.stateful_p2p.specs.Resolving.{Setup, is_empty, may_come}
 use Rattle.stateful_p2p.specs.History.{Entry, count_outs}
 use Rattle.stateful_p2p.specs.Laws.{IsLive, HadFetch, HasToJudge, WasDelivered, WasProduced, CanCome, is_fetch_of, is_forget_of, is_answer_to}
-use Rattle.stateful_p2p.specs.declared.state.State.{State}
+use Rattle.stateful_p2p_tables.specs.declared.state.State.{State}
 use Rattle.stateful_p2p.specs.declared.message.Message.{Message}
 use Rattle.stateful_p2p.specs.declared.event.ActorEvent.{ActorEvent}
 use Rattle.stateful_p2p.specs.declared.event.ActorEvent.TheVariants as events

@@ -8,14 +8,14 @@ use Rattle.stateful_p2p.specs.Inbox.{Inbox, empty_inbox}
 use Rattle.stateful_p2p.specs.Resolving.{Setup, Hears, attaches, fetches, passes_over, Does, Steps}
 use Rattle.stateful_p2p.specs.History.{Entry, Stepped, outs_of, Once, Always, Takes, Turns, Runs}
 use Rattle.stateful_p2p.specs.Laws.{Draws, IsLive, IsTaken}
-use Rattle.stateful_p2p.specs.declared.state.State.{State}
+use Rattle.stateful_p2p_tables.specs.declared.state.State.{State}
 use Rattle.stateful_p2p.specs.declared.message.Message.{Message}
 use Rattle.stateful_p2p.specs.declared.message.Message.TheVariants.{AttachDatabase, GetOperations}
 use Rattle.stateful_p2p.specs.declared.actor.Task.{Task}
 use Rattle.stateful_p2p.specs.declared.actor.Task.TheVariants as tasks
 use Rattle.stateful_p2p.specs.declared.event.ActorEvent.{ActorEvent}
-use Rattle.stateful_p2p.specs.declared.event.ActorOut.{ActorOut}
-use Rattle.stateful_p2p.specs.declared.event.ActorOut.TheVariants.{Fetch, Forget, Feedback, Unjudged}
+use Rattle.stateful_p2p_tables.specs.declared.out.ActorOut.{ActorOut}
+use Rattle.stateful_p2p_tables.specs.declared.out.ActorOut.TheVariants.{Fetch, Forget, Feedback, Unjudged}
 use Rattle.stateful_p2p.proofs.Histories.{each}
 use Rattle.stateful_p2p.proofs.Moving.{in_cons, in_none}
 use Rattle.stateful_p2p.proofs.Putting.{all_retired, all_judged, all_left, all_delivered, all_produced}

@@ -12,21 +12,23 @@ use Rattle.stateful_types.specs.declared.response.Response.{Response}
 use Rattle.stateful_table.specs.Table.{at, put, without, put_each}
 use Rattle.stateful_p2p.specs.Tickets.{is_live, is_dropped, ended}
 use Rattle.stateful_p2p.specs.Messages.{is_not_of}
-use Rattle.stateful_p2p.specs.Subscribing.{subscribed}
+use Rattle.stateful_p2p_tables.specs.Subscribing.{subscribed}
 use Rattle.stateful_p2p.specs.Inbox.{Inbox, Asks, cancelled as cancelled_inbox, let_go, taken_out, offered, offered_each, empty_inbox}
-use Rattle.stateful_p2p.specs.Fanout.{is_free, Releases, has_none, releases, Forgets, stranger, forgets, Retires, delivered, awaiting, Delivers, unheard, malformed, untaken, taken}
-use Rattle.stateful_p2p.specs.Fanout as fanout
-use Rattle.stateful_p2p.specs.Resolving.{Setup, IsNew, Hears, attaches, fetches, passes_over, Judges, accepts, rejects, Leaves, leaves_unfetched, Does, Steps}
+use Rattle.stateful_p2p_tables.specs.New.{IsNew}
+use Rattle.stateful_p2p_tables.specs.Deliveries.{is_free, Releases, has_none, releases, Forgets, stranger, forgets, Retires, awaiting}
+use Rattle.stateful_p2p.specs.Fanout.{delivered, Delivers, unheard, malformed, untaken, taken}
+use Rattle.stateful_p2p_tables.specs.Deliveries as tables
+use Rattle.stateful_p2p.specs.Resolving.{Setup, Hears, attaches, fetches, passes_over, Judges, accepts, rejects, Leaves, leaves_unfetched, Does, Steps}
 use Rattle.stateful_p2p.specs.History.{Entry, Asked, Cancelled, Stepped, outs_of, Since, Takes, Turns}
 use Rattle.stateful_p2p.specs.Laws.{IsDrawn, Ends, IsLive, WasFetched, IsSubscriber, Hands, Replies, HasToJudge, is_fetch_of, is_request_of}
-use Rattle.stateful_p2p.specs.declared.state.State.{State}
+use Rattle.stateful_p2p_tables.specs.declared.state.State.{State}
 use Rattle.stateful_p2p.specs.declared.message.Message.{Message}
 use Rattle.stateful_p2p.specs.declared.message.Message.TheVariants.{GetOperations}
 use Rattle.stateful_p2p.specs.declared.actor.Task.{Task}
 use Rattle.stateful_p2p.specs.declared.actor.Task.TheVariants as tasks
 use Rattle.stateful_p2p.specs.declared.event.ActorEvent.{ActorEvent}
-use Rattle.stateful_p2p.specs.declared.event.ActorOut.{ActorOut}
-use Rattle.stateful_p2p.specs.declared.event.ActorOut.TheVariants.{Fetch, Candidate, Feedback, Unjudged}
+use Rattle.stateful_p2p_tables.specs.declared.out.ActorOut.{ActorOut}
+use Rattle.stateful_p2p_tables.specs.declared.out.ActorOut.TheVariants.{Fetch, Candidate, Feedback, Unjudged}
 use Rattle.stateful_table.proofs.Tables.{at-put, at-without}
 use Rattle.stateful_p2p.proofs.Histories.{once_before, once_split, since_before, since_split, since_none, once_none}
 use Rattle.stateful_p2p.proofs.Moving.{in_cons, in_none, Contains-filter}
@@ -192,7 +194,7 @@ module _ {D Op : Type 0} where
 
 module _ {D : Type 0} where
   -- a candidate that tickets take
-  follows_taken : (h : List (Entry D)) (s : State D) (d : ℕ) (key : Request) (bytes : List ℕ) (takers : List ℕ) (outs : List ActorOut) → IsCurrent h s → fanout.Takes s key takers
+  follows_taken : (h : List (Entry D)) (s : State D) (d : ℕ) (key : Request) (bytes : List ℕ) (takers : List ℕ) (outs : List ActorOut) → IsCurrent h s → tables.Takes s key takers
       → ((t : ℕ) → Contains outs (Candidate t) → Contains takers t) → ((t : ℕ) → Contains takers t → Contains outs (Candidate t)) → ((x : ℕ) (k : Request) → Contains outs (Fetch x k) → ⊥)
       → Follows h s (Stepped (tasks.Deliver d key bytes) outs) (awaiting (delivered s d) d takers)
   follows_taken h s d key bytes takers outs now takes into outof unfetched = record {

@@ -16,18 +16,19 @@ use Rattle.stateful_types.specs.declared.request.Request.{Request}
 use Rattle.stateful_table.specs.Table.{at, without}
 use Rattle.stateful_p2p.specs.Tickets.{is_live}
 use Rattle.stateful_p2p.specs.Inbox.{Inbox}
-use Rattle.stateful_p2p.specs.Fanout.{Forgets, stranger, forgets, Retires, nobody, unfetched, fetched, Delivers, unheard, malformed, untaken, taken}
+use Rattle.stateful_p2p_tables.specs.Deliveries.{Forgets, stranger, forgets, Retires, nobody, unfetched, fetched}
+use Rattle.stateful_p2p.specs.Fanout.{Delivers, unheard, malformed, untaken, taken}
 use Rattle.stateful_p2p.specs.Resolving.{Setup, may_come, Hears, attaches, fetches, passes_over, Judges, accepts, rejects, Leaves, leaves_unfetched, Does, Steps}
 use Rattle.stateful_p2p.specs.History.{Entry, Stepped, outs_of, count_outs, Turns}
 use Rattle.stateful_p2p.specs.Laws.{IsLive, WasFetched, is_fetch_of, is_forget_of, is_request_of}
-use Rattle.stateful_p2p.specs.declared.state.State.{State}
+use Rattle.stateful_p2p_tables.specs.declared.state.State.{State}
 use Rattle.stateful_p2p.specs.declared.message.Message.{Message}
 use Rattle.stateful_p2p.specs.declared.message.Message.TheVariants.{GetOperations}
 use Rattle.stateful_p2p.specs.declared.actor.Task.{Task}
 use Rattle.stateful_p2p.specs.declared.event.ActorEvent.{ActorEvent}
 use Rattle.stateful_p2p.specs.declared.event.ActorEvent.TheVariants as events
-use Rattle.stateful_p2p.specs.declared.event.ActorOut.{ActorOut}
-use Rattle.stateful_p2p.specs.declared.event.ActorOut.TheVariants.{Fetch, Forget}
+use Rattle.stateful_p2p_tables.specs.declared.out.ActorOut.{ActorOut}
+use Rattle.stateful_p2p_tables.specs.declared.out.ActorOut.TheVariants.{Fetch, Forget}
 use Rattle.stateful_table.proofs.Tables.{at-put, at-without}
 use Rattle.stateful_p2p.proofs.Histories.{count_push}
 use Rattle.stateful_p2p.proofs.Moving.{in_cons, in_none, count_append, count_cons}

@@ -6,8 +6,8 @@ use Rattle.std.proofs.lemmas.List.Sums.{sum_by_push}
 use Rattle.stateful_p2p.specs.History.{Entry, outs_of, count_outs, Once, Always, Since, Turns, Runs, begins, goes_on}
 use Rattle.stateful_p2p.specs.Inbox.{Inbox}
 use Rattle.stateful_p2p.specs.Resolving.{Setup}
-use Rattle.stateful_p2p.specs.declared.state.State.{State}
-use Rattle.stateful_p2p.specs.declared.event.ActorOut.{ActorOut}
+use Rattle.stateful_p2p_tables.specs.declared.state.State.{State}
+use Rattle.stateful_p2p_tables.specs.declared.out.ActorOut.{ActorOut}
 
 -- a list is empty, or has a last element
 ended : {X : Type 0} (xs : List X) → (xs ≡ []) ⊎ ((ys : List X) × (y : X) × (xs ≡ ys ++ y ∷ []))

@@ -5,16 +5,16 @@ use Rattle.std.proofs.lemmas.Bool.{eqb-true, eq-eqb}
 use Rattle.std.proofs.lemmas.List.Elements.{All-contains, Contains-append_cases}
 use Rattle.stateful_table.specs.Table.{at}
 use Rattle.stateful_p2p.specs.Inbox.{Inbox}
-use Rattle.stateful_p2p.specs.Fanout.{outcome}
+use Rattle.stateful_p2p_tables.specs.Deliveries.{outcome}
 use Rattle.stateful_p2p.specs.Resolving.{Setup, may_come, Steps}
 use Rattle.stateful_p2p.specs.History.{Entry, Stepped, Takes, Turns}
 use Rattle.stateful_p2p.specs.Laws.{HasToJudge, GivesVerdict, HasJudged, HaveReplied, IsVerdict, HasNoVerdict, Delivers, SettlesAt, is_answer_to}
-use Rattle.stateful_p2p.specs.declared.state.State.{State}
+use Rattle.stateful_p2p_tables.specs.declared.state.State.{State}
 use Rattle.stateful_p2p.specs.declared.actor.Task.{Task}
 use Rattle.stateful_p2p.specs.declared.actor.Task.TheVariants as tasks
 use Rattle.stateful_p2p.specs.declared.event.ActorEvent.{ActorEvent}
-use Rattle.stateful_p2p.specs.declared.event.ActorOut.{ActorOut}
-use Rattle.stateful_p2p.specs.declared.event.ActorOut.TheVariants.{Feedback, Unjudged}
+use Rattle.stateful_p2p_tables.specs.declared.out.ActorOut.{ActorOut}
+use Rattle.stateful_p2p_tables.specs.declared.out.ActorOut.TheVariants.{Feedback, Unjudged}
 use Rattle.stateful_table.proofs.Tables.{is_at_number}
 use Rattle.stateful_p2p.proofs.Histories.{once_split, count_push}
 use Rattle.stateful_p2p.proofs.Putting.{count_there}

@@ -2,13 +2,14 @@
 use Rattle.std.proofs.Common.{◌≡◌, ◌↔◌, ◌⊎◌, ℕ, cond, Option, Some, List, [], ◌∷◌, ◌++◌, Contains, refl, sym, ap, ◌∙◌, subst, arith}
 use Rattle.std.specs.Option.{is_some}
 use Rattle.stateful_table.specs.Table.{at}
-use Rattle.stateful_p2p.specs.Fanout.{waiting_on, awaited_of}
+use Rattle.stateful_p2p_tables.specs.New.{IsNew}
+use Rattle.stateful_p2p_tables.specs.Deliveries.{waiting_on, awaited_of}
 use Rattle.stateful_p2p.specs.Inbox.{Inbox, empty_inbox}
-use Rattle.stateful_p2p.specs.Resolving.{Setup, IsNew}
+use Rattle.stateful_p2p.specs.Resolving.{Setup}
 use Rattle.stateful_p2p.specs.History.{Entry, Stepped, outs_of, count_outs, Turns, Runs}
 use Rattle.stateful_p2p.specs.Laws.{IsDrawn, IsLive, HadFetch, HandsOver, Retakes, HasToJudge, Delivers, WasDelivered, Produces, is_forget_of, is_answer_to, GivesVerdict, TellsAt, ForgetsAt, AnswersAt, SettlesAt, Serves, KeepsLaws}
-use Rattle.stateful_p2p.specs.declared.state.State.{State}
-use Rattle.stateful_p2p.specs.declared.event.ActorOut.TheVariants.{Candidate}
+use Rattle.stateful_p2p_tables.specs.declared.state.State.{State}
+use Rattle.stateful_p2p_tables.specs.declared.out.ActorOut.TheVariants.{Candidate}
 use Rattle.stateful_p2p.proofs.Histories.{kept, each, once_none, since_none}
 use Rattle.stateful_p2p.proofs.Placing.{IsPlaced, turn_placed}
 use Rattle.stateful_p2p.proofs.Fetching.{fetches_law, takes_law}

@@ -3,14 +3,8 @@ pub mod Standing
 pub mod Sending
 pub mod Boxing
 pub mod Handing
-pub mod Payloads
-pub mod Whole
-pub mod Counting
-pub mod Releasing
-pub mod Awaiting
+pub mod Offering
 pub mod Performing
-pub mod Indexing
-pub mod Subscribers
 pub mod Spreading
 pub mod Histories
 pub mod Moving

@@ -5,19 +5,19 @@ use Rattle.std.proofs.lemmas.List.Sums.{sum_by_push, sum_by-cons, sum_by-append}
 use Rattle.stateful_base.specs.Format.{Format}
 use Rattle.stateful_types.specs.declared.request.Request.{Request}
 use Rattle.stateful_p2p.specs.Inbox.{Inbox}
-use Rattle.stateful_p2p.specs.Fanout.{Releases, has_none, releases, Forgets, stranger, forgets, Retires, nobody, unfetched, fetched}
+use Rattle.stateful_p2p_tables.specs.Deliveries.{Releases, has_none, releases, Forgets, stranger, forgets, Retires, nobody, unfetched, fetched}
 use Rattle.stateful_p2p.specs.Fanout as fanout
-use Rattle.stateful_p2p.specs.Resolving.{Setup, IsNew, may_come, Hears, Judges, Leaves, Does, Steps}
+use Rattle.stateful_p2p.specs.Resolving.{Setup, may_come, Hears, Judges, Leaves, Does, Steps}
 use Rattle.stateful_p2p.specs.Resolving as resolving
 use Rattle.stateful_p2p.specs.History.{Entry, Stepped, outs_of, count_outs, Takes, Turns}
 use Rattle.stateful_p2p.specs.Laws.{Delivers, WasDelivered, Produces, WasProduced, is_answer_to}
-use Rattle.stateful_p2p.specs.declared.state.State.{State}
+use Rattle.stateful_p2p_tables.specs.declared.state.State.{State}
 use Rattle.stateful_p2p.specs.declared.message.Message.{Message}
 use Rattle.stateful_p2p.specs.declared.actor.Task.{Task}
 use Rattle.stateful_p2p.specs.declared.actor.Task.TheVariants as tasks
 use Rattle.stateful_p2p.specs.declared.event.ActorEvent.{ActorEvent}
 use Rattle.stateful_p2p.specs.declared.event.ActorEvent.TheVariants as events
-use Rattle.stateful_p2p.specs.declared.event.ActorOut.{ActorOut}
+use Rattle.stateful_p2p_tables.specs.declared.out.ActorOut.{ActorOut}
 use Rattle.stateful_p2p.proofs.Histories.{once_here, once_before, once_split, count_push}
 use Rattle.stateful_p2p.proofs.Moving.{count_append}
 use Rattle.stateful_p2p.proofs.Performing.{released_number, forgot_number, retired_number}

@@ -5,16 +5,17 @@ use Rattle.std.specs.List.Sorted.{IsPermutation, IsNonDecreasing}
 use Rattle.stateful_types.specs.Mailbox.{HandsOut}
 use Rattle.stateful_types.specs.declared.request.Request.{Request}
 use Rattle.stateful_p2p.specs.Inbox.{Inbox}
-use Rattle.stateful_p2p.specs.Fanout.{Takes, Forgets, stranger, forgets, Releases, has_none, releases, Retires, nobody, unfetched, fetched, delivered, Delivers}
+use Rattle.stateful_p2p_tables.specs.Deliveries.{Takes, Forgets, stranger, forgets, Releases, has_none, releases, Retires, nobody, unfetched, fetched}
+use Rattle.stateful_p2p.specs.Fanout.{delivered, Delivers}
 use Rattle.stateful_p2p.specs.Resolving.{Setup, IsExhausting, Hears, attaches, fetches, passes_over, Judges, Leaves, Produces, Does, hears, delivers, judges, leaves, produces, Steps}
 use Rattle.stateful_p2p.specs.Tasks.{Admits, hear, deliver, judge, leave, produce, has_last_number}
-use Rattle.stateful_p2p.specs.declared.state.State.{State}
+use Rattle.stateful_p2p_tables.specs.declared.state.State.{State}
 use Rattle.stateful_p2p.specs.declared.message.Message.{Message}
 use Rattle.stateful_p2p.specs.declared.actor.Task.{Task}
 use Rattle.stateful_p2p.specs.declared.actor.Task.TheVariants as tasks
 use Rattle.stateful_p2p.specs.declared.event.ActorEvent.{ActorEvent}
 use Rattle.stateful_p2p.specs.declared.event.ActorEvent.TheVariants as events
-use Rattle.stateful_p2p.specs.declared.event.ActorOut.{ActorOut}
+use Rattle.stateful_p2p_tables.specs.declared.out.ActorOut.{ActorOut}
 
 module _ {D : Type 0} where
   pub released_number : (s : State D) (t : ℕ) (verdict : Option Bool) (settled : Option ActorOut) (next : State D) → Releases s t verdict settled next → next.next_delivery ≡ s.next_delivery

@@ -16,15 +16,15 @@ use Rattle.stateful_p2p.specs.Fanout.{Delivers, unheard, malformed, untaken, tak
 use Rattle.stateful_p2p.specs.Resolving.{Setup, Hears, attaches, fetches, passes_over, Judges, accepts, rejects, Leaves, leaves_unfetched, sent, Does, Steps}
 use Rattle.stateful_p2p.specs.History.{Entry, Asked, Stepped, outs_of, count_outs, Once, Since, Takes, Turns, Runs}
 use Rattle.stateful_p2p.specs.Laws.{Draws, IsDrawn, Ends, IsLive, is_fetch_of, is_request_of, waiting}
-use Rattle.stateful_p2p.specs.declared.state.State.{State}
+use Rattle.stateful_p2p_tables.specs.declared.state.State.{State}
 use Rattle.stateful_p2p.specs.declared.message.Message.{Message}
 use Rattle.stateful_p2p.specs.declared.message.Message.TheVariants.{AttachDatabase, GetOperations}
 use Rattle.stateful_p2p.specs.declared.tickets.Standing.TheVariants.{Open}
 use Rattle.stateful_p2p.specs.declared.actor.Task.{Task}
 use Rattle.stateful_p2p.specs.declared.actor.Task.TheVariants as tasks
 use Rattle.stateful_p2p.specs.declared.event.ActorEvent.{ActorEvent}
-use Rattle.stateful_p2p.specs.declared.event.ActorOut.{ActorOut}
-use Rattle.stateful_p2p.specs.declared.event.ActorOut.TheVariants.{Fetch, Forget, Candidate, Feedback, Unjudged, Served, Unserved}
+use Rattle.stateful_p2p_tables.specs.declared.out.ActorOut.{ActorOut}
+use Rattle.stateful_p2p_tables.specs.declared.out.ActorOut.TheVariants.{Fetch, Forget, Candidate, Feedback, Unjudged, Served, Unserved}
 use Rattle.stateful_p2p.proofs.Histories.{kept, once_here, once_before, since_here, since_before, since_split, since_none, count_push}
 use Rattle.stateful_p2p.proofs.Standing.{AreFresh, drawn_fresh, ended_fresh, answered_fresh}
 use Rattle.stateful_p2p.proofs.Putting.{count_zero, all_one, all_released, all_forgot, all_retired}

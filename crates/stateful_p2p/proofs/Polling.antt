@@ -9,23 +9,24 @@ use Rattle.stateful_types.specs.declared.mailbox.Feedback.{Feedback as Reply}
 use Rattle.stateful_table.specs.Table.{at, put, without}
 use Rattle.stateful_p2p.specs.Tickets.{stands_live, stands_dropped, is_live, is_dropped, ended, ended_from, answered}
 use Rattle.stateful_p2p.specs.Messages.{is_not_of}
-use Rattle.stateful_p2p.specs.Reading.{IsResponse}
+use Rattle.stateful_p2p_codec.specs.Reading.{IsResponse}
 use Rattle.stateful_p2p.specs.Inbox.{Inbox, Asks, let_go, cancelled as cancelled_inbox, offered, offered_each, waiting_for, taken_out}
-use Rattle.stateful_p2p.specs.Fanout.{is_free}
+use Rattle.stateful_p2p_tables.specs.Deliveries.{is_free}
+use Rattle.stateful_p2p_tables.specs.Deliveries as tables
 use Rattle.stateful_p2p.specs.Fanout as fanout
 use Rattle.stateful_p2p.specs.Resolving.{Setup, may_come, Hears, Judges, Leaves, Does, Steps}
 use Rattle.stateful_p2p.specs.Resolving as resolving
 use Rattle.stateful_p2p.specs.History.{Entry, Asked, Polled, Stepped, outs_of, Once, Since, Takes, Turns}
 use Rattle.stateful_p2p.specs.Laws.{IsDrawn, IsLive, HadCandidate, WasLetGo, Retakes, HandsOver, WaitsFor}
-use Rattle.stateful_p2p.specs.declared.state.State.{State}
+use Rattle.stateful_p2p_tables.specs.declared.state.State.{State}
 use Rattle.stateful_p2p.specs.declared.message.Message.{Message}
 use Rattle.stateful_p2p.specs.declared.tickets.Standing.{Standing}
 use Rattle.stateful_p2p.specs.declared.tickets.Standing.TheVariants.{Open, Answered, Dropped}
 use Rattle.stateful_p2p.specs.declared.actor.Task.{Task}
 use Rattle.stateful_p2p.specs.declared.actor.Task.TheVariants as tasks
 use Rattle.stateful_p2p.specs.declared.event.ActorEvent.{ActorEvent}
-use Rattle.stateful_p2p.specs.declared.event.ActorOut.{ActorOut}
-use Rattle.stateful_p2p.specs.declared.event.ActorOut.TheVariants.{Fetch, Candidate, Feedback, Unjudged}
+use Rattle.stateful_p2p_tables.specs.declared.out.ActorOut.{ActorOut}
+use Rattle.stateful_p2p_tables.specs.declared.out.ActorOut.TheVariants.{Fetch, Candidate, Feedback, Unjudged}
 use Rattle.stateful_table.proofs.Tables.{at-put, at-without}
 use Rattle.stateful_p2p.proofs.Histories.{once_here, once_before, once_split, since_here, since_before, since_split}
 use Rattle.stateful_p2p.proofs.Moving.{in_none, Contains-filter}
@@ -292,7 +293,7 @@ module _ {D Op : Type 0} (u : Setup D Op) (h : List (Entry D)) (s : State D) (m 
 
 module _ {D Op : Type 0} (u : Setup D Op) (h : List (Entry D)) (s : State D) (m : Inbox D Op) (outs : List ActorOut) (now : IsCurrent h s) (here : IsPlaced h m) (polled : IsPolled h m) (waiting : IsWaiting u.operations h m) where
   -- a delivery that tickets take
-  handed : (d : ℕ) (key : Request) (bytes : List ℕ) (takers : List ℕ) (response : Response Op) → fanout.Takes s key takers → IsResponse u.operations key bytes response
+  handed : (d : ℕ) (key : Request) (bytes : List ℕ) (takers : List ℕ) (response : Response Op) → tables.Takes s key takers → IsResponse u.operations key bytes response
       → ((t : ℕ) → Contains outs (Candidate t) → Contains takers t) → ((t : ℕ) → Contains takers t → Contains outs (Candidate t))
       → IsPolled (h ++ Stepped (tasks.Deliver d key bytes) outs ∷ []) (offered_each m takers response) × IsWaiting u.operations (h ++ Stepped (tasks.Deliver d key bytes) outs ∷ []) (offered_each m takers response)
   handed d key bytes takers response takes is into outof = (

@@ -8,19 +8,19 @@ use Rattle.stateful_types.specs.Response.{response_format}
 use Rattle.stateful_types.specs.declared.request.Request.{Request}
 use Rattle.stateful_types.specs.declared.request.Request.TheVariants as requests
 use Rattle.stateful_p2p.specs.Inbox.{Inbox}
-use Rattle.stateful_p2p.specs.Fanout.{Releases, has_none, releases, Forgets, stranger, forgets, Retires, nobody, unfetched, fetched}
+use Rattle.stateful_p2p_tables.specs.Deliveries.{Releases, has_none, releases, Forgets, stranger, forgets, Retires, nobody, unfetched, fetched}
 use Rattle.stateful_p2p.specs.Fanout as fanout
 use Rattle.stateful_p2p.specs.Resolving.{Setup, asks_too_many, may_come, Hears, Judges, Leaves, Produces, Answers, sent, Does, Steps}
 use Rattle.stateful_p2p.specs.Resolving as resolving
 use Rattle.stateful_p2p.specs.History.{Entry, Stepped, outs_of, count_outs, Takes, Turns}
 use Rattle.stateful_p2p.specs.Laws.{AsksTooMuch, Gives, Sent, Serves, IsOfDatabase, is_served}
-use Rattle.stateful_p2p.specs.declared.state.State.{State}
+use Rattle.stateful_p2p_tables.specs.declared.state.State.{State}
 use Rattle.stateful_p2p.specs.declared.message.Message.{Message}
 use Rattle.stateful_p2p.specs.declared.actor.Task.{Task}
 use Rattle.stateful_p2p.specs.declared.actor.Task.TheVariants as tasks
 use Rattle.stateful_p2p.specs.declared.event.ActorEvent.{ActorEvent}
-use Rattle.stateful_p2p.specs.declared.event.ActorOut.{ActorOut}
-use Rattle.stateful_p2p.specs.declared.event.ActorOut.TheVariants.{Fetch, Served, Unserved}
+use Rattle.stateful_p2p_tables.specs.declared.out.ActorOut.{ActorOut}
+use Rattle.stateful_p2p_tables.specs.declared.out.ActorOut.TheVariants.{Fetch, Served, Unserved}
 use Rattle.stateful_p2p.proofs.Histories.{count_push}
 use Rattle.stateful_p2p.proofs.Moving.{count_append, count_cons}
 use Rattle.stateful_p2p.proofs.Putting.{count_zero, all_retired, all_judged, all_left, all_delivered}

@@ -5,13 +5,14 @@ use Rattle.std.proofs.lemmas.List.Sums.{sum_by-append, sum_by-cons}
 use Rattle.std.proofs.lemmas.List.Elements.{All-nil, All-cons, All-head, All-tail, All-append, All-contains}
 use Rattle.stateful_base.specs.Format.{Format}
 use Rattle.stateful_types.specs.declared.request.Request.{Request}
-use Rattle.stateful_p2p.specs.Fanout.{outcome, heard, Releases, has_none, releases, Forgets, forgets, Retires, nobody, unfetched, fetched, Delivers, unheard, malformed, untaken, taken}
+use Rattle.stateful_p2p_tables.specs.Deliveries.{outcome, heard, Releases, has_none, releases, Forgets, forgets, Retires, nobody, unfetched, fetched}
+use Rattle.stateful_p2p.specs.Fanout.{Delivers, unheard, malformed, untaken, taken}
 use Rattle.stateful_p2p.specs.Inbox.{Inbox}
 use Rattle.stateful_p2p.specs.Resolving.{Setup, Judges, accepts, rejects, Leaves, leaves_unfetched, Produces, sent}
 use Rattle.stateful_p2p.specs.History.{Entry, outs_of, count_outs, Once}
-use Rattle.stateful_p2p.specs.declared.state.State.{State}
-use Rattle.stateful_p2p.specs.declared.event.ActorOut.{ActorOut}
-use Rattle.stateful_p2p.specs.declared.event.ActorOut.TheVariants.{Forget, Candidate, Feedback, Unjudged, Served, Unserved}
+use Rattle.stateful_p2p_tables.specs.declared.state.State.{State}
+use Rattle.stateful_p2p_tables.specs.declared.out.ActorOut.{ActorOut}
+use Rattle.stateful_p2p_tables.specs.declared.out.ActorOut.TheVariants.{Forget, Candidate, Feedback, Unjudged, Served, Unserved}
 use Rattle.stateful_p2p.proofs.Moving.{count_cons}
 
 -- what is of no kind isn't counted

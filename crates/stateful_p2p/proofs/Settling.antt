@@ -19,13 +19,13 @@ use Rattle.std.proofs.lemmas.List.Kept.{IsStrictlySortedBy-filter}
 use Rattle.std.proofs.lemmas.List.Elements.{All-nil, All-cons, All-head, All-tail, All-weaker, All-from_recursion, recursion_from_All}
 use Rattle.stateful_types.specs.declared.request.Request.{Request}
 use Rattle.stateful_table.specs.Table.{at, put, without, put_each, total}
-use Rattle.stateful_p2p.specs.Fanout.{outcome, heard, settled_by, kept, waiting_on, awaited_of, IsSound, Releases, has_none, releases, Forgets, stranger, forgets, Retires, nobody, unfetched, fetched}
+use Rattle.stateful_p2p_tables.specs.Deliveries.{outcome, heard, settled_by, kept, waiting_on, awaited_of, IsSound, Releases, has_none, releases, Forgets, stranger, forgets, Retires, nobody, unfetched, fetched}
 use Rattle.stateful_p2p.specs.Fanout as fanout
 use Rattle.stateful_p2p.specs.Laws.{is_answer_to}
-use Rattle.stateful_p2p.specs.declared.state.State.{State}
-use Rattle.stateful_p2p.specs.declared.state.Verdicts.{Verdicts}
+use Rattle.stateful_p2p_tables.specs.declared.state.State.{State}
+use Rattle.stateful_p2p_tables.specs.declared.state.Verdicts.{Verdicts}
 use Rattle.stateful_base.specs.Format.{Format}
-use Rattle.stateful_p2p.specs.Subscribing.{subscribed}
+use Rattle.stateful_p2p_tables.specs.Subscribing.{subscribed}
 use Rattle.stateful_p2p.specs.Inbox.{Inbox}
 use Rattle.stateful_p2p.specs.Resolving.{Setup, Hears, Judges, Leaves, Produces, Does}
 use Rattle.stateful_p2p.specs.Resolving as resolving
@@ -35,10 +35,10 @@ use Rattle.stateful_p2p.specs.declared.actor.Task.{Task}
 use Rattle.stateful_p2p.specs.declared.actor.Task.TheVariants as tasks
 use Rattle.stateful_p2p.specs.declared.event.ActorEvent.{ActorEvent}
 use Rattle.stateful_p2p.specs.declared.event.ActorEvent.TheVariants as events
-use Rattle.stateful_p2p.specs.declared.event.ActorOut.{ActorOut}
-use Rattle.stateful_p2p.specs.declared.event.ActorOut.TheVariants.{Fetch, Forget, Candidate, Feedback, Unjudged}
+use Rattle.stateful_p2p_tables.specs.declared.out.ActorOut.{ActorOut}
+use Rattle.stateful_p2p_tables.specs.declared.out.ActorOut.TheVariants.{Fetch, Forget, Candidate, Feedback, Unjudged}
 use Rattle.stateful_table.proofs.Tables.{at-put, at-without, is_at_number, remove_is_without}
-use Rattle.stateful_p2p.proofs.Counting.{on, released_sound, heard_less}
+use Rattle.stateful_p2p_tables.proofs.Counting.{on, released_sound, heard_less}
 use Rattle.stateful_p2p.proofs.Moving.{count_append, count_cons}
 use Rattle.stateful_p2p.proofs.Putting.{count_zero, all_produced}
 use Rattle.stateful_p2p.proofs.Spreading.{awaiting_sound}

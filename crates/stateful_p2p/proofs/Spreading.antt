@@ -13,10 +13,11 @@ use Rattle.std.specs.Map.{values_of}
 use Rattle.std.proofs.lemmas.List.Sums.{sum_by-cons}
 use Rattle.stateful_types.specs.declared.request.Request.{Request}
 use Rattle.stateful_table.specs.Table.{at, put, put_each, total}
-use Rattle.stateful_p2p.specs.Fanout.{IsSound, Takes, waiting_on, awaited_of, is_free, delivered, awaiting}
-use Rattle.stateful_p2p.specs.declared.state.State.{State}
+use Rattle.stateful_p2p_tables.specs.Deliveries.{IsSound, Takes, waiting_on, awaited_of, is_free, awaiting}
+use Rattle.stateful_p2p.specs.Fanout.{delivered}
+use Rattle.stateful_p2p_tables.specs.declared.state.State.{State}
 use Rattle.stateful_table.proofs.Tables.{at-put, is_at_number}
-use Rattle.stateful_p2p.proofs.Counting.{on}
+use Rattle.stateful_p2p_tables.proofs.Counting.{on}
 
 module _ {V : Type 0} (weigh : V → ℕ) where
   total_cons : (e : ℕ × V) (es : List (ℕ × V)) → total weigh (e ∷ es) ≡ weigh e.1 + total weigh es

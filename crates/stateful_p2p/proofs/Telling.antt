@@ -11,18 +11,20 @@ use Rattle.stateful_base.specs.Format.{Format}
 use Rattle.stateful_types.specs.declared.request.Request.{Request}
 use Rattle.stateful_table.specs.Table.{at}
 use Rattle.stateful_p2p.specs.Inbox.{Inbox}
-use Rattle.stateful_p2p.specs.Fanout.{is_free, Releases, Forgets, stranger, forgets, Retires, nobody, unfetched, fetched, Delivers}
+use Rattle.stateful_p2p_tables.specs.Deliveries.{is_free, Releases, Forgets, stranger, forgets, Retires, nobody, unfetched, fetched}
+use Rattle.stateful_p2p.specs.Fanout.{Delivers}
+use Rattle.stateful_p2p_tables.specs.Deliveries as tables
 use Rattle.stateful_p2p.specs.Fanout as fanout
-use Rattle.stateful_p2p.specs.Resolving.{Setup, IsNew, may_come, Hears, Judges, Leaves, Produces, sent, Does, Steps}
+use Rattle.stateful_p2p.specs.Resolving.{Setup, may_come, Hears, Judges, Leaves, Produces, sent, Does, Steps}
 use Rattle.stateful_p2p.specs.Resolving as resolving
 use Rattle.stateful_p2p.specs.History.{Entry, count_outs, Takes, Turns}
 use Rattle.stateful_p2p.specs.Laws.{IsLive, IsSubscriber, IsFree, AreThose, IsAnswer, IsLeft, Spreads, Puts, Tells, TellsAt, is_fetch_of, is_forget_of}
-use Rattle.stateful_p2p.specs.declared.state.State.{State}
+use Rattle.stateful_p2p_tables.specs.declared.state.State.{State}
 use Rattle.stateful_p2p.specs.declared.message.Message.{Message}
 use Rattle.stateful_p2p.specs.declared.actor.Task.{Task}
 use Rattle.stateful_p2p.specs.declared.actor.Task.TheVariants as tasks
 use Rattle.stateful_p2p.specs.declared.event.ActorEvent.{ActorEvent}
-use Rattle.stateful_p2p.specs.declared.event.ActorOut.{ActorOut}
+use Rattle.stateful_p2p_tables.specs.declared.out.ActorOut.{ActorOut}
 use Rattle.stateful_p2p.proofs.Moving.{in_cons, in_none, Contains-filter}
 use Rattle.stateful_p2p.proofs.Putting.{once_counted, all_released, all_forgot}
 use Rattle.stateful_p2p.proofs.Placing.{IsPlaced, same_message}
@@ -63,11 +65,11 @@ none_is_free None none = refl
 none_is_free (Some x) none = absurd (none x refl)
 
 module _ {D Op : Type 0} (operations : Format Op) (h : List (Entry D)) (s : State D) (now : IsCurrent h s) where
-  some_subscriber : (key : Request) (takers : List ℕ) → fanout.Takes s key takers → (t : ℕ) × IsSubscriber h key t
+  some_subscriber : (key : Request) (takers : List ℕ) → tables.Takes s key takers → (t : ℕ) × IsSubscriber h key t
   some_subscriber key takers takes = let first = first_of takes.subscribers takes.some in (first.0, (now.subs first.0 key).0 ((takes.are.members first.0).0 first.1))
 
   -- those who take a candidate are the free subscribers
-  those_free : (key : Request) (takers : List ℕ) → fanout.Takes s key takers → AreThose (IsFree h key) takers
+  those_free : (key : Request) (takers : List ℕ) → tables.Takes s key takers → AreThose (IsFree h key) takers
   those_free key takers takes = record {
     ascending = subst (IsStrictlySortedBy nat_cmp) (sym takes.free) (IsStrictlySortedBy-filter nat_cmp (is_free s.unjudged) takes.subscribers takes.are.ascending);
     members = λ t. (λ there. to t (subst (λ w. Contains w t) takes.free there), λ free. subst (λ w. Contains w t) (sym takes.free) (from t free));

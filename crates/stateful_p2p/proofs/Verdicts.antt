@@ -8,21 +8,21 @@ use Rattle.stateful_base.specs.Format.{Format}
 use Rattle.stateful_types.specs.declared.request.Request.{Request}
 use Rattle.stateful_table.specs.Table.{at, put, without}
 use Rattle.stateful_p2p.specs.Inbox.{Inbox}
-use Rattle.stateful_p2p.specs.Fanout.{outcome, heard, settled_by, kept, Releases, has_none, releases, Forgets, stranger, forgets, Retires, nobody, unfetched, fetched}
+use Rattle.stateful_p2p_tables.specs.Deliveries.{outcome, heard, settled_by, kept, Releases, has_none, releases, Forgets, stranger, forgets, Retires, nobody, unfetched, fetched}
 use Rattle.stateful_p2p.specs.Fanout as fanout
 use Rattle.stateful_p2p.specs.Resolving.{Setup, may_come, Hears, Judges, Leaves, Produces, Does, Steps}
 use Rattle.stateful_p2p.specs.Resolving as resolving
 use Rattle.stateful_p2p.specs.History.{Entry, Stepped, Takes}
 use Rattle.stateful_p2p.specs.Laws.{HasToJudge, GivesVerdict, HasJudged, Delivers}
-use Rattle.stateful_p2p.specs.declared.state.State.{State}
-use Rattle.stateful_p2p.specs.declared.state.Verdicts.{Verdicts}
+use Rattle.stateful_p2p_tables.specs.declared.state.State.{State}
+use Rattle.stateful_p2p_tables.specs.declared.state.Verdicts.{Verdicts}
 use Rattle.stateful_p2p.specs.declared.message.Message.{Message}
 use Rattle.stateful_p2p.specs.declared.actor.Task.{Task}
 use Rattle.stateful_p2p.specs.declared.actor.Task.TheVariants as tasks
 use Rattle.stateful_p2p.specs.declared.event.ActorEvent.{ActorEvent}
 use Rattle.stateful_p2p.specs.declared.event.ActorEvent.TheVariants as events
-use Rattle.stateful_p2p.specs.declared.event.ActorOut.{ActorOut}
-use Rattle.stateful_p2p.specs.declared.event.ActorOut.TheVariants.{Fetch, Forget, Feedback, Unjudged}
+use Rattle.stateful_p2p_tables.specs.declared.out.ActorOut.{ActorOut}
+use Rattle.stateful_p2p_tables.specs.declared.out.ActorOut.TheVariants.{Fetch, Forget, Feedback, Unjudged}
 use Rattle.stateful_table.proofs.Tables.{at-put, at-without}
 use Rattle.stateful_p2p.proofs.Histories.{once_here, once_before, once_split}
 use Rattle.stateful_p2p.proofs.Putting.{all_one, all_candidates, all_produced}

@@ -6,12 +6,12 @@ use Rattle.stateful_types.specs.declared.request.Request.{Request}
 use Rattle.stateful_p2p.specs.Inbox.{Inbox, Asks, Attaches, cancelled, taken_out}
 use Rattle.stateful_p2p.specs.Resolving.{Setup, may_come, Steps}
 use Rattle.stateful_p2p.specs.declared.message.Message.{Message}
-use Rattle.stateful_p2p.specs.declared.state.State.{State}
+use Rattle.stateful_p2p_tables.specs.declared.state.State.{State}
 use Rattle.stateful_p2p.specs.declared.actor.Task.{Task}
 use Rattle.stateful_p2p.specs.declared.actor.Task.TheVariants as tasks
 use Rattle.stateful_p2p.specs.declared.event.ActorEvent.{ActorEvent}
 use Rattle.stateful_p2p.specs.declared.event.ActorEvent.TheVariants as events
-use Rattle.stateful_p2p.specs.declared.event.ActorOut.{ActorOut}
+use Rattle.stateful_p2p_tables.specs.declared.out.ActorOut.{ActorOut}
 
 -- One call on the mailbox, or one event with the message that it took from the mailbox, and what
 -- was put out.

@@ -15,21 +15,21 @@ use Rattle.stateful_db_source.specs.declared.source.ServeFault.{ServeFault}
 use Rattle.stateful_db_source.specs.declared.source.ServeFault.TheVariants as faults
 use Rattle.stateful_p2p.specs.Inbox.{Inbox, waiting_for}
 use Rattle.stateful_p2p.specs.Tickets.{is_dropped}
-use Rattle.stateful_p2p.specs.Reading.{IsResponse}
+use Rattle.stateful_p2p_codec.specs.Reading.{IsResponse}
 use Rattle.stateful_p2p.specs.Resolving.{Setup, may_come}
 use Rattle.stateful_p2p.specs.History.{Entry, Asked, Cancelled, Polled, Stepped, outs_of}
 use Rattle.stateful_p2p.specs.History.{count_outs, Once, Always, Since, Runs}
-use Rattle.stateful_p2p.specs.declared.state.State.{State}
+use Rattle.stateful_p2p_tables.specs.declared.state.State.{State}
 use Rattle.stateful_p2p.specs.declared.message.Message.{Message}
 use Rattle.stateful_p2p.specs.declared.message.Message.TheVariants.{AttachDatabase, GetOperations}
 use Rattle.stateful_p2p.specs.declared.actor.Task.{Task}
 use Rattle.stateful_p2p.specs.declared.actor.Task.TheVariants.{Hear, Deliver, Judge, Leave, Produce}
 use Rattle.stateful_p2p.specs.declared.event.ActorEvent.{ActorEvent}
 use Rattle.stateful_p2p.specs.declared.event.ActorEvent.TheVariants as events
-use Rattle.stateful_p2p.specs.declared.event.ActorOut.{ActorOut}
-use Rattle.stateful_p2p.specs.declared.event.ActorOut.TheVariants.{Fetch, Forget, Candidate}
-use Rattle.stateful_p2p.specs.declared.event.ActorOut.TheVariants.{Feedback, Unjudged, Served}
-use Rattle.stateful_p2p.specs.declared.event.ActorOut.TheVariants.{Unserved}
+use Rattle.stateful_p2p_tables.specs.declared.out.ActorOut.{ActorOut}
+use Rattle.stateful_p2p_tables.specs.declared.out.ActorOut.TheVariants.{Fetch, Forget, Candidate}
+use Rattle.stateful_p2p_tables.specs.declared.out.ActorOut.TheVariants.{Feedback, Unjudged, Served}
+use Rattle.stateful_p2p_tables.specs.declared.out.ActorOut.TheVariants.{Unserved}
 
 -- ---- tickets
 

@@ -1,13 +1,10 @@
 pub mod Sending
 pub mod Messages
-pub mod Subscribing
 pub mod Tickets
 pub mod Inbox
-pub mod Reading
 pub mod Fanout
 pub mod Resolving
 pub mod Tasks
 pub mod Handling
-pub mod Limits
 pub mod History
 pub mod Laws

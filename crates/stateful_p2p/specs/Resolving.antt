@@ -14,17 +14,18 @@ use Rattle.stateful_types.specs.declared.response.Response.{Response}
 use Rattle.stateful_db_source.specs.declared.source.ServeFault.{ServeFault}
 use Rattle.stateful_db_source.specs.declared.source.ServeFault.TheVariants as faults
 use Rattle.stateful_table.specs.Table.{at, without}
-use Rattle.stateful_p2p.specs.Subscribing.{subscribed}
+use Rattle.stateful_p2p_tables.specs.Subscribing.{subscribed}
 use Rattle.stateful_p2p.specs.Tickets.{is_live, ended}
 use Rattle.stateful_p2p.specs.Inbox.{Inbox, let_go}
-use Rattle.stateful_p2p.specs.Fanout.{Releases, Forgets, Retires, Delivers}
-use Rattle.stateful_p2p.specs.declared.state.State.{State}
+use Rattle.stateful_p2p_tables.specs.Deliveries.{Releases, Forgets, Retires}
+use Rattle.stateful_p2p.specs.Fanout.{Delivers}
+use Rattle.stateful_p2p_tables.specs.declared.state.State.{State}
 use Rattle.stateful_p2p.specs.declared.message.Message.{Message}
 use Rattle.stateful_p2p.specs.declared.message.Message.TheVariants.{AttachDatabase, GetOperations}
 use Rattle.stateful_p2p.specs.declared.event.ActorEvent.{ActorEvent}
 use Rattle.stateful_p2p.specs.declared.event.ActorEvent.TheVariants as events
-use Rattle.stateful_p2p.specs.declared.event.ActorOut.{ActorOut}
-use Rattle.stateful_p2p.specs.declared.event.ActorOut.TheVariants.{Fetch, Forget, Served, Unserved}
+use Rattle.stateful_p2p_tables.specs.declared.out.ActorOut.{ActorOut}
+use Rattle.stateful_p2p_tables.specs.declared.out.ActorOut.TheVariants.{Fetch, Forget, Served, Unserved}
 
 -- how operations are spelled, what the databases answer, and how many operations are served at most
 pub record Setup (D Op : Type 0) : Type 1 where
@@ -54,15 +55,6 @@ abbrev pub IsExhausting : ActorEvent → Type 0
 IsExhausting (events.Deliver d key bytes) = d ≡ 2 ^ 64 - 1
 IsExhausting (events.Produce n key) = n ≡ 2 ^ 64 - 1
 IsExhausting event = ⊥
-
--- a resolver that has taken nothing in
-pub record IsNew {D : Type 0} (s : State D) : Type 0 where
-  pub no_database : s.database ≡ None
-  pub nobody : s.subscriptions ≡ []
-  pub nothing : s.unjudged ≡ []
-  pub none : s.deliveries ≡ []
-  pub first_delivery : s.next_delivery ≡ 0
-  pub first_serve : s.next_serve ≡ 0
 
 module _ {D Op : Type 0} where
   -- An event may come where a message waits that it takes, the ticket that it names is live and has

@@ -18,22 +18,25 @@ ghost use Rattle.std.specs.Prelude.{◌≡◌, ◌≢◌, ◌≤◌, ◌^◌, �
 ghost use Rattle.std.specs.Prelude.{IsTrue, IsNone, IfOk, OnOk, IfErr, IfSome, IsErrOf};
 ghost use Rattle.std.specs.Int.NonZero.{non_zero_u64_get};
 ghost use Rattle.stateful_types.specs.Mailbox.{HandsOut};
+ghost use Rattle.stateful_p2p_tables.specs.New.{IsNew};
+ghost use Rattle.stateful_p2p_tables.specs.Deliveries.{IsSound};
+ghost use Rattle.stateful_p2p_tables.specs.declared.out.ActorOut.{ActorOut};
 ghost use Rattle.stateful_p2p.specs.Inbox.{Inbox, empty_inbox};
-ghost use Rattle.stateful_p2p.specs.Fanout.{IsSound};
 ghost use Rattle.stateful_p2p.specs.Laws.{KeepsLaws};
-ghost use Rattle.stateful_p2p.specs.Resolving.{setup, IsNew, may_come, IsExhausting, Hears, Does};
+ghost use Rattle.stateful_p2p.specs.Resolving.{setup, may_come, IsExhausting, Hears, Does};
 ghost use Rattle.stateful_p2p.specs.Resolving.{Steps};
 ghost use Rattle.stateful_p2p.specs.Tasks.{Admits, IsTimely, is_new_number, has_last_number};
-ghost use Rattle.stateful_p2p.specs.declared.event.ActorOut.{ActorOut};
 ghost use Rattle.stateful_p2p.specs.declared.event.ActorEvent.{ActorEvent};
 
 use crate::error::ActorError;
-use crate::event::{ActorEvent, ActorOut};
+use crate::event::ActorEvent;
+use crate::fanout::{deliver, judge, leave};
 use crate::mailbox::Mailbox;
 use crate::message::Message;
-use crate::state::State;
+use crate::serving::produce;
 use bytes::Bytes;
 use stateful_db_source::SyncSource;
+use stateful_p2p_tables::{ActorOut, State};
 use stateful_types::{OutOfMemory, Request};
 use std::alloc::Global;
 use std::num::NonZeroU64;
@@ -141,17 +144,20 @@ impl<D: SyncSource> Actor<D> {
         if self.failed {
             return Err(ActorError::Failed);
         }
-        let Some(task) = self.state.admit(mailbox, event) else {
+        let Some(task) = admit(&self.state, mailbox, event) else {
             return Err(ActorError::BadEvent);
         };
         if task.has_last_number() {
             self.failed = true;
             return Err(ActorError::Exhausted);
         }
-        match self
-            .state
-            .perform(self.alloc, self.max_serve_ops.get(), mailbox, task)
-        {
+        match perform(
+            self.alloc,
+            self.max_serve_ops.get(),
+            &mut self.state,
+            mailbox,
+            task,
+        ) {
             Ok(outs) => Ok(outs),
             Err(OutOfMemory) => {
                 self.failed = true;
@@ -174,103 +180,103 @@ impl<D> Task<D> {
     }
 }
 
-impl<D: SyncSource> State<D> {
-    /// What an event is, with the message that it takes. None exactly where it may not come, and
-    /// then nothing has changed.
-    fn admit(&self, mailbox: &mut Mailbox<D>, event: ActorEvent) -> Option<Task<D>>
-        ensures admits { IfSome result (λ task.
-            Admits mailbox.old event task mailbox.new) }
-        ensures new { IfSome result (λ task. is_new_number self.now task ≡ true) }
-        ensures none { IsNone result ↔ (may_come self.now mailbox.old event ≡ false) }
-        ensures unchanged { IsNone result → mailbox.new ≡ mailbox.old }
-    {
-        match event {
-            ActorEvent::Message => Some(Task::Hear(mailbox.take()?)),
-            ActorEvent::Deliver {
-                delivery,
-                key,
-                value,
-            } if self.next_delivery <= delivery => Some(Task::Deliver {
-                delivery,
-                key,
-                value,
-            }),
-            ActorEvent::Judge { ticket, valid }
-                if mailbox.is_live(ticket) && self.unjudged.contains(ticket) => {
-                Some(Task::Judge { ticket, valid })
-            }
-            ActorEvent::Leave { ticket } if mailbox.is_live(ticket) => {
-                Some(Task::Leave { ticket })
-            }
-            ActorEvent::Produce { serve, key } if self.next_serve <= serve => {
-                Some(Task::Produce { serve, key })
-            }
-            _ => None,
+/// What an event is, with the message that it takes. None exactly where it may not come, and
+/// then nothing has changed.
+fn admit<D: SyncSource>(
+    state: &State<D>,
+    mailbox: &mut Mailbox<D>,
+    event: ActorEvent,
+) -> Option<Task<D>>
+    ensures admits { IfSome result (λ task.
+        Admits mailbox.old event task mailbox.new) }
+    ensures new { IfSome result (λ task. is_new_number state.now task ≡ true) }
+    ensures none { IsNone result ↔ (may_come state.now mailbox.old event ≡ false) }
+    ensures unchanged { IsNone result → mailbox.new ≡ mailbox.old }
+{
+    match event {
+        ActorEvent::Message => Some(Task::Hear(mailbox.take()?)),
+        ActorEvent::Deliver {
+            delivery,
+            key,
+            value,
+        } if state.next_delivery <= delivery => Some(Task::Deliver {
+            delivery,
+            key,
+            value,
+        }),
+        ActorEvent::Judge { ticket, valid }
+            if mailbox.is_live(ticket) && state.unjudged.contains(ticket) => {
+            Some(Task::Judge { ticket, valid })
+        }
+        ActorEvent::Leave { ticket } if mailbox.is_live(ticket) => { Some(Task::Leave { ticket }) }
+        ActorEvent::Produce { serve, key } if state.next_serve <= serve => {
+            Some(Task::Produce { serve, key })
+        }
+        _ => None,
+    }
+}
+
+/// Forgets the tickets that were cancelled, and does the task.
+fn perform<D: SyncSource>(
+    alloc: Global,
+    max_serve_ops: u64,
+    state: &mut State<D>,
+    mailbox: &mut Mailbox<D>,
+    task: Task<D>,
+) -> Result<Vec<ActorOut>, OutOfMemory>
+    requires sound { IsSound state.old }
+    requires fits { IsTimely state.old task }
+
+    // Whichever event it is, out of whichever mailbox it was taken.
+    ensures steps { IfOk result (λ outs. (before : Inbox D D.Op) (event : ActorEvent)
+        → Admits before event task mailbox.old
+        → Steps (setup D.Op.operations D.serves max_serve_ops)
+        state.old before event outs.items state.new mailbox.new) }
+    ensures sound { OnOk result (IsSound state.new) }
+{
+    let mut outs = Vec::new(alloc);
+    let gone = mailbox.take_cancelled(alloc)?;
+    state.retire(alloc, gone.as_slice(), &mut outs)?;
+    match task {
+        Task::Hear(message) => hear(state, mailbox, message, &mut outs)?,
+        Task::Deliver {
+            delivery,
+            key,
+            value,
+        } => deliver(alloc, state, mailbox, delivery, key, value, &mut outs)?,
+        Task::Judge { ticket, valid } => judge(state, mailbox, ticket, valid, &mut outs)?,
+        Task::Leave { ticket } => leave(state, mailbox, ticket, &mut outs)?,
+        Task::Produce { serve, key } => {
+            produce(alloc, max_serve_ops, state, serve, key, &mut outs)?;
         }
     }
+    Ok(outs)
+}
 
-    /// Forgets the tickets that were cancelled, and does the task.
-    fn perform(
-        &mut self,
-        alloc: Global,
-        max_serve_ops: u64,
-        mailbox: &mut Mailbox<D>,
-        task: Task<D>,
-    ) -> Result<Vec<ActorOut>, OutOfMemory>
-        requires sound { IsSound self.old }
-        requires fits { IsTimely self.old task }
-
-        // Whichever event it is, out of whichever mailbox it was taken.
-        ensures steps { IfOk result (λ outs. (before : Inbox D D.Op) (event : ActorEvent)
-            → Admits before event task mailbox.old
-            → Steps (setup D.Op.operations D.serves max_serve_ops)
-            self.old before event outs.items self.new mailbox.new) }
-        ensures sound { OnOk result (IsSound self.new) }
-    {
-        let mut outs = Vec::new(alloc);
-        let gone = mailbox.take_cancelled(alloc)?;
-        self.retire(alloc, gone.as_slice(), &mut outs)?;
-        match task {
-            Task::Hear(message) => self.hear(mailbox, message, &mut outs)?,
-            Task::Deliver {
-                delivery,
-                key,
-                value,
-            } => self.deliver(alloc, mailbox, delivery, key, value, &mut outs)?,
-            Task::Judge { ticket, valid } => self.judge(mailbox, ticket, valid, &mut outs)?,
-            Task::Leave { ticket } => self.leave(mailbox, ticket, &mut outs)?,
-            Task::Produce { serve, key } => {
-                self.produce(alloc, max_serve_ops, serve, key, &mut outs)?;
+/// A database is served from now on, or a request is fetched, unless its ticket was let go.
+fn hear<D: SyncSource>(
+    state: &mut State<D>,
+    mailbox: &Mailbox<D>,
+    message: Message<D>,
+    outs: &mut Vec<ActorOut>,
+) -> Result<(), OutOfMemory>
+    requires { IsSound state.old }
+    ensures hears { OnOk result ((done : List ActorOut)
+        × Hears state.old mailbox.now message done state.new
+        × (outs.new.items ≡ outs.old.items ++ done)) }
+    ensures sound { OnOk result (IsSound state.new) }
+{
+    match message {
+        Message::AttachDatabase(database) => state.database = Some(database),
+        Message::GetOperations { ticket, request } => {
+            if mailbox.is_live(ticket) {
+                state.subscriptions.insert(ticket, request)?;
+                outs.push(ActorOut::Fetch {
+                    ticket,
+                    key: request,
+                })?;
             }
         }
-        Ok(outs)
     }
-
-    /// A database is served from now on, or a request is fetched, unless its ticket was let go.
-    fn hear(
-        &mut self,
-        mailbox: &Mailbox<D>,
-        message: Message<D>,
-        outs: &mut Vec<ActorOut>,
-    ) -> Result<(), OutOfMemory>
-        requires { IsSound self.old }
-        ensures hears { OnOk result ((done : List ActorOut)
-            × Hears self.old mailbox.now message done self.new
-            × (outs.new.items ≡ outs.old.items ++ done)) }
-        ensures sound { OnOk result (IsSound self.new) }
-    {
-        match message {
-            Message::AttachDatabase(database) => self.database = Some(database),
-            Message::GetOperations { ticket, request } => {
-                if mailbox.is_live(ticket) {
-                    self.subscriptions.insert(ticket, request)?;
-                    outs.push(ActorOut::Fetch {
-                        ticket,
-                        key: request,
-                    })?;
-                }
-            }
-        }
-        Ok(())
-    }
+    Ok(())
 }

@@ -1,4 +1,4 @@
-//! Why the resolver, its mailbox and its limits refuse.
+//! Why the resolver and its mailbox refuse.
 
 ghost use Rattle.std.specs.Prelude.{◌≡◌};
 ghost use Rattle.stateful_p2p.specs.declared.error.ActorError.TheVariants as errors;
@@ -38,8 +38,3 @@ impl From<OutOfMemory> for ActorError {
 #[derive(Clone, Copy, Debug, PartialEq, Eq, Error)]
 #[error("response dropped before completion")]
 pub struct ResponseDropped;
-
-/// More than 4294967295 operations a request.
-#[derive(Clone, Copy, Debug, PartialEq, Eq, Error)]
-#[error("operations per request must fit in u32")]
-pub struct TooManyOps;

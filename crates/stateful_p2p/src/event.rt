@@ -1,4 +1,4 @@
-//! What happens to a resolver, and what is to be done for it.
+//! What happens to a resolver.
 
 use bytes::Bytes;
 use stateful_types::Request;
@@ -28,23 +28,4 @@ pub enum ActorEvent {
         serve: u64,
         key: Request,
     },
-}
-
-/// What is to be done.
-#[derive(Debug, Drop)]
-pub enum ActorOut {
-    /// The key is fetched for this ticket.
-    Fetch { ticket: u64, key: Request },
-    /// The fetch for this ticket is given up.
-    Forget { ticket: u64 },
-    /// A candidate waits in the mailbox for this ticket.
-    Candidate { ticket: u64 },
-    /// The delivery is good, or it isn't.
-    Feedback { delivery: u64, valid: bool },
-    /// Nobody judges the delivery.
-    Unjudged { delivery: u64 },
-    /// The peer is sent these bytes.
-    Served { serve: u64, bytes: Bytes },
-    /// The peer is sent nothing.
-    Unserved { serve: u64 },
 }

@@ -9,38 +9,35 @@
 
 ghost use Rattle.std.specs.Prelude.{◌≡◌, ◌^◌, ◌-◌, ◌<◌, ◌++◌, ◌⊎◌, List, IfOk, OnOk};
 ghost use Rattle.stateful_p2p.specs.Resolving.{setup, asks_too_many, Produces, Answers};
-ghost use Rattle.stateful_p2p.specs.declared.event.ActorOut.{ActorOut};
+ghost use Rattle.stateful_p2p_tables.specs.declared.out.ActorOut.{ActorOut};
 
-use crate::event::ActorOut;
-use crate::state::State;
 use bytes::Bytes;
 use stateful_db_source::{ServeFault, SyncSource};
+use stateful_p2p_tables::{ActorOut, State};
 use stateful_types::{OutOfMemory, Request};
 use std::alloc::Global;
 
-impl<D: SyncSource> State<D> {
-    /// A peer asks for what this key names.
-    pub(crate) fn produce(
-        &mut self,
-        alloc: Global,
-        max_serve_ops: u64,
-        serve: u64,
-        key: Request,
-        outs: &mut Vec<ActorOut>,
-    ) -> Result<(), OutOfMemory>
-        requires { serve < 2 ^ 64 - 1 }
-        ensures { OnOk result ((done : List ActorOut)
-            × Produces (setup D.Op.operations D.serves max_serve_ops) self.old serve key done
-            self.new
-            × (outs.new.items ≡ outs.old.items ++ done)) }
-    {
-        self.next_serve = serve + 1;
-        match answer::<D>(alloc, &mut self.database, max_serve_ops, key)? {
-            Some(bytes) => outs.push(ActorOut::Served { serve, bytes })?,
-            None => outs.push(ActorOut::Unserved { serve })?,
-        }
-        Ok(())
+/// A peer asks for what this key names.
+pub(crate) fn produce<D: SyncSource>(
+    alloc: Global,
+    max_serve_ops: u64,
+    state: &mut State<D>,
+    serve: u64,
+    key: Request,
+    outs: &mut Vec<ActorOut>,
+) -> Result<(), OutOfMemory>
+    requires { serve < 2 ^ 64 - 1 }
+    ensures { OnOk result ((done : List ActorOut)
+        × Produces (setup D.Op.operations D.serves max_serve_ops) state.old serve key done
+        state.new
+        × (outs.new.items ≡ outs.old.items ++ done)) }
+{
+    state.next_serve = serve + 1;
+    match answer::<D>(alloc, &mut state.database, max_serve_ops, key)? {
+        Some(bytes) => outs.push(ActorOut::Served { serve, bytes })?,
+        None => outs.push(ActorOut::Unserved { serve })?,
     }
+    Ok(())
 }
 
 /// The bytes of the database's answer, if it gives one.

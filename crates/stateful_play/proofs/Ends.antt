@@ -1,25 +1,19 @@
 -- How a run ends, by what it wrote and what it played.
-use Rattle.std.proofs.Common.{◌≡◌, ◌≢◌, ℕ, ◌⊎◌, inl, inr, Bool, true, List, Option, None, Some, IsNone, IsSomeAnd, refl, sym, ◌∙◌, arith}
+use Rattle.std.proofs.Common.{◌≡◌, ◌≢◌, ℕ, ◌⊎◌, inl, inr, Bool, true, List, Option, None, Some, IsNone, IsSomeAnd, refl, sym, ◌∙◌}
 use Rattle.std.specs.Io.KnownBytes.{Appends}
-use Rattle.stateful_types.proofs.Known.{appends_none}
 use Rattle.stateful_actor.specs.declared.driving.Halted.{Halted}
 use Rattle.stateful_play_bank.specs.declared.playing.Played.{Played}
-use Rattle.stateful_play.specs.declared.status.Status.{Status}
-use Rattle.stateful_play.specs.declared.status.Status.TheVariants.{Done, Usage, ReadFault, WriteFault, NoMemory}
-use Rattle.stateful_play.specs.declared.status.Status.TheVariants as status
+use Rattle.stateful_play_edge.specs.declared.status.Status.{Status}
+use Rattle.stateful_play_edge.specs.declared.status.Status.TheVariants.{Done, Usage, ReadFault, WriteFault, NoMemory}
+use Rattle.stateful_play_edge.specs.declared.status.Status.TheVariants as status
 use Rattle.stateful_script.specs.declared.script.Script.{Script}
 use Rattle.stateful_script_text.specs.declared.shown.Label.{Label}
 use Rattle.stateful_script_text.specs.declared.shown.Shown.{Shown}
 use Rattle.stateful_play_bank.specs.Shown.{AreShown, text_of}
 use Rattle.stateful_play_bank.specs.Play.{IsPlayOf}
-use Rattle.stateful_play.specs.Status.{Known, HoldsPrefix, HoldsPart, Writes, AsksFor, IsLoaded, IsPlayed, IsHaltedAt, status_by}
-
--- nothing more is out
-pub nothing_out : (out : Known) (text : List ℕ) → HoldsPrefix out out text
-nothing_out out text = (0, omega arith, appends_none out)
-
-pub want_writes : (rose : Type 0) (out : Known) (text : List ℕ) (asked answer : Status) → answer ≡ NoMemory → Writes rose out out text asked answer
-want_writes rose out text asked answer e = inr (inr (e, nothing_out out text))
+use Rattle.stateful_play_edge.specs.Reading.{Known, IsLoaded}
+use Rattle.stateful_play_edge.specs.Writing.{HoldsPrefix, Writes, status_by}
+use Rattle.stateful_play.specs.Status.{HoldsPart, AsksFor, IsPlayed, IsHaltedAt}
 
 end_none : (e : Option Halted) → Done ≡ status_by e → IsNone e
 end_none None h = refl

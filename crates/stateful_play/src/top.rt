@@ -1,166 +1,22 @@
 //! The top call.
 
-ghost use Rattle.std.specs.Prelude.{◌≡◌, ◌≢◌, ◌⊎◌, ℕ, List, [], true, false, Option, None};
-ghost use Rattle.std.specs.Prelude.{Some, IfOk, IfErr, IsNone, IsSome, IsSomeAnd, codes};
-ghost use Rattle.std.specs.Prelude.{string_bytes};
-ghost use Rattle.std.specs.List.{list_all};
-ghost use Rattle.std.specs.Str.{bytes_eq};
+ghost use Rattle.std.specs.Prelude.{◌≡◌, ◌⊎◌, ℕ, List, [], true, false, Some};
+ghost use Rattle.std.specs.Prelude.{IsNone, IsSome, IsSomeAnd};
 ghost use Rattle.std.specs.Io.KnownBytes.{Appends};
 ghost use Rattle.stateful_base.specs.Causes.{Rose};
 ghost use Rattle.stateful_script_text.specs.Transcript.{usage_line, script_line};
-ghost use Rattle.stateful_play.specs.Status.{asks_play, IsLoaded, IsUnread, Stops, IsPlayed, AsksFor};
-ghost use Rattle.stateful_play.specs.Status.{HoldsPrefix, HoldsPart, IsHaltedAt, status_by, Writes};
-ghost use Rattle.stateful_play.specs.Status.{IsOrCut, IsScript, IsRefused};
-ghost use Rattle.stateful_play_bank.specs.Shown.{text_of};
-ghost use Rattle.stateful_script.specs.Laws.{IsPlan};
+ghost use Rattle.stateful_play_edge.specs.Reading.{asks_play, IsUnread};
+ghost use Rattle.stateful_play_edge.specs.Writing.{HoldsPrefix};
+ghost use Rattle.stateful_play.specs.Status.{IsPlayed, AsksFor, HoldsPart, IsHaltedAt, IsOrCut};
+ghost use Rattle.stateful_play.specs.Status.{IsScript, IsRefused};
 
-use crate::status::{Outcome, Status};
-use stateful_actor::Halted;
-use stateful_play_bank::{Told, play, text_of};
-use stateful_script::{Script, ScriptError, read_script};
-use stateful_script_text::{script_line, usage_line};
-use stateful_types::{OutOfMemory, ReadError, Sink, SinkFault, Source, read_all, write_all};
+use stateful_play_bank::play;
+use stateful_play_edge::{
+    Outcome, Status, Stop, asks_play, load, refuse_line, refuse_words, without_play,
+    write_transcript,
+};
+use stateful_types::{OutOfMemory, Sink, Source};
 use std::alloc::Global;
-
-/// The most bytes of a script.
-const LIMIT: usize = 16 * 1024 * 1024;
-
-/// Why there was no script.
-#[derive(Clone, Copy, Debug, PartialEq, Eq)]
-pub enum Stop {
-    ReadFault,
-    Refused(u64),
-    NoMemory,
-}
-
-fn all_play(words: &[String]) -> bool
-    ensures { result ≡ list_all (λ word. bytes_eq (string_bytes word) (codes "play")) words.now }
-{
-    words.iter().all(|word| word.as_str() == "play")
-}
-
-/// Whether the words are the one word `play`.
-#[tactic(auto, unfolding(crate::specs::Status::asks_play))]
-fn asks_play(words: &[String]) -> bool
-    ensures { result ≡ asks_play words.now }
-{
-    if words.len() != 1 {
-        return false;
-    }
-    all_play(words)
-}
-
-/// Reads a script from a source.
-fn load<S: Source>(alloc: Global, source: &mut S) -> Result<Script, Stop>
-    ensures found { IfOk result (λ script. IsLoaded (S.left source.old) (S.left source.new)
-        script) }
-    ensures plan { IfOk result (λ script. IsPlan script) }
-    ensures stopped { IfErr result (λ stop. Stops (S.left source.old) (S.left source.new)
-        (Rose (S.count source.old) (S.count source.new)) stop) }
-{
-    let bytes = match read_all(alloc, LIMIT, source) {
-        Ok(bytes) => bytes,
-        Err(ReadError::Failed) => return Err(Stop::ReadFault),
-        Err(ReadError::TooLong) => return Err(Stop::Refused(0)),
-        Err(ReadError::OutOfMemory) => return Err(Stop::NoMemory),
-    };
-    match read_script(alloc, bytes.as_slice()) {
-        Ok(script) => Ok(script),
-        Err(ScriptError::Line(line)) => Err(Stop::Refused(line)),
-        Err(ScriptError::OutOfMemory) => Err(Stop::NoMemory),
-    }
-}
-
-/// A run without a play.
-fn without_play(status: Status) -> Outcome
-    ensures { result ≡ record { status = status; played = None } }
-{
-    Outcome {
-        status,
-        played: None,
-    }
-}
-
-/// Writes a text that stands in the place of a transcript, and has this status.
-fn write_text<K: Sink>(sink: &mut K, text: &[u8], status: Status) -> Outcome
-    ensures none { IsNone result.played }
-    ensures status { Writes (Rose (K.count sink.old) (K.count sink.new)) (K.written sink.old)
-        (K.written sink.new) text.now status result.status }
-{
-    match write_all(sink, text) {
-        Ok(()) => without_play(status),
-        Err(SinkFault::Failed) => without_play(Status::WriteFault),
-        Err(SinkFault::OutOfMemory) => without_play(Status::NoMemory),
-    }
-}
-
-/// The status behind a play that ended so, where its transcript is written.
-fn status_of(end: &Option<Halted>) -> Status
-    ensures { result ≡ status_by end.now }
-{
-    match end {
-        Some(halted) => Status::Halted { at: halted.at },
-        None => Status::Done,
-    }
-}
-
-/// Writes the text of a play, and answers with which status.
-fn write_told<K: Sink>(alloc: Global, sink: &mut K, told: &Told) -> Status
-    ensures { Writes (Rose (K.count sink.old) (K.count sink.new)) (K.written sink.old)
-        (K.written sink.new) (text_of told.now.labels.items told.now.shown.items told.now.played)
-        (status_by told.now.played.end) result }
-{
-    let text = match text_of(alloc, told) {
-        Ok(text) => text,
-        Err(OutOfMemory) => return Status::NoMemory,
-    };
-    match write_all(sink, text.as_slice()) {
-        Ok(()) => status_of(&told.played.end),
-        Err(SinkFault::Failed) => Status::WriteFault,
-        Err(SinkFault::OutOfMemory) => Status::NoMemory,
-    }
-}
-
-/// Writes the transcript of a play. Where memory runs out nothing is told of it.
-fn write_transcript<K: Sink>(alloc: Global, sink: &mut K, told: Told) -> Outcome
-    ensures status { Writes (Rose (K.count sink.old) (K.count sink.new)) (K.written sink.old)
-        (K.written sink.new) (text_of told.labels.items told.shown.items told.played)
-        (status_by told.played.end) result.status }
-    ensures played { ((result.status ≡ Status.NoMemory) × IsNone result.played)
-        ⊎ ((result.status ≢ Status.NoMemory) × (result.played ≡ Some told.played)) }
-{
-    match write_told(alloc, sink, &told) {
-        Status::NoMemory => without_play(Status::NoMemory),
-        status => Outcome {
-            status,
-            played: Some(told.played),
-        },
-    }
-}
-
-/// Answers words that aren't the one word `play`.
-fn refuse_words<K: Sink>(alloc: Global, sink: &mut K) -> Outcome
-    ensures none { IsNone result.played }
-    ensures status { Writes (Rose (K.count sink.old) (K.count sink.new)) (K.written sink.old)
-        (K.written sink.new) usage_line Status.Usage result.status }
-{
-    match usage_line(alloc) {
-        Ok(text) => write_text(sink, text.as_slice(), Status::Usage),
-        Err(OutOfMemory) => without_play(Status::NoMemory),
-    }
-}
-
-/// Answers a script of which no rule reads this line.
-fn refuse_line<K: Sink>(alloc: Global, sink: &mut K, line: u64) -> Outcome
-    ensures none { IsNone result.played }
-    ensures status { Writes (Rose (K.count sink.old) (K.count sink.new)) (K.written sink.old)
-        (K.written sink.new) (script_line line) (Status.Script line) result.status }
-{
-    match script_line(alloc, line) {
-        Ok(text) => write_text(sink, text.as_slice(), Status::Script { line }),
-        Err(OutOfMemory) => without_play(Status::NoMemory),
-    }
-}
 
 /// Reads a script of at most 16 MiB, plays it, and writes its transcript. The words are the one
 /// word `play`.

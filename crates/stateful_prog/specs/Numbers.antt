@@ -1,8 +1,8 @@
 -- The numbers that the program ends with.
 use Rattle.std.specs.Prelude.{ℕ}
-use Rattle.stateful_play.specs.declared.status.Status.{Status}
-use Rattle.stateful_play.specs.declared.status.Status.TheVariants.{Done, Usage, Script, Halted}
-use Rattle.stateful_play.specs.declared.status.Status.TheVariants.{ReadFault, WriteFault, NoMemory}
+use Rattle.stateful_play_edge.specs.declared.status.Status.{Status}
+use Rattle.stateful_play_edge.specs.declared.status.Status.TheVariants.{Done, Usage, Script, Halted}
+use Rattle.stateful_play_edge.specs.declared.status.Status.TheVariants.{ReadFault, WriteFault, NoMemory}
 
 abbrev pub number_of : Status → ℕ
 number_of Done = 0

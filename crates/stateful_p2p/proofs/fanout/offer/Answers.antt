@@ -1,6 +1,6 @@
 use Rattle.std.proofs.Common.{[], ◌∷◌, map, take, get_or, sym, append_assoc}
-use Rattle.stateful_p2p.specs.declared.event.ActorOut.TheVariants.{Candidate}
-use Rattle.stateful_p2p.proofs.Awaiting.{offered_more, map_more}
+use Rattle.stateful_p2p_tables.specs.declared.out.ActorOut.TheVariants.{Candidate}
+use Rattle.stateful_p2p.proofs.Offering.{offered_more, map_more}
 use Rattle.stateful_p2p.proofs.fanout.offer.Goals as goal
 
 pub loop-ticket-preserved : goal.loop-ticket-preserved

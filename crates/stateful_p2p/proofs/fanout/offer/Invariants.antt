@@ -1,6 +1,6 @@
 use Rattle.std.proofs.Common.{◌≡◌, ◌++◌, map, take}
 use Rattle.stateful_p2p.specs.Inbox.{offered_each}
-use Rattle.stateful_p2p.specs.declared.event.ActorOut.TheVariants.{Candidate}
+use Rattle.stateful_p2p_tables.specs.declared.out.ActorOut.TheVariants.{Candidate}
 use Rattle.stateful_p2p.proofs.fanout.offer.Given as goal
 
 -- the candidate waits for the tickets before this place
