@@ -6,7 +6,8 @@ use Rattle.stateful_db.specs.Single.{single}
 use Rattle.stateful_db.specs.declared.database.DbCall.{DbCall}
 use Rattle.stateful_db.specs.declared.held.Held.{Held}
 use Rattle.stateful_db.specs.declared.held.Held.TheVariants as held
-use Rattle.stateful_db_plain.specs.Stored.{standing_of, disk_of}
+use Rattle.stateful_db_plain.specs.Stored.{standing_of, disk_of, calls_of, calls_here}
+use Rattle.stateful_db_plain.specs.Stored as stored
 use Rattle.stateful_db_plain.specs.Whole.{Whole, begun, initial, target_of}
 use Rattle.stateful_db_plain.specs.declared.batch.PlainMerkleized.{PlainMerkleized}
 use Rattle.stateful_db_plain.specs.declared.batch.PlainUnmerkleized.{PlainUnmerkleized}
@@ -32,17 +33,17 @@ member_of = elim [
 
 -- the calls that are to fail on its medium, by kind and by number
 abbrev pub listed_in : OneDatabase → List (DbCall × ℕ)
-listed_in (held.Here db) = db.medium.calls.failing.items
-listed_in (held.Closed medium) = medium.calls.failing.items
-listed_in (held.Lost medium) = medium.calls.failing.items
+listed_in (held.Here db) = (calls_here db).failing.items
+listed_in (held.Closed medium) = (calls_of medium).failing.items
+listed_in (held.Lost medium) = (calls_of medium).failing.items
 listed_in held.Away = []
 
 -- the batch id that it draws next
 abbrev pub next_of : OneDatabase → ℕ
 next_of = elim [
-  | held.Here db ↦ db.medium.next
-  | held.Closed medium ↦ medium.next
-  | held.Lost medium ↦ medium.next
+  | held.Here db ↦ stored.next_here db
+  | held.Closed medium ↦ stored.next_of medium
+  | held.Lost medium ↦ stored.next_of medium
   | held.Away ↦ 0
 ]
 

@@ -1,4 +1,6 @@
 pub mod Ops
+pub mod OpFormat
+pub mod OpLaws
 pub mod Live
 pub mod Any
 pub mod Through

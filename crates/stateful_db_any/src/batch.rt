@@ -13,13 +13,13 @@ ghost use Rattle.stateful_db_any.specs.Stored.{standing_of};
 
 use crate::changes::AnyChanges;
 use crate::database::AnyDb;
-use crate::op::{duplicate, link_each};
+use crate::op::duplicate;
 use crate::reads::value_in;
 use crate::seal::{first_kept, write_all};
 use crate::state::AnyState;
 use stateful_base::{Digest, Location, OutOfMemory, Target};
 use stateful_db::{BatchError, Merkleized, Unmerkleized};
-use stateful_db_log::Field;
+use stateful_db_log::{Field, link_each};
 use stateful_db_overlay::{Layer, Layers};
 use std::collections::BTreeMap;
 use std::marker::Model;
@@ -193,7 +193,7 @@ impl<K: Field, V: Field> AnyUnmerkleized<K, V> {
         let written = write_all(&writes, metadata, layers, db, size)?;
         let start = first_kept(&written, layers, db, parent.start.0);
         let target = Target {
-            root: link_each(below.allocator(), parent.root, written.ops())?,
+            root: link_each(size, parent.root, written.ops()),
             start: Location(start),
             end: Location(size + written.ops().len() as u64),
         };

@@ -99,6 +99,7 @@ impl<K: Field, V: Field> AnyDb<K, V> {
     }
 
     /// Whether the range of its newest checkpoint isn't turned round, as none is.
+    #[tactic(auto, using(stateful_db_log::specs::LogSound::length_newest))]
     pub(crate) fn is_whole(&self) -> bool
         ensures { IsTrue result → IsWhole (standing_of self.now).disk.newest }
     {

@@ -10,7 +10,7 @@ use std::alloc::Global;
 /// those that it lists fail.
 #[derive(Drop)]
 pub struct AnyMedium<K, V> {
-    pub(crate) medium: LogMedium<AnyOp<K, V>>,
+    pub medium: LogMedium<AnyOp<K, V>>,
 }
 
 impl<K: Drop, V: Drop> Faulty for AnyMedium<K, V> {

@@ -1,12 +1,14 @@
 -- chains of compact batches
-use Rattle.std.proofs.Common.{◌≡◌, ℕ, ◌^◌, ◌<◌, ◌==◌, ◌||◌, List, [], ◌∷◌, ◌++◌, None, refl, sym, ap, ◌∙◌, subst, arith}
+use Rattle.std.proofs.Common.{◌≡◌, ℕ, ◌+◌, ◌^◌, ◌-◌, ◌<◌, ◌==◌, ◌||◌, List, [], ◌∷◌, ◌++◌, length, max, min, None, refl, sym, ap, ◌∙◌, subst, arith}
 use Rattle.stateful_db.specs.Chain.{has_id}
+use Rattle.stateful_base.specs.declared.digest.Digest.{Digest}
+use Rattle.stateful_db_log.specs.Chained.{linked}
 use Rattle.stateful_db_overlay.specs.Stack.{Stack, has_layer, cut_at}
 use Rattle.stateful_db_overlay.specs.Chains.{Stands, has_id-layers, stands-cut}
 use Rattle.stateful_db_compact.specs.declared.compact.batch.KeylessUnjournaledUnmerkleized.{KeylessUnjournaledUnmerkleized}
 use Rattle.stateful_db_compact.specs.declared.compact.batch.KeylessUnjournaledMerkleized.{KeylessUnjournaledMerkleized}
-use Rattle.stateful_db_compact.specs.Ops.{unchanged}
-use Rattle.stateful_db_compact.specs.Compacted.{State, size_of, begun}
+use Rattle.stateful_db_compact.specs.Ops.{unchanged, raised, commit_bytes}
+use Rattle.stateful_db_compact.specs.Compacted.{State, size_of, state_of, committed, sealed, begun}
 use Rattle.stateful_db_compact.specs.CompactShown.{Unread, Holds, DraftShows, SealShows}
 
 module _ {V : Type 0} (spell : V → List ℕ) where
@@ -17,6 +19,28 @@ module _ {V : Type 0} (spell : V → List ℕ) where
   draft_has u (p ∷ q ∷ c) n h =
       ap (λ i. (i == n) || has_id (q ∷ c) n) h.0
       ∙ ap (λ b. (u.id == n) || b) (has_id-layers Unread u.below.base u.below.layers (q ∷ c) n h.1.1.0)
+
+  -- the seal of a batch has the state behind its commit
+  pub seals : (u : KeylessUnjournaledUnmerkleized V) (m : KeylessUnjournaledMerkleized V) (floor : ℕ) (root : Digest) (c : List (ℕ × State V))
+      → m.layer.0 ≡ u.id → m.below ≡ u.below → u.end < 2 ^ 64 - 2 → floor ≡ max u.floor (min u.asked u.end)
+      → root ≡ linked u.before (commit_bytes spell u.metadata floor)
+      → m.state ≡ state_of root (u.end + 1) (record { before = u.before; metadata = u.metadata; floor = floor })
+      → DraftShows spell u c → SealShows m c
+  seals u m floor root [] named below within floors roots state h = absurd h
+  seals u m floor root (p ∷ []) named below within floors roots state h = absurd h
+  seals u m floor root (p ∷ q ∷ c) named below within floors roots state h =
+      let (ch, (holds, is)) = h.1.1.1 in
+      let P : Stack (Unit {0}) → Type 0 = λ b. Stands Unread b.base (m.layer ∷ b.layers) (p ∷ q ∷ c) in
+      let commit : size_of q.1 + length ch.values ≡ u.end = omega (arith, holds.end) in
+      let at : raised q.1.kept.floor ch.floor (size_of q.1 + length ch.values) ≡ floor = omega (arith, holds.end, holds.floor, holds.asked) in
+      let sealed_is : sealed spell ch q.1 ≡ committed spell u.before u.end u.metadata floor =
+      λ i. committed spell (sym holds.before i) (commit i) (sym holds.metadata i) (at i) in
+      let made : committed spell u.before u.end u.metadata floor ≡ m.state =
+      ap (λ r. state_of r (u.end + 1) (record { before = u.before; metadata = u.metadata; floor = floor })) (sym roots) ∙ sym state in
+      record {
+        chain = subst P (sym below) (named ∙ sym h.0, (h.1.0, (tt, h.1.1.0)));
+        top = is ∙ sealed_is ∙ made;
+      }
 
   -- a child of a sealed batch, whose layers are those of its parent and the parent's own
   pub opens : (m : KeylessUnjournaledMerkleized V) (below : Stack (Unit {0})) (id end : ℕ) (p : ℕ × State V) (c : List (ℕ × State V))

@@ -1,1 +1,2 @@
 pub mod CompactChains
+pub mod OpFormats

@@ -1,4 +1,6 @@
 pub mod Ops
+pub mod OpFormat
+pub mod OpFormatLaws
 pub mod Compacted
 pub mod CompactShown
 pub mod CompactStored

@@ -1,6 +1,7 @@
 //! The latest commit of a log of values, and the operations of such logs.
 #![tactic(auto)]
 
+mod codec;
 mod compact;
 mod op;
 

@@ -1,12 +1,13 @@
-//! Operations, their bytes, and the digests behind them.
+//! Operations, and the digests behind them.
 
-ghost use Rattle.std.specs.Prelude.{◌≡◌, ◌++◌, IfOk, OnOk};
+ghost use Rattle.std.specs.Prelude.{◌≡◌, ◌++◌, ℕ, List, IfOk};
+ghost use Rattle.sha2.specs.Hashers.{Holds256};
 ghost use Rattle.stateful_db_log.specs.Chained.{linked};
-ghost use Rattle.stateful_db_compact.specs.Ops.{commit_bytes, append_bytes};
+ghost use Rattle.stateful_db_compact.specs.Ops.{metadata_bytes, commit_bytes, append_bytes};
 
+use sha2::{Digest as Hasher, Sha256};
 use stateful_base::{Digest, OutOfMemory, Share};
-use stateful_db_log::{Field, link};
-use std::alloc::Global;
+use stateful_db_log::{Field, Linked};
 
 /// An operation of a keyless log.
 #[derive(Drop)]
@@ -32,6 +33,29 @@ impl<V: Field> Share for KeylessOp<V> {
     }
 }
 
+impl<V: Field> Linked for KeylessOp<V> {
+    ghost use Rattle.stateful_db_log.specs.Linking.{log_link};
+    ghost use Rattle.stateful_db_compact.specs.Ops.{op_bytes, is_commit};
+
+    ghost linked = { log_link (op_bytes V.fields.spelling) };
+
+    ghost alone = { is_commit };
+
+    fn link(&self, _at: u64, before: Digest) -> Digest {
+        match self {
+            KeylessOp::Commit { metadata, floor } => link_commit(before, metadata, *floor),
+            KeylessOp::Append(value) => link_append(before, value),
+        }
+    }
+
+    fn stands_alone(&self) -> bool {
+        match self {
+            KeylessOp::Commit { .. } => true,
+            KeylessOp::Append(_) => false,
+        }
+    }
+}
+
 /// Equal metadata.
 pub fn duplicate<V: Field>(metadata: &Option<V>) -> Result<Option<V>, OutOfMemory>
     ensures { IfOk result (λ same. same ≡ metadata.now) }
@@ -43,51 +67,39 @@ pub fn duplicate<V: Field>(metadata: &Option<V>) -> Result<Option<V>, OutOfMemor
 }
 
 /// The digest behind an appended value.
-pub fn link_append<V: Field>(
-    alloc: Global,
-    before: Digest,
-    value: &V,
-) -> Result<Digest, OutOfMemory>
-    ensures { IfOk result (λ d. d ≡ linked before (append_bytes V.fields.spelling value.now)) }
+pub fn link_append<V: Field>(before: Digest, value: &V) -> Digest
+    ensures { result ≡ linked before (append_bytes V.fields.spelling value.now) }
 {
-    let mut bytes = Vec::new(alloc);
-    bytes.push(1)?;
-    value.write(&mut bytes)?;
-    Ok(link(before, bytes.as_slice()))
+    let mut hasher = Sha256::new();
+    hasher.update(&before.0);
+    hasher.update(&[1]);
+    value.add_to(&mut hasher);
+    Digest(hasher.finalize())
 }
 
 /// The digest behind a commit.
-pub fn link_commit<V: Field>(
-    alloc: Global,
-    before: Digest,
-    metadata: &Option<V>,
-    floor: u64,
-) -> Result<Digest, OutOfMemory>
-    ensures { IfOk result (λ d.
-        d ≡ linked before (commit_bytes V.fields.spelling metadata.now floor)) }
+pub fn link_commit<V: Field>(before: Digest, metadata: &Option<V>, floor: u64) -> Digest
+    ensures { result ≡ linked before (commit_bytes V.fields.spelling metadata.now floor) }
 {
-    let mut bytes = Vec::new(alloc);
-    write_commit(metadata, floor, &mut bytes)?;
-    Ok(link(before, bytes.as_slice()))
+    let mut hasher = Sha256::new();
+    hasher.update(&before.0);
+    hasher.update(&[0]);
+    add_metadata(metadata, &mut hasher);
+    hasher.update(&floor.to_be_bytes());
+    Digest(hasher.finalize())
 }
 
-/// Appends a commit.
-fn write_commit<V: Field>(
-    metadata: &Option<V>,
-    floor: u64,
-    out: &mut Vec<u8>,
-) -> Result<(), OutOfMemory>
-    ensures { OnOk result (out.new.items
-        ≡ out.old.items ++ commit_bytes V.fields.spelling metadata.now floor) }
+/// Adds metadata to a message.
+fn add_metadata<V: Field>(metadata: &Option<V>, hasher: &mut Sha256)
+    ensures { (m : List ℕ)
+        → Holds256 hasher.old m
+        → Holds256 hasher.new (m ++ metadata_bytes V.fields.spelling metadata.now) }
 {
-    out.push(0)?;
     match metadata {
-        None => out.push(0)?,
+        None => hasher.update(&[0]),
         Some(metadata) => {
-            out.push(1)?;
-            metadata.write(out)?;
+            hasher.update(&[1]);
+            metadata.add_to(hasher);
         }
     }
-    out.extend_from_slice(&floor.to_be_bytes())?;
-    Ok(())
 }

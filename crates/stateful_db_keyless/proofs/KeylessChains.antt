@@ -13,8 +13,8 @@ use Rattle.stateful_db_compact.specs.declared.op.KeylessOp.TheVariants.{Commit, 
 use Rattle.stateful_db_keyless.specs.declared.keyless.batch.KeylessChanges.{KeylessChanges}
 use Rattle.stateful_db_keyless.specs.declared.keyless.batch.KeylessUnmerkleized.{KeylessUnmerkleized}
 use Rattle.stateful_db_keyless.specs.declared.keyless.batch.KeylessMerkleized.{KeylessMerkleized}
-use Rattle.stateful_db_compact.specs.Ops.{Changes, unchanged, raised, append_bytes, commit_bytes}
-use Rattle.stateful_db_keyless.specs.Keyless.{State, size_of, ops_of, op_bytes, begun}
+use Rattle.stateful_db_compact.specs.Ops.{Changes, unchanged, raised, append_bytes, commit_bytes, op_bytes}
+use Rattle.stateful_db_keyless.specs.Keyless.{State, size_of, ops_of, begun}
 use Rattle.stateful_db_keyless.specs.KeylessShown.{After, Holds, DraftShows, SealShows}
 use Rattle.stateful_db_keyless.specs.Reads.{log_of, log_behind, log_over, read_as, value_at}
 use Rattle.stateful_db_keyless.proofs.Reading.{kept_from}

@@ -6,7 +6,7 @@ use Rattle.stateful_db_log.specs.Chained.{chained, unlinked}
 use Rattle.stateful_db_log.specs.Logs.{extended}
 use Rattle.stateful_db_compact.specs.declared.op.KeylessOp.{KeylessOp}
 use Rattle.stateful_db_compact.specs.declared.op.KeylessOp.TheVariants.{Commit, Append}
-use Rattle.stateful_db_compact.specs.Ops.{Changes, unchanged, raised, commit_bytes, append_bytes}
+use Rattle.stateful_db_compact.specs.Ops.{Changes, unchanged, raised, op_bytes}
 
 -- a log from its floor on: the root with the range, and the operations of the range
 abbrev pub State : Type 0 → Type 0
@@ -24,17 +24,13 @@ abbrev pub ops_of : {V : Type 0} → Changes V → ℕ → List (KeylessOp V)
 ops_of ch floor = map Append ch.values ++ Commit ch.metadata floor ∷ []
 
 module _ {V : Type 0} (spell : V → List ℕ) where
-  abbrev pub op_bytes : KeylessOp V → List ℕ
-  op_bytes (Commit metadata floor) = commit_bytes spell metadata floor
-  op_bytes (Append value) = append_bytes spell value
-
   -- one commit without metadata, and with the floor 0
   abbrev pub initial : State V
   initial = record {
     target =
         record {
           root =
-              chained op_bytes unlinked (Commit None 0 ∷ []);
+              chained (op_bytes spell) unlinked (Commit None 0 ∷ []);
           start =
               record { 0 = 0 };
           end = record { 0 = 1 };
@@ -50,7 +46,7 @@ module _ {V : Type 0} (spell : V → List ℕ) where
       extended s (ops_of ch floor)
       (record {
         root =
-            chained op_bytes s.target.root (ops_of ch floor);
+            chained (op_bytes spell) s.target.root (ops_of ch floor);
         start =
             record { 0 = floor };
         end = record { 0 = commit + 1 };

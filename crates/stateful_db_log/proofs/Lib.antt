@@ -1,3 +1,4 @@
 pub mod Results
 pub mod Slices
 pub mod Windows
+pub mod Blobs

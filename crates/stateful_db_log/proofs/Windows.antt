@@ -1,15 +1,18 @@
 -- the operations of kept checkpoints, where others are dropped or appended
-use Rattle.std.proofs.Common.{◌≡◌, ℕ, zero, suc, ◌+◌, ◌-◌, ◌≤◌, ◌<◌, ◌⊎◌, inl, inr, List, [], ◌∷◌, ◌++◌, length, take, drop, min, Some, slice_get, refl, sym, ap, ◌∙◌, arith, length-take, length-drop, length-append}
+use Rattle.std.proofs.Common.{◌≡◌, ℕ, zero, suc, ◌+◌, ◌-◌, ◌≤◌, ◌<◌, ◌⊎◌, inl, inr, List, [], ◌∷◌, ◌++◌, length, take, drop, min, map, Some, slice_get, refl, sym, ap, ◌∙◌, arith, length-take, length-drop, length-append}
 use Rattle.std.proofs.lemmas.List.{take-take, drop-drop, take-append-le, drop-append-le, take_all}
 use Rattle.stateful_db.specs.Disk.{Disk, Standing, IsSound, all, applied, cut}
-use Rattle.stateful_db.specs.CheckpointLaws.{slice_get-last, slice_get-left, slice_get-drop, length-all}
+use Rattle.stateful_db.specs.CheckpointLaws.{slice_get-last, slice_get-left, slice_get-take, slice_get-drop, length-all}
 use Rattle.std.proofs.lemmas.Option.{slice_get_within}
 use Rattle.stateful_db_medium.specs.declared.checkpoints.Checkpoint.{Checkpoint}
 use Rattle.stateful_db_medium.specs.Ranged.{range_of}
-use Rattle.stateful_db_medium.specs.Mapped.{Agree, agree_each}
+use Rattle.stateful_db_medium.specs.Mapped.{mapped, Agree, agree_each}
+use Rattle.stateful_base.specs.declared.digest.Digest.{Digest}
+use Rattle.stateful_db_log.specs.Linking.{behind}
 use Rattle.stateful_db_log.specs.Between.{between, state_in}
+use Rattle.stateful_db_log.specs.Logs.{oldest_of, begin_of}
 
-abbrev Point : Type 0
+abbrev pub Point : Type 0
 Point = Checkpoint (Unit {0})
 
 -- an element is one of the front, or the last
@@ -87,12 +90,10 @@ module _ {Op : Type 0} where
   none m xs ys h = rw h refl
 
   -- where the operations are cut off behind an end, those before it stay
-  between-cut : (first end : ℕ) (ops : List Op) (s e : ℕ) → first ≤ s → e ≤ end → between (min first end) (take (end - first) ops) s e ≡ between first ops s e
+  between-cut : (first end : ℕ) (ops : List Op) (s e : ℕ) → first ≤ s → e ≤ end → between first (take (end - first) ops) s e ≡ between first ops s e
   between-cut first end ops s e low high =
       elim (le_or s e) [
-        | inl h ↦
-            let same : min first end ≡ first = omega arith in
-            rw same (window-take (e - s) (s - first) (end - first) ops (omega arith))
+        | inl h ↦ window-take (e - s) (s - first) (end - first) ops (omega arith)
         | inr h ↦ none (e - s) _ _ (omega arith)
       ]
 
@@ -110,10 +111,10 @@ module _ {Op : Type 0} where
       let at : (later - first) + (s - later) ≡ s - first = omega arith in
       ap (λ xs. take (e - s) xs) (drop-drop (s - later) (later - first) ops ∙ ap (λ n. drop n ops) at)
 
-  -- the checkpoints `d` begin at the location `first` or later, and end where the operations do
+  -- the checkpoints `d` begin and end at the location `first` or later, and the newest ends where the operations do
   pub record Holds (first : ℕ) (ops : List Op) (d : Disk Point) : Type 0 where
     pub sound : IsSound range_of d
-    pub begins : (i : ℕ) (k : Point) → slice_get (all d) i ≡ Some k → first ≤ k.target.start.0
+    pub begins : (i : ℕ) (k : Point) → slice_get (all d) i ≡ Some k → first ≤ min k.target.start.0 k.target.end.0
     pub ends : d.newest.target.end.0 ≡ first + length ops
 
   -- what is left where only some of the oldest checkpoints are kept, and the operations behind them are cut off
@@ -124,33 +125,42 @@ module _ {Op : Type 0} where
     was : (i : ℕ) (k : Point) → slice_get (all e) i ≡ Some k → slice_get (all d) i ≡ Some k
     was i k at = from_take n i (all d) k (ap (λ ks. slice_get ks i) (sym kept) ∙ at)
 
-    pub first_begins : (i : ℕ) (k : Point) → slice_get (all e) i ≡ Some k → min first end ≤ k.target.start.0
-    first_begins i k at = let low = h.begins i k (was i k at) in omega arith
+    pub first_begins : (i : ℕ) (k : Point) → slice_get (all e) i ≡ Some k → first ≤ min k.target.start.0 k.target.end.0
+    first_begins i k at = h.begins i k (was i k at)
 
-    pub first_ends : end ≡ min first end + length (take (end - first) ops)
+    pub first_ends : end ≡ first + length (take (end - first) ops)
     first_ends =
-        let last = ends_last d h.sound (length e.older) e.newest (was (length e.older) e.newest (slice_get-last e.older e.newest)) in
+        let was_here = was (length e.older) e.newest (slice_get-last e.older e.newest) in
+        let low = h.begins (length e.older) e.newest was_here in
+        let last = ends_last d h.sound (length e.older) e.newest was_here in
         omega (arith, length-take (end - first) ops, h.ends)
 
-    pub first_agree : Agree (state_in (min first end) (take (end - first) ops)) (state_in first ops) (all e)
+    pub first_agree : Agree (state_in first (take (end - first) ops)) (state_in first ops) (all e)
     first_agree = agree_each _ _ (all e) (λ i k at.
-        ap (λ xs. record { target = k.target; kept = xs }) (between-cut first end ops k.target.start.0 k.target.end.0 (h.begins i k (was i k at)) (ends_last e sound i k at)))
+        let low : first ≤ k.target.start.0 = (let both = h.begins i k (was i k at) in omega arith) in
+        ap (λ xs. record { target = k.target; kept = xs }) (between-cut first end ops k.target.start.0 k.target.end.0 low (ends_last e sound i k at)))
 
-  -- what is left where the operations before the start of the oldest checkpoint are dropped
-  module _ (first : ℕ) (ops : List Op) (d : Disk Point) (k : Point) (later : ℕ) (h : Holds first ops d) (oldest : slice_get (all d) 0 ≡ Some k) (is : later ≡ min k.target.start.0 d.newest.target.end.0) where
+  -- what is left where the operations before the start of the oldest checkpoint (or before its end) are dropped
+  module _ (first : ℕ) (ops : List Op) (d : Disk Point) (k : Point) (later : ℕ) (h : Holds first ops d) (oldest : slice_get (all d) 0 ≡ Some k) (is : later ≡ min k.target.start.0 k.target.end.0) where
     pub later_first : first ≤ later
-    later_first = let low = h.begins 0 k oldest in omega (arith, h.ends)
+    later_first = let low = h.begins 0 k oldest in omega arith
 
-    pub later_begins : (i : ℕ) (x : Point) → slice_get (all d) i ≡ Some x → later ≤ x.target.start.0
-    later_begins zero x at = let same : k ≡ x = cc in omega (arith, ap (λ (y : Point). y.target.start.0) same)
-    later_begins (suc i) x at = let above = h.sound.starts 0 (suc i) k x (omega arith) oldest at in omega arith
+    pub later_begins : (i : ℕ) (x : Point) → slice_get (all d) i ≡ Some x → later ≤ min x.target.start.0 x.target.end.0
+    later_begins zero x at = let same : k ≡ x = cc in omega (arith, ap (λ (y : Point). y.target.start.0) same, ap (λ (y : Point). y.target.end.0) same)
+    later_begins (suc i) x at =
+        let above = h.sound.starts 0 (suc i) k x (omega arith) oldest at in
+        let behind = h.sound.ends 0 (suc i) k x (omega arith) oldest at in
+        omega arith
 
     pub later_ends : d.newest.target.end.0 ≡ later + length (drop (later - first) ops)
-    later_ends = omega (arith, later_first, length-drop (later - first) ops, h.ends)
+    later_ends =
+        let last = ends_last d h.sound 0 k oldest in
+        omega (arith, later_first, length-drop (later - first) ops, h.ends)
 
     pub later_agree : Agree (state_in later (drop (later - first) ops)) (state_in first ops) (all d)
     later_agree = agree_each _ _ (all d) (λ i x at.
-        ap (λ xs. record { target = x.target; kept = xs }) (between-drop first later ops x.target.start.0 x.target.end.0 later_first (later_begins i x at)))
+        let low : later ≤ x.target.start.0 = (let both = later_begins i x at in omega arith) in
+        ap (λ xs. record { target = x.target; kept = xs }) (between-drop first later ops x.target.start.0 x.target.end.0 later_first low))
 
 module _ {Op : Type 0} where
   -- the operations of a checkpoint that is added
@@ -176,11 +186,13 @@ module _ {Op : Type 0} where
         let two : slice_get (all (applied d k)) (length (all d)) ≡ Some k = slice_get-last (all d) k in
         sound.starts (length d.older) (length (all d)) d.newest k (omega (arith, length-all d)) one two
 
-    pub more_begins : (i : ℕ) (x : Point) → slice_get (all (applied d k)) i ≡ Some x → first ≤ x.target.start.0
+    pub more_begins : (i : ℕ) (x : Point) → slice_get (all (applied d k)) i ≡ Some x → first ≤ min x.target.start.0 x.target.end.0
     more_begins i x at =
         elim (slice_get_cases i (all d) k x at) [
           | inl inside ↦ h.begins i x inside
-          | inr is ↦ let low = h.begins (length d.older) d.newest last_here in omega (arith, above_newest, ap (λ (y : Point). y.target.start.0) is)
+          | inr is ↦
+              let low = h.begins (length d.older) d.newest last_here in
+              omega (arith, above_newest, ends, ap (λ (y : Point). y.target.start.0) is, ap (λ (y : Point). y.target.end.0) is)
         ]
 
     pub more_ends : k.target.end.0 ≡ first + length (ops ++ more)
@@ -188,17 +200,62 @@ module _ {Op : Type 0} where
 
     pub more_agree : Agree (state_in first (ops ++ more)) (state_in first ops) (all d)
     more_agree = agree_each _ _ (all d) (λ i x at.
-        ap (λ xs. record { target = x.target; kept = xs }) (between-append first ops more x.target.start.0 x.target.end.0 (h.begins i x at) (let last = ends_last d h.sound i x at in omega (arith, h.ends))))
+        let low : first ≤ x.target.start.0 = (let both = h.begins i x at in omega arith) in
+        let high : x.target.end.0 ≤ first + length ops = (let last = ends_last d h.sound i x at in omega (arith, h.ends)) in
+        ap (λ xs. record { target = x.target; kept = xs }) (between-append first ops more x.target.start.0 x.target.end.0 low high))
 
     pub more_is : state_in first (ops ++ more) k ≡ record { target = k.target; kept = drop (k.target.start.0 - d.newest.target.start.0) (between first ops d.newest.target.start.0 d.newest.target.end.0 ++ more) }
     more_is = ap (λ xs. record { target = k.target; kept = xs })
-        (between-more first ops more d.newest.target.start.0 d.newest.target.end.0 k.target.start.0 k.target.end.0 (h.begins (length d.older) d.newest last_here) range h.ends above_newest ends)
+        (between-more first ops more d.newest.target.start.0 d.newest.target.end.0 k.target.start.0 k.target.end.0 (let both = h.begins (length d.older) d.newest last_here in omega arith) range h.ends above_newest ends)
 
 -- of the checkpoints that a prune leaves too
-pub cut_begins : (first : ℕ) (d : Disk Point) (n : ℕ) → n ≤ length d.older → ((i : ℕ) (k : Point) → slice_get (all d) i ≡ Some k → first ≤ k.target.start.0) → (i : ℕ) (k : Point) → slice_get (all (cut d n)) i ≡ Some k → first ≤ k.target.start.0
+pub cut_begins : (first : ℕ) (d : Disk Point) (n : ℕ) → n ≤ length d.older → ((i : ℕ) (k : Point) → slice_get (all d) i ≡ Some k → first ≤ min k.target.start.0 k.target.end.0) → (i : ℕ) (k : Point) → slice_get (all (cut d n)) i ≡ Some k → first ≤ min k.target.start.0 k.target.end.0
 cut_begins first d n within begins i k at =
     let rest : drop n d.older ++ d.newest ∷ [] ≡ drop n (all d) = sym (drop-append-le n d.older (d.newest ∷ []) within) in
     begins (n + i) k (sym (slice_get-drop n i (all d)) ∙ ap (λ ks. slice_get ks i) (sym rest) ∙ at)
 
 pub standing_is : {S : Type 0} (s : Standing S) (id : ℕ) (d : Disk S) (out : List ℕ) → s.id ≡ id → s.disk ≡ d → s.out ≡ out → s ≡ record { id = id; disk = d; out = out }
 standing_is s id d out a b e i = record { id = a i; disk = b i; out = e i }
+
+-- the checkpoint of number 0 is the oldest
+pub oldest_is : (d : Disk Point) (k : Point) → slice_get (all d) 0 ≡ Some k → oldest_of d.older d.newest ≡ k
+oldest_is d k at = first d.older at
+  where
+    first : (older : List Point) → slice_get (older ++ d.newest ∷ []) 0 ≡ Some k → oldest_of older d.newest ≡ k
+    first [] h = cc
+    first (x ∷ older) h = cc
+
+pub begin_is : (d : Disk Point) (k : Point) → slice_get (all d) 0 ≡ Some k → min k.target.start.0 k.target.end.0 ≡ begin_of d
+begin_is d k at = ap (λ (x : Point). min x.target.start.0 x.target.end.0) (sym (oldest_is d k at))
+
+-- what checkpoints stand for begins where they do
+pub begin-mapped : {Op : Type 0} (first : ℕ) (ops : List Op) (d : Disk Point) → begin_of (mapped (state_in first ops) d) ≡ begin_of d
+begin-mapped first ops d = same d.older
+  where
+    same : (older : List Point) → (let s = oldest_of (map (state_in first ops) older) (state_in first ops d.newest) in min s.target.start.0 s.target.end.0) ≡ (let s = oldest_of older d.newest in min s.target.start.0 s.target.end.0)
+    same [] = refl
+    same (x ∷ older) = refl
+
+-- the only checkpoint
+pub alone : (k x : Point) (i : ℕ) → slice_get (k ∷ []) i ≡ Some x → k ≡ x
+alone k x zero at = cc
+alone k x (suc i) at = cc
+
+-- all operations
+pub between-all : {Op : Type 0} (start end : ℕ) (ops : List Op) → length ops ≡ end - start → between start ops start end ≡ ops
+between-all start end ops whole =
+    let here : start - start ≡ 0 = omega arith in
+    rw here (take_all (end - start) ops (omega arith))
+
+-- the first operations of a list that isn't empty
+pub behind-front : {Op : Type 0} (link : ℕ → Digest → Op → Digest) (n at : ℕ) (d : Digest) (op : Op) (ops : List Op) → 0 < n → behind link at d (take n (op ∷ ops)) ≡ behind link (at + 1) (link at d op) (take (n - 1) ops)
+behind-front link zero at d op ops h = absurd (omega arith)
+behind-front link (suc n) at d op ops h = let same : suc n - 1 ≡ n = omega arith in rw same refl
+
+-- an operation of a part
+pub slice_get-between : {Op : Type 0} (first : ℕ) (ops : List Op) (start end at : ℕ) → first ≤ start → start ≤ at → at < end → slice_get (between first ops start end) (at - start) ≡ slice_get ops (at - first)
+slice_get-between first ops start end at low high inside =
+    let here : start - first + (at - start) ≡ at - first = omega arith in
+    slice_get-take (end - start) (at - start) (drop (start - first) ops) (omega arith)
+    ∙ slice_get-drop (start - first) (at - start) ops
+    ∙ ap (slice_get ops) here

@@ -1,7 +1,11 @@
 pub mod Chained
+pub mod Linking
 pub mod ChainedLaws
 pub mod Runs
 pub mod Digests
+pub mod Blobs
 pub mod Between
+pub mod Held
+pub mod HeldLaws
 pub mod Logs
 pub mod LogSound

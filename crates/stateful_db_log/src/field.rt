@@ -3,12 +3,14 @@
 ghost use Rattle.std.specs.Prelude.{◌≡◌, IfOk};
 
 use bytes::Bytes;
+use sha2::{Digest as Hasher, Sha256};
 use stateful_base::{CodecError, Digest, OutOfMemory, read_u64, write_u64};
 use std::alloc::Global;
 
 /// A key or a value of an operation, with its bytes.
 pub trait Field: Ord + Sized + Drop {
-    ghost use Rattle.std.specs.Prelude.{◌≡◌, IfOk};
+    ghost use Rattle.std.specs.Prelude.{◌≡◌, ◌++◌, ℕ, List, IfOk};
+    ghost use Rattle.sha2.specs.Hashers.{Holds256};
     ghost use Rattle.std.specs.declared.cmp.Ordering.TheVariants.{Equal};
     ghost use Rattle.stateful_base.specs.Format.{Format, Reads, Writes, IsFormat};
 
@@ -18,6 +20,12 @@ pub trait Field: Ord + Sized + Drop {
     /// Appends the field.
     fn write(&self, out: &mut Vec<u8>) -> Result<(), OutOfMemory>
         ensures { Writes fields self.now result out.old.items out.new.items };
+
+    /// Adds the field's bytes to a message.
+    fn add_to(&self, hasher: &mut Sha256)
+        ensures { (m : List ℕ)
+            → Holds256 hasher.old m
+            → Holds256 hasher.new (m ++ fields.spelling self.now) };
 
     /// Takes a field.
     fn read(alloc: Global, input: &mut Bytes) -> Result<Self, CodecError>
@@ -45,6 +53,10 @@ impl Field for u64 {
         write_u64(*self, out)
     }
 
+    fn add_to(&self, hasher: &mut Sha256) {
+        hasher.update(&self.to_be_bytes());
+    }
+
     fn read(_alloc: Global, input: &mut Bytes) -> Result<u64, CodecError> {
         read_u64(input)
     }
@@ -66,6 +78,10 @@ impl Field for Digest {
 
     fn write(&self, out: &mut Vec<u8>) -> Result<(), OutOfMemory> {
         Digest::write(self, out)
+    }
+
+    fn add_to(&self, hasher: &mut Sha256) {
+        hasher.update(&self.0);
     }
 
     fn read(_alloc: Global, input: &mut Bytes) -> Result<Digest, CodecError> {

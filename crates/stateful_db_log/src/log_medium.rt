@@ -12,15 +12,17 @@ use stateful_db::{DbCall, InitError};
 use stateful_db_medium::{Checkpoint, Medium};
 use std::alloc::Global;
 
-/// The checkpoints, and the operations from the location `first` up to the end of the newest one.
+/// The checkpoints, the operations from the location `first` up to the end of the newest one, and
+/// the digest before these. Each checkpoint begins and ends at `first` or behind it.
 #[derive(Drop)]
 pub struct LogMedium<Op> {
     pub(crate) medium: Medium<()>,
     pub(crate) first: u64,
+    pub(crate) before: Digest,
     pub(crate) ops: Run<Op>,
     ghost begins: { (i : ℕ) (k : Checkpoint (Unit {0}))
         → slice_get (all (kept.disk_of medium)) i ≡ Some k
-        → first ≤ k.target.start.0 },
+        → first ≤ min k.target.start.0 k.target.end.0 },
     ghost ends: { (kept.disk_of medium).newest.target.end.0 ≡ first + length ops },
 }
 
@@ -43,11 +45,13 @@ impl<Op: Drop> LogMedium<Op> {
     ghost use Rattle.stateful_db_medium.specs.Called.{number_of, IsListed, Called};
     ghost use Rattle.stateful_db_medium.specs.Ranged.{range_of};
     ghost use Rattle.stateful_db_medium.specs.Openings.{IsNumberOf};
-    ghost use Rattle.stateful_db_log.specs.Logs.{disk_of, next_of, calls_of, standing_of, next_here};
-    ghost use Rattle.stateful_db_log.specs.Logs.{calls_here};
+    ghost use Rattle.stateful_db_log.specs.Chained.{unlinked};
+    ghost use Rattle.stateful_db_log.specs.Held.{until};
+    ghost use Rattle.stateful_db_log.specs.Logs.{disk_of, next_of, calls_of, held_of};
+    ghost use Rattle.stateful_db_log.specs.Logs.{standing_of, next_here, calls_here, held_here};
 
-    /// A medium with one operation alone, behind which this digest stands. The calls that are
-    /// listed, by kind and by number from 0 on, fail.
+    /// A medium with one operation alone, behind which this digest stands, and 32 bytes that are 0
+    /// before it. The calls that are listed, by kind and by number from 0 on, fail.
     pub fn new(alloc: Global, op: Op, root: Digest, failing: Vec<(DbCall, u64)>) -> LogMedium<Op>
         ensures disk { disk_of result ≡ record {
           older = [];
@@ -62,6 +66,7 @@ impl<Op: Drop> LogMedium<Op> {
         ensures failing { (calls_of result).failing ≡ failing }
         ensures numbers { (call : DbCall) → number_of (calls_of result).numbers call ≡ 0 }
         ensures faults { (calls_of result).faults ≡ 0 }
+        ensures held { held_of result ≡ record { first = 0; before = unlinked; ops = op ∷ [] } }
     {
         let target = Target {
             root,
@@ -71,6 +76,7 @@ impl<Op: Drop> LogMedium<Op> {
         LogMedium {
             medium: Medium::new(alloc, Checkpoint { target, kept: () }, failing),
             first: 0,
+            before: Digest([0; 32]),
             ops: Run::one(alloc, op),
         }
     }
@@ -100,6 +106,7 @@ impl<Op: Drop> LogMedium<Op> {
         ensures count { (calls_of self.old).faults ≤ (calls_of self.new).faults }
         ensures disk { disk_of self.new ≡ disk_of self.old }
         ensures next { next_of self.new ≡ next_of self.old }
+        ensures held { held_of self.new ≡ held_of self.old }
     {
         self.medium.number_to_open(expected)
     }
@@ -110,11 +117,23 @@ impl<Op: Drop> LogMedium<Op> {
         ensures opens { OpensAt range_of (λ t. t) number (disk_of self) (standing_of result) }
         ensures next { next_here result ≡ next_of self }
         ensures calls { calls_here result ≡ calls_of self }
+        ensures held { held_here result
+            ≡ until (held_of self) (standing_of result).disk.newest.target.end.0 }
     {
-        let LogMedium { medium, first, ops } = self;
+        let LogMedium {
+            medium,
+            first,
+            before,
+            ops,
+        } = self;
         let opened = medium.open(number);
-        let (first, ops) = cut_off(first, ops, opened.newest().target.end);
-        OpenLog { opened, first, ops }
+        let left = cut_off(first, ops, opened.newest().target.end);
+        OpenLog {
+            opened,
+            first,
+            before,
+            ops: left,
+        }
     }
 
     /// What a crash leaves: the durable checkpoints, and of the others as many as `keep` allows.
@@ -122,24 +141,55 @@ impl<Op: Drop> LogMedium<Op> {
         ensures disk { IsCrash keep (disk_of self) (disk_of result) }
         ensures next { next_of result ≡ next_of self }
         ensures calls { calls_of result ≡ calls_of self }
+        ensures held { held_of result
+            ≡ until (held_of self) (disk_of result).newest.target.end.0 }
     {
         let LogMedium {
             mut medium,
             first,
+            before,
             ops,
         } = self;
         medium.cut(keep);
-        let (first, ops) = cut_off(first, ops, medium.newest().target.end);
-        LogMedium { medium, first, ops }
+        let left = cut_off(first, ops, medium.newest().target.end);
+        LogMedium {
+            medium,
+            first,
+            before,
+            ops: left,
+        }
+    }
+
+    /// One durable checkpoint in place of all that are kept, with the operations of its range and
+    /// the digest before them. It takes no memory. The next batch id and the calls stay.
+    pub fn replaced(self, target: Target, before: Digest, ops: Vec<Op>) -> LogMedium<Op>
+        requires ranged { target.start.0 < target.end.0 }
+        requires whole { length ops.items ≡ target.end.0 - target.start.0 }
+        ensures disk { disk_of result ≡ record {
+          older = [];
+          newest = record { target = target; kept = ops.items };
+          pruned = 0;
+          durable = 0;
+        } }
+        ensures held { held_of result
+            ≡ record { first = target.start.0; before = before; ops = ops.items } }
+        ensures next { next_of result ≡ next_of self }
+        ensures calls { calls_of result ≡ calls_of self }
+    {
+        LogMedium {
+            medium: self.medium.replaced(Checkpoint { target, kept: () }),
+            first: target.start.0,
+            before,
+            ops: Run::of(ops),
+        }
     }
 }
 
 /// Of operations that begin at `first`, those before an end.
-fn cut_off<Op: Drop>(first: u64, ops: Run<Op>, end: Location) -> (u64, Run<Op>)
-    ensures first { result.0 ≡ min first end.0 }
-    ensures ops { result.1 ≡ take (end.0 - first) ops }
+fn cut_off<Op: Drop>(first: u64, ops: Run<Op>, end: Location) -> Run<Op>
+    ensures { result ≡ take (end.0 - first) ops }
 {
     let mut ops = ops;
     ops.truncate(end.0.saturating_sub(first));
-    (first.min(end.0), ops)
+    ops
 }

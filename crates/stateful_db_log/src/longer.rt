@@ -3,7 +3,8 @@
 ghost use Rattle.std.specs.Prelude.{◌≡◌, ◌+◌, ◌-◌, ◌++◌, length, IsTrue, ◌≤◌, IfOk, IfErr};
 ghost use Rattle.stateful_db.specs.Disk.{applied};
 ghost use Rattle.stateful_db_log.specs.Logs.{extended, disk_of, next_of, calls_of, standing_of};
-ghost use Rattle.stateful_db_log.specs.Logs.{next_here, calls_here};
+ghost use Rattle.stateful_db_log.specs.Logs.{next_here, calls_here, held_of, held_here};
+ghost use Rattle.stateful_db_log.specs.Held.{further};
 
 use crate::log_medium::LogMedium;
 use crate::open_log::OpenLog;
@@ -22,9 +23,11 @@ pub fn longer<Op: Share + Drop>(
         ≡ record s { id = id; disk = applied s.disk (extended s.disk.newest more.now target) }) }
     ensures ok_next { IfOk result (λ o. next_here o ≡ next_here log) }
     ensures ok_calls { IfOk result (λ o. calls_here o ≡ calls_here log) }
+    ensures ok_held { IfOk result (λ o. held_here o ≡ further (held_here log) more.now) }
     ensures err { IfErr result (λ m. disk_of m ≡ (standing_of log).disk) }
     ensures err_next { IfErr result (λ m. next_of m ≡ next_here log) }
     ensures err_calls { IfErr result (λ m. calls_of m ≡ calls_here log) }
+    ensures err_held { IfErr result (λ m. held_of m ≡ held_here log) }
 {
     let newest = log.target();
     if !is_next(newest, more.len() as u64, target) {
@@ -33,16 +36,34 @@ pub fn longer<Op: Share + Drop>(
     let OpenLog {
         mut opened,
         first,
+        before,
         mut ops,
     } = log;
     if ops.append(more).is_err() {
-        return Err(OpenLog { opened, first, ops }.close());
+        return Err(OpenLog {
+            opened,
+            first,
+            before,
+            ops,
+        }
+        .close());
     }
     match opened.push(id, Checkpoint { target, kept: () }) {
-        Ok(()) => Ok(OpenLog { opened, first, ops }),
+        Ok(()) => Ok(OpenLog {
+            opened,
+            first,
+            before,
+            ops,
+        }),
         Err(_) => {
             ops.truncate(newest.end.0 - first);
-            Err(OpenLog { opened, first, ops }.close())
+            Err(OpenLog {
+                opened,
+                first,
+                before,
+                ops,
+            }
+            .close())
         }
     }
 }

@@ -1,30 +1,29 @@
 //! What an open log database adds to its medium.
 
-ghost use Rattle.std.specs.Prelude.{◌≡◌, ◌≤◌, ◌+◌, ℕ, length, slice_get, Some};
+ghost use Rattle.std.specs.Prelude.{◌≡◌, ◌≤◌, ◌+◌, ℕ, min, length, slice_get, Some};
 ghost use Rattle.stateful_db.specs.Disk.{all};
 ghost use Rattle.stateful_db_medium.specs.Kept as kept;
-ghost use Rattle.stateful_db_medium.specs.Mapped.{mapped};
-ghost use Rattle.stateful_db_log.specs.Between.{state_in};
 ghost use Rattle.stateful_db_medium.specs.declared.checkpoints.Checkpoint.{Checkpoint};
 
 use crate::log_medium::LogMedium;
 use crate::longer::longer;
 use crate::run::Run;
-use stateful_base::{Faulty, Location, Share, Target};
+use stateful_base::{Digest, Faulty, Location, Share, Target};
 use stateful_db::{Broken, DbCall, Exhausted, FlushToken, Why};
 use stateful_db_medium::{Medium, Opened};
 use std::alloc::Global;
 
-/// An open database, and the operations from the location `first` up to the end of the newest
-/// checkpoint.
+/// An open database, the operations from the location `first` up to the end of the newest
+/// checkpoint, and the digest before these. Each checkpoint begins and ends at `first` or behind it.
 #[derive(Drop)]
 pub struct OpenLog<Op> {
     pub(crate) opened: Opened<()>,
     pub(crate) first: u64,
+    pub(crate) before: Digest,
     pub(crate) ops: Run<Op>,
     ghost begins: { (i : ℕ) (k : Checkpoint (Unit {0}))
         → slice_get (all (kept.standing_of opened).disk) i ≡ Some k
-        → first ≤ k.target.start.0 },
+        → first ≤ min k.target.start.0 k.target.end.0 },
     ghost ends: { (kept.standing_of opened).disk.newest.target.end.0 ≡ first + length ops },
 }
 
@@ -42,12 +41,12 @@ impl<Op: Drop> OpenLog<Op> {
     ghost use Rattle.std.specs.Prelude.{◌≢◌, ◌<◌, ◌-◌, ◌^◌, ◌++◌, ◌∷◌, [], ◌==◌, ◌↔◌, position};
     ghost use Rattle.std.specs.Prelude.{Contains, IfOk, IfErr, IsErrAnd};
     ghost use Rattle.stateful_base.specs.Causes.{Rose};
-    ghost use Rattle.stateful_db.specs.Disk.{place, flushed, cut};
+    ghost use Rattle.stateful_db.specs.Disk.{place, flushed};
     ghost use Rattle.stateful_db.specs.Tokens.{without};
     ghost use Rattle.stateful_db.specs.declared.database.DbCall.{DbCall};
     ghost use Rattle.stateful_db_medium.specs.Called.{IsListed, Called};
-    ghost use Rattle.stateful_db_log.specs.Logs.{disk_of, next_of, calls_of, standing_of, next_here};
-    ghost use Rattle.stateful_db_log.specs.Logs.{calls_here};
+    ghost use Rattle.stateful_db_log.specs.Logs.{disk_of, next_of, calls_of, held_of};
+    ghost use Rattle.stateful_db_log.specs.Logs.{standing_of, next_here, calls_here, held_here};
 
     /// The id of the last applied batch.
     pub fn id(&self) -> u64
@@ -73,11 +72,18 @@ impl<Op: Drop> OpenLog<Op> {
         ensures disk { disk_of result ≡ (standing_of self).disk }
         ensures next { next_of result ≡ next_here self }
         ensures calls { calls_of result ≡ calls_here self }
+        ensures held { held_of result ≡ held_here self }
     {
-        let OpenLog { opened, first, ops } = self;
+        let OpenLog {
+            opened,
+            first,
+            before,
+            ops,
+        } = self;
         LogMedium {
             medium: opened.close(),
             first,
+            before,
             ops,
         }
     }
@@ -91,6 +97,7 @@ impl<Op: Drop> OpenLog<Op> {
         ensures within { IfOk result (λ n. n < 2 ^ 64 - 1) }
         ensures standing { standing_of self.new ≡ standing_of self.old }
         ensures calls { calls_here self.new ≡ calls_here self.old }
+        ensures held { held_here self.new ≡ held_here self.old }
     {
         self.opened.draw()
     }
@@ -101,20 +108,32 @@ impl<Op: Drop> OpenLog<Op> {
         ensures ok_next { IfOk result (λ o. next_here o ≡ next_here self) }
         ensures ok_count { IfOk result (λ o. (calls_here self).faults ≤ (calls_here o).faults) }
         ensures ok_called { IfOk result (λ o. Called call (calls_here self) (calls_here o)) }
+        ensures ok_held { IfOk result (λ o. held_here o ≡ held_here self) }
         ensures err { IfErr result (λ b. disk_of b.medium ≡ (standing_of self).disk) }
         ensures err_next { IfErr result (λ b. next_of b.medium ≡ next_here self) }
         ensures err_count { IfErr result (λ b. (calls_here self).faults ≤ (calls_of b.medium).faults) }
         ensures err_called { IfErr result (λ b. Called call (calls_here self) (calls_of b.medium)) }
+        ensures err_held { IfErr result (λ b. held_of b.medium ≡ held_here self) }
         ensures failed { IfErr result (λ b.
             Rose (calls_here self).faults (calls_of b.medium).faults) }
         ensures why { IfErr result (λ b. b.why ≡ Why.Failed) }
         ensures err_listed { IfErr result (λ _. IsListed (calls_here self) call) }
         ensures ok_listed { IfOk result (λ _. IsListed (calls_here self) call → ⊥) }
     {
-        let OpenLog { opened, first, ops } = self;
+        let OpenLog {
+            opened,
+            first,
+            before,
+            ops,
+        } = self;
         match opened.begin(call) {
-            Ok(opened) => Ok(OpenLog { opened, first, ops }),
-            Err(change) => Err(broken(change, first, ops)),
+            Ok(opened) => Ok(OpenLog {
+                opened,
+                first,
+                before,
+                ops,
+            }),
+            Err(change) => Err(broken(change, first, before, ops)),
         }
     }
 
@@ -128,21 +147,36 @@ impl<Op: Drop> OpenLog<Op> {
         ensures ok_count { IfOk result (λ r. (calls_here self).faults ≤ (calls_here r.0).faults) }
         ensures ok_called { IfOk result (λ r.
             Called DbCall.Finalize (calls_here self) (calls_here r.0)) }
+        ensures ok_held { IfOk result (λ r. held_here r.0 ≡ held_here self) }
         ensures err { IfErr result (λ b. disk_of b.medium ≡ (standing_of self).disk) }
         ensures err_next { IfErr result (λ b. next_of b.medium ≡ next_here self) }
         ensures err_count { IfErr result (λ b. (calls_here self).faults ≤ (calls_of b.medium).faults) }
         ensures err_called { IfErr result (λ b.
             Called DbCall.Finalize (calls_here self) (calls_of b.medium)) }
+        ensures err_held { IfErr result (λ b. held_of b.medium ≡ held_here self) }
         ensures failed { IfErr result (λ b.
             b.why ≡ Why.Failed → Rose (calls_here self).faults (calls_of b.medium).faults) }
         ensures listed { IsErrAnd result (λ b. b.why ≡ Why.Failed)
             ↔ IsListed (calls_here self) DbCall.Finalize }
         ensures memory { IfErr result (λ b. b.why ≢ Why.OutOfMemory) }
     {
-        let OpenLog { opened, first, ops } = self;
+        let OpenLog {
+            opened,
+            first,
+            before,
+            ops,
+        } = self;
         match opened.finalize() {
-            Ok((opened, token)) => Ok((OpenLog { opened, first, ops }, token)),
-            Err(change) => Err(broken(change, first, ops)),
+            Ok((opened, token)) => Ok((
+                OpenLog {
+                    opened,
+                    first,
+                    before,
+                    ops,
+                },
+                token,
+            )),
+            Err(change) => Err(broken(change, first, before, ops)),
         }
     }
 
@@ -157,21 +191,33 @@ impl<Op: Drop> OpenLog<Op> {
         ensures ok_count { IfOk result (λ o. (calls_here self).faults ≤ (calls_here o).faults) }
         ensures ok_called { IfOk result (λ o.
             Called DbCall.Flush (calls_here self) (calls_here o)) }
+        ensures ok_held { IfOk result (λ o. held_here o ≡ held_here self) }
         ensures err { IfErr result (λ b. disk_of b.medium ≡ (standing_of self).disk) }
         ensures err_next { IfErr result (λ b. next_of b.medium ≡ next_here self) }
         ensures err_count { IfErr result (λ b. (calls_here self).faults ≤ (calls_of b.medium).faults) }
         ensures err_called { IfErr result (λ b.
             Called DbCall.Flush (calls_here self) (calls_of b.medium)) }
+        ensures err_held { IfErr result (λ b. held_of b.medium ≡ held_here self) }
         ensures failed { IfErr result (λ b.
             b.why ≡ Why.Failed → Rose (calls_here self).faults (calls_of b.medium).faults) }
         ensures listed { IsErrAnd result (λ b. b.why ≡ Why.Failed)
             ↔ IsListed (calls_here self) DbCall.Flush }
         ensures memory { IfErr result (λ b. b.why ≢ Why.OutOfMemory) }
     {
-        let OpenLog { opened, first, ops } = self;
+        let OpenLog {
+            opened,
+            first,
+            before,
+            ops,
+        } = self;
         match opened.flush(token) {
-            Ok(opened) => Ok(OpenLog { opened, first, ops }),
-            Err(change) => Err(broken(change, first, ops)),
+            Ok(opened) => Ok(OpenLog {
+                opened,
+                first,
+                before,
+                ops,
+            }),
+            Err(change) => Err(broken(change, first, before, ops)),
         }
     }
 
@@ -180,36 +226,6 @@ impl<Op: Drop> OpenLog<Op> {
         ensures { result ≡ position (λ s. s.target.end.0 == end.0) (all (standing_of self.now).disk) }
     {
         self.opened.number_with_end(end)
-    }
-
-    /// Takes no memory. Drops so many of the oldest checkpoints, and the operations below the start
-    /// of the oldest that is left. The durable checkpoint stays, and no token may be out.
-    pub fn prune_first(self, count: usize) -> Result<OpenLog<Op>, Broken<LogMedium<Op>>>
-        requires idle { (standing_of self).out ≡ [] }
-        requires within { count ≤ length (standing_of self).disk.older }
-        requires kept { (standing_of self).disk.pruned + count ≤ (standing_of self).disk.durable }
-        ensures ok { IfOk result (λ o. standing_of o
-            ≡ record (standing_of self) { disk = cut (standing_of self).disk count }) }
-        ensures ok_next { IfOk result (λ o. next_here o ≡ next_here self) }
-        ensures ok_count { IfOk result (λ o. (calls_here self).faults ≤ (calls_here o).faults) }
-        ensures ok_called { IfOk result (λ o.
-            Called DbCall.Prune (calls_here self) (calls_here o)) }
-        ensures err { IfErr result (λ b. disk_of b.medium ≡ (standing_of self).disk) }
-        ensures err_next { IfErr result (λ b. next_of b.medium ≡ next_here self) }
-        ensures err_count { IfErr result (λ b. (calls_here self).faults ≤ (calls_of b.medium).faults) }
-        ensures err_called { IfErr result (λ b.
-            Called DbCall.Prune (calls_here self) (calls_of b.medium)) }
-        ensures failed { IfErr result (λ b.
-            b.why ≡ Why.Failed → Rose (calls_here self).faults (calls_of b.medium).faults) }
-        ensures listed { IsErrAnd result (λ b. b.why ≡ Why.Failed)
-            ↔ IsListed (calls_here self) DbCall.Prune }
-        ensures memory { IfErr result (λ b. b.why ≢ Why.OutOfMemory) }
-    {
-        let OpenLog { opened, first, ops } = self;
-        match opened.prune_first(count) {
-            Ok(opened) => Ok(shortened(opened, first, ops)),
-            Err(change) => Err(broken(change, first, ops)),
-        }
     }
 }
 
@@ -220,7 +236,8 @@ impl<Op: Share + Drop> OpenLog<Op> {
     ghost use Rattle.stateful_db.specs.declared.database.DbCall.{DbCall};
     ghost use Rattle.stateful_db_medium.specs.Called.{IsListed, Called};
     ghost use Rattle.stateful_db_log.specs.Logs.{extended, disk_of, next_of, calls_of, standing_of};
-    ghost use Rattle.stateful_db_log.specs.Logs.{next_here, calls_here};
+    ghost use Rattle.stateful_db_log.specs.Logs.{next_here, calls_here, held_of, held_here};
+    ghost use Rattle.stateful_db_log.specs.Held.{further};
 
     /// Appends the operations of a batch that is applied, and adds its checkpoint. Where its range
     /// doesn't end behind them, or starts before the newest one does, it is refused as if memory
@@ -238,22 +255,39 @@ impl<Op: Share + Drop> OpenLog<Op> {
         ensures ok_count { IfOk result (λ o. (calls_here self).faults ≤ (calls_here o).faults) }
         ensures ok_called { IfOk result (λ o.
             Called DbCall.Apply (calls_here self) (calls_here o)) }
+        ensures ok_held { IfOk result (λ o. held_here o ≡ further (held_here self) more.now) }
         ensures err { IfErr result (λ b. disk_of b.medium ≡ (standing_of self).disk) }
         ensures err_next { IfErr result (λ b. next_of b.medium ≡ next_here self) }
         ensures err_count { IfErr result (λ b. (calls_here self).faults ≤ (calls_of b.medium).faults) }
         ensures err_called { IfErr result (λ b.
             Called DbCall.Apply (calls_here self) (calls_of b.medium)) }
+        ensures err_held { IfErr result (λ b. held_of b.medium ≡ held_here self) }
         ensures failed { IfErr result (λ b.
             b.why ≡ Why.Failed → Rose (calls_here self).faults (calls_of b.medium).faults) }
         ensures listed { IsErrAnd result (λ b. b.why ≡ Why.Failed)
             ↔ IsListed (calls_here self) DbCall.Apply }
     {
-        let OpenLog { opened, first, ops } = self;
+        let OpenLog {
+            opened,
+            first,
+            before,
+            ops,
+        } = self;
         let opened = match opened.begin(DbCall::Apply) {
             Ok(opened) => opened,
-            Err(change) => return Err(broken(change, first, ops)),
+            Err(change) => return Err(broken(change, first, before, ops)),
         };
-        match longer(OpenLog { opened, first, ops }, id, more, target) {
+        match longer(
+            OpenLog {
+                opened,
+                first,
+                before,
+                ops,
+            },
+            id,
+            more,
+            target,
+        ) {
             Ok(log) => Ok(log),
             Err(medium) => Err(Broken {
                 medium,
@@ -264,40 +298,30 @@ impl<Op: Share + Drop> OpenLog<Op> {
 }
 
 /// The failed change of a log database.
-fn broken<Op>(change: Broken<Medium<()>>, first: u64, ops: Run<Op>) -> Broken<LogMedium<Op>>
+pub(crate) fn broken<Op>(
+    change: Broken<Medium<()>>,
+    first: u64,
+    before: Digest,
+    ops: Run<Op>,
+) -> Broken<LogMedium<Op>>
     requires begins { (i : ℕ) (k : Checkpoint (Unit {0}))
         → slice_get (all (kept.disk_of change.medium)) i ≡ Some k
-        → first ≤ k.target.start.0 }
+        → first ≤ min k.target.start.0 k.target.end.0 }
     requires ends { (kept.disk_of change.medium).newest.target.end.0 ≡ first + length ops }
     ensures medium { result.medium.medium ≡ change.medium }
     ensures first { result.medium.first ≡ first }
+    ensures before { result.medium.before ≡ before }
     ensures ops { result.medium.ops ≡ ops }
     ensures why { result.why ≡ change.why }
 {
     let Broken { medium, why } = change;
     Broken {
-        medium: LogMedium { medium, first, ops },
+        medium: LogMedium {
+            medium,
+            first,
+            before,
+            ops,
+        },
         why,
-    }
-}
-
-/// Without the operations that no kept checkpoint has.
-fn shortened<Op: Drop>(opened: Opened<()>, first: u64, ops: Run<Op>) -> OpenLog<Op>
-    requires begins { (i : ℕ) (k : Checkpoint (Unit {0}))
-        → slice_get (all (kept.standing_of opened).disk) i ≡ Some k
-        → first ≤ k.target.start.0 }
-    requires ends { (kept.standing_of opened).disk.newest.target.end.0 ≡ first + length ops }
-    ensures opened { result.opened ≡ opened }
-    ensures disk { mapped (state_in result.first result.ops) (kept.standing_of opened).disk
-        ≡ mapped (state_in first ops) (kept.standing_of opened).disk }
-{
-    let start = opened.oldest().target.start.0;
-    let later = start.min(opened.newest().target.end.0);
-    let mut ops = ops;
-    ops.drop_first(later - first);
-    OpenLog {
-        opened,
-        first: later,
-        ops,
     }
 }

@@ -1,14 +1,16 @@
 //! The operations of a log, by location.
 
 ghost use Rattle.std.specs.Prelude.{◌≡◌, ◌-◌, ◌≤◌, ◌<◌, List, Some, None, length, slice_get};
-ghost use Rattle.std.specs.Option.{option_copied};
+ghost use Rattle.std.specs.Option.{option_copied, SomeIff};
 ghost use Rattle.stateful_db.specs.Disk.{all};
 ghost use Rattle.stateful_db_medium.specs.declared.checkpoints.Checkpoint.{Checkpoint};
-ghost use Rattle.stateful_db_log.specs.Logs.{disk_of, standing_of};
+ghost use Rattle.stateful_db_log.specs.Held.{digest_at};
+ghost use Rattle.stateful_db_log.specs.Logs.{disk_of, standing_of, held_here};
 
+use crate::linked::Linked;
 use crate::log_medium::LogMedium;
 use crate::open_log::OpenLog;
-use stateful_base::Target;
+use stateful_base::{Digest, Target};
 
 impl<Op: Drop> OpenLog<Op> {
     /// The operation at a location of the newest checkpoint's range. None outside of the range.
@@ -23,6 +25,46 @@ impl<Op: Drop> OpenLog<Op> {
             return None;
         }
         self.ops.get(at - self.first)
+    }
+
+    /// The location of the first operation that is held.
+    pub fn first(&self) -> u64
+        ensures { result ≡ (held_here self.now).first }
+    {
+        self.first
+    }
+
+    /// The operation that is held at a location, whether or not the newest checkpoint's range has
+    /// it. None before the first one and behind the last.
+    pub fn held(&self, at: u64) -> Option<&Op>
+        ensures inside { let h = held_here self.now in
+            h.first ≤ at
+            → option_copied result ≡ slice_get h.ops (at - h.first) }
+        ensures below { at < (held_here self.now).first → result ≡ None }
+    {
+        if at < self.first {
+            return None;
+        }
+        self.ops.get(at - self.first)
+    }
+}
+
+impl<Op: Linked> OpenLog<Op> {
+    /// The digest before the operation at a location. None before the first operation that is held,
+    /// and behind the end of the newest checkpoint. It takes no memory.
+    pub fn digest_at(&self, at: u64) -> Option<Digest>
+        ensures { let h = held_here self.now in
+            let end = (standing_of self.now).disk.newest.target.end.0 in
+            SomeIff result ((h.first ≤ at) × (at ≤ end)) (digest_at Op.linked h at) }
+    {
+        let end = self.opened.newest().target.end;
+        if at < self.first || at > end.0 {
+            return None;
+        }
+        let digest = self
+            .ops
+            .link_first(at - self.first, self.first, self.before);
+        Some(digest)
     }
 }
 

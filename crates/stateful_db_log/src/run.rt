@@ -1,10 +1,12 @@
 //! Operations that stand one behind another, and are kept once.
 
-ghost use Rattle.std.specs.Prelude.{◌≡◌, ◌++◌, ◌∷◌, ◌-◌, ◌^◌, List, [], min, length, take, drop};
-ghost use Rattle.std.specs.Prelude.{slice_get, OnOk, OnErr};
+ghost use Rattle.std.specs.Prelude.{◌≡◌, ◌++◌, ◌∷◌, ◌+◌, ◌-◌, ◌^◌, ◌≤◌, List, [], min, length};
+ghost use Rattle.std.specs.Prelude.{take, drop, slice_get, OnOk, OnErr};
 ghost use Rattle.std.specs.Option.{option_copied};
+ghost use Rattle.stateful_db_log.specs.Linking.{behind};
 
-use stateful_base::{OutOfMemory, Share};
+use crate::linked::{Linked, link_each};
+use stateful_base::{Digest, OutOfMemory, Share};
 use std::alloc::Global;
 use std::marker::Model;
 
@@ -33,6 +35,16 @@ impl<Op: Drop> Run<Op> {
         Run {
             apart: Some(op),
             rest: Vec::new(alloc),
+        }
+    }
+
+    /// The operations of a vector, with no copy.
+    pub fn of(ops: Vec<Op>) -> Run<Op>
+        ensures { result ≡ ops.items }
+    {
+        Run {
+            apart: None,
+            rest: ops,
         }
     }
 
@@ -94,6 +106,33 @@ impl<Op: Drop> Run<Op> {
     {
         append_all(&mut self.rest, more)
     }
+}
+
+impl<Op: Linked> Run<Op> {
+    /// The digest behind so many of the first, or behind all where there are fewer. The first one
+    /// stands at this location and behind this digest. It takes no memory.
+    pub fn link_first(&self, count: u64, at: u64, before: Digest) -> Digest
+        requires { at + count ≤ 2 ^ 64 - 1 }
+        ensures { result ≡ behind Op.linked at before (take count self.now) }
+    {
+        match &self.apart {
+            None => link_front(self.rest.as_slice(), count, at, before),
+            Some(_) if count == 0 => before,
+            Some(op) => {
+                let digest = op.link(at, before);
+                link_front(self.rest.as_slice(), count - 1, at + 1, digest)
+            }
+        }
+    }
+}
+
+/// The digest behind so many of the first, or behind all where there are fewer.
+fn link_front<Op: Linked>(ops: &[Op], count: u64, at: u64, before: Digest) -> Digest
+    requires { at + count ≤ 2 ^ 64 - 1 }
+    ensures { result ≡ behind Op.linked at before (take count ops.now) }
+{
+    let front = (count as usize).min(ops.len());
+    link_each(at, before, &ops[..front])
 }
 
 /// Drops so many of the first.

@@ -81,6 +81,20 @@ impl<X: Drop> Checkpoints<X> {
         self.pruned + self.older.len() as u64
     }
 
+    /// How many of the oldest were pruned.
+    pub fn pruned(&self) -> u64
+        ensures { result ≡ (disk_in self.now).pruned }
+    {
+        self.pruned
+    }
+
+    /// The place of the last durable one.
+    pub fn durable(&self) -> u64
+        ensures { result ≡ (disk_in self.now).durable }
+    {
+        self.durable
+    }
+
     /// The number of the newest.
     pub fn latest(&self) -> usize
         ensures { result ≡ length (disk_in self.now).older }

@@ -109,6 +109,20 @@ impl<X: Drop> Medium<X> {
         self.checkpoints.number_with_end(end)
     }
 
+    /// How many of the oldest checkpoints were pruned.
+    pub fn pruned(&self) -> u64
+        ensures { result ≡ (disk_of self.now).pruned }
+    {
+        self.checkpoints.pruned()
+    }
+
+    /// The place of the last durable checkpoint, the pruned ones counted.
+    pub fn durable(&self) -> u64
+        ensures { result ≡ (disk_of self.now).durable }
+    {
+        self.checkpoints.durable()
+    }
+
     /// The number of the newest.
     pub fn latest(&self) -> usize
         ensures { result ≡ length (disk_of self.now).older }
@@ -145,6 +159,20 @@ impl<X: Drop> Medium<X> {
             out: Tokens::new(),
             medium,
         }
+    }
+
+    /// One durable checkpoint in place of all that are kept. It takes no memory. The next batch id
+    /// and the calls stay.
+    pub fn replaced(self, checkpoint: Checkpoint<X>) -> Medium<X>
+        requires { 0 < checkpoint.target.end.0 }
+        ensures disk { disk_of result
+            ≡ record { older = []; newest = checkpoint; pruned = 0; durable = 0 } }
+        ensures next { next_of result ≡ next_of self }
+        ensures calls { calls_of result ≡ calls_of self }
+    {
+        let mut medium = self;
+        medium.checkpoints = Checkpoints::new(medium.allocator(), checkpoint);
+        medium
     }
 
     /// What a crash leaves: the durable checkpoints, and of the others as many as `keep` allows.

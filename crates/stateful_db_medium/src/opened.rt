@@ -45,6 +45,20 @@ impl<X: Drop> Opened<X> {
         self.id
     }
 
+    /// The medium.
+    pub fn medium(&self) -> &Medium<X>
+        ensures { result.now ≡ medium_of self.now }
+    {
+        &self.medium
+    }
+
+    /// The tokens that are out.
+    pub fn tokens(&self) -> Tokens
+        ensures { result ≡ (standing_of self.now).out }
+    {
+        self.out
+    }
+
     /// The newest checkpoint.
     pub fn newest(&self) -> &Checkpoint<X>
         ensures { result.now ≡ (standing_of self.now).disk.newest }

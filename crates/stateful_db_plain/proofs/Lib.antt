@@ -1,8 +1,7 @@
-pub mod Positions
-pub mod Opening
-pub mod Listing
-pub mod Ascending
-pub mod TokenPlaces
+pub mod Rooted
+pub mod Bounds
+pub mod OpReads
+pub mod OpWrites
 pub mod Entries
 pub mod Written
 pub mod Showing

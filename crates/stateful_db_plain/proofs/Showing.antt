@@ -2,17 +2,17 @@
 use Rattle.std.proofs.Common.{◌≡◌, ℕ, ◌+◌, ◌<◌, ◌==◌, ◌||◌, Bool, true, false, List, [], ◌∷◌, ◌++◌, Option, refl, sym, ap, subst, ◌∙◌, arith}
 use Rattle.std.specs.Ordering.{nat_cmp}
 use Rattle.std.specs.BTreeMap.{BTreeMap, insert_entry}
-use Rattle.std.specs.Bool.{if◌then◌else◌}
 use Rattle.std.proofs.lemmas.Bool.Decides.{nat_tests}
 use Rattle.stateful_base.specs.declared.target.Target.{Target}
 use Rattle.stateful_db.specs.Chain.{has_id}
 use Rattle.stateful_db_overlay.specs.Stack.{Stack, has_layer, above, cut_at}
 use Rattle.stateful_db_overlay.specs.Chains.{Stands, has_id-layers, stands-cut}
-use Rattle.stateful_db_plain.specs.Whole.{Whole, put, value_at, target_of}
-use Rattle.stateful_db_plain.specs.Writes.{Change, Gives, value_over, value_through, IsInOrder}
-use Rattle.stateful_db_plain.specs.Shown.{After, EndsAt, IsDraft, DraftShows, SealShows}
+use Rattle.stateful_db_plain.specs.Whole.{Whole, put, value_at}
+use Rattle.stateful_db_plain.specs.Writes.{Change, Makes, Roots, value_over, value_through, IsInOrder}
+use Rattle.stateful_db_plain.specs.Shown.{After, EndsAt, DraftShows, SealShows}
 use Rattle.stateful_db_plain.specs.declared.batch.PlainUnmerkleized.{PlainUnmerkleized}
 use Rattle.stateful_db_plain.specs.declared.batch.PlainMerkleized.{PlainMerkleized}
+use Rattle.stateful_db_plain.proofs.Entries.{same_entries}
 use Rattle.stateful_db_plain.proofs.Written.{gives_put, gives_one}
 
 -- what the layers say of a key over the state on which they stand is the value of the newest point
@@ -52,13 +52,60 @@ ends_at [] p = refl
 ends_at (q ∷ []) p = refl
 ends_at (q ∷ r ∷ newer) p = ends_at (r ∷ newer) p
 
--- a state of the size that a sealed batch leads to, with these values at all keys, is its own
-pub after_one : (change : Change) (s t v : Whole) → After change s t → v.size ≡ change.target.end.0 → IsInOrder v.entries
-    → ((key : ℕ) → value_at v.entries key ≡ value_over change.writes key (value_at s.entries key))
-    → v ≡ t
-after_one change s t v after size up values =
-    gives_one change.writes s v t
-    (record { size = size ∙ ap (λ (g : Target). g.end.0) after.1 ∙ after.0.size; ordered = up; values = values })
+-- what is made of the entries of a state
+pub makes_from : (ws own : List (ℕ × Option ℕ)) (ls below : List (ℕ × Change)) (es out : List (ℕ × ℕ)) (s t : Whole) → ws ≡ own → ls ≡ below → es ≡ s.entries → t.entries ≡ out → IsInOrder out
+    → ((key : ℕ) → value_at out key ≡ value_over ws key (value_through ls key (value_at es key)))
+    → Makes own below s t
+makes_from ws own ls below es out s t is_own is_below is_base is_out up values =
+    let Up : List (ℕ × ℕ) → Type 0 = λ xs. IsInOrder xs in
+    record {
+      ordered = subst Up (sym is_out) up;
+      values = λ key.
+          ap (λ xs. value_at xs key) is_out
+          ∙ values key
+          ∙ ap (λ xs. value_over xs key (value_through ls key (value_at es key))) is_own
+          ∙ ap (λ xs. value_over own key (value_through xs key (value_at es key))) is_below
+          ∙ ap (λ xs. value_over own key (value_through below key (value_at xs key))) is_base;
+    }
+
+-- there is only one such state of a size
+pub makes_one : (own : List (ℕ × Option ℕ)) (below : List (ℕ × Change)) (s t v : Whole) → t.size ≡ v.size → Makes own below s t → Makes own below s v → t ≡ v
+makes_one own below s t v size one two =
+    let entries = same_entries t.entries v.entries one.ordered two.ordered (λ key. one.values key ∙ sym (two.values key)) in
+    λ i. record { size = size i; entries = entries i }
+
+-- the target of equal batches is that of their state
+pub roots_same : (l k : ℕ × Change) (b a : Stack Change) (s t : Whole) → k ≡ l → a ≡ b → t ≡ s → Roots l.1.target l.1.writes (above l.0 b.layers) s → Roots k.1.target k.1.writes (above k.0 a.layers) t
+roots_same l k b a s t is_layer is_below is_base roots =
+    let L : ℕ × Change → Type 0 = λ x. Roots x.1.target x.1.writes (above x.0 b.layers) s in
+    let B : Stack Change → Type 0 = λ x. Roots k.1.target k.1.writes (above k.0 x.layers) s in
+    let S : Whole → Type 0 = λ x. Roots k.1.target k.1.writes (above k.0 a.layers) x in
+    subst S (sym is_base) (subst B (sym is_below) (subst L (sym is_layer) roots))
+
+-- the id of its first point
+pub seal_id : (m : PlainMerkleized) (p : ℕ × Whole) (c : List (ℕ × Whole)) → SealShows m (p ∷ c) → m.layer.0 ≡ p.0
+seal_id m p [] h = absurd h.layers
+seal_id m p (q ∷ c) h = h.layers.0
+
+-- a state of the size that a sealed batch leads to, which it makes of the state on which its layers stand, is its own
+pub seal_state : (m : PlainMerkleized) (p : ℕ × Whole) (c : List (ℕ × Whole)) (v : Whole) → SealShows m (p ∷ c) → v.size ≡ m.layer.1.target.end.0
+    → Makes m.layer.1.writes (above m.layer.0 m.below.layers) m.base v
+    → v ≡ p.1
+seal_state m p [] v h size makes = absurd h.layers
+seal_state m p (q ∷ c) v h size makes =
+    let own = m.layer.1.writes in
+    let after : After m.layer.1 q.1 p.1 = h.layers.1.1.0 in
+    let stands : Stands After m.below.base m.below.layers (q ∷ c) = h.layers.1.1.1 in
+    let later : q.0 < m.layer.0 = omega (arith, h.layers.0, h.layers.1.0) in
+    gives_one own q.1 v p.1
+    (record {
+      size = size ∙ ap (λ (g : Target). g.end.0) after.1 ∙ after.0.size;
+      ordered = makes.ordered;
+      values = λ key.
+          makes.values key
+          ∙ ap (λ ls. value_over own key (value_through ls key (value_at m.base.entries key))) (above_all m.below.base m.layer.0 m.below.layers q c stands later)
+          ∙ sym (ap (λ o. value_over own key o) (layers_show m.below.base m.below.layers q c m.base key stands h.base));
+    })
     after.0
 
 module _ (u : PlainUnmerkleized) where
@@ -112,22 +159,6 @@ module _ (u : PlainUnmerkleized) where
           gives = gives_put u.writes.entries writes.entries q.1 p.1 key value is h.stands.gives;
         };
   }
-
-  -- its changes as a layer are its seal
-  pub draft_seals : (m : PlainMerkleized) (target : Target) → m.layer ≡ (u.id, record { writes = u.writes.entries; target = target }) → m.below ≡ u.below → m.base ≡ u.base
-      → ((p : ℕ × Whole) (c : List (ℕ × Whole)) → DraftShows u (p ∷ c) → target ≡ target_of p.1)
-      → (c : List (ℕ × Whole)) → DraftShows u c → SealShows m c
-  draft_seals m target layer below base leads [] h = absurd h.stands
-  draft_seals m target layer below base leads (p ∷ []) h = absurd h.stands
-  draft_seals m target layer below base leads (p ∷ q ∷ c) h =
-      let top : ℕ × Change = (u.id, record { writes = u.writes.entries; target = target }) in
-      let L : ℕ × Change → Type 0 = λ l. Stands After m.below.base (l ∷ m.below.layers) (p ∷ q ∷ c) in
-      let S : Stack Change → Type 0 = λ s. Stands After s.base (top ∷ s.layers) (p ∷ q ∷ c) in
-      let E : Whole → Type 0 = λ w. EndsAt (p ∷ q ∷ c) w in
-      record {
-        layers = subst L (sym layer) (subst S (sym below) (sym h.stands.id, (h.stands.later, ((h.stands.gives, leads p (q ∷ c) h), h.stands.layers))));
-        base = subst E (sym base) h.stands.base;
-      }
 
   -- the layers that a database at a point of its chain has taken in are dropped
   pub draft_cut : (v : PlainUnmerkleized) (r q p : ℕ × Whole) (newer older : List (ℕ × Whole)) → v ≡ record u { below = cut_at p.0 u.below; base = p.1 }

@@ -1,6 +1,8 @@
 pub mod Whole
-pub mod Called
-pub mod Sizes
+pub mod Bounded
+pub mod Ops
+pub mod OpsLaws
+pub mod Rooted
 pub mod Stored
 pub mod Writes
 pub mod Shown

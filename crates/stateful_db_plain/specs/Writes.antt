@@ -6,7 +6,7 @@ use Rattle.std.specs.BTreeMap.{is_at}
 use Rattle.std.specs.Map.{lookup, keys_of}
 use Rattle.std.specs.List.Sorted.{IsStrictlySortedBy}
 use Rattle.stateful_base.specs.declared.target.Target.{Target}
-use Rattle.stateful_db_plain.specs.Whole.{Whole, value_at}
+use Rattle.stateful_db_plain.specs.Whole.{Whole, value_at, target_of}
 
 -- What a sealed batch changes: the value of each key that it writes, or none where it takes the
 -- entry away, and the root with the range behind it.
@@ -33,3 +33,17 @@ pub record Gives (writes : List (ℕ × Option ℕ)) (s t : Whole) : Type 0 wher
   pub ordered : IsInOrder t.entries
   pub values : (key : ℕ)
       → value_at t.entries key ≡ value_over writes key (value_at s.entries key)
+
+-- the entries of the second state are those of the first, with the writes of sealed batches made
+-- and then these
+pub record Makes (writes : List (ℕ × Option ℕ)) (below : List (ℕ × Change)) (s t : Whole)
+    : Type 0 where
+  pub ordered : IsInOrder t.entries
+  pub values : (key : ℕ)
+      → value_at t.entries key
+      ≡ value_over writes key (value_through below key (value_at s.entries key))
+
+-- the target is that of each state of its size whose entries they give
+abbrev pub Roots : Target → List (ℕ × Option ℕ) → List (ℕ × Change) → Whole → Type 0
+Roots target writes below s =
+    (t : Whole) → t.size ≡ target.end.0 → Makes writes below s t → target ≡ target_of t

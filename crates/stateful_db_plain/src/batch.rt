@@ -3,18 +3,19 @@
 
 ghost use Rattle.std.specs.Prelude.{◌≡◌, ℕ, ◌+◌, ◌-◌, ◌^◌, ◌<◌, ◌≤◌, List, [], ◌∷◌, ◌++◌};
 ghost use Rattle.std.specs.Prelude.{IfOk, IfErr, OnOk, IsErrOf, ◌↔◌, false};
+ghost use Rattle.stateful_db_overlay.specs.Stack.{above};
 ghost use Rattle.stateful_db.specs.Batch.{RefusesSeal};
 ghost use Rattle.stateful_db.specs.Chain.{has_id, IsPoint};
 ghost use Rattle.stateful_db.specs.Disk.{point};
 ghost use Rattle.stateful_db_plain.specs.Whole.{Whole, value_at, put, target_of};
-ghost use Rattle.stateful_db_plain.specs.Stored.{standing_of};
-ghost use Rattle.stateful_db_plain.specs.Shown.{DraftShows, SealShows};
+ghost use Rattle.stateful_db_plain.specs.Writes.{Roots};
 
-use crate::changes::{PlainChanges, Writes, all_writes, changed, value_in};
+use crate::changes::{PlainChanges, Writes, made, value_in};
 use crate::database::Plain;
 use crate::state::PlainState;
 use stateful_base::{Digest, OutOfMemory, Target};
 use stateful_db::{BatchError, Merkleized, Unmerkleized};
+use stateful_db_medium::Checkpoint;
 use stateful_db_overlay::{Layer, Layers};
 use std::collections::BTreeMap;
 
@@ -31,15 +32,19 @@ pub struct PlainUnmerkleized {
 }
 
 /// A sealed batch: its own changes with its id, the layers below it, and the state of the database
-/// on which these stand.
+/// on which these stand. Its target is that of the state to which all these lead.
 #[derive(Drop)]
 pub struct PlainMerkleized {
     pub(crate) layer: Layer<PlainChanges>,
     pub(crate) below: Layers<PlainChanges>,
     pub(crate) base: PlainState,
+    ghost roots: { Roots layer.1.target layer.1.writes (above layer.0 below.layers) base },
 }
 
 impl PlainUnmerkleized {
+    ghost use Rattle.stateful_db_plain.specs.Stored.{standing_of};
+    ghost use Rattle.stateful_db_plain.specs.Shown.{DraftShows};
+
     /// The batch's value at a key. `StaleRead` exactly where the database is at no state of the
     /// batch's chain.
     pub fn get(&self, db: &Plain, key: u64) -> Result<Option<u64>, BatchError>
@@ -51,7 +56,7 @@ impl PlainUnmerkleized {
             → (IsErrOf result BatchError.StaleRead ↔ (has_id c (standing_of db.now).id ≡ false)) }
         ensures cause { IfErr result (λ e. e ≡ BatchError.StaleRead) }
     {
-        if !self.stands_on(db.id) {
+        if !self.stands_on(db.id()) {
             return Err(BatchError::StaleRead);
         }
         match self.writes.get(&key) {
@@ -81,7 +86,8 @@ impl PlainUnmerkleized {
 
     /// All layers below it: none has its own id.
     fn layers(&self) -> &[Layer<PlainChanges>]
-        ensures { (c : List (ℕ × Whole))
+        ensures above { result.now ≡ above self.now.id self.now.below.layers }
+        ensures all { (c : List (ℕ × Whole))
             → DraftShows self.now c
             → result.now ≡ self.now.below.layers }
     {
@@ -91,12 +97,14 @@ impl PlainUnmerkleized {
     /// The root and the range of its seal.
     fn target(&self) -> Result<Target, OutOfMemory>
         requires { self.now.size + 1 < 2 ^ 64 }
-        ensures { IfOk result (λ target. (p : ℕ × Whole) (c : List (ℕ × Whole))
+        ensures shown { IfOk result (λ target. (p : ℕ × Whole) (c : List (ℕ × Whole))
             → DraftShows self.now (p ∷ c)
             → target ≡ target_of p.1) }
+        ensures roots { IfOk result (λ target. Roots target self.now.writes.entries
+            (above self.now.id self.now.below.layers) self.now.base) }
     {
-        let writes = all_writes(self.below.allocator(), &self.writes, self.layers())?;
-        let entries = changed(self.base.entries(), &writes)?;
+        let alloc = self.below.allocator();
+        let entries = made(alloc, self.base.entries(), self.layers(), &self.writes)?;
         Ok(PlainState::new(self.size + 1, entries).target())
     }
 
@@ -112,9 +120,10 @@ impl PlainUnmerkleized {
             → has_id (q ∷ c) at ≡ false
             → DraftShows self.new (r ∷ q ∷ c)) }
     {
-        if self.below.has(db.id) {
+        let at = db.id();
+        if self.below.has(at) {
             self.base = db.state().share()?;
-            self.below.cut(db.id);
+            self.below.cut(at);
         }
         Ok(())
     }
@@ -159,7 +168,7 @@ impl Unmerkleized for PlainUnmerkleized {
             → SealShows m c) }
         ensures why { IfErr result RefusesSeal }
     {
-        if !self.stands_on(db.id) {
+        if !self.stands_on(db.id()) {
             return Err(BatchError::StaleRead);
         }
         if self.size >= u64::MAX - 1 {
@@ -179,11 +188,36 @@ impl Unmerkleized for PlainUnmerkleized {
 }
 
 impl PlainMerkleized {
+    ghost use Rattle.stateful_db_plain.specs.Shown.{SealShows};
+
+    /// Its id.
+    pub(crate) fn id(&self) -> u64
+        ensures { result ≡ self.now.layer.0 }
+    {
+        self.layer.id()
+    }
+
     /// Its root, with its range.
     pub(crate) fn target(&self) -> Target
         ensures { result ≡ self.now.layer.1.target }
     {
         self.layer.changes().target()
+    }
+
+    /// The checkpoint behind it. Copies of its state share the entries.
+    pub(crate) fn checkpoint(&self) -> Result<Checkpoint<PlainState>, OutOfMemory>
+        ensures rooted { IfOk result (λ k. k.target ≡ target_of k.kept) }
+        ensures state { IfOk result (λ k. (p : ℕ × Whole) (c : List (ℕ × Whole))
+            → SealShows self.now (p ∷ c)
+            → k.kept ≡ p.1) }
+    {
+        let alloc = self.below.allocator();
+        let layers = self.below.above(self.id());
+        let own = self.layer.changes().writes();
+        let entries = made(alloc, self.base.entries(), layers, own)?;
+        let target = self.target();
+        let kept = PlainState::shared(alloc, target.end.0, entries)?;
+        Ok(Checkpoint { target, kept })
     }
 }
 

@@ -69,10 +69,7 @@ pub(crate) fn value_in(
 }
 
 /// These entries with the writes made.
-pub(crate) fn changed(
-    entries: &BTreeMap<u64, u64>,
-    writes: &Writes,
-) -> Result<BTreeMap<u64, u64>, OutOfMemory>
+fn changed(entries: &BTreeMap<u64, u64>, writes: &Writes) -> Result<BTreeMap<u64, u64>, OutOfMemory>
     ensures values { IfOk result (λ after. (key : ℕ)
         → value_at after.entries key
         ≡ value_over writes.now.entries key (value_at entries.now.entries key)) }
@@ -85,6 +82,23 @@ pub(crate) fn changed(
     // The length comes with the order of the keys.
     let _count = after.len();
     Ok(after)
+}
+
+/// These entries with the writes of a batch made, and before them those of the layers below it.
+pub(crate) fn made(
+    alloc: Global,
+    entries: &BTreeMap<u64, u64>,
+    layers: &[Layer<PlainChanges>],
+    own: &Writes,
+) -> Result<BTreeMap<u64, u64>, OutOfMemory>
+    ensures values { IfOk result (λ after. (key : ℕ)
+        → value_at after.entries key
+        ≡ value_over own.now.entries key
+        (value_through layers.now key (value_at entries.now.entries key))) }
+    ensures ordered { IfOk result (λ after. IsInOrder after.entries) }
+{
+    let writes = all_writes(alloc, own, layers)?;
+    changed(entries, &writes)
 }
 
 /// Makes one write.
@@ -105,7 +119,7 @@ fn put(entries: &mut BTreeMap<u64, u64>, key: u64, value: Option<u64>) -> Result
 }
 
 /// The writes of a batch and of the layers below it, in one.
-pub(crate) fn all_writes(
+fn all_writes(
     alloc: Global,
     own: &Writes,
     layers: &[Layer<PlainChanges>],

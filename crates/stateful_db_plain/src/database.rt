@@ -1,8 +1,11 @@
 //! The database.
 
-ghost use Rattle.std.specs.Prelude.{◌≤◌, ◌+◌, ℕ, length, Contains};
+ghost use Rattle.stateful_db.specs.Disk.{all};
+ghost use Rattle.stateful_db_medium.specs.Kept as kept;
+ghost use Rattle.stateful_db_plain.specs.Rooted.{AreRooted};
 
 use crate::batch::{PlainMerkleized, PlainUnmerkleized};
+use crate::broken::broken;
 use crate::medium::PlainMedium;
 use crate::pass::PlainPass;
 use crate::state::PlainState;
@@ -11,26 +14,25 @@ use stateful_db::{
     BatchContext, Broken, DbCall, Exhausted, FlushToken, InitError, ManagedDb, Merkleized, Tokens,
     Why,
 };
+use stateful_db_medium::Opened;
 use stateful_db_overlay::Layers;
-use std::alloc::Global;
 use std::collections::BTreeMap;
 use std::ops::Range;
 
 /// A database from numbers to numbers, each of 64 bits: the id of the last applied batch, the
-/// tokens that are out, which name places of kept checkpoints, and the medium that it was opened
-/// on.
+/// tokens that are out, and the kept checkpoints, each a whole state with its target.
 #[derive(Drop)]
 pub struct Plain {
-    pub(crate) id: u64,
-    pub(crate) out: Tokens,
-    pub(crate) medium: PlainMedium,
-    ghost no_later: { (at : ℕ) → Contains out at
-        → at ≤ medium.checkpoints.pruned + length medium.checkpoints.older.items },
+    pub(crate) opened: Opened<PlainState>,
+    ghost rooted: { AreRooted (all (kept.standing_of opened).disk) },
 }
 
 impl Plain {
-    ghost use Rattle.std.specs.Prelude.{◌≡◌, ◌-◌};
-    ghost use Rattle.stateful_db_plain.specs.Stored.{standing_of, disk_of};
+    ghost use Rattle.std.specs.Prelude.{◌≡◌, ◌==◌, ◌-◌, ℕ, List, ◌∷◌, OnOk, OnErr, position};
+    ghost use Rattle.stateful_db.specs.Disk.{applied};
+    ghost use Rattle.stateful_db_plain.specs.Whole.{Whole};
+    ghost use Rattle.stateful_db_plain.specs.Stored.{standing_of, next_here, calls_here};
+    ghost use Rattle.stateful_db_plain.specs.Shown.{SealShows};
 
     /// The end of the range of the newest state.
     pub fn size(&self) -> u64
@@ -55,38 +57,74 @@ impl Plain {
         self.state().entries()
     }
 
-    /// The medium that it was opened on.
-    pub fn medium(&self) -> &PlainMedium
-        ensures { disk_of result.now ≡ (standing_of self.now).disk }
+    /// How many of the oldest checkpoints were pruned.
+    pub fn pruned(&self) -> u64
+        ensures { result ≡ (standing_of self.now).disk.pruned }
     {
-        &self.medium
+        self.opened.medium().pruned()
+    }
+
+    /// The place of the last durable checkpoint, the pruned ones counted.
+    pub fn durable(&self) -> u64
+        ensures { result ≡ (standing_of self.now).disk.durable }
+    {
+        self.opened.medium().durable()
     }
 
     /// The tokens that are out.
     pub fn tokens(&self) -> Tokens
         ensures { result ≡ (standing_of self.now).out }
     {
-        self.out
+        self.opened.tokens()
+    }
+
+    /// The id of the last applied batch.
+    pub(crate) fn id(&self) -> u64
+        ensures { result ≡ (standing_of self.now).id }
+    {
+        self.opened.id()
     }
 
     /// The newest state.
     pub(crate) fn state(&self) -> &PlainState
         ensures { result.now ≡ (standing_of self.now).disk.newest }
     {
-        &self.medium.checkpoints.newest
+        &self.opened.newest().kept
     }
 
-    /// Its allocator.
-    fn allocator(&self) -> Global {
-        *self.medium.checkpoints.older.allocator()
+    /// The number of the first kept checkpoint whose range has this end.
+    fn number_with_end(&self, end: Location) -> Option<usize>
+        ensures { result ≡ position (λ w. w.size == end.0) (all (standing_of self.now).disk) }
+    {
+        self.opened.number_with_end(end)
+    }
+
+    /// Adds the checkpoint of a sealed batch. Where its range doesn't end behind that of the
+    /// newest, it is refused as if memory were wanting.
+    fn grow(&mut self, batch: &PlainMerkleized) -> Result<(), OutOfMemory>
+        ensures ok { OnOk result ((p : ℕ × Whole) (c : List (ℕ × Whole))
+            → SealShows batch.now (p ∷ c)
+            → standing_of self.new
+            ≡ record (standing_of self.old)
+            { id = p.0; disk = applied (standing_of self.old).disk p.1 }) }
+        ensures out { (standing_of self.new).out ≡ (standing_of self.old).out }
+        ensures err { OnErr result (standing_of self.new ≡ standing_of self.old) }
+        ensures next { next_here self.new ≡ next_here self.old }
+        ensures calls { calls_here self.new ≡ calls_here self.old }
+    {
+        let state = batch.checkpoint()?;
+        self.opened.push(batch.id(), state)?;
+        Ok(())
     }
 }
 
 impl Faulty for Plain {
-    ghost count = { λ d. d.medium.calls.faults };
+    ghost use Rattle.stateful_db_plain.specs.Stored.{calls_here};
+
+    ghost count = { λ d. (calls_here d).faults };
 
     fn faults(&self) -> u64 {
-        self.medium.faults()
+        self.opened.faults()
     }
 }
 
@@ -101,10 +139,11 @@ impl ManagedDb for Plain {
     ghost use Rattle.stateful_db.specs.Reopening.{pruned_to};
     ghost use Rattle.stateful_db.specs.Tokens.{without};
     ghost use Rattle.stateful_db_plain.specs.Whole.{Whole, begun, initial, target_of};
-    ghost use Rattle.stateful_db_plain.specs.Called.{IsListed, Called};
-    ghost use Rattle.stateful_db_plain.specs.Stored.{disk_of, standing_of};
+    ghost use Rattle.stateful_db_medium.specs.Called.{IsListed, Called};
+    ghost use Rattle.stateful_db_plain.specs.Stored.{disk_of, next_of, calls_of, standing_of};
+    ghost use Rattle.stateful_db_plain.specs.Stored.{next_here, calls_here};
     ghost use Rattle.stateful_db_plain.specs.Shown.{DraftShows, SealShows};
-    ghost use Rattle.stateful_db_plain.specs.Soundness.{sound_checkpoints};
+    ghost use Rattle.stateful_db_plain.specs.Soundness.{sound_medium, sound_database};
 
     type State = PlainState;
 
@@ -128,11 +167,11 @@ impl ManagedDb for Plain {
 
     ghost initial = { initial };
 
-    ghost next = { λ d. d.medium.next };
+    ghost next = { next_here };
 
     ghost disk = { disk_of };
 
-    ghost next_of = { λ m. m.next };
+    ghost next_of = { next_of };
 
     /// Takes no memory. `Database` exactly where the call is listed as a failing one or no kept
     /// checkpoint has the expected end.
@@ -143,37 +182,33 @@ impl ManagedDb for Plain {
     ) -> Result<Plain, (PlainMedium, InitError)>
         ensures ok { IfOk result (λ db.
             Reopens target_of (λ t. t) expected (disk_of medium) (standing_of db)) }
-        ensures ok_next { IfOk result (λ db. db.medium.next ≡ medium.next) }
-        ensures ok_count { IfOk result (λ db. medium.calls.faults ≤ db.medium.calls.faults) }
-        ensures ok_called { IfOk result (λ db. Called DbCall.Init medium.calls db.medium.calls) }
+        ensures ok_next { IfOk result (λ db. next_here db ≡ next_of medium) }
+        ensures ok_count { IfOk result (λ db. (calls_of medium).faults ≤ (calls_here db).faults) }
+        ensures ok_called { IfOk result (λ db.
+            Called DbCall.Init (calls_of medium) (calls_here db)) }
         ensures err { IfErr result (λ e. disk_of e.0 ≡ disk_of medium) }
-        ensures err_next { IfErr result (λ e. e.0.next ≡ medium.next) }
-        ensures err_count { IfErr result (λ e. medium.calls.faults ≤ e.0.calls.faults) }
-        ensures err_called { IfErr result (λ e. Called DbCall.Init medium.calls e.0.calls) }
+        ensures err_next { IfErr result (λ e. next_of e.0 ≡ next_of medium) }
+        ensures err_count { IfErr result (λ e. (calls_of medium).faults ≤ (calls_of e.0).faults) }
+        ensures err_called { IfErr result (λ e.
+            Called DbCall.Init (calls_of medium) (calls_of e.0)) }
         ensures cause { IfErr result (λ e.
             FailsToReopen target_of (λ t. t) expected (disk_of medium)
-            (Rose medium.calls.faults e.0.calls.faults) e.1) }
-        ensures listed { IsListed medium.calls DbCall.Init
+            (Rose (calls_of medium).faults (calls_of e.0).faults) e.1) }
+        ensures listed { IsListed (calls_of medium) DbCall.Init
             → IsErrAnd result (λ e. e.1 ≡ InitError.Database) }
         ensures unlisted { IfErr result (λ e.
             e.1 ≡ InitError.Database
-            → IsListed medium.calls DbCall.Init
+            → IsListed (calls_of medium) DbCall.Init
             ⊎ HasNone target_of (λ t. t) expected (disk_of medium)) }
         ensures memory { IfErr result (λ e. e.1 ≢ InitError.OutOfMemory) }
     {
-        let mut medium = medium;
-        if medium.fails(DbCall::Init) {
-            return Err((medium, InitError::Database));
-        }
-        let number = match medium.checkpoints.number_to_open(expected) {
+        let PlainMedium { mut medium } = medium;
+        let number = match medium.number_to_open(expected) {
             Ok(number) => number,
-            Err(why) => return Err((medium, why)),
+            Err(why) => return Err((PlainMedium { medium }, why)),
         };
-        medium.checkpoints.open_at(number);
         Ok(Plain {
-            id: 0,
-            out: Tokens::new(),
-            medium,
+            opened: medium.open(number),
         })
     }
 
@@ -187,20 +222,15 @@ impl ManagedDb for Plain {
 
     fn draw(&mut self) -> Result<u64, Exhausted>
         ensures id { IfOk result (λ n.
-            (n ≡ self.old.medium.next) × (self.new.medium.next ≡ self.old.medium.next + 1)) }
+            (n ≡ next_here self.old) × (next_here self.new ≡ next_here self.old + 1)) }
         ensures exhausted { IfErr result (λ _.
-            (2 ^ 64 - 1 ≤ self.old.medium.next) × (self.new.medium.next ≡ self.old.medium.next)) }
+            (2 ^ 64 - 1 ≤ next_here self.old) × (next_here self.new ≡ next_here self.old)) }
         ensures within { IfOk result (λ n. n < 2 ^ 64 - 1) }
         ensures standing { standing_of self.new ≡ standing_of self.old }
-        ensures count { self.new.medium.calls.faults ≡ self.old.medium.calls.faults }
-        ensures calls { self.new.medium.calls ≡ self.old.medium.calls }
+        ensures count { (calls_here self.new).faults ≡ (calls_here self.old).faults }
+        ensures calls { calls_here self.new ≡ calls_here self.old }
     {
-        let id = self.medium.next;
-        if id == u64::MAX {
-            return Err(Exhausted);
-        }
-        self.medium.next = id + 1;
-        Ok(id)
+        self.opened.draw()
     }
 
     fn new_batch(database: BatchContext<'_, Plain>) -> Result<PlainUnmerkleized, OutOfMemory>
@@ -209,12 +239,12 @@ impl ManagedDb for Plain {
             → DraftShows u ((database.entry.id, begun s.disk.newest) ∷ point s ∷ [])) }
     {
         let (db, id) = database.into_parts();
-        let alloc = db.allocator();
+        let alloc = db.opened.allocator();
         // The length comes with the order of the keys.
         let _count = db.entries().len();
         Ok(PlainUnmerkleized {
             id,
-            below: Layers::over(alloc, db.id),
+            below: Layers::over(alloc, db.id()),
             base: db.state().share()?,
             size: db.size(),
             writes: BTreeMap::new(alloc),
@@ -260,43 +290,34 @@ impl ManagedDb for Plain {
             → standing_of db
             ≡ record (standing_of self) { id = p.0; disk = applied (standing_of self).disk p.1 }) }
         ensures ok_out { IfOk result (λ db. (standing_of db).out ≡ (standing_of self).out) }
-        ensures ok_next { IfOk result (λ db. db.medium.next ≡ self.medium.next) }
-        ensures ok_count { IfOk result (λ db. self.medium.calls.faults ≤ db.medium.calls.faults) }
+        ensures ok_next { IfOk result (λ db. next_here db ≡ next_here self) }
+        ensures ok_count { IfOk result (λ db. (calls_here self).faults ≤ (calls_here db).faults) }
         ensures ok_called { IfOk result (λ db.
-            Called DbCall.Apply self.medium.calls db.medium.calls) }
+            Called DbCall.Apply (calls_here self) (calls_here db)) }
         ensures err { IfErr result (λ b. (p : ℕ × Whole) (c : List (ℕ × Whole))
             → SealShows batch (p ∷ point (standing_of self) ∷ c)
             → IsEither (standing_of self).disk (applied (standing_of self).disk p.1)
             (disk_of b.medium)) }
-        ensures err_next { IfErr result (λ b. b.medium.next ≡ self.medium.next) }
-        ensures err_count { IfErr result (λ b. self.medium.calls.faults ≤ b.medium.calls.faults) }
+        ensures err_next { IfErr result (λ b. next_of b.medium ≡ next_here self) }
+        ensures err_count { IfErr result (λ b.
+            (calls_here self).faults ≤ (calls_of b.medium).faults) }
         ensures err_called { IfErr result (λ b.
-            Called DbCall.Apply self.medium.calls b.medium.calls) }
+            Called DbCall.Apply (calls_here self) (calls_of b.medium)) }
         ensures failed { IfErr result (λ b.
-            b.why ≡ Why.Failed → Rose self.medium.calls.faults b.medium.calls.faults) }
+            b.why ≡ Why.Failed → Rose (calls_here self).faults (calls_of b.medium).faults) }
         ensures listed { IsErrAnd result (λ b. b.why ≡ Why.Failed)
-            ↔ IsListed self.medium.calls DbCall.Apply }
+            ↔ IsListed (calls_here self) DbCall.Apply }
         ensures kept { IfErr result (λ b. disk_of b.medium ≡ (standing_of self).disk) }
     {
-        let Plain {
-            id: _,
-            out,
-            mut medium,
-        } = self;
-        if medium.fails(DbCall::Apply) {
-            return Err(Broken {
-                medium,
-                why: Why::Failed,
-            });
-        }
-        match medium.checkpoints.grow(batch.layer.changes()) {
-            Ok(()) => Ok(Plain {
-                id: batch.layer.id(),
-                out,
-                medium,
-            }),
+        let Plain { opened } = self;
+        let mut db = match opened.begin(DbCall::Apply) {
+            Ok(opened) => Plain { opened },
+            Err(change) => return Err(broken(change)),
+        };
+        match db.grow(&batch) {
+            Ok(()) => Ok(db),
             Err(_) => Err(Broken {
-                medium,
+                medium: db.close(),
                 why: Why::OutOfMemory,
             }),
         }
@@ -308,35 +329,27 @@ impl ManagedDb for Plain {
         ensures ok { IfOk result (λ r. standing_of r.0
             ≡ record (standing_of self) { out = (standing_of self).out ++ r.1.place ∷ [] }) }
         ensures ok_place { IfOk result (λ r. r.1.place ≡ place (standing_of self).disk) }
-        ensures ok_next { IfOk result (λ r. r.0.medium.next ≡ self.medium.next) }
-        ensures ok_count { IfOk result (λ r. self.medium.calls.faults ≤ r.0.medium.calls.faults) }
+        ensures ok_next { IfOk result (λ r. next_here r.0 ≡ next_here self) }
+        ensures ok_count { IfOk result (λ r. (calls_here self).faults ≤ (calls_here r.0).faults) }
         ensures ok_called { IfOk result (λ r.
-            Called DbCall.Finalize self.medium.calls r.0.medium.calls) }
+            Called DbCall.Finalize (calls_here self) (calls_here r.0)) }
         ensures err { IfErr result (λ b. disk_of b.medium ≡ (standing_of self).disk) }
-        ensures err_next { IfErr result (λ b. b.medium.next ≡ self.medium.next) }
-        ensures err_count { IfErr result (λ b. self.medium.calls.faults ≤ b.medium.calls.faults) }
+        ensures err_next { IfErr result (λ b. next_of b.medium ≡ next_here self) }
+        ensures err_count { IfErr result (λ b.
+            (calls_here self).faults ≤ (calls_of b.medium).faults) }
         ensures err_called { IfErr result (λ b.
-            Called DbCall.Finalize self.medium.calls b.medium.calls) }
+            Called DbCall.Finalize (calls_here self) (calls_of b.medium)) }
         ensures failed { IfErr result (λ b.
-            b.why ≡ Why.Failed → Rose self.medium.calls.faults b.medium.calls.faults) }
+            b.why ≡ Why.Failed → Rose (calls_here self).faults (calls_of b.medium).faults) }
         ensures listed { IsErrAnd result (λ b. b.why ≡ Why.Failed)
-            ↔ IsListed self.medium.calls DbCall.Finalize }
+            ↔ IsListed (calls_here self) DbCall.Finalize }
         ensures memory { IfErr result (λ b. b.why ≢ Why.OutOfMemory) }
     {
-        let Plain {
-            id,
-            mut out,
-            mut medium,
-        } = self;
-        if medium.fails(DbCall::Finalize) {
-            return Err(Broken {
-                medium,
-                why: Why::Failed,
-            });
+        let Plain { opened } = self;
+        match opened.finalize() {
+            Ok((opened, token)) => Ok((Plain { opened }, token)),
+            Err(change) => Err(broken(change)),
         }
-        let place = medium.checkpoints.place();
-        out.put(place);
-        Ok((Plain { id, out, medium }, FlushToken { place }))
     }
 
     /// Takes no memory. It fails exactly where the call is listed as a failing one, and leaves the
@@ -347,37 +360,29 @@ impl ManagedDb for Plain {
           disk = flushed (standing_of self).disk token.place;
           out = without token.place (standing_of self).out;
         }) }
-        ensures ok_next { IfOk result (λ db. db.medium.next ≡ self.medium.next) }
-        ensures ok_count { IfOk result (λ db. self.medium.calls.faults ≤ db.medium.calls.faults) }
+        ensures ok_next { IfOk result (λ db. next_here db ≡ next_here self) }
+        ensures ok_count { IfOk result (λ db. (calls_here self).faults ≤ (calls_here db).faults) }
         ensures ok_called { IfOk result (λ db.
-            Called DbCall.Flush self.medium.calls db.medium.calls) }
+            Called DbCall.Flush (calls_here self) (calls_here db)) }
         ensures err { IfErr result (λ b. IsEither (standing_of self).disk
             (flushed (standing_of self).disk token.place) (disk_of b.medium)) }
-        ensures err_next { IfErr result (λ b. b.medium.next ≡ self.medium.next) }
-        ensures err_count { IfErr result (λ b. self.medium.calls.faults ≤ b.medium.calls.faults) }
+        ensures err_next { IfErr result (λ b. next_of b.medium ≡ next_here self) }
+        ensures err_count { IfErr result (λ b.
+            (calls_here self).faults ≤ (calls_of b.medium).faults) }
         ensures err_called { IfErr result (λ b.
-            Called DbCall.Flush self.medium.calls b.medium.calls) }
+            Called DbCall.Flush (calls_here self) (calls_of b.medium)) }
         ensures failed { IfErr result (λ b.
-            b.why ≡ Why.Failed → Rose self.medium.calls.faults b.medium.calls.faults) }
+            b.why ≡ Why.Failed → Rose (calls_here self).faults (calls_of b.medium).faults) }
         ensures listed { IsErrAnd result (λ b. b.why ≡ Why.Failed)
-            ↔ IsListed self.medium.calls DbCall.Flush }
+            ↔ IsListed (calls_here self) DbCall.Flush }
         ensures kept { IfErr result (λ b. disk_of b.medium ≡ (standing_of self).disk) }
         ensures memory { IfErr result (λ b. b.why ≢ Why.OutOfMemory) }
     {
-        let Plain {
-            id,
-            mut out,
-            mut medium,
-        } = self;
-        if medium.fails(DbCall::Flush) {
-            return Err(Broken {
-                medium,
-                why: Why::Failed,
-            });
+        let Plain { opened } = self;
+        match opened.flush(token) {
+            Ok(opened) => Ok(Plain { opened }),
+            Err(change) => Err(broken(change)),
         }
-        medium.checkpoints.flush(token.place);
-        out.take(token.place);
-        Ok(Plain { id, out, medium })
     }
 
     /// Takes no memory. It fails exactly where the call is listed as a failing one, and leaves the
@@ -388,67 +393,64 @@ impl ManagedDb for Plain {
         ensures ok { IfOk result (λ db. standing_of db ≡ record (standing_of self) {
           disk = pruned_to target_of (λ t. t) target.now (standing_of self).disk;
         }) }
-        ensures ok_next { IfOk result (λ db. db.medium.next ≡ self.medium.next) }
-        ensures ok_count { IfOk result (λ db. self.medium.calls.faults ≤ db.medium.calls.faults) }
+        ensures ok_next { IfOk result (λ db. next_here db ≡ next_here self) }
+        ensures ok_count { IfOk result (λ db. (calls_here self).faults ≤ (calls_here db).faults) }
         ensures ok_called { IfOk result (λ db.
-            Called DbCall.Prune self.medium.calls db.medium.calls) }
+            Called DbCall.Prune (calls_here self) (calls_here db)) }
         ensures err { IfErr result (λ b. IsEither (standing_of self).disk
             (pruned_to target_of (λ t. t) target.now (standing_of self).disk) (disk_of b.medium)) }
-        ensures err_next { IfErr result (λ b. b.medium.next ≡ self.medium.next) }
-        ensures err_count { IfErr result (λ b. self.medium.calls.faults ≤ b.medium.calls.faults) }
+        ensures err_next { IfErr result (λ b. next_of b.medium ≡ next_here self) }
+        ensures err_count { IfErr result (λ b.
+            (calls_here self).faults ≤ (calls_of b.medium).faults) }
         ensures err_called { IfErr result (λ b.
-            Called DbCall.Prune self.medium.calls b.medium.calls) }
+            Called DbCall.Prune (calls_here self) (calls_of b.medium)) }
         ensures failed { IfErr result (λ b.
-            b.why ≡ Why.Failed → Rose self.medium.calls.faults b.medium.calls.faults) }
+            b.why ≡ Why.Failed → Rose (calls_here self).faults (calls_of b.medium).faults) }
         ensures listed { IsErrAnd result (λ b. b.why ≡ Why.Failed)
-            ↔ IsListed self.medium.calls DbCall.Prune }
+            ↔ IsListed (calls_here self) DbCall.Prune }
         ensures kept { IfErr result (λ b. disk_of b.medium ≡ (standing_of self).disk) }
         ensures memory { IfErr result (λ b. b.why ≢ Why.OutOfMemory) }
     {
-        let Plain {
-            id,
-            out,
-            mut medium,
-        } = self;
-        if medium.fails(DbCall::Prune) {
-            return Err(Broken {
-                medium,
-                why: Why::Failed,
-            });
+        let count = self.number_with_end(target.end).unwrap_or(0);
+        let Plain { opened } = self;
+        match opened.prune_first(count) {
+            Ok(opened) => Ok(Plain { opened }),
+            Err(change) => Err(broken(change)),
         }
-        medium.checkpoints.prune(target);
-        Ok(Plain { id, out, medium })
     }
 
     fn sync_target(&self) -> Target {
-        self.state().target()
+        self.opened.newest().target
     }
 
     fn close(self) -> PlainMedium
         ensures disk { disk_of result ≡ (standing_of self).disk }
-        ensures next { result.next ≡ self.medium.next }
-        ensures count { result.calls.faults ≡ self.medium.calls.faults }
-        ensures calls { result.calls ≡ self.medium.calls }
+        ensures next { next_of result ≡ next_here self }
+        ensures count { (calls_of result).faults ≡ (calls_here self).faults }
+        ensures calls { calls_of result ≡ calls_here self }
     {
-        self.medium
+        let Plain { opened } = self;
+        PlainMedium {
+            medium: opened.close(),
+        }
     }
 
     fn crash(medium: PlainMedium, keep: usize) -> PlainMedium
         ensures disk { IsCrash keep (disk_of medium) (disk_of result) }
-        ensures next { result.next ≡ medium.next }
-        ensures count { result.calls.faults ≡ medium.calls.faults }
-        ensures calls { result.calls ≡ medium.calls }
+        ensures next { next_of result ≡ next_of medium }
+        ensures count { (calls_of result).faults ≡ (calls_of medium).faults }
+        ensures calls { calls_of result ≡ calls_of medium }
     {
-        let mut medium = medium;
-        medium.checkpoints.cut(keep);
-        medium
+        let PlainMedium { mut medium } = medium;
+        medium.cut(keep);
+        PlainMedium { medium }
     }
 
-    ghost sound = { λ m. sound_checkpoints m.checkpoints };
+    ghost sound = { sound_medium };
 
-    ghost sound_here = { λ d. sound_checkpoints d.medium.checkpoints };
+    ghost sound_here = { sound_database };
 
-    ghost numbered = { λ m. m.numbered };
+    ghost numbered = { λ m. m.medium.numbered };
 
     ghost same_point = { λ d. refl };
 

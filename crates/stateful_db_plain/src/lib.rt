@@ -5,11 +5,12 @@
 #![tactic(auto)]
 
 mod batch;
-mod calls;
+mod bounded;
+mod broken;
 mod changes;
-mod checkpoints;
 mod database;
 mod medium;
+mod op;
 mod pass;
 mod state;
 
@@ -17,5 +18,6 @@ pub use batch::{PlainMerkleized, PlainUnmerkleized};
 pub use changes::PlainChanges;
 pub use database::Plain;
 pub use medium::PlainMedium;
+pub use op::PlainOp;
 pub use pass::PlainPass;
 pub use state::PlainState;

@@ -1,36 +1,38 @@
-//! What a database leaves: its checkpoints, the next batch id, and its calls.
+//! What a database leaves.
 
-ghost use Rattle.std.specs.Prelude.{◌<◌};
+ghost use Rattle.stateful_db.specs.Disk.{all};
+ghost use Rattle.stateful_db_medium.specs.Kept as kept;
+ghost use Rattle.stateful_db_plain.specs.Rooted.{AreRooted};
 
-use crate::calls::Calls;
-use crate::checkpoints::Checkpoints;
+use crate::state::{PlainState, checkpoint};
 use stateful_base::Faulty;
 use stateful_db::DbCall;
+use stateful_db_medium::Medium;
 use std::alloc::Global;
 
-/// The kept checkpoints, and the next batch id. Of the calls of databases that are made on it,
-/// those that it lists fail.
+/// The kept checkpoints, each a whole state with its target, and the next batch id. Of the calls of
+/// databases that are made on it, those that it lists fail.
 #[derive(Drop)]
 pub struct PlainMedium {
-    pub(crate) checkpoints: Checkpoints,
-    pub(crate) next: u64,
-    pub(crate) calls: Calls,
-    pub ghost numbered: { 0 < next },
+    pub(crate) medium: Medium<PlainState>,
+    ghost rooted: { AreRooted (all (kept.disk_of medium)) },
 }
 
 impl Faulty for PlainMedium {
-    ghost count = { λ m. m.calls.faults };
+    ghost use Rattle.stateful_db_plain.specs.Stored.{calls_of};
+
+    ghost count = { λ m. (calls_of m).faults };
 
     fn faults(&self) -> u64 {
-        self.calls.faults()
+        self.medium.faults()
     }
 }
 
 impl PlainMedium {
-    ghost use Rattle.std.specs.Prelude.{◌≡◌, ◌↔◌, [], IsTrue};
+    ghost use Rattle.std.specs.Prelude.{◌≡◌, []};
     ghost use Rattle.stateful_db.specs.declared.database.DbCall.{DbCall};
-    ghost use Rattle.stateful_db_plain.specs.Called.{number_of, IsListed, Called};
-    ghost use Rattle.stateful_db_plain.specs.Stored.{disk_of};
+    ghost use Rattle.stateful_db_medium.specs.Called.{number_of};
+    ghost use Rattle.stateful_db_plain.specs.Stored.{disk_of, next_of, calls_of};
     ghost use Rattle.stateful_db_plain.specs.Whole.{initial};
 
     /// A medium with the empty state alone. The calls that are listed, by kind and by number from 0
@@ -38,15 +40,14 @@ impl PlainMedium {
     pub fn empty(alloc: Global, failing: Vec<(DbCall, u64)>) -> PlainMedium
         ensures disk { disk_of result
             ≡ record { older = []; newest = initial; pruned = 0; durable = 0 } }
-        ensures next { result.next ≡ 1 }
-        ensures failing { result.calls.failing ≡ failing }
-        ensures numbers { (call : DbCall) → number_of result.calls.numbers call ≡ 0 }
-        ensures faults { result.calls.faults ≡ 0 }
+        ensures next { next_of result ≡ 1 }
+        ensures failing { (calls_of result).failing ≡ failing }
+        ensures numbers { (call : DbCall) → number_of (calls_of result).numbers call ≡ 0 }
+        ensures faults { (calls_of result).faults ≡ 0 }
     {
+        let first = checkpoint(PlainState::empty(alloc));
         PlainMedium {
-            checkpoints: Checkpoints::new(alloc),
-            next: 1,
-            calls: Calls::new(failing),
+            medium: Medium::new(alloc, first, failing),
         }
     }
 
@@ -54,30 +55,20 @@ impl PlainMedium {
     pub fn end(&self) -> u64
         ensures { result ≡ (disk_of self.now).newest.size }
     {
-        self.checkpoints.newest.size()
+        self.medium.newest().kept.size()
     }
 
     /// How many of the oldest checkpoints were pruned.
     pub fn pruned(&self) -> u64
         ensures { result ≡ (disk_of self.now).pruned }
     {
-        self.checkpoints.pruned
+        self.medium.pruned()
     }
 
     /// The place of the last durable checkpoint, the pruned ones counted.
     pub fn durable(&self) -> u64
         ensures { result ≡ (disk_of self.now).durable }
     {
-        self.checkpoints.durable
-    }
-
-    /// Makes a call of this kind. Whether it is to fail, which is then counted.
-    pub(crate) fn fails(&mut self, call: DbCall) -> bool
-        ensures listed { IsTrue result ↔ IsListed self.old.calls call }
-        ensures called { Called call self.old.calls self.new.calls }
-        ensures disk { disk_of self.new ≡ disk_of self.old }
-        ensures next { self.new.next ≡ self.old.next }
-    {
-        self.calls.fails(call)
+        self.medium.durable()
     }
 }

@@ -1,20 +1,21 @@
 //! A sync of a database that isn't finished.
 
 use crate::medium::PlainMedium;
-use crate::state::PlainState;
-use stateful_base::{Faulty, Target};
+use crate::op::PlainOp;
+use stateful_base::Faulty;
+use stateful_db_pass::LogPass;
 
-/// A sync that isn't finished: the medium as it was before, the target that it leads to, and the
-/// state that was fetched for it, if one was.
+/// A sync that isn't finished: the medium as it was before, and what is fetched for it.
 #[derive(Drop)]
 pub struct PlainPass {
-    pub(crate) medium: PlainMedium,
-    pub(crate) target: Target,
-    pub(crate) fetched: Option<PlainState>,
+    pub medium: PlainMedium,
+    pub pass: LogPass<PlainOp>,
 }
 
 impl Faulty for PlainPass {
-    ghost count = { λ p. p.medium.calls.faults };
+    ghost use Rattle.stateful_db_plain.specs.Stored.{calls_of};
+
+    ghost count = { λ p. (calls_of p.medium).faults };
 
     fn faults(&self) -> u64 {
         self.medium.faults()

@@ -7,6 +7,7 @@ ghost use Rattle.sha2.specs.Hashers.{Holds256};
 
 use sha2::{Digest as Hasher, Sha256};
 use stateful_base::{Digest, Location, OutOfMemory, Target};
+use stateful_db_medium::Checkpoint;
 use std::alloc::Global;
 use std::collections::BTreeMap;
 use std::marker::Model;
@@ -21,7 +22,7 @@ enum Entries {
     Shared(Arc<BTreeMap<u64, u64>>),
 }
 
-/// A checkpoint: the end of its range, and its entries.
+/// A whole state: the end of its range, and its entries.
 #[derive(Drop)]
 pub struct PlainState {
     size: u64,
@@ -73,6 +74,16 @@ impl PlainState {
         PlainState::new(1, BTreeMap::new(alloc))
     }
 
+    /// The state of the same entries, whose range has this end.
+    pub(crate) fn with_size(self, size: u64) -> PlainState
+        ensures { result ≡ record self { size = size } }
+    {
+        PlainState {
+            size,
+            entries: self.entries,
+        }
+    }
+
     /// The end of the range.
     pub fn size(&self) -> u64
         ensures { result ≡ self.now.size }
@@ -94,10 +105,7 @@ impl PlainState {
     pub fn root(&self) -> Digest
         ensures { result ≡ root_of self.now }
     {
-        let mut hasher = Sha256::new();
-        hasher.update(&self.size.to_be_bytes());
-        add_entries(self.entries(), &mut hasher);
-        Digest(hasher.finalize())
+        root_of(self.size, self.entries())
     }
 
     /// The root, and the range of the last location alone.
@@ -123,6 +131,26 @@ impl PlainState {
             size: self.size,
             entries,
         })
+    }
+}
+
+/// The SHA-256 of the end of a range, and of key and value of each entry.
+pub(crate) fn root_of(size: u64, entries: &BTreeMap<u64, u64>) -> Digest
+    ensures { result ≡ root_of (record { size = size; entries = entries.now.entries }) }
+{
+    let mut hasher = Sha256::new();
+    hasher.update(&size.to_be_bytes());
+    add_entries(entries, &mut hasher);
+    Digest(hasher.finalize())
+}
+
+/// The checkpoint of a state.
+pub(crate) fn checkpoint(state: PlainState) -> Checkpoint<PlainState>
+    ensures { result ≡ record { target = target_of state; kept = state } }
+{
+    Checkpoint {
+        target: state.target(),
+        kept: state,
     }
 }
 

@@ -4,6 +4,7 @@ use Rattle.stateful_base.specs.declared.target.Target.{Target}
 use Rattle.stateful_db.specs.Single.{single}
 use Rattle.stateful_db.specs.declared.held.Held.TheVariants as held
 use Rattle.stateful_db_plain.specs.Shown.{SealShows}
+use Rattle.stateful_db_plain.specs.Stored.{calls_of, calls_here}
 use Rattle.stateful_db_plain.specs.Whole.{Whole, begun, initial, target_of}
 use Rattle.stateful_db_plain.specs.declared.batch.PlainMerkleized.{PlainMerkleized}
 use Rattle.stateful_db_plain.specs.declared.batch.PlainUnmerkleized.{PlainUnmerkleized}
@@ -14,9 +15,9 @@ use Rattle.stateful_play_world.specs.Grounds.{Grounds}
 -- how often the database has failed
 abbrev pub failed_of : OneDatabase → ℕ → ℕ
 failed_of d i = elim d [
-  | held.Here db ↦ db.medium.calls.faults
-  | held.Closed medium ↦ medium.calls.faults
-  | held.Lost medium ↦ medium.calls.faults
+  | held.Here db ↦ (calls_here db).faults
+  | held.Closed medium ↦ (calls_of medium).faults
+  | held.Lost medium ↦ (calls_of medium).faults
   | held.Away ↦ 0
 ]
 

@@ -32,7 +32,7 @@ pub use Rattle.stateful_db_keyless.specs.KeylessShown
 pub use Rattle.stateful_db_keyless.specs.KeylessStored
 pub use Rattle.stateful_db_keyless.specs.Follows as KeylessFollows
 pub use Rattle.stateful_db_plain.specs.Whole as PlainWhole
-pub use Rattle.stateful_db_plain.specs.Called as PlainCalled
+pub use Rattle.stateful_db_plain.specs.Rooted as PlainRooted
 pub use Rattle.stateful_db_plain.specs.Stored as PlainStored
 pub use Rattle.stateful_db_plain.specs.Writes as PlainWrites
 pub use Rattle.stateful_db_plain.specs.Shown as PlainShown

@@ -1,7 +1,7 @@
 //! Batches over a compact database.
 
 ghost use Rattle.std.specs.Prelude.{◌≡◌, ◌==◌, ◌||◌, ◌++◌, ◌∷◌, [], ◌-◌, ◌^◌, ◌<◌, ◌≤◌, ◌↔◌, ℕ};
-ghost use Rattle.std.specs.Prelude.{List, Some, IfOk, IfErr, IsErrOf, false};
+ghost use Rattle.std.specs.Prelude.{List, Some, IsOk, IfOk, IfErr, IsErrOf, false};
 ghost use Rattle.stateful_db.specs.Batch.{RefusesSeal};
 ghost use Rattle.stateful_db.specs.Chain.{has_id};
 ghost use Rattle.stateful_db_overlay.specs.Stack.{has_layer};
@@ -74,16 +74,17 @@ impl<V: Field> KeylessUnjournaledUnmerkleized<V> {
         batch
     }
 
-    /// The batch with this value appended.
+    /// The batch with this value appended. It takes no memory.
     pub fn append(self, value: V) -> Result<KeylessUnjournaledUnmerkleized<V>, OutOfMemory>
         ensures changes { IfOk result (λ u. (ch : Changes V) (s : State V)
             → Holds V.fields.spelling self ch s
             → Holds V.fields.spelling u (record ch { values = ch.values ++ value ∷ [] }) s) }
         ensures chain { IfOk result (λ u. u.id ≡ self.id) }
         ensures below { IfOk result (λ u. u.below ≡ self.below) }
+        ensures ok { IsOk result }
     {
         let mut batch = self;
-        batch.before = link_append(batch.below.allocator(), batch.before, &value)?;
+        batch.before = link_append(batch.before, &value);
         batch.end = batch.end.saturating_add(1);
         Ok(batch)
     }
@@ -126,7 +127,7 @@ impl<V: Field> KeylessUnjournaledUnmerkleized<V> {
             return Err(BatchError::Exhausted);
         }
         let floor = floor.max(asked.min(end));
-        let root = link_commit(below.allocator(), before, &metadata, floor)?;
+        let root = link_commit(before, &metadata, floor);
         let layer = Layer::new(below.allocator(), id, ())?;
         let commit = Commit {
             before,

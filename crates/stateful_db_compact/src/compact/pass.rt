@@ -1,19 +1,19 @@
 //! A sync of a compact database that isn't finished.
 
 use super::medium::CompactMedium;
-use super::state::CompactState;
-use stateful_base::{CompactTarget, Faulty};
+use crate::op::KeylessOp;
+use stateful_base::Faulty;
+use stateful_db_log::Field;
+use stateful_db_pass::LogPass;
 
-/// A sync that isn't finished: the medium as it was before, the target that it leads to, and the
-/// state that was fetched for it, if one was.
+/// A sync that isn't finished: the medium as it was before, and what is fetched for it.
 #[derive(Drop)]
-pub struct CompactPass<V> {
+pub struct CompactPass<V: Field> {
     pub medium: CompactMedium<V>,
-    pub target: CompactTarget,
-    pub fetched: Option<CompactState<V>>,
+    pub pass: LogPass<KeylessOp<V>>,
 }
 
-impl<V: Drop> Faulty for CompactPass<V> {
+impl<V: Field> Faulty for CompactPass<V> {
     ghost use Rattle.stateful_db_compact.specs.CompactStored.{calls_of};
 
     ghost count = { λ p. (calls_of p.medium).faults };

@@ -93,7 +93,7 @@ impl<V: Field> KeylessUnmerkleized<V> {
         ensures below { IfOk result (λ u. u.below ≡ self.below) }
     {
         let mut batch = self;
-        batch.before = link_append(batch.below.allocator(), batch.before, &value)?;
+        batch.before = link_append(batch.before, &value);
         batch.ops.push(KeylessOp::Append(value))?;
         Ok(batch)
     }
@@ -138,7 +138,7 @@ impl<V: Field> KeylessUnmerkleized<V> {
             return Err(BatchError::Exhausted);
         }
         let floor = floor.max(asked.min(end));
-        let root = link_commit(below.allocator(), before, &metadata, floor)?;
+        let root = link_commit(before, &metadata, floor);
         ops.push(KeylessOp::Commit { metadata, floor })?;
         let target = Target {
             root,

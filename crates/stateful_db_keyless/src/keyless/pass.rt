@@ -1,19 +1,19 @@
 //! A sync of a keyless database that isn't finished.
 
 use super::medium::KeylessMedium;
-use super::state::KeylessState;
-use stateful_base::{Faulty, Target};
+use stateful_base::Faulty;
+use stateful_db_compact::KeylessOp;
+use stateful_db_log::Field;
+use stateful_db_pass::LogPass;
 
-/// A sync that isn't finished: the medium as it was before, the target that it leads to, and the
-/// state that was fetched for it, if one was.
+/// A sync that isn't finished: the medium as it was before, and what is fetched for it.
 #[derive(Drop)]
-pub struct KeylessPass<V> {
+pub struct KeylessPass<V: Field> {
     pub(crate) medium: KeylessMedium<V>,
-    pub(crate) target: Target,
-    pub(crate) fetched: Option<KeylessState<V>>,
+    pub(crate) pass: LogPass<KeylessOp<V>>,
 }
 
-impl<V: Drop> Faulty for KeylessPass<V> {
+impl<V: Field> Faulty for KeylessPass<V> {
     ghost use Rattle.stateful_db_keyless.specs.KeylessStored.{calls_of};
 
     ghost count = { λ p. (calls_of p.medium).faults };

@@ -85,3 +85,17 @@ returns-in-Err-clause-err g c =
     c.close-in-Err.ensures.disk
     ∙ ap (λ xs. mapped (state_in o.first xs) (kept.standing_of c.push.new.self).disk) back
     ∙ ap (λ s. mapped (state_in o.first o.ops) s.disk) standing
+
+pub returns-in-Ok-clause-ok_held : goal.returns-in-Ok-clause-ok_held
+returns-in-Ok-clause-ok_held g c =
+    let o = c.args.log in
+    let added = from_ok c.append.result (sym c.is_err.ensures.value ∙ c.if-is_err.false) c.append.ensures.ok in
+    ap (λ xs. record { first = o.first; before = o.before; ops = xs }) added
+
+pub returns-in-Err-clause-err_held : goal.returns-in-Err-clause-err_held
+returns-in-Err-clause-err_held g c =
+    let o = c.args.log in
+    let newest = ap (λ t. t.end.0) c.target-newest.ensures in
+    let added = from_ok c.append.result (sym c.is_err.ensures.value ∙ c.if-is_err.false) c.append.ensures.ok in
+    let back : c.truncate.new.self ≡ o.ops = c.truncate.ensures ∙ ap (λ xs. take (c.target-newest.result.end.0 - o.first) xs) added ∙ take_at o.ops c.args.more.now (c.target-newest.result.end.0 - o.first) (omega (arith, newest, o.ends)) in
+    c.close-in-Err.ensures.held ∙ ap (λ xs. record { first = o.first; before = o.before; ops = xs }) back

@@ -4,6 +4,7 @@ use Rattle.std.specs.BTreeMap.{is_at}
 use Rattle.stateful_db_overlay.specs.Stack.{above}
 use Rattle.stateful_db_overlay.specs.Chains.{Leads}
 use Rattle.stateful_db_log.specs.Chained.{chained}
+use Rattle.stateful_db_log.specs.Linking.{behind-log}
 use Rattle.stateful_db_any.specs.declared.op.AnyOp.{AnyOp}
 use Rattle.stateful_db_any.specs.declared.op.AnyOp.TheVariants.{Commit}
 use Rattle.stateful_db_any.specs.Ops.{op_bytes}
@@ -21,6 +22,13 @@ first_kept-start-requires g c =
     let live = λ (k : g.row.K.Denot). is_some (place_through cmp c.above-layers.result.now k (lookup (is_at (cmp k)) c.args.db.now.index.entries)) in
     let writes = c.self.inside.writes.entries in
     omega (arith, c.in_ok-written.ensures.from, ap length c.in_ok-written.ensures.ops, length-append (ops_for live writes) (Commit c.self.inside.metadata ∷ []), ops_for-le live writes, c.if-not-room.false, c.saturating_add-2.ensures, c.len.ensures.len)
+
+pub link_each-requires : goal.link_each-requires
+link_each-requires g c =
+    let cmp = g.K.Ord.cmp in
+    let live = λ (k : g.row.K.Denot). is_some (place_through cmp c.above-layers.result.now k (lookup (is_at (cmp k)) c.args.db.now.index.entries)) in
+    let writes = c.self.inside.writes.entries in
+    omega (arith, ap length c.ops.ensures.ops, ap length c.in_ok-written.ensures.ops, length-append (ops_for live writes) (Commit c.self.inside.metadata ∷ []), ops_for-le live writes, c.if-not-room.false, c.saturating_add-2.ensures, c.len.ensures.len)
 
 pub overflow_add-target : goal.overflow_add-target
 overflow_add-target g c =
@@ -51,10 +59,10 @@ returns-clause-ok g c = λ chain shown point.
     let indexed = subst Indexed (sym same) c.ops.ensures.indexed in
     let with : List (ℕ × Change K V) → List (AnyOp K V) = λ ls. ops_for (λ key. is_some (place_through cmp ls key (lookup (is_at (cmp key)) db.index.entries))) old.writes.entries ++ Commit old.metadata ∷ [] in
     let ops = ap (λ (x : Written K V). x.ops) same ∙ c.in_ok-written.ensures.ops ∙ ap with layers in
-    let roots = c.in_ok-link_each.ensures ∙ ap (λ xs. chained bytes old.parent.root xs) (c.ops.ensures.ops ∙ sym (ap (λ (x : Written K V). x.ops) same)) in
+    let roots = c.link_each.ensures ∙ behind-log bytes old.parent.end.0 old.parent.root c.ops.result.now ∙ ap (λ xs. chained bytes old.parent.root xs) (c.ops.ensures.ops ∙ sym (ap (λ (x : Written K V). x.ops) same)) in
     let ends = ap (λ (xs : List (AnyOp K V)). old.parent.end.0 + length xs) (c.ops-2.ensures.ops ∙ sym (ap (λ (x : Written K V). x.ops) same)) in
     let Shows : Draft K V → Type 0 = λ d. DraftShows cmp spell_key spell_value d chain in
-    seals cmp spell_key spell_value g.met.K.Ord.total u l n s db.index.entries c.in_ok-link_each.field-0 c.first_kept-start.result (old.parent.end.0 + length c.ops-2.result.now) chain
+    seals cmp spell_key spell_value g.met.K.Ord.total u l n s db.index.entries c.link_each.result c.first_kept-start.result (old.parent.end.0 + length c.ops-2.result.now) chain
     (ap (λ (x : ℕ × Change K V). x.0) is)
     (ap (λ (x : Written K V). x.from) same ∙ c.in_ok-written.ensures.from)
     indexed ops db.indexed

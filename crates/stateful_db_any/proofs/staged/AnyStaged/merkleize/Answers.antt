@@ -1,6 +1,4 @@
-use Rattle.std.proofs.Common.{◌≡◌, ◌∷◌, ℕ, List, true, false, ap, sym, ◌∙◌, subst, refl}
-use Rattle.stateful_db.specs.Chain.{has_id}
-use Rattle.stateful_db_any.specs.Any.{State}
+use Rattle.std.proofs.Common.{◌≡◌, ◌∷◌, true, false, ap, sym, ◌∙◌, subst, refl}
 use Rattle.stateful_db_any.specs.Shown.{Draft, DraftShows}
 use Rattle.stateful_db_any.specs.Staged.{Staging, filled}
 use Rattle.stateful_db_any.specs.Stored.{standing_of}

@@ -15,6 +15,6 @@ returns-in-None-clause-value c = λ p chain shown.
     let below = value_through u.below.layers key (value_at u.base.entries key) in
     let none : lookup (is_at (nat_cmp key)) u.writes.entries ≡ None = sym c.get.ensures.value ∙ ap option_copied c.in-None.is in
     c.value_in.ensures
-    ∙ ap (λ ls. value_through ls key (value_at c.entries.result.now.entries key)) (c.layers.ensures (p ∷ chain) shown)
+    ∙ ap (λ ls. value_through ls key (value_at c.entries.result.now.entries key)) (c.layers.ensures.all (p ∷ chain) shown)
     ∙ ap (λ es. value_through u.below.layers key (value_at es key)) c.entries.ensures
     ∙ sym (draft_value u p chain key shown ∙ ap (λ o. unwrap_or o below) none)

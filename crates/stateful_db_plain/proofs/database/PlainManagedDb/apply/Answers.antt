@@ -1,10 +1,13 @@
-use Rattle.std.proofs.Common.{ap, arith, length-append}
-use Rattle.stateful_db.specs.Disk.{place}
+use Rattle.std.proofs.Common.{◌∷◌, ap, ◌∙◌}
+use Rattle.stateful_db.specs.Disk.{Standing, applied, point}
+use Rattle.stateful_db_medium.specs.Mapped.{mapped, mapped_standing}
+use Rattle.stateful_db_medium.specs.declared.checkpoints.Checkpoint.{Checkpoint}
 use Rattle.stateful_db_plain.specs.Whole.{Whole}
+use Rattle.stateful_db_plain.specs.Rooted.{state_of}
+use Rattle.stateful_db_plain.specs.Stored.{standing_of}
 use Rattle.stateful_db_plain.proofs.database.PlainManagedDb.apply.Goals as goal
 
-pub invariant_of-result : goal.invariant_of-result
-invariant_of-result c =
-    let same = ap place c.fails.ensures.disk in
-    let more = c.in-Ok.ensures.place in
-    record { no_later = λ at out. let before = c.args.self.no_later at out in omega (arith, length-append {A = Whole}) }
+pub returns-in-Ok-grow-clause-ok : goal.returns-in-Ok-grow-clause-ok
+returns-in-Ok-grow-clause-ok c = λ p chain shown.
+    c.in-Ok-grow.ensures.ok p (point (standing_of c.args.self) ∷ chain) shown
+    ∙ ap (λ (s : Standing (Checkpoint Whole)). record (mapped_standing state_of s) { id = p.0; disk = applied (mapped state_of s.disk) p.1 }) c.in-Ok.ensures.ok

@@ -1,7 +1,7 @@
-use Rattle.std.proofs.Common.{◌≡◌, ℕ, ◌<◌, false, List, [], ◌∷◌, ◌++◌, sym, subst}
+use Rattle.std.proofs.Common.{◌≡◌, ℕ, ◌<◌, false, [], ◌∷◌, ◌++◌, sym, subst}
 use Rattle.stateful_db.specs.Chain.{has_id}
 use Rattle.stateful_db.specs.Disk.{point}
-use Rattle.stateful_db_plain.specs.Whole.{Whole, begun}
+use Rattle.stateful_db_plain.specs.Whole.{begun}
 use Rattle.stateful_db_plain.specs.Stored.{standing_of}
 use Rattle.stateful_db_plain.specs.Shown.{DraftShows, SealShows}
 use Rattle.stateful_db_plain.specs.declared.database.Plain.{Plain}

@@ -8,7 +8,7 @@ pub returns-clause-changes : goal.returns-clause-changes
 returns-clause-changes g c = λ ch s holds.
     let spell = g.V.Field.fields.spelling in
     record {
-      before = c.in_ok-batch.ensures ∙ ap (λ d. linked d (append_bytes spell c.args.value)) holds.before ∙ sym (chained-append (append_bytes spell) s.target.root ch.values (c.args.value ∷ []));
+      before = c.link_append-batch.ensures ∙ ap (λ d. linked d (append_bytes spell c.args.value)) holds.before ∙ sym (chained-append (append_bytes spell) s.target.root ch.values (c.args.value ∷ []));
       end = omega (arith, holds.end, c.saturating_add.ensures, length-append {A = g.row.V.Denot});
       floor = holds.floor;
       metadata = holds.metadata;

@@ -10,7 +10,7 @@ pub returns-clause-changes : goal.returns-clause-changes
 returns-clause-changes g c = λ ch s holds.
     let spell = g.V.Field.fields.spelling in
     record {
-      before = c.in_ok-batch.ensures ∙ ap (λ d. linked d (append_bytes spell c.args.value)) holds.before ∙ sym (chained-append (append_bytes spell) s.target.root ch.values (c.args.value ∷ []));
+      before = c.link_append-batch.ensures ∙ ap (λ d. linked d (append_bytes spell c.args.value)) holds.before ∙ sym (chained-append (append_bytes spell) s.target.root ch.values (c.args.value ∷ []));
       ops = c.in_ok-push.ensures.items ∙ ap (λ xs. xs ++ Append c.args.value ∷ []) holds.ops ∙ sym (map-append_one Append ch.values c.args.value);
       size = holds.size;
       floor = holds.floor;

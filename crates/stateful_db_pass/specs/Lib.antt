@@ -1,0 +1,4 @@
+pub mod Fetched
+pub mod Kept
+pub mod Progress
+pub mod Counted
