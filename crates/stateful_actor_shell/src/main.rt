@@ -1,5 +1,5 @@
 //! Plays the parts of the machine, one command a line, and prints what each answers: its mailbox,
-//! its register of live work, durability and pruning.
+//! its register of live work, durability and pruning; and the source and the sink of its program.
 //!
 //! The first words of a line begin a part anew, and further lines go to it. Blocks are letters.
 //!
@@ -40,10 +40,17 @@
 //!     valid V M D O        whether such a config may be
 //!     no-memory            the error that is never given
 //!
+//!     edge                 a source and a sink whose reader and writer fail at their second call,
+//!                          and a sink whose writer takes nothing
+//!     read                 reads into four bytes, and tells them and how many calls have failed
+//!     write TEXT           writes a text, and tells how much was taken and how many have failed
+//!     write-full TEXT      the same, to the sink whose writer takes nothing
+//!
 //! event.rt and mark.rt have the words of events and marks. Each mark stands behind a stroke.
 #![tactic(auto)]
 
 mod durable;
+mod edge;
 mod event;
 mod letter;
 mod mailbox;

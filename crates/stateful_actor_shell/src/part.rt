@@ -1,9 +1,10 @@
 //! The part that lines go to.
 
+use crate::edge::Edge;
 use crate::mailbox::Letters;
 use crate::prunes::config_of;
 use crate::register::Registers;
-use crate::{durable, mailbox, prunes, register};
+use crate::{durable, edge, mailbox, prunes, register};
 use stateful_actor_mailbox::Mailbox;
 use stateful_base::Height;
 use stateful_durability::Durability;
@@ -20,6 +21,7 @@ pub(crate) enum Part {
     Register(Registers),
     Durability(Durability),
     Pruning(Pruning<u8>),
+    Edge(Edge),
 }
 
 impl Part {
@@ -69,11 +71,13 @@ impl Shell for Part {
                 self.begin(Part::Durability(durability), page)
             }
             "pruning" => self.begin_pruning(words, page),
+            "edge" => self.begin(Part::Edge(Edge::new()), page),
             _ => match self {
                 Part::Mailbox(mailbox) => mailbox::play(mailbox, words, page),
                 Part::Register(registers) => register::play(registers, words, page),
                 Part::Durability(durability) => durable::play(durability, words, page),
                 Part::Pruning(pruning) => prunes::play(pruning, words, page),
+                Part::Edge(edge) => edge::play(edge, words, page),
                 Part::Nothing => page.say("no such command"),
             },
         }

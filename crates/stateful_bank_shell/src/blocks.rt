@@ -4,7 +4,7 @@ use crate::shown::print_block;
 use crate::words::{decision, digest, ops, targets};
 use stateful_bank::{BankBlock, Proposal, one_is_given};
 use stateful_base::{Epoch, Height, Round, View};
-use stateful_shell::{Page, number, word};
+use stateful_shell::{Page, number, parsed, word};
 
 /// The block of height 0.
 pub(crate) fn genesis(block: &mut BankBlock, words: &[&str], page: &mut Page) {
@@ -54,6 +54,6 @@ pub(crate) fn propose(block: &mut BankBlock, words: &[&str], page: &mut Page) {
 
 /// How many turns the block's hook takes.
 pub(crate) fn slow(block: &mut BankBlock, words: &[&str], page: &mut Page) {
-    block.slow = u8::try_from(number(words, 1)).unwrap_or(0);
+    block.slow = parsed(word(words, 1), 0);
     print_block(block, page)
 }

@@ -3,7 +3,7 @@
 use hex::FromHex;
 use stateful_bank::{BankBlock, Op};
 use stateful_base::{Digest, Handoff, Height, Items, Location, OutOfMemory, Target};
-use stateful_shell::{Page, number, word};
+use stateful_shell::{Page, beside, number, parsed, word};
 use std::alloc::Global;
 use std::collections::BTreeMap;
 
@@ -71,12 +71,7 @@ const COMMANDS: &[(&str, Command)] = &[
 
 /// The command of a word.
 pub(crate) fn command_of(word: &str) -> Command {
-    for (name, command) in COMMANDS {
-        if *name == word {
-            return *command;
-        }
-    }
-    Command::Unknown
+    beside(COMMANDS, word, Command::Unknown)
 }
 
 /// The words of a line.
@@ -98,31 +93,21 @@ pub(crate) fn decision(word: &str) -> Handoff<()> {
     }
 }
 
-/// A number.
-fn number_of(text: &str) -> u64 {
-    text.parse::<u64>().unwrap_or(0)
-}
-
-/// An account.
-fn account(text: &str) -> u16 {
-    text.parse::<u16>().unwrap_or(0)
-}
-
 /// The operation of a word, if it stands for one.
 fn op(word: &str) -> Option<Op> {
     let (kind, rest) = word.split_once(':')?;
     let (first, rest) = rest.split_once(':')?;
     match kind {
         "mint" => Some(Op::Mint {
-            account: account(first),
-            amount: number_of(rest),
+            account: parsed(first, 0),
+            amount: parsed(rest, 0),
         }),
         "move" => {
             let (to, amount) = rest.split_once(':')?;
             Some(Op::Move {
-                from: account(first),
-                to: account(to),
-                amount: number_of(amount),
+                from: parsed(first, 0),
+                to: parsed(to, 0),
+                amount: parsed(amount, 0),
             })
         }
         _ => None,
@@ -135,15 +120,15 @@ fn target(word: &str) -> Option<Target> {
     let (start, end) = range.split_once(':')?;
     Some(Target {
         root: Digest(<[u8; 32] as FromHex>::from_hex(root).ok()?),
-        start: Location(number_of(start)),
-        end: Location(number_of(end)),
+        start: Location(parsed(start, 0)),
+        end: Location(parsed(end, 0)),
     })
 }
 
 /// The entry of a word, if it stands for one.
 fn entry(word: &str) -> Option<(u64, u64)> {
     let (account, amount) = word.split_once(':')?;
-    Some((account.parse::<u64>().ok()?, number_of(amount)))
+    Some((account.parse::<u64>().ok()?, parsed(amount, 0)))
 }
 
 /// The operations among the words.
@@ -190,7 +175,7 @@ pub(crate) fn entries(words: &[&str], page: &mut Page) -> BTreeMap<u64, u64> {
 pub(crate) fn block_of(words: &[&str], page: &mut Page) -> BankBlock {
     let mut block = BankBlock::genesis(page.alloc(), targets(words, page));
     block.height = Height(number(words, 5));
-    block.slow = u8::try_from(number(words, 2)).unwrap_or(0);
+    block.slow = parsed(word(words, 2), 0);
     block.ops = ops(words, page);
     block
 }

@@ -147,5 +147,6 @@ pub(crate) fn replay<W: Deep>(printed: &str, lines: &str, page: &mut Page) {
     let mut book = Book::new(alloc);
     let mut again = Page::new(alloc);
     play_lines(&mut desk, &mut book, printed, &mut again);
+    page.note_page(&again);
     play_lines(&mut desk, &mut book, lines, page)
 }

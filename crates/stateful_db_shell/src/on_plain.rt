@@ -25,19 +25,24 @@ impl Member for Plain {
     }
 
     fn push_open(&self, page: &mut Page) {
-        Self::push_medium(self.medium(), page);
+        push_kept(self.size(), self.durable(), self.pruned(), page);
         page.field(", out ", count(self.tokens()));
     }
 
     fn push_medium(medium: &PlainMedium, page: &mut Page) {
-        page.field(", end ", medium.end());
-        page.field(", durable ", medium.durable());
-        page.field(", pruned ", medium.pruned());
+        push_kept(medium.end(), medium.durable(), medium.pruned(), page);
     }
 
     fn has_room(&self) -> bool {
         self.tokens().has_room()
     }
+}
+
+/// Which checkpoints are kept.
+fn push_kept(end: u64, durable: u64, pruned: u64, page: &mut Page) {
+    page.field(", end ", end);
+    page.field(", durable ", durable);
+    page.field(", pruned ", pruned);
 }
 
 /// `write B KEY=VALUE..`: the batch with these values.

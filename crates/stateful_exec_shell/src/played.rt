@@ -3,10 +3,10 @@
 use crate::block::FakeBlock;
 use crate::blocks::Blocks;
 use crate::fake::{Fake, Order};
-use crate::words::{end, round, small};
+use crate::words::{end, round};
 use stateful_db::{Application, DatabaseSet, Held};
 use stateful_db_plain::{Plain, PlainMedium};
-use stateful_shell::word;
+use stateful_shell::{parsed, word};
 use stateful_types::{Handoff, Round};
 use std::alloc::Global;
 
@@ -77,7 +77,7 @@ impl Played for Fake {
             _ => return None,
         };
         Some(Order {
-            turns: small(words, 6),
+            turns: parsed(word(words, 6), 0),
             end: end(words, 7),
             given,
         })

@@ -2,7 +2,7 @@
 
 use crate::block::{End, FakeBlock};
 use stateful_db_plain::PlainState;
-use stateful_shell::{number, word};
+use stateful_shell::{beside, number, parsed, word};
 use stateful_types::{Digest, Epoch, Height, Round, View};
 use std::alloc::Global;
 use std::collections::BTreeMap;
@@ -84,18 +84,8 @@ const COMMANDS: &[(&str, Command)] = &[
 impl Command {
     /// The command of a word.
     pub(crate) fn of(word: &str) -> Command {
-        for (text, command) in COMMANDS {
-            if *text == word {
-                return *command;
-            }
-        }
-        Command::Unknown
+        beside(COMMANDS, word, Command::Unknown)
     }
-}
-
-/// The small number that stands there. 0 where none does.
-pub(crate) fn small(words: &[&str], at: usize) -> u8 {
-    word(words, at).parse::<u8>().unwrap_or(0)
 }
 
 /// The round of the view that stands there, in the epoch 0.
@@ -120,13 +110,13 @@ pub(crate) fn end(words: &[&str], at: usize) -> End {
 pub(crate) fn block_of(alloc: Global, parent: Digest, words: &[&str]) -> FakeBlock {
     let applied = number(words, 6).saturating_add(1);
     FakeBlock {
-        name: small(words, 3),
+        name: parsed(word(words, 3), 0),
         parent,
         height: Height(number(words, 4)),
         round: round(words, 5),
         target: PlainState::new(applied, BTreeMap::new(alloc)).target(),
-        turns: small(words, 7),
+        turns: parsed(word(words, 7), 0),
         end: end(words, 8),
-        hook: small(words, 9),
+        hook: parsed(word(words, 9), 0),
     }
 }

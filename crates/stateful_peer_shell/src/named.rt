@@ -1,6 +1,6 @@
 //! The words that commands have.
 
-use stateful_shell::word;
+use stateful_shell::{beside, word};
 
 /// A word of a command.
 #[derive(Clone, Copy)]
@@ -144,11 +144,5 @@ const WORDS: &[(&str, Word)] = &[
 
 /// The word that stands there.
 pub(crate) fn named(words: &[&str], at: usize) -> Word {
-    let text = word(words, at);
-    for (name, known) in WORDS {
-        if *name == text {
-            return *known;
-        }
-    }
-    Word::Unknown
+    beside(WORDS, word(words, at), Word::Unknown)
 }

@@ -103,7 +103,9 @@ pub(crate) fn play(words: &[&str], page: &mut Page) {
         let Ok(mut part) = Bytes::copy_from_slice(page.alloc(), &input.as_slice()[..cut]) else {
             return page.lack();
         };
-        let read = read_value(words, &mut part, &mut Page::new(page.alloc()));
+        let mut scratch = Page::new(page.alloc());
+        let read = read_value(words, &mut part, &mut scratch);
+        page.note_page(&scratch);
         if let Err(CodecError::EndOfBuffer) = read {
             short = short.saturating_add(1);
         }

@@ -1,9 +1,9 @@
 //! A sample of replies, from which a floor is selected.
 
 use crate::named::{Word, named};
-use crate::words::{Votes, finalization, small};
+use crate::words::{Votes, finalization};
 use stateful_probe::Sample;
-use stateful_shell::{Page, number, word};
+use stateful_shell::{Page, number, parsed, word};
 use stateful_types::{Epoch, Finalization, OutOfMemory};
 use std::cell::Cell;
 
@@ -26,7 +26,7 @@ fn select(sample: &mut Replies, words: &[&str], page: &mut Page) {
     let is_any = word(words, 3) != "without";
     let unjudged = number(words, 4);
     let looked = Cell::new(false);
-    let floor = sample.select(small(words, 2), |reply| {
+    let floor = sample.select(parsed(word(words, 2), 0), |reply| {
         looked.set(true);
         is_any || unjudged != reply.round.view.0
     });

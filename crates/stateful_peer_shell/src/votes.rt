@@ -1,11 +1,11 @@
 //! Schemes, the latest finalization, orders, limits and errors.
 
 use crate::named::{Word, named};
-use crate::words::{Votes, finalization, numbers, request, show_final, small};
+use crate::words::{Votes, finalization, numbers, request, show_final};
 use stateful_db_source::ServeFault;
 use stateful_p2p::{ActorError, ResponseDropped, TooManyOps, max_payload_size};
 use stateful_probe::{Message, ProbeError};
-use stateful_shell::{Page, index, number, rest, word};
+use stateful_shell::{Page, index, number, parsed, rest, word};
 use stateful_types::{
     CodecError, DrawError, Failed, Finalization, Items, Latest, MemoryLatest, OutOfMemory,
     ReadError, Scheme, SinkFault, VoteScheme, max_faults,
@@ -48,7 +48,7 @@ pub(crate) fn play_latest(latest: &mut MemoryLatest<Votes>, words: &[&str], page
 
 /// `most ..`: the limits.
 pub(crate) fn most(words: &[&str], page: &mut Page) {
-    let n = small(words, 2);
+    let n = parsed(word(words, 2), 0u32);
     let op = index(words, 3);
     match named(words, 1) {
         Word::Faults => page.show(&max_faults(n)),

@@ -1,7 +1,8 @@
 //! The words of a line, and how values are printed.
 
 use bytes::Bytes;
-use stateful_shell::{Page, number, word};
+use hex::FromHexError;
+use stateful_shell::{Page, number, parsed, word};
 use stateful_types::{
     Digest, DrawError, Epoch, Feedback, Finalization, Items, Location, OutOfMemory, Request, Round,
     View,
@@ -12,22 +13,9 @@ use std::str::FromStr;
 /// What shows that a block is final, in this shell: the numbers of those who signed.
 pub(crate) type Votes = Items<u32>;
 
-/// The number below 2^8 that stands there. 0 where none does.
-pub(crate) fn byte(words: &[&str], at: usize) -> u8 {
-    word(words, at).parse::<u8>().unwrap_or(0)
-}
-
-/// The number below 2^32 that stands there. 0 where none does.
-pub(crate) fn small(words: &[&str], at: usize) -> u32 {
-    word(words, at).parse::<u32>().unwrap_or(0)
-}
-
-/// A part of a word. 0 where it is missing, or is no number.
+/// The number of a part of a word. 0 where it is missing, or is no number.
 pub(crate) fn part(word: Option<&str>) -> u64 {
-    match word {
-        Some(word) => word.parse::<u64>().unwrap_or(0),
-        None => 0,
-    }
+    parsed(word.unwrap_or(""), 0)
 }
 
 /// Numbers with commas between them. What is no number, as `-`, is left out.
@@ -72,12 +60,14 @@ pub(crate) fn shared(bytes: Vec<u8>, page: &mut Page) -> Bytes {
     }
 }
 
-/// Bytes in hex. None where it isn't hex, as `-`.
+/// Bytes in hex: no bytes where the word isn't hex, as `-`.
 pub(crate) fn bytes(words: &[&str], at: usize, page: &mut Page) -> Bytes {
     match hex::decode(page.alloc(), word(words, at)) {
-        Ok(bytes) => shared(bytes, page),
-        Err(_) => Bytes::new(),
+        Ok(bytes) => return shared(bytes, page),
+        Err(FromHexError::OutOfMemory) => page.lack(),
+        Err(_) => {}
     }
+    Bytes::new()
 }
 
 /// The finalization of these words: its epoch, its view, its parent's view, the byte that its
@@ -89,7 +79,7 @@ pub(crate) fn finalization(words: &[&str], page: &mut Page) -> Finalization<Vote
             view: View(number(words, 1)),
         },
         parent: View(number(words, 2)),
-        payload: Digest([byte(words, 3); 32]),
+        payload: Digest([parsed(word(words, 3), 0); 32]),
         certificate: Items::from_vec(numbers(words, 4, page)),
     }
 }

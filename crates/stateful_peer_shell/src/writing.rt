@@ -2,9 +2,9 @@
 
 use crate::named::{Word, named};
 use crate::update::Update;
-use crate::words::{byte, finalization, part, request, show_bytes, small};
+use crate::words::{finalization, part, request, show_bytes};
 use stateful_probe::{Message, Tag};
-use stateful_shell::{Page, number, rest, word};
+use stateful_shell::{Page, number, parsed, rest, word};
 use stateful_types::{
     Digest, Height, Items, OutOfMemory, Response, VoteScheme, write_u8, write_u32, write_u64,
 };
@@ -21,7 +21,7 @@ fn update(word: &str) -> Update {
 fn response(words: &[&str], page: &mut Page) -> Response<Update> {
     if let Word::Boundary = named(words, 1) {
         return Response::Boundary {
-            before: Digest([byte(words, 3); 32]),
+            before: Digest([parsed(word(words, 3), 0); 32]),
             op: update(word(words, 2)),
         };
     }
@@ -48,12 +48,12 @@ pub(crate) fn write_message(
     message.write::<VoteScheme>(bytes)
 }
 
-/// `write VALUE`: its bytes. None where there is no such value.
+/// `write VALUE`: its bytes, and no bytes where there is no such value.
 pub(crate) fn write(words: &[&str], page: &mut Page) {
     let mut bytes = Vec::new(page.alloc());
     let written = match named(words, 1) {
-        Word::U8 => write_u8(byte(words, 2), &mut bytes),
-        Word::U32 => write_u32(small(words, 2), &mut bytes),
+        Word::U8 => write_u8(parsed(word(words, 2), 0), &mut bytes),
+        Word::U32 => write_u32(parsed(word(words, 2), 0), &mut bytes),
         Word::U64 => write_u64(number(words, 2), &mut bytes),
         Word::Height => Height(number(words, 2)).write(&mut bytes),
         Word::Tag => match named(words, 2) {

@@ -4,6 +4,3 @@
 mod edge;
 
 pub use edge::{StdSink, StdSource};
-
-#[cfg(test)]
-mod tests;

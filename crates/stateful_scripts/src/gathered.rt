@@ -1,8 +1,9 @@
 //! What the lines of a case say of a script, and of its run.
 
 use crate::Scripts;
+use hex::FromHexError;
 use stateful_base::OutOfMemory;
-use stateful_shell::{number, rest, word};
+use stateful_shell::{Page, number, rest, word};
 use std::alloc::Global;
 use std::mem;
 
@@ -57,12 +58,17 @@ impl Scripts {
         Ok(())
     }
 
-    /// Bytes of the script, in hex. None where the word isn't.
-    fn put_bytes(&mut self, word: &str, alloc: Global) -> Result<(), OutOfMemory> {
-        if let Ok(bytes) = hex::decode(alloc, word) {
-            self.bytes.extend_from_slice(bytes.as_slice())?;
+    /// Bytes of the script, in hex. A word that isn't hex is refused.
+    fn put_bytes(&mut self, word: &str, page: &mut Page) {
+        match hex::decode(page.alloc(), word) {
+            Ok(bytes) => {
+                if self.bytes.extend_from_slice(bytes.as_slice()).is_err() {
+                    page.lack()
+                }
+            }
+            Err(FromHexError::OutOfMemory) => page.lack(),
+            Err(_) => page.say("refused"),
         }
-        Ok(())
     }
 
     /// The script so far, doubled so many times.
@@ -74,23 +80,29 @@ impl Scripts {
         Ok(())
     }
 
-    /// The lines that are kept under a name. None where it isn't known.
-    fn put_kept(&mut self, name: &str) -> Result<(), OutOfMemory> {
+    /// The lines that are kept under a name. A name that isn't known is refused.
+    fn put_kept(&mut self, name: &str, page: &mut Page) {
         for kept in &self.kept {
             if kept.name.as_str() == name {
-                self.bytes.extend_from_slice(kept.bytes.as_slice())?;
+                if self.bytes.extend_from_slice(kept.bytes.as_slice()).is_err() {
+                    page.lack()
+                }
+                return;
             }
         }
-        Ok(())
+        page.say("refused")
     }
 
-    /// A call that fails, of the source or of the sink.
-    fn fail(&mut self, end: &str, call: u64) -> Result<(), OutOfMemory> {
-        match end {
-            "read" => self.reads.push(call)?,
-            _ => self.writes.push(call)?,
+    /// A call that fails, of the source or of the sink. Another end is refused.
+    fn fail(&mut self, end: &str, call: u64, page: &mut Page) {
+        let noted = match end {
+            "read" => self.reads.push(call),
+            "write" => self.writes.push(call),
+            _ => return page.say("refused"),
+        };
+        if noted.is_err() {
+            page.lack()
         }
-        Ok(())
     }
 
     /// The words of the run. In one `_` stands for a blank.
@@ -103,17 +115,28 @@ impl Scripts {
         Ok(())
     }
 
-    /// Does a command that says what is gathered, or takes a line of the script.
-    pub(crate) fn gather(&mut self, words: &[&str], alloc: Global) -> Result<(), OutOfMemory> {
+    /// Does a command that says what is gathered, and is never refused, or takes a line of the
+    /// script.
+    fn take(&mut self, words: &[&str], alloc: Global) -> Result<(), OutOfMemory> {
         match word(words, 0) {
             "define" => Ok(self.name.push_str(word(words, 1))?),
-            "use" => self.put_kept(word(words, 1)),
-            "bytes" => self.put_bytes(word(words, 1), alloc),
             "repeat" => self.put_repeated(number(words, 1), rest(words, 2), alloc),
             "double" => self.double(number(words, 1), alloc),
             "words" => self.set_words(rest(words, 1), alloc),
-            "fail" => self.fail(word(words, 1), number(words, 2)),
             _ => self.put_words(words, alloc),
+        }
+    }
+
+    /// Does a command that says what is gathered, or takes a line of the script.
+    pub(crate) fn gather(&mut self, words: &[&str], page: &mut Page) {
+        match word(words, 0) {
+            "use" => self.put_kept(word(words, 1), page),
+            "bytes" => self.put_bytes(word(words, 1), page),
+            "fail" => self.fail(word(words, 1), number(words, 2), page),
+            _ => {
+                let taken = self.take(words, page.alloc());
+                page.note(taken)
+            }
         }
     }
 

@@ -30,13 +30,20 @@
 //!                            digest is taken, and that of the word `n` has the names n1 and n2
 //!     shown WORD ..          the transcript of databases: `closed`, `lost`, `away`
 //!     laws                   the laws of scripts and of plays are called
+//!
+//! `refused` is printed for bytes that aren't hex, for a name under which nothing is kept, and for
+//! a call, a mark or a database of no such kind.
+//!
+//! From a line `counter` on, the lines of a file are commands on the counter (`counter.rt`).
 #![tactic(auto)]
 
+mod counter;
 mod gathered;
 mod marks;
 mod reading;
 mod running;
 
+use crate::counter::CounterShell;
 use crate::gathered::Kept;
 use stateful_script::Name;
 use stateful_shell::{Page, Shell, play_files, word};
@@ -75,14 +82,13 @@ impl Shell for Scripts {
     }
 
     fn play(&mut self, words: &[&str], page: &mut Page) {
-        let alloc = page.alloc();
         match word(words, 0) {
             "read" | "last" | "outline" => self.read(words, page),
             "number" => {
                 page.debug(&stateful_script::number(word(words, 1).as_bytes()));
                 page.end()
             }
-            "name" => match Name::new(alloc, word(words, 1)) {
+            "name" => match Name::new(page.alloc(), word(words, 1)) {
                 Ok(name) => page.say(name.as_str()),
                 Err(_) => page.lack(),
             },
@@ -90,7 +96,7 @@ impl Shell for Scripts {
             "shown" => marks::shown(words, page),
             "laws" => marks::laws(page),
             "ends" => return self.ends(words, page),
-            _ => return page.note(self.gather(words, alloc)),
+            _ => return self.gather(words, page),
         }
         self.is_asked = true;
     }
@@ -110,6 +116,41 @@ impl Shell for Scripts {
     }
 }
 
+/// What plays scripts beside what plays the counter, and to which of them the lines go.
+#[derive(Drop)]
+struct Plays {
+    scripts: Scripts,
+    counter: CounterShell,
+    is_counter: bool,
+}
+
+impl Shell for Plays {
+    fn new(alloc: Global) -> Plays {
+        Plays {
+            scripts: Scripts::new(alloc),
+            counter: CounterShell::new(alloc),
+            is_counter: false,
+        }
+    }
+
+    fn play(&mut self, words: &[&str], page: &mut Page) {
+        if word(words, 0) == "counter" {
+            self.is_counter = true;
+        }
+        if self.is_counter {
+            self.counter.play(words, page)
+        } else {
+            self.scripts.play(words, page)
+        }
+    }
+
+    fn end(&mut self, page: &mut Page) {
+        if !self.is_counter {
+            self.scripts.end(page)
+        }
+    }
+}
+
 fn main(rt: HostRuntime) -> Result<ExitCode, anyhow::Error> {
-    play_files::<Scripts>(&rt)
+    play_files::<Plays>(&rt)
 }

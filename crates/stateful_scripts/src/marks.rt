@@ -24,31 +24,31 @@ fn anchor(height: u64, word: &str) -> Anchor {
     }
 }
 
-/// The mark that words name.
-fn mark_of(words: &[&str]) -> Mark<BankBlock> {
+/// The mark that words name, if there is one.
+fn mark_of(words: &[&str]) -> Option<Mark<BankBlock>> {
     let (first, second) = (number(words, 2), number(words, 3));
     let anchor = anchor(first, word(words, 3));
     match word(words, 1) {
-        "opened" => Mark::Opened { anchor },
-        "converged" => Mark::Converged { anchor },
-        "recorded" => Mark::Recorded { anchor },
-        "asked" => Mark::Asked {
+        "opened" => Some(Mark::Opened { anchor }),
+        "converged" => Some(Mark::Converged { anchor }),
+        "recorded" => Some(Mark::Recorded { anchor }),
+        "asked" => Some(Mark::Asked {
             fetch: first,
             ticket: None,
             digest: Digest::of(word(words, 4).as_bytes()),
-        },
-        "dispatched" => Mark::Dispatched {
+        }),
+        "dispatched" => Some(Mark::Dispatched {
             generation: first,
             height: Height(second),
-        },
-        "pruned" => Mark::Pruned {
+        }),
+        "pruned" => Some(Mark::Pruned {
             marshal: Height(first),
             target: Height(second),
-        },
-        "completed" => Mark::Completed {
+        }),
+        "completed" => Some(Mark::Completed {
             height: Height(first),
-        },
-        _ => Mark::Stopped,
+        }),
+        _ => None,
     }
 }
 
@@ -80,8 +80,11 @@ fn show_transcript(entries: &[Entry<BankBlock, (), ()>], databases: &[Shown], pa
 
 /// Prints the transcript of one event, which isn't shown, with the mark that words name.
 pub(crate) fn mark(words: &[&str], page: &mut Page) {
+    let Some(mark) = mark_of(words) else {
+        return page.say("refused");
+    };
     let mut marks = Items::new(page.alloc());
-    if marks.push(mark_of(words)).is_err() {
+    if marks.push(mark).is_err() {
         page.lack();
     }
     let entry = Entry {
@@ -91,12 +94,13 @@ pub(crate) fn mark(words: &[&str], page: &mut Page) {
     show_transcript(&[entry], &[], page)
 }
 
-/// What is shown of a database that a word names.
-fn shown_of(word: &str) -> Shown {
+/// What is shown of a database that a word names, if it names one.
+fn shown_of(word: &str) -> Option<Shown> {
     match word {
-        "lost" => Shown::Lost,
-        "away" => Shown::Away,
-        _ => Shown::Closed,
+        "closed" => Some(Shown::Closed),
+        "lost" => Some(Shown::Lost),
+        "away" => Some(Shown::Away),
+        _ => None,
     }
 }
 
@@ -104,8 +108,13 @@ fn shown_of(word: &str) -> Shown {
 pub(crate) fn shown(words: &[&str], page: &mut Page) {
     let mut databases = Vec::new(page.alloc());
     for word in rest(words, 1) {
-        if databases.push(shown_of(word)).is_err() {
-            page.lack();
+        match shown_of(word) {
+            Some(shown) => {
+                if databases.push(shown).is_err() {
+                    page.lack();
+                }
+            }
+            None => page.say("refused"),
         }
     }
     show_transcript(&[], databases.as_slice(), page)

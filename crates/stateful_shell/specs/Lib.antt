@@ -1,2 +1,3 @@
 -- What contracts speak of.
 pub mod Printed
+pub mod Words

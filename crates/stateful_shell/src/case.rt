@@ -53,6 +53,17 @@ fn push_line(text: &mut String, line: &str) -> Result<(), OutOfMemory> {
     Ok(())
 }
 
+/// Appends what a page has.
+fn push_page(text: &mut String, page: &Page) -> Result<(), OutOfMemory> {
+    match page.text() {
+        Ok(printed) => {
+            text.push_str(printed)?;
+            Ok(())
+        }
+        Err(OutOfMemory) => Err(OutOfMemory),
+    }
+}
+
 impl<S: Shell> Cases<S> {
     /// Before the first line.
     pub(crate) fn new(alloc: Global) -> Cases<S> {
@@ -128,7 +139,7 @@ impl<S: Shell> Cases<S> {
             _ => push_line(&mut text, line)?,
         }
         if was == Part::Commands && self.part == Part::Answer {
-            text.push_str(self.page.text())?;
+            push_page(&mut text, &self.page)?;
         }
         Ok(text)
     }

@@ -24,4 +24,4 @@ mod words;
 pub use case::{Shell, Tally};
 pub use page::Page;
 pub use playing::play_files;
-pub use words::{index, number, rest, word};
+pub use words::{beside, index, number, parsed, rest, word};

@@ -1,7 +1,9 @@
 //! What the commands of a case print.
 
 ghost use Rattle.std.specs.Prelude.{if◌then◌else◌, ◌≡◌, ◌++◌, [], true, false, IsTrue};
-ghost use Rattle.std.specs.Prelude.{MatchResult, codes, is_err, string_bytes};
+ghost use Rattle.std.specs.Prelude.{IfOk, OnOk, OnErr, codes, is_err, string_bytes};
+ghost use Rattle.std.specs.Fmt.{AppendsText, decimal, with_newline};
+ghost use Rattle.hex.specs.Hex.{encode_lower};
 ghost use Rattle.stateful_shell.specs.Printed.{Adds};
 
 use stateful_base::OutOfMemory;
@@ -39,23 +41,36 @@ impl Page {
         }
     }
 
-    /// Where things that commands make are allocated.
+    /// Where things that commands make are allocated. No clause says which allocator that is, since
+    /// a page has one alone.
     pub fn alloc(&self) -> Global {
         *self.text.allocator()
     }
 
     /// Memory lacked for a command.
     pub fn lack(&mut self)
-        ensures { self.new.lacks ≡ true }
+        ensures text { self.new.text ≡ self.old.text }
+        ensures lacks { self.new.lacks ≡ true }
     {
         self.lacks = true;
     }
 
     /// The same where a command was refused.
     pub fn note(&mut self, done: Result<(), OutOfMemory>)
-        ensures { self.new.lacks ≡ (if is_err done then true else self.old.lacks) }
+        ensures text { self.new.text ≡ self.old.text }
+        ensures lacks { self.new.lacks ≡ (if is_err done then true else self.old.lacks) }
     {
         if done.is_err() {
+            self.lacks = true;
+        }
+    }
+
+    /// The same where memory lacked for a piece of another page, which isn't shown.
+    pub fn note_page(&mut self, other: &Page)
+        ensures text { self.new.text ≡ self.old.text }
+        ensures lacks { self.new.lacks ≡ (if other.now.lacks then true else self.old.lacks) }
+    {
+        if other.lacks {
             self.lacks = true;
         }
     }
@@ -69,42 +84,53 @@ impl Page {
         }
     }
 
-    /// Appends a value as it is shown.
+    /// Appends a value as it is shown. Of a type that doesn't say what it shows, as most errors, no
+    /// clause says what is appended.
     pub fn show<T: Display>(&mut self, value: &T)
-        ensures { IsTrue self.old.lacks → IsTrue self.new.lacks }
+        ensures kept { IsTrue self.old.lacks → IsTrue self.new.lacks }
+        ensures shown { self.new.lacks ≡ false
+            → AppendsText self.old.text self.new.text (T.output value.now) }
     {
-        if write!(self.text, "{value}").is_err() {
-            self.lacks = true;
+        match self.text.write(value) {
+            Ok(()) => {}
+            Err(_) => self.lacks = true,
         }
     }
 
-    /// Appends a value as it is written in code.
+    /// Appends a value as it is written in code. Of a derived `Debug` no clause says what is
+    /// appended.
     pub fn debug<T: Debug>(&mut self, value: &T)
-        ensures { IsTrue self.old.lacks → IsTrue self.new.lacks }
+        ensures kept { IsTrue self.old.lacks → IsTrue self.new.lacks }
+        ensures shown { self.new.lacks ≡ false
+            → AppendsText self.old.text self.new.text (T.debug_output value.now) }
     {
-        if write!(self.text, "{value:?}").is_err() {
-            self.lacks = true;
+        match write!(self.text, "{value:?}") {
+            Ok(()) => {}
+            Err(_) => self.lacks = true,
         }
     }
 
     /// Appends a number.
     pub fn number(&mut self, number: u64)
-        ensures { IsTrue self.old.lacks → IsTrue self.new.lacks }
+        ensures { Adds self.old self.new (decimal number) }
     {
-        self.show(&number)
+        match self.text.write(number) {
+            Ok(()) => {}
+            Err(_) => self.lacks = true,
+        }
     }
 
     /// Appends text and a number.
     pub fn field(&mut self, name: &str, number: u64)
-        ensures { IsTrue self.old.lacks → IsTrue self.new.lacks }
+        ensures { Adds self.old self.new (name.now ++ decimal number) }
     {
         self.push(name);
-        self.show(&number)
+        self.number(number)
     }
 
     /// Appends bytes in hex.
     pub fn hex(&mut self, bytes: &[u8])
-        ensures { IsTrue self.old.lacks → IsTrue self.new.lacks }
+        ensures { Adds self.old self.new (encode_lower bytes.now) }
     {
         match hex::encode(self.alloc(), bytes) {
             Ok(text) => self.push(text.as_str()),
@@ -127,24 +153,37 @@ impl Page {
         self.end()
     }
 
-    /// A line that shows a value.
+    /// A line that shows a value, of which is said what `show` says.
     pub fn line<T: Display>(&mut self, value: &T)
-        ensures { IsTrue self.old.lacks → IsTrue self.new.lacks }
+        ensures kept { IsTrue self.old.lacks → IsTrue self.new.lacks }
+        ensures shown { self.new.lacks ≡ false
+            → AppendsText self.old.text self.new.text (with_newline (T.output value.now)) }
     {
-        self.show(value);
-        self.end()
+        match self.text.writeln(value) {
+            Ok(()) => {}
+            Err(_) => self.lacks = true,
+        }
     }
 
-    /// What is printed, but for pieces for which memory lacked.
-    pub(crate) fn text(&self) -> &str {
-        self.text.as_str()
+    /// What is printed. An error where memory lacked for a piece.
+    pub(crate) fn text(&self) -> Result<&str, OutOfMemory>
+        ensures ok { IfOk result (λ text. text.now ≡ self.now.text) }
+        ensures lacked { is_err result ≡ self.now.lacks }
+    {
+        if self.lacks {
+            return Err(OutOfMemory);
+        }
+        Ok(self.text.as_str())
     }
 
-    /// What is printed, and nothing is then. An error where memory lacked for a piece.
+    /// What is printed, and nothing is then. An error where memory lacked for a piece, which leaves
+    /// the page as it is.
     pub(crate) fn take(&mut self) -> Result<String, OutOfMemory>
-        ensures { MatchResult result
-            (λ text. string_bytes text ≡ self.old.text)
-            (λ _. self.old.lacks ≡ true) }
+        ensures ok { IfOk result (λ text. string_bytes text ≡ self.old.text) }
+        ensures emptied { OnOk result (self.new.text ≡ []) }
+        ensures left { OnErr result (self.new.text ≡ self.old.text) }
+        ensures lacked { is_err result ≡ self.old.lacks }
+        ensures lacks { self.new.lacks ≡ self.old.lacks }
     {
         if self.lacks {
             return Err(OutOfMemory);

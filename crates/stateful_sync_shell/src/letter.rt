@@ -1,7 +1,7 @@
 //! Blocks that letters tell apart.
 
-use crate::words::{letter, parsed};
-use stateful_shell::Page;
+use crate::words::letter;
+use stateful_shell::{Page, parsed};
 use stateful_types::{
     Block, Digest, Digested, Epoch, Height, MemoryStore, OutOfMemory, Round, View, write_u8,
 };
@@ -55,7 +55,7 @@ impl Block for Letter {
 pub(crate) fn block(word: &str, page: &mut Page) -> Option<Digested<Letter>> {
     let (height, name) = word.split_once(':').unwrap_or((word, ""));
     let block = Letter {
-        height: parsed(height),
+        height: parsed(height, 0),
         letter: letter(name),
     };
     match Digested::compute(page.alloc(), block) {

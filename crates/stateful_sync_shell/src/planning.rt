@@ -1,8 +1,8 @@
 //! What a node remembers of its sync.
 
 use crate::shown::push_digest;
-use crate::words::{bytes, digest, parsed, round};
-use stateful_shell::{Page, number, rest, word};
+use crate::words::{bytes, digest, round};
+use stateful_shell::{Page, number, parsed, rest, word};
 use stateful_sync::{MemoryPlanStore, PlanCall, PlanError, Start, SyncPlan, SyncState};
 use stateful_types::{Digest, Faulty, Finalization, Height, Items, View, VoteScheme};
 
@@ -67,7 +67,7 @@ fn push_error(error: PlanError, page: &mut Page) {
 fn signers(words: &[&str], page: &mut Page) -> Items<u32> {
     let mut signers = Items::new(page.alloc());
     for word in words.iter() {
-        if signers.push(word.parse::<u32>().unwrap_or(0)).is_err() {
+        if signers.push(parsed(word, 0)).is_err() {
             page.lack();
         }
     }
@@ -97,7 +97,7 @@ fn failing(words: &[&str], page: &mut Page) -> Vec<(PlanCall, u64)> {
         } else {
             PlanCall::Put
         };
-        if calls.push((call, parsed(count))).is_err() {
+        if calls.push((call, parsed(count, 0))).is_err() {
             page.lack();
         }
     }
@@ -106,9 +106,8 @@ fn failing(words: &[&str], page: &mut Page) -> Vec<(PlanCall, u64)> {
 
 /// Reads a state, and writes it again.
 pub(crate) fn say_state(words: &[&str], page: &mut Page) {
-    let alloc = page.alloc();
-    let mut input = bytes(alloc, word(words, 1));
-    match SyncState::<VoteScheme>::read(alloc, &mut input) {
+    let mut input = bytes(word(words, 1), page);
+    match SyncState::<VoteScheme>::read(page.alloc(), &mut input) {
         Ok(state) => {
             say_spelling(&state, input.as_slice(), page);
             drop(state)
@@ -154,7 +153,7 @@ pub(crate) fn store(plan: &mut Option<Plan>, words: &[&str], page: &mut Page) {
     let calls = failing(rest(words, 2), page);
     let value = match word(words, 1) {
         "none" => None,
-        name => Some(bytes(page.alloc(), name)),
+        name => Some(bytes(name, page)),
     };
     load(plan, MemoryPlanStore::new(value, calls), page)
 }

@@ -1,13 +1,9 @@
 //! What words of a line stand for.
 
 use bytes::Bytes;
+use hex::FromHexError;
+use stateful_shell::{Page, parsed};
 use stateful_types::{Anchor, Digest, Epoch, Height, Round, View};
-use std::alloc::Global;
-
-/// A number: 0 where it is none.
-pub(crate) fn parsed(text: &str) -> u64 {
-    text.parse::<u64>().unwrap_or(0)
-}
 
 /// A height, or none.
 pub(crate) fn height(word: &str) -> Option<Height> {
@@ -21,14 +17,14 @@ pub(crate) fn height(word: &str) -> Option<Height> {
 pub(crate) fn round(word: &str) -> Option<Round> {
     let (epoch, view) = word.split_once('.')?;
     Some(Round {
-        epoch: Epoch(parsed(epoch)),
-        view: View(parsed(view)),
+        epoch: Epoch(parsed(epoch, 0)),
+        view: View(parsed(view, 0)),
     })
 }
 
 /// 32 times a byte.
 pub(crate) fn digest(word: &str) -> Digest {
-    Digest([word.parse::<u8>().unwrap_or(0); 32])
+    Digest([parsed(word, 0); 32])
 }
 
 /// The byte of a letter.
@@ -39,7 +35,7 @@ pub(crate) fn letter(word: &str) -> u8 {
 /// The block of this height, which is finalized in a view of the same number of epoch 0. Its digest
 /// is 32 times the height, if that is a byte.
 pub(crate) fn anchor(word: &str) -> Anchor {
-    let height = parsed(word);
+    let height = parsed(word, 0);
     Anchor {
         height: Height(height),
         round: Round {
@@ -50,10 +46,16 @@ pub(crate) fn anchor(word: &str) -> Anchor {
     }
 }
 
-/// The bytes of a word in hex: none of them where it isn't hex.
-pub(crate) fn bytes(alloc: Global, word: &str) -> Bytes {
-    match hex::decode(alloc, word) {
-        Ok(bytes) => Bytes::from_vec(bytes).unwrap_or(Bytes::from_static(b"")),
-        Err(_) => Bytes::from_static(b""),
+/// The bytes of a word in hex: none of them where it isn't hex, or where memory lacks, which the
+/// page notes.
+pub(crate) fn bytes(word: &str, page: &mut Page) -> Bytes {
+    match hex::decode(page.alloc(), word) {
+        Ok(bytes) => match Bytes::from_vec(bytes) {
+            Ok(bytes) => return bytes,
+            Err(_) => page.lack(),
+        },
+        Err(FromHexError::OutOfMemory) => page.lack(),
+        Err(_) => {}
     }
+    Bytes::new()
 }
