@@ -1,5 +1,5 @@
 -- the operations of kept checkpoints, where others are dropped or appended
-use Rattle.std.proofs.Common.{◌≡◌, ℕ, zero, suc, ◌+◌, ◌-◌, ◌≤◌, ◌<◌, ◌⊎◌, inl, inr, List, [], ◌∷◌, ◌++◌, length, take, drop, min, map, Some, slice_get, refl, sym, ap, ◌∙◌, arith, length-take, length-drop, length-append}
+use Rattle.std.proofs.Common.{◌≡◌, ℕ, zero, suc, ◌+◌, ◌-◌, ◌≤◌, ◌<◌, ◌⊎◌, inl, inr, List, [], ◌∷◌, ◌++◌, length, take, drop, min, map, Some, None, slice_get, refl, sym, ap, ◌∙◌, arith, length-take, length-drop, length-append}
 use Rattle.std.proofs.lemmas.List.{take-take, drop-drop, take-append-le, drop-append-le, take_all}
 use Rattle.stateful_db.specs.Disk.{Disk, Standing, IsSound, all, applied, cut}
 use Rattle.stateful_db.specs.CheckpointLaws.{slice_get-last, slice_get-left, slice_get-take, slice_get-drop, length-all}
@@ -259,3 +259,23 @@ slice_get-between first ops start end at low high inside =
     slice_get-take (end - start) (at - start) (drop (start - first) ops) (omega arith)
     ∙ slice_get-drop (start - first) (at - start) ops
     ∙ ap (slice_get ops) here
+
+-- one of the first ones more
+take-next : {X : Type 0} (n : ℕ) (xs : List X) (x : X) → slice_get xs n ≡ Some x → take (suc n) xs ≡ take n xs ++ x ∷ []
+take-next n [] x h = cc
+take-next zero (y ∷ xs) x h = let same : y ≡ x = cc in ap (λ z. z ∷ []) same
+take-next (suc n) (y ∷ xs) x h = ap (λ zs. y ∷ zs) (take-next n xs x h)
+
+-- one operation more
+pub between-next : {Op : Type 0} (first : ℕ) (ops : List Op) (start at : ℕ) (op : Op) → first ≤ start → start ≤ at → slice_get ops (at - first) ≡ Some op → between first ops start (at + 1) ≡ between first ops start at ++ op ∷ []
+between-next first ops start at op low high is =
+    let here : start - first + (at - start) ≡ at - first = omega arith in
+    let more : at + 1 - start ≡ suc (at - start) = omega arith in
+    ap (λ n. take n (drop (start - first) ops)) more
+    ∙ take-next (at - start) (drop (start - first) ops) op (slice_get-drop (start - first) (at - start) ops ∙ ap (slice_get ops) here ∙ is)
+
+-- what isn't in a list is behind it
+pub slice_get-there : {X : Type 0} (xs : List X) (n : ℕ) → slice_get xs n ≡ None → length xs ≤ n
+slice_get-there [] n h = omega arith
+slice_get-there (x ∷ xs) zero h = cc
+slice_get-there (x ∷ xs) (suc n) h = let rest = slice_get-there xs n h in omega (arith, rest)

@@ -37,7 +37,7 @@ impl<Op> Faulty for LogMedium<Op> {
 }
 
 impl<Op: Drop> LogMedium<Op> {
-    ghost use Rattle.std.specs.Prelude.{◌≢◌, ◌⊎◌, ◌<◌, [], ◌∷◌, IfOk, IfErr, IsErrAnd};
+    ghost use Rattle.std.specs.Prelude.{◌≢◌, ◌⊎◌, ◌<◌, ◌↔◌, [], ◌∷◌, IsTrue, IfOk, IfErr, IsErrAnd};
     ghost use Rattle.stateful_base.specs.Causes.{Rose};
     ghost use Rattle.stateful_db.specs.Disk.{IsCrash};
     ghost use Rattle.stateful_db.specs.Reopening.{FailsToReopen, HasNone, OpensAt};
@@ -84,6 +84,19 @@ impl<Op: Drop> LogMedium<Op> {
     /// Its allocator.
     pub fn allocator(&self) -> Global {
         self.medium.allocator()
+    }
+
+    /// Makes a call of this kind. Whether it is to fail, which is then counted.
+    pub fn fails(&mut self, call: DbCall) -> bool
+        ensures listed { IsTrue result ↔ IsListed (calls_of self.old) call }
+        ensures called { Called call (calls_of self.old) (calls_of self.new) }
+        ensures count { (calls_of self.old).faults ≤ (calls_of self.new).faults }
+        ensures rose { IsTrue result → Rose (calls_of self.old).faults (calls_of self.new).faults }
+        ensures disk { disk_of self.new ≡ disk_of self.old }
+        ensures next { next_of self.new ≡ next_of self.old }
+        ensures held { held_of self.new ≡ held_of self.old }
+    {
+        self.medium.fails(call)
     }
 
     /// The number of the kept checkpoint of this target, or of the latest. This is a call of the

@@ -1,16 +1,17 @@
 //! The operations of a log, by location.
 
-ghost use Rattle.std.specs.Prelude.{◌≡◌, ◌-◌, ◌≤◌, ◌<◌, List, Some, None, length, slice_get};
+ghost use Rattle.std.specs.Prelude.{◌≡◌, ◌-◌, ◌≤◌, ◌<◌, List, Some, None, length, slice_get, IfOk};
 ghost use Rattle.std.specs.Option.{option_copied, SomeIff};
 ghost use Rattle.stateful_db.specs.Disk.{all};
 ghost use Rattle.stateful_db_medium.specs.declared.checkpoints.Checkpoint.{Checkpoint};
-ghost use Rattle.stateful_db_log.specs.Held.{digest_at};
+ghost use Rattle.stateful_db_log.specs.Between.{between};
+ghost use Rattle.stateful_db_log.specs.Held.{digest_at, end_of};
 ghost use Rattle.stateful_db_log.specs.Logs.{disk_of, standing_of, held_here};
 
 use crate::linked::Linked;
 use crate::log_medium::LogMedium;
 use crate::open_log::OpenLog;
-use stateful_base::{Digest, Target};
+use stateful_base::{Digest, OutOfMemory, Share, Target};
 
 impl<Op: Drop> OpenLog<Op> {
     /// The operation at a location of the newest checkpoint's range. None outside of the range.
@@ -46,6 +47,24 @@ impl<Op: Drop> OpenLog<Op> {
             return None;
         }
         self.ops.get(at - self.first)
+    }
+}
+
+impl<Op: Share + Drop> OpenLog<Op> {
+    /// Copies of the operations that are held from a location on, up to an end.
+    pub fn share_between(&self, start: u64, end: u64) -> Result<Vec<Op>, OutOfMemory>
+        requires low { (held_here self.now).first ≤ start }
+        requires high { end ≤ end_of (held_here self.now) }
+        ensures { let h = held_here self.now in
+            IfOk result (λ copies. copies.items ≡ between h.first h.ops start end) }
+    {
+        let mut copies = Vec::new(self.allocator());
+        for at in start..end {
+            if let Some(op) = self.held(at) {
+                copies.push(op.share()?)?;
+            }
+        }
+        Ok(copies)
     }
 }
 

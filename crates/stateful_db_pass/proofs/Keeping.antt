@@ -1,5 +1,5 @@
 -- What is kept beside what is there, with operations more.
-use Rattle.std.proofs.Common.{◌≡◌, ℕ, ◌+◌, ◌-◌, ◌^◌, ◌<◌, ◌≤◌, ◌++◌, List, [], length, Bool, true, false}
+use Rattle.std.proofs.Common.{◌≡◌, ℕ, ◌+◌, ◌-◌, ◌^◌, ◌<◌, ◌≤◌, ◌++◌, ◌∷◌, List, [], length, Bool, true, false}
 use Rattle.std.proofs.Common.{Option, Some, None, arith, ap, refl, sym, ◌∙◌, subst, length-append}
 use Rattle.std.proofs.Common.{is_some, ◌==◌, Result, Ok, Err, IfOk, IfErr, IfSome}
 use Rattle.std.proofs.lemmas.Bool.{false≢true, eqb-true, eq-eqb}
@@ -13,15 +13,16 @@ use Rattle.stateful_db_pass.specs.declared.fault.SyncFault.TheVariants.{OutOfMem
 use Rattle.stateful_db_pass.specs.declared.pass.Fetches.{Fetches}
 use Rattle.stateful_db_pass.specs.declared.pass.Fetches.TheVariants.{Latest, Range}
 use Rattle.stateful_db_pass.specs.Fetched.{Fetched, added, toward, count, is_reached, first_ops}
-use Rattle.stateful_db_pass.specs.Fetched.{Fits, FitsBoundary, with_response, Leads}
-use Rattle.stateful_db_pass.specs.Kept.{IsKept, IsNext}
+use Rattle.stateful_db_pass.specs.Fetched.{Fits, FitsBoundary, FitsOperations, with_response, Leads}
+use Rattle.stateful_db_pass.specs.Kept.{IsKept, IsNext, IsSingle}
 use Rattle.stateful_db_pass.specs.Progress.{Settles, goes_on, reaches, misses, Takes, takes}
 use Rattle.stateful_db_pass.specs.Progress.{discards, Progresses, served, wants}
 
-module _ {Op : Type 0} (linked : ℕ → Digest → Op → Digest) (target : Target) where
+module _ {Op : Type 0} (linked : ℕ → Digest → Op → Digest) (alone : Op → Bool) (target : Target)
+    (fetches : Fetches) where
   -- where all is there, it leads to the root
   pub leads : (before : Option Digest) (last : Digest) (ops : List Op)
-      → IsKept linked target before last ops
+      → IsKept linked alone target fetches before last ops
       → is_some before ≡ true
       → length ops ≡ target.end.0 - target.start.0
       → (d : Digest)
@@ -29,6 +30,15 @@ module _ {Op : Type 0} (linked : ℕ → Digest → Op → Digest) (target : Tar
       × (behind linked target.start.0 d ops ≡ target.root)
   leads None last ops kept some whole = absurd (false≢true some)
   leads (Some d) last ops kept some whole = (d, refl, kept.chained d refl ∙ kept.rooted d refl whole)
+
+  -- where the latest operation is fetched alone, it is there
+  pub single : (before : Option Digest) (last : Digest) (ops : List Op)
+      → IsKept linked alone target fetches before last ops
+      → is_some before ≡ true
+      → fetches ≡ Latest
+      → IsSingle alone target ops
+  single None last ops kept some latest = absurd (false≢true some)
+  single (Some d) last ops kept some latest = kept.single latest d refl
 
   -- operations more, of which the last digest is known
   pub kept_added : (before from last : Digest) (ops more : List Op)
@@ -38,8 +48,9 @@ module _ {Op : Type 0} (linked : ℕ → Digest → Op → Digest) (target : Tar
       → target.start.0 < target.end.0
       → length ops + length more ≤ target.end.0 - target.start.0
       → (length ops + length more ≡ target.end.0 - target.start.0 → last ≡ target.root)
-      → IsKept linked target (Some before) last (ops ++ more)
-  kept_added before from last ops more first then small ranged room root =
+      → (fetches ≡ Latest → IsSingle alone target (ops ++ more))
+      → IsKept linked alone target fetches (Some before) last (ops ++ more)
+  kept_added before from last ops more first then small ranged room root single =
       let both = length-append ops more in
       record {
         small = small;
@@ -54,6 +65,7 @@ module _ {Op : Type 0} (linked : ℕ → Digest → Op → Digest) (target : Tar
             ∙ ap (λ x. behind linked (target.start.0 + length ops) x more) first
             ∙ sym then);
         rooted = λ d e whole. root (sym both ∙ whole);
+        single = λ latest d e. single latest;
       }
 
 -- the first of two numbers differs from the second
@@ -64,9 +76,9 @@ other x y differ = go (x == y) refl
     go true same = absurd (differ (eqb-true x y same))
     go false same = same
 
-module _ {Op : Type 0} (linked : ℕ → Digest → Op → Digest) (p : Fetched Op) (before from : Digest)
-    (ops : List Op) (last : Digest) where
-  all_digests : IsNext linked p before from ops
+module _ {Op : Type 0} (linked : ℕ → Digest → Op → Digest) (alone : Op → Bool) (p : Fetched Op)
+    (before from : Digest) (ops : List Op) (last : Digest) where
+  all_digests : IsNext linked alone p before from ops
       → last ≡ behind linked (p.target.start.0 + length p.ops) from ops
       → behind linked p.target.start.0 before (p.ops ++ ops) ≡ last
   all_digests next then =
@@ -75,14 +87,13 @@ module _ {Op : Type 0} (linked : ℕ → Digest → Op → Digest) (p : Fetched 
       ∙ sym then
 
   pub next_kept : p.target.end.0 < 2 ^ 64
-      → IsNext linked p before from ops
+      → IsNext linked alone p before from ops
       → last ≡ behind linked (p.target.start.0 + length p.ops) from ops
       → (length p.ops + length ops ≡ count p → last ≡ p.target.root)
-      → IsKept linked p.target (Some before) last (p.ops ++ ops)
+      → IsKept linked alone p.target p.fetches (Some before) last (p.ops ++ ops)
   next_kept small next then root =
-      kept_added linked p.target before from last p.ops ops next.chained then small
-      next.ranged next.room
-      root
+      kept_added linked alone p.target p.fetches before from last p.ops ops next.chained then small
+      next.ranged next.room root next.single
 
   -- not all is there yet
   pub settles_part : (length p.ops + length ops ≡ count p → ⊥)
@@ -95,7 +106,7 @@ module _ {Op : Type 0} (linked : ℕ → Digest → Op → Digest) (p : Fetched 
   whole : length p.ops + length ops ≡ count p → is_reached (added p before ops) ≡ true
   whole all = eq-eqb (length (p.ops ++ ops)) (count p) (length-append p.ops ops ∙ all)
 
-  pub settles_whole : IsNext linked p before from ops
+  pub settles_whole : IsNext linked alone p before from ops
       → last ≡ behind linked (p.target.start.0 + length p.ops) from ops
       → length p.ops + length ops ≡ count p
       → last ≡ p.target.root
@@ -103,7 +114,7 @@ module _ {Op : Type 0} (linked : ℕ → Digest → Op → Digest) (p : Fetched 
   settles_whole next then all root =
       reaches (whole all) (before, refl, all_digests next then ∙ root)
 
-  pub settles_other : IsNext linked p before from ops
+  pub settles_other : IsNext linked alone p before from ops
       → last ≡ behind linked (p.target.start.0 + length p.ops) from ops
       → length p.ops + length ops ≡ count p
       → (last ≡ p.target.root → ⊥)
@@ -126,7 +137,7 @@ module _ {Op : Type 0} (linked : ℕ → Digest → Op → Digest) (alone : Op �
       record { target = target; fetches = fetches; before = b; ops = ops } in
       FitsBoundary alone p b fetches op
       → (before : Digest)
-      → IsNext linked p before before (first_ops fetches op)
+      → IsNext linked alone p before before (first_ops fetches op)
   first_next target fetches (Some d) ops op none fits before = absurd fits
   first_next target Latest None ops op none fits before =
       let empty = none refl in
@@ -134,6 +145,13 @@ module _ {Op : Type 0} (linked : ℕ → Digest → Op → Digest) (alone : Op �
         ranged = omega (arith, fits.0);
         room = omega (arith, ap length empty, fits.0);
         chained = ap (λ xs. behind linked target.start.0 before xs) empty;
+        single =
+            λ latest. record {
+              op = op;
+              is = ap (λ xs. xs ++ op ∷ []) empty;
+              by_itself = fits.1;
+              last = fits.0;
+            };
       }
   first_next target (Range batch) None ops op none fits before =
       let empty = none refl in
@@ -141,7 +159,16 @@ module _ {Op : Type 0} (linked : ℕ → Digest → Op → Digest) (alone : Op �
         ranged = fits;
         room = omega (arith, ap length empty, fits);
         chained = ap (λ xs. behind linked target.start.0 before xs) empty;
+        single = λ latest. absurd (cc);
       }
+
+  -- of a range that isn't fetched whole by its latest operation
+  pub further_next : (p : Fetched Op) (before : Digest) (ops : List Op)
+      → FitsOperations alone p (Some before) p.fetches ops
+      → p.fetches ≡ Latest
+      → ⊥
+  further_next p before ops fits latest =
+      subst (λ (f : Fetches). FitsOperations alone p (Some before) f ops) latest fits
 
   -- a response that fits is taken
   pub taken_ok : (p : Fetched Op) (response : Response Op)

@@ -9,14 +9,19 @@
 //!
 //! `specs/Fetched.antt` says what is asked for and which responses fit, `specs/Progress.antt` what
 //! each answer makes of a pass, and `specs/Counted.antt` how many requests are left.
+//!
+//! On the other side [`answer_from`] answers a request from the operations that a log holds, as
+//! `specs/Serving.antt` says it. What it answers to the sync of a range fits (`answers_fit`).
 #![tactic(auto)]
 
 mod fault;
 mod law;
 mod pass;
 mod segment;
+mod serving;
 
 pub use fault::SyncFault;
-pub use law::requests_fall;
+pub use law::{answers_fit, requests_fall};
 pub use pass::{Fetches, LogPass};
 pub use segment::Segment;
+pub use serving::answer_from;

@@ -10,8 +10,9 @@ ghost use Rattle.stateful_types.specs.declared.response.Response.TheVariants.{Bo
 ghost use Rattle.stateful_db_source.specs.declared.source.ServeFault.{ServeFault};
 ghost use Rattle.stateful_db_pass.specs.Fetched.{toward, request, is_reached, first_ops, added, Leads};
 ghost use Rattle.stateful_db_pass.specs.Fetched.{FitsBoundary, FitsOperations};
+ghost use Rattle.stateful_db_pass.specs.declared.pass.Fetches.TheVariants.{Latest};
 ghost use Rattle.stateful_db_pass.specs.Counted.{IsWithin};
-ghost use Rattle.stateful_db_pass.specs.Kept.{IsKept, IsNext};
+ghost use Rattle.stateful_db_pass.specs.Kept.{IsKept, IsNext, IsSingle};
 ghost use Rattle.stateful_db_pass.specs.Progress.{IsAhead, Settles, Takes, Progresses};
 
 use crate::fault::SyncFault;
@@ -58,7 +59,8 @@ impl<Op: Linked> Model for LogPass<Op> {
       ops = a.ops.items;
     } };
 
-    ghost invariant = { λ a. IsKept Op.linked a.target a.before a.behind a.ops.items };
+    ghost invariant = { λ a. IsKept Op.linked Op.alone a.target a.fetches a.before a.behind
+        a.ops.items };
 }
 
 impl<Op: Linked> LogPass<Op> {
@@ -88,6 +90,9 @@ impl<Op: Linked> LogPass<Op> {
         ensures reached { result ≡ is_reached self.now }
         ensures leads { result ≡ true → Leads Op.linked self.now }
         ensures within { IsWithin self.now }
+        ensures single { result ≡ true
+            → self.now.fetches ≡ Latest
+            → IsSingle Op.alone self.now.target self.now.ops }
     {
         self.before.is_some() && self.ops.len() as u64 == count(&self.target)
     }
@@ -167,6 +172,10 @@ impl<Op: Linked> LogPass<Op> {
         ensures segment { IfOk result (λ segment. (segment.target ≡ self.target)
             × (self.before ≡ Some segment.before)
             × (self.ops ≡ segment.ops.items)) }
+        ensures ranged { IfOk result (λ segment.
+            segment.target.start.0 < segment.target.end.0) }
+        ensures whole { IfOk result (λ segment.
+            length segment.ops.items ≡ segment.target.end.0 - segment.target.start.0) }
     {
         let LogPass {
             target,
@@ -264,7 +273,7 @@ impl<Op: Linked> LogPass<Op> {
         from: Digest,
         ops: Vec<Op>,
     ) -> Result<Option<Target>, SyncFault>
-        requires { IsNext Op.linked self.old before from ops.items }
+        requires { IsNext Op.linked Op.alone self.old before from ops.items }
         ensures ok { IfOk result (λ reached.
             Settles Op.linked (added self.old before ops.items) reached self.new) }
         ensures err { IfErr result (λ e. (e ≡ SyncFault.OutOfMemory) × (self.new ≡ self.old)) }
@@ -285,7 +294,8 @@ impl<Op: Linked> LogPass<Op> {
 
     /// Puts operations behind those that are there.
     fn put(&mut self, before: Digest, behind: Digest, ops: Vec<Op>) -> Result<(), SyncFault>
-        requires { IsKept Op.linked self.old.target (Some before) behind (self.old.ops ++ ops.items) }
+        requires { IsKept Op.linked Op.alone self.old.target self.old.fetches (Some before) behind
+            (self.old.ops ++ ops.items) }
         ensures ok { OnOk result (self.new ≡ added self.old before ops.items) }
         ensures err { IfErr result (λ e. (e ≡ SyncFault.OutOfMemory) × (self.new ≡ self.old)) }
     {
@@ -303,7 +313,7 @@ impl<Op: Linked> LogPass<Op> {
         ensures fits { IsTrue result
             ↔ FitsBoundary Op.alone self.now self.now.before self.now.fetches op.now }
         ensures next { IsTrue result → (before : Digest)
-            → IsNext Op.linked self.now before before (first_ops self.now.fetches op.now) }
+            → IsNext Op.linked Op.alone self.now before before (first_ops self.now.fetches op.now) }
     {
         let count = count(&self.target);
         match (self.before, self.fetches) {

@@ -18,7 +18,7 @@ put-requires g c =
     let place : c.self.inside.target.start.0 + c.len.result ≡ p.target.start.0 + length p.ops = omega (arith, held, begin, c.len.ensures, c.self.inside.ops.ok) in
     let last = c.link_each-behind.ensures ∙ ap (λ n. behind L n c.args.from c.as_slice.result.now) place ∙ ap (λ xs. behind L (p.target.start.0 + length p.ops) c.args.from xs) c.as_slice.ensures.value in
     let small = subst (λ (q : Fetched g.row.Op.Denot). q.target.end.0 < 2 ^ 64) c.self.view_is c.self.invariant.small in
-    next_kept L p c.args.before c.args.from c.args.ops.items c.link_each-behind.result small c.requires last
+    next_kept L g.Op.Linked.alone p c.args.before c.args.from c.args.ops.items c.link_each-behind.result small c.requires last
     (λ all. absurd (c.if-len-count.true (omega (arith, all, held, ends, c.len-2.ensures, c.len-3.ensures, c.count.ensures, c.args.ops.ok, c.self.inside.ops.ok))))
 
 -- it goes on
@@ -29,7 +29,7 @@ returns-then-len-count-clause-ok g c =
     let held = ap (λ (q : Fetched g.row.Op.Denot). length q.ops) c.self.view_is in
     let ends = ap (λ (q : Fetched g.row.Op.Denot). count q) c.self.view_is in
     subst (λ q. Settles L (added p c.args.before c.args.ops.items) None q) (sym c.in_ok-put.ensures.ok)
-    (settles_part L p c.args.before c.args.from c.args.ops.items c.link_each-behind.result
+    (settles_part L g.Op.Linked.alone p c.args.before c.args.from c.args.ops.items c.link_each-behind.result
     (λ all. c.if-len-count.true (omega (arith, all, held, ends, c.len-2.ensures, c.len-3.ensures, c.count.ensures, c.args.ops.ok, c.self.inside.ops.ok))))
 
 -- all is there, and leads to another root
@@ -46,7 +46,7 @@ returns-then-not-is-clause-ok g c =
     let all : length p.ops + length c.args.ops.items ≡ count p = omega (arith, held, ends, c.if-len-count.false, c.len-2.ensures, c.len-3.ensures, c.count.ensures, c.args.ops.ok, c.self.inside.ops.ok) in
     let same = ap (λ (q : Fetched g.row.Op.Denot). toward q.target p.fetches) c.begin.view_is in
     subst (λ q. Settles L (added p c.args.before c.args.ops.items) None q) (sym (c.begin-then-not-is.ensures ∙ same))
-    (settles_other L p c.args.before c.args.from c.args.ops.items c.link_each-behind.result c.requires last all
+    (settles_other L g.Op.Linked.alone p c.args.before c.args.from c.args.ops.items c.link_each-behind.result c.requires last all
     (λ e. false≢true (c.if-not-is.ensures.1 (e ∙ sym root))))
 
 -- all is there, and leads to the root
@@ -60,7 +60,7 @@ put-requires-2 g c =
     let place : c.self.inside.target.start.0 + c.len.result ≡ p.target.start.0 + length p.ops = omega (arith, held, begin, c.len.ensures, c.self.inside.ops.ok) in
     let last = c.link_each-behind.ensures ∙ ap (λ n. behind L n c.args.from c.as_slice.result.now) place ∙ ap (λ xs. behind L (p.target.start.0 + length p.ops) c.args.from xs) c.as_slice.ensures.value in
     let small = subst (λ (q : Fetched g.row.Op.Denot). q.target.end.0 < 2 ^ 64) c.self.view_is c.self.invariant.small in
-    next_kept L p c.args.before c.args.from c.args.ops.items c.link_each-behind.result small c.requires last
+    next_kept L g.Op.Linked.alone p c.args.before c.args.from c.args.ops.items c.link_each-behind.result small c.requires last
     (λ all. c.if-not-is.ensures.0 refl ∙ root)
 
 pub returns-clause-ok : goal.returns-clause-ok
@@ -78,4 +78,4 @@ returns-clause-ok g c =
     let target : p.target ≡ c.self-2.inside.target = sym (ap (λ (q : Fetched g.row.Op.Denot). q.target) (c.self-2.view_is ∙ c.in_ok-put-2.ensures.ok)) in
     subst (λ q. Settles L more (Some c.self-2.inside.target) q) (sym c.in_ok-put-2.ensures.ok)
     (subst (λ (t : Target). Settles L more (Some t) more) target
-    (settles_whole L p c.args.before c.args.from c.args.ops.items c.link_each-behind.result c.requires last all (c.if-not-is.ensures.0 refl ∙ root)))
+    (settles_whole L g.Op.Linked.alone p c.args.before c.args.from c.args.ops.items c.link_each-behind.result c.requires last all (c.if-not-is.ensures.0 refl ∙ root)))

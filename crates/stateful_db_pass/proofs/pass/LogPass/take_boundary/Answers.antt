@@ -19,7 +19,7 @@ returns-then-not-fits_boundary-clause-ok g c =
 
 pub add-requires : goal.add-requires
 add-requires g c =
-    subst (λ (xs : List g.row.Op.Denot). IsNext g.Op.Linked.linked c.args.self.now c.args.before c.args.before xs) (sym c.in_ok-ops.ensures.ok)
+    subst (λ (xs : List g.row.Op.Denot). IsNext g.Op.Linked.linked g.Op.Linked.alone c.args.self.now c.args.before c.args.before xs) (sym c.in_ok-ops.ensures.ok)
     (c.if-not-fits_boundary.ensures.next refl c.args.before)
 
 -- it is
