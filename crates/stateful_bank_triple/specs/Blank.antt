@@ -14,7 +14,6 @@ use Rattle.stateful_db_compact.specs.declared.compact.batch.KeylessUnjournaledMe
 use Rattle.stateful_db_compact.specs.declared.compact.batch.KeylessUnjournaledUnmerkleized.{KeylessUnjournaledUnmerkleized}
 use Rattle.stateful_db_compact.specs.declared.compact.database.CompactDb.{CompactDb}
 use Rattle.stateful_db_compact.specs.declared.compact.medium.CompactMedium.{CompactMedium}
-use Rattle.stateful_db_compact.specs.declared.compact.pass.CompactPass.{CompactPass}
 use Rattle.stateful_bank_app.specs.EmptyMedia.{both_empty}
 use Rattle.stateful_bank_app.specs.Fresh.{AreEmpty}
 use Rattle.stateful_bank_logs.specs.Kept.{BalancesDb, balances, amounts}
@@ -24,26 +23,27 @@ use Rattle.stateful_bank_logs.specs.Kept.{next_by, failed_by, listed_by}
 use Rattle.stateful_bank_triple.specs.Logs.{latest}
 use Rattle.stateful_bank_triple.specs.declared.logs.AmountLogs.{AmountLogs}
 
--- what holds the compact database
-abbrev pub LatestDb : Type 0
-LatestDb =
+-- what holds the compact database, whose passes have this type
+abbrev pub LatestDb : Type 0 → Type 0
+LatestDb P =
     Held (CompactDb ℕ) (compact.State ℕ) (KeylessUnjournaledUnmerkleized ℕ)
-    (KeylessUnjournaledMerkleized ℕ) (Unit {0}) CompactTarget (CompactMedium ℕ) (CompactPass ℕ)
+    (KeylessUnjournaledMerkleized ℕ) (Unit {0}) CompactTarget (CompactMedium ℕ) P
 
-abbrev pub latest_member : LatestDb → Member (compact.State ℕ)
-latest_member = member_by stored.standing_of stored.disk_of
+module _ {P : Type 0} where
+  abbrev pub latest_member : LatestDb P → Member (compact.State ℕ)
+  latest_member = member_by stored.standing_of stored.disk_of
 
-abbrev pub latest_next : LatestDb → ℕ
-latest_next = next_by stored.next_here stored.next_of
+  abbrev pub latest_next : LatestDb P → ℕ
+  latest_next = next_by stored.next_here stored.next_of
 
-abbrev pub latest_failed : LatestDb → ℕ → ℕ
-latest_failed = failed_by stored.calls_here stored.calls_of
+  abbrev pub latest_failed : LatestDb P → ℕ → ℕ
+  latest_failed = failed_by stored.calls_here stored.calls_of
 
--- the compact database is closed on an empty medium, of which no call is listed as one that fails
-abbrev pub LatestIsBlank : LatestDb → Type 0
-LatestIsBlank d =
-    IsBlank latest.initial (latest_member d) (latest_next d)
-    (listed_by stored.calls_here stored.calls_of d)
+  -- the compact database is closed on an empty medium, of which no call is listed as one that fails
+  abbrev pub LatestIsBlank : LatestDb P → Type 0
+  LatestIsBlank d =
+      IsBlank latest.initial (latest_member d) (latest_next d)
+      (listed_by stored.calls_here stored.calls_of d)
 
 -- what holds the three databases
 abbrev pub TripleDatabases : ord.Ghosts ℕ → eq.Ghosts ℕ → partial.Ghosts ℕ → Type 0

@@ -4,6 +4,7 @@ use Rattle.std.specs.declared.cmp.Ordering.{Ordering}
 use Rattle.stateful_base.specs.declared.target.Target.{Target}
 use Rattle.stateful_db_overlay.specs.Stack.{Stack}
 use Rattle.stateful_db_overlay.specs.Chains.{Stands}
+use Rattle.stateful_db_any.specs.declared.op.AnyOp.{AnyOp}
 use Rattle.stateful_db_any.specs.Ops.{Changes}
 use Rattle.stateful_db_any.specs.Any.{State, size_of, after, sealed}
 use Rattle.stateful_db_any.specs.Through.{Change, IsIndexed}
@@ -20,6 +21,10 @@ pub record Draft (K V : Type 0) : Type 0 where
 pub record Seal (K V : Type 0) : Type 0 where
   pub layer : ℕ × Change K V
   pub below : Stack (Change K V)
+
+-- the operations of a sealed batch
+abbrev pub ops_in : {K V : Type 0} → Seal K V → List (AnyOp K V)
+ops_in m = m.layer.1.written.ops
 
 module _ {K V : Type 0} (cmp : K → K → Ordering) (spell_key : K → List ℕ)
     (spell_value : V → List ℕ) where

@@ -1,9 +1,11 @@
 -- A medium and a database of keys, as the layer above sees them.
 use Rattle.std.specs.Prelude.{ℕ}
 use Rattle.stateful_db.specs.Disk.{Disk, Standing}
+use Rattle.stateful_db_log.specs.Held.{Held}
 use Rattle.stateful_db_log.specs.Logs as logs
 use Rattle.stateful_db_medium.specs.declared.calls.Calls.{Calls}
 use Rattle.stateful_db_any.specs.Any.{State}
+use Rattle.stateful_db_any.specs.declared.op.AnyOp.{AnyOp}
 use Rattle.stateful_db_any.specs.declared.medium.AnyMedium.{AnyMedium}
 use Rattle.std.specs.declared.cmp.Ord as ord
 use Rattle.std.specs.declared.cmp.PartialEq as eq
@@ -20,6 +22,10 @@ module _ {K V : Type 0} where
   abbrev pub calls_of : AnyMedium K V → Calls
   calls_of m = logs.calls_of m.medium
 
+  -- the operations that a medium holds
+  abbrev pub held_of : AnyMedium K V → Held (AnyOp K V)
+  held_of m = logs.held_of m.medium
+
 -- of keys with an order
 module _ {K V : Type 0} {o : ord.Ghosts K} {e : eq.Ghosts K} {p : partial.Ghosts K} where
   abbrev pub standing_of : AnyDb K V o e p → Standing (State K V)
@@ -30,3 +36,7 @@ module _ {K V : Type 0} {o : ord.Ghosts K} {e : eq.Ghosts K} {p : partial.Ghosts
 
   abbrev pub calls_here : AnyDb K V o e p → Calls
   calls_here d = logs.calls_here d.log
+
+  -- those that a database holds
+  abbrev pub held_here : AnyDb K V o e p → Held (AnyOp K V)
+  held_here d = logs.held_here d.log

@@ -2,11 +2,12 @@
 
 ghost use Rattle.std.specs.Prelude.{◌≡◌, ◌+◌, ◌^◌, ◌<◌, ◌++◌, IsTrue, IfOk, IfErr, length};
 ghost use Rattle.stateful_db.specs.Disk.{applied};
+ghost use Rattle.stateful_db_log.specs.Held.{further};
 ghost use Rattle.stateful_db_log.specs.Logs.{extended};
 ghost use Rattle.stateful_db_any.specs.Any.{IsWhole, size_of};
 ghost use Rattle.stateful_db_any.specs.Live.{passed};
 ghost use Rattle.stateful_db_any.specs.Stored.{disk_of, next_of, calls_of, standing_of, next_here};
-ghost use Rattle.stateful_db_any.specs.Stored.{calls_here};
+ghost use Rattle.stateful_db_any.specs.Stored.{calls_here, held_of, held_here};
 
 use crate::changes::AnyChanges;
 use crate::database::AnyDb;
@@ -57,9 +58,12 @@ pub(crate) fn longer<K: Field, V: Field>(
     }) }
     ensures ok_next { IfOk result (λ d. next_here d ≡ next_here db) }
     ensures ok_calls { IfOk result (λ d. calls_here d ≡ calls_here db) }
+    ensures ok_held { IfOk result (λ d.
+        held_here d ≡ further (held_here db) changes.now.written.ops) }
     ensures err { IfErr result (λ m. disk_of m ≡ (standing_of db).disk) }
     ensures err_next { IfErr result (λ m. next_of m ≡ next_here db) }
     ensures err_calls { IfErr result (λ m. calls_of m ≡ calls_here db) }
+    ensures err_held { IfErr result (λ m. held_of m ≡ held_here db) }
 {
     let follows = follows(&db, changes);
     let AnyDb { log, mut index } = db;

@@ -44,9 +44,10 @@ impl<K: Ord, V> Faulty for AnyDb<K, V> {
 impl<K: Field, V: Field> AnyDb<K, V> {
     ghost use Rattle.std.specs.Prelude.{◌≡◌, IfOk, IsErrOf, IfErr, IsTrue};
     ghost use Rattle.std.specs.Option.{option_copied};
+    ghost use Rattle.stateful_db_log.specs.Logs as logs;
     ghost use Rattle.stateful_db_any.specs.Any.{metadata_of, value_at, IsWhole};
     ghost use Rattle.stateful_db_any.specs.Entries.{AreLive};
-    ghost use Rattle.stateful_db_any.specs.Stored.{standing_of};
+    ghost use Rattle.stateful_db_any.specs.Stored.{standing_of, held_here};
 
     /// The digest behind all operations.
     pub fn root(&self) -> Digest
@@ -93,6 +94,14 @@ impl<K: Field, V: Field> AnyDb<K, V> {
         target.start.0..target.end.0
     }
 
+    /// Its log, which tells the operations that are held.
+    pub fn log(&self) -> &OpenLog<AnyOp<K, V>>
+        ensures standing { logs.standing_of result.now ≡ standing_of self.now }
+        ensures held { logs.held_here result.now ≡ held_here self.now }
+    {
+        &self.log
+    }
+
     /// Its allocator.
     pub(crate) fn allocator(&self) -> Global {
         self.log.allocator()
@@ -131,11 +140,15 @@ impl<K: Field, V: Field> ManagedDb for AnyDb<K, V> {
     ghost use Rattle.stateful_db.specs.Reopening.{pruned_to};
     ghost use Rattle.stateful_db.specs.Tokens.{without};
     ghost use Rattle.stateful_db_medium.specs.Called.{IsListed, Called};
+    ghost use Rattle.stateful_db_log.specs.Linking.{log_link};
+    ghost use Rattle.stateful_db_log.specs.Held.{until, further, from};
+    ghost use Rattle.stateful_db_log.specs.Logs.{begin_of};
     ghost use Rattle.stateful_db_any.specs.AnySound.{sound_medium, sound_database, numbered};
     ghost use Rattle.stateful_db_any.specs.Any.{State, begun, initial, target_of};
-    ghost use Rattle.stateful_db_any.specs.Shown.{DraftShows, SealShows};
+    ghost use Rattle.stateful_db_any.specs.Ops.{op_bytes};
+    ghost use Rattle.stateful_db_any.specs.Shown.{DraftShows, SealShows, ops_in};
     ghost use Rattle.stateful_db_any.specs.Stored.{disk_of, next_of, calls_of, standing_of, next_here};
-    ghost use Rattle.stateful_db_any.specs.Stored.{calls_here};
+    ghost use Rattle.stateful_db_any.specs.Stored.{calls_here, held_of, held_here};
 
     type State = AnyState<K, V>;
 
@@ -178,10 +191,13 @@ impl<K: Field, V: Field> ManagedDb for AnyDb<K, V> {
         ensures ok_count { IfOk result (λ db. (calls_of medium).faults ≤ (calls_here db).faults) }
         ensures ok_called { IfOk result (λ db.
             Called DbCall.Init (calls_of medium) (calls_here db)) }
+        ensures ok_held { IfOk result (λ db.
+            held_here db ≡ until (held_of medium) (standing_of db).disk.newest.target.end.0) }
         ensures err { IfErr result (λ e. disk_of e.0 ≡ disk_of medium) }
         ensures err_next { IfErr result (λ e. next_of e.0 ≡ next_of medium) }
         ensures err_count { IfErr result (λ e. (calls_of medium).faults ≤ (calls_of e.0).faults) }
         ensures err_called { IfErr result (λ e. Called DbCall.Init (calls_of medium) (calls_of e.0)) }
+        ensures err_held { IfErr result (λ e. held_of e.0 ≡ held_of medium) }
         ensures cause { IfErr result (λ e.
             FailsToReopen target_of (λ t. t) expected (disk_of medium)
             (Rose (calls_of medium).faults (calls_of e.0).faults) e.1) }
@@ -223,6 +239,7 @@ impl<K: Field, V: Field> ManagedDb for AnyDb<K, V> {
         ensures standing { standing_of self.new ≡ standing_of self.old }
         ensures count { (calls_here self.new).faults ≡ (calls_here self.old).faults }
         ensures calls { calls_here self.new ≡ calls_here self.old }
+        ensures held { held_here self.new ≡ held_here self.old }
     {
         self.log.draw()
     }
@@ -287,6 +304,8 @@ impl<K: Field, V: Field> ManagedDb for AnyDb<K, V> {
         ensures ok_count { IfOk result (λ db. (calls_here self).faults ≤ (calls_here db).faults) }
         ensures ok_called { IfOk result (λ db.
             Called DbCall.Apply (calls_here self) (calls_here db)) }
+        ensures ok_held { IfOk result (λ db.
+            held_here db ≡ further (held_here self) (ops_in batch)) }
         ensures err { IfErr result (λ b. (p : ℕ × State K V) (c : List (ℕ × State K V))
             → SealShows K.cmp K.fields.spelling V.fields.spelling batch
             (p ∷ point (standing_of self) ∷ c)
@@ -296,6 +315,7 @@ impl<K: Field, V: Field> ManagedDb for AnyDb<K, V> {
         ensures err_count { IfErr result (λ b. (calls_here self).faults ≤ (calls_of b.medium).faults) }
         ensures err_called { IfErr result (λ b.
             Called DbCall.Apply (calls_here self) (calls_of b.medium)) }
+        ensures err_held { IfErr result (λ b. held_of b.medium ≡ held_here self) }
         ensures failed { IfErr result (λ b.
             b.why ≡ Why.Failed → Rose (calls_here self).faults (calls_of b.medium).faults) }
         ensures listed { IsErrAnd result (λ b. b.why ≡ Why.Failed)
@@ -327,11 +347,13 @@ impl<K: Field, V: Field> ManagedDb for AnyDb<K, V> {
         ensures ok_count { IfOk result (λ r. (calls_here self).faults ≤ (calls_here r.0).faults) }
         ensures ok_called { IfOk result (λ r.
             Called DbCall.Finalize (calls_here self) (calls_here r.0)) }
+        ensures ok_held { IfOk result (λ r. held_here r.0 ≡ held_here self) }
         ensures err { IfErr result (λ b. disk_of b.medium ≡ (standing_of self).disk) }
         ensures err_next { IfErr result (λ b. next_of b.medium ≡ next_here self) }
         ensures err_count { IfErr result (λ b. (calls_here self).faults ≤ (calls_of b.medium).faults) }
         ensures err_called { IfErr result (λ b.
             Called DbCall.Finalize (calls_here self) (calls_of b.medium)) }
+        ensures err_held { IfErr result (λ b. held_of b.medium ≡ held_here self) }
         ensures failed { IfErr result (λ b.
             b.why ≡ Why.Failed → Rose (calls_here self).faults (calls_of b.medium).faults) }
         ensures listed { IsErrAnd result (λ b. b.why ≡ Why.Failed)
@@ -357,12 +379,14 @@ impl<K: Field, V: Field> ManagedDb for AnyDb<K, V> {
         ensures ok_count { IfOk result (λ db. (calls_here self).faults ≤ (calls_here db).faults) }
         ensures ok_called { IfOk result (λ db.
             Called DbCall.Flush (calls_here self) (calls_here db)) }
+        ensures ok_held { IfOk result (λ db. held_here db ≡ held_here self) }
         ensures err { IfErr result (λ b. IsEither (standing_of self).disk
             (flushed (standing_of self).disk token.place) (disk_of b.medium)) }
         ensures err_next { IfErr result (λ b. next_of b.medium ≡ next_here self) }
         ensures err_count { IfErr result (λ b. (calls_here self).faults ≤ (calls_of b.medium).faults) }
         ensures err_called { IfErr result (λ b.
             Called DbCall.Flush (calls_here self) (calls_of b.medium)) }
+        ensures err_held { IfErr result (λ b. held_of b.medium ≡ held_here self) }
         ensures failed { IfErr result (λ b.
             b.why ≡ Why.Failed → Rose (calls_here self).faults (calls_of b.medium).faults) }
         ensures listed { IsErrAnd result (λ b. b.why ≡ Why.Failed)
@@ -389,6 +413,10 @@ impl<K: Field, V: Field> ManagedDb for AnyDb<K, V> {
         ensures ok_count { IfOk result (λ db. (calls_here self).faults ≤ (calls_here db).faults) }
         ensures ok_called { IfOk result (λ db.
             Called DbCall.Prune (calls_here self) (calls_here db)) }
+        ensures ok_first { IfOk result (λ db. (held_here self).first ≤ (held_here db).first) }
+        ensures ok_held { IfOk result (λ db. held_here db
+            ≡ from (log_link (op_bytes K.fields.spelling V.fields.spelling)) (held_here self)
+            (begin_of (standing_of db).disk)) }
         ensures err { IfErr result (λ b. IsEither (standing_of self).disk
             (pruned_to target_of (λ t. t) target.now (standing_of self).disk)
             (disk_of b.medium)) }
@@ -396,6 +424,7 @@ impl<K: Field, V: Field> ManagedDb for AnyDb<K, V> {
         ensures err_count { IfErr result (λ b. (calls_here self).faults ≤ (calls_of b.medium).faults) }
         ensures err_called { IfErr result (λ b.
             Called DbCall.Prune (calls_here self) (calls_of b.medium)) }
+        ensures err_held { IfErr result (λ b. held_of b.medium ≡ held_here self) }
         ensures failed { IfErr result (λ b.
             b.why ≡ Why.Failed → Rose (calls_here self).faults (calls_of b.medium).faults) }
         ensures listed { IsErrAnd result (λ b. b.why ≡ Why.Failed)
@@ -420,6 +449,7 @@ impl<K: Field, V: Field> ManagedDb for AnyDb<K, V> {
         ensures next { next_of result ≡ next_here self }
         ensures count { (calls_of result).faults ≡ (calls_here self).faults }
         ensures calls { calls_of result ≡ calls_here self }
+        ensures held { held_of result ≡ held_here self }
     {
         AnyMedium {
             medium: self.log.close(),
@@ -431,6 +461,8 @@ impl<K: Field, V: Field> ManagedDb for AnyDb<K, V> {
         ensures next { next_of result ≡ next_of medium }
         ensures count { (calls_of result).faults ≡ (calls_of medium).faults }
         ensures calls { calls_of result ≡ calls_of medium }
+        ensures held { held_of result
+            ≡ until (held_of medium) (disk_of result).newest.target.end.0 }
     {
         AnyMedium {
             medium: medium.medium.cut(keep),

@@ -57,6 +57,22 @@ pub(crate) fn note_each<K: Field, V: Field>(
     Ok(())
 }
 
+/// The index of operations from a location on.
+pub(crate) fn index_over<K: Field, V: Field>(
+    alloc: Global,
+    ops: &[AnyOp<K, V>],
+    from: u64,
+) -> Result<BTreeMap<K, u64>, OutOfMemory>
+    requires { from + length ops.now < 2 ^ 64 }
+    ensures { IfOk result (λ index. (key : K)
+        → lookup (is_at (K.cmp key)) index.entries
+        ≡ option_map (λ x. x.0) (last_write K.cmp key from ops.now None)) }
+{
+    let mut index = BTreeMap::new(alloc);
+    note_each(&mut index, ops, from)?;
+    Ok(index)
+}
+
 /// The index of the kept checkpoint of this number.
 pub(crate) fn index_of<K: Field, V: Field>(
     alloc: Global,

@@ -18,6 +18,7 @@ mod sealed;
 mod slot;
 mod staged;
 mod state;
+mod synced;
 
 pub use batch::{AnyMerkleized, AnyUnmerkleized};
 pub use changes::{AnyChanges, AnyWritten};

@@ -24,11 +24,13 @@ impl<K: Drop, V: Drop> Faulty for AnyMedium<K, V> {
 }
 
 impl<K: Field, V: Field> AnyMedium<K, V> {
-    ghost use Rattle.std.specs.Prelude.{◌≡◌, []};
+    ghost use Rattle.std.specs.Prelude.{◌≡◌, [], ◌∷◌, None};
     ghost use Rattle.stateful_db.specs.declared.database.DbCall.{DbCall};
     ghost use Rattle.stateful_db_medium.specs.Called.{number_of};
+    ghost use Rattle.stateful_db_log.specs.Chained.{unlinked};
     ghost use Rattle.stateful_db_any.specs.Any.{initial};
-    ghost use Rattle.stateful_db_any.specs.Stored.{disk_of, next_of, calls_of};
+    ghost use Rattle.stateful_db_any.specs.declared.op.AnyOp.{AnyOp};
+    ghost use Rattle.stateful_db_any.specs.Stored.{disk_of, next_of, calls_of, held_of};
 
     /// A medium with one commit alone. The calls that are listed, by kind and by number from 0 on,
     /// fail.
@@ -43,6 +45,8 @@ impl<K: Field, V: Field> AnyMedium<K, V> {
         ensures failing { (calls_of result).failing ≡ failing }
         ensures numbers { (call : DbCall) → number_of (calls_of result).numbers call ≡ 0 }
         ensures faults { (calls_of result).faults ≡ 0 }
+        ensures held { held_of result
+            ≡ record { first = 0; before = unlinked; ops = AnyOp.Commit None ∷ [] } }
     {
         AnyMedium {
             medium: LogMedium::new(alloc, AnyOp::Commit(None), Digest::of(&[0; 34]), failing),

@@ -2,3 +2,4 @@ pub mod KeylessChains
 pub mod Following
 pub mod Reading
 pub mod Locations
+pub mod Syncing

@@ -1,11 +1,14 @@
 -- A keyless medium and database, as the layer above sees them.
-use Rattle.std.specs.Prelude.{ℕ}
+use Rattle.std.specs.Prelude.{ℕ, List}
 use Rattle.stateful_db.specs.Disk.{Disk, Standing}
+use Rattle.stateful_db_log.specs.Held.{Held}
 use Rattle.stateful_db_log.specs.Logs as logs
 use Rattle.stateful_db_medium.specs.declared.calls.Calls.{Calls}
+use Rattle.stateful_db_compact.specs.declared.op.KeylessOp.{KeylessOp}
 use Rattle.stateful_db_keyless.specs.Keyless.{State}
 use Rattle.stateful_db_keyless.specs.declared.keyless.medium.KeylessMedium.{KeylessMedium}
 use Rattle.stateful_db_keyless.specs.declared.keyless.database.KeylessDb.{KeylessDb}
+use Rattle.stateful_db_keyless.specs.declared.keyless.batch.KeylessMerkleized.{KeylessMerkleized}
 
 module _ {V : Type 0} where
   abbrev pub disk_of : KeylessMedium V → Disk (State V)
@@ -25,3 +28,15 @@ module _ {V : Type 0} where
 
   abbrev pub calls_here : KeylessDb V → Calls
   calls_here d = logs.calls_here d.log
+
+  -- the operations that a medium holds
+  abbrev pub held_of : KeylessMedium V → Held (KeylessOp V)
+  held_of m = logs.held_of m.medium
+
+  -- those that a database holds
+  abbrev pub held_here : KeylessDb V → Held (KeylessOp V)
+  held_here d = logs.held_here d.log
+
+  -- those that a sealed batch has
+  abbrev pub sealed_ops : KeylessMerkleized V → List (KeylessOp V)
+  sealed_ops m = m.layer.1.ops.items

@@ -9,6 +9,7 @@ mod range;
 mod reads;
 mod sealed;
 mod state;
+mod synced;
 mod unsealed;
 
 pub use batch::{KeylessMerkleized, KeylessUnmerkleized};

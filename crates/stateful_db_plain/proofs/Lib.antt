@@ -1,4 +1,5 @@
 pub mod Rooted
+pub mod Served
 pub mod Bounds
 pub mod OpReads
 pub mod OpWrites

@@ -7,3 +7,4 @@ pub mod Stored
 pub mod Writes
 pub mod Shown
 pub mod Soundness
+pub mod Serving

@@ -93,7 +93,7 @@ impl Plain {
     }
 
     /// The number of the first kept checkpoint whose range has this end.
-    fn number_with_end(&self, end: Location) -> Option<usize>
+    pub(crate) fn number_with_end(&self, end: Location) -> Option<usize>
         ensures { result ≡ position (λ w. w.size == end.0) (all (standing_of self.now).disk) }
     {
         self.opened.number_with_end(end)

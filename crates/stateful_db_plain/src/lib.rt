@@ -12,7 +12,9 @@ mod database;
 mod medium;
 mod op;
 mod pass;
+mod serving;
 mod state;
+mod synced;
 
 pub use batch::{PlainMerkleized, PlainUnmerkleized};
 pub use changes::PlainChanges;

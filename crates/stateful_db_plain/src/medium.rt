@@ -29,9 +29,10 @@ impl Faulty for PlainMedium {
 }
 
 impl PlainMedium {
-    ghost use Rattle.std.specs.Prelude.{◌≡◌, []};
+    ghost use Rattle.std.specs.Prelude.{◌≡◌, ◌≤◌, ◌↔◌, [], IsTrue};
+    ghost use Rattle.stateful_base.specs.Causes.{Rose};
     ghost use Rattle.stateful_db.specs.declared.database.DbCall.{DbCall};
-    ghost use Rattle.stateful_db_medium.specs.Called.{number_of};
+    ghost use Rattle.stateful_db_medium.specs.Called.{number_of, IsListed, Called};
     ghost use Rattle.stateful_db_plain.specs.Stored.{disk_of, next_of, calls_of};
     ghost use Rattle.stateful_db_plain.specs.Whole.{initial};
 
@@ -70,5 +71,22 @@ impl PlainMedium {
         ensures { result ≡ (disk_of self.now).durable }
     {
         self.medium.durable()
+    }
+
+    /// Its allocator.
+    pub fn allocator(&self) -> Global {
+        self.medium.allocator()
+    }
+
+    /// Makes a call of this kind. Whether it is to fail, which is then counted.
+    pub fn fails(&mut self, call: DbCall) -> bool
+        ensures listed { IsTrue result ↔ IsListed (calls_of self.old) call }
+        ensures called { Called call (calls_of self.old) (calls_of self.new) }
+        ensures count { (calls_of self.old).faults ≤ (calls_of self.new).faults }
+        ensures rose { IsTrue result → Rose (calls_of self.old).faults (calls_of self.new).faults }
+        ensures disk { disk_of self.new ≡ disk_of self.old }
+        ensures next { next_of self.new ≡ next_of self.old }
+    {
+        self.medium.fails(call)
     }
 }

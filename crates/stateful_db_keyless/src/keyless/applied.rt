@@ -5,7 +5,9 @@ ghost use Rattle.stateful_base.specs.Causes.{Rose};
 ghost use Rattle.stateful_db.specs.Disk.{applied};
 ghost use Rattle.stateful_db_medium.specs.Called.{IsListed, Called};
 ghost use Rattle.stateful_db_log.specs.Logs.{extended, disk_of, next_of, calls_of, standing_of};
-ghost use Rattle.stateful_db_log.specs.Logs.{next_here, calls_here};
+ghost use Rattle.stateful_db_log.specs.Logs.{next_here, calls_here, held_of, held_here};
+ghost use Rattle.stateful_db_log.specs.Held.{further};
+ghost use Rattle.stateful_db_keyless.specs.KeylessStored.{sealed_ops};
 
 use super::batch::KeylessMerkleized;
 use stateful_db::{Broken, DbCall, Why};
@@ -24,10 +26,12 @@ pub(crate) fn apply_to<V: Field>(
     ensures ok_next { IfOk result (λ o. next_here o ≡ next_here log) }
     ensures ok_count { IfOk result (λ o. (calls_here log).faults ≤ (calls_here o).faults) }
     ensures ok_called { IfOk result (λ o. Called DbCall.Apply (calls_here log) (calls_here o)) }
+    ensures ok_held { IfOk result (λ o. held_here o ≡ further (held_here log) (sealed_ops batch)) }
     ensures err { IfErr result (λ b. disk_of b.medium ≡ (standing_of log).disk) }
     ensures err_next { IfErr result (λ b. next_of b.medium ≡ next_here log) }
     ensures err_count { IfErr result (λ b. (calls_here log).faults ≤ (calls_of b.medium).faults) }
     ensures err_called { IfErr result (λ b. Called DbCall.Apply (calls_here log) (calls_of b.medium)) }
+    ensures err_held { IfErr result (λ b. held_of b.medium ≡ held_here log) }
     ensures failed { IfErr result (λ b.
         b.why ≡ Why.Failed → Rose (calls_here log).faults (calls_of b.medium).faults) }
     ensures listed { IsErrAnd result (λ b. b.why ≡ Why.Failed)

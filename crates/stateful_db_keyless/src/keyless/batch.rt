@@ -98,6 +98,15 @@ impl<V: Field> KeylessUnmerkleized<V> {
         Ok(batch)
     }
 
+    /// The location of its first operation, which is where its parent's range ends.
+    pub fn first_location(&self) -> Location
+        ensures { (ch : Changes V) (s : State V)
+            → Holds V.fields.spelling self.now ch s
+            → result.0 ≡ size_of s }
+    {
+        Location(self.size)
+    }
+
     /// Whether the database where the batch of this id was applied last is at a state of its chain.
     pub(crate) fn stands_on(&self, at: u64) -> bool
         ensures { (c : List (ℕ × State V))

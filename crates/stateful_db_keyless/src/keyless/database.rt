@@ -28,7 +28,9 @@ pub struct KeylessDb<V> {
 impl<V: Drop> KeylessDb<V> {
     ghost use Rattle.std.specs.Prelude.{◌≡◌, IsTrue};
     ghost use Rattle.std.specs.Option.{option_copied};
-    ghost use Rattle.stateful_db_keyless.specs.KeylessStored.{standing_of};
+    ghost use Rattle.stateful_db_log.specs.Logs as logs;
+    ghost use Rattle.stateful_db_keyless.specs.KeylessStored.{standing_of, next_here, calls_here};
+    ghost use Rattle.stateful_db_keyless.specs.KeylessStored.{held_here};
     ghost use Rattle.stateful_db_keyless.specs.Reads.{metadata_of};
     ghost use Rattle.stateful_db_keyless.specs.Through.{IsWhole};
 
@@ -46,6 +48,16 @@ impl<V: Drop> KeylessDb<V> {
     {
         let target = self.log.target();
         target.start.0..target.end.0
+    }
+
+    /// The log of its operations.
+    pub fn log(&self) -> &OpenLog<KeylessOp<V>>
+        ensures standing { logs.standing_of result.now ≡ standing_of self.now }
+        ensures next { logs.next_here result.now ≡ next_here self.now }
+        ensures calls { logs.calls_here result.now ≡ calls_here self.now }
+        ensures held { logs.held_here result.now ≡ held_here self.now }
+    {
+        &self.log
     }
 
     /// The metadata of the last commit.
@@ -121,11 +133,16 @@ impl<V: Field> ManagedDb for KeylessDb<V> {
     ghost use Rattle.stateful_db.specs.Reopening.{pruned_to};
     ghost use Rattle.stateful_db.specs.Tokens.{without};
     ghost use Rattle.stateful_db_medium.specs.Called.{IsListed, Called};
+    ghost use Rattle.stateful_db_log.specs.Held.{until, further, from};
+    ghost use Rattle.stateful_db_log.specs.Linking.{log_link};
+    ghost use Rattle.stateful_db_log.specs.Logs.{begin_of};
+    ghost use Rattle.stateful_db_compact.specs.Ops.{op_bytes};
     ghost use Rattle.stateful_db_keyless.specs.KeylessSound.{sound_medium, sound_database, numbered};
     ghost use Rattle.stateful_db_keyless.specs.Keyless.{State, begun, initial, target_of};
     ghost use Rattle.stateful_db_keyless.specs.KeylessShown.{DraftShows, SealShows};
     ghost use Rattle.stateful_db_keyless.specs.KeylessStored.{disk_of, next_of, calls_of, standing_of};
-    ghost use Rattle.stateful_db_keyless.specs.KeylessStored.{next_here, calls_here};
+    ghost use Rattle.stateful_db_keyless.specs.KeylessStored.{next_here, calls_here, held_of};
+    ghost use Rattle.stateful_db_keyless.specs.KeylessStored.{held_here, sealed_ops};
 
     type State = KeylessState<V>;
 
@@ -168,10 +185,13 @@ impl<V: Field> ManagedDb for KeylessDb<V> {
         ensures ok_count { IfOk result (λ db. (calls_of medium).faults ≤ (calls_here db).faults) }
         ensures ok_called { IfOk result (λ db.
             Called DbCall.Init (calls_of medium) (calls_here db)) }
+        ensures ok_held { IfOk result (λ db. held_here db
+            ≡ until (held_of medium) (standing_of db).disk.newest.target.end.0) }
         ensures err { IfErr result (λ e. disk_of e.0 ≡ disk_of medium) }
         ensures err_next { IfErr result (λ e. next_of e.0 ≡ next_of medium) }
         ensures err_count { IfErr result (λ e. (calls_of medium).faults ≤ (calls_of e.0).faults) }
         ensures err_called { IfErr result (λ e. Called DbCall.Init (calls_of medium) (calls_of e.0)) }
+        ensures err_held { IfErr result (λ e. held_of e.0 ≡ held_of medium) }
         ensures cause { IfErr result (λ e.
             FailsToReopen target_of (λ t. t) expected (disk_of medium)
             (Rose (calls_of medium).faults (calls_of e.0).faults) e.1) }
@@ -210,6 +230,7 @@ impl<V: Field> ManagedDb for KeylessDb<V> {
         ensures standing { standing_of self.new ≡ standing_of self.old }
         ensures count { (calls_here self.new).faults ≡ (calls_here self.old).faults }
         ensures calls { calls_here self.new ≡ calls_here self.old }
+        ensures held { held_here self.new ≡ held_here self.old }
     {
         self.log.draw()
     }
@@ -274,6 +295,8 @@ impl<V: Field> ManagedDb for KeylessDb<V> {
         ensures ok_count { IfOk result (λ db. (calls_here self).faults ≤ (calls_here db).faults) }
         ensures ok_called { IfOk result (λ db.
             Called DbCall.Apply (calls_here self) (calls_here db)) }
+        ensures ok_held { IfOk result (λ db.
+            held_here db ≡ further (held_here self) (sealed_ops batch)) }
         ensures err { IfErr result (λ b. (p : ℕ × State V) (c : List (ℕ × State V))
             → SealShows batch (p ∷ point (standing_of self) ∷ c)
             → IsEither (standing_of self).disk (applied (standing_of self).disk p.1)
@@ -282,6 +305,7 @@ impl<V: Field> ManagedDb for KeylessDb<V> {
         ensures err_count { IfErr result (λ b. (calls_here self).faults ≤ (calls_of b.medium).faults) }
         ensures err_called { IfErr result (λ b.
             Called DbCall.Apply (calls_here self) (calls_of b.medium)) }
+        ensures err_held { IfErr result (λ b. held_of b.medium ≡ held_here self) }
         ensures failed { IfErr result (λ b.
             b.why ≡ Why.Failed → Rose (calls_here self).faults (calls_of b.medium).faults) }
         ensures listed { IsErrAnd result (λ b. b.why ≡ Why.Failed)
@@ -304,11 +328,13 @@ impl<V: Field> ManagedDb for KeylessDb<V> {
         ensures ok_count { IfOk result (λ r. (calls_here self).faults ≤ (calls_here r.0).faults) }
         ensures ok_called { IfOk result (λ r.
             Called DbCall.Finalize (calls_here self) (calls_here r.0)) }
+        ensures ok_held { IfOk result (λ r. held_here r.0 ≡ held_here self) }
         ensures err { IfErr result (λ b. disk_of b.medium ≡ (standing_of self).disk) }
         ensures err_next { IfErr result (λ b. next_of b.medium ≡ next_here self) }
         ensures err_count { IfErr result (λ b. (calls_here self).faults ≤ (calls_of b.medium).faults) }
         ensures err_called { IfErr result (λ b.
             Called DbCall.Finalize (calls_here self) (calls_of b.medium)) }
+        ensures err_held { IfErr result (λ b. held_of b.medium ≡ held_here self) }
         ensures failed { IfErr result (λ b.
             b.why ≡ Why.Failed → Rose (calls_here self).faults (calls_of b.medium).faults) }
         ensures listed { IsErrAnd result (λ b. b.why ≡ Why.Failed)
@@ -333,12 +359,14 @@ impl<V: Field> ManagedDb for KeylessDb<V> {
         ensures ok_count { IfOk result (λ db. (calls_here self).faults ≤ (calls_here db).faults) }
         ensures ok_called { IfOk result (λ db.
             Called DbCall.Flush (calls_here self) (calls_here db)) }
+        ensures ok_held { IfOk result (λ db. held_here db ≡ held_here self) }
         ensures err { IfErr result (λ b. IsEither (standing_of self).disk
             (flushed (standing_of self).disk token.place) (disk_of b.medium)) }
         ensures err_next { IfErr result (λ b. next_of b.medium ≡ next_here self) }
         ensures err_count { IfErr result (λ b. (calls_here self).faults ≤ (calls_of b.medium).faults) }
         ensures err_called { IfErr result (λ b.
             Called DbCall.Flush (calls_here self) (calls_of b.medium)) }
+        ensures err_held { IfErr result (λ b. held_of b.medium ≡ held_here self) }
         ensures failed { IfErr result (λ b.
             b.why ≡ Why.Failed → Rose (calls_here self).faults (calls_of b.medium).faults) }
         ensures listed { IsErrAnd result (λ b. b.why ≡ Why.Failed)
@@ -364,6 +392,9 @@ impl<V: Field> ManagedDb for KeylessDb<V> {
         ensures ok_count { IfOk result (λ db. (calls_here self).faults ≤ (calls_here db).faults) }
         ensures ok_called { IfOk result (λ db.
             Called DbCall.Prune (calls_here self) (calls_here db)) }
+        ensures ok_held { IfOk result (λ db. held_here db
+            ≡ from (log_link (op_bytes V.fields.spelling)) (held_here self)
+            (begin_of (standing_of db).disk)) }
         ensures err { IfErr result (λ b. IsEither (standing_of self).disk
             (pruned_to target_of (λ t. t) target.now (standing_of self).disk)
             (disk_of b.medium)) }
@@ -371,6 +402,7 @@ impl<V: Field> ManagedDb for KeylessDb<V> {
         ensures err_count { IfErr result (λ b. (calls_here self).faults ≤ (calls_of b.medium).faults) }
         ensures err_called { IfErr result (λ b.
             Called DbCall.Prune (calls_here self) (calls_of b.medium)) }
+        ensures err_held { IfErr result (λ b. held_of b.medium ≡ held_here self) }
         ensures failed { IfErr result (λ b.
             b.why ≡ Why.Failed → Rose (calls_here self).faults (calls_of b.medium).faults) }
         ensures listed { IsErrAnd result (λ b. b.why ≡ Why.Failed)
@@ -394,6 +426,7 @@ impl<V: Field> ManagedDb for KeylessDb<V> {
         ensures next { next_of result ≡ next_here self }
         ensures count { (calls_of result).faults ≡ (calls_here self).faults }
         ensures calls { calls_of result ≡ calls_here self }
+        ensures held { held_of result ≡ held_here self }
     {
         KeylessMedium {
             medium: self.log.close(),
@@ -405,6 +438,8 @@ impl<V: Field> ManagedDb for KeylessDb<V> {
         ensures next { next_of result ≡ next_of medium }
         ensures count { (calls_of result).faults ≡ (calls_of medium).faults }
         ensures calls { calls_of result ≡ calls_of medium }
+        ensures held { held_of result
+            ≡ until (held_of medium) (disk_of result).newest.target.end.0 }
     {
         KeylessMedium {
             medium: medium.medium.cut(keep),

@@ -10,7 +10,7 @@ use std::alloc::Global;
 /// those that it lists fail.
 #[derive(Drop)]
 pub struct KeylessMedium<V> {
-    pub(crate) medium: LogMedium<KeylessOp<V>>,
+    pub medium: LogMedium<KeylessOp<V>>,
 }
 
 impl<V: Drop> Faulty for KeylessMedium<V> {
@@ -24,11 +24,13 @@ impl<V: Drop> Faulty for KeylessMedium<V> {
 }
 
 impl<V: Field> KeylessMedium<V> {
-    ghost use Rattle.std.specs.Prelude.{◌≡◌, []};
+    ghost use Rattle.std.specs.Prelude.{◌≡◌, ◌∷◌, [], None};
     ghost use Rattle.stateful_db.specs.declared.database.DbCall.{DbCall};
     ghost use Rattle.stateful_db_medium.specs.Called.{number_of};
+    ghost use Rattle.stateful_db_log.specs.Chained.{unlinked};
+    ghost use Rattle.stateful_db_compact.specs.declared.op.KeylessOp.TheVariants.{Commit};
     ghost use Rattle.stateful_db_keyless.specs.Keyless.{initial};
-    ghost use Rattle.stateful_db_keyless.specs.KeylessStored.{disk_of, next_of, calls_of};
+    ghost use Rattle.stateful_db_keyless.specs.KeylessStored.{disk_of, next_of, calls_of, held_of};
 
     /// A medium with one commit alone. The calls that are listed, by kind and by number from 0 on,
     /// fail.
@@ -39,6 +41,8 @@ impl<V: Field> KeylessMedium<V> {
         ensures failing { (calls_of result).failing ≡ failing }
         ensures numbers { (call : DbCall) → number_of (calls_of result).numbers call ≡ 0 }
         ensures faults { (calls_of result).faults ≡ 0 }
+        ensures held { held_of result
+            ≡ record { first = 0; before = unlinked; ops = Commit None 0 ∷ [] } }
     {
         let commit = KeylessOp::Commit {
             metadata: None,

@@ -9,8 +9,8 @@ use stateful_db_pass::LogPass;
 /// A sync that isn't finished: the medium as it was before, and what is fetched for it.
 #[derive(Drop)]
 pub struct KeylessPass<V: Field> {
-    pub(crate) medium: KeylessMedium<V>,
-    pub(crate) pass: LogPass<KeylessOp<V>>,
+    pub medium: KeylessMedium<V>,
+    pub pass: LogPass<KeylessOp<V>>,
 }
 
 impl<V: Field> Faulty for KeylessPass<V> {

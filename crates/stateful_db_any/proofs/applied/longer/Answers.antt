@@ -1,12 +1,13 @@
 use Rattle.std.proofs.Common.{◌≡◌, ◌+◌, ◌++◌, List, false, Result, Ok, Err, OnOk, is_err, sym, ap, ◌∙◌}
 use Rattle.std.specs.Option.{option_map}
 use Rattle.stateful_db.specs.Disk.{Standing}
+use Rattle.stateful_db_log.specs.Held.{further}
 use Rattle.stateful_db_log.specs.Logs.{extended}
 use Rattle.stateful_db_any.specs.declared.op.AnyOp.{AnyOp}
 use Rattle.stateful_db_any.specs.Live.{last_write, passed}
 use Rattle.stateful_db_any.specs.Any.{State, live_at}
 use Rattle.stateful_db_any.specs.Through.{Change}
-use Rattle.stateful_db_any.specs.Stored.{standing_of}
+use Rattle.stateful_db_any.specs.Stored.{standing_of, held_here}
 use Rattle.stateful_db_any.proofs.Reading.{extended_live}
 use Rattle.stateful_db_any.proofs.applied.longer.Goals as goal
 
@@ -36,3 +37,10 @@ invariant_of-result g c =
           ∙ sym (ap (λ (x : State K V). option_map (λ w. w.0) (live_at cmp x key)) newest
           ∙ ap (λ o. option_map (λ w. w.0) o) (extended_live g.met.K.Ord.total g.K.Field.fields.spelling g.V.Field.fields.spelling s old.written.ops old.target old.written.from key (follows.whole yes) from start));
     }
+
+pub returns-in-Ok-clause-ok_held : goal.returns-in-Ok-clause-ok_held
+returns-in-Ok-clause-ok_held g c =
+    let held = held_here c.args.db in
+    c.in-Ok.ensures.ok_held
+    ∙ ap (further held) c.ops-2.ensures.ops
+    ∙ ap (λ (ch : Change g.row.K.Denot g.row.V.Denot). further held ch.written.ops) c.changes.view_is

@@ -2,6 +2,7 @@ use Rattle.std.proofs.Common.{◌<◌, length, subst, sym, ap, ◌∙◌}
 use Rattle.std.specs.Option.{option_map}
 use Rattle.stateful_db.specs.Disk.{Disk, all}
 use Rattle.stateful_db.specs.Reopening.{OpensAt}
+use Rattle.stateful_db_log.specs.Held.{until}
 use Rattle.stateful_db_log.specs.Logs as logs
 use Rattle.stateful_db_medium.specs.Ranged.{range_of}
 use Rattle.stateful_db_medium.specs.Openings.{reopens, opened_newest}
@@ -27,6 +28,9 @@ returns-in-Ok-index_of-clause-ok g c =
     let P : Disk (State g.row.K.Denot g.row.V.Denot) → Type 0 = λ d. OpensAt range_of (λ t. t) c.in-Ok.number d opened in
     let opens = subst P c.number_to_open.ensures.disk c.open.ensures.opens in
     reopens target_of (λ t. t) _ c.args.expected c.in-Ok.number opened c.in-Ok.ensures.ok (record { id = opens.id; out = opens.out; disk = opens.disk })
+
+pub returns-in-Ok-index_of-clause-ok_held : goal.returns-in-Ok-index_of-clause-ok_held
+returns-in-Ok-index_of-clause-ok_held g c = c.open.ensures.held ∙ ap (λ h. until h (logs.standing_of c.open.result).disk.newest.target.end.0) c.number_to_open.ensures.held
 
 pub returns-in-Err-index_of-clause-listed : goal.returns-in-Err-index_of-clause-listed
 returns-in-Err-index_of-clause-listed g c = λ listed. absurd (c.in-Ok.ensures.listed listed)

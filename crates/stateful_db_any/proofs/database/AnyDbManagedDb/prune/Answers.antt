@@ -12,3 +12,6 @@ invariant_of-result g c =
 
 pub returns-in-Err-clause-listed : goal.returns-in-Err-clause-listed
 returns-in-Err-clause-listed g c = (λ failed. c.in-Err.ensures.listed.0 (sym c.broken.ensures.why ∙ failed), λ listed. c.broken.ensures.why ∙ c.in-Err.ensures.listed.1 listed)
+
+pub returns-in-Ok-clause-ok_held : goal.returns-in-Ok-clause-ok_held
+returns-in-Ok-clause-ok_held g c = c.in-Ok.ensures.ok_held
