@@ -44,3 +44,26 @@ pub use Rattle.stateful_db_log.specs.Logs
 pub use Rattle.stateful_db_medium.specs.Called as MediumCalled
 pub use Rattle.stateful_db_medium.specs.Kept as MediumKept
 pub use Rattle.stateful_db_medium.specs.Mapped as MediumMapped
+pub use Rattle.stateful_db_plain.specs.Ops as PlainOps
+pub use Rattle.stateful_db_plain.specs.Serving as PlainServing
+pub use Rattle.stateful_db_log.specs.Blobs as LogBlobs
+pub use Rattle.stateful_db_log.specs.Linking as LogLinking
+pub use Rattle.stateful_db_log.specs.Held as LogHeld
+pub use Rattle.stateful_db_log.specs.HeldLaws as LogHeldLaws
+pub use Rattle.stateful_db_pass.specs.Fetched as PassFetched
+pub use Rattle.stateful_db_pass.specs.Counted as PassCounted
+pub use Rattle.stateful_db_pass.specs.Progress as PassProgress
+pub use Rattle.stateful_db_pass.specs.Kept as PassKept
+pub use Rattle.stateful_db_pass.specs.Serving as PassServing
+pub use Rattle.stateful_passes.specs.Asks as SyncAsks
+pub use Rattle.stateful_passes.specs.Synced
+pub use Rattle.stateful_passes.specs.CompactMade
+pub use Rattle.stateful_passes.specs.PlainMade
+pub use Rattle.stateful_passes.specs.LogMade
+pub use Rattle.stateful_passes.specs.CompactServed
+pub use Rattle.stateful_passes.specs.PlainServed
+pub use Rattle.stateful_passes.specs.Serving as ServerServing
+pub use Rattle.stateful_pass_sets.specs.Seeking as SyncSeeking
+pub use Rattle.stateful_pass_sets.specs.Steps as SyncSteps
+pub use Rattle.stateful_pass_sets.specs.Made as SyncMade
+pub use Rattle.stateful_pass_sets.specs.Counts as SyncCounts

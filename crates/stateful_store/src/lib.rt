@@ -1,5 +1,6 @@
 //! Databases, handed on: who builds on them imports this crate alone. It has the traits of batches,
-//! databases and sets, and the four databases in memory with the media that they open on.
+//! databases and sets, the four databases in memory with the media that they open on, and what it is
+//! to sync them and to answer to others that sync.
 #![tactic(auto)]
 
 pub use stateful_db::{
@@ -15,7 +16,13 @@ pub use stateful_db_keyless::{
     KeylessMerkleized, KeylessOp, KeylessPass, KeylessState, KeylessUnjournaledMerkleized,
     KeylessUnjournaledUnmerkleized, KeylessUnmerkleized,
 };
-pub use stateful_db_log::{Bounds, Field, LogMedium};
+pub use stateful_db_log::{Blob, Bounds, Field, Linked, LogMedium, OpenLog, link_each};
+pub use stateful_db_pass::{Fetches, LogPass, Segment, answer_from, answers_fit, requests_fall};
 pub use stateful_db_plain::{
-    Plain, PlainMedium, PlainMerkleized, PlainPass, PlainState, PlainUnmerkleized,
+    Plain, PlainMedium, PlainMerkleized, PlainOp, PlainPass, PlainState, PlainUnmerkleized,
+};
+pub use stateful_db_source::{AttachableResolver, AttachableResolverSet, ServeFault, SyncSource};
+pub use stateful_pass_sets::StateSyncSet;
+pub use stateful_passes::{
+    MemoryServer, Served, StateSyncDb, SyncEngineConfig, SyncFault, SyncSetFault,
 };

@@ -1,0 +1,3 @@
+pub mod Singles
+pub mod Stepping
+pub mod Pairs

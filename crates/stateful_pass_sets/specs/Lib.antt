@@ -1,0 +1,5 @@
+pub mod Seeking
+pub mod Steps
+pub mod Counts
+pub mod Made
+pub mod Resting

@@ -1,0 +1,3 @@
+pub mod Lessening
+pub mod Boundaries
+pub mod Alone
