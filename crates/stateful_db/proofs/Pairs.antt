@@ -2,6 +2,7 @@
 use Rattle.std.proofs.Common.{◌≡◌, ℕ, zero, suc, ◌+◌, ◌-◌, ◌^◌, ◌<◌, ◌≤◌, ◌⊎◌, ◌↔◌, inl, inr, Bool, true, false, List, [], ◌∷◌, ◌++◌, map, min, Option, Some, None, Result, Err, refl, sym, ap, subst, ◌∙◌, arith, IsTrue}
 use Rattle.std.proofs.lemmas.List.{map-append}
 use Rattle.stateful_base.specs.declared.target.Target.{Target}
+use Rattle.stateful_db.specs.Calls.{Calls, Goes, Passes}
 use Rattle.stateful_db.specs.Chain.{IsPoint, AllBelow, ids}
 use Rattle.stateful_db.specs.Databases.{Databases, IsOpening}
 use Rattle.stateful_db.specs.Disk.{Disk, Standing}
@@ -24,6 +25,17 @@ each_later first others (suc n) = others n
 
 pub same_count : (f : ℕ → ℕ) (i : ℕ) → f i ≤ f i
 same_count f i = omega arith
+
+pub each_goes : (call : DbCall) (x y : Option Calls) (f g : ℕ → Option Calls) → Goes call x y → ((i : ℕ) → Goes call (f i) (g i)) → (n : ℕ) → Goes call (by_number x f n) (by_number y g n)
+each_goes call x y f g first others zero = first
+each_goes call x y f g first others (suc n) = others n
+
+pub each_passes : (call : DbCall) (x y : Option Calls) (f g : ℕ → Option Calls) (count : ℕ) → Passes call x y → ((i : ℕ) → i < count → Passes call (f i) (g i)) → (n : ℕ) → n < suc count → Passes call (by_number x f n) (by_number y g n)
+each_passes call x y f g count first others zero within = first
+each_passes call x y f g count first others (suc n) within = others n (omega arith)
+
+pub goes_same : (call : DbCall) (f : ℕ → Option Calls) (i : ℕ) → Goes call (f i) (f i)
+goes_same call f i = inl refl
 
 pub same_error : {T E : Type 0} {x y : E} → ◌≡◌ {A = Result T E} (Err x) (Err y) → x ≡ y
 same_error is = cc

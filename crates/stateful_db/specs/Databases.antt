@@ -56,6 +56,8 @@ pub record Databases (Ids States Targets : Type 0) : Type 1 where
   pub HasRoom : Members → Type 0
   -- every database is closed, or lost with its medium
   pub Openable : Members → Type 0
+  -- every database is closed
+  pub Closed : Members → Type 0
   -- no database is away
   pub NoneAway : Members → Type 0
   -- every database is away

@@ -55,6 +55,7 @@ module _ {Ids States Targets : Type 0} (d : Databases Ids States Targets) where
 
   -- of where the databases are, and of the tokens that are out
   pub record PlaceLaws : Type 0 where
+    pub openable_closed : (m : d.Members) → d.Closed m → d.Openable m
     pub away_openable : (m : d.Members) → d.Openable m → d.NoneAway m
     pub away_here : (m : d.Members) (p : Ids × States) → d.point m ≡ Some p → d.NoneAway m
     pub has_state : (m : d.Members) (p : Ids × States) (i : ℕ)

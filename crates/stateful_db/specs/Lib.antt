@@ -1,5 +1,6 @@
 pub mod Chain
 pub mod Disk
+pub mod Calls
 pub mod Member
 pub mod Databases
 pub mod Laws

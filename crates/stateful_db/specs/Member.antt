@@ -78,6 +78,10 @@ module _ {S : Type 0} where
   IsOpenable (lost d) = Unit {0}
   IsOpenable _ = ⊥
 
+  abbrev pub IsClosed : Member S → Type 0
+  IsClosed (closed d) = Unit {0}
+  IsClosed _ = ⊥
+
   -- not away
   abbrev pub IsNotAway : Member S → Type 0
   IsNotAway away = ⊥

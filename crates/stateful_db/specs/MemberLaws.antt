@@ -17,6 +17,7 @@ use Rattle.stateful_db.specs.Reopening.{Refuses, KeepsDurable, pruned_to}
 use Rattle.stateful_db.specs.Member.{Member, here, closed, lost, away, member_point, MemberHasAt}
 use Rattle.stateful_db.specs.Member.{MemberKeeps, member_first, member_place, member_durable}
 use Rattle.stateful_db.specs.Member.{member_tokens, MemberIsSound, IsIdle, HasRoom, IsOpenable}
+use Rattle.stateful_db.specs.Member.{IsClosed}
 use Rattle.stateful_db.specs.Member.{IsNotAway, IsLost, MemberHas, member_applied, member_finalized}
 use Rattle.stateful_db.specs.Member.{member_flushed, IsPrunable, member_pruned, IsLostApplying}
 use Rattle.stateful_db.specs.Member.{IsLostFinalizing, IsLostFlushing, IsLostPruning}
@@ -89,6 +90,12 @@ module _ {S : Type 0} where
   has_point (closed d) p is = tt
   has_point (lost d) p is = tt
   has_point away p is = tt
+
+  pub openable_closed : (m : Member S) → IsClosed m → IsOpenable m
+  openable_closed (here s) h = h
+  openable_closed (closed d) h = tt
+  openable_closed (lost d) h = tt
+  openable_closed away h = h
 
   pub not_away_openable : (m : Member S) → IsOpenable m → IsNotAway m
   not_away_openable (here s) h = tt

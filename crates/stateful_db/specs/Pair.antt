@@ -3,6 +3,7 @@
 use Rattle.std.specs.Prelude.{◌≡◌, ℕ, zero, suc, ◌+◌, ◌-◌, ◌^◌, ◌⊎◌, min, List, map, drop, Option}
 use Rattle.std.specs.Prelude.{Some, None}
 use Rattle.std.specs.Option.{option_map}
+use Rattle.stateful_db.specs.Calls.{Calls, Counts}
 use Rattle.stateful_db.specs.Databases.{Databases}
 use Rattle.stateful_db.specs.declared.set.SetError.{SetError}
 use Rattle.stateful_db.specs.declared.set.SetError.TheVariants.{DatabaseFault}
@@ -32,6 +33,15 @@ others_of expected = option_map (λ t. t.1) expected
 abbrev pub by_number {ℓ} : {X : Type ℓ} → X → (ℕ → X) → ℕ → X
 by_number here behind zero = here
 by_number here behind (suc i) = behind i
+
+-- of each the calls are counted
+pub each_counts : (x : Option Calls) (n : ℕ) (f : ℕ → Option Calls) (g : ℕ → ℕ)
+    → Counts x n
+    → ((i : ℕ) → Counts (f i) (g i))
+    → (i : ℕ)
+    → Counts (by_number x f i) (by_number n g i)
+each_counts x n f g first others zero = first
+each_counts x n f g first others (suc i) = others i
 
 module _ {I J S U T V : Type 0} (a : Databases I S T) (b : Databases J U V) where
   -- the first is lost, and the others are as before; or it has changed so, and one of the others is
@@ -75,6 +85,7 @@ module _ {I J S U T V : Type 0} (a : Databases I S T) (b : Databases J U V) wher
     Idle = λ m. a.Idle m.0 × b.Idle m.1;
     HasRoom = λ m. a.HasRoom m.0 × b.HasRoom m.1;
     Openable = λ m. a.Openable m.0 × b.Openable m.1;
+    Closed = λ m. a.Closed m.0 × b.Closed m.1;
     NoneAway = λ m. a.NoneAway m.0 × b.NoneAway m.1;
     AllAway = λ m. a.AllAway m.0 × b.AllAway m.1;
     Lost = λ m. by_number (a.Lost m.0 0) (b.Lost m.1);

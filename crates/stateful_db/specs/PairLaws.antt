@@ -152,6 +152,8 @@ module _ {I J S U T V : Type 0} (a : Databases I S T) (b : Databases J U V) (A :
 
   places : PlaceLaws (pair a b)
   places = record {
+    openable_closed =
+        λ m h. (A.places.openable_closed m.0 h.0, B.places.openable_closed m.1 h.1);
     away_openable = λ m h. (A.places.away_openable m.0 h.0, B.places.away_openable m.1 h.1);
     away_here =
         λ m p is. (

@@ -5,8 +5,9 @@ use Rattle.stateful_db.specs.Chain.{AllBelow, ids}
 use Rattle.stateful_db.specs.Databases.{Databases}
 use Rattle.stateful_db.specs.Member.{Member, member_point, MemberHasAt, MemberKeeps, member_first}
 use Rattle.stateful_db.specs.Member.{member_place, member_durable, member_tokens, MemberIsSound}
-use Rattle.stateful_db.specs.Member.{IsIdle, HasRoom, IsOpenable, IsNotAway, IsAway, IsLost}
-use Rattle.stateful_db.specs.Member.{MemberHas, member_applied, member_finalized, member_flushed}
+use Rattle.stateful_db.specs.Member.{IsIdle, HasRoom, IsOpenable, IsClosed, IsNotAway, IsAway}
+use Rattle.stateful_db.specs.Member.{IsLost, MemberHas, member_applied, member_finalized}
+use Rattle.stateful_db.specs.Member.{member_flushed}
 use Rattle.stateful_db.specs.Member.{IsPrunable, member_pruned, IsLostApplying, IsLostFinalizing}
 use Rattle.stateful_db.specs.Member.{IsLostFlushing, IsLostPruning, MemberReopened, MemberReclosed}
 use Rattle.stateful_db.specs.Member.{MemberRefuses, MemberNotOpened, MemberCrashed}
@@ -38,6 +39,7 @@ module _ {S T : Type 0} (target_of : S → T) (targeted : T → Target) (begun :
     Idle = IsIdle;
     HasRoom = HasRoom;
     Openable = IsOpenable;
+    Closed = IsClosed;
     NoneAway = IsNotAway;
     AllAway = IsAway;
     Lost = λ m i. (i ≡ 0) × IsLost m;

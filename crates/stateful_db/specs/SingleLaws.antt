@@ -9,7 +9,8 @@ use Rattle.stateful_db.specs.Single.{single}
 use Rattle.stateful_db.specs.Laws.{KeepsUpTo, KeepsFrom, IdLaws, TargetLaws, PlaceLaws, ApplyLaws}
 use Rattle.stateful_db.specs.Laws.{FinalizeLaws, FlushLaws, PruneLaws, OpeningLaws, Laws}
 use Rattle.stateful_db.specs.MemberLaws.{AllBelow-cut, has_newest, newest_has, whole_state}
-use Rattle.stateful_db.specs.MemberLaws.{has_kept, has_point, not_away_openable, not_away_here}
+use Rattle.stateful_db.specs.MemberLaws.{has_kept, has_point, openable_closed, not_away_openable}
+use Rattle.stateful_db.specs.MemberLaws.{not_away_here}
 use Rattle.stateful_db.specs.MemberLaws.{idle_from, room_from, idle_room, tokens_idle}
 use Rattle.stateful_db.specs.MemberLaws.{keeps_applied, first_applied, place_applied}
 use Rattle.stateful_db.specs.MemberLaws.{durable_applied, tokens_applied, point_applied}
@@ -40,6 +41,7 @@ module _ {S T : Type 0} (target_of : S → T) (targeted : T → Target) (begun :
 
   place_laws : PlaceLaws (single target_of targeted begun initial)
   place_laws = record {
+    openable_closed = openable_closed;
     away_openable = not_away_openable;
     away_here = not_away_here;
     has_state = λ m p i. has_point m p;

@@ -92,12 +92,15 @@ impl Targeted for CompactTarget {
 /// A failed change hands back the medium.
 pub trait ManagedDb: Faulty + Sized + Drop {
     ghost use Rattle.std.specs.Prelude.{◌≡◌, ℕ, ◌+◌, ◌-◌, ◌^◌, ◌≤◌, ◌<◌, List, ◌∷◌, ◌++◌, [], IfOk};
-    ghost use Rattle.std.specs.Prelude.{IfErr, ◌↔◌, IsTrue, Contains, length};
+    ghost use Rattle.std.specs.Prelude.{IfErr, IfSome, IsErrAnd, ◌↔◌, ◌⊎◌, IsTrue, Contains, length};
+    ghost use Rattle.std.specs.Prelude.{Option};
     ghost use Rattle.stateful_base.specs.Causes.{Rose};
     ghost use Rattle.stateful_db.specs.Disk.{Disk, Standing, IsSound, IsCrash, IsEither, place};
     ghost use Rattle.stateful_db.specs.Disk.{applied, flushed, point};
+    ghost use Rattle.stateful_db.specs.Calls.{Calls, IsListed, Tells, Counts};
     ghost use Rattle.stateful_db.specs.Tokens.{without};
-    ghost use Rattle.stateful_db.specs.Reopening.{Reopens, FailsToReopen, KeepsDurable, pruned_to};
+    ghost use Rattle.stateful_db.specs.Reopening.{Reopens, FailsToReopen, HasNone, KeepsDurable};
+    ghost use Rattle.stateful_db.specs.Reopening.{pruned_to};
 
     /// What a checkpoint is to contracts.
     type State;
@@ -136,6 +139,11 @@ pub trait ManagedDb: Faulty + Sized + Drop {
 
     ghost next_of: { Self.Medium → ℕ };
 
+    /// The calls on its medium, where these are listed.
+    ghost calls: { Self → Option Calls };
+
+    ghost calls_of: { Self.Medium → Option Calls };
+
     /// Opens at the checkpoint of `expected`, or at the latest, and durably drops what lies beyond.
     fn init(
         medium: Self::Medium,
@@ -146,12 +154,20 @@ pub trait ManagedDb: Faulty + Sized + Drop {
             Reopens target_of Self.SyncTarget.targeted expected (disk medium) (standing db)) }
         ensures ok_next { IfOk result (λ db. next db ≡ next_of medium) }
         ensures ok_count { IfOk result (λ db. Self.Medium.count medium ≤ Self.count db) }
+        ensures ok_called { IfOk result (λ db. Tells DbCall.Init (calls_of medium) (calls db)) }
         ensures err { IfErr result (λ e. disk e.0 ≡ disk medium) }
         ensures err_next { IfErr result (λ e. next_of e.0 ≡ next_of medium) }
         ensures err_count { IfErr result (λ e. Self.Medium.count medium ≤ Self.Medium.count e.0) }
+        ensures err_called { IfErr result (λ e.
+            Tells DbCall.Init (calls_of medium) (calls_of e.0)) }
         ensures cause { IfErr result (λ e.
             FailsToReopen target_of Self.SyncTarget.targeted expected (disk medium)
-            (Rose (Self.Medium.count medium) (Self.Medium.count e.0)) e.1) };
+            (Rose (Self.Medium.count medium) (Self.Medium.count e.0)) e.1) }
+        ensures listed { IfSome (calls_of medium) (λ c.
+            IsListed c DbCall.Init → IsErrAnd result (λ e. e.1 ≡ InitError.Database)) }
+        ensures unlisted { IfErr result (λ e. e.1 ≡ InitError.Database
+            → IfSome (calls_of medium) (λ c. IsListed c DbCall.Init
+            ⊎ HasNone target_of Self.SyncTarget.targeted expected (disk medium))) };
 
     /// The target of an empty medium.
     fn initial_sync_target() -> Self::SyncTarget
@@ -164,7 +180,8 @@ pub trait ManagedDb: Faulty + Sized + Drop {
             (2 ^ 64 - 1 ≤ next self.old) × (next self.new ≡ next self.old)) }
         ensures within { IfOk result (λ n. n < 2 ^ 64 - 1) }
         ensures standing { standing self.new ≡ standing self.old }
-        ensures count { Self.count self.new ≡ Self.count self.old };
+        ensures count { Self.count self.new ≡ Self.count self.old }
+        ensures calls { calls self.new ≡ calls self.old };
 
     /// A batch over the applied state.
     fn new_batch(database: BatchContext<'_, Self>) -> Result<Self::Unmerkleized, OutOfMemory>
@@ -205,13 +222,18 @@ pub trait ManagedDb: Faulty + Sized + Drop {
         ensures ok_out { IfOk result (λ db. (standing db).out ≡ (standing self).out) }
         ensures ok_next { IfOk result (λ db. next db ≡ next self) }
         ensures ok_count { IfOk result (λ db. Self.count self ≤ Self.count db) }
+        ensures ok_called { IfOk result (λ db. Tells DbCall.Apply (calls self) (calls db)) }
         ensures err { IfErr result (λ b. (p : ℕ × Self.State) (c : List (ℕ × Self.State))
             → Self.Merkleized.shows batch (p ∷ point (standing self) ∷ c)
             → IsEither (standing self).disk (applied (standing self).disk p.1) (disk b.medium)) }
         ensures err_next { IfErr result (λ b. next_of b.medium ≡ next self) }
         ensures err_count { IfErr result (λ b. Self.count self ≤ Self.Medium.count b.medium) }
+        ensures err_called { IfErr result (λ b.
+            Tells DbCall.Apply (calls self) (calls_of b.medium)) }
         ensures failed { IfErr result (λ b.
-            b.why ≡ Why.Failed → Rose (Self.count self) (Self.Medium.count b.medium)) };
+            b.why ≡ Why.Failed → Rose (Self.count self) (Self.Medium.count b.medium)) }
+        ensures listed { IfSome (calls self) (λ c.
+            IsErrAnd result (λ b. b.why ≡ Why.Failed) ↔ IsListed c DbCall.Apply) };
 
     /// Starts persisting all checkpoints applied so far. At most one token may be out.
     fn finalize(self) -> Result<(Self, FlushToken), Broken<Self::Medium>>
@@ -221,11 +243,16 @@ pub trait ManagedDb: Faulty + Sized + Drop {
         ensures ok_place { IfOk result (λ r. r.1.place ≡ place (standing self).disk) }
         ensures ok_next { IfOk result (λ r. next r.0 ≡ next self) }
         ensures ok_count { IfOk result (λ r. Self.count self ≤ Self.count r.0) }
+        ensures ok_called { IfOk result (λ r. Tells DbCall.Finalize (calls self) (calls r.0)) }
         ensures err { IfErr result (λ b. disk b.medium ≡ (standing self).disk) }
         ensures err_next { IfErr result (λ b. next_of b.medium ≡ next self) }
         ensures err_count { IfErr result (λ b. Self.count self ≤ Self.Medium.count b.medium) }
+        ensures err_called { IfErr result (λ b.
+            Tells DbCall.Finalize (calls self) (calls_of b.medium)) }
         ensures failed { IfErr result (λ b.
-            b.why ≡ Why.Failed → Rose (Self.count self) (Self.Medium.count b.medium)) };
+            b.why ≡ Why.Failed → Rose (Self.count self) (Self.Medium.count b.medium)) }
+        ensures listed { IfSome (calls self) (λ c.
+            IsErrAnd result (λ b. b.why ≡ Why.Failed) ↔ IsListed c DbCall.Finalize) };
 
     /// The checkpoints that the token covers are durable. This token has to be out.
     fn flush(self, token: FlushToken) -> Result<Self, Broken<Self::Medium>>
@@ -236,12 +263,17 @@ pub trait ManagedDb: Faulty + Sized + Drop {
         }) }
         ensures ok_next { IfOk result (λ db. next db ≡ next self) }
         ensures ok_count { IfOk result (λ db. Self.count self ≤ Self.count db) }
+        ensures ok_called { IfOk result (λ db. Tells DbCall.Flush (calls self) (calls db)) }
         ensures err { IfErr result (λ b. IsEither (standing self).disk
             (flushed (standing self).disk token.place) (disk b.medium)) }
         ensures err_next { IfErr result (λ b. next_of b.medium ≡ next self) }
         ensures err_count { IfErr result (λ b. Self.count self ≤ Self.Medium.count b.medium) }
+        ensures err_called { IfErr result (λ b.
+            Tells DbCall.Flush (calls self) (calls_of b.medium)) }
         ensures failed { IfErr result (λ b.
-            b.why ≡ Why.Failed → Rose (Self.count self) (Self.Medium.count b.medium)) };
+            b.why ≡ Why.Failed → Rose (Self.count self) (Self.Medium.count b.medium)) }
+        ensures listed { IfSome (calls self) (λ c.
+            IsErrAnd result (λ b. b.why ≡ Why.Failed) ↔ IsListed c DbCall.Flush) };
 
     /// Drops the checkpoints that are older than the target's, and what they alone need. The
     /// target's has to be kept and durable, and no token may be out.
@@ -254,13 +286,18 @@ pub trait ManagedDb: Faulty + Sized + Drop {
         }) }
         ensures ok_next { IfOk result (λ db. next db ≡ next self) }
         ensures ok_count { IfOk result (λ db. Self.count self ≤ Self.count db) }
+        ensures ok_called { IfOk result (λ db. Tells DbCall.Prune (calls self) (calls db)) }
         ensures err { IfErr result (λ b. IsEither (standing self).disk
             (pruned_to target_of Self.SyncTarget.targeted target.now (standing self).disk)
             (disk b.medium)) }
         ensures err_next { IfErr result (λ b. next_of b.medium ≡ next self) }
         ensures err_count { IfErr result (λ b. Self.count self ≤ Self.Medium.count b.medium) }
+        ensures err_called { IfErr result (λ b.
+            Tells DbCall.Prune (calls self) (calls_of b.medium)) }
         ensures failed { IfErr result (λ b.
-            b.why ≡ Why.Failed → Rose (Self.count self) (Self.Medium.count b.medium)) };
+            b.why ≡ Why.Failed → Rose (Self.count self) (Self.Medium.count b.medium)) }
+        ensures listed { IfSome (calls self) (λ c.
+            IsErrAnd result (λ b. b.why ≡ Why.Failed) ↔ IsListed c DbCall.Prune) };
 
     /// The target of the latest checkpoint.
     fn sync_target(&self) -> Self::SyncTarget
@@ -270,13 +307,15 @@ pub trait ManagedDb: Faulty + Sized + Drop {
     fn close(self) -> Self::Medium
         ensures disk { disk result ≡ (standing self).disk }
         ensures next { next_of result ≡ next self }
-        ensures count { Self.Medium.count result ≡ Self.count self };
+        ensures count { Self.Medium.count result ≡ Self.count self }
+        ensures calls { calls_of result ≡ calls self };
 
     /// What a crash leaves: the durable checkpoints, and of the others as many as `keep` allows.
     fn crash(medium: Self::Medium, keep: usize) -> Self::Medium
         ensures disk { IsCrash keep (disk medium) (disk result) }
         ensures next { next_of result ≡ next_of medium }
-        ensures count { Self.Medium.count result ≡ Self.Medium.count medium };
+        ensures count { Self.Medium.count result ≡ Self.Medium.count medium }
+        ensures calls { calls_of result ≡ calls_of medium };
 
     /// The checkpoints of a medium are in order, and those of a database.
     ghost sound: { (m : Self.Medium) → IsSound (λ s. Self.SyncTarget.targeted (target_of s)) (disk m) };
@@ -284,6 +323,11 @@ pub trait ManagedDb: Faulty + Sized + Drop {
     ghost sound_here: { (d : Self) → IsSound (λ s. Self.SyncTarget.targeted (target_of s)) (standing d).disk };
 
     ghost numbered: { (m : Self.Medium) → 0 < next_of m };
+
+    /// Its count is that of its failed calls.
+    ghost counts: { (d : Self) → Counts (calls d) (Self.count d) };
+
+    ghost counts_of: { (m : Self.Medium) → Counts (calls_of m) (Self.Medium.count m) };
 
     ghost same_point: { (d : Self) → Self.Unmerkleized.at d ≡ point (standing d) };
 

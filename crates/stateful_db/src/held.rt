@@ -52,6 +52,8 @@ impl<D: ManagedDb> Held<D> {
             set.next self.new ≡ set.next self.old }
         ensures counts { let set = ⟦<Held<D> as DatabaseSet>⟧ in
             (n : ℕ) → set.counted self.new n ≡ set.counted self.old n }
+        ensures calls { let set = ⟦<Held<D> as DatabaseSet>⟧ in
+            (n : ℕ) → set.calls self.new n ≡ set.calls self.old n }
     {
         match mem::replace(self, Held::Away) {
             Held::Here(database) => {
@@ -68,6 +70,8 @@ impl<D: ManagedDb> Held<D> {
 
 impl<D: ManagedDb> DatabaseSet for Held<D> {
     ghost use Rattle.stateful_db.specs.declared.held.Held.TheVariants.{Here, Closed, Lost, Away};
+    ghost use Rattle.std.specs.Prelude.{None, ◌⊎◌};
+    ghost use Rattle.stateful_db.specs.Calls.{Goes, Passes, Fails};
     ghost use Rattle.stateful_db.specs.Databases.{IsOpening};
     ghost use Rattle.stateful_db.specs.Member.{here, closed, lost, away, IsOpenable};
     ghost use Rattle.stateful_db.specs.Single.{single};
@@ -105,6 +109,13 @@ impl<D: ManagedDb> DatabaseSet for Held<D> {
       | Away ↦ 0
     ] };
 
+    ghost calls = { λ s n. elim s [
+      | Here d ↦ D.calls d
+      | Closed m ↦ D.calls_of m
+      | Lost m ↦ D.calls_of m
+      | Away ↦ None
+    ] };
+
     ghost opened = { D.Unmerkleized.shows };
 
     ghost shows = { D.Merkleized.shows };
@@ -112,6 +123,13 @@ impl<D: ManagedDb> DatabaseSet for Held<D> {
     ghost laws = { single_laws D.target_of D.SyncTarget.targeted D.begun D.initial };
 
     ghost sound = { elim [ Here d ↦ D.sound_here d | Closed m ↦ D.sound m | Lost m ↦ D.sound m | Away ↦ tt ] };
+
+    ghost counts = { elim [
+      | Here d ↦ λ n. D.counts d
+      | Closed m ↦ λ n. D.counts_of m
+      | Lost m ↦ λ n. D.counts_of m
+      | Away ↦ λ n. tt
+    ] };
 
     fn count() -> usize {
         1
@@ -151,6 +169,17 @@ impl<D: ManagedDb> DatabaseSet for Held<D> {
             set.next self.new ≡ set.next self.old }
         ensures later { let set = ⟦<Held<D> as DatabaseSet>⟧ in
             (n : ℕ) → set.counted self.old n ≤ set.counted self.new n }
+        ensures called { let set = ⟦<Held<D> as DatabaseSet>⟧ in
+            (n : ℕ) → Goes DbCall.Init (set.calls self.old n) (set.calls self.new n) }
+        ensures passes { let set = ⟦<Held<D> as DatabaseSet>⟧ in OnOk result (
+            IsOpenable (set.members self.old)
+            → (n : ℕ) → n < 1
+            → Passes DbCall.Init (set.calls self.old n) (set.calls self.new n)) }
+        ensures fails { let set = ⟦<Held<D> as DatabaseSet>⟧ in IfErr result (λ e.
+            e.why ≡ InitError.Database
+            → 1 < 2 ^ 64
+            → set.kind.Refuses (set.members self.old) expected e.index e.why
+            ⊎ Fails DbCall.Init (set.calls self.old e.index)) }
     {
         let medium = match mem::replace(self, Held::Away) {
             Held::Closed(medium) | Held::Lost(medium) => medium,
@@ -327,6 +356,7 @@ fn begin<D: ManagedDb>(database: &mut D) -> Result<D::Unmerkleized, SetError>
     ensures next { D.next database.old ≤ D.next database.new }
     ensures standing { D.standing database.new ≡ D.standing database.old }
     ensures count { D.count database.new ≡ D.count database.old }
+    ensures calls { D.calls database.new ≡ D.calls database.old }
     ensures exhausted { IsErrOf result SetError.Exhausted → 2 ^ 64 - 1 ≤ D.next database.old }
     ensures within { OnOk result (2 ^ 64 - 1 ≤ D.next database.old → ⊥) }
     ensures lost { IsErrOf result SetError.Lost → ⊥ }
@@ -359,6 +389,7 @@ fn fork<D: ManagedDb>(database: &mut D, parent: &D::Merkleized) -> Result<D::Unm
     ensures next { D.next database.old ≤ D.next database.new }
     ensures standing { D.standing database.new ≡ D.standing database.old }
     ensures count { D.count database.new ≡ D.count database.old }
+    ensures calls { D.calls database.new ≡ D.calls database.old }
     ensures exhausted { IsErrOf result SetError.Exhausted → 2 ^ 64 - 1 ≤ D.next database.old }
     ensures within { OnOk result (2 ^ 64 - 1 ≤ D.next database.old → ⊥) }
     ensures lost { IsErrOf result SetError.Lost → ⊥ }

@@ -11,7 +11,9 @@
 //! higher here than in their own set (`behind`). `specs/Pair.antt` says what such a set means, by
 //! what its parts mean.
 
-ghost use Rattle.std.specs.Prelude.{◌≡◌, ℕ, ◌^◌, ◌<◌, ◌≤◌, OnOk, OnErr, IfErr, Some};
+ghost use Rattle.std.specs.Prelude.{◌≡◌, ◌⊎◌, ℕ, ◌^◌, ◌<◌, ◌≤◌, OnOk, OnErr, IfErr, Some};
+ghost use Rattle.stateful_db.specs.declared.database.DbCall.{DbCall};
+ghost use Rattle.stateful_db.specs.declared.database.InitError.{InitError};
 ghost use Rattle.stateful_db.specs.Databases.{IsOpening};
 ghost use Rattle.stateful_db.specs.Pair.{behind_first, first_of, others_of};
 
@@ -23,7 +25,8 @@ use stateful_base::{Items, Target};
 
 impl<A: ManagedDb, R: DatabaseSet> DatabaseSet for (Held<A>, R) {
     ghost use Rattle.std.specs.Prelude.{ℕ, map, refl};
-    ghost use Rattle.stateful_db.specs.Pair.{left, right, pair, by_number};
+    ghost use Rattle.stateful_db.specs.Calls.{Counts, Goes, Passes, Fails};
+    ghost use Rattle.stateful_db.specs.Pair.{left, right, pair, by_number, each_counts};
     ghost use Rattle.stateful_db.specs.PairLaws.{pair_laws};
     ghost use Rattle.stateful_db.specs.Member.{MemberIsSound};
     ghost use Rattle.stateful_db.specs.Single.{single};
@@ -52,6 +55,8 @@ impl<A: ManagedDb, R: DatabaseSet> DatabaseSet for (Held<A>, R) {
 
     ghost counted = { λ s. by_number (⟦<Held<A> as DatabaseSet>⟧.counted s.0 0) (R.counted s.1) };
 
+    ghost calls = { λ s. by_number (⟦<Held<A> as DatabaseSet>⟧.calls s.0 0) (R.calls s.1) };
+
     ghost opened = { λ u c. A.Unmerkleized.shows u.0 (map left c) × R.opened u.1 (map right c) };
 
     ghost shows = { λ m c. A.Merkleized.shows m.0 (map left c) × R.shows m.1 (map right c) };
@@ -67,6 +72,14 @@ impl<A: ManagedDb, R: DatabaseSet> DatabaseSet for (Held<A>, R) {
           [ Here d ↦ A.sound_here d | Closed m ↦ A.sound m | Lost m ↦ A.sound m | Away ↦ tt ],
       R.sound s.1,
     ) };
+
+    ghost counts = { λ s. each_counts (⟦<Held<A> as DatabaseSet>⟧.calls s.0 0)
+        (⟦<Held<A> as DatabaseSet>⟧.counted s.0 0) (R.calls s.1) (R.counted s.1)
+        (elim s.0 as
+        (λ h. Counts (⟦<Held<A> as DatabaseSet>⟧.calls h 0)
+        (⟦<Held<A> as DatabaseSet>⟧.counted h 0))
+        [ Here d ↦ A.counts d | Closed m ↦ A.counts_of m | Lost m ↦ A.counts_of m | Away ↦ tt ])
+        (R.counts s.1) };
 
     fn count() -> usize {
         R::count().saturating_add(1)
@@ -111,6 +124,17 @@ impl<A: ManagedDb, R: DatabaseSet> DatabaseSet for (Held<A>, R) {
             set.next self.new ≡ set.next self.old }
         ensures later { let set = ⟦<(Held<A>, R) as DatabaseSet>⟧ in
             (n : ℕ) → set.counted self.old n ≤ set.counted self.new n }
+        ensures called { let set = ⟦<(Held<A>, R) as DatabaseSet>⟧ in
+            (n : ℕ) → Goes DbCall.Init (set.calls self.old n) (set.calls self.new n) }
+        ensures passes { let set = ⟦<(Held<A>, R) as DatabaseSet>⟧ in OnOk result (
+            set.kind.Openable (set.members self.old)
+            → (n : ℕ) → n < set.kind.count
+            → Passes DbCall.Init (set.calls self.old n) (set.calls self.new n)) }
+        ensures fails { let set = ⟦<(Held<A>, R) as DatabaseSet>⟧ in IfErr result (λ e.
+            e.why ≡ InitError.Database
+            → set.kind.count < 2 ^ 64
+            → set.kind.Refuses (set.members self.old) expected e.index e.why
+            ⊎ Fails DbCall.Init (set.calls self.old e.index)) }
     {
         let (first, others) = parts(expected);
         let opens = self.0.is_openable();

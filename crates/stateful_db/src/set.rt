@@ -46,6 +46,7 @@ pub trait DatabaseSet: Sized {
     ghost use Rattle.std.specs.Prelude.{◌<◌, ◌≤◌, ◌-◌, ◌^◌, map, ◌++◌, ◌⊎◌, IsTrue, Contains};
     ghost use Rattle.std.specs.Prelude.{length, min};
     ghost use Rattle.stateful_base.specs.Causes.{Rose};
+    ghost use Rattle.stateful_db.specs.Calls.{Calls, Goes, Passes, Fails, Counts};
     ghost use Rattle.stateful_db.specs.Chain.{IsPoint};
     ghost use Rattle.stateful_db.specs.Databases.{Databases, IsOpening};
     ghost use Rattle.stateful_db.specs.Laws.{Laws};
@@ -53,6 +54,7 @@ pub trait DatabaseSet: Sized {
     ghost use Rattle.stateful_db.specs.Barrier.{unanswered, open_at};
     ghost use Rattle.stateful_db.specs.Batch.{RefusesSeal};
     ghost use Rattle.stateful_db.specs.declared.database.DbCall.{DbCall};
+    ghost use Rattle.stateful_db.specs.declared.database.InitError.{InitError};
 
     /// The states of the databases, left to right.
     type States;
@@ -83,6 +85,9 @@ pub trait DatabaseSet: Sized {
 
     /// How often the database of this number has failed.
     ghost counted: { Self → ℕ → ℕ };
+
+    /// The calls on the database of this number, where these are listed.
+    ghost calls: { Self → ℕ → Option Calls };
 
     /// The chain on which batches stand. Their own point is first.
     ghost opened: { Self.Unmerkleized → List (Self.Ids × Self.States) → Type 0 };
@@ -126,7 +131,17 @@ pub trait DatabaseSet: Sized {
         ensures index { IfErr result (λ e. e.index < kind.count) }
         ensures none_away { kind.NoneAway (members self.old) → kind.NoneAway (members self.new) }
         ensures next { next self.new ≡ next self.old }
-        ensures later { (n : ℕ) → counted self.old n ≤ counted self.new n };
+        ensures later { (n : ℕ) → counted self.old n ≤ counted self.new n }
+        ensures called { (n : ℕ) → Goes DbCall.Init (calls self.old n) (calls self.new n) }
+        ensures passes { OnOk result (
+            kind.Openable (members self.old)
+            → (n : ℕ) → n < kind.count
+            → Passes DbCall.Init (calls self.old n) (calls self.new n)) }
+        ensures fails { IfErr result (λ e.
+            e.why ≡ InitError.Database
+            → kind.count < 2 ^ 64
+            → kind.Refuses (members self.old) expected e.index e.why
+            ⊎ Fails DbCall.Init (calls self.old e.index)) };
 
     /// The targets of empty media.
     fn initial_sync_targets() -> Self::SyncTargets
@@ -154,7 +169,8 @@ pub trait DatabaseSet: Sized {
         ensures exhausted { IsErrOf result SetError.Exhausted → kind.Spent (next self.old) }
         ensures within { OnOk result (kind.Spent (next self.old) → ⊥) }
         ensures fault { (n : ℕ) (k : DbCall) → IsErrOf result (SetError.DatabaseFault n k) → ⊥ }
-        ensures counts { (n : ℕ) → counted self.new n ≡ counted self.old n };
+        ensures counts { (n : ℕ) → counted self.new n ≡ counted self.old n }
+        ensures calls { (n : ℕ) → calls self.new n ≡ calls self.old n };
 
     /// Children of sealed batches, whose reads see these first, and for which one id of each
     /// database is drawn. Their chain is cut behind where the databases are. Refused as
@@ -177,7 +193,8 @@ pub trait DatabaseSet: Sized {
         ensures exhausted { IsErrOf result SetError.Exhausted → kind.Spent (next self.old) }
         ensures within { OnOk result (kind.Spent (next self.old) → ⊥) }
         ensures fault { (n : ℕ) (k : DbCall) → IsErrOf result (SetError.DatabaseFault n k) → ⊥ }
-        ensures counts { (n : ℕ) → counted self.new n ≡ counted self.old n };
+        ensures counts { (n : ℕ) → counted self.new n ≡ counted self.old n }
+        ensures calls { (n : ℕ) → calls self.new n ≡ calls self.old n };
 
     /// Seals each member against its own database. `StaleRead` also where a database isn't here.
     fn seal(&self, batches: Self::Unmerkleized) -> Result<Self::Merkleized, BatchError>
@@ -267,7 +284,14 @@ pub trait DatabaseSet: Sized {
             → shows batches (q ∷ p ∷ c)
             → (i : ℕ)
             → kind.HasState (members self.new) i p.1 ⊎ kind.HasState (members self.new) i q.1) }
-        ensures later { (n : ℕ) → counted self.old n ≤ counted self.new n };
+        ensures later { (n : ℕ) → counted self.old n ≤ counted self.new n }
+        ensures called { (n : ℕ) → Goes DbCall.Apply (calls self.old n) (calls self.new n) }
+        ensures passes { OnOk result ((n : ℕ) → n < kind.count
+            → Passes DbCall.Apply (calls self.old n) (calls self.new n)) }
+        ensures fails { (n : ℕ) (k : DbCall)
+            → IsErrOf result (SetError.DatabaseFault n k)
+            → kind.count < 2 ^ 64
+            → Fails k (calls self.old n) };
 
     /// Starts persisting all checkpoints, in order. One token for each database is added to those
     /// that are given.
@@ -296,7 +320,14 @@ pub trait DatabaseSet: Sized {
         ensures err { OnErr result ((i : ℕ) (s : Self.States)
             → kind.HasState (members self.old) i s
             → kind.HasState (members self.new) i s) }
-        ensures later { (n : ℕ) → counted self.old n ≤ counted self.new n };
+        ensures later { (n : ℕ) → counted self.old n ≤ counted self.new n }
+        ensures called { (n : ℕ) → Goes DbCall.Finalize (calls self.old n) (calls self.new n) }
+        ensures passes { OnOk result ((n : ℕ) → n < kind.count
+            → Passes DbCall.Finalize (calls self.old n) (calls self.new n)) }
+        ensures fails { (n : ℕ) (k : DbCall)
+            → IsErrOf result (SetError.DatabaseFault n k)
+            → kind.count < 2 ^ 64
+            → Fails k (calls self.old n) };
 
     /// Starts persisting all checkpoints, and makes a barrier of the tokens, which are all open.
     final fn finalize(&mut self, alloc: Global) -> Result<Barrier, SetError>
@@ -329,6 +360,13 @@ pub trait DatabaseSet: Sized {
             → kind.HasState (members self.old) i s
             → kind.HasState (members self.new) i s) }
         ensures later { (n : ℕ) → counted self.old n ≤ counted self.new n }
+        ensures called { (n : ℕ) → Goes DbCall.Finalize (calls self.old n) (calls self.new n) }
+        ensures passes { OnOk result ((n : ℕ) → n < kind.count
+            → Passes DbCall.Finalize (calls self.old n) (calls self.new n)) }
+        ensures fails { (n : ℕ) (k : DbCall)
+            → IsErrOf result (SetError.DatabaseFault n k)
+            → kind.count < 2 ^ 64
+            → Fails k (calls self.old n) }
     {
         let mut tokens = Items::new(alloc);
         self.persist(&mut tokens)?;
@@ -358,7 +396,13 @@ pub trait DatabaseSet: Sized {
         ensures err { OnErr result ((i : ℕ) (s : Self.States)
             → kind.HasState (members self.old) i s
             → kind.HasState (members self.new) i s) }
-        ensures later { (n : ℕ) → counted self.old n ≤ counted self.new n };
+        ensures later { (n : ℕ) → counted self.old n ≤ counted self.new n }
+        ensures called { (n : ℕ) → Goes DbCall.Flush (calls self.old n) (calls self.new n) }
+        ensures passes { OnOk result (
+            Passes DbCall.Flush (calls self.old index) (calls self.new index)) }
+        ensures fails { (n : ℕ) (k : DbCall)
+            → IsErrOf result (SetError.DatabaseFault n k)
+            → Fails k (calls self.old n) };
 
     /// Drops the checkpoints that are older than those of the targets, which every database has to
     /// keep durably. No token may be out.
@@ -381,7 +425,14 @@ pub trait DatabaseSet: Sized {
         ensures err { OnErr result ((i : ℕ) (s : Self.States)
             → kind.HasState (members self.old) i s
             → kind.HasState (members self.new) i s) }
-        ensures later { (n : ℕ) → counted self.old n ≤ counted self.new n };
+        ensures later { (n : ℕ) → counted self.old n ≤ counted self.new n }
+        ensures called { (n : ℕ) → Goes DbCall.Prune (calls self.old n) (calls self.new n) }
+        ensures passes { OnOk result ((n : ℕ) → n < kind.count
+            → Passes DbCall.Prune (calls self.old n) (calls self.new n)) }
+        ensures fails { (n : ℕ) (k : DbCall)
+            → IsErrOf result (SetError.DatabaseFault n k)
+            → kind.count < 2 ^ 64
+            → Fails k (calls self.old n) };
 
     /// The targets of the latest checkpoints. Refused exactly where a database isn't here.
     fn committed_targets(&self) -> Result<Self::SyncTargets, SetLost>
@@ -398,17 +449,22 @@ pub trait DatabaseSet: Sized {
         ensures openable { kind.Openable (members result) }
         ensures crashed { kind.Crashed (members self) keep.now (members result) }
         ensures next { next result ≡ next self }
-        ensures counts { (n : ℕ) → counted result n ≡ counted self n };
+        ensures counts { (n : ℕ) → counted result n ≡ counted self n }
+        ensures calls { (n : ℕ) → calls result n ≡ calls self n };
 
     /// The set. Each member is left away.
     fn take(&mut self) -> Self
         ensures taken { members result ≡ members self.old }
         ensures left { kind.AllAway (members self.new) }
         ensures next { next result ≡ next self.old }
-        ensures counts { (n : ℕ) → counted result n ≡ counted self.old n };
+        ensures counts { (n : ℕ) → counted result n ≡ counted self.old n }
+        ensures calls { (n : ℕ) → calls result n ≡ calls self.old n };
 
     ghost laws: { Laws kind };
 
     /// Each database's checkpoints are in order.
     ghost sound: { (s : Self) → kind.Sound (members s) };
+
+    /// How often a database has failed is the count of its failed calls.
+    ghost counts: { (s : Self) (n : ℕ) → Counts (calls s n) (counted s n) };
 }

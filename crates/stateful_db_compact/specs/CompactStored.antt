@@ -2,7 +2,7 @@
 use Rattle.std.specs.Prelude.{ℕ}
 use Rattle.stateful_db.specs.Disk.{Disk, Standing}
 use Rattle.stateful_db_medium.specs.Kept as kept
-use Rattle.stateful_db_medium.specs.declared.calls.Calls.{Calls}
+use Rattle.stateful_db.specs.Calls.{Calls}
 use Rattle.stateful_db_compact.specs.Compacted.{State}
 use Rattle.stateful_db_compact.specs.declared.compact.medium.CompactMedium.{CompactMedium}
 use Rattle.stateful_db_compact.specs.declared.compact.database.CompactDb.{CompactDb}

@@ -5,7 +5,7 @@ use Rattle.stateful_db_medium.specs.declared.checkpoints.Checkpoint.{Checkpoint}
 use Rattle.stateful_db_medium.specs.declared.checkpoints.Checkpoints.{Checkpoints}
 use Rattle.stateful_db_medium.specs.declared.medium.Medium.{Medium}
 use Rattle.stateful_db_medium.specs.declared.opened.Opened.{Opened}
-use Rattle.stateful_db_medium.specs.declared.calls.Calls.{Calls}
+use Rattle.stateful_db.specs.Calls.{Calls}
 
 module _ {X : Type 0} where
   -- checkpoints as a disk

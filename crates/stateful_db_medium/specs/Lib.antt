@@ -1,4 +1,3 @@
-pub mod Called
 pub mod Orders
 pub mod Ranged
 pub mod Openings

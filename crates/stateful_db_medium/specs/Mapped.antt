@@ -130,7 +130,7 @@ module _ {K S : Type 0} where
       position_from-zero p (map f ks) ∙ from-map p f 0 ks
       ∙ sym (position_from-zero (λ k. p (f k)) ks)
 
-  slice_get-map : (f : K → S) (ks : List K) (i : ℕ) (k : K)
+  pub slice_get-map : (f : K → S) (ks : List K) (i : ℕ) (k : K)
       → slice_get ks i ≡ Some k
       → slice_get (map f ks) i ≡ Some (f k)
   slice_get-map f [] i k at = cc

@@ -2,12 +2,13 @@
 
 ghost use Rattle.std.specs.Prelude.{◌≡◌, ◌≤◌, ◌↔◌, IsTrue, Contains, ℕ};
 ghost use Rattle.stateful_base.specs.Causes.{Rose};
-ghost use Rattle.stateful_db_medium.specs.Called.{number_of, passed, IsListed, Called};
+ghost use Rattle.stateful_db.specs.Calls.{number_of, passed, uncalled, IsListed, Called};
 
 use stateful_db::DbCall;
+use std::marker::Model;
 
 /// The number of the next call of each kind, from 0 on.
-#[derive(Clone, Copy)]
+#[derive(Drop)]
 pub struct Numbers {
     init: u64,
     apply: u64,
@@ -17,9 +18,24 @@ pub struct Numbers {
     sync: u64,
 }
 
+impl Model for Numbers {
+    ghost use Rattle.stateful_db.specs.Calls as told;
+
+    ghost Value = { told.Numbers };
+
+    ghost view = { λ a. record {
+      init = a.init;
+      apply = a.apply;
+      finalize = a.finalize;
+      flush = a.flush;
+      prune = a.prune;
+      sync = a.sync;
+    } };
+}
+
 impl Numbers {
-    fn of(self, call: DbCall) -> u64
-        ensures { result ≡ number_of self call }
+    fn of(&self, call: DbCall) -> u64
+        ensures { result ≡ number_of self.now call }
     {
         match call {
             DbCall::Init => self.init,
@@ -54,11 +70,21 @@ pub struct Calls {
     faults: u64,
 }
 
+impl Model for Calls {
+    ghost use Rattle.stateful_db.specs.Calls as told;
+
+    ghost Value = { told.Calls };
+
+    ghost view = { λ a. record {
+      failing = a.failing.items;
+      numbers = a.numbers;
+      faults = a.faults;
+    } };
+}
+
 impl Calls {
     pub fn new(failing: Vec<(DbCall, u64)>) -> Calls
-        ensures failing { result.failing ≡ failing }
-        ensures numbers { (call : DbCall) → number_of result.numbers call ≡ 0 }
-        ensures faults { result.faults ≡ 0 }
+        ensures { result ≡ uncalled failing.items }
     {
         Calls {
             failing,

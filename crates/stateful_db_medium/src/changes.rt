@@ -6,7 +6,7 @@ ghost use Rattle.std.specs.Prelude.{IfOk, IfErr, IsErrAnd};
 ghost use Rattle.stateful_base.specs.Causes.{Rose};
 ghost use Rattle.stateful_db.specs.Disk.{place, applied, flushed, cut};
 ghost use Rattle.stateful_db.specs.Tokens.{without};
-ghost use Rattle.stateful_db_medium.specs.Called.{IsListed, Called};
+ghost use Rattle.stateful_db.specs.Calls.{IsListed, Called};
 ghost use Rattle.stateful_db_medium.specs.Kept.{disk_of, next_of, calls_of, medium_of, standing_of};
 
 use crate::checkpoints::Checkpoint;

@@ -11,8 +11,8 @@
 //! are there, and `flush` of that token moves the durable place up to them. `prune_first` drops the
 //! oldest ones, while no token is out.
 //!
-//! `specs/Kept.antt` says how media look to the layer above, `specs/Openings.antt` where they open,
-//! and `specs/Called.antt` which calls fail.
+//! `specs/Kept.antt` says how media look to the layer above, and `specs/Openings.antt` where they
+//! open.
 #![tactic(auto)]
 
 mod calls;

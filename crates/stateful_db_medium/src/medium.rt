@@ -34,7 +34,7 @@ impl<X: Drop> Medium<X> {
     ghost use Rattle.stateful_db.specs.Disk.{all, IsCrash};
     ghost use Rattle.stateful_db.specs.Reopening.{FailsToReopen, HasNone, OpensAt};
     ghost use Rattle.stateful_db.specs.declared.database.DbCall.{DbCall};
-    ghost use Rattle.stateful_db_medium.specs.Called.{number_of, IsListed, Called};
+    ghost use Rattle.stateful_db.specs.Calls.{uncalled, IsListed, Called};
     ghost use Rattle.stateful_db_medium.specs.Ranged.{range_of};
     ghost use Rattle.stateful_db_medium.specs.Kept.{disk_of, next_of, calls_of, medium_of};
     ghost use Rattle.stateful_db_medium.specs.Kept.{standing_of};
@@ -47,9 +47,7 @@ impl<X: Drop> Medium<X> {
         ensures disk { disk_of result
             ≡ record { older = []; newest = first; pruned = 0; durable = 0 } }
         ensures next { next_of result ≡ 1 }
-        ensures failing { (calls_of result).failing ≡ failing }
-        ensures numbers { (call : DbCall) → number_of (calls_of result).numbers call ≡ 0 }
-        ensures faults { (calls_of result).faults ≡ 0 }
+        ensures calls { calls_of result ≡ uncalled failing.items }
     {
         Medium {
             checkpoints: Checkpoints::new(alloc, first),

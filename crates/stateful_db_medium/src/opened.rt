@@ -34,7 +34,7 @@ impl<X: Drop> Opened<X> {
     ghost use Rattle.stateful_db.specs.Tokens.{without};
     ghost use Rattle.stateful_base.specs.Causes.{Rose};
     ghost use Rattle.stateful_db.specs.declared.database.DbCall.{DbCall};
-    ghost use Rattle.stateful_db_medium.specs.Called.{IsListed, Called};
+    ghost use Rattle.stateful_db.specs.Calls.{IsListed, Called};
     ghost use Rattle.stateful_db_medium.specs.Kept.{disk_of, next_of, calls_of, medium_of};
     ghost use Rattle.stateful_db_medium.specs.Kept.{standing_of};
 

@@ -1,5 +1,5 @@
 -- kept checkpoints by their ends
-use Rattle.std.proofs.Common.{◌≡◌, ◌==◌, ℕ, true, Option, Some, None, slice_get, get_or, position, map, ◌+◌, MatchOption, subst, zero, suc, List, [], ◌∷◌, sym, ap, ◌∙◌, arith}
+use Rattle.std.proofs.Common.{◌≡◌, ◌==◌, ℕ, true, Option, Some, None, slice_get, get_or, position, ◌+◌, MatchOption, subst, sym, ap, ◌∙◌, arith}
 use Rattle.std.proofs.lemmas.Bool.Decides.{nat_tests}
 use Rattle.std.proofs.lemmas.List.Quantifiers.{position-Some}
 use Rattle.std.proofs.lemmas.Option.{slice_get-get_or, get_or_from_slice_get}
@@ -8,7 +8,7 @@ use Rattle.stateful_types.specs.declared.request.Request.{Request}
 use Rattle.stateful_types.specs.declared.request.Request.TheVariants as asks
 use Rattle.stateful_db.specs.CheckpointLaws.{position-passes}
 use Rattle.stateful_db.specs.Disk.{Disk, all}
-use Rattle.stateful_db_medium.specs.Mapped.{mapped, map-append_one}
+use Rattle.stateful_db_medium.specs.Mapped.{mapped, map-append_one, slice_get-map}
 use Rattle.stateful_db_medium.specs.declared.checkpoints.Checkpoint.{Checkpoint}
 use Rattle.stateful_db_plain.specs.Whole.{Whole}
 use Rattle.stateful_db_plain.specs.Rooted.{state_of}
@@ -27,18 +27,13 @@ none_kept d end w none kept =
     let at : slice_get (all d) k ≡ Some w = slice_get-get_or (all d) k w within ∙ ap Some is in
     position-passes (λ (v : Whole). v.size == end) (all d) k w at (passes w end kept.size) none
 
-state_at : (ks : List (Checkpoint Whole)) (n : ℕ) (k : Checkpoint Whole) → slice_get ks n ≡ Some k → slice_get (map state_of ks) n ≡ Some (state_of k)
-state_at [] n k at = cc
-state_at (j ∷ ks) zero k at = let same : j ≡ k = cc in ap (λ x. Some (state_of x)) same
-state_at (j ∷ ks) (suc n) k at = state_at ks n k at
-
 -- the first that passes is kept, and has this end
 pub kept_at : (d : Disk (Checkpoint Whole)) (end n : ℕ) (k : Checkpoint Whole) → position (λ (v : Whole). v.size == end) (all (mapped state_of d)) ≡ Some n → slice_get (all d) n ≡ Some k
     → IsKept (mapped state_of d) end (state_of k)
 kept_at d end n k found at =
     let w = state_of k in
     let ws = all (mapped state_of d) in
-    let here : slice_get ws n ≡ Some w = ap (λ xs. slice_get xs n) (sym (map-append_one state_of d.older d.newest)) ∙ state_at (all d) n k at in
+    let here : slice_get ws n ≡ Some w = ap (λ xs. slice_get xs n) (sym (map-append_one state_of d.older d.newest)) ∙ slice_get-map state_of (all d) n k at in
     let first = position-Some (λ (v : Whole). v.size == end) ws n w found in
     let same : get_or ws n w ≡ w = get_or_from_slice_get ws n w w here in
     record {

@@ -5,8 +5,8 @@ use Rattle.std.specs.BTreeMap.{BTreeMap, insert_entry}
 use Rattle.std.proofs.lemmas.Bool.Decides.{nat_tests}
 use Rattle.stateful_base.specs.declared.target.Target.{Target}
 use Rattle.stateful_db.specs.Chain.{has_id}
-use Rattle.stateful_db_overlay.specs.Stack.{Stack, has_layer, above, cut_at}
-use Rattle.stateful_db_overlay.specs.Chains.{Stands, has_id-layers, stands-cut}
+use Rattle.stateful_db_overlay.specs.Stack.{Stack, has_layer, above, above_in, cut_at}
+use Rattle.stateful_db_overlay.specs.Chains.{Stands, has_id-layers, above_in-above, stands-cut}
 use Rattle.stateful_db_plain.specs.Whole.{Whole, put, value_at}
 use Rattle.stateful_db_plain.specs.Writes.{Change, Makes, Roots, value_over, value_through, IsInOrder}
 use Rattle.stateful_db_plain.specs.Shown.{After, EndsAt, DraftShows, SealShows}
@@ -36,6 +36,10 @@ above_all b n [] q c h less = refl
 above_all b n (l ∷ ls) q [] h less = absurd h
 above_all b n (l ∷ ls) q (r ∷ c) h less =
     rw (is_other l.0 n (omega (arith, h.0))) (ap (λ xs. l ∷ xs) (above_all b n ls r c h.1.1.1 (omega (arith, h.1.0))))
+
+-- nor has the base
+all_in : (s : Stack Change) (n : ℕ) (q : ℕ × Whole) (c : List (ℕ × Whole)) → Stands After s.base s.layers (q ∷ c) → q.0 < n → above_in n s ≡ s.layers
+all_in s n q c h less = above_in-above After s (q ∷ c) n h ∙ above_all s.base n s.layers q c h less
 
 -- a point of a chain has one of its ids
 has_point : (newer older : List (ℕ × Whole)) (p : ℕ × Whole) → has_id (newer ++ p ∷ older) p.0 ≡ true
@@ -75,11 +79,11 @@ makes_one own below s t v size one two =
     λ i. record { size = size i; entries = entries i }
 
 -- the target of equal batches is that of their state
-pub roots_same : (l k : ℕ × Change) (b a : Stack Change) (s t : Whole) → k ≡ l → a ≡ b → t ≡ s → Roots l.1.target l.1.writes (above l.0 b.layers) s → Roots k.1.target k.1.writes (above k.0 a.layers) t
+pub roots_same : (l k : ℕ × Change) (b a : Stack Change) (s t : Whole) → k ≡ l → a ≡ b → t ≡ s → Roots l.1.target l.1.writes (above_in l.0 b) s → Roots k.1.target k.1.writes (above_in k.0 a) t
 roots_same l k b a s t is_layer is_below is_base roots =
-    let L : ℕ × Change → Type 0 = λ x. Roots x.1.target x.1.writes (above x.0 b.layers) s in
-    let B : Stack Change → Type 0 = λ x. Roots k.1.target k.1.writes (above k.0 x.layers) s in
-    let S : Whole → Type 0 = λ x. Roots k.1.target k.1.writes (above k.0 a.layers) x in
+    let L : ℕ × Change → Type 0 = λ x. Roots x.1.target x.1.writes (above_in x.0 b) s in
+    let B : Stack Change → Type 0 = λ x. Roots k.1.target k.1.writes (above_in k.0 x) s in
+    let S : Whole → Type 0 = λ x. Roots k.1.target k.1.writes (above_in k.0 a) x in
     subst S (sym is_base) (subst B (sym is_below) (subst L (sym is_layer) roots))
 
 -- the id of its first point
@@ -89,7 +93,7 @@ seal_id m p (q ∷ c) h = h.layers.0
 
 -- a state of the size that a sealed batch leads to, which it makes of the state on which its layers stand, is its own
 pub seal_state : (m : PlainMerkleized) (p : ℕ × Whole) (c : List (ℕ × Whole)) (v : Whole) → SealShows m (p ∷ c) → v.size ≡ m.layer.1.target.end.0
-    → Makes m.layer.1.writes (above m.layer.0 m.below.layers) m.base v
+    → Makes m.layer.1.writes (above_in m.layer.0 m.below) m.base v
     → v ≡ p.1
 seal_state m p [] v h size makes = absurd h.layers
 seal_state m p (q ∷ c) v h size makes =
@@ -103,7 +107,7 @@ seal_state m p (q ∷ c) v h size makes =
       ordered = makes.ordered;
       values = λ key.
           makes.values key
-          ∙ ap (λ ls. value_over own key (value_through ls key (value_at m.base.entries key))) (above_all m.below.base m.layer.0 m.below.layers q c stands later)
+          ∙ ap (λ ls. value_over own key (value_through ls key (value_at m.base.entries key))) (all_in m.below m.layer.0 q c stands later)
           ∙ sym (ap (λ o. value_over own key o) (layers_show m.below.base m.below.layers q c m.base key stands h.base));
     })
     after.0
@@ -125,10 +129,10 @@ module _ (u : PlainUnmerkleized) where
       ∙ ap (λ b. (u.id == n) || b) (has_id-layers After u.below.base u.below.layers (q ∷ c) n h.stands.layers)
 
   -- none of its layers has its own id
-  pub draft_layers : (c : List (ℕ × Whole)) → DraftShows u c → above u.id u.below.layers ≡ u.below.layers
+  pub draft_layers : (c : List (ℕ × Whole)) → DraftShows u c → above_in u.id u.below ≡ u.below.layers
   draft_layers [] h = absurd h.stands
   draft_layers (p ∷ []) h = absurd h.stands
-  draft_layers (p ∷ q ∷ c) h = above_all u.below.base u.id u.below.layers q c h.stands.layers (omega (arith, h.stands.id, h.stands.later))
+  draft_layers (p ∷ q ∷ c) h = all_in u.below u.id q c h.stands.layers (omega (arith, h.stands.id, h.stands.later))
 
   -- a state that has what it reads is the one that it shows
   pub draft_state : (p : ℕ × Whole) (c : List (ℕ × Whole)) (s : Whole) → DraftShows u (p ∷ c) → s.size ≡ u.size + 1 → IsInOrder s.entries

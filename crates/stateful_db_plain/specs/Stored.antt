@@ -3,7 +3,7 @@ use Rattle.std.specs.Prelude.{ℕ}
 use Rattle.stateful_db.specs.Disk.{Disk, Standing}
 use Rattle.stateful_db_medium.specs.Kept as kept
 use Rattle.stateful_db_medium.specs.Mapped.{mapped, mapped_standing}
-use Rattle.stateful_db_medium.specs.declared.calls.Calls.{Calls}
+use Rattle.stateful_db.specs.Calls.{Calls}
 use Rattle.stateful_db_plain.specs.declared.medium.PlainMedium.{PlainMedium}
 use Rattle.stateful_db_plain.specs.declared.database.Plain.{Plain}
 use Rattle.stateful_db_plain.specs.Whole.{Whole}

@@ -3,7 +3,7 @@
 
 ghost use Rattle.std.specs.Prelude.{◌≡◌, ℕ, ◌+◌, ◌-◌, ◌^◌, ◌<◌, ◌≤◌, List, [], ◌∷◌, ◌++◌};
 ghost use Rattle.std.specs.Prelude.{IfOk, IfErr, OnOk, IsErrOf, ◌↔◌, false};
-ghost use Rattle.stateful_db_overlay.specs.Stack.{above};
+ghost use Rattle.stateful_db_overlay.specs.Stack.{above_in};
 ghost use Rattle.stateful_db.specs.Batch.{RefusesSeal};
 ghost use Rattle.stateful_db.specs.Chain.{has_id, IsPoint};
 ghost use Rattle.stateful_db.specs.Disk.{point};
@@ -38,7 +38,7 @@ pub struct PlainMerkleized {
     pub(crate) layer: Layer<PlainChanges>,
     pub(crate) below: Layers<PlainChanges>,
     pub(crate) base: PlainState,
-    ghost roots: { Roots layer.1.target layer.1.writes (above layer.0 below.layers) base },
+    ghost roots: { Roots layer.1.target layer.1.writes (above_in layer.0 below) base },
 }
 
 impl PlainUnmerkleized {
@@ -86,7 +86,7 @@ impl PlainUnmerkleized {
 
     /// All layers below it: none has its own id.
     fn layers(&self) -> &[Layer<PlainChanges>]
-        ensures above { result.now ≡ above self.now.id self.now.below.layers }
+        ensures above { result.now ≡ above_in self.now.id self.now.below }
         ensures all { (c : List (ℕ × Whole))
             → DraftShows self.now c
             → result.now ≡ self.now.below.layers }
@@ -101,7 +101,7 @@ impl PlainUnmerkleized {
             → DraftShows self.now (p ∷ c)
             → target ≡ target_of p.1) }
         ensures roots { IfOk result (λ target. Roots target self.now.writes.entries
-            (above self.now.id self.now.below.layers) self.now.base) }
+            (above_in self.now.id self.now.below) self.now.base) }
     {
         let alloc = self.below.allocator();
         let entries = made(alloc, self.base.entries(), self.layers(), &self.writes)?;

@@ -131,7 +131,7 @@ impl Faulty for Plain {
 impl ManagedDb for Plain {
     ghost use Rattle.std.specs.Prelude.{◌≡◌, ◌≢◌, ℕ, ◌+◌, ◌-◌, ◌^◌, ◌≤◌, ◌<◌, List, ◌∷◌, ◌++◌, []};
     ghost use Rattle.std.specs.Prelude.{IfOk, IfErr, IsErrAnd, Option, ◌↔◌, ◌⊎◌, Contains, length};
-    ghost use Rattle.std.specs.Prelude.{refl, false};
+    ghost use Rattle.std.specs.Prelude.{Some, refl, false};
     ghost use Rattle.stateful_db.specs.Chain.{has_id};
     ghost use Rattle.stateful_base.specs.Causes.{Rose};
     ghost use Rattle.stateful_db.specs.Disk.{IsEither, IsCrash, place, applied, flushed, point};
@@ -139,7 +139,7 @@ impl ManagedDb for Plain {
     ghost use Rattle.stateful_db.specs.Reopening.{pruned_to};
     ghost use Rattle.stateful_db.specs.Tokens.{without};
     ghost use Rattle.stateful_db_plain.specs.Whole.{Whole, begun, initial, target_of};
-    ghost use Rattle.stateful_db_medium.specs.Called.{IsListed, Called};
+    ghost use Rattle.stateful_db.specs.Calls.{IsListed, Called};
     ghost use Rattle.stateful_db_plain.specs.Stored.{disk_of, next_of, calls_of, standing_of};
     ghost use Rattle.stateful_db_plain.specs.Stored.{next_here, calls_here};
     ghost use Rattle.stateful_db_plain.specs.Shown.{DraftShows, SealShows};
@@ -172,6 +172,10 @@ impl ManagedDb for Plain {
     ghost disk = { disk_of };
 
     ghost next_of = { next_of };
+
+    ghost calls = { λ d. Some (calls_here d) };
+
+    ghost calls_of = { λ m. Some (calls_of m) };
 
     /// Takes no memory. `Database` exactly where the call is listed as a failing one or no kept
     /// checkpoint has the expected end.
@@ -451,6 +455,10 @@ impl ManagedDb for Plain {
     ghost sound_here = { sound_database };
 
     ghost numbered = { λ m. m.medium.numbered };
+
+    ghost counts = { λ d. refl };
+
+    ghost counts_of = { λ m. refl };
 
     ghost same_point = { λ d. refl };
 

@@ -32,7 +32,7 @@ impl PlainMedium {
     ghost use Rattle.std.specs.Prelude.{◌≡◌, ◌≤◌, ◌↔◌, [], IsTrue};
     ghost use Rattle.stateful_base.specs.Causes.{Rose};
     ghost use Rattle.stateful_db.specs.declared.database.DbCall.{DbCall};
-    ghost use Rattle.stateful_db_medium.specs.Called.{number_of, IsListed, Called};
+    ghost use Rattle.stateful_db.specs.Calls.{uncalled, IsListed, Called};
     ghost use Rattle.stateful_db_plain.specs.Stored.{disk_of, next_of, calls_of};
     ghost use Rattle.stateful_db_plain.specs.Whole.{initial};
 
@@ -42,9 +42,7 @@ impl PlainMedium {
         ensures disk { disk_of result
             ≡ record { older = []; newest = initial; pruned = 0; durable = 0 } }
         ensures next { next_of result ≡ 1 }
-        ensures failing { (calls_of result).failing ≡ failing }
-        ensures numbers { (call : DbCall) → number_of (calls_of result).numbers call ≡ 0 }
-        ensures faults { (calls_of result).faults ≡ 0 }
+        ensures calls { calls_of result ≡ uncalled failing.items }
     {
         let first = checkpoint(PlainState::empty(alloc));
         PlainMedium {

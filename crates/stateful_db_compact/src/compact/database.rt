@@ -62,14 +62,14 @@ impl<V: Drop> Faulty for CompactDb<V> {
 impl<V: Field> ManagedDb for CompactDb<V> {
     ghost use Rattle.std.specs.Prelude.{◌≡◌, ◌≢◌, ℕ, ◌+◌, ◌-◌, ◌^◌, ◌≤◌, ◌<◌, List, ◌∷◌, ◌++◌, []};
     ghost use Rattle.std.specs.Prelude.{IfOk, IfErr, IsErrAnd, Option, ◌↔◌, ◌⊎◌, Contains, length};
-    ghost use Rattle.std.specs.Prelude.{refl};
+    ghost use Rattle.std.specs.Prelude.{Some, refl};
     ghost use Rattle.stateful_base.specs.Causes.{Rose};
     ghost use Rattle.stateful_db.specs.Targeted.{compact_target};
     ghost use Rattle.stateful_db.specs.Disk.{IsEither, IsCrash, place, applied, flushed, point};
     ghost use Rattle.stateful_db.specs.Reopening.{Reopens, FailsToReopen, HasNone, KeepsDurable};
     ghost use Rattle.stateful_db.specs.Reopening.{pruned_to};
     ghost use Rattle.stateful_db.specs.Tokens.{without};
-    ghost use Rattle.stateful_db_medium.specs.Called.{IsListed, Called};
+    ghost use Rattle.stateful_db.specs.Calls.{IsListed, Called};
     ghost use Rattle.stateful_db_compact.specs.CompactSound.{sound_medium, sound_database};
     ghost use Rattle.stateful_db_compact.specs.Compacted.{State, begun, initial, target_of};
     ghost use Rattle.stateful_db_compact.specs.CompactShown.{DraftShows, SealShows};
@@ -103,6 +103,10 @@ impl<V: Field> ManagedDb for CompactDb<V> {
     ghost disk = { disk_of };
 
     ghost next_of = { next_of };
+
+    ghost calls = { λ d. Some (calls_here d) };
+
+    ghost calls_of = { λ m. Some (calls_of m) };
 
     /// Takes no memory. `Database` exactly where the call is listed as a failing one or no kept
     /// checkpoint has the expected end.
@@ -370,6 +374,10 @@ impl<V: Field> ManagedDb for CompactDb<V> {
     ghost sound_here = { sound_database };
 
     ghost numbered = { λ m. m.medium.numbered };
+
+    ghost counts = { λ d. refl };
+
+    ghost counts_of = { λ m. refl };
 
     ghost same_point = { λ d. refl };
 

@@ -26,8 +26,7 @@ impl<V: Drop> Faulty for CompactMedium<V> {
 
 impl<V: Field> CompactMedium<V> {
     ghost use Rattle.std.specs.Prelude.{◌≡◌, []};
-    ghost use Rattle.stateful_db.specs.declared.database.DbCall.{DbCall};
-    ghost use Rattle.stateful_db_medium.specs.Called.{number_of};
+    ghost use Rattle.stateful_db.specs.Calls.{uncalled};
     ghost use Rattle.stateful_db_compact.specs.Compacted.{initial};
     ghost use Rattle.stateful_db_compact.specs.CompactStored.{disk_of, next_of, calls_of};
 
@@ -37,9 +36,7 @@ impl<V: Field> CompactMedium<V> {
         ensures disk { disk_of result
             ≡ record { older = []; newest = initial V.fields.spelling; pruned = 0; durable = 0 } }
         ensures next { next_of result ≡ 1 }
-        ensures failing { (calls_of result).failing ≡ failing }
-        ensures numbers { (call : DbCall) → number_of (calls_of result).numbers call ≡ 0 }
-        ensures faults { (calls_of result).faults ≡ 0 }
+        ensures calls { calls_of result ≡ uncalled failing.items }
     {
         CompactMedium {
             medium: Medium::new(alloc, initial(), failing),

@@ -6,7 +6,7 @@ ghost use Rattle.stateful_base.specs.Causes.{Rose};
 ghost use Rattle.stateful_db.specs.Targeted.{compact_target};
 ghost use Rattle.stateful_db.specs.Disk.{all};
 ghost use Rattle.stateful_db.specs.Reopening.{FailsToReopen, HasNone};
-ghost use Rattle.stateful_db_medium.specs.Called.{Called, IsListed};
+ghost use Rattle.stateful_db.specs.Calls.{Called, IsListed};
 ghost use Rattle.stateful_db_medium.specs.Kept.{disk_of, next_of, calls_of};
 ghost use Rattle.stateful_db_medium.specs.Openings.{IsNumberOf};
 ghost use Rattle.stateful_db_compact.specs.Compacted.{target_of};

@@ -1,10 +1,12 @@
-use Rattle.std.proofs.Common.{◌≡◌, ◌≤◌, ◌<◌, ◌^◌, ℕ, zero, suc, ap, sym, ◌∙◌, map, inl, inr, arith, Err, refl}
+use Rattle.std.proofs.Common.{◌≡◌, suc, ap, sym, ◌∙◌, map, arith, Err}
 use Rattle.std.proofs.lemmas.Result.{err_from_is_err_and}
 use Rattle.stateful_db.specs.Pair.{left, right}
 use Rattle.stateful_db.specs.Single.{single}
 use Rattle.stateful_db.specs.SingleLaws.{single_laws}
 use Rattle.stateful_db.specs.PairLaws.{both_left, both_right}
-use Rattle.stateful_db.proofs.Pairs.{each_same, each_later, same_count, same_error, first_failed, others_failed, fault_behind, memory_behind}
+use Rattle.stateful_db.specs.declared.database.DbCall.TheVariants.{Apply}
+use Rattle.stateful_db.specs.declared.set.SetError.TheVariants.{DatabaseFault}
+use Rattle.stateful_db.proofs.Pairs.{each_goes, each_passes, goes_same, each_same, each_later, same_count, same_error, first_failed, others_failed, fault_behind, memory_behind}
 use Rattle.stateful_db.proofs.pair.Tuple2HeldDatabaseSet.apply.Goals as goal
 
 pub returns-in_err-apply-clause-err : goal.returns-in_err-apply-clause-err
@@ -56,3 +58,30 @@ returns-in-Err-clause-err g c = λ p q chain here shown.
 
 pub returns-in-Err-clause-later : goal.returns-in-Err-clause-later
 returns-in-Err-clause-later g c = each_later (c.in_ok-apply.ensures.later 0) c.in-Err.ensures.later
+
+pub returns-in_err-apply-clause-called : goal.returns-in_err-apply-clause-called
+returns-in_err-apply-clause-called g c = each_goes Apply _ _ _ _ (c.in_err-apply.ensures.called 0) (goes_same Apply _)
+
+pub returns-in_err-apply-clause-fails : goal.returns-in_err-apply-clause-fails
+returns-in_err-apply-clause-fails g c = λ n k is few.
+    let p = err_from_is_err_and c.from_residual.result c.from_residual.ensures.1 in
+    let same : c.in_err-apply.field-0.0 ≡ DatabaseFault n k = cc in
+    let f = c.in_err-apply.ensures.fault n k (ap Err same) (omega arith) in
+    let number : n ≡ 0 = omega (arith, f.1) in
+    rw number (c.in_err-apply.ensures.fails n k (ap Err same) (omega arith))
+
+pub returns-in-Ok-clause-called : goal.returns-in-Ok-clause-called
+returns-in-Ok-clause-called g c = each_goes Apply _ _ _ _ (c.in_ok-apply.ensures.called 0) c.in-Ok.ensures.called
+
+pub returns-in-Ok-clause-passes : goal.returns-in-Ok-clause-passes
+returns-in-Ok-clause-passes g c = each_passes Apply _ _ _ _ _ (c.in_ok-apply.ensures.passes 0 (omega arith)) c.in-Ok.ensures.passes
+
+pub returns-in-Err-clause-called : goal.returns-in-Err-clause-called
+returns-in-Err-clause-called g c = each_goes Apply _ _ _ _ (c.in_ok-apply.ensures.called 0) c.in-Err.ensures.called
+
+pub returns-in-Err-clause-fails : goal.returns-in-Err-clause-fails
+returns-in-Err-clause-fails g c = λ n k is few.
+    let b = fault_behind c.in-Err.error n k (sym c.behind.ensures ∙ same_error is) in
+    let f = c.in-Err.ensures.fault b.0 k (ap Err b.1) (omega arith) in
+    let number : n ≡ suc b.0 = omega (arith, b.2, f.1) in
+    rw number (c.in-Err.ensures.fails b.0 k (ap Err b.1) (omega arith))

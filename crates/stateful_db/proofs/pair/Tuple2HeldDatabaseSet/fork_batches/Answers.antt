@@ -24,3 +24,12 @@ returns-clause-ok g c = λ p q above older here shown drawn.
       (of_whole left (g.A.Unmerkleized.Unmerkleized.shows c.in_ok-first.first) _ q p above [] one.0, of_whole right (g.R.DatabaseSet.opened c.in_ok-others.others) _ q p above [] other.0),
       (below_whole left (_, g.A.ManagedDb.begun q.1.0) q p above [] one.1, of_whole right (g.R.DatabaseSet.kind.issued (g.R.DatabaseSet.next c.fork_batches-2.new.self)) _ q p above [] other.1),
     )
+
+pub returns-in_err-first-clause-calls : goal.returns-in_err-first-clause-calls
+returns-in_err-first-clause-calls g c = each_same (c.in_err-first.ensures.calls 0) (λ i. refl)
+
+pub returns-in_err-others-clause-calls : goal.returns-in_err-others-clause-calls
+returns-in_err-others-clause-calls g c = each_same (c.in_ok-first.ensures.calls 0) c.in_err-others.ensures.calls
+
+pub returns-clause-calls : goal.returns-clause-calls
+returns-clause-calls g c = each_same (c.in_ok-first.ensures.calls 0) c.in_ok-others.ensures.calls

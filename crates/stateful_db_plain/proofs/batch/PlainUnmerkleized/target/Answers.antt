@@ -1,6 +1,6 @@
 use Rattle.std.proofs.Common.{◌≡◌, ◌+◌, ◌∷◌, refl, sym, ap, ◌∙◌}
 use Rattle.stateful_base.specs.declared.target.Target.{Target}
-use Rattle.stateful_db_overlay.specs.Stack.{above}
+use Rattle.stateful_db_overlay.specs.Stack.{above_in}
 use Rattle.stateful_db_plain.specs.Whole.{Whole, target_of}
 use Rattle.stateful_db_plain.specs.Writes.{Makes}
 use Rattle.stateful_db_plain.proofs.Showing.{draft_state, makes_from, makes_one}
@@ -19,7 +19,7 @@ returns-clause-shown c = λ p chain shown.
 pub returns-clause-roots : goal.returns-clause-roots
 returns-clause-roots c = λ t size made.
     let u = c.args.self.now in
-    let below = above u.id u.below.layers in
+    let below = above_in u.id u.below in
     let sealed : Whole = record { size = u.size + 1; entries = c.in_ok-entries.entries.entries } in
     let target = c.target-2.ensures ∙ ap target_of c.new.ensures in
     let makes : Makes u.writes.entries below u.base sealed =
