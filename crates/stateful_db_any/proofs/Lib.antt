@@ -7,3 +7,4 @@ pub mod Values
 pub mod Sealing
 pub mod Staging
 pub mod Entries
+pub mod Newest

@@ -10,8 +10,8 @@ use Rattle.std.specs.BTreeMap.{is_at}
 use Rattle.stateful_base.specs.declared.digest.Digest.{Digest}
 use Rattle.stateful_base.specs.declared.target.Target.{Target}
 use Rattle.stateful_db.specs.Chain.{IsPoint, has_id}
-use Rattle.stateful_db_overlay.specs.Stack.{has_layer, above, cut_at}
-use Rattle.stateful_db_overlay.specs.Chains.{Stands, Leads, has_id-layers, leads-above, stands-cut}
+use Rattle.stateful_db_overlay.specs.Stack.{has_layer, above_in, cut_at}
+use Rattle.stateful_db_overlay.specs.Chains.{Stands, Leads, has_layer-more, has_id-layers, leads-above, stands-cut}
 use Rattle.stateful_db_log.specs.Chained.{chained}
 use Rattle.stateful_db_any.specs.declared.op.AnyOp.TheVariants.{Commit, Update, Delete}
 use Rattle.stateful_db_any.specs.Ops.{op_bytes}
@@ -88,7 +88,7 @@ module _ {K V : Type 0} (cmp : K → K → Ordering) (spell_key : K → List ℕ
   below_id base (l ∷ ls) q (r ∷ c) x h (inr i) = let k : x.0 ≤ r.0 = below_id base ls r c x h.1.1.1 i in omega (arith, h.1.0)
 
   -- a database that isn't at the seal's own state is at a point of the parent's chain
-  pub parent_leads : (u : Draft K V) (p q : ℕ × State K V) (c : List (ℕ × State K V)) (n : ℕ) (s : State K V) → DraftShows cmp spell_key spell_value u (p ∷ q ∷ c) → IsPoint (n, s) (p ∷ q ∷ c) → u.id ≢ n → Leads Step (above n u.below.layers) s q.1
+  pub parent_leads : (u : Draft K V) (p q : ℕ × State K V) (c : List (ℕ × State K V)) (n : ℕ) (s : State K V) → DraftShows cmp spell_key spell_value u (p ∷ q ∷ c) → IsPoint (n, s) (p ∷ q ∷ c) → u.id ≢ n → Leads Step (above_in n u.below) s q.1
   parent_leads u p q c n s h (inl e) other = absurd (other (sym h.0 ∙ ap (λ z. z.0) (sym e)))
   parent_leads u p q c n s h (inr i) other = leads-above Step u.below.base u.below.layers q c n s h.1.1.0 i
 
@@ -101,11 +101,11 @@ module _ {K V : Type 0} (cmp : K → K → Ordering) (spell_key : K → List ℕ
   -- a layer with the operations of a batch is its seal
   pub seals : IsTotalOrder cmp → (u : Draft K V) (l : ℕ × Change K V) (n : ℕ) (s : State K V) (index : List (K × ℕ)) (root : Digest) (start end : ℕ) (c : List (ℕ × State K V))
       → l.0 ≡ u.id → l.1.written.from ≡ u.parent.end.0 → IsIndexed cmp l.1.written
-      → l.1.written.ops ≡ ops_for (λ key. is_some (place_through cmp (above n u.below.layers) key (lookup (is_at (cmp key)) index))) u.changes.writes ++ Commit u.changes.metadata ∷ []
+      → l.1.written.ops ≡ ops_for (λ key. is_some (place_through cmp (above_in n u.below) key (lookup (is_at (cmp key)) index))) u.changes.writes ++ Commit u.changes.metadata ∷ []
       → ((key : K) → lookup (is_at (cmp key)) index ≡ option_map (λ x. x.0) (live_at cmp s key))
       → l.1.target ≡ record { root = root; start = record { 0 = start }; end = record { 0 = end } }
       → root ≡ chained (op_bytes spell_key spell_value) u.parent.root l.1.written.ops
-      → ((t : State K V) → Leads Step (above n u.below.layers) s t → IsWhole s → l.1.written.from ≡ size_of t → IsIndexed cmp l.1.written → u.parent.start.0 ≡ t.target.start.0 → start ≡ u.parent.start.0 + passed cmp (t.kept ++ l.1.written.ops))
+      → ((t : State K V) → Leads Step (above_in n u.below) s t → IsWhole s → l.1.written.from ≡ size_of t → IsIndexed cmp l.1.written → u.parent.start.0 ≡ t.target.start.0 → start ≡ u.parent.start.0 + passed cmp (t.kept ++ l.1.written.ops))
       → end ≡ u.parent.end.0 + length l.1.written.ops
       → IsWhole s → u.id ≢ n → DraftShows cmp spell_key spell_value u c → IsPoint (n, s) c
       → Stands Step u.below.base (l ∷ u.below.layers) c
@@ -113,14 +113,14 @@ module _ {K V : Type 0} (cmp : K → K → Ordering) (spell_key : K → List ℕ
   seals total u l n s index root start end (p ∷ []) named from indexed ops has target roots starts ends whole other h i = absurd h
   seals total u l n s index root start end (p ∷ q ∷ c) named from indexed ops has target roots starts ends whole other h i =
       let leads = parent_leads u p q c n s h i other in
-      let reads = reads_through total spell_key spell_value (above n u.below.layers) s q.1 leads whole in
+      let reads = reads_through total spell_key spell_value (above_in n u.below) s q.1 leads whole in
       let parent = h.1.1.1.0 in
       let bytes = op_bytes spell_key spell_value in
       let more = l.1.written.ops in
-      let through = λ (key : K). is_some (place_through cmp (above n u.below.layers) key (lookup (is_at (cmp key)) index)) in
+      let through = λ (key : K). is_some (place_through cmp (above_in n u.below) key (lookup (is_at (cmp key)) index)) in
       let live = λ (key : K). is_some (live_at cmp q.1 key) in
       let agree : (key : K) → through key ≡ live key = λ key.
-      ap (λ o. is_some (place_through cmp (above n u.below.layers) key o)) (has key)
+      ap (λ o. is_some (place_through cmp (above_in n u.below) key o)) (has key)
       ∙ ap is_some (reads.place key)
       ∙ is_some-map (live_at cmp q.1 key) in
       let all : more ≡ ops_of cmp u.changes q.1 = ops ∙ ap (λ xs. xs ++ Commit u.changes.metadata ∷ []) (ops_for-agree through live agree u.changes.writes) in
@@ -151,18 +151,14 @@ module _ {K V : Type 0} (cmp : K → K → Ordering) (spell_key : K → List ℕ
 
   pub draft_read : IsTotalOrder cmp → (u : Draft K V) (p : ℕ × State K V) (c : List (ℕ × State K V)) (n : ℕ) (s : State K V) (key : K) (value : Option V) → DraftShows cmp spell_key spell_value u (p ∷ c) → IsPoint (n, s) (p ∷ c) → u.id ≢ n
       → IsStrictlySortedBy cmp (keys_of u.changes.writes) → lookup (is_at (cmp key)) u.changes.writes ≡ None
-      → ((t : State K V) → Leads Step (above n u.below.layers) s t → value ≡ value_at cmp t key) → value ≡ value_at cmp p.1 key
+      → ((t : State K V) → Leads Step (above_in n u.below) s t → value ≡ value_at cmp t key) → value ≡ value_at cmp p.1 key
   draft_read total u p [] n s key value h i other sorted none reads = absurd h
   draft_read total u p (q ∷ c) n s key value h i other sorted none reads =
       reads q.1 (parent_leads u p q c n s h i other) ∙ sym (draft_below total u p q c key h sorted none)
 
   -- the ids of a sealed batch's chain are its own and those of the layers below it
   pub seal_has : (m : Seal K V) (c : List (ℕ × State K V)) (n : ℕ) → SealShows cmp spell_key spell_value m c → has_id c n ≡ ((m.layer.0 == n) || has_layer m.below n)
-  seal_has m c n h = has_id-layers Step m.below.base (m.layer ∷ m.below.layers) c n h ∙ assoc (m.layer.0 == n) _ _
-    where
-      assoc : (x y z : Bool) → ((x || y) || z) ≡ (x || (y || z))
-      assoc true y z = refl
-      assoc false y z = refl
+  seal_has m c n h = has_id-layers Step m.below.base (m.layer ∷ m.below.layers) c n h ∙ has_layer-more Step m.below m.layer n
 
   -- how long its chain is
   stands_length : (base : ℕ) (ls : List (ℕ × Change K V)) (c : List (ℕ × State K V)) → Stands Step base ls c → length c ≡ length ls + 1
@@ -183,7 +179,7 @@ module _ {K V : Type 0} (cmp : K → K → Ordering) (spell_key : K → List ℕ
   seal_own m p (q ∷ c) n s h (inr i) same = let le = below_id m.below.base m.below.layers q c (n, s) h.1.1.1 i in absurd (omega (arith, h.0, h.1.0))
 
   pub seal_read : IsTotalOrder cmp → (m : Seal K V) (p : ℕ × State K V) (c : List (ℕ × State K V)) (n : ℕ) (s : State K V) (key : K) (value : Option V) → SealShows cmp spell_key spell_value m (p ∷ c) → IsPoint (n, s) (p ∷ c) → m.layer.0 ≢ n
-      → ((t : State K V) → Leads Step (above n m.below.layers) s t → m.layer.1.written.from ≡ size_of t → IsIndexed cmp m.layer.1.written → value ≡ option_map (λ w. w.1) (last_write cmp key t.target.start.0 (t.kept ++ m.layer.1.written.ops) None)) → value ≡ value_at cmp p.1 key
+      → ((t : State K V) → Leads Step (above_in n m.below) s t → m.layer.1.written.from ≡ size_of t → IsIndexed cmp m.layer.1.written → value ≡ option_map (λ w. w.1) (last_write cmp key t.target.start.0 (t.kept ++ m.layer.1.written.ops) None)) → value ≡ value_at cmp p.1 key
   seal_read total m p [] n s key value h i other reads = absurd h
   seal_read total m p (q ∷ c) n s key value h (inl e) other reads = absurd (other (h.0 ∙ ap (λ z. z.0) (sym e)))
   seal_read total m p (q ∷ c) n s key value h (inr i) other reads =

@@ -11,3 +11,4 @@ pub mod Entries
 pub mod Stored
 pub mod AnySound
 pub mod Laws
+pub mod Newest

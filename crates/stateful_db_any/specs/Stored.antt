@@ -3,7 +3,7 @@ use Rattle.std.specs.Prelude.{ℕ}
 use Rattle.stateful_db.specs.Disk.{Disk, Standing}
 use Rattle.stateful_db_log.specs.Held.{Held}
 use Rattle.stateful_db_log.specs.Logs as logs
-use Rattle.stateful_db_medium.specs.declared.calls.Calls.{Calls}
+use Rattle.stateful_db.specs.Calls.{Calls}
 use Rattle.stateful_db_any.specs.Any.{State}
 use Rattle.stateful_db_any.specs.declared.op.AnyOp.{AnyOp}
 use Rattle.stateful_db_any.specs.declared.medium.AnyMedium.{AnyMedium}

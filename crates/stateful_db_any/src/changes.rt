@@ -87,6 +87,13 @@ impl<K: Field, V: Field> AnyWritten<K, V> {
         self.ops.as_slice()
     }
 
+    /// The operations alone.
+    pub(crate) fn into_ops(self) -> Vec<AnyOp<K, V>>
+        ensures { result.items ≡ self.ops }
+    {
+        self.ops
+    }
+
     /// The operation at a location, if it is one of these.
     pub(crate) fn op(&self, at: u64) -> Option<&AnyOp<K, V>>
         requires { self.now.from ≤ at }

@@ -133,13 +133,13 @@ impl<K: Field, V: Field> AnyDb<K, V> {
 impl<K: Field, V: Field> ManagedDb for AnyDb<K, V> {
     ghost use Rattle.std.specs.Prelude.{◌≡◌, ◌≢◌, ℕ, ◌+◌, ◌-◌, ◌^◌, ◌≤◌, ◌<◌, List, ◌∷◌, ◌++◌, []};
     ghost use Rattle.std.specs.Prelude.{IfOk, IfErr, IsErrAnd, Option, ◌↔◌, ◌⊎◌, Contains, length};
-    ghost use Rattle.std.specs.Prelude.{refl};
+    ghost use Rattle.std.specs.Prelude.{Some, refl};
     ghost use Rattle.stateful_base.specs.Causes.{Rose};
     ghost use Rattle.stateful_db.specs.Disk.{IsEither, IsCrash, place, applied, flushed, point};
     ghost use Rattle.stateful_db.specs.Reopening.{Reopens, FailsToReopen, HasNone, KeepsDurable};
     ghost use Rattle.stateful_db.specs.Reopening.{pruned_to};
     ghost use Rattle.stateful_db.specs.Tokens.{without};
-    ghost use Rattle.stateful_db_medium.specs.Called.{IsListed, Called};
+    ghost use Rattle.stateful_db.specs.Calls.{IsListed, Called};
     ghost use Rattle.stateful_db_log.specs.Linking.{log_link};
     ghost use Rattle.stateful_db_log.specs.Held.{until, further, from};
     ghost use Rattle.stateful_db_log.specs.Logs.{begin_of};
@@ -177,6 +177,10 @@ impl<K: Field, V: Field> ManagedDb for AnyDb<K, V> {
     ghost disk = { disk_of };
 
     ghost next_of = { next_of };
+
+    ghost calls = { λ d. Some (calls_here d) };
+
+    ghost calls_of = { λ m. Some (calls_of m) };
 
     /// `Database` exactly where the call is listed as a failing one or no kept checkpoint has the
     /// expected end. The index takes memory.
@@ -328,7 +332,7 @@ impl<K: Field, V: Field> ManagedDb for AnyDb<K, V> {
             Err(change) => return Err(broken(change)),
         };
         let db = AnyDb { log, index };
-        match longer(db, batch.layer.id(), batch.layer.changes()) {
+        match longer(db, batch.layer) {
             Ok(db) => Ok(db),
             Err(medium) => Err(Broken {
                 medium,
@@ -474,6 +478,10 @@ impl<K: Field, V: Field> ManagedDb for AnyDb<K, V> {
     ghost sound_here = { sound_database };
 
     ghost numbered = { numbered };
+
+    ghost counts = { λ d. refl };
+
+    ghost counts_of = { λ m. refl };
 
     ghost same_point = { λ d. refl };
 

@@ -23,7 +23,7 @@ mod synced;
 pub use batch::{AnyMerkleized, AnyUnmerkleized};
 pub use changes::{AnyChanges, AnyWritten};
 pub use database::AnyDb;
-pub use law::{entries_are_one, ranges_are_tight};
+pub use law::{entries_are_one, ranges_are_tight, reads_give_newest_writes};
 pub use medium::AnyMedium;
 pub use op::AnyOp;
 pub use pass::AnyPass;

@@ -25,8 +25,7 @@ impl<K: Drop, V: Drop> Faulty for AnyMedium<K, V> {
 
 impl<K: Field, V: Field> AnyMedium<K, V> {
     ghost use Rattle.std.specs.Prelude.{◌≡◌, [], ◌∷◌, None};
-    ghost use Rattle.stateful_db.specs.declared.database.DbCall.{DbCall};
-    ghost use Rattle.stateful_db_medium.specs.Called.{number_of};
+    ghost use Rattle.stateful_db.specs.Calls.{uncalled};
     ghost use Rattle.stateful_db_log.specs.Chained.{unlinked};
     ghost use Rattle.stateful_db_any.specs.Any.{initial};
     ghost use Rattle.stateful_db_any.specs.declared.op.AnyOp.{AnyOp};
@@ -42,9 +41,7 @@ impl<K: Field, V: Field> AnyMedium<K, V> {
           durable = 0;
         } }
         ensures next { next_of result ≡ 1 }
-        ensures failing { (calls_of result).failing ≡ failing }
-        ensures numbers { (call : DbCall) → number_of (calls_of result).numbers call ≡ 0 }
-        ensures faults { (calls_of result).faults ≡ 0 }
+        ensures calls { calls_of result ≡ uncalled failing.items }
         ensures held { held_of result
             ≡ record { first = 0; before = unlinked; ops = AnyOp.Commit None ∷ [] } }
     {

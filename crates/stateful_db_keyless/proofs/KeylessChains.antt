@@ -1,10 +1,10 @@
 -- chains of keyless batches
-use Rattle.std.proofs.Common.{◌≡◌, ◌≢◌, inl, inr, true, false, Option, ℕ, ◌+◌, ◌-◌, ◌^◌, ◌<◌, ◌≤◌, ◌==◌, ◌||◌, Bool, List, [], ◌∷◌, ◌++◌, length, map, max, min, None, refl, sym, ap, ◌∙◌, subst, arith, length-append}
+use Rattle.std.proofs.Common.{◌≡◌, ◌≢◌, inl, inr, Option, ℕ, ◌+◌, ◌-◌, ◌^◌, ◌<◌, ◌≤◌, ◌==◌, ◌||◌, List, [], ◌∷◌, ◌++◌, length, map, max, min, None, refl, sym, ap, ◌∙◌, subst, arith, length-append}
 use Rattle.stateful_db.specs.Chain.{has_id, IsPoint}
 use Rattle.stateful_base.specs.declared.number.Location.{Location}
 use Rattle.stateful_base.specs.declared.digest.Digest.{Digest}
-use Rattle.stateful_db_overlay.specs.Stack.{has_layer, above, cut_at}
-use Rattle.stateful_db_overlay.specs.Chains.{Stands, Leads, has_id-layers, leads-above, stands-cut}
+use Rattle.stateful_db_overlay.specs.Stack.{has_layer, above_in, cut_at}
+use Rattle.stateful_db_overlay.specs.Chains.{Stands, Leads, has_id-layers, has_layer-more, leads-above, stands-cut}
 use Rattle.stateful_db_medium.specs.Mapped.{length-mapped}
 use Rattle.stateful_db_log.specs.Chained.{linked, chained}
 use Rattle.stateful_db_log.specs.ChainedLaws.{chained-append}
@@ -115,7 +115,7 @@ module _ {V : Type 0} where
   -- what a batch reads before its seal, over a database at a point of its parent's chain
   pub draft_read : (spell : V → List ℕ) (u : KeylessUnmerkleized V) (p q : ℕ × State V) (c : List (ℕ × State V)) (ch : Changes V) (n : ℕ) (s : State V) (at : Location) (value : Option V)
       → DraftShows spell u (p ∷ q ∷ c) → Holds spell u ch q.1 → IsPoint (n, s) (p ∷ q ∷ c) → u.id ≢ n → q.1.target.start.0 ≤ at.0
-      → ((t : State V) → Leads After (above n u.below.layers) s t → u.size ≡ size_of t → t.target.start.0 ≤ at.0 → value ≡ value_at (log_behind t u.ops.items) at)
+      → ((t : State V) → Leads After (above_in n u.below) s t → u.size ≡ size_of t → t.target.start.0 ≤ at.0 → value ≡ value_at (log_behind t u.ops.items) at)
       → value ≡ value_at (log_over ch q.1) at
   draft_read spell u p q c ch n s at value h holds (inl e) other low reads = absurd (other (sym h.0 ∙ ap (λ z. z.0) (sym e)))
   draft_read spell u p q c ch n s at value h holds (inr i) other low reads =
@@ -124,11 +124,7 @@ module _ {V : Type 0} where
 
   -- the ids of a sealed batch's chain are its own and those of the layers below it
   pub seal_has : (m : KeylessMerkleized V) (c : List (ℕ × State V)) (n : ℕ) → SealShows m c → has_id c n ≡ ((m.layer.0 == n) || has_layer m.below n)
-  seal_has m c n h = has_id-layers After m.below.base (m.layer ∷ m.below.layers) c n h ∙ assoc (m.layer.0 == n) _ _
-    where
-      assoc : (x y z : Bool) → ((x || y) || z) ≡ (x || (y || z))
-      assoc true y z = refl
-      assoc false y z = refl
+  seal_has m c n h = has_id-layers After m.below.base (m.layer ∷ m.below.layers) c n h ∙ has_layer-more After m.below m.layer n
 
   -- a database with the id of a sealed batch is at its state
   pub seal_own : (m : KeylessMerkleized V) (p : ℕ × State V) (c : List (ℕ × State V)) (n : ℕ) (s : State V) → SealShows m (p ∷ c) → IsPoint (n, s) (p ∷ c) → m.layer.0 ≡ n → s ≡ p.1
@@ -139,7 +135,7 @@ module _ {V : Type 0} where
   -- what a sealed batch reads, over a database at a point of its parent's chain
   pub seal_read : (m : KeylessMerkleized V) (p : ℕ × State V) (c : List (ℕ × State V)) (n : ℕ) (s : State V) (at : Location) (value : Option V)
       → SealShows m (p ∷ c) → IsPoint (n, s) (p ∷ c) → m.layer.0 ≢ n → p.1.target.start.0 ≤ at.0
-      → ((t : State V) → Leads After (above n m.below.layers) s t → m.layer.1.from ≡ size_of t → t.target.start.0 ≤ at.0 → value ≡ value_at (log_behind t m.layer.1.ops.items) at)
+      → ((t : State V) → Leads After (above_in n m.below) s t → m.layer.1.from ≡ size_of t → t.target.start.0 ≤ at.0 → value ≡ value_at (log_behind t m.layer.1.ops.items) at)
       → value ≡ value_at (log_of p.1) at
   seal_read m p [] n s at value h i other low reads = absurd h
   seal_read m p (q ∷ c) n s at value h (inl e) other low reads = absurd (other (h.0 ∙ ap (λ z. z.0) (sym e)))

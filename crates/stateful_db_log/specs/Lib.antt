@@ -8,4 +8,5 @@ pub mod Between
 pub mod Held
 pub mod HeldLaws
 pub mod Logs
+pub mod Pruned
 pub mod LogSound

@@ -3,7 +3,7 @@ use Rattle.std.specs.Prelude.{ℕ, ◌-◌, List, [], ◌∷◌, ◌++◌, drop,
 use Rattle.stateful_base.specs.declared.target.Target.{Target}
 use Rattle.stateful_db.specs.Disk.{Disk, Standing}
 use Rattle.stateful_db_medium.specs.declared.checkpoints.Checkpoint.{Checkpoint}
-use Rattle.stateful_db_medium.specs.declared.calls.Calls.{Calls}
+use Rattle.stateful_db.specs.Calls.{Calls}
 use Rattle.stateful_db_medium.specs.Kept as kept
 use Rattle.stateful_db_medium.specs.Mapped.{mapped, mapped_standing}
 use Rattle.stateful_db_log.specs.declared.log_medium.LogMedium.{LogMedium}

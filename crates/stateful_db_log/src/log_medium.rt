@@ -42,7 +42,7 @@ impl<Op: Drop> LogMedium<Op> {
     ghost use Rattle.stateful_db.specs.Disk.{IsCrash};
     ghost use Rattle.stateful_db.specs.Reopening.{FailsToReopen, HasNone, OpensAt};
     ghost use Rattle.stateful_db.specs.declared.database.DbCall.{DbCall};
-    ghost use Rattle.stateful_db_medium.specs.Called.{number_of, IsListed, Called};
+    ghost use Rattle.stateful_db.specs.Calls.{uncalled, IsListed, Called};
     ghost use Rattle.stateful_db_medium.specs.Ranged.{range_of};
     ghost use Rattle.stateful_db_medium.specs.Openings.{IsNumberOf};
     ghost use Rattle.stateful_db_log.specs.Chained.{unlinked};
@@ -63,9 +63,7 @@ impl<Op: Drop> LogMedium<Op> {
           durable = 0;
         } }
         ensures next { next_of result ≡ 1 }
-        ensures failing { (calls_of result).failing ≡ failing }
-        ensures numbers { (call : DbCall) → number_of (calls_of result).numbers call ≡ 0 }
-        ensures faults { (calls_of result).faults ≡ 0 }
+        ensures calls { calls_of result ≡ uncalled failing.items }
         ensures held { held_of result ≡ record { first = 0; before = unlinked; ops = op ∷ [] } }
     {
         let target = Target {

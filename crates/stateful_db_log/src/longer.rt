@@ -8,22 +8,22 @@ ghost use Rattle.stateful_db_log.specs.Held.{further};
 
 use crate::log_medium::LogMedium;
 use crate::open_log::OpenLog;
-use stateful_base::{Share, Target};
+use stateful_base::Target;
 use stateful_db_medium::Checkpoint;
 
 /// The log with these operations behind it, and with their checkpoint. It is given back where
 /// memory is wanting, or the range isn't that of a batch on it.
-pub fn longer<Op: Share + Drop>(
+pub fn longer<Op: Drop>(
     log: OpenLog<Op>,
     id: u64,
-    more: &[Op],
+    more: Vec<Op>,
     target: Target,
 ) -> Result<OpenLog<Op>, LogMedium<Op>>
     ensures ok { let s = standing_of log in IfOk result (λ o. standing_of o
-        ≡ record s { id = id; disk = applied s.disk (extended s.disk.newest more.now target) }) }
+        ≡ record s { id = id; disk = applied s.disk (extended s.disk.newest more.items target) }) }
     ensures ok_next { IfOk result (λ o. next_here o ≡ next_here log) }
     ensures ok_calls { IfOk result (λ o. calls_here o ≡ calls_here log) }
-    ensures ok_held { IfOk result (λ o. held_here o ≡ further (held_here log) more.now) }
+    ensures ok_held { IfOk result (λ o. held_here o ≡ further (held_here log) more.items) }
     ensures err { IfErr result (λ m. disk_of m ≡ (standing_of log).disk) }
     ensures err_next { IfErr result (λ m. next_of m ≡ next_here log) }
     ensures err_calls { IfErr result (λ m. calls_of m ≡ calls_here log) }

@@ -8,7 +8,7 @@ ghost use Rattle.stateful_db_medium.specs.declared.checkpoints.Checkpoint.{Check
 use crate::log_medium::LogMedium;
 use crate::longer::longer;
 use crate::run::Run;
-use stateful_base::{Digest, Faulty, Location, Share, Target};
+use stateful_base::{Digest, Faulty, Location, Target};
 use stateful_db::{Broken, DbCall, Exhausted, FlushToken, Why};
 use stateful_db_medium::{Medium, Opened};
 use std::alloc::Global;
@@ -41,11 +41,12 @@ impl<Op: Drop> OpenLog<Op> {
     ghost use Rattle.std.specs.Prelude.{◌≢◌, ◌<◌, ◌-◌, ◌^◌, ◌++◌, ◌∷◌, [], ◌==◌, ◌↔◌, position};
     ghost use Rattle.std.specs.Prelude.{Contains, IfOk, IfErr, IsErrAnd};
     ghost use Rattle.stateful_base.specs.Causes.{Rose};
-    ghost use Rattle.stateful_db.specs.Disk.{place, flushed};
+    ghost use Rattle.stateful_db.specs.Disk.{place, flushed, applied};
     ghost use Rattle.stateful_db.specs.Tokens.{without};
     ghost use Rattle.stateful_db.specs.declared.database.DbCall.{DbCall};
-    ghost use Rattle.stateful_db_medium.specs.Called.{IsListed, Called};
-    ghost use Rattle.stateful_db_log.specs.Logs.{disk_of, next_of, calls_of, held_of};
+    ghost use Rattle.stateful_db.specs.Calls.{IsListed, Called};
+    ghost use Rattle.stateful_db_log.specs.Held.{further};
+    ghost use Rattle.stateful_db_log.specs.Logs.{extended, disk_of, next_of, calls_of, held_of};
     ghost use Rattle.stateful_db_log.specs.Logs.{standing_of, next_here, calls_here, held_here};
 
     /// The id of the last applied batch.
@@ -227,35 +228,24 @@ impl<Op: Drop> OpenLog<Op> {
     {
         self.opened.number_with_end(end)
     }
-}
 
-impl<Op: Share + Drop> OpenLog<Op> {
-    ghost use Rattle.std.specs.Prelude.{◌≢◌, ◌↔◌, IfOk, IfErr, IsErrAnd};
-    ghost use Rattle.stateful_base.specs.Causes.{Rose};
-    ghost use Rattle.stateful_db.specs.Disk.{applied};
-    ghost use Rattle.stateful_db.specs.declared.database.DbCall.{DbCall};
-    ghost use Rattle.stateful_db_medium.specs.Called.{IsListed, Called};
-    ghost use Rattle.stateful_db_log.specs.Logs.{extended, disk_of, next_of, calls_of, standing_of};
-    ghost use Rattle.stateful_db_log.specs.Logs.{next_here, calls_here, held_of, held_here};
-    ghost use Rattle.stateful_db_log.specs.Held.{further};
-
-    /// Appends the operations of a batch that is applied, and adds its checkpoint. Where its range
-    /// doesn't end behind them, or starts before the newest one does, it is refused as if memory
-    /// were wanting.
+    /// Appends the operations of a batch that is applied, with no copy, and adds its checkpoint.
+    /// Where its range doesn't end behind them, or starts before the newest one does, it is refused
+    /// as if memory were wanting.
     pub fn apply(
         self,
         id: u64,
-        more: &[Op],
+        more: Vec<Op>,
         target: Target,
     ) -> Result<OpenLog<Op>, Broken<LogMedium<Op>>>
         ensures ok { let s = standing_of self in IfOk result (λ o. standing_of o
             ≡ record s
-            { id = id; disk = applied s.disk (extended s.disk.newest more.now target) }) }
+            { id = id; disk = applied s.disk (extended s.disk.newest more.items target) }) }
         ensures ok_next { IfOk result (λ o. next_here o ≡ next_here self) }
         ensures ok_count { IfOk result (λ o. (calls_here self).faults ≤ (calls_here o).faults) }
         ensures ok_called { IfOk result (λ o.
             Called DbCall.Apply (calls_here self) (calls_here o)) }
-        ensures ok_held { IfOk result (λ o. held_here o ≡ further (held_here self) more.now) }
+        ensures ok_held { IfOk result (λ o. held_here o ≡ further (held_here self) more.items) }
         ensures err { IfErr result (λ b. disk_of b.medium ≡ (standing_of self).disk) }
         ensures err_next { IfErr result (λ b. next_of b.medium ≡ next_here self) }
         ensures err_count { IfErr result (λ b. (calls_here self).faults ≤ (calls_of b.medium).faults) }

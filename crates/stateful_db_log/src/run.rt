@@ -6,8 +6,8 @@ ghost use Rattle.std.specs.Option.{option_copied};
 ghost use Rattle.stateful_db_log.specs.Linking.{behind};
 
 use crate::linked::{Linked, link_each};
-use stateful_base::{Digest, OutOfMemory, Share};
-use std::alloc::Global;
+use stateful_base::Digest;
+use std::alloc::{AllocError, Global};
 use std::marker::Model;
 
 /// Operations in order. The first of all may stand apart, so that a run of one operation takes no
@@ -97,11 +97,9 @@ impl<Op: Drop> Run<Op> {
         drop_front(&mut self.rest, count);
     }
 
-    /// Appends copies of these operations, or none of them.
-    pub fn append(&mut self, more: &[Op]) -> Result<(), OutOfMemory>
-    where
-        Op: Share,
-        ensures ok { OnOk result (self.new ≡ self.old ++ more.now) }
+    /// Appends these operations with no copy, or none of them.
+    pub fn append(&mut self, more: Vec<Op>) -> Result<(), AllocError>
+        ensures ok { OnOk result (self.new ≡ self.old ++ more.items) }
         ensures err { OnErr result (self.new ≡ self.old) }
     {
         append_all(&mut self.rest, more)
@@ -143,28 +141,11 @@ fn drop_front<Op: Drop>(ops: &mut Vec<Op>, count: usize)
     ops.drain(..count);
 }
 
-/// Appends copies of these operations, or none of them.
-fn append_all<Op: Share + Drop>(ops: &mut Vec<Op>, more: &[Op]) -> Result<(), OutOfMemory>
-    ensures ok { OnOk result (ops.new.items ≡ ops.old.items ++ more.now) }
+/// Appends these operations with no copy, or none of them.
+fn append_all<Op: Drop>(ops: &mut Vec<Op>, more: Vec<Op>) -> Result<(), AllocError>
+    ensures ok { OnOk result (ops.new.items ≡ ops.old.items ++ more.items) }
     ensures err { OnErr result (ops.new.items ≡ ops.old.items) }
 {
-    let count = ops.len();
-    match append_each(ops, more) {
-        Ok(()) => Ok(()),
-        Err(refused) => {
-            ops.truncate(count);
-            Err(refused)
-        }
-    }
-}
-
-/// Appends copies of these operations. A refusal may leave some of them.
-fn append_each<Op: Share + Drop>(ops: &mut Vec<Op>, more: &[Op]) -> Result<(), OutOfMemory>
-    ensures ok { OnOk result (ops.new.items ≡ ops.old.items ++ more.now) }
-    ensures kept { (some : List Op) × (ops.new.items ≡ ops.old.items ++ some) }
-{
-    for op in more {
-        ops.push(op.share()?)?;
-    }
-    Ok(())
+    let mut more = more;
+    ops.append(&mut more)
 }

@@ -1,18 +1,17 @@
 //! A log that gets shorter.
 
-ghost use Rattle.std.specs.Prelude.{◌≡◌, ◌≢◌, ◌≤◌, ◌+◌, ◌↔◌, [], ℕ, min, length, slice_get, Some};
+ghost use Rattle.std.specs.Prelude.{◌≡◌, ◌≤◌, ◌+◌, ◌↔◌, [], ℕ, min, length, slice_get, Some};
 ghost use Rattle.std.specs.Prelude.{IfOk, IfErr, IsErrAnd};
-ghost use Rattle.stateful_base.specs.Causes.{Rose};
-ghost use Rattle.stateful_db.specs.Disk.{all, cut};
+ghost use Rattle.stateful_db.specs.Disk.{all};
 ghost use Rattle.stateful_db.specs.declared.database.DbCall.{DbCall};
 ghost use Rattle.stateful_db_medium.specs.Kept as kept;
 ghost use Rattle.stateful_db_medium.specs.Mapped.{mapped};
-ghost use Rattle.stateful_db_medium.specs.Called.{IsListed, Called};
+ghost use Rattle.stateful_db.specs.Calls.{IsListed};
 ghost use Rattle.stateful_db_medium.specs.declared.checkpoints.Checkpoint.{Checkpoint};
 ghost use Rattle.stateful_db_log.specs.Between.{state_in};
 ghost use Rattle.stateful_db_log.specs.Held.{from};
-ghost use Rattle.stateful_db_log.specs.Logs.{begin_of, disk_of, next_of, calls_of, held_of};
-ghost use Rattle.stateful_db_log.specs.Logs.{standing_of, next_here, calls_here, held_here};
+ghost use Rattle.stateful_db_log.specs.Logs.{begin_of, standing_of, calls_here, held_here};
+ghost use Rattle.stateful_db_log.specs.Pruned.{Pruned, Unpruned};
 
 use crate::linked::Linked;
 use crate::log_medium::LogMedium;
@@ -30,26 +29,10 @@ impl<Op: Linked> OpenLog<Op> {
         requires idle { (standing_of self).out ≡ [] }
         requires within { count ≤ length (standing_of self).disk.older }
         requires kept { (standing_of self).disk.pruned + count ≤ (standing_of self).disk.durable }
-        ensures ok { IfOk result (λ o. standing_of o
-            ≡ record (standing_of self) { disk = cut (standing_of self).disk count }) }
-        ensures ok_next { IfOk result (λ o. next_here o ≡ next_here self) }
-        ensures ok_count { IfOk result (λ o. (calls_here self).faults ≤ (calls_here o).faults) }
-        ensures ok_called { IfOk result (λ o.
-            Called DbCall.Prune (calls_here self) (calls_here o)) }
-        ensures ok_first { IfOk result (λ o. (held_here self).first ≤ (held_here o).first) }
-        ensures ok_held { IfOk result (λ o.
-            held_here o ≡ from Op.linked (held_here self) (begin_of (standing_of o).disk)) }
-        ensures err { IfErr result (λ b. disk_of b.medium ≡ (standing_of self).disk) }
-        ensures err_next { IfErr result (λ b. next_of b.medium ≡ next_here self) }
-        ensures err_count { IfErr result (λ b. (calls_here self).faults ≤ (calls_of b.medium).faults) }
-        ensures err_called { IfErr result (λ b.
-            Called DbCall.Prune (calls_here self) (calls_of b.medium)) }
-        ensures err_held { IfErr result (λ b. held_of b.medium ≡ held_here self) }
-        ensures failed { IfErr result (λ b.
-            b.why ≡ Why.Failed → Rose (calls_here self).faults (calls_of b.medium).faults) }
+        ensures ok { IfOk result (Pruned Op.linked count self) }
+        ensures err { IfErr result (Unpruned self) }
         ensures listed { IsErrAnd result (λ b. b.why ≡ Why.Failed)
             ↔ IsListed (calls_here self) DbCall.Prune }
-        ensures memory { IfErr result (λ b. b.why ≢ Why.OutOfMemory) }
     {
         let OpenLog {
             opened,

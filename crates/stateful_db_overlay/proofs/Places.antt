@@ -5,7 +5,7 @@ use Rattle.std.specs.List.{list_any, position_or_len, position_from}
 use Rattle.std.proofs.lemmas.Bool.Decides.{nat_tests}
 use Rattle.std.proofs.lemmas.List.{take_all}
 use Rattle.std.proofs.lemmas.Iterator.Adapters.{position_from-zero}
-use Rattle.stateful_db_overlay.specs.Stack.{Stack, above, has_layer, cut_at}
+use Rattle.stateful_db_overlay.specs.Stack.{Stack, above, above_in, has_layer, cut_at}
 
 if_some : (b : Bool) (m k : ℕ) → cond b (Some m) None ≡ Some k → m ≡ k
 if_some true m k h = ap (λ o. unwrap_or o 0) h
@@ -40,6 +40,10 @@ module _ {C : Type 0} (n : ℕ) where
   pub above_none : (ls : List (ℕ × C)) → position here ls ≡ None → above n ls ≡ ls
   above_none ls none = above-take ls ∙ take_all _ _ (at_least _ _ (if_none _ _ none))
 
+  -- those of a look-up where the base hasn't the id
+  pub above_layers : (s : Stack C) (more : List (ℕ × C)) → (s.base == n) ≡ false → more ≡ above n s.layers → more ≡ above_in n s
+  above_layers s more off is = rw off is
+
   any-from : (i : ℕ) (ls : List (ℕ × C)) → list_any here ls ≡ is_some (position_from here i ls)
   any-from i [] = refl
   any-from i (l ∷ ls) =
@@ -48,9 +52,13 @@ module _ {C : Type 0} (n : ℕ) where
         | false ↦ any-from (i + 1) ls
       ]
 
-  -- some layer has the id exactly where a place was found
-  pub any_place : (ls : List (ℕ × C)) → list_any here ls ≡ is_some (position here ls)
+  -- some layer has it exactly where a place is found
+  any_place : (ls : List (ℕ × C)) → list_any here ls ≡ is_some (position here ls)
   any_place ls = any-from 0 ls ∙ ap is_some (sym (position_from-zero here ls))
+
+  -- some layer has the id exactly where a look-up finds it, if the base hasn't
+  pub has_place : (s : Stack C) (some : Bool) (o : Option ℕ) → (s.base == n) ≡ false → some ≡ is_some o → o ≡ position here s.layers → some ≡ has_layer s n
+  has_place s some o off is found = rw off (is ∙ ap is_some found ∙ sym (any_place s.layers))
 
   -- they are the first ones
   take-above : (ls : List (ℕ × C)) → take (length (above n ls)) ls ≡ above n ls
@@ -61,15 +69,16 @@ module _ {C : Type 0} (n : ℕ) where
         | false ↦ ap (λ xs. l ∷ xs) (take-above ls)
       ]
 
-  pub cut_is : (s : Stack C) (has : Bool) (ls : List (ℕ × C)) (k : ℕ) (more : List (ℕ × C)) → has ≡ has_layer s n → has ≡ true → more ≡ above n s.layers → k ≡ length more → ls ≡ take k s.layers → record { base = n; layers = ls } ≡ cut_at n s
+  take-above_in : (s : Stack C) → take (length (above_in n s)) s.layers ≡ above_in n s
+  take-above_in s =
+      elim (s.base == n) as (λ b. take (length (if b then s.layers else above n s.layers)) s.layers ≡ (if b then s.layers else above n s.layers)) [
+        | true ↦ take_all (length s.layers) s.layers (omega arith)
+        | false ↦ take-above s.layers
+      ]
+
+  pub cut_is : (s : Stack C) (has : Bool) (ls : List (ℕ × C)) (k : ℕ) (more : List (ℕ × C)) → has ≡ has_layer s n → has ≡ true → more ≡ above_in n s → k ≡ length more → ls ≡ take k s.layers → record { base = n; layers = ls } ≡ cut_at n s
   cut_is s has ls k more same is above_is count left =
-      rw (sym same ∙ is) (ap (λ xs. record { base = n; layers = xs }) (left ∙ ap (λ j. take j s.layers) (count ∙ ap length above_is) ∙ take-above s.layers))
+      rw (sym same ∙ is) (ap (λ xs. record { base = n; layers = xs }) (left ∙ ap (λ j. take j s.layers) (count ∙ ap length above_is) ∙ take-above_in s))
 
   pub cut_not : (s : Stack C) (has : Bool) → has ≡ has_layer s n → has ≡ false → s ≡ cut_at n s
   cut_not s has same is_not = rw (sym same ∙ is_not) refl
-
-  pub has_is : (s : Stack C) (some : Bool) (o : Option ℕ) → some ≡ is_some o → o ≡ position here s.layers → some ≡ true → some ≡ has_layer s n
-  has_is s some o is found yes_ = rw (any_place s.layers ∙ ap is_some (sym found) ∙ sym is ∙ yes_) yes_
-
-  pub has_not : (s : Stack C) (some : Bool) (o : Option ℕ) → some ≡ is_some o → o ≡ position here s.layers → some ≡ false → (s.base == n) ≡ has_layer s n
-  has_not s some o is found none = rw (any_place s.layers ∙ ap is_some (sym found) ∙ sym is ∙ none) refl

@@ -10,13 +10,17 @@ pub record Stack (C : Type 0) : Type 0 where
 module _ {C : Type 0} where
   -- the base or a layer has this id
   abbrev pub has_layer : Stack C → ℕ → Bool
-  has_layer s n = list_any (λ l. l.0 == n) s.layers || (s.base == n)
+  has_layer s n = (s.base == n) || list_any (λ l. l.0 == n) s.layers
 
   -- the layers above the first of this id, or all
   abbrev pub above : ℕ → List (ℕ × C) → List (ℕ × C)
   above n [] = []
   above n (l ∷ ls) = if l.0 == n then [] else l ∷ above n ls
 
+  -- the layers above the base or a layer of this id; the base is tested first
+  abbrev pub above_in : ℕ → Stack C → List (ℕ × C)
+  above_in n s = if s.base == n then s.layers else above n s.layers
+
   -- without the layers from this id down, which is then the base
   abbrev pub cut_at : ℕ → Stack C → Stack C
-  cut_at n s = if has_layer s n then record { base = n; layers = above n s.layers } else s
+  cut_at n s = if has_layer s n then record { base = n; layers = above_in n s } else s

@@ -1,6 +1,6 @@
 //! A sealed batch as a part of a chain.
 
-ghost use Rattle.std.specs.Prelude.{◌≡◌, IfOk};
+ghost use Rattle.std.specs.Prelude.{◌≡◌, IfErr, IfOk};
 
 use stateful_base::OutOfMemory;
 use std::alloc::Global;
@@ -57,5 +57,17 @@ impl<C> Layer<C> {
             id: self.id,
             changes,
         })
+    }
+
+    /// The changes themselves, where no other chain shares them, and else the layer back.
+    pub fn into_changes(self) -> Result<C, Layer<C>>
+        ensures ok { IfOk result (λ changes. changes ≡ self.1) }
+        ensures err { IfErr result (λ layer. layer ≡ self) }
+    {
+        let Layer { id, changes } = self;
+        match Arc::try_unwrap(changes) {
+            Ok(changes) => Ok(changes),
+            Err(changes) => Err(Layer { id, changes }),
+        }
     }
 }

@@ -2,7 +2,7 @@
 
 ghost use Rattle.std.specs.Prelude.{◌≡◌, ◌==◌, ◌∷◌, [], ◌++◌, ◌<◌, ◌^◌, ℕ, IfOk, OnOk, length};
 ghost use Rattle.std.specs.Prelude.{position};
-ghost use Rattle.stateful_db_overlay.specs.Stack.{Stack, above, cut_at, has_layer};
+ghost use Rattle.stateful_db_overlay.specs.Stack.{Stack, above_in, cut_at, has_layer};
 
 use crate::layer::Layer;
 use stateful_base::OutOfMemory;
@@ -78,18 +78,21 @@ impl<C> Layers<C> {
         self.layers.len()
     }
 
-    /// Whether the base or a layer has this id.
+    /// Whether the base or a layer has this id. The base is tested first.
     pub fn has(&self, id: u64) -> bool
         ensures { result ≡ has_layer self.now id }
     {
-        let inside = place_of(self.layers.as_slice(), id).is_some();
-        inside || self.base == id
+        self.base == id || place_of(self.layers.as_slice(), id).is_some()
     }
 
-    /// The layers above the one of this id, or all.
+    /// The layers above the base or the layer of this id, or all where neither has it. The base is
+    /// tested first.
     pub fn above(&self, id: u64) -> &[Layer<C>]
-        ensures { result.now ≡ above id self.now.layers }
+        ensures { result.now ≡ above_in id self.now }
     {
+        if self.base == id {
+            return self.layers.as_slice();
+        }
         match place_of(self.layers.as_slice(), id) {
             Some(place) => &self.layers[..place],
             None => self.layers.as_slice(),

@@ -126,13 +126,13 @@ impl<V: Drop> Faulty for KeylessDb<V> {
 impl<V: Field> ManagedDb for KeylessDb<V> {
     ghost use Rattle.std.specs.Prelude.{◌≡◌, ◌≢◌, ℕ, ◌+◌, ◌-◌, ◌^◌, ◌≤◌, ◌<◌, List, ◌∷◌, ◌++◌, []};
     ghost use Rattle.std.specs.Prelude.{IfOk, IfErr, IsErrAnd, Option, ◌↔◌, ◌⊎◌, Contains, length};
-    ghost use Rattle.std.specs.Prelude.{refl};
+    ghost use Rattle.std.specs.Prelude.{Some, refl};
     ghost use Rattle.stateful_base.specs.Causes.{Rose};
     ghost use Rattle.stateful_db.specs.Disk.{IsEither, IsCrash, place, applied, flushed, point};
     ghost use Rattle.stateful_db.specs.Reopening.{Reopens, FailsToReopen, HasNone, KeepsDurable};
     ghost use Rattle.stateful_db.specs.Reopening.{pruned_to};
     ghost use Rattle.stateful_db.specs.Tokens.{without};
-    ghost use Rattle.stateful_db_medium.specs.Called.{IsListed, Called};
+    ghost use Rattle.stateful_db.specs.Calls.{IsListed, Called};
     ghost use Rattle.stateful_db_log.specs.Held.{until, further, from};
     ghost use Rattle.stateful_db_log.specs.Linking.{log_link};
     ghost use Rattle.stateful_db_log.specs.Logs.{begin_of};
@@ -171,6 +171,10 @@ impl<V: Field> ManagedDb for KeylessDb<V> {
     ghost disk = { disk_of };
 
     ghost next_of = { next_of };
+
+    ghost calls = { λ d. Some (calls_here d) };
+
+    ghost calls_of = { λ m. Some (calls_of m) };
 
     /// Takes no memory. `Database` exactly where the call is listed as a failing one or no kept
     /// checkpoint has the expected end.
@@ -284,7 +288,8 @@ impl<V: Field> ManagedDb for KeylessDb<V> {
 
     /// `Failed` exactly where the call is listed as a failing one. A failed apply leaves the
     /// checkpoints. A state that isn't greater in size than the newest one, which is of no batch on
-    /// it, is refused as if memory were wanting.
+    /// it, is refused as if memory were wanting. Operations are copied only where other batches
+    /// share them.
     fn apply(self, batch: KeylessMerkleized<V>) -> Result<KeylessDb<V>, Broken<KeylessMedium<V>>>
         ensures ok { IfOk result (λ db. (p : ℕ × State V) (c : List (ℕ × State V))
             → SealShows batch (p ∷ point (standing_of self) ∷ c)
@@ -451,6 +456,10 @@ impl<V: Field> ManagedDb for KeylessDb<V> {
     ghost sound_here = { sound_database };
 
     ghost numbered = { numbered };
+
+    ghost counts = { λ d. refl };
+
+    ghost counts_of = { λ m. refl };
 
     ghost same_point = { λ d. refl };
 

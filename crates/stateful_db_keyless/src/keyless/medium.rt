@@ -25,8 +25,7 @@ impl<V: Drop> Faulty for KeylessMedium<V> {
 
 impl<V: Field> KeylessMedium<V> {
     ghost use Rattle.std.specs.Prelude.{◌≡◌, ◌∷◌, [], None};
-    ghost use Rattle.stateful_db.specs.declared.database.DbCall.{DbCall};
-    ghost use Rattle.stateful_db_medium.specs.Called.{number_of};
+    ghost use Rattle.stateful_db.specs.Calls.{uncalled};
     ghost use Rattle.stateful_db_log.specs.Chained.{unlinked};
     ghost use Rattle.stateful_db_compact.specs.declared.op.KeylessOp.TheVariants.{Commit};
     ghost use Rattle.stateful_db_keyless.specs.Keyless.{initial};
@@ -38,9 +37,7 @@ impl<V: Field> KeylessMedium<V> {
         ensures disk { disk_of result
             ≡ record { older = []; newest = initial V.fields.spelling; pruned = 0; durable = 0 } }
         ensures next { next_of result ≡ 1 }
-        ensures failing { (calls_of result).failing ≡ failing }
-        ensures numbers { (call : DbCall) → number_of (calls_of result).numbers call ≡ 0 }
-        ensures faults { (calls_of result).faults ≡ 0 }
+        ensures calls { calls_of result ≡ uncalled failing.items }
         ensures held { held_of result
             ≡ record { first = 0; before = unlinked; ops = Commit None 0 ∷ [] } }
     {

@@ -19,7 +19,7 @@ pub invariant_of-result : goal.invariant_of-result
 invariant_of-result g c =
     let o = c.args.log in
     let d = (kept.standing_of o.opened).disk in
-    let more = c.args.more.now in
+    let more = c.args.more.items in
     let k : Checkpoint (Unit {0}) = record { target = c.args.target; kept = tt } in
     let holds : Holds o.first o.ops d = record { sound = sound_opened o.opened; begins = o.begins; ends = o.ends } in
     let standing = c.in-Ok.ensures.ok in
@@ -40,7 +40,7 @@ pub returns-in-Ok-clause-ok : goal.returns-in-Ok-clause-ok
 returns-in-Ok-clause-ok g c =
     let o = c.args.log in
     let d = (kept.standing_of o.opened).disk in
-    let more = c.args.more.now in
+    let more = c.args.more.items in
     let k : Checkpoint (Unit {0}) = record { target = c.args.target; kept = tt } in
     let holds : Holds o.first o.ops d = record { sound = sound_opened o.opened; begins = o.begins; ends = o.ends } in
     let standing = c.in-Ok.ensures.ok in
@@ -69,7 +69,7 @@ invariant_of-close-in-Err g c =
     let standing = c.in-Err.ensures.err in
     let newest = ap (λ t. t.end.0) c.target-newest.ensures in
     let added = from_ok c.append.result (sym c.is_err.ensures.value ∙ c.if-is_err.false) c.append.ensures.ok in
-    let back : c.truncate.new.self ≡ o.ops = c.truncate.ensures ∙ ap (λ xs. take (c.target-newest.result.end.0 - o.first) xs) added ∙ take_at o.ops c.args.more.now (c.target-newest.result.end.0 - o.first) (omega (arith, newest, o.ends)) in
+    let back : c.truncate.new.self ≡ o.ops = c.truncate.ensures ∙ ap (λ xs. take (c.target-newest.result.end.0 - o.first) xs) added ∙ take_at o.ops c.args.more.items (c.target-newest.result.end.0 - o.first) (omega (arith, newest, o.ends)) in
     record {
       begins = λ i x at. o.begins i x (ap (λ s. slice_get (all s.disk) i) (sym standing) ∙ at);
       ends = omega (arith, ap (λ s. s.disk.newest.target.end.0) standing, ap length back, o.ends);
@@ -81,7 +81,7 @@ returns-in-Err-clause-err g c =
     let standing = c.in-Err.ensures.err in
     let newest = ap (λ t. t.end.0) c.target-newest.ensures in
     let added = from_ok c.append.result (sym c.is_err.ensures.value ∙ c.if-is_err.false) c.append.ensures.ok in
-    let back : c.truncate.new.self ≡ o.ops = c.truncate.ensures ∙ ap (λ xs. take (c.target-newest.result.end.0 - o.first) xs) added ∙ take_at o.ops c.args.more.now (c.target-newest.result.end.0 - o.first) (omega (arith, newest, o.ends)) in
+    let back : c.truncate.new.self ≡ o.ops = c.truncate.ensures ∙ ap (λ xs. take (c.target-newest.result.end.0 - o.first) xs) added ∙ take_at o.ops c.args.more.items (c.target-newest.result.end.0 - o.first) (omega (arith, newest, o.ends)) in
     c.close-in-Err.ensures.disk
     ∙ ap (λ xs. mapped (state_in o.first xs) (kept.standing_of c.push.new.self).disk) back
     ∙ ap (λ s. mapped (state_in o.first o.ops) s.disk) standing
@@ -97,5 +97,5 @@ returns-in-Err-clause-err_held g c =
     let o = c.args.log in
     let newest = ap (λ t. t.end.0) c.target-newest.ensures in
     let added = from_ok c.append.result (sym c.is_err.ensures.value ∙ c.if-is_err.false) c.append.ensures.ok in
-    let back : c.truncate.new.self ≡ o.ops = c.truncate.ensures ∙ ap (λ xs. take (c.target-newest.result.end.0 - o.first) xs) added ∙ take_at o.ops c.args.more.now (c.target-newest.result.end.0 - o.first) (omega (arith, newest, o.ends)) in
+    let back : c.truncate.new.self ≡ o.ops = c.truncate.ensures ∙ ap (λ xs. take (c.target-newest.result.end.0 - o.first) xs) added ∙ take_at o.ops c.args.more.items (c.target-newest.result.end.0 - o.first) (omega (arith, newest, o.ends)) in
     c.close-in-Err.ensures.held ∙ ap (λ xs. record { first = o.first; before = o.before; ops = xs }) back

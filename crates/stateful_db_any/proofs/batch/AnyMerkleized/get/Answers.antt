@@ -1,6 +1,6 @@
 use Rattle.std.proofs.Common.{◌≡◌, ◌∷◌, ◌++◌, ℕ, List, None, sym, ap, subst, ◌∙◌}
 use Rattle.std.specs.Option.{option_map}
-use Rattle.stateful_db_overlay.specs.Stack.{above}
+use Rattle.stateful_db_overlay.specs.Stack.{above_in}
 use Rattle.stateful_db_overlay.specs.Chains.{Leads}
 use Rattle.stateful_db_any.specs.Live.{last_write}
 use Rattle.stateful_db_any.specs.Any.{State, value_at}
@@ -34,7 +34,7 @@ returns-in-Ok-value_over-clause-value g c = λ p chain shown point.
     let n = (standing_of db).id in
     let s = (standing_of db).disk.newest in
     let Shows : Seal K V → Type 0 = λ x. SealShows cmp spell_key spell_value x (p ∷ chain) in
-    let layers : c.above.result.now ≡ above n old.below.layers = c.above.ensures ∙ ap (λ i. above i old.below.layers) c.id-at.ensures in
+    let layers : c.above.result.now ≡ above_in n old.below = c.above.ensures ∙ ap (λ i. above_in i old.below) c.id-at.ensures in
     let own : c.behind-self.inside.written ≡ old.layer.1.written = ap (λ (x : Change K V). x.written) (c.behind-self.view_is ∙ c.changes.ensures) in
     let Indexed : Written K V → Type 0 = λ w. IsIndexed cmp w in
     seal_read cmp spell_key spell_value g.met.K.Ord.total m p chain n s key c.in-Ok-value_over.value (subst Shows (sym c.self.view_is) shown) point

@@ -2,7 +2,7 @@ use Rattle.std.proofs.Common.{◌≡◌, ◌∷◌, ℕ, List, Some, None, sym, 
 use Rattle.std.specs.Map.{lookup}
 use Rattle.std.specs.Option.{option_copied}
 use Rattle.std.specs.BTreeMap.{is_at}
-use Rattle.stateful_db_overlay.specs.Stack.{above}
+use Rattle.stateful_db_overlay.specs.Stack.{above_in}
 use Rattle.stateful_db_overlay.specs.Chains.{Leads}
 use Rattle.stateful_db_any.specs.Any.{State, value_at}
 use Rattle.stateful_db_any.specs.Through.{Change}
@@ -47,7 +47,7 @@ returns-in-Ok-value_in-clause-value g c = λ p chain shown point.
     let n = (standing_of db).id in
     let s = (standing_of db).disk.newest in
     let Shows : Draft K V → Type 0 = λ d. DraftShows cmp spell_key spell_value d (p ∷ chain) in
-    let layers : c.above.result.now ≡ above n old.below.layers = c.above.ensures ∙ ap (λ i. above i old.below.layers) c.id-at.ensures in
+    let layers : c.above.result.now ≡ above_in n old.below = c.above.ensures ∙ ap (λ i. above_in i old.below) c.id-at.ensures in
     let none : lookup (is_at (cmp c.args.key.now)) old.writes.entries ≡ None = sym c.get.ensures.value ∙ ap option_copied c.in-None-2.is in
     draft_read cmp spell_key spell_value g.met.K.Ord.total u p chain n s c.args.key.now c.in-Ok-value_in.value (subst Shows (sym c.self.view_is) shown) point
     (λ e. c.if-self-at.false (e ∙ sym c.id-at.ensures))

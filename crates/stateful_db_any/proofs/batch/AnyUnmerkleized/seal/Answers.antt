@@ -1,7 +1,7 @@
 use Rattle.std.proofs.Common.{◌≡◌, ◌+◌, ◌++◌, ◌∷◌, [], ℕ, List, length, is_some, sym, ap, subst, ◌∙◌, arith, length-append}
 use Rattle.std.specs.Map.{lookup}
 use Rattle.std.specs.BTreeMap.{is_at}
-use Rattle.stateful_db_overlay.specs.Stack.{above}
+use Rattle.stateful_db_overlay.specs.Stack.{above_in}
 use Rattle.stateful_db_overlay.specs.Chains.{Leads}
 use Rattle.stateful_db_log.specs.Chained.{chained}
 use Rattle.stateful_db_log.specs.Linking.{behind-log}
@@ -54,7 +54,7 @@ returns-clause-ok g c = λ chain shown point.
     let w = c.in_ok-written.written in
     let is = c.in_ok-layer.ensures in
     let same : l.1.written ≡ w = ap (λ (x : ℕ × Change K V). x.1.written) is in
-    let layers : c.above-layers.result.now ≡ above n old.below.layers = c.above-layers.ensures ∙ ap (λ i. above i old.below.layers) c.id.ensures in
+    let layers : c.above-layers.result.now ≡ above_in n old.below = c.above-layers.ensures ∙ ap (λ i. above_in i old.below) c.id.ensures in
     let Indexed : Written K V → Type 0 = λ x. IsIndexed cmp x in
     let indexed = subst Indexed (sym same) c.ops.ensures.indexed in
     let with : List (ℕ × Change K V) → List (AnyOp K V) = λ ls. ops_for (λ key. is_some (place_through cmp ls key (lookup (is_at (cmp key)) db.index.entries))) old.writes.entries ++ Commit old.metadata ∷ [] in

@@ -3,7 +3,6 @@ use Rattle.std.specs.Option.{option_map}
 use Rattle.stateful_db.specs.Disk.{Standing}
 use Rattle.stateful_db_log.specs.Held.{further}
 use Rattle.stateful_db_any.specs.Any.{State, live_at}
-use Rattle.stateful_db_any.specs.Through.{Change}
 use Rattle.stateful_db_any.specs.Shown.{Seal, ops_in}
 use Rattle.stateful_db_any.specs.Stored.{held_here}
 use Rattle.stateful_db_any.proofs.database.AnyDbManagedDb.apply.Goals as goal
@@ -20,6 +19,5 @@ returns-in-Ok-longer-clause-ok_held g c =
     let V = g.row.V.Denot in
     let held = held_here c.args.self in
     c.in-Ok-longer.ensures.ok_held
-    ∙ ap (λ h. further h c.changes.result.now.written.ops) c.in-Ok.ensures.ok_held
-    ∙ ap (λ (ch : Change K V). further held ch.written.ops) c.changes.ensures
+    ∙ ap (λ h. further h c.batch.inside.layer.1.written.ops) c.in-Ok.ensures.ok_held
     ∙ ap (λ (m : Seal K V). further held (ops_in m)) c.batch.view_is

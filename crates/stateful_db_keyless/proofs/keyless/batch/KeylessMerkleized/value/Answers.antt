@@ -1,5 +1,5 @@
 use Rattle.std.proofs.Common.{◌≡◌, ◌≤◌, ℕ, List, ap, sym, subst, ◌∙◌}
-use Rattle.stateful_db_overlay.specs.Stack.{above}
+use Rattle.stateful_db_overlay.specs.Stack.{above_in}
 use Rattle.stateful_db_overlay.specs.Chains.{Leads}
 use Rattle.stateful_db_compact.specs.declared.op.KeylessOp.{KeylessOp}
 use Rattle.stateful_db_keyless.specs.declared.keyless.batch.KeylessChanges.{KeylessChanges}
@@ -25,7 +25,7 @@ returns g c = λ p chain shown point low.
     let m = c.args.self.now in
     let n = (standing_of c.args.db.now).id in
     let s = (standing_of c.args.db.now).disk.newest in
-    let layers : c.above-layers.result.now ≡ above n m.below.layers = c.above-layers.ensures ∙ ap (λ i. above i m.below.layers) c.id-at.ensures in
+    let layers : c.above-layers.result.now ≡ above_in n m.below = c.above-layers.ensures ∙ ap (λ i. above_in i m.below) c.id-at.ensures in
     seal_read m p chain n s c.args.location c.in_ok-value-2.value shown point (λ e. c.if-id-at.false (c.id.ensures ∙ e ∙ sym c.id-at.ensures)) low
     (λ t leads from first.
     let Led : List (ℕ × KeylessChanges V) → Type 0 = λ ls. Leads After ls s t in

@@ -1,5 +1,5 @@
 use Rattle.std.proofs.Common.{◌≡◌, ℕ, List, ap, sym, subst, ◌∙◌}
-use Rattle.stateful_db_overlay.specs.Stack.{above}
+use Rattle.stateful_db_overlay.specs.Stack.{above_in}
 use Rattle.stateful_db_overlay.specs.Chains.{Leads}
 use Rattle.stateful_db_compact.specs.declared.op.KeylessOp.{KeylessOp}
 use Rattle.stateful_db_keyless.specs.declared.keyless.batch.KeylessChanges.{KeylessChanges}
@@ -15,7 +15,7 @@ returns g c = λ p q chain ch shown holds point low.
     let u = c.args.self.now in
     let n = (standing_of c.args.db.now).id in
     let s = (standing_of c.args.db.now).disk.newest in
-    let layers : c.above.result.now ≡ above n u.below.layers = c.above.ensures ∙ ap (λ i. above i u.below.layers) c.id-at.ensures in
+    let layers : c.above.result.now ≡ above_in n u.below = c.above.ensures ∙ ap (λ i. above_in i u.below) c.id-at.ensures in
     draft_read g.V.Field.fields.spelling u p q chain ch n s c.args.location c.in_ok-value.value shown holds point (λ e. c.if-self-at.false (e ∙ sym c.id-at.ensures)) low
     (λ t leads from first.
     let Led : List (ℕ × KeylessChanges V) → Type 0 = λ ls. Leads After ls s t in
