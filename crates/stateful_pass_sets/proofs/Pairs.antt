@@ -14,6 +14,16 @@ pub each_later : {x y : ℕ} {f g : ℕ → ℕ}
 each_later first others zero = first
 each_later first others (suc n) = others n
 
+-- what is so of each is so of all
+pub each_led : {First : Type 0} {Behind : ℕ → Type 0} (n : ℕ)
+    → First
+    → ((i : ℕ) → i < n → Behind i)
+    → (i : ℕ)
+    → i < suc n
+    → by_number First Behind i
+each_led n first behind zero within = first
+each_led n first behind (suc i) within = behind i (omega arith)
+
 pub same_count : (f : ℕ → ℕ) (i : ℕ) → f i ≤ f i
 same_count f i = omega arith
 

@@ -2,4 +2,3 @@ pub mod Seeking
 pub mod Steps
 pub mod Counts
 pub mod Made
-pub mod Resting

@@ -1,7 +1,8 @@
 //! Syncs of one database.
 
 ghost use Rattle.std.specs.Prelude.{◌≡◌, IfOk, IfErr};
-ghost use Rattle.stateful_pass_sets.specs.Resting.{IsClosed};
+ghost use Rattle.stateful_db.specs.Member.{IsClosed};
+ghost use Rattle.stateful_pass_sets.specs.Steps.{numbered};
 
 use crate::sync_set::StateSyncSet;
 use stateful_base::Target;
@@ -10,12 +11,11 @@ use stateful_db_source::SyncSource;
 use stateful_passes::{StateSyncDb, SyncEngineConfig, SyncFault, SyncSetFault};
 
 impl<D: StateSyncDb<R>, R: SyncSource> StateSyncSet<R> for Held<D> {
-    ghost use Rattle.std.specs.Prelude.{◌≡◌, ◌⊎◌};
+    ghost use Rattle.std.specs.Prelude.{◌≡◌};
     ghost use Rattle.stateful_db.specs.declared.held.Held.TheVariants.{Closed};
-    ghost use Rattle.stateful_passes.specs.Asks.{Asks, MediumFails};
+    ghost use Rattle.stateful_db_pass.specs.Fetched.{Leads};
+    ghost use Rattle.stateful_passes.specs.Asks.{Asks, MediumFails, SyncCall};
     ghost use Rattle.stateful_pass_sets.specs.Seeking.{seeking};
-
-    ghost IsClosed = { λ s. IsClosed (⟦<Held<D> as DatabaseSet>⟧.members s) };
 
     ghost at_rest = { λ p. Closed (D.medium_of p) };
 
@@ -27,10 +27,13 @@ impl<D: StateSyncDb<R>, R: SyncSource> StateSyncSet<R> for Held<D> {
 
     ghost made = { λ p. D.made (D.fetched p) };
 
+    ghost leads = { λ p i. Leads D.linked (D.fetched p) };
+
     ghost asks = { λ i p source result q next.
-        MediumFails (D.Medium.count (D.medium_of p)) (D.Medium.count (D.medium_of q))
-        (D.fetched p) source result (D.fetched q) next
-        ⊎ Asks R.serves D.linked D.alone (D.fetched p) source result (D.fetched q) next };
+        SyncCall (D.calls_of (D.medium_of p)) (D.calls_of (D.medium_of q))
+        (MediumFails (D.Medium.count (D.medium_of p)) (D.Medium.count (D.medium_of q))
+        (D.fetched p) source result (D.fetched q) next)
+        (Asks R.serves D.linked D.alone (D.fetched p) source result (D.fetched q) next) };
 
     ghost sourced = { λ source i. R.count source };
 
@@ -69,11 +72,7 @@ impl<D: StateSyncDb<R>, R: SyncSource> StateSyncSet<R> for Held<D> {
         _index: usize,
         sources: &mut R,
     ) -> Result<Option<Target>, SyncSetFault> {
-        match D::progress(passes, sources) {
-            Ok(Some(target)) => Ok(Some(target.target())),
-            Ok(None) => Ok(None),
-            Err(why) => Err(SyncSetFault { index: 0, why }),
-        }
+        numbered(D::progress(passes, sources))
     }
 
     fn finish(passes: D::Pass) -> Result<Held<D>, (Held<D>, SyncSetFault)> {
@@ -97,5 +96,18 @@ pub(crate) fn medium_of<D: ManagedDb>(held: Held<D>) -> Result<D::Medium, Held<D
     match held {
         Held::Closed(medium) => Ok(medium),
         other => Err(other),
+    }
+}
+
+/// What a set of one database answers where the database answers this.
+fn numbered<T: Copy + Targeted>(
+    answer: Result<Option<T>, SyncFault>,
+) -> Result<Option<Target>, SyncSetFault>
+    ensures { result ≡ numbered T.targeted answer }
+{
+    match answer {
+        Ok(Some(target)) => Ok(Some(target.target())),
+        Ok(None) => Ok(None),
+        Err(why) => Err(SyncSetFault { index: 0, why }),
     }
 }

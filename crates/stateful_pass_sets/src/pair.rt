@@ -22,11 +22,9 @@ where
     ghost use Rattle.stateful_db.specs.declared.held.Held.TheVariants.{Closed};
     ghost use Rattle.stateful_db.specs.Member.{closed};
     ghost use Rattle.stateful_db.specs.Pair.{by_number};
+    ghost use Rattle.stateful_db_pass.specs.Fetched.{Leads};
     ghost use Rattle.stateful_passes.specs.Synced.{only};
-    ghost use Rattle.stateful_pass_sets.specs.Resting.{IsClosed};
     ghost use Rattle.stateful_pass_sets.specs.Seeking.{seeking};
-
-    ghost IsClosed = { λ s. IsClosed (⟦<Held<A> as DatabaseSet>⟧.members s.0) × S.IsClosed s.1 };
 
     ghost at_rest = { λ p. (Closed (A.medium_of p.0), S.at_rest p.1) };
 
@@ -37,6 +35,8 @@ where
     ghost IsValid = { λ targets. by_number (A.IsValid targets.0) (S.IsValid targets.1) };
 
     ghost made = { λ p. (A.made (A.fetched p.0), S.made p.1) };
+
+    ghost leads = { λ p. by_number (Leads A.linked (A.fetched p.0)) (S.leads p.1) };
 
     ghost asks = { λ i p sources result q next. by_number
         (⟦<Held<A> as StateSyncSet<RA>>⟧.asks 0 p.0 sources.0 result q.0 next.0

@@ -1,3 +1,4 @@
 pub mod Lessening
 pub mod Boundaries
 pub mod Alone
+pub mod Calling

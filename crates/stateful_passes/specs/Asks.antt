@@ -1,16 +1,19 @@
--- What a call that asks the source makes of a sync.
-use Rattle.std.specs.Prelude.{◌≡◌, ℕ, ◌+◌, ◌<◌, ◌≤◌, Bool, Option, Some, None, Result, Ok, Err}
-use Rattle.std.specs.Prelude.{IfOk}
+-- What a call that asks the source makes of a sync and of its medium.
+use Rattle.std.specs.Prelude.{◌≡◌, ℕ, ◌+◌, ◌<◌, ◌≤◌, ◌⊎◌, Bool, true, Option, Some, None, Result}
+use Rattle.std.specs.Prelude.{Ok, Err, IfOk, IfSome, IsErrOf}
 use Rattle.stateful_base.specs.Causes.{Rose}
 use Rattle.stateful_base.specs.declared.digest.Digest.{Digest}
 use Rattle.stateful_base.specs.declared.target.Target.{Target}
 use Rattle.stateful_types.specs.declared.request.Request.{Request}
 use Rattle.stateful_types.specs.declared.response.Response.{Response}
+use Rattle.stateful_db.specs.declared.database.DbCall.TheVariants.{Sync}
+use Rattle.stateful_db.specs.Calls.{Calls, Tells, IsListed}
 use Rattle.stateful_db.specs.Disk.{Disk}
 use Rattle.stateful_db_source.specs.declared.source.ServeFault.{ServeFault}
 use Rattle.stateful_db_pass.specs.declared.fault.SyncFault.{SyncFault}
 use Rattle.stateful_db_pass.specs.declared.fault.SyncFault.TheVariants as sync
 use Rattle.stateful_db_pass.specs.Fetched.{Fetched, Fits, Leads, request, anew, with_response}
+use Rattle.stateful_db_pass.specs.Fetched.{is_reached}
 use Rattle.stateful_db_pass.specs.Counted.{Needs}
 use Rattle.stateful_db_pass.specs.Progress.{Progresses}
 
@@ -46,12 +49,27 @@ pub record Asks {Op S : Type 0}
       → IfOk result (λ reached. Lessens linked (with_response p response) n reached q)
 
 -- A call on the medium failed, and the source wasn't asked. What is fetched stays.
-pub record MediumFails {Op S T : Type 0} (before after : ℕ) (p : Fetched Op) (asked : S)
-    (result : Result (Option T) SyncFault) (q : Fetched Op) (next : S) : Type 0 where
+pub record MediumFails {Op S : Type 0} (before after : ℕ) (p : Fetched Op) (asked : S)
+    (result : Result (Option Target) SyncFault) (q : Fetched Op) (next : S) : Type 0 where
   pub rose : Rose before after
   pub fails : result ≡ Err sync.Failed
   pub fetched : q ≡ p
   pub source : next ≡ asked
+
+-- One call of the kind `Sync` was made on a medium. Either it failed, or the source was asked.
+-- Where calls are listed, it failed exactly where it is.
+pub record SyncCall (before after : Option Calls) (Failed Asked : Type 0) : Type 0 where
+  pub told : Tells Sync before after
+  pub either : Failed ⊎ Asked
+  pub listed : IfSome before (λ c. IsListed c Sync → Failed)
+  pub unlisted : IfSome before (λ c. (IsListed c Sync → ⊥) → Asked)
+
+-- A target is answered: it is the sync's, and all of its range is there and leads to its root.
+pub record Reaches {Op T : Type 0} (linked : ℕ → Digest → Op → Digest) (targeted : T → Target)
+    (p q : Fetched Op) (t : T) : Type 0 where
+  pub target : (u : T) → p.target ≡ targeted u → t ≡ u
+  pub reached : is_reached q ≡ true
+  pub leads : Leads linked q
 
 -- both lead to the same target, by the same kind of requests
 pub record IsKind {Op : Type 0} (p q : Fetched Op) : Type 0 where
@@ -64,3 +82,17 @@ pub record Stays {M S : Type 0} (disk_of : M → Disk S) (next_of : M → ℕ)
   pub disk : disk_of n ≡ disk_of m
   pub next : next_of n ≡ next_of m
   pub count : count_of m ≤ count_of n
+
+-- the target stays, and what is on the medium
+pub record Keeps {Op M S : Type 0} (disk_of : M → Disk S) (next_of : M → ℕ) (count_of : M → ℕ)
+    (p q : Fetched Op) (m n : M) : Type 0 where
+  pub kind : IsKind p q
+  pub medium : Stays disk_of next_of count_of m n
+
+-- The source's count doesn't fall. Where a call is a fault, that count rose or the medium's; and no
+-- call answers that the target isn't valid.
+pub record HasCauses {T : Type 0} (source source_new count count_new : ℕ)
+    (result : Result T SyncFault) : Type 0 where
+  pub later : source ≤ source_new
+  pub failed : IsErrOf result sync.Failed → Rose source source_new ⊎ Rose count count_new
+  pub valid : IsErrOf result sync.InvalidTarget → ⊥

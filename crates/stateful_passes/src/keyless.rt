@@ -31,22 +31,16 @@ impl<V: Field> Served for KeylessDb<V> {
 }
 
 impl<V: Field, R: SyncSource<Op = KeylessOp<V>>> StateSyncDb<R> for KeylessDb<V> {
-    ghost use Rattle.std.specs.Prelude.{◌≡◌, ◌≤◌, ◌⊎◌, true, IfOk, IfErr, IfSome};
-    ghost use Rattle.std.specs.Prelude.{IsErrOf, OnOk, OnErr, refl, false};
-    ghost use Rattle.stateful_base.specs.Causes.{Rose};
-    ghost use Rattle.stateful_base.specs.declared.target.Target.{Target};
-    ghost use Rattle.stateful_db.specs.declared.database.DbCall.{DbCall};
-    ghost use Rattle.stateful_db_medium.specs.Called.{IsListed, Called};
+    ghost use Rattle.std.specs.Prelude.{◌≡◌, true, Some, IfOk, IfErr, OnErr, refl};
     ghost use Rattle.stateful_db_log.specs.Linking.{log_link};
     ghost use Rattle.stateful_db_pass.specs.declared.fault.SyncFault.{SyncFault};
     ghost use Rattle.stateful_db_pass.specs.declared.pass.Fetches.TheVariants.{Range};
     ghost use Rattle.stateful_db_pass.specs.Fetched.{is_reached, Leads};
     ghost use Rattle.stateful_db_compact.specs.Ops.{op_bytes, is_commit};
     ghost use Rattle.stateful_db_keyless.specs.Keyless.{target_of};
-    ghost use Rattle.stateful_db_keyless.specs.KeylessStored.{disk_of, next_of, calls_of};
+    ghost use Rattle.stateful_db_keyless.specs.KeylessStored.{next_of, calls_of};
     ghost use Rattle.stateful_db_keyless.specs.KeylessStored.{standing_of, next_here, calls_here};
-    ghost use Rattle.stateful_passes.specs.Asks.{Asks, IsKind, told, Stays, MediumFails};
-    ghost use Rattle.stateful_passes.specs.Synced.{synced};
+    ghost use Rattle.stateful_passes.specs.Synced.{Makes};
     ghost use Rattle.stateful_passes.specs.LogMade.{made};
 
     ghost linked = { log_link (op_bytes V.fields.spelling) };
@@ -81,35 +75,7 @@ impl<V: Field, R: SyncSource<Op = KeylessOp<V>>> StateSyncDb<R> for KeylessDb<V>
         pass.pass.tip(target)
     }
 
-    /// The medium fails exactly where the call is listed as a failing one.
-    fn progress(pass: &mut KeylessPass<V>, source: &mut R) -> Result<Option<Target>, SyncFault>
-        requires { is_reached pass.old.pass ≡ false }
-        ensures asks { MediumFails (calls_of pass.old.medium).faults (calls_of pass.new.medium).faults
-            pass.old.pass source.old result pass.new.pass source.new
-            ⊎ Asks R.serves (log_link (op_bytes V.fields.spelling)) is_commit pass.old.pass source.old
-            (told pass.old.pass.target result) pass.new.pass source.new }
-        ensures target { (target : Target)
-            → pass.old.pass.target ≡ target
-            → IfOk result (λ reached. IfSome reached (λ t. t ≡ target)) }
-        ensures reached { IfOk result (λ reached. IfSome reached (λ _.
-            (is_reached pass.new.pass ≡ true)
-            × Leads (log_link (op_bytes V.fields.spelling)) pass.new.pass)) }
-        ensures kind { IsKind pass.old.pass pass.new.pass }
-        ensures medium { Stays disk_of next_of (λ m. (calls_of m).faults) pass.old.medium
-            pass.new.medium }
-        ensures later { R.count source.old ≤ R.count source.new }
-        ensures failed { IsErrOf result SyncFault.Failed
-            → Rose (R.count source.old) (R.count source.new)
-            ⊎ Rose (calls_of pass.old.medium).faults (calls_of pass.new.medium).faults }
-        ensures valid { IsErrOf result SyncFault.InvalidTarget → ⊥ }
-        ensures called { Called DbCall.Sync (calls_of pass.old.medium) (calls_of pass.new.medium) }
-        ensures listed { IsListed (calls_of pass.old.medium) DbCall.Sync
-            → MediumFails (calls_of pass.old.medium).faults (calls_of pass.new.medium).faults
-            pass.old.pass source.old result pass.new.pass source.new }
-        ensures unlisted { (IsListed (calls_of pass.old.medium) DbCall.Sync → ⊥)
-            → Asks R.serves (log_link (op_bytes V.fields.spelling)) is_commit pass.old.pass source.old
-            (told pass.old.pass.target result) pass.new.pass source.new }
-    {
+    fn progress(pass: &mut KeylessPass<V>, source: &mut R) -> Result<Option<Target>, SyncFault> {
         if pass.medium.medium.fails(DbCall::Sync) {
             return Err(SyncFault::Failed);
         }
@@ -119,14 +85,13 @@ impl<V: Field, R: SyncSource<Op = KeylessOp<V>>> StateSyncDb<R> for KeylessDb<V>
     /// Takes no memory, and is never refused.
     fn finish(pass: KeylessPass<V>) -> Result<KeylessDb<V>, (KeylessMedium<V>, SyncFault)>
         requires { is_reached pass.pass ≡ true }
-        ensures ok { IfOk result (λ db. standing_of db ≡ synced (made pass.pass)) }
-        ensures target { OnOk result (target_of (made pass.pass) ≡ pass.pass.target) }
+        ensures ok { IfOk result (λ db. let m = pass.medium in let s = made pass.pass in
+            Makes s (target_of s) pass.pass.target (standing_of db) (next_of m) (next_here db)
+            (calls_of m).faults (calls_here db).faults (Some (calls_of m))
+            (Some (calls_here db))) }
         ensures leads { Leads (log_link (op_bytes V.fields.spelling)) pass.pass }
-        ensures next { IfOk result (λ db. next_here db ≡ next_of pass.medium) }
-        ensures count { IfOk result (λ db. (calls_here db).faults ≡ (calls_of pass.medium).faults) }
         ensures err { IfErr result (λ e.
             (e.0 ≡ pass.medium) × (e.1 ≡ SyncFault.OutOfMemory)) }
-        ensures calls { IfOk result (λ db. calls_here db ≡ calls_of pass.medium) }
         ensures refused { OnErr result ⊥ }
     {
         prove!(pass.pass.is_reached());

@@ -27,21 +27,15 @@ impl Served for Plain {
 }
 
 impl<R: SyncSource<Op = PlainOp>> StateSyncDb<R> for Plain {
-    ghost use Rattle.std.specs.Prelude.{◌≡◌, ◌≤◌, ◌⊎◌, true, false, IfOk, IfErr, IfSome, IsErrOf};
-    ghost use Rattle.std.specs.Prelude.{OnOk, OnErr, refl};
-    ghost use Rattle.stateful_base.specs.Causes.{Rose};
-    ghost use Rattle.stateful_base.specs.declared.target.Target.{Target};
-    ghost use Rattle.stateful_db.specs.declared.database.DbCall.{DbCall};
-    ghost use Rattle.stateful_db_medium.specs.Called.{IsListed, Called};
+    ghost use Rattle.std.specs.Prelude.{◌≡◌, true, Some, IfOk, IfErr, OnErr, refl};
     ghost use Rattle.stateful_db_pass.specs.declared.fault.SyncFault.{SyncFault};
     ghost use Rattle.stateful_db_pass.specs.declared.pass.Fetches.TheVariants.{Latest};
     ghost use Rattle.stateful_db_pass.specs.Fetched.{is_reached, Leads};
     ghost use Rattle.stateful_db_plain.specs.Ops.{op_linked};
     ghost use Rattle.stateful_db_plain.specs.Whole.{target_of};
-    ghost use Rattle.stateful_db_plain.specs.Stored.{disk_of, next_of, calls_of};
+    ghost use Rattle.stateful_db_plain.specs.Stored.{next_of, calls_of};
     ghost use Rattle.stateful_db_plain.specs.Stored.{standing_of, next_here, calls_here};
-    ghost use Rattle.stateful_passes.specs.Asks.{Asks, IsKind, told, Stays, MediumFails};
-    ghost use Rattle.stateful_passes.specs.Synced.{synced};
+    ghost use Rattle.stateful_passes.specs.Synced.{Makes};
     ghost use Rattle.stateful_passes.specs.PlainMade.{made};
 
     ghost linked = { op_linked };
@@ -76,34 +70,7 @@ impl<R: SyncSource<Op = PlainOp>> StateSyncDb<R> for Plain {
         pass.pass.tip(target)
     }
 
-    /// The medium fails exactly where the call is listed as a failing one.
-    fn progress(pass: &mut PlainPass, source: &mut R) -> Result<Option<Target>, SyncFault>
-        requires { is_reached pass.old.pass ≡ false }
-        ensures asks { MediumFails (calls_of pass.old.medium).faults (calls_of pass.new.medium).faults
-            pass.old.pass source.old result pass.new.pass source.new
-            ⊎ Asks R.serves op_linked (λ _. true) pass.old.pass source.old
-            (told pass.old.pass.target result) pass.new.pass source.new }
-        ensures target { (target : Target)
-            → pass.old.pass.target ≡ target
-            → IfOk result (λ reached. IfSome reached (λ t. t ≡ target)) }
-        ensures reached { IfOk result (λ reached. IfSome reached (λ _.
-            (is_reached pass.new.pass ≡ true) × Leads op_linked pass.new.pass)) }
-        ensures kind { IsKind pass.old.pass pass.new.pass }
-        ensures medium { Stays disk_of next_of (λ m. (calls_of m).faults) pass.old.medium
-            pass.new.medium }
-        ensures later { R.count source.old ≤ R.count source.new }
-        ensures failed { IsErrOf result SyncFault.Failed
-            → Rose (R.count source.old) (R.count source.new)
-            ⊎ Rose (calls_of pass.old.medium).faults (calls_of pass.new.medium).faults }
-        ensures valid { IsErrOf result SyncFault.InvalidTarget → ⊥ }
-        ensures called { Called DbCall.Sync (calls_of pass.old.medium) (calls_of pass.new.medium) }
-        ensures listed { IsListed (calls_of pass.old.medium) DbCall.Sync
-            → MediumFails (calls_of pass.old.medium).faults (calls_of pass.new.medium).faults
-            pass.old.pass source.old result pass.new.pass source.new }
-        ensures unlisted { (IsListed (calls_of pass.old.medium) DbCall.Sync → ⊥)
-            → Asks R.serves op_linked (λ _. true) pass.old.pass source.old
-            (told pass.old.pass.target result) pass.new.pass source.new }
-    {
+    fn progress(pass: &mut PlainPass, source: &mut R) -> Result<Option<Target>, SyncFault> {
         if pass.medium.fails(DbCall::Sync) {
             return Err(SyncFault::Failed);
         }
@@ -113,14 +80,13 @@ impl<R: SyncSource<Op = PlainOp>> StateSyncDb<R> for Plain {
     /// Takes no memory, and is never refused.
     fn finish(pass: PlainPass) -> Result<Plain, (PlainMedium, SyncFault)>
         requires { is_reached pass.pass ≡ true }
-        ensures ok { IfOk result (λ db. standing_of db ≡ synced (made pass.pass)) }
-        ensures target { OnOk result (target_of (made pass.pass) ≡ pass.pass.target) }
+        ensures ok { IfOk result (λ db. let m = pass.medium in let s = made pass.pass in
+            Makes s (target_of s) pass.pass.target (standing_of db) (next_of m) (next_here db)
+            (calls_of m).faults (calls_here db).faults (Some (calls_of m))
+            (Some (calls_here db))) }
         ensures leads { Leads op_linked pass.pass }
-        ensures next { IfOk result (λ db. next_here db ≡ next_of pass.medium) }
-        ensures count { IfOk result (λ db. (calls_here db).faults ≡ (calls_of pass.medium).faults) }
         ensures err { IfErr result (λ e.
             (e.0 ≡ pass.medium) × (e.1 ≡ SyncFault.OutOfMemory)) }
-        ensures calls { IfOk result (λ db. calls_here db ≡ calls_of pass.medium) }
         ensures refused { OnErr result ⊥ }
     {
         prove!(pass.pass.is_reached());

@@ -11,17 +11,17 @@ use stateful_db_source::SyncSource;
 /// one request, until the target is reached. `finish` makes the database of what was fetched, and
 /// `abandon` hands back the medium. Until then the medium's checkpoints stay as they are.
 pub trait StateSyncDb<R: SyncSource>: ManagedDb {
-    ghost use Rattle.std.specs.Prelude.{◌≡◌, ℕ, ◌↔◌, ◌⊎◌, ◌≤◌, Bool, true, false, IfOk, IfErr, IfSome};
-    ghost use Rattle.std.specs.Prelude.{IsErrOf, OnOk, IsTrue, if◌then◌else◌};
-    ghost use Rattle.stateful_base.specs.Causes.{Rose};
+    ghost use Rattle.std.specs.Prelude.{◌≡◌, ℕ, ◌↔◌, Bool, true, false, IfOk, IfErr, IfSome, OnOk};
+    ghost use Rattle.std.specs.Prelude.{IsTrue, if◌then◌else◌};
     ghost use Rattle.stateful_base.specs.declared.digest.Digest.{Digest};
     ghost use Rattle.stateful_db_pass.specs.declared.fault.SyncFault.{SyncFault};
     ghost use Rattle.stateful_db_pass.specs.declared.pass.Fetches.{Fetches};
     ghost use Rattle.stateful_db_pass.specs.Fetched.{Fetched, toward, is_reached, Leads};
     ghost use Rattle.stateful_db_pass.specs.Progress.{IsAhead};
     ghost use Rattle.stateful_passes.specs.declared.config.SyncEngineConfig.{SyncEngineConfig};
-    ghost use Rattle.stateful_passes.specs.Asks.{Asks, IsKind, told, Stays, MediumFails};
-    ghost use Rattle.stateful_passes.specs.Synced.{synced};
+    ghost use Rattle.stateful_passes.specs.Asks.{Asks, MediumFails, SyncCall, told, Reaches, Keeps};
+    ghost use Rattle.stateful_passes.specs.Asks.{HasCauses};
+    ghost use Rattle.stateful_passes.specs.Synced.{Makes};
 
     /// The digest behind an operation, by its location and the digest before it.
     ghost linked: { ℕ → Digest → R.Op → Digest };
@@ -71,43 +71,37 @@ pub trait StateSyncDb<R: SyncSource>: ManagedDb {
             else fetched pass.old) }
         ensures medium { medium_of pass.new ≡ medium_of pass.old };
 
-    /// Makes one request, and takes what the source answers. The target is answered where it is
-    /// reached. It fails where the medium does, before the source is asked, or where the source
-    /// does.
+    /// Makes one call on the medium, which fails where it is listed. Else makes one request, and
+    /// takes what the source answers. The target is answered where it is reached.
     fn progress(
         pass: &mut Self::Pass,
         source: &mut R,
     ) -> Result<Option<Self::SyncTarget>, SyncFault>
         requires { is_reached (fetched pass.old) ≡ false }
-        ensures asks { MediumFails (Self.Medium.count (medium_of pass.old))
-            (Self.Medium.count (medium_of pass.new)) (fetched pass.old) source.old result
-            (fetched pass.new) source.new
-            ⊎ Asks R.serves linked alone (fetched pass.old) source.old
-            (told (fetched pass.old).target result) (fetched pass.new) source.new }
-        ensures target { (target : Self.SyncTarget)
-            → (fetched pass.old).target ≡ Self.SyncTarget.targeted target
-            → IfOk result (λ reached. IfSome reached (λ t. t ≡ target)) }
-        ensures reached { IfOk result (λ reached. IfSome reached (λ _.
-            (is_reached (fetched pass.new) ≡ true) × Leads linked (fetched pass.new))) }
-        ensures kind { IsKind (fetched pass.old) (fetched pass.new) }
-        ensures medium { Stays Self.disk Self.next_of Self.Medium.count (medium_of pass.old)
-            (medium_of pass.new) }
-        ensures later { R.count source.old ≤ R.count source.new }
-        ensures failed { IsErrOf result SyncFault.Failed
-            → Rose (R.count source.old) (R.count source.new)
-            ⊎ Rose (Self.Medium.count (medium_of pass.old))
-            (Self.Medium.count (medium_of pass.new)) }
-        ensures valid { IsErrOf result SyncFault.InvalidTarget → ⊥ };
+        ensures asks { let m = medium_of pass.old in let n = medium_of pass.new in
+            let p = fetched pass.old in let q = fetched pass.new in
+            let answer = told p.target result in
+            SyncCall (Self.calls_of m) (Self.calls_of n)
+            (MediumFails (Self.Medium.count m) (Self.Medium.count n) p source.old answer q
+            source.new)
+            (Asks R.serves linked alone p source.old answer q source.new) }
+        ensures reaches { IfOk result (λ reached. IfSome reached (λ t.
+            Reaches linked Self.SyncTarget.targeted (fetched pass.old) (fetched pass.new) t)) }
+        ensures keeps { Keeps Self.disk Self.next_of Self.Medium.count (fetched pass.old)
+            (fetched pass.new) (medium_of pass.old) (medium_of pass.new) }
+        ensures causes { HasCauses (R.count source.old) (R.count source.new)
+            (Self.Medium.count (medium_of pass.old)) (Self.Medium.count (medium_of pass.new))
+            result };
 
     /// The database of what was fetched, which is then its only checkpoint, and durable.
     fn finish(pass: Self::Pass) -> Result<Self, (Self::Medium, SyncFault)>
         requires { is_reached (fetched pass) ≡ true }
-        ensures ok { IfOk result (λ db. Self.standing db ≡ synced (made (fetched pass))) }
-        ensures target { OnOk result (Self.SyncTarget.targeted (Self.target_of (made (fetched pass)))
-            ≡ (fetched pass).target) }
+        ensures ok { IfOk result (λ db.
+            let m = medium_of pass in let s = made (fetched pass) in
+            Makes s (Self.SyncTarget.targeted (Self.target_of s)) (fetched pass).target
+            (Self.standing db) (Self.next_of m) (Self.next db) (Self.Medium.count m) (Self.count db)
+            (Self.calls_of m) (Self.calls db)) }
         ensures leads { Leads linked (fetched pass) }
-        ensures next { IfOk result (λ db. Self.next db ≡ Self.next_of (medium_of pass)) }
-        ensures count { IfOk result (λ db. Self.count db ≡ Self.Medium.count (medium_of pass)) }
         ensures err { IfErr result (λ e.
             (e.0 ≡ medium_of pass) × (e.1 ≡ SyncFault.OutOfMemory)) };
 

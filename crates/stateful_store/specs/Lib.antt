@@ -1,6 +1,7 @@
 -- What the contracts of databases cite, handed on.
 pub use Rattle.stateful_db.specs.Chain
 pub use Rattle.stateful_db.specs.Disk
+pub use Rattle.stateful_db.specs.Calls
 pub use Rattle.stateful_db.specs.Member
 pub use Rattle.stateful_db.specs.Databases
 pub use Rattle.stateful_db.specs.Laws
@@ -21,6 +22,7 @@ pub use Rattle.stateful_db_any.specs.Staged as AnyStaged
 pub use Rattle.stateful_db_any.specs.Entries as AnyEntries
 pub use Rattle.stateful_db_any.specs.Stored as AnyStored
 pub use Rattle.stateful_db_any.specs.Laws as AnyLaws
+pub use Rattle.stateful_db_any.specs.Newest as AnyNewest
 pub use Rattle.stateful_db_compact.specs.Ops as KeylessOps
 pub use Rattle.stateful_db_compact.specs.Compacted
 pub use Rattle.stateful_db_compact.specs.CompactShown
@@ -41,7 +43,6 @@ pub use Rattle.stateful_db_log.specs.Runs as LogRuns
 pub use Rattle.stateful_db_log.specs.Digests as LogDigests
 pub use Rattle.stateful_db_log.specs.Between as LogBetween
 pub use Rattle.stateful_db_log.specs.Logs
-pub use Rattle.stateful_db_medium.specs.Called as MediumCalled
 pub use Rattle.stateful_db_medium.specs.Kept as MediumKept
 pub use Rattle.stateful_db_medium.specs.Mapped as MediumMapped
 pub use Rattle.stateful_db_plain.specs.Ops as PlainOps
@@ -50,6 +51,7 @@ pub use Rattle.stateful_db_log.specs.Blobs as LogBlobs
 pub use Rattle.stateful_db_log.specs.Linking as LogLinking
 pub use Rattle.stateful_db_log.specs.Held as LogHeld
 pub use Rattle.stateful_db_log.specs.HeldLaws as LogHeldLaws
+pub use Rattle.stateful_db_log.specs.Pruned as LogPruned
 pub use Rattle.stateful_db_pass.specs.Fetched as PassFetched
 pub use Rattle.stateful_db_pass.specs.Counted as PassCounted
 pub use Rattle.stateful_db_pass.specs.Progress as PassProgress

@@ -1,12 +1,31 @@
-use Rattle.stateful_pass_sets.proofs.Stepping.{steps, steps_as}
+use Rattle.stateful_pass_sets.proofs.Stepping.{same_told, moves, calls_sync, faults}
 use Rattle.stateful_pass_sets.proofs.held.HeldStateSyncSet.progress.Goals as goal
 
-pub returns-in-Ok-Some-clause-lessens : goal.returns-in-Ok-Some-clause-lessens
-returns-in-Ok-Some-clause-lessens g c = λ n needs.
-    steps_as c.in-Ok-Some.field-0-is
-    (steps g.D.StateSyncDb.linked g.D.StateSyncDb.alone g.R.SyncSource.serves _ _ _ _ _ _ _ c.in-Ok-Some.ensures.asks c.in-Ok-Some.ensures.reached n needs)
+pub returns-clause-asks : goal.returns-clause-asks
+returns-clause-asks g c =
+    let d = g.D.StateSyncDb in
+    rw (c.numbered.ensures, same_told g.D.SyncTarget.Targeted.targeted (d.fetched c.args.passes.now).target c.progress.result)
+    c.progress.ensures.asks
 
-pub returns-in-Ok-None-clause-lessens : goal.returns-in-Ok-None-clause-lessens
-returns-in-Ok-None-clause-lessens g c = λ n needs.
-    steps_as c.in-Ok-None.field-0-is
-    (steps g.D.StateSyncDb.linked g.D.StateSyncDb.alone g.R.SyncSource.serves _ _ _ _ _ _ _ c.in-Ok-None.ensures.asks c.in-Ok-None.ensures.reached n needs)
+pub returns-clause-moves : goal.returns-clause-moves
+returns-clause-moves g c =
+    let d = g.D.StateSyncDb in
+    let m = d.medium_of c.args.passes.now in
+    let n = d.medium_of c.progress.new.pass in
+    rw c.numbered.ensures
+    (moves d.linked d.alone g.R.SyncSource.serves g.D.SyncTarget.Targeted.targeted (g.D.ManagedDb.calls_of m) (g.D.ManagedDb.calls_of n) (g.D.Medium.Faulty.count m) (g.D.Medium.Faulty.count n) (d.fetched c.args.passes.now) c.args.sources.now c.progress.result (d.fetched c.progress.new.pass) c.progress.new.source
+    c.progress.ensures.asks c.progress.ensures.reaches c.progress.ensures.keeps.kind)
+
+pub returns-clause-calls : goal.returns-clause-calls
+returns-clause-calls g c =
+    let d = g.D.StateSyncDb in
+    let m = d.medium_of c.args.passes.now in
+    let n = d.medium_of c.progress.new.pass in
+    rw c.numbered.ensures
+    (calls_sync g.D.SyncTarget.Targeted.targeted (g.D.ManagedDb.calls_of m) (g.D.ManagedDb.calls_of n) (g.D.Medium.Faulty.count m) (g.D.Medium.Faulty.count n) (d.fetched c.args.passes.now) c.args.sources.now c.progress.result (d.fetched c.progress.new.pass) c.progress.new.source
+    c.progress.ensures.asks)
+
+pub returns-clause-err : goal.returns-clause-err
+returns-clause-err g c =
+    rw c.numbered.ensures
+    (faults g.D.SyncTarget.Targeted.targeted c.args._index _ _ _ _ c.progress.result c.requires.within c.progress.ensures.causes)
